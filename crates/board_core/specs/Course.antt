@@ -1,0 +1,20 @@
+-- What a board is, for its contracts: its opening and its history.
+use Rattle.std.specs.Prelude.{ℕ, List, Bool, false, ◌==◌}
+use Rattle.std.specs.List.{range_with_len}
+use Rattle.board_core.specs.declared.config.Config.{Config}
+use Rattle.board_core.specs.declared.event.Actor.{Actor}
+use Rattle.board_core.specs.declared.event.Actor.TheVariants.{Hart, Clock}
+use Rattle.board_core.specs.declared.event.Event.{Event}
+
+-- The past is the list of accepted events, newest first: what came before an event is the rest of the list.
+pub record Course : Type 0 where
+  pub config : Config
+  pub past : List Event
+
+-- the ids of the harts
+abbrev pub harts_of : Config → List ℕ
+harts_of c = range_with_len 0 c.harts
+
+abbrev pub is_hart : ℕ → Actor → Bool
+is_hart h (Hart n) = n == h
+is_hart h Clock = false

@@ -1,0 +1,62 @@
+-- Starts of harts, and their entries (SBI 9.1).
+use Rattle.std.specs.Prelude.{◌≡◌, ℕ, List, [], ◌∷◌, ◌++◌, Bool, ◌==◌, if◌then◌else◌, Option, Some, None, unwrap_or, filter, find, option_to_list}
+use Rattle.std.specs.List.{filter_map}
+use Rattle.std.specs.Option.{option_map}
+use Rattle.board_core.specs.declared.config.Config.{Config}
+use Rattle.board_core.specs.declared.event.Event.{Event}
+use Rattle.board_core.specs.declared.event.Kept.{Kept}
+use Rattle.board_core.specs.declared.event.Op.{Op}
+use Rattle.board_core.specs.declared.event.Op.TheVariants.{Ecall, Advance}
+use Rattle.board_core.specs.declared.event.Reply.{Reply}
+use Rattle.board_core.specs.declared.event.Reply.TheVariants.{Ret, Entry}
+use Rattle.board_core.specs.Course.{harts_of}
+use Rattle.board_core.specs.States.{state, is_start_pending}
+
+-- a start of a hart: where it begins and what it hands over
+pub record Start : Type 0 where
+  pub hart : ℕ
+  pub addr : ℕ
+  pub opaque : ℕ
+
+-- the firmware's own start of the boot hart
+abbrev pub boot_start : Config → Start
+boot_start c = record { hart = c.boot_hart; addr = c.boot_addr; opaque = c.boot_opaque }
+
+-- The accepted starts, newest first.
+abbrev pub starts : Config → List Event → List Start
+starts c past = boot_start c ∷ []
+
+-- the start that an operation with its reply enters
+abbrev pub entry_by : Op → Reply → Option Start
+entry_by (Ecall regs) reply = None
+entry_by Advance (Ret answer) = None
+entry_by Advance (Entry addr hart opaque) = Some (record { hart = hart; addr = addr; opaque = opaque })
+
+-- The entries, newest first, as their replies tell them.
+abbrev pub entries : List Event → List Start
+entries [] = []
+entries (event ∷ past) = option_to_list (entry_by event.op event.reply) ++ entries past
+
+abbrev pub is_of : ℕ → Start → Bool
+is_of h start = start.hart == h
+
+-- the last start of a hart that has one
+abbrev pub last_start : Config → List Event → ℕ → Start
+last_start c past h = unwrap_or (find (is_of h) (starts c past)) (boot_start c)
+
+-- The pending start of a hart: its last one, while the hart is START_PENDING.
+abbrev pub pending : Config → List Event → ℕ → Option Start
+pending c past h = if is_start_pending (state c past h) then Some (last_start c past h) else None
+
+abbrev pub all_pending : Config → List Event → List Start
+all_pending c past = filter_map (pending c past) (harts_of c)
+
+-- what the firmware keeps of a pending start
+abbrev pub kept : Config → List Event → ℕ → Option Kept
+kept c past h = option_map (λ start. record { addr = start.addr; opaque = start.opaque }) (pending c past h)
+
+-- The starts law: the starts of a hart, newest first, are its pending one, if any, and then its entries, each
+-- entered with its own address and opaque value.
+abbrev pub StartsAreEntered : Config → List Event → Type 0
+StartsAreEntered c past = (h : ℕ) →
+    filter (is_of h) (starts c past) ≡ option_to_list (pending c past h) ++ filter (is_of h) (entries past)

@@ -1,0 +1,216 @@
+ghost use Rattle.std.specs.Prelude.{◌≡◌, ◌<◌, ◌↔◌, ℕ, List, [], IfOk, IsErrOf, count_by, length, reverse, vec_len};
+ghost use Rattle.board_core.specs.declared.config.BuildFault.TheVariants.{BadConfig};
+ghost use Rattle.board_core.specs.declared.config.Config.{Config};
+ghost use Rattle.board_core.specs.declared.event.Event.{Event};
+ghost use Rattle.board_core.specs.Limits.{IsGood};
+ghost use Rattle.board_core.specs.Refusals.{first_that_holds, refusals_in};
+ghost use Rattle.board_core.specs.States.{is_start_pending, state};
+ghost use Rattle.board_core.specs.Starts.{kept, StartsAreEntered};
+ghost use Rattle.board_core.specs.Replies.{answer, stepped, IsLegal};
+ghost use Rattle.board_core.specs.Totals.{totals};
+ghost use Rattle.board_core.specs.Stands.{StandsFor, hart_at, hart_view};
+
+use crate::config::{BuildFault, Config};
+use crate::event::{Actor, Event, HartState, Kept, Op, Refusal, Reply};
+use crate::machine::{Machine, Phase, perform};
+use std::alloc::{AllocError, Global};
+use std::marker::Model;
+
+/// The counts of the board's table, since the opening.
+#[derive(Clone, Copy, Debug, PartialEq, Eq)]
+pub struct Totals {
+    /// Starts of harts, the boot start among them.
+    pub starts: u64,
+    /// Entries by start.
+    pub entries: u64,
+    /// Harts in START_PENDING.
+    pub pending: u64,
+    /// Pairs of an accepted remote fence and a hart that it asks.
+    pub asked: u64,
+    /// Such pairs that were applied.
+    pub applied: u64,
+    /// Fences that wait at harts.
+    pub waiting: u64,
+}
+
+/// A board of harts: its opening and the history of accepted steps.
+#[derive(Drop)]
+pub struct Board {
+    config: Config,
+    events: Vec<Event>,
+    machine: Machine,
+}
+
+impl Model for Board {
+    ghost use Rattle.std.specs.Prelude.{◌≤◌, reverse, vec_capacity};
+    ghost use Rattle.board_core.specs.Course.{Course};
+
+    ghost Value = { Course };
+
+    ghost use Rattle.board_core.specs.Stands.{IsKept, StandsFor};
+
+    ghost view = { λ b. record { config = b.config; past = reverse b.events.items } };
+
+    ghost invariant = { λ b. IsKept b.config (reverse b.events.items)
+        × StandsFor b.config (reverse b.events.items) b.machine × (b.config.limit ≤ vec_capacity b.events) };
+}
+
+impl Board {
+    /// A board at its opening: only the boot hart's start is pending, and nothing happened yet. Memory for
+    /// the whole history is reserved here.
+    pub fn new(alloc: Global, config: &Config) -> Result<Board, BuildFault>
+        ensures bad { IsErrOf result BadConfig ↔ ¬ IsGood config.now }
+        ensures made { IfOk result (λ b. IsGood config.now × (b ≡ record { config = config.now; past = [] })) }
+    {
+        if !config.is_good() {
+            return Err(BuildFault::BadConfig);
+        }
+        let Ok(machine) = opening(alloc, config) else {
+            return Err(BuildFault::NoMemory);
+        };
+        let Ok(events) = Vec::with_capacity(alloc, config.limit as usize) else {
+            return Err(BuildFault::NoMemory);
+        };
+        Ok(Board {
+            config: *config,
+            events,
+            machine,
+        })
+    }
+
+    /// One step of one actor: the one event that it records, or a refusal that leaves all as it was.
+    pub fn step(&mut self, actor: Actor, op: Op) -> Result<Reply, Refusal>
+        ensures answer { result ≡ answer self.old.config self.old.past actor op }
+        ensures after { self.new ≡ stepped self.old actor op }
+    {
+        let Actor::Hart(id) = actor else {
+            return Err(Refusal::WrongPhase);
+        };
+        if id >= self.config.harts {
+            return Err(Refusal::WrongPhase);
+        }
+        let phase = self.phase(id);
+        let is_full = self.events.len() as u64 == self.config.limit;
+        if let Some(refusal) = refusal(phase.state(), op, is_full) {
+            return Err(refusal);
+        }
+        let reply = perform(&mut self.machine, id as usize, phase, op);
+        self.events.push_reserved(Event { actor, op, reply });
+        Ok(reply)
+    }
+
+    /// The accepted events, oldest first.
+    pub fn history(&self) -> &[Event]
+        ensures { reverse result.now ≡ self.now.past }
+    {
+        &self.events
+    }
+
+    /// What the board was opened with.
+    pub fn config(&self) -> &Config
+        ensures { result.now ≡ self.now.config }
+    {
+        &self.config
+    }
+
+    /// The state of hart `h` (SBI 9).
+    pub fn state(&self, h: u64) -> HartState
+        requires { h < self.now.config.harts }
+        ensures { result ≡ state self.now.config self.now.past h }
+    {
+        self.phase(h).state()
+    }
+
+    /// Where hart `h` begins, while its start is pending.
+    pub fn kept(&self, h: u64) -> Option<Kept>
+        requires { h < self.now.config.harts }
+        ensures { result ≡ kept self.now.config self.now.past h }
+    {
+        self.phase(h).kept()
+    }
+
+    fn phase(&self, h: u64) -> Phase
+        requires { h < self.now.config.harts }
+        ensures { hart_view result ≡ hart_at self.now.config self.now.past h }
+    {
+        self.machine.phases[h as usize]
+    }
+
+    /// The counts of the board's table. For each hart, its accepted starts are its entries followed by its
+    /// pending start.
+    pub fn totals(&self) -> Totals
+        ensures counts { result ≡ totals self.now.config self.now.past }
+        ensures starts { StartsAreEntered self.now.config self.now.past }
+    {
+        Totals {
+            starts: 1,
+            entries: self.machine.entries,
+            pending: pending_count(&self.machine.phases),
+            asked: 0,
+            applied: 0,
+            waiting: 0,
+        }
+    }
+}
+
+/// In every legal history the starts of a hart are its entries followed by its pending start, each entered
+/// with its own address and opaque value. A law: there is nothing to run.
+pub fn starts_are_entered()
+    ensures { (c : Config) (past : List Event) → IsLegal c past → StartsAreEntered c past }
+{}
+
+/// The machine of a board at its opening.
+fn opening(alloc: Global, config: &Config) -> Result<Machine, AllocError>
+    requires { IsGood config.now }
+    ensures { IfOk result (StandsFor config.now []) }
+{
+    let mut phases = Vec::with_capacity(alloc, config.harts as usize)?;
+    for h in 0..config.harts {
+        phases.push(opening_phase(config, h))?;
+    }
+    Ok(Machine { phases, entries: 0 })
+}
+
+/// At the opening the boot hart's start is pending, and the others are stopped.
+fn opening_phase(config: &Config, h: u64) -> Phase
+    ensures { hart_view result ≡ hart_at config.now [] h }
+{
+    if h == config.boot_hart {
+        Phase::StartPending(Kept {
+            addr: config.boot_addr,
+            opaque: config.boot_opaque,
+        })
+    } else {
+        Phase::Stopped
+    }
+}
+
+/// The first refusal of an operation of a hart in this state.
+fn refusal(state: HartState, op: Op, is_full: bool) -> Option<Refusal>
+    ensures { result ≡ first_that_holds (refusals_in state op is_full) }
+{
+    let is_started = state == HartState::Started;
+    let (in_phase, has_work) = match op {
+        Op::Ecall(_) => (is_started, true),
+        Op::Advance => (!is_started, state != HartState::Stopped),
+    };
+    if !in_phase {
+        Some(Refusal::WrongPhase)
+    } else if !has_work {
+        Some(Refusal::Nothing)
+    } else if is_full {
+        Some(Refusal::HistoryFull)
+    } else {
+        None
+    }
+}
+
+/// How many harts have a pending start.
+fn pending_count(phases: &[Phase]) -> u64
+    ensures { result ≡ count_by (λ p. is_start_pending (hart_view p).state) phases.now }
+{
+    phases
+        .iter()
+        .filter(|phase| phase.state() == HartState::StartPending)
+        .count() as u64
+}

@@ -1,0 +1,56 @@
+ghost use Rattle.std.specs.Prelude.{◌≤◌, ◌↔◌, IsTrue};
+ghost use Rattle.board_core.specs.Limits.{IsGood, IsStartAddress};
+
+use thiserror::Error;
+
+/// What a board is opened with. Every number is tested by `Board::new` alone.
+#[derive(Clone, Copy, Debug, PartialEq, Eq)]
+pub struct Config {
+    /// The number of harts, 1 to 128; their ids are 0 to `harts` - 1.
+    pub harts: u64,
+    /// The size of RAM in pages of 4,096 bytes from 0x80000000, 1 to 256.
+    pub pages: u64,
+    /// How many events the history holds, 1 to 1,000,000.
+    pub limit: u64,
+    /// The hart that the firmware starts by itself.
+    pub boot_hart: u64,
+    /// Where the boot hart begins: an even address in RAM.
+    pub boot_addr: u64,
+    /// The opaque value that the boot hart is given.
+    pub boot_opaque: u64,
+}
+
+/// Why no board was made.
+#[derive(Clone, Copy, Debug, PartialEq, Eq, Error)]
+pub enum BuildFault {
+    /// A number is outside the board's limits.
+    #[error("bad board")]
+    BadConfig,
+    /// Memory was refused.
+    #[error("no memory")]
+    NoMemory,
+}
+
+const RAM_BASE: u64 = 0x8000_0000;
+
+const PAGE_BYTES: u64 = 4096;
+
+impl Config {
+    /// Whether every number is within the limits (profile).
+    pub fn is_good(&self) -> bool
+        ensures { IsTrue result ↔ IsGood self.now }
+    {
+        let has_size = (1..=128).contains(&self.harts)
+            && (1..=256).contains(&self.pages)
+            && (1..=1_000_000).contains(&self.limit);
+        has_size && self.boot_hart < self.harts && is_start_address(self.pages, self.boot_addr)
+    }
+}
+
+/// Whether a hart may begin at `address` on a board with so many pages.
+fn is_start_address(pages: u64, address: u64) -> bool
+    requires { pages ≤ 256 }
+    ensures { IsTrue result ↔ IsStartAddress pages address }
+{
+    address.is_multiple_of(2) && (RAM_BASE..RAM_BASE + PAGE_BYTES * pages).contains(&address)
+}

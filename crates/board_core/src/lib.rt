@@ -1,0 +1,13 @@
+//! A board of harts behind one firmware: its calls and starts, one accepted event at a time.
+//!
+//! Everything that a `Board` answers is a definition of `specs/` on its opening and its kept history.
+#![tactic(auto)]
+
+mod board;
+mod config;
+mod event;
+mod machine;
+
+pub use board::{Board, Totals, starts_are_entered};
+pub use config::{BuildFault, Config};
+pub use event::{Actor, Event, HartState, Kept, Op, Refusal, Reply};

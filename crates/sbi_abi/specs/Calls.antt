@@ -1,0 +1,35 @@
+-- The calls by extension id (EID, a7) and function id (FID, a6).
+use Rattle.std.specs.Prelude.{ℕ, Bool, List, [], ◌∷◌, ◌==◌, if◌then◌else◌, slice_index}
+use Rattle.std.specs.List.{list_any}
+use Rattle.sbi_abi.specs.declared.call.Regs.{Regs}
+use Rattle.sbi_abi.specs.declared.call.Call.{Call}
+use Rattle.sbi_abi.specs.declared.call.Call.TheVariants.{GetSpecVersion, GetImplId, GetImplVersion, ProbeExtension, GetMvendorid, GetMarchid, GetMimpid, Unsupported}
+
+-- what a listing names by the number n, or else `other`
+abbrev pub named : {A : Type 0} → ℕ → A → List (ℕ × A) → A
+named n other [] = other
+named n other (row ∷ rows) = if n == row.0 then row.1 else named n other rows
+
+-- The function listing of the Base Extension (SBI 4).
+abbrev pub base_listing : Regs → List (ℕ × Call)
+base_listing regs =
+    (0, GetSpecVersion)
+    ∷ (1, GetImplId)
+    ∷ (2, GetImplVersion)
+    ∷ (3, ProbeExtension (slice_index regs.a 0))
+    ∷ (4, GetMvendorid)
+    ∷ (5, GetMarchid)
+    ∷ (6, GetMimpid)
+    ∷ []
+
+-- The extensions by their ids, each with its function listing.
+abbrev pub extensions : Regs → List (ℕ × List (ℕ × Call))
+extensions regs = (0x10, base_listing regs) ∷ []
+
+-- The call that the registers name (SBI 3: an EID or FID that isn't implemented is not supported).
+unfoldable pub call_of : Regs → Call
+call_of regs = named regs.fid Unsupported (named regs.eid [] (extensions regs))
+
+-- The ids that probing answers 1 for (SBI 4.4).
+abbrev pub is_extension_id : ℕ → Bool
+is_extension_id eid = list_any (λ n. n == eid) (0x10 ∷ [])

@@ -1,0 +1,70 @@
+ghost use Rattle.std.specs.Prelude.{◌≡◌};
+ghost use Rattle.sbi_abi.specs.declared.call.Call.TheVariants.{Unsupported};
+ghost use Rattle.sbi_abi.specs.Calls.{base_listing, call_of, is_extension_id, named};
+
+/// The registers of an ECALL from a supervisor (SBI 3, Binary Encoding).
+#[derive(Clone, Copy, Debug, PartialEq, Eq)]
+pub struct Regs {
+    /// The extension id, a7; compared whole (profile).
+    pub eid: u64,
+    /// The function id, a6; compared whole (profile).
+    pub fid: u64,
+    /// The arguments, a0 to a5.
+    pub a: [u64; 6],
+}
+
+/// What an ECALL asks for.
+#[derive(Clone, Copy, Debug, PartialEq, Eq)]
+pub enum Call {
+    /// The version of the specification that is implemented (SBI 4.1).
+    GetSpecVersion,
+    /// The id of the implementation (SBI 4.2).
+    GetImplId,
+    /// The version of the implementation (SBI 4.3).
+    GetImplVersion,
+    /// Whether the extension of this id is implemented (SBI 4.4).
+    ProbeExtension(u64),
+    /// The CSR mvendorid (SBI 4.5).
+    GetMvendorid,
+    /// The CSR marchid (SBI 4.6).
+    GetMarchid,
+    /// The CSR mimpid (SBI 4.7).
+    GetMimpid,
+    /// An extension or a function that isn't implemented (SBI 3).
+    Unsupported,
+}
+
+const BASE: u64 = 0x10;
+
+/// The call that the registers ask for.
+#[tactic(auto, unfolding(crate::specs::Calls::call_of))]
+pub fn decode(regs: &Regs) -> Call
+    ensures { result ≡ call_of regs.now }
+{
+    match regs.eid {
+        BASE => base_call(regs),
+        _ => Call::Unsupported,
+    }
+}
+
+/// Whether `eid` is the id of an extension that has a function here.
+pub fn is_extension(eid: u64) -> bool
+    ensures { result ≡ is_extension_id eid }
+{
+    eid == BASE
+}
+
+fn base_call(regs: &Regs) -> Call
+    ensures { result ≡ named regs.now.fid Unsupported (base_listing regs.now) }
+{
+    match regs.fid {
+        0 => Call::GetSpecVersion,
+        1 => Call::GetImplId,
+        2 => Call::GetImplVersion,
+        3 => Call::ProbeExtension(regs.a[0]),
+        4 => Call::GetMvendorid,
+        5 => Call::GetMarchid,
+        6 => Call::GetMimpid,
+        _ => Call::Unsupported,
+    }
+}

@@ -1,0 +1,9 @@
+//! The binary interface between a supervisor and its SBI implementation: the calls by their numbers,
+//! and the pair of values that answers one (SBI 1.0.0).
+#![tactic(auto)]
+
+mod answer;
+mod call;
+
+pub use answer::{SbiError, Sbiret};
+pub use call::{Call, Regs, decode, is_extension};
