@@ -1,4 +1,4 @@
-ghost use Rattle.std.specs.Prelude.{◌≡◌, ◌<◌, ◌↔◌, ℕ, List, [], IfOk, IsErrOf, count_by, length, reverse, vec_len};
+ghost use Rattle.std.specs.Prelude.{◌≡◌, ◌<◌, ◌≤◌, ◌↔◌, ℕ, List, [], IfOk, IsErrOf, count_by, length, reverse, vec_len};
 ghost use Rattle.board_core.specs.declared.config.BuildFault.TheVariants.{BadConfig};
 ghost use Rattle.board_core.specs.declared.config.Config.{Config};
 ghost use Rattle.board_core.specs.declared.event.Event.{Event};
@@ -99,16 +99,19 @@ impl Board {
         Ok(reply)
     }
 
-    /// The accepted events, oldest first.
+    /// The accepted events, oldest first: a legal history, within the limit.
     pub fn history(&self) -> &[Event]
-        ensures { reverse result.now ≡ self.now.past }
+        ensures events { reverse result.now ≡ self.now.past }
+        ensures legal { IsLegal self.now.config self.now.past }
+        ensures within { length result.now ≤ self.now.config.limit }
     {
         &self.events
     }
 
     /// What the board was opened with.
     pub fn config(&self) -> &Config
-        ensures { result.now ≡ self.now.config }
+        ensures opening { result.now ≡ self.now.config }
+        ensures good { IsGood self.now.config }
     {
         &self.config
     }
