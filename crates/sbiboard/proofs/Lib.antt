@@ -1,0 +1,15 @@
+pub mod FaultsFound
+pub mod Hex
+pub mod Known
+pub mod LineWords
+pub mod Lines
+pub mod LinesOf
+pub mod Numbers
+pub mod NumbersIn
+pub mod ReadBack
+pub mod Replayed
+pub mod ScriptLines
+pub mod Spacing
+pub mod Spelling
+pub mod StepsFrom
+pub mod WordsIn

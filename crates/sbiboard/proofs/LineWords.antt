@@ -1,0 +1,199 @@
+-- The words of a line are a step, or the board's, exactly where none of the line's tests holds.
+use Rattle.std.proofs.Common.{◌≡◌, ◌≢◌, ℕ, suc, ◌+◌, ◌<◌, ◌≤◌, ◌⊎◌, Bool, true, false, not, cond, eqb, ltb, ◌&&◌, ◌||◌, List, [], ◌∷◌, ◌++◌, length, map, get_or, Option, Some, None, codes, subst, refl, sym, ap, ◌∙◌, inl, inr, arith}
+use Rattle.std.specs.Char.{digit_value, is_digit}
+use Rattle.std.specs.List.{list_all, list_any, slice_index}
+use Rattle.std.specs.Option.{option_map, unwrap_or}
+use Rattle.std.specs.Str.{bytes_eq}
+use Rattle.std.specs.Str.Parse.{AllDigits}
+use Rattle.std.proofs.lemmas.Bool.{cases_Bool, lt-ltb, le-ltb, ltb-false, or_parts, or_from, or_cases, not-false, not_from_true, false_from_ne_true}
+use Rattle.std.proofs.lemmas.List.FromFn.{fill_by_all}
+use Rattle.std.proofs.lemmas.Slice.Eq.{bytes_eq-Decides}
+use Rattle.board_core.specs.declared.config.Config.{Config}
+use Rattle.board_core.specs.declared.event.Actor.{Actor}
+use Rattle.board_core.specs.declared.event.Actor.TheVariants.{Hart, Clock}
+use Rattle.board_core.specs.declared.event.Op.{Op}
+use Rattle.board_core.specs.Refusals.{first_that_holds}
+use Rattle.sbiboard.specs.declared.guest_script.fault.Fault.{Fault}
+use Rattle.sbiboard.specs.declared.guest_script.fault.Fault.TheVariants.{NoBoardLine}
+use Rattle.sbiboard.specs.declared.guest_script.schedule.Line.{Line}
+use Rattle.sbiboard.specs.Grammar.{AreNumbers, Form, form_of, IsActor, IsBoard, IsNumber, IsOp, IsStep, last_hart, last_number, numbers_of, Spells}
+use Rattle.sbiboard.specs.FirstFault.{actor_test, begins_actor_line, board_tests, form_tests, has_arrow, is_clock, is_number, number_tests, numbers_tests, op_tests, step_tests}
+use Rattle.sbiboard.specs.Reading.{actor_in, board_in, config_of, limit_from, number_of, numbers_in, op_from, op_in, step_in}
+use Rattle.sbiboard.proofs.NumbersIn.{first_number_fault, length-numbers_in}
+use Rattle.sbiboard.proofs.Spelling.{number_spelled, numbers_spelled, spelled_number, spelled_numbers}
+
+-- ---- tests of which none holds
+
+abbrev pub NoneHolds : {F : Type 0} → List (Bool × F) → Type 0
+NoneHolds tests = first_that_holds tests ≡ None
+
+pub none_first : {F : Type 0} (test : Bool × F) (tests : List (Bool × F)) → NoneHolds (test ∷ tests) → (test.0 ≡ false) × NoneHolds tests
+none_first test tests none = elim (cases_Bool test.0) [
+  | inl holds ↦ absurd (let e = rw holds at none in cc)
+  | inr fails ↦ (fails, rw fails at none)
+]
+
+pub none_cons : {F : Type 0} (test : Bool × F) (tests : List (Bool × F)) → test.0 ≡ false → NoneHolds tests → NoneHolds (test ∷ tests)
+none_cons test tests fails none = rw fails none
+
+-- ---- numbers
+
+record AreCounted (least most limit : ℕ) (words : List (List ℕ)) (ns : List ℕ) : Type 0 where
+  enough : least ≤ length words
+  not_more : length words ≤ most
+  are_numbers : AreNumbers limit words ns
+
+all_from_none : (b : Bool) (fault : Fault) → cond b None (Some fault) ≡ None → b ≡ true
+all_from_none true fault none = refl
+all_from_none false fault none = absurd cc
+
+numbers_tested : (least most limit : ℕ) (words : List (List ℕ)) → NoneHolds (numbers_tests least most limit words) → AreCounted least most limit words (numbers_in limit words)
+numbers_tested least most limit words none =
+    let rows = none_first _ (number_tests limit words) none in
+    let counts = or_parts (ltb (length words) least) (ltb most (length words)) rows.0 in
+    record {
+      enough = ltb-false _ _ counts.0;
+      not_more = ltb-false _ _ counts.1;
+      are_numbers = numbers_spelled limit words (all_from_none _ _ (sym (first_number_fault limit words) ∙ rows.1));
+    }
+
+numbers_pass : (least most limit : ℕ) (words : List (List ℕ)) (ns : List ℕ) → AreCounted least most limit words ns → NoneHolds (numbers_tests least most limit words) × (numbers_in limit words ≡ ns)
+numbers_pass least most limit words ns counted =
+    let spelled = spelled_numbers limit words ns counted.are_numbers in
+    let count = or_from (ltb (length words) least) (ltb most (length words)) (le-ltb _ _ counted.enough) (le-ltb _ _ counted.not_more) in
+    (none_cons _ (number_tests limit words) count (first_number_fault limit words ∙ rw spelled.0 refl), spelled.1)
+
+length_numbers : (limit : ℕ) (words : List (List ℕ)) (ns : List ℕ) → AreNumbers limit words ns → length words ≡ length ns
+length_numbers limit [] [] numbers = refl
+length_numbers limit [] (n ∷ ns) numbers = absurd numbers
+length_numbers limit (word ∷ words) [] numbers = absurd numbers
+length_numbers limit (word ∷ words) (n ∷ ns) numbers = ap suc (length_numbers limit words ns numbers.1)
+
+-- ---- operations
+
+form_tested : (name : List ℕ) (words : List (List ℕ)) (form : Option Form) → form_of name ≡ form → NoneHolds (form_tests form words)
+    → IsOp (name ∷ words) (op_from form (numbers_in (limit_from form) words))
+form_tested name words None at none = absurd cc
+form_tested name words (Some form) at none =
+    let counted = numbers_tested form.least form.most form.limit words none in
+    record {
+      name = name;
+      arguments = words;
+      form = form;
+      numbers = numbers_in form.limit words;
+      parts = refl;
+      has_form = at;
+      enough = counted.enough;
+      not_more = counted.not_more;
+      are_numbers = counted.are_numbers;
+      makes = refl;
+    }
+
+pub op_tested : (words : List (List ℕ)) → NoneHolds (op_tests words) → IsOp words (op_in words)
+op_tested [] none = absurd cc
+op_tested (name ∷ words) none = form_tested name words (form_of name) refl none
+
+pub op_passes : (words : List (List ℕ)) (op : Op) → IsOp words op → NoneHolds (op_tests words) × (op_in words ≡ op)
+op_passes words op is_op =
+    let form = is_op.form in
+    let pass = numbers_pass form.least form.most form.limit is_op.arguments is_op.numbers (record { enough = is_op.enough; not_more = is_op.not_more; are_numbers = is_op.are_numbers }) in
+    rw (is_op.parts, is_op.has_form) (pass.0, ap form.op pass.1 ∙ sym is_op.makes)
+
+-- ---- actors
+
+-- a number begins with a digit
+number_digit : (word : List ℕ) (n : ℕ) → Spells word n → is_digit (slice_index word 0) 10 ≡ true
+number_digit [] n (inl decimal) = absurd (omega (arith, decimal.0.0))
+number_digit (b ∷ word) n (inl decimal) = lt-ltb (digit_value b) 10 decimal.0.1.0
+number_digit word n (inr hex) = rw hex.1 refl
+
+-- so a text that begins with no digit is none
+no_number : (limit : ℕ) (word text : List ℕ) (n : ℕ) → is_digit (slice_index text 0) 10 ≡ false → IsNumber limit word n → bytes_eq word text ≡ false
+no_number limit word text n none number = false_from_ne_true (bytes_eq word text) (λ same.
+    let begins : is_digit (slice_index text 0) 10 ≡ true = rw (← (bytes_eq-Decides word text).0 same) (number_digit word n number.1) in
+    let both : true ≡ false = sym begins ∙ none in cc)
+
+actor_tested : (word : List ℕ) → (is_clock word || is_number last_hart word) ≡ true → IsActor word (actor_in word)
+actor_tested word good = elim (cases_Bool (is_clock word)) [
+  | inl clock ↦ rw clock ((bytes_eq-Decides word (codes "c")).0 clock)
+  | inr other ↦ rw other (number_spelled last_hart word (rw other at good))
+]
+
+record ActorPasses (word : List ℕ) (actor : Actor) : Type 0 where
+  begins : begins_actor_line word ≡ true
+  good : (is_clock word || is_number last_hart word) ≡ true
+  value : actor_in word ≡ actor
+
+actor_passes : (word : List ℕ) (actor : Actor) → IsActor word actor → ActorPasses word actor
+actor_passes word Clock is_actor = record { begins = rw is_actor refl; good = rw is_actor refl; value = rw is_actor refl }
+actor_passes word (Hart h) is_actor =
+    let other = no_number last_hart word (codes "c") h refl is_actor in
+    let spelled = spelled_number last_hart word h is_actor in
+    record {
+      begins = rw (other, number_digit word h is_actor.1) refl;
+      good = rw (other, spelled.0) refl;
+      value = rw other (ap (λ (n : ℕ). Hart n) spelled.1);
+    }
+
+-- ---- steps
+
+form_of-arrow : form_of (codes "->") ≡ None
+unfolding form_of
+form_of-arrow = refl
+
+numbers_no_arrow : (limit : ℕ) (words : List (List ℕ)) (ns : List ℕ) → AreNumbers limit words ns → has_arrow words ≡ false
+numbers_no_arrow limit [] ns numbers = refl
+numbers_no_arrow limit (word ∷ words) [] numbers = absurd numbers
+numbers_no_arrow limit (word ∷ words) (n ∷ ns) numbers =
+    or_from (bytes_eq word (codes "->")) (has_arrow words) (no_number limit word (codes "->") n refl numbers.0) (numbers_no_arrow limit words ns numbers.1)
+
+op_no_arrow : (words : List (List ℕ)) (op : Op) → IsOp words op → has_arrow words ≡ false
+op_no_arrow words op is_op =
+    let named : bytes_eq is_op.name (codes "->") ≡ false = false_from_ne_true _ (λ same.
+    let none : form_of is_op.name ≡ None = ap form_of ((bytes_eq-Decides is_op.name (codes "->")).0 same) ∙ form_of-arrow in
+    let both = sym none ∙ is_op.has_form in cc) in
+    rw is_op.parts (or_from (bytes_eq is_op.name (codes "->")) (has_arrow is_op.arguments) named (numbers_no_arrow is_op.form.limit is_op.arguments is_op.numbers is_op.are_numbers))
+
+pub step_tested : (first : List ℕ) (words : List (List ℕ)) → NoneHolds (step_tests (first ∷ words)) → IsStep (first ∷ words) (record { actor = actor_in first; op = op_in words })
+step_tested first words none =
+    let kind = none_first _ (actor_test first ∷ op_tests words) none in
+    let actor = none_first (actor_test first) (op_tests words) kind.1 in
+    record {
+      first = first;
+      others = words;
+      parts = refl;
+      is_actor = actor_tested first (not-false _ actor.0);
+      is_op = op_tested words actor.1;
+    }
+
+pub step_passes : (words : List (List ℕ)) (line : Line) → IsStep words line → NoneHolds (step_tests words) × (step_in words ≡ Some line)
+step_passes words line step =
+    let actor = actor_passes step.first line.actor step.is_actor in
+    let op = op_passes step.others line.op step.is_op in
+    let kind : (not (begins_actor_line step.first) || has_arrow step.others) ≡ false = or_from _ _ (not_from_true _ actor.begins) (op_no_arrow step.others line.op step.is_op) in
+    rw step.parts (
+      none_cons _ (actor_test step.first ∷ op_tests step.others) kind (none_cons (actor_test step.first) (op_tests step.others) (not_from_true _ actor.good) op.0),
+      rw (actor.value, op.1) refl,
+    )
+
+-- ---- the board
+
+pub config_numbers : (ns : List ℕ) → length ns ≡ 6 → numbers_of (config_of ns) ≡ ns
+config_numbers ns six = sym (fill_by_all (λ k. get_or ns k 0) ns 6 0 six (λ k h. refl))
+
+pub board_tested : (first : List ℕ) (words : List (List ℕ)) → NoneHolds (board_tests (first ∷ words)) → IsBoard (first ∷ words) (config_of (numbers_in last_number words))
+board_tested first words none =
+    let named = none_first _ (numbers_tests 6 6 last_number words) none in
+    let counted = numbers_tested 6 6 last_number words named.1 in
+    let six : length (numbers_in last_number words) ≡ 6 = omega (arith, length-numbers_in last_number words, counted.enough, counted.not_more) in
+    record {
+      arguments = words;
+      parts = ap (λ (w : List ℕ). w ∷ words) ((bytes_eq-Decides first (codes "board")).0 (not-false _ named.0));
+      are_numbers = rw (config_numbers (numbers_in last_number words) six) counted.are_numbers;
+    }
+
+pub board_passes : (words : List (List ℕ)) (config : Config) → IsBoard words config → NoneHolds (board_tests words) × (board_in words ≡ Some config)
+board_passes words config board =
+    let count = length_numbers last_number board.arguments (numbers_of config) board.are_numbers in
+    let pass = numbers_pass 6 6 last_number board.arguments (numbers_of config) (record { enough = omega (arith, count); not_more = omega (arith, count); are_numbers = board.are_numbers }) in
+    rw board.parts (none_cons (false, NoBoardLine) (numbers_tests 6 6 last_number board.arguments) refl pass.0, ap (λ (ns : List ℕ). Some (config_of ns)) pass.1)

@@ -1,0 +1,118 @@
+-- Words read one after another as numbers, which are counted, tested and kept at once.
+use Rattle.std.proofs.Common.{◌≡◌, ℕ, suc, ◌+◌, ◌<◌, ◌≤◌, Bool, true, false, cond, not, ltb, ◌&&◌, ◌||◌, ◌⊎◌, List, [], ◌∷◌, ◌++◌, length, map, Option, Some, None, Result, Ok, Err, refl, sym, ap, ◌∙◌, inl, inr, arith}
+use Rattle.std.specs.List.{list_all}
+use Rattle.std.specs.Option.{is_some, unwrap_or}
+use Rattle.std.proofs.lemmas.Bool.{cases_Bool, lt-ltb, le-ltb}
+use Rattle.std.proofs.lemmas.List.{append_assoc, append-nil, length-append, length-map}
+use Rattle.board_core.specs.Refusals.{first_that_holds}
+use Rattle.sbiboard.specs.declared.guest_script.fault.Fault.{Fault}
+use Rattle.sbiboard.specs.declared.guest_script.fault.Fault.TheVariants.{BadNumber, WordCount}
+use Rattle.board_core.specs.declared.event.Actor.TheVariants.{Hart}
+use Rattle.sbiboard.specs.Grammar.{last_hart}
+use Rattle.sbiboard.specs.FirstFault.{actor_test, is_clock, is_number, number_tests, numbers_tests}
+use Rattle.sbiboard.specs.Reading.{actor_in, or_fault, tested, number_of, numbers_in}
+
+-- Of all the words some are read, and these are left.
+pub record AreRead (most limit : ℕ) (all : List (List ℕ)) (found : List ℕ) (all_good : Bool) (words : List (List ℕ)) : Type 0 where
+  pub values : found ++ numbers_in limit words ≡ numbers_in limit all
+  pub good : (all_good && list_all (is_number limit) words) ≡ list_all (is_number limit) all
+  pub within : length found ≤ most
+
+pub is_some-number_of : (limit : ℕ) (word : List ℕ) → is_some (number_of limit word) ≡ is_number limit word
+unfolding number_of
+is_some-number_of limit word = elim (cases_Bool (is_number limit word)) [ inl good ↦ rw good refl | inr bad ↦ rw bad refl ]
+
+pub length-numbers_in : (limit : ℕ) (words : List (List ℕ)) → length (numbers_in limit words) ≡ length words
+unfolding numbers_in
+length-numbers_in limit words = length-map words (λ word. unwrap_or (number_of limit word) 0)
+
+pub AreRead-none : (most limit : ℕ) (all : List (List ℕ)) → AreRead most limit all [] true all
+AreRead-none most limit all = record { values = refl; good = refl; within = omega arith }
+
+and_true : (a : Bool) → (a && true) ≡ a
+and_true true = refl
+and_true false = refl
+
+and_assoc : (a b c : Bool) → ((a && b) && c) ≡ (a && (b && c))
+and_assoc true b c = refl
+and_assoc false b c = refl
+
+values_more : (limit : ℕ) (found : List ℕ) (word : List ℕ) (words : List (List ℕ))
+    → (found ++ unwrap_or (number_of limit word) 0 ∷ []) ++ numbers_in limit words ≡ found ++ numbers_in limit (word ∷ words)
+unfolding numbers_in
+values_more limit found word words = append_assoc found (unwrap_or (number_of limit word) 0 ∷ []) (numbers_in limit words)
+
+pub AreRead-more : (most limit : ℕ) (all : List (List ℕ)) (found : List ℕ) (all_good : Bool) (words : List (List ℕ)) (word : List ℕ) (others : List (List ℕ))
+    → AreRead most limit all found all_good words → words ≡ word ∷ others → length found < most
+    → AreRead most limit all (found ++ unwrap_or (number_of limit word) 0 ∷ []) (all_good && is_some (number_of limit word)) others
+AreRead-more most limit all found all_good words word others read at small = record {
+  values = values_more limit found word others ∙ rw at at read.values;
+  good = rw (is_some-number_of limit word) (and_assoc all_good (is_number limit word) (list_all (is_number limit) others) ∙ rw at at read.good);
+  within = omega (arith, length-append found (unwrap_or (number_of limit word) 0 ∷ []));
+}
+
+count_read : (most limit : ℕ) (all : List (List ℕ)) (found : List ℕ) (all_good : Bool) (words : List (List ℕ))
+    → AreRead most limit all found all_good words → length found + length words ≡ length all
+count_read most limit all found all_good words read =
+    let e = ap length read.values in
+    omega (arith, e, length-append found (numbers_in limit words), length-numbers_in limit words, length-numbers_in limit all)
+
+pub first_number_fault : (limit : ℕ) (words : List (List ℕ)) → first_that_holds (number_tests limit words) ≡ cond (list_all (is_number limit) words) None (Some BadNumber)
+first_number_fault limit [] = refl
+first_number_fault limit (word ∷ words) = elim (cases_Bool (is_number limit word)) [
+  | inl good ↦ rw good (first_number_fault limit words)
+  | inr bad ↦ rw bad refl
+]
+
+or_true : (b : Bool) → (b || true) ≡ true
+or_true true = refl
+or_true false = refl
+
+miscounted : (least most limit : ℕ) (words : List (List ℕ)) (ns : List ℕ) → (length words < least) ⊎ (most < length words) → tested (numbers_tests least most limit words) ns ≡ Err WordCount
+miscounted least most limit words ns (inl few) = rw (lt-ltb _ _ few) refl
+miscounted least most limit words ns (inr many) = rw (lt-ltb _ _ many, or_true (ltb (length words) least)) refl
+
+or_bad_number : (b : Bool) (ns : List ℕ) → or_fault (cond b None (Some BadNumber)) ns ≡ cond b (Ok ns) (Err BadNumber)
+or_bad_number true ns = refl
+or_bad_number false ns = refl
+
+pub counted : (least most limit : ℕ) (words : List (List ℕ)) (ns : List ℕ) → least ≤ length words → length words ≤ most
+    → tested (numbers_tests least most limit words) ns ≡ cond (list_all (is_number limit) words) (Ok ns) (Err BadNumber)
+counted least most limit words ns enough not_more =
+    rw (le-ltb _ _ enough, le-ltb _ _ not_more, first_number_fault limit words) (or_bad_number (list_all (is_number limit) words) ns)
+
+-- how the reading of the words ends
+module _ (least most limit : ℕ) (all : List (List ℕ)) (found : List ℕ) (all_good : Bool) (words : List (List ℕ)) (read : AreRead most limit all found all_good words) where
+  pub one_too_many : (word : List ℕ) (others : List (List ℕ)) → words ≡ word ∷ others → most ≤ length found
+      → tested (numbers_tests least most limit all) (numbers_in limit all) ≡ Err WordCount
+  one_too_many word others at full =
+      miscounted least most limit all _ (inr (omega (arith, count_read most limit all found all_good words read, ap length at)))
+
+  pub too_few : words ≡ [] → length found < least → tested (numbers_tests least most limit all) (numbers_in limit all) ≡ Err WordCount
+  too_few at few = miscounted least most limit all _ (inl (omega (arith, count_read most limit all found all_good words read, ap length at)))
+
+  all_read : words ≡ [] → least ≤ length found → tested (numbers_tests least most limit all) (numbers_in limit all) ≡ cond all_good (Ok found) (Err BadNumber)
+  unfolding numbers_in
+  all_read at enough =
+      let count : length found ≡ length all = omega (arith, count_read most limit all found all_good words read, ap length at) in
+      let values : found ≡ numbers_in limit all = sym (append-nil found) ∙ rw at at read.values in
+      let good : all_good ≡ list_all (is_number limit) all = sym (and_true all_good) ∙ rw at at read.good in
+      counted least most limit all (numbers_in limit all) (omega arith) (omega (arith, read.within)) ∙ rw (← values, ← good) refl
+
+  pub all_good_numbers : words ≡ [] → least ≤ length found → all_good ≡ true → tested (numbers_tests least most limit all) (numbers_in limit all) ≡ Ok found
+  all_good_numbers at enough good = all_read at enough ∙ rw good refl
+
+  pub a_bad_number : words ≡ [] → least ≤ length found → all_good ≡ false → tested (numbers_tests least most limit all) (numbers_in limit all) ≡ Err BadNumber
+  a_bad_number at enough bad = all_read at enough ∙ rw bad refl
+
+pub is_number_some : (limit : ℕ) (word : List ℕ) (n : ℕ) → number_of limit word ≡ Some n → is_number limit word ≡ true
+is_number_some limit word n e = sym (is_some-number_of limit word) ∙ ap is_some e
+
+pub is_number_none : (limit : ℕ) (word : List ℕ) → number_of limit word ≡ None → is_number limit word ≡ false
+is_number_none limit word e = sym (is_some-number_of limit word) ∙ ap is_some e
+
+pub actor_read : (word : List ℕ) (h : ℕ) → is_clock word ≡ false → number_of last_hart word ≡ Some h → tested (actor_test word ∷ []) (actor_in word) ≡ Ok (Hart h)
+actor_read word h other e = rw (other, is_number_some last_hart word h e, e) refl
+
+pub actor_unread : (word : List ℕ) → is_clock word ≡ false → number_of last_hart word ≡ None → tested (actor_test word ∷ []) (actor_in word) ≡ Err BadNumber
+actor_unread word other e = rw (other, is_number_none last_hart word e) refl

@@ -1,0 +1,258 @@
+-- What is printed of a schedule is read back.
+use Rattle.std.proofs.Common.{◌≡◌, ◌≢◌, ℕ, zero, suc, ◌+◌, ◌-◌, ◌^◌, ◌<◌, ◌≤◌, ◌⊎◌, Bool, true, false, not, cond, eqb, leb, ltb, ◌&&◌, ◌||◌, List, [], ◌∷◌, ◌++◌, length, map, get_or, Option, Some, None, codes, subst, refl, sym, ap, ◌∙◌, inl, inr, arith}
+use Rattle.std.specs.Prelude.{IsTrue, IsFalse, decimal}
+use Rattle.std.specs.Char.{digit_value, is_digit}
+use Rattle.std.specs.Fmt.{digits}
+use Rattle.std.specs.List.{All, AllByRecursion, AllZip, flat_map, join_with_byte, slice_index, slice_split}
+use Rattle.std.specs.Str.Lines.{lines, strip_carriage_return}
+use Rattle.std.specs.Str.Parse.{AllDigits}
+use Rattle.std.proofs.lemmas.Bool.{cases_Bool, cases_lt, lt-ltb, le-ltb, lt-leb, le-leb, eqb-true, ne_eqb, false_from_ne_true}
+use Rattle.std.proofs.lemmas.Fmt.{decimal_is_IsNumeral, digits_is_IsNumeral}
+use Rattle.std.proofs.lemmas.List.{append_assoc, append-nil, length-map}
+use Rattle.std.proofs.lemmas.List.Elements.{All-from_recursion, All-get_or}
+use Rattle.board_core.specs.declared.config.Config.{Config}
+use Rattle.board_core.specs.declared.event.Actor.{Actor}
+use Rattle.board_core.specs.declared.event.Actor.TheVariants.{Hart, Clock}
+use Rattle.board_core.specs.declared.event.Op.{Op}
+use Rattle.board_core.specs.declared.event.Op.TheVariants.{Ecall, Advance}
+use Rattle.sbiboard.specs.declared.guest_script.schedule.Line.{Line}
+use Rattle.sbiboard.specs.Words.{actor_word, board_words, hex, line_of, op_words, step_words}
+use Rattle.sbiboard.specs.Grammar.{AreNumbers, AreSchedule, AreSteps, Form, form_of, IsActor, is_allowed, is_blank, IsBoard, is_hash, IsLine, IsNumber, IsOp, IsStep, IsWord, last_hart, last_number, most_bytes, numbers_of, Reads, regs_of, Schedule, Spaces, Spells}
+use Rattle.sbiboard.specs.Laws.{FitsActor, FitsLine, FitsOp, FitsSchedule, NumberReadsBack, printed, ScheduleReadsBack, StepReadsBack, words_of}
+use Rattle.sbiboard.proofs.LinesOf.{lines_fed}
+use Rattle.sbiboard.proofs.Spacing.{Spaces-blank}
+use Rattle.std.proofs.lemmas.List.FromFn.{fill_by_all}
+use Rattle.sbi_abi.specs.declared.call.Regs.{Regs}
+
+-- ---- words of letters and digits alone
+
+-- a letter, a digit or a mark, and no `#`
+pub record IsPlainByte (b : ℕ) : Type 0 where
+  allowed : is_allowed b ≡ true
+  solid : is_blank b ≡ false
+  no_hash : is_hash b ≡ false
+
+abbrev pub IsPlain : List ℕ → Type 0
+IsPlain word = (word ≢ []) × AllByRecursion IsPlainByte word
+
+append_all : (P : ℕ → Type 0) (xs ys : List ℕ) → AllByRecursion P xs → AllByRecursion P ys → AllByRecursion P (xs ++ ys)
+append_all P [] ys all later = later
+append_all P (x ∷ xs) ys all later = (all.0, append_all P xs ys all.1 later)
+
+weaker_all : (P Q : ℕ → Type 0) → ((b : ℕ) → P b → Q b) → (xs : List ℕ) → AllByRecursion P xs → AllByRecursion Q xs
+weaker_all P Q weaker [] all = tt
+weaker_all P Q weaker (x ∷ xs) all = (weaker x all.0, weaker_all P Q weaker xs all.1)
+
+-- what holds of a blank and of each plain byte holds of each byte of a line of plain words
+joined_all : (P : ℕ → Type 0) → P 32 → ((b : ℕ) → IsPlainByte b → P b) → (words : List (List ℕ)) → AllByRecursion IsPlain words → AllByRecursion P (join_with_byte 32 words)
+joined_all P blank weaker [] plain = tt
+joined_all P blank weaker (word ∷ []) plain = weaker_all IsPlainByte P weaker word plain.0.1
+joined_all P blank weaker (word ∷ next ∷ words) plain =
+    append_all P word (32 ∷ join_with_byte 32 (next ∷ words)) (weaker_all IsPlainByte P weaker word plain.0.1)
+    (blank, joined_all P blank weaker (next ∷ words) plain.1)
+
+plain_word : (word : List ℕ) → IsPlain word → IsWord word
+plain_word word plain = (plain.0, weaker_all IsPlainByte (λ b. IsFalse (is_blank b)) (λ b p. p.solid) word plain.1)
+
+joined_spaces : (words : List (List ℕ)) → AllByRecursion IsPlain words → Spaces (join_with_byte 32 words) words
+joined_spaces [] plain = tt
+joined_spaces (word ∷ []) plain = ([], [], tt, plain_word word plain.0, sym (append-nil word), tt, tt)
+joined_spaces (word ∷ next ∷ words) plain =
+    ([], 32 ∷ join_with_byte 32 (next ∷ words), tt, plain_word word plain.0, refl, refl, Spaces-blank 32 (join_with_byte 32 (next ∷ words)) (next ∷ words) refl (joined_spaces (next ∷ words) plain.1))
+
+pub joined_line : (words : List (List ℕ)) → AllByRecursion IsPlain words → IsLine (join_with_byte 32 words) words
+joined_line words plain = record {
+  body = join_with_byte 32 words;
+  comment = [];
+  parts = sym (append-nil (join_with_byte 32 words));
+  allowed = joined_all (λ b. IsTrue (is_allowed b)) refl (λ b p. p.allowed) words plain;
+  no_hash = joined_all (λ b. IsFalse (is_hash b)) refl (λ b p. p.no_hash) words plain;
+  is_comment = tt;
+  spaces = joined_spaces words plain;
+}
+
+-- ---- numbers are plain
+
+digit_from : (b : ℕ) → digit_value b < 36 → 48 ≤ b
+digit_from b digit = elim (cases_lt b 48) [
+  | inl low ↦ absurd (omega (arith, rw (lt-ltb b 48 low) at digit))
+  | inr from ↦ from
+]
+
+digit_to : (b : ℕ) → digit_value b < 36 → b < 123
+digit_to b digit = elim (cases_lt b 123) [
+  | inl to ↦ to
+  | inr high ↦
+      let past = rw (le-ltb b 48 (omega arith), le-ltb b 58 (omega arith), le-ltb b 65 (omega arith), le-ltb b 91 (omega arith), le-ltb b 97 (omega arith), le-ltb b 123 high) at digit in
+      absurd (omega (arith, past))
+]
+
+digit_plain : (b : ℕ) → digit_value b < 36 → IsPlainByte b
+digit_plain b digit =
+    let from = digit_from b digit in
+    let to = digit_to b digit in
+    record {
+      allowed = rw (le-leb 32 b (omega arith), le-leb b 126 (omega arith)) refl;
+      solid = rw (ne_eqb b 32 (λ e. omega arith), ne_eqb b 9 (λ e. omega arith)) refl;
+      no_hash = ne_eqb b 35 (λ e. omega arith);
+    }
+
+digits_plain : (radix : ℕ) (ds : List ℕ) → radix ≤ 36 → AllDigits radix ds → AllByRecursion IsPlainByte ds
+digits_plain radix [] small all = tt
+digits_plain radix (b ∷ ds) small all = (digit_plain b (omega (arith, all.0)), digits_plain radix ds small all.1)
+
+spelled_plain : (word : List ℕ) (n : ℕ) → Spells word n → IsPlain word
+spelled_plain word n (inl decimal) = ((λ e. absurd (omega (arith, decimal.0.0, ap length e))), digits_plain 10 word (omega arith) decimal.0.1)
+spelled_plain word n (inr hex) =
+    rw hex.1 ((λ e. cc), (digit_plain 48 (omega arith), (digit_plain 120 (omega arith), digits_plain 16 hex.0 (omega arith) hex.2.1)))
+
+pub numbers_plain : (limit : ℕ) (words : List (List ℕ)) (ns : List ℕ) → AreNumbers limit words ns → AllByRecursion IsPlain words
+numbers_plain limit [] ns numbers = tt
+numbers_plain limit (word ∷ words) [] numbers = absurd numbers
+numbers_plain limit (word ∷ words) (n ∷ ns) numbers = (spelled_plain word n numbers.0.1, numbers_plain limit words ns numbers.1)
+
+-- ---- printed numbers
+
+pub number_read_back : NumberReadsBack
+number_read_back limit n small limited =
+    let ten = decimal_is_IsNumeral n (omega arith) in
+    let sixteen = digits_is_IsNumeral 16 false (omega arith) (omega arith) n (omega arith) in
+    ((small, inl (ten.0, sym ten.1)), (small, inr (digits 16 false n, refl, sixteen.0, sym sixteen.1)))
+
+hexes_read_back : (ns : List ℕ) → AllByRecursion (λ n. n ≤ last_number) ns → AreNumbers last_number (map hex ns) ns
+hexes_read_back [] fits = tt
+hexes_read_back (n ∷ ns) fits = ((number_read_back last_number n fits.0 (omega arith)).1, hexes_read_back ns fits.1)
+
+-- ---- printed steps
+
+record IsSpelled (words : List (List ℕ)) (op : Op) : Type 0 where
+  is_op : IsOp words op
+  plain : AllByRecursion IsPlain words
+
+-- a name of letters and digits
+name_plain : (name : List ℕ) → name ≢ [] → AllDigits 36 name → IsPlain name
+name_plain name some letters = (some, digits_plain 36 name (omega arith) letters)
+
+op_spelled : (name : List ℕ) (arguments : List (List ℕ)) (form : Form) (ns : List ℕ) → form_of name ≡ Some form → IsPlain name
+    → form.least ≤ length arguments → length arguments ≤ form.most → AreNumbers form.limit arguments ns → IsSpelled (name ∷ arguments) (form.op ns)
+op_spelled name arguments form ns at plain enough not_more numbers = record {
+  is_op = record {
+    name = name;
+    arguments = arguments;
+    form = form;
+    numbers = ns;
+    parts = refl;
+    has_form = at;
+    enough = enough;
+    not_more = not_more;
+    are_numbers = numbers;
+    makes = refl;
+  };
+  plain = (plain, numbers_plain form.limit arguments ns numbers);
+}
+
+six_arguments : (regs : Regs) → length regs.a ≡ 6 → regs_of (regs.eid ∷ regs.fid ∷ regs.a) ≡ regs
+six_arguments regs six = ap (λ (a : List ℕ). record { eid = regs.eid; fid = regs.fid; a = a }) (sym (fill_by_all (λ k. get_or regs.a k 0) regs.a 6 0 six (λ k h. refl)))
+
+op_read_back : (op : Op) → FitsOp op → IsSpelled (op_words op) op
+unfolding form_of
+op_read_back (Ecall regs) fits =
+    let number = λ (n : ℕ) (small : n ≤ last_number). (number_read_back last_number n small (omega arith)).1 in
+    let count = length-map regs.a hex in
+    subst (λ (r : Regs). IsSpelled (op_words (Ecall regs)) (Ecall r)) (six_arguments regs fits.2)
+    (op_spelled (codes "ecall") (hex regs.eid ∷ hex regs.fid ∷ map hex regs.a) _ (regs.eid ∷ regs.fid ∷ regs.a) refl
+    (name_plain (codes "ecall") (λ e. cc) (omega arith)) (omega (arith, count)) (omega (arith, count, fits.2))
+    (number regs.eid fits.0, (number regs.fid fits.1, hexes_read_back regs.a fits.3)))
+op_read_back Advance fits =
+    op_spelled (codes "advance") [] _ [] refl (name_plain (codes "advance") (λ e. cc) (omega arith)) (omega arith) (omega arith) tt
+
+actor_read_back : (actor : Actor) → FitsActor actor → IsActor (actor_word actor) actor
+actor_read_back (Hart h) fits = (number_read_back last_hart h fits (omega arith)).0
+actor_read_back Clock fits = refl
+
+actor_plain : (actor : Actor) → FitsActor actor → IsPlain (actor_word actor)
+actor_plain (Hart h) fits = spelled_plain (decimal h) h (number_read_back last_hart h fits (omega arith)).0.1
+actor_plain Clock fits = name_plain (codes "c") (λ e. cc) (omega arith)
+
+words_plain : (line : Line) → FitsLine line → AllByRecursion IsPlain (words_of line)
+words_plain line fits = (actor_plain line.actor fits.0, (op_read_back line.op fits.1).plain)
+
+pub step_read_back : StepReadsBack
+step_read_back line fits = (
+  joined_line (words_of line) (words_plain line fits),
+  record {
+    first = actor_word line.actor;
+    others = op_words line.op;
+    parts = refl;
+    is_actor = actor_read_back line.actor fits.0;
+    is_op = (op_read_back line.op fits.1).is_op;
+  },
+)
+
+-- ---- printed schedules
+
+not_ending : (c b : ℕ) → is_allowed c ≡ false → IsPlainByte b → eqb b c ≡ false
+not_ending c b ends plain = false_from_ne_true (eqb b c) (λ same.
+    let allowed : is_allowed c ≡ true = rw (← eqb-true b c same) plain.allowed in
+    let both : true ≡ false = sym allowed ∙ ends in cc)
+
+kept_by_strip : (text : List ℕ) → AllByRecursion (λ b. eqb b 13 ≡ false) text → strip_carriage_return text ≡ text
+kept_by_strip [] all = refl
+kept_by_strip (b ∷ text) all =
+    let last = All-get_or (λ x. eqb x 13 ≡ false) (b ∷ text) (length (b ∷ text) - 1) 0 (omega arith) (All-from_recursion (λ x. eqb x 13 ≡ false) (b ∷ text) all) in
+    rw last refl
+
+-- a printed line of plain words comes first among the lines
+lines_printed : (words : List (List ℕ)) (bytes : List ℕ) → AllByRecursion IsPlain words → lines (line_of words ++ bytes) ≡ join_with_byte 32 words ∷ lines bytes
+lines_printed words bytes plain =
+    let text = join_with_byte 32 words in
+    let no_feed = joined_all (λ b. eqb b 10 ≡ false) refl (λ b p. not_ending 10 b refl p) words plain in
+    let no_return = joined_all (λ b. eqb b 13 ≡ false) refl (λ b p. not_ending 13 b refl p) words plain in
+    ap lines (append_assoc text (10 ∷ []) bytes)
+    ∙ lines_fed text bytes (All-from_recursion (λ b. eqb b 10 ≡ false) text no_feed)
+    ∙ ap (λ (t : List ℕ). t ∷ lines bytes) (kept_by_strip text no_return)
+
+steps_read_back : (steps : List Line) → AllByRecursion FitsLine steps → AreSteps (lines (flat_map (λ line. line_of (words_of line)) steps)) steps
+steps_read_back [] fits = refl
+steps_read_back (line ∷ steps) fits =
+    let others = flat_map (λ l. line_of (words_of l)) steps in
+    let read = step_read_back line fits.0 in
+    rw (lines_printed (words_of line) others (words_plain line fits.0))
+    (words_of line, Some line, steps, read.0, read.1, refl, steps_read_back steps fits.1)
+
+abbrev arguments_of : Config → List (List ℕ)
+arguments_of c = decimal c.harts ∷ decimal c.pages ∷ decimal c.limit ∷ decimal c.boot_hart ∷ hex c.boot_addr ∷ hex c.boot_opaque ∷ []
+
+board_numbers : (c : Config) → AllByRecursion (λ n. n ≤ last_number) (numbers_of c) → AreNumbers last_number (arguments_of c) (numbers_of c)
+board_numbers c fits =
+    let number = λ (n : ℕ) (small : n ≤ last_number). number_read_back last_number n small (omega arith) in (
+      (number c.harts fits.0).0,
+      (
+        (number c.pages fits.1.0).0,
+        (
+          (number c.limit fits.1.1.0).0,
+          (
+            (number c.boot_hart fits.1.1.1.0).0,
+            (
+              (number c.boot_addr fits.1.1.1.1.0).1,
+              (
+                (number c.boot_opaque fits.1.1.1.1.1.0).1,
+                tt,
+              ),
+            ),
+          ),
+        ),
+      ),
+    )
+
+board_plain : (c : Config) → AllByRecursion (λ n. n ≤ last_number) (numbers_of c) → AllByRecursion IsPlain (board_words c)
+board_plain c fits = (name_plain (codes "board") (λ e. cc) (omega arith), numbers_plain last_number (arguments_of c) (numbers_of c) (board_numbers c fits))
+
+pub schedule_read_back : ScheduleReadsBack
+schedule_read_back s fits short =
+    let steps = flat_map (λ line. line_of (words_of line)) s.lines in
+    let plain = board_plain s.config fits.0 in (
+      short,
+      rw (lines_printed (board_words s.config) steps plain)
+          (inr (board_words s.config, joined_line (board_words s.config) plain, record { arguments = arguments_of s.config; parts = refl; are_numbers = board_numbers s.config fits.0 }, steps_read_back s.lines fits.1)),
+    )

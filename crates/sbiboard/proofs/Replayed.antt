@@ -1,0 +1,74 @@
+-- What a replay has done after some of the lines.
+use Rattle.std.proofs.Common.{◌≡◌, ℕ, ◌+◌, ◌<◌, suc, Bool, true, false, List, [], ◌∷◌, ◌++◌, ◌||◌, length, get_or, drop, refl, sym, ap, ◌∙◌, subst, arith, append_assoc, add-one, drop-cons}
+use Rattle.std.specs.Prelude.{Option, Result}
+use Rattle.std.specs.Io.KnownBytes.{Appends, Keeps}
+use Rattle.std.proofs.KnownBytes.{Appends-kept, Appends-trans}
+use Rattle.board_core.specs.declared.event.Refusal.{Refusal}
+use Rattle.board_core.specs.declared.event.Reply.{Reply}
+use Rattle.board_core.specs.Course.{Course}
+use Rattle.board_core.specs.Replies.{stepped}
+use Rattle.sbiboard.specs.declared.guest_script.schedule.Line.{Line}
+use Rattle.sbiboard.specs.Replay.{answer_of, course_after, is_full, lines_text, meets_full, opened, table_of, text_of}
+use Rattle.sbiboard.specs.Grammar.{Schedule}
+use Rattle.sbiboard.specs.Words.{board_words, event_words, line_of}
+
+-- what was written is the text of the lines that were done: with that of the others it is the whole text
+pub record HasWritten (before after : Option (List ℕ)) (rest whole : List ℕ) : Type 0 where
+  pub done : List ℕ
+  pub written : Appends before after done
+  pub whole_is : done ++ rest ≡ whole
+
+-- from the board b the other lines lead where all lines lead from the first board
+pub record Replaying (first b : Course) (lines others : List Line) (met_full : Bool) : Type 0 where
+  pub course : course_after b others ≡ course_after first lines
+  pub full : (met_full || meets_full b others) ≡ meets_full first lines
+
+-- the lines from place i on are line i and those after it
+pub drop_line : (lines : List Line) (i : ℕ) (d : Line) → i < length lines → drop i lines ≡ get_or lines i d ∷ drop (i + 1) lines
+drop_line lines i d below = rw (add-one i) (drop-cons lines i d below)
+
+or_assoc : (a b c : Bool) → ((a || b) || c) ≡ (a || (b || c))
+or_assoc true b c = refl
+or_assoc false b c = refl
+
+pub has_written-more : (before middle after : Option (List ℕ)) (others piece rest whole : List ℕ) → others ≡ piece ++ rest
+    → HasWritten before middle others whole → Appends middle after piece → HasWritten before after rest whole
+has_written-more before middle after others piece rest whole are so_far more = record {
+  done = so_far.done ++ piece;
+  written = Appends-trans before middle after so_far.done piece so_far.written more;
+  whole_is = append_assoc so_far.done piece rest ∙ ap (λ text. so_far.done ++ text) (sym are) ∙ so_far.whole_is;
+}
+
+module _ (b next : Course) (others rest : List Line) (line : Line) (are : others ≡ line ∷ rest)
+    (stepped_is : next ≡ stepped b line.actor line.op) where
+  pub replaying-more : (first : Course) (lines : List Line) (met full : Bool) → full ≡ is_full (answer_of b line)
+      → Replaying first b lines others met → Replaying first next lines rest (met || full)
+  replaying-more first lines met full is so_far = record {
+    course = ap (λ c. course_after c rest) stepped_is ∙ ap (course_after b) (sym are) ∙ so_far.course;
+    full = or_assoc met full (meets_full next rest)
+        ∙ ap (λ f. met || (f || meets_full next rest)) is
+        ∙ ap (λ c. met || (is_full (answer_of b line) || meets_full c rest)) stepped_is
+        ∙ ap (λ ls. met || meets_full b ls) (sym are) ∙ so_far.full;
+  }
+
+  pub lines_text-more : (answer : Result Reply Refusal) → answer ≡ answer_of b line
+      → lines_text b others ≡ line_of (event_words line.actor line.op answer) ++ lines_text next rest
+  lines_text-more answer is =
+      ap (lines_text b) are
+      ∙ ap (λ a. line_of (event_words line.actor line.op a) ++ lines_text (stepped b line.actor line.op) rest) (sym is)
+      ∙ ap (λ c. line_of (event_words line.actor line.op answer) ++ lines_text c rest) (sym stepped_is)
+
+-- the board line, the lines and the table, one after the other, are the schedule's text
+pub text_of-printed : (s : Schedule) (first last : Course) (lines : List Line)
+    → first ≡ opened s.config → lines ≡ s.lines → last ≡ course_after first lines
+    → (at_first at_lines at_table at_flush at_end : Option (List ℕ))
+    → Appends at_first at_lines (line_of (board_words s.config)) → Appends at_lines at_table (lines_text first lines)
+    → Appends at_table at_flush (table_of last) → Keeps at_flush at_end → Appends at_first at_end (text_of s)
+unfolding text_of
+text_of-printed s first last lines opened_is lines_are last_is a b c d e head body table kept =
+    let whole = Appends-kept a d e _ (Appends-trans a b d _ _ head (Appends-trans b c d _ _ body table)) kept in
+    let lines_text_is : lines_text first lines ≡ lines_text (opened s.config) s.lines =
+    ap (λ b. lines_text b lines) opened_is ∙ ap (lines_text (opened s.config)) lines_are in
+    let table_is : table_of last ≡ table_of (course_after (opened s.config) s.lines) =
+    ap table_of (last_is ∙ ap (λ b. course_after b lines) opened_is ∙ ap (course_after (opened s.config)) lines_are) in
+    subst (λ t. Appends a e (line_of (board_words s.config) ++ t)) (λ i. lines_text_is i ++ table_is i) whole

@@ -1,0 +1,124 @@
+-- What is wrong with bytes that are no schedule: the first test that holds, from the first line on (profile).
+use Rattle.std.specs.Prelude.{ℕ, ◌+◌, Bool, true, false, not, ◌&&◌, ◌||◌, nat_lt, nat_le, if◌then◌else◌, List, [], ◌∷◌, ◌++◌, length, drop, slice_index, map, codes, Option, Some, None}
+use Rattle.std.specs.Char.{is_digit}
+use Rattle.std.specs.List.{filter, list_any, list_all, slice_split}
+use Rattle.std.specs.Str.{bytes_eq}
+use Rattle.std.specs.Str.Lines.{lines}
+use Rattle.std.specs.Str.Parse.{digits_value}
+use Rattle.std.specs.Prelude.{take}
+use Rattle.board_core.specs.Refusals.{first_that_holds}
+use Rattle.sbiboard.specs.declared.guest_script.fault.Fault.{Fault}
+use Rattle.sbiboard.specs.declared.guest_script.fault.Fault.TheVariants.{BadByte, NoBoardLine, UnknownWord, BadNumber, WordCount, OtherKind, TooLong, NoMemory}
+use Rattle.sbiboard.specs.declared.guest_script.fault.ScriptFault.{ScriptFault}
+use Rattle.sbiboard.specs.Grammar.{is_blank, is_allowed, is_hash, Form, form_of, last_number, last_hart, most_bytes}
+
+-- the faults' numbers
+abbrev pub fault_number : Fault → ℕ
+fault_number BadByte = 1
+fault_number NoBoardLine = 2
+fault_number UnknownWord = 3
+fault_number BadNumber = 4
+fault_number WordCount = 5
+fault_number OtherKind = 6
+fault_number TooLong = 8
+fault_number NoMemory = 9
+
+-- ---- words
+
+abbrev pub before_comment : List ℕ → List ℕ
+before_comment [] = []
+before_comment (b ∷ text) = if is_hash b then [] else b ∷ before_comment text
+
+abbrev pub is_filled : {A : Type 0} → List A → Bool
+is_filled [] = false
+is_filled (x ∷ xs) = true
+
+-- what stands between blanks, up to the comment
+unfoldable pub words_in : List ℕ → List (List ℕ)
+words_in text = filter is_filled (slice_split is_blank (before_comment text))
+
+-- at least one digit and nothing else, which say a number up to the limit
+abbrev pub is_numeral : (radix limit : ℕ) → List ℕ → Bool
+is_numeral radix limit digits =
+    is_filled digits && list_all (λ b. is_digit b radix) digits && nat_le (digits_value radix digits) limit
+
+abbrev pub is_hexadecimal : List ℕ → Bool
+is_hexadecimal word = bytes_eq (take 2 word) (codes "0x")
+
+unfoldable pub is_number : (limit : ℕ) → List ℕ → Bool
+is_number limit word = if is_hexadecimal word then is_numeral 16 limit (drop 2 word) else is_numeral 10 limit word
+
+-- ---- the tests of a line
+
+abbrev pub number_tests : (limit : ℕ) → List (List ℕ) → List (Bool × Fault)
+number_tests limit words = map (λ word. (not (is_number limit word), BadNumber)) words
+
+-- so many numbers: their count, and then each from left to right
+abbrev pub numbers_tests : (least most limit : ℕ) → List (List ℕ) → List (Bool × Fault)
+numbers_tests least most limit words =
+    (nat_lt (length words) least || nat_lt most (length words), WordCount) ∷ number_tests limit words
+
+abbrev pub form_tests : Option Form → List (List ℕ) → List (Bool × Fault)
+form_tests None words = (true, UnknownWord) ∷ []
+form_tests (Some form) words = numbers_tests form.least form.most form.limit words
+
+abbrev pub op_tests : List (List ℕ) → List (Bool × Fault)
+op_tests [] = (true, WordCount) ∷ []
+op_tests (name ∷ words) = form_tests (form_of name) words
+
+abbrev pub is_clock : List ℕ → Bool
+is_clock word = bytes_eq word (codes "c")
+
+-- An actor's line begins with `c` or a digit; with an arrow it is a trace's.
+abbrev pub begins_actor_line : List ℕ → Bool
+begins_actor_line first = is_clock first || is_digit (slice_index first 0) 10
+
+abbrev pub has_arrow : List (List ℕ) → Bool
+has_arrow words = list_any (λ word. bytes_eq word (codes "->")) words
+
+-- `c`, or the number of a hart
+abbrev pub actor_test : List ℕ → Bool × Fault
+actor_test word = (not (is_clock word || is_number last_hart word), BadNumber)
+
+abbrev pub step_tests : List (List ℕ) → List (Bool × Fault)
+step_tests [] = []
+step_tests (first ∷ words) =
+    (not (begins_actor_line first) || has_arrow words, OtherKind)
+    ∷ actor_test first
+    ∷ op_tests words
+
+abbrev pub board_tests : List (List ℕ) → List (Bool × Fault)
+board_tests [] = []
+board_tests (first ∷ words) =
+    (not (bytes_eq first (codes "board")), NoBoardLine) ∷ numbers_tests 6 6 last_number words
+
+abbrev pub byte_test : List ℕ → Bool × Fault
+byte_test text = (not (list_all is_allowed text), BadByte)
+
+-- ---- the tests of a script
+
+-- the tests of line n
+abbrev pub at_line : ℕ → List (Bool × Fault) → List (Bool × ScriptFault)
+at_line n tests = map (λ test. (test.0, record { line = n; fault = test.1 })) tests
+
+abbrev pub steps_tests : ℕ → List (List ℕ) → List (Bool × ScriptFault)
+steps_tests n [] = []
+steps_tests n (text ∷ texts) = at_line n (byte_test text ∷ step_tests (words_in text)) ++ steps_tests (n + 1) texts
+
+-- the board line is the first with words
+abbrev pub schedule_tests : ℕ → List (List ℕ) → List (Bool × ScriptFault)
+schedule_tests n [] = (true, record { line = 0; fault = NoBoardLine }) ∷ []
+schedule_tests n (text ∷ texts) =
+    at_line n (byte_test text ∷ board_tests (words_in text))
+    ++ (if is_filled (words_in text) then steps_tests (n + 1) texts else schedule_tests (n + 1) texts)
+
+abbrev pub script_tests : List ℕ → List (Bool × ScriptFault)
+script_tests bytes =
+    (nat_lt most_bytes (length bytes), record { line = 0; fault = TooLong }) ∷ schedule_tests 1 (lines bytes)
+
+abbrev pub first_fault : List ℕ → Option ScriptFault
+first_fault bytes = first_that_holds (script_tests bytes)
+
+-- the want of memory, which no byte shows
+abbrev pub no_memory : ScriptFault
+no_memory = record { line = 0; fault = NoMemory }

@@ -1,0 +1,52 @@
+-- What holds of schedules as text: each has one reading, and what is printed of one is read back (profile).
+use Rattle.std.specs.Prelude.{◌≡◌, ◌↔◌, ℕ, ◌^◌, ◌<◌, ◌≤◌, List, ◌++◌, length, None, decimal}
+use Rattle.std.specs.List.{AllByRecursion, flat_map, join_with_byte}
+use Rattle.board_core.specs.declared.config.Config.{Config}
+use Rattle.board_core.specs.declared.event.Actor.{Actor}
+use Rattle.board_core.specs.declared.event.Actor.TheVariants.{Hart, Clock}
+use Rattle.board_core.specs.declared.event.Op.{Op}
+use Rattle.board_core.specs.declared.event.Op.TheVariants.{Ecall, Advance}
+use Rattle.sbiboard.specs.declared.guest_script.schedule.Line.{Line}
+use Rattle.sbiboard.specs.Words.{board_words, hex, line_of, step_words}
+use Rattle.sbiboard.specs.Grammar.{IsLine, IsNumber, IsStep, last_hart, last_number, most_bytes, numbers_of, Reads, Schedule}
+use Rattle.sbiboard.specs.FirstFault.{first_fault}
+
+-- Bytes are one schedule at most, and they are one exactly where there is no first fault.
+pub record HasOneReading (bytes : List ℕ) : Type 0 where
+  pub at_most_one : (s t : Schedule) → Reads bytes s → Reads bytes t → s ≡ t
+  pub script_or_fault : ((s : Schedule) × Reads bytes s) ↔ (first_fault bytes ≡ None)
+
+-- ---- what is printed is read back
+
+-- a printed number spells that number
+abbrev pub NumberReadsBack : Type 0
+NumberReadsBack = (limit n : ℕ) → n ≤ limit → limit ≤ last_number → IsNumber limit (decimal n) n × IsNumber limit (hex n) n
+
+abbrev pub FitsActor : Actor → Type 0
+FitsActor (Hart h) = h ≤ last_hart
+FitsActor Clock = Unit {0}
+
+-- an operation of registers
+abbrev pub FitsOp : Op → Type 0
+FitsOp (Ecall regs) = (regs.eid ≤ last_number) × (regs.fid ≤ last_number) × (length regs.a ≡ 6) × AllByRecursion (λ n. n ≤ last_number) regs.a
+FitsOp Advance = Unit {0}
+
+abbrev pub FitsLine : Line → Type 0
+FitsLine line = FitsActor line.actor × FitsOp line.op
+
+abbrev pub words_of : Line → List (List ℕ)
+words_of line = step_words line.actor line.op
+
+-- a step's printed words, with a blank between each two, are a line of these words, which are that step
+abbrev pub StepReadsBack : Type 0
+StepReadsBack = (line : Line) → FitsLine line → IsLine (join_with_byte 32 (words_of line)) (words_of line) × IsStep (words_of line) line
+
+-- the printed board line and step lines
+abbrev pub printed : Schedule → List ℕ
+printed s = line_of (board_words s.config) ++ flat_map (λ line. line_of (words_of line)) s.lines
+
+abbrev pub FitsSchedule : Schedule → Type 0
+FitsSchedule s = AllByRecursion (λ n. n ≤ last_number) (numbers_of s.config) × AllByRecursion FitsLine s.lines
+
+abbrev pub ScheduleReadsBack : Type 0
+ScheduleReadsBack = (s : Schedule) → FitsSchedule s → length (printed s) ≤ most_bytes → Reads (printed s) s

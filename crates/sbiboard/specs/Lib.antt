@@ -1,0 +1,12 @@
+pub mod FirstFault
+pub mod Grammar
+pub mod Laws
+pub mod Line
+pub mod Outcomes
+pub mod Reading
+pub mod Replay
+pub mod Scanning
+pub mod Sinks
+pub mod Sources
+pub mod Table
+pub mod Words

@@ -1,0 +1,128 @@
+-- What is read, where no test holds.
+use Rattle.std.specs.Prelude.{◌≡◌, ℕ, nat_lt, if◌then◌else◌, List, [], ◌∷◌, ◌++◌, length, drop, slice_index, map, codes, Option, Some, None, Result, Ok, Err, Bool}
+use Rattle.std.specs.List.{filter_map}
+use Rattle.std.specs.Option.{unwrap_or}
+use Rattle.std.specs.Str.Lines.{lines}
+use Rattle.std.specs.Str.Parse.{digits_value}
+use Rattle.board_core.specs.declared.config.Config.{Config}
+use Rattle.board_core.specs.declared.event.Actor.{Actor}
+use Rattle.board_core.specs.declared.event.Actor.TheVariants.{Hart, Clock}
+use Rattle.board_core.specs.declared.event.Op.{Op}
+use Rattle.board_core.specs.declared.event.Op.TheVariants.{Advance}
+use Rattle.board_core.specs.Refusals.{first_that_holds}
+use Rattle.sbiboard.specs.declared.guest_script.fault.Fault.{Fault}
+use Rattle.sbiboard.specs.declared.guest_script.fault.ScriptFault.{ScriptFault}
+use Rattle.sbiboard.specs.declared.guest_script.schedule.Line.{Line}
+use Rattle.sbiboard.specs.declared.guest_script.op_name.OpName.{OpName}
+use Rattle.sbiboard.specs.declared.guest_script.op_name.OpName.TheVariants as names
+use Rattle.sbiboard.specs.declared.guest_script.op_name.Places.{Places}
+use Rattle.sbiboard.specs.Grammar.{Schedule, Form, form_of, last_number, last_hart}
+use Rattle.sbiboard.specs.FirstFault.{words_in, is_number, is_hexadecimal, is_clock, steps_tests, schedule_tests, script_tests}
+
+abbrev pub or_fault : {A F : Type 0} → Option F → A → Result A F
+or_fault None value = Ok value
+or_fault (Some fault) value = Err fault
+
+-- the value, where none of the tests holds, and else the fault of the first that does
+abbrev pub tested : {A F : Type 0} → List (Bool × F) → A → Result A F
+tested tests value = or_fault (first_that_holds tests) value
+
+-- What a function returned, seen by a view, is what is read.
+abbrev pub Gives : {X A F : Type 0} → (X → A) → Result X F → Result A F → Type 0
+Gives view (Ok x) read = read ≡ Ok (view x)
+Gives view (Err fault) read = read ≡ Err fault
+
+-- ---- an operation by its name
+
+abbrev pub spelling : OpName → List ℕ
+spelling names.Ecall = codes "ecall"
+spelling names.Advance = codes "advance"
+
+-- the places are those of the form
+abbrev pub IsFormAt : Places → Option Form → Type 0
+IsFormAt places None = ⊥
+IsFormAt places (Some form) = (form.least ≡ places.least) × (form.most ≡ places.most) × (form.limit ≡ places.limit)
+
+abbrev pub HasForm : OpName → Places → Type 0
+HasForm name places = IsFormAt places (form_of (spelling name))
+
+-- ---- the values, which say nothing where a test holds
+
+abbrev pub value_of : List ℕ → ℕ
+value_of word = if is_hexadecimal word then digits_value 16 (drop 2 word) else digits_value 10 word
+
+unfoldable pub number_of : (limit : ℕ) → List ℕ → Option ℕ
+number_of limit word = if is_number limit word then Some (value_of word) else None
+
+-- the numbers that the words spell, with 0 for a word that spells none
+unfoldable pub numbers_in : (limit : ℕ) → List (List ℕ) → List ℕ
+numbers_in limit words = map (λ word. unwrap_or (number_of limit word) 0) words
+
+abbrev pub op_from : Option Form → List ℕ → Op
+op_from None ns = Advance
+op_from (Some form) ns = form.op ns
+
+abbrev pub limit_from : Option Form → ℕ
+limit_from None = 0
+limit_from (Some form) = form.limit
+
+abbrev pub op_in : List (List ℕ) → Op
+op_in [] = Advance
+op_in (name ∷ words) = op_from (form_of name) (numbers_in (limit_from (form_of name)) words)
+
+abbrev pub actor_in : List ℕ → Actor
+actor_in word = if is_clock word then Clock else Hart (unwrap_or (number_of last_hart word) 0)
+
+abbrev pub step_in : List (List ℕ) → Option Line
+step_in [] = None
+step_in (first ∷ words) = Some (record { actor = actor_in first; op = op_in words })
+
+abbrev pub config_of : List ℕ → Config
+config_of ns = record {
+  harts = slice_index ns 0;
+  pages = slice_index ns 1;
+  limit = slice_index ns 2;
+  boot_hart = slice_index ns 3;
+  boot_addr = slice_index ns 4;
+  boot_opaque = slice_index ns 5;
+}
+
+abbrev pub board_in : List (List ℕ) → Option Config
+board_in [] = None
+board_in (first ∷ words) = Some (config_of (numbers_in last_number words))
+
+abbrev pub steps_in : List (List ℕ) → List Line
+steps_in texts = filter_map (λ text. step_in (words_in text)) texts
+
+abbrev pub schedule_of : Option Config → (steps : List Line) → (later : Schedule) → Schedule
+schedule_of None steps later = later
+schedule_of (Some config) steps later = record { config = config; lines = steps }
+
+abbrev pub schedule_in : List (List ℕ) → Schedule
+schedule_in [] = record { config = config_of []; lines = [] }
+schedule_in (text ∷ texts) = schedule_of (board_in (words_in text)) (steps_in texts) (schedule_in texts)
+
+-- ---- what is read
+
+-- what line n gave, with its number at its fault
+abbrev pub located : {A : Type 0} → ℕ → Result A Fault → Result A ScriptFault
+located n (Ok value) = Ok value
+located n (Err fault) = Err (record { line = n; fault = fault })
+
+-- with the steps that were read before
+abbrev pub with_front : List Line → Result (List Line) ScriptFault → Result (List Line) ScriptFault
+with_front front (Ok others) = Ok (front ++ others)
+with_front front (Err fault) = Err fault
+
+abbrev pub with_config : Config → Result (List Line) ScriptFault → Result Schedule ScriptFault
+with_config config (Ok steps) = Ok (record { config = config; lines = steps })
+with_config config (Err fault) = Err fault
+
+unfoldable pub steps_from : ℕ → List (List ℕ) → Result (List Line) ScriptFault
+steps_from n texts = tested (steps_tests n texts) (steps_in texts)
+
+unfoldable pub schedule_from : ℕ → List (List ℕ) → Result Schedule ScriptFault
+schedule_from n texts = tested (schedule_tests n texts) (schedule_in texts)
+
+unfoldable pub script_of : List ℕ → Result Schedule ScriptFault
+script_of bytes = tested (script_tests bytes) (schedule_in (lines bytes))

@@ -1,0 +1,9 @@
+-- What is known of a source after reads (profile).
+use Rattle.std.specs.Prelude.{◌≡◌, ℕ, ◌<◌}
+use Rattle.sbiboard.specs.declared.device.whole.ReadFault.{ReadFault}
+use Rattle.sbiboard.specs.declared.device.whole.ReadFault.TheVariants.{Failed, NoMemory}
+
+-- A fault of reading is a call that failed, or memory that was refused while no call failed.
+abbrev pub CountsFault : (old new : ℕ) → ReadFault → Type 0
+CountsFault old new Failed = old < new
+CountsFault old new NoMemory = new ≡ old

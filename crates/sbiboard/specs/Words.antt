@@ -1,0 +1,52 @@
+-- The printed lines as words, which one blank parts (profile).
+use Rattle.std.specs.Prelude.{ℕ, List, [], ◌∷◌, ◌++◌, map, codes, decimal, false, Result, Ok, Err}
+use Rattle.std.specs.Fmt.{digits, signed_decimal}
+use Rattle.std.specs.List.{join_with_byte}
+use Rattle.board_core.specs.declared.config.Config.{Config}
+use Rattle.board_core.specs.declared.event.Actor.{Actor}
+use Rattle.board_core.specs.declared.event.Actor.TheVariants.{Hart, Clock}
+use Rattle.board_core.specs.declared.event.Op.{Op}
+use Rattle.board_core.specs.declared.event.Op.TheVariants.{Ecall, Advance}
+use Rattle.board_core.specs.declared.event.Refusal.{Refusal}
+use Rattle.board_core.specs.declared.event.Reply.{Reply}
+use Rattle.board_core.specs.declared.event.Reply.TheVariants.{Ret, Entry}
+use Rattle.board_core.specs.Refusals.{refusal_number}
+
+-- `0x` and lower case hexadecimal digits with no leading zero
+abbrev pub hex : ℕ → List ℕ
+hex n = codes "0x" ++ digits 16 false n
+
+abbrev pub actor_word : Actor → List ℕ
+actor_word (Hart h) = decimal h
+actor_word Clock = codes "c"
+
+abbrev pub op_words : Op → List (List ℕ)
+op_words (Ecall regs) = codes "ecall" ∷ hex regs.eid ∷ hex regs.fid ∷ map hex regs.a
+op_words Advance = codes "advance" ∷ []
+
+abbrev pub reply_words : Result Reply Refusal → List (List ℕ)
+reply_words (Ok (Ret answer)) = codes "ret" ∷ signed_decimal answer.error ∷ hex answer.value ∷ []
+reply_words (Ok (Entry addr hart opaque)) = codes "entry" ∷ hex addr ∷ decimal hart ∷ hex opaque ∷ []
+reply_words (Err refusal) = codes "refused" ∷ decimal (refusal_number refusal) ∷ []
+
+abbrev pub board_words : Config → List (List ℕ)
+board_words c =
+    codes "board"
+    ∷ decimal c.harts
+    ∷ decimal c.pages
+    ∷ decimal c.limit
+    ∷ decimal c.boot_hart
+    ∷ hex c.boot_addr
+    ∷ hex c.boot_opaque
+    ∷ []
+
+-- what an actor does, up to the arrow
+abbrev pub step_words : Actor → Op → List (List ℕ)
+step_words actor op = actor_word actor ∷ op_words op
+
+abbrev pub event_words : Actor → Op → Result Reply Refusal → List (List ℕ)
+event_words actor op result = step_words actor op ++ codes "->" ∷ reply_words result
+
+-- words as a line: one blank between each two, and a line feed at the end
+abbrev pub line_of : List (List ℕ) → List ℕ
+line_of words = join_with_byte 32 words ++ 10 ∷ []

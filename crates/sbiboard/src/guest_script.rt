@@ -1,0 +1,17 @@
+//! Schedules as text: a board line, and one line for each step (profile).
+
+mod fault;
+mod laws;
+mod number;
+mod numbers;
+mod op_name;
+mod parsing;
+mod schedule;
+mod step;
+mod text;
+mod words;
+
+pub use fault::{Fault, ScriptFault};
+pub use laws::{one_reading, read_back};
+pub use parsing::parse;
+pub use schedule::{Line, Script};

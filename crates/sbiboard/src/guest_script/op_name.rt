@@ -1,0 +1,95 @@
+ghost use Rattle.std.specs.Prelude.{◌≡◌, ◌≤◌, length, slice_index, MatchOption, Some, None};
+ghost use Rattle.sbiboard.specs.Grammar.{form_of, regs_of};
+ghost use Rattle.sbiboard.specs.Reading.{HasForm, op_from, spelling};
+
+use crate::guest_script::numbers::MOST_NUMBERS;
+use board_core::Op;
+use sbi_abi::Regs;
+
+/// An operation by its name.
+#[derive(Clone, Copy)]
+pub enum OpName {
+    /// `ecall`
+    Ecall,
+    /// `advance`
+    Advance,
+}
+
+/// What may follow a name: from `least` to `most` numbers, each at most `limit`.
+#[derive(Clone, Copy)]
+pub struct Places {
+    pub least: usize,
+    pub most: usize,
+    pub limit: u64,
+}
+
+impl OpName {
+    /// The operation that a word names.
+    #[tactic(auto, unfolding(crate::specs::Grammar::form_of))]
+    pub fn of(word: &[u8]) -> Option<OpName>
+        ensures { MatchOption result (form_of word.now ≡ None) (λ name. word.now ≡ spelling name) }
+    {
+        if word == b"ecall".as_slice() {
+            Some(OpName::Ecall)
+        } else if word == b"advance".as_slice() {
+            Some(OpName::Advance)
+        } else {
+            None
+        }
+    }
+
+    /// What may follow the name.
+    #[tactic(auto, unfolding(crate::specs::Grammar::form_of))]
+    pub fn places(self) -> Places
+        ensures form { HasForm self result }
+        ensures fits { result.most ≤ MOST_NUMBERS }
+    {
+        match self {
+            OpName::Ecall => Places {
+                least: 2,
+                most: 8,
+                limit: u64::MAX,
+            },
+            OpName::Advance => Places {
+                least: 0,
+                most: 0,
+                limit: u64::MAX,
+            },
+        }
+    }
+
+    /// The operation of this name, with its numbers.
+    #[tactic(auto, unfolding(crate::specs::Grammar::form_of))]
+    pub fn op(self, numbers: &[u64]) -> Op
+        ensures { result ≡ op_from (form_of (spelling self)) numbers.now }
+    {
+        match self {
+            OpName::Ecall => Op::Ecall(regs(numbers)),
+            OpName::Advance => Op::Advance,
+        }
+    }
+}
+
+/// The registers of a call. An argument that isn't written is 0.
+fn regs(numbers: &[u64]) -> Regs
+    ensures { result ≡ regs_of numbers.now }
+{
+    Regs {
+        eid: at(numbers, 0),
+        fid: at(numbers, 1),
+        a: [
+            at(numbers, 2),
+            at(numbers, 3),
+            at(numbers, 4),
+            at(numbers, 5),
+            at(numbers, 6),
+            at(numbers, 7),
+        ],
+    }
+}
+
+fn at(numbers: &[u64], i: usize) -> u64
+    ensures { result ≡ slice_index numbers.now i }
+{
+    numbers.get(i).copied().unwrap_or(0)
+}

@@ -1,0 +1,62 @@
+ghost use Rattle.std.specs.Prelude.{◌≡◌, ◌∷◌, []};
+ghost use Rattle.sbiboard.specs.FirstFault.{actor_test, begins_actor_line, op_tests, step_tests, words_in};
+ghost use Rattle.sbiboard.specs.Reading.{actor_in, op_in, step_in, tested};
+
+use crate::guest_script::fault::Fault;
+use crate::guest_script::number::number;
+use crate::guest_script::numbers::numbers;
+use crate::guest_script::op_name::OpName;
+use crate::guest_script::schedule::Line;
+use crate::guest_script::words::{has_arrow, next_word};
+use board_core::{Actor, Op};
+
+/// The largest number of a hart.
+const LAST_HART: u64 = 127;
+
+/// The step that a line's words are, if it has words.
+pub fn step(text: &[u8]) -> Result<Option<Line>, Fault>
+    ensures { result ≡ tested (step_tests (words_in text.now)) (step_in (words_in text.now)) }
+{
+    match next_word(text) {
+        None => Ok(None),
+        Some((first, rest)) => {
+            if !begins_actor_line(first) || has_arrow(rest) {
+                return Err(Fault::OtherKind);
+            }
+            let actor = actor(first)?;
+            let op = op(rest)?;
+            Ok(Some(Line { actor, op }))
+        }
+    }
+}
+
+/// Whether a line with this first word is an actor's.
+fn begins_actor_line(first: &[u8]) -> bool
+    ensures { result ≡ begins_actor_line first.now }
+{
+    first == b"c".as_slice() || matches!(first, [b'0'..=b'9', ..])
+}
+
+#[tactic(auto, using(crate::proofs::NumbersIn::actor_read, crate::proofs::NumbersIn::actor_unread))]
+fn actor(word: &[u8]) -> Result<Actor, Fault>
+    ensures { result ≡ tested (actor_test word.now ∷ []) (actor_in word.now) }
+{
+    if word == b"c".as_slice() {
+        return Ok(Actor::Clock);
+    }
+    match number(word, LAST_HART) {
+        Some(hart) => Ok(Actor::Hart(hart)),
+        None => Err(Fault::BadNumber),
+    }
+}
+
+/// The operation that a text's words are.
+fn op(text: &[u8]) -> Result<Op, Fault>
+    ensures { result ≡ tested (op_tests (words_in text.now)) (op_in (words_in text.now)) }
+{
+    let (word, rest) = next_word(text).ok_or(Fault::WordCount)?;
+    let name = OpName::of(word).ok_or(Fault::UnknownWord)?;
+    let places = name.places();
+    let numbers = numbers(rest, places.least, places.most, places.limit)?;
+    Ok(name.op(&numbers))
+}

@@ -1,0 +1,10 @@
+//! What is printed: sinks of bytes, and the lines that go into them.
+
+mod line;
+mod lines;
+mod sink;
+mod table;
+
+pub use lines::{print_event, print_head, print_line, print_reply};
+pub use sink::{Failed, Sink, write_all};
+pub use table::print_table;

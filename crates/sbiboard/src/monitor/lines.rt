@@ -1,0 +1,126 @@
+ghost use Rattle.std.specs.Prelude.{◌≡◌, ◌+◌, ◌^◌, ◌<◌, ◌≤◌, ◌∷◌, ◌++◌, length, map, Ok};
+ghost use Rattle.std.specs.List.{join_with_byte};
+ghost use Rattle.sbiboard.specs.Line.{with_words};
+ghost use Rattle.sbiboard.specs.Sinks.{Puts};
+ghost use Rattle.sbiboard.specs.Words.{hex, actor_word, board_words, event_words, line_of, op_words, reply_words};
+
+use super::line::Line;
+use super::sink::{Failed, Sink, write_all};
+use board_core::{Actor, Config, Event, Op, Refusal, Reply};
+
+/// Prints the board line.
+pub fn print_head<W: Sink>(config: &Config, sink: &mut W) -> Result<(), Failed>
+    requires { W.failures sink.old < 2 ^ 63 }
+    ensures { Puts W.written W.failures sink.old sink.new result (line_of (board_words config.now)) }
+{
+    let mut line = Line::new();
+    line.word(b"board");
+    line.decimal(config.harts);
+    line.decimal(config.pages);
+    line.decimal(config.limit);
+    line.decimal(config.boot_hart);
+    line.hex(config.boot_addr);
+    line.hex(config.boot_opaque);
+    line.put(sink)
+}
+
+/// Prints the line of a step and of what it answered.
+pub fn print_line<W: Sink>(
+    actor: Actor,
+    op: Op,
+    answer: Result<Reply, Refusal>,
+    sink: &mut W,
+) -> Result<(), Failed>
+    requires { W.failures sink.old < 2 ^ 63 }
+    ensures { Puts W.written W.failures sink.old sink.new result
+        (line_of (event_words actor op answer)) }
+{
+    let mut line = Line::new();
+    actor_onto(&mut line, actor);
+    op_onto(&mut line, op);
+    line.word(b"->");
+    reply_onto(&mut line, answer);
+    line.put(sink)
+}
+
+/// Prints the line of an accepted step.
+pub fn print_event<W: Sink>(event: &Event, sink: &mut W) -> Result<(), Failed>
+    requires { W.failures sink.old < 2 ^ 63 }
+    ensures { Puts W.written W.failures sink.old sink.new result
+        (line_of (event_words event.now.actor event.now.op (Ok event.now.reply))) }
+{
+    print_line(event.actor, event.op, Ok(event.reply), sink)
+}
+
+/// Prints the words of a reply or a refusal alone, with no line feed.
+pub fn print_reply<W: Sink>(answer: Result<Reply, Refusal>, sink: &mut W) -> Result<(), Failed>
+    requires { W.failures sink.old < 2 ^ 63 }
+    ensures { Puts W.written W.failures sink.old sink.new result
+        (join_with_byte 32 (reply_words answer)) }
+{
+    let mut line = Line::new();
+    reply_onto(&mut line, answer);
+    write_all(sink, line.as_bytes())
+}
+
+fn actor_onto(line: &mut Line, actor: Actor)
+    requires { length line.old ≡ 0 }
+    ensures text { line.new ≡ line.old ++ 32 ∷ actor_word actor }
+    ensures len { length line.new ≤ 21 }
+{
+    match actor {
+        Actor::Hart(hart) => line.decimal(hart),
+        Actor::Clock => line.word(b"c"),
+    }
+}
+
+fn op_onto(line: &mut Line, op: Op)
+    requires { length line.old ≤ 21 }
+    ensures text { line.new ≡ with_words line.old (op_words op) }
+    ensures len { length line.new ≤ 179 }
+{
+    match op {
+        Op::Ecall(regs) => {
+            line.word(b"ecall");
+            line.hex(regs.eid);
+            line.hex(regs.fid);
+            numbers_onto(line, &regs.a);
+        }
+        Op::Advance => line.word(b"advance"),
+    }
+}
+
+fn reply_onto(line: &mut Line, answer: Result<Reply, Refusal>)
+    requires { length line.old ≤ 182 }
+    ensures text { line.new ≡ with_words line.old (reply_words answer) }
+    ensures len { length line.new ≤ length line.old + 65 }
+    ensures some { 0 < length line.new }
+{
+    match answer {
+        Ok(Reply::Ret(answer)) => {
+            line.word(b"ret");
+            line.signed(answer.error);
+            line.hex(answer.value);
+        }
+        Ok(Reply::Entry { addr, hart, opaque }) => {
+            line.word(b"entry");
+            line.hex(addr);
+            line.decimal(hart);
+            line.hex(opaque);
+        }
+        Err(refusal) => {
+            line.word(b"refused");
+            line.decimal(refusal.number());
+        }
+    }
+}
+
+fn numbers_onto(line: &mut Line, numbers: &[u64; 6])
+    requires { length line.old ≤ 65 }
+    ensures text { line.new ≡ with_words line.old (map hex numbers.now) }
+    ensures len { length line.new ≤ length line.old + 114 }
+{
+    for number in numbers {
+        line.hex(*number);
+    }
+}

@@ -1,0 +1,117 @@
+ghost use Rattle.std.specs.Prelude.{◌≡◌, ◌^◌, ◌<◌, ℕ, List, IfOk, IfSome, MatchResult, take};
+ghost use Rattle.std.specs.Io.KnownBytes.{Appends, IsAtEnd};
+ghost use Rattle.board_core.specs.Course.{Course};
+ghost use Rattle.sbiboard.specs.Replay.{CountsEnd, EndsRead, EndsScript, Writes, answer_of, course_after, ended_as, is_full, lines_text, meets_full, opened, text_of};
+ghost use Rattle.sbiboard.specs.Grammar.{schedule};
+ghost use Rattle.sbiboard.specs.Sinks.{Puts};
+
+use crate::device::{ReadFault, Source, read_whole};
+use crate::guest_script::{Fault, Line, Script, ScriptFault, parse};
+use crate::monitor::{Failed, Sink, print_head, print_line, print_table};
+use crate::outcome::Outcome;
+use board_core::{Board, BuildFault, Refusal, Reply};
+use std::alloc::Global;
+
+/// One byte more than a script may have.
+const READ_LIMIT: usize = 16_777_217;
+
+/// Reads a schedule to its end, makes its board, and writes the board line, each line with its reply, and
+/// the board's table. Nothing is written before the schedule is read and the board made.
+pub fn replay<R: Source, W: Sink>(alloc: Global, reader: &mut R, writer: &mut W) -> Outcome
+    requires reader_counts { R.failures reader.old < 2 ^ 63 }
+    requires writer_counts { W.failures writer.old < 2 ^ 63 }
+    ensures writes { IfSome (R.left reader.old) (λ bytes.
+        Writes (take READ_LIMIT bytes) result (W.written writer.old) (W.written writer.new)) }
+    ensures to_the_end { EndsRead result (R.left reader.new) }
+    ensures failed { CountsEnd result (R.failures reader.old) (R.failures reader.new)
+        (W.failures writer.old) (W.failures writer.new) }
+{
+    let bytes = match read_whole(alloc, reader, READ_LIMIT) {
+        Ok(bytes) => bytes,
+        Err(ReadFault::Failed) => return Outcome::Io,
+        Err(ReadFault::NoMemory) => return Outcome::NoMemory,
+    };
+    replay_bytes(alloc, &bytes, writer)
+}
+
+fn replay_bytes<W: Sink>(alloc: Global, bytes: &[u8], writer: &mut W) -> Outcome
+    requires { W.failures writer.old < 2 ^ 63 }
+    ensures writes { Writes bytes.now result (W.written writer.old) (W.written writer.new) }
+    ensures failed { CountsEnd result 0 0 (W.failures writer.old) (W.failures writer.new) }
+{
+    let script = match parse(alloc, bytes) {
+        Ok(script) => script,
+        Err(fault) => return ended(fault),
+    };
+    match Board::new(alloc, &script.config) {
+        Ok(mut board) => replay_script(&script, &mut board, writer),
+        Err(BuildFault::BadConfig) => Outcome::BadBoard,
+        Err(BuildFault::NoMemory) => Outcome::NoMemory,
+    }
+}
+
+/// How a replay ends that found no schedule.
+fn ended(fault: ScriptFault) -> Outcome
+    ensures { result ≡ ended_as fault.line fault.fault }
+{
+    match fault.fault {
+        Fault::NoMemory => Outcome::NoMemory,
+        found => Outcome::Script {
+            line: fault.line,
+            number: found.number(),
+        },
+    }
+}
+
+fn replay_script<W: Sink>(script: &Script, board: &mut Board, writer: &mut W) -> Outcome
+    requires at_opening { board.old ≡ opened script.now.config }
+    requires counts { W.failures writer.old < 2 ^ 63 }
+    ensures { EndsScript result (meets_full (opened script.now.config) script.now.lines.items)
+        (Appends (W.written writer.old) (W.written writer.new) (text_of (schedule script.now)))
+        (W.failures writer.old) (W.failures writer.new) }
+{
+    match print_script(script, board, writer) {
+        Ok(false) => Outcome::Good,
+        Ok(true) => Outcome::HistoryFull,
+        Err(Failed) => Outcome::Io,
+    }
+}
+
+/// Writes all that a schedule's replay prints, and answers whether a line met a full history.
+fn print_script<W: Sink>(script: &Script, board: &mut Board, writer: &mut W) -> Result<bool, Failed>
+    requires at_opening { board.old ≡ opened script.now.config }
+    requires counts { W.failures writer.old < 2 ^ 63 }
+    ensures text { Puts W.written W.failures writer.old writer.new result (text_of (schedule script.now)) }
+    ensures full { IfOk result (λ full. full ≡ meets_full (opened script.now.config) script.now.lines.items) }
+{
+    print_head(&script.config, writer)?;
+    let met_full = print_lines(&script.lines, board, writer)?;
+    print_table(board, writer)?;
+    writer.flush()?;
+    Ok(met_full)
+}
+
+/// Steps the board through the lines and writes each with its reply.
+fn print_lines<W: Sink>(lines: &[Line], board: &mut Board, writer: &mut W) -> Result<bool, Failed>
+    requires { W.failures writer.old < 2 ^ 63 }
+    ensures text { Puts W.written W.failures writer.old writer.new result (lines_text board.old lines.now) }
+    ensures full { IfOk result (λ full. full ≡ meets_full board.old lines.now) }
+    ensures course { IfOk result (λ _. board.new ≡ course_after board.old lines.now) }
+{
+    let mut met_full = false;
+    for line in lines {
+        let answer = board.step(line.actor, line.op);
+        met_full |= is_full(&answer);
+        print_line(line.actor, line.op, answer, writer)?;
+    }
+    Ok(met_full)
+}
+
+fn is_full(answer: &Result<Reply, Refusal>) -> bool
+    ensures { result ≡ is_full answer.now }
+{
+    match answer {
+        Err(Refusal::HistoryFull) => true,
+        Err(Refusal::WrongPhase | Refusal::Nothing) | Ok(_) => false,
+    }
+}
