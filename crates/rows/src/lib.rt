@@ -1,0 +1,15 @@
+//! The worked rows, as tables of cases: schedules with what the program prints of them and how it ends.
+#![tactic(auto)]
+
+#[cfg(test)]
+mod commands;
+#[cfg(test)]
+mod failing;
+#[cfg(test)]
+mod faults;
+#[cfg(test)]
+mod limits;
+#[cfg(test)]
+mod printing;
+#[cfg(test)]
+mod replays;
