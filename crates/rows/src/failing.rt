@@ -15,6 +15,7 @@ struct Failing<'a> {
     fails_at: u64,
     takes_nothing: bool,
     failures: u64,
+    flushed: bool,
 }
 
 impl Failing<'_> {
@@ -47,12 +48,14 @@ impl Source for Failing<'_> {
 impl Sink for Failing<'_> {
     ghost written = { λ _. None };
 
+    ghost is_flushed = { λ f. f.flushed };
+
     ghost failures = { λ f. f.failures };
 
     fn write(&mut self, piece: &[u8]) -> Result<usize, Failed> {
         if self.fails_now() {
             self.failures += 1;
-            return if self.takes_nothing {
+            return if self.takes_nothing && !piece.is_empty() {
                 Ok(0)
             } else {
                 Err(Failed)
@@ -68,6 +71,7 @@ impl Sink for Failing<'_> {
             self.failures += 1;
             return Err(Failed);
         }
+        self.flushed = true;
         Ok(())
     }
 }
@@ -82,6 +86,7 @@ fn failing_at(call: u64, takes_nothing: bool) -> Failing<'static>
         fails_at: call,
         takes_nothing,
         failures: 0,
+        flushed: false,
     }
 }
 

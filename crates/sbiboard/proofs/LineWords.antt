@@ -1,11 +1,9 @@
 -- The words of a line are a step, or the board's, exactly where none of the line's tests holds.
-use Rattle.std.proofs.Common.{◌≡◌, ◌≢◌, ℕ, suc, ◌+◌, ◌<◌, ◌≤◌, ◌⊎◌, Bool, true, false, not, cond, eqb, ltb, ◌&&◌, ◌||◌, List, [], ◌∷◌, ◌++◌, length, map, get_or, Option, Some, None, codes, subst, refl, sym, ap, ◌∙◌, inl, inr, arith}
+use Rattle.std.proofs.Common.{◌≡◌, ℕ, suc, ◌≤◌, Bool, true, false, not, cond, ltb, ◌||◌, List, [], ◌∷◌, length, get_or, Option, Some, None, Ok, codes, refl, sym, ap, ◌∙◌, inl, inr, arith}
 use Rattle.std.specs.Char.{digit_value, is_digit}
-use Rattle.std.specs.List.{list_all, list_any, slice_index}
-use Rattle.std.specs.Option.{option_map, unwrap_or}
+use Rattle.std.specs.List.{slice_index}
 use Rattle.std.specs.Str.{bytes_eq}
-use Rattle.std.specs.Str.Parse.{AllDigits}
-use Rattle.std.proofs.lemmas.Bool.{cases_Bool, lt-ltb, le-ltb, ltb-false, or_parts, or_from, or_cases, not-false, not_from_true, false_from_ne_true}
+use Rattle.std.proofs.lemmas.Bool.{cases_Bool, lt-ltb, le-ltb, ltb-false, or_parts, or_from, not-false, not_from_true, false_from_ne_true}
 use Rattle.std.proofs.lemmas.List.FromFn.{fill_by_all}
 use Rattle.std.proofs.lemmas.Slice.Eq.{bytes_eq-Decides}
 use Rattle.board_core.specs.declared.config.Config.{Config}
@@ -18,7 +16,7 @@ use Rattle.sbiboard.specs.declared.guest_script.fault.Fault.TheVariants.{NoBoard
 use Rattle.sbiboard.specs.declared.guest_script.schedule.Line.{Line}
 use Rattle.sbiboard.specs.Grammar.{AreNumbers, Form, form_of, IsActor, IsBoard, IsNumber, IsOp, IsStep, last_hart, last_number, numbers_of, Spells}
 use Rattle.sbiboard.specs.FirstFault.{actor_test, begins_actor_line, board_tests, form_tests, has_arrow, is_clock, is_number, number_tests, numbers_tests, op_tests, step_tests}
-use Rattle.sbiboard.specs.Reading.{actor_in, board_in, config_of, limit_from, number_of, numbers_in, op_from, op_in, step_in}
+use Rattle.sbiboard.specs.Reading.{actor_in, board_in, config_of, limit_from, line_in, or_fault, tested, numbers_in, op_from, op_in, step_in}
 use Rattle.sbiboard.proofs.NumbersIn.{first_number_fault, length-numbers_in}
 use Rattle.sbiboard.proofs.Spelling.{number_spelled, numbers_spelled, spelled_number, spelled_numbers}
 
@@ -154,6 +152,23 @@ op_no_arrow words op is_op =
     let both = sym none ∙ is_op.has_form in cc) in
     rw is_op.parts (or_from (bytes_eq is_op.name (codes "->")) (has_arrow is_op.arguments) named (numbers_no_arrow is_op.form.limit is_op.arguments is_op.numbers is_op.are_numbers))
 
+is_value : (o : Option Fault) (x y : Line) → or_fault o x ≡ Ok y → o ≡ None
+is_value None x y e = refl
+is_value (Some fault) x y e = absurd cc
+
+some_value : (o : Option Fault) (x y : Line) → Ok y ≡ or_fault o x → Ok (Some y) ≡ or_fault o (Some x)
+some_value None x y e = cc
+some_value (Some fault) x y e = absurd cc
+
+-- a line that is read as a step has no arrow
+pub step_read : (words : List (List ℕ)) (first : List ℕ) (others : List (List ℕ)) (line : Line) → words ≡ first ∷ others → begins_actor_line first ≡ true
+    → Ok line ≡ tested (actor_test first ∷ op_tests others) (line_in first others) → Ok (Some line) ≡ tested (step_tests words) (step_in words)
+step_read words first others line at begins read =
+    let o = first_that_holds (actor_test first ∷ op_tests others) in
+    let none = none_first (actor_test first) (op_tests others) (is_value o (line_in first others) line (sym read)) in
+    let no_arrow = op_no_arrow others (op_in others) (op_tested others none.1) in
+    rw (at, begins, no_arrow) (some_value o (line_in first others) line read)
+
 pub step_tested : (first : List ℕ) (words : List (List ℕ)) → NoneHolds (step_tests (first ∷ words)) → IsStep (first ∷ words) (record { actor = actor_in first; op = op_in words })
 step_tested first words none =
     let kind = none_first _ (actor_test first ∷ op_tests words) none in
@@ -183,7 +198,7 @@ config_numbers ns six = sym (fill_by_all (λ k. get_or ns k 0) ns 6 0 six (λ k 
 
 pub board_tested : (first : List ℕ) (words : List (List ℕ)) → NoneHolds (board_tests (first ∷ words)) → IsBoard (first ∷ words) (config_of (numbers_in last_number words))
 board_tested first words none =
-    let named = none_first _ (numbers_tests 6 6 last_number words) none in
+    let named = none_first (not (bytes_eq first (codes "board")), NoBoardLine) (numbers_tests 6 6 last_number words) none in
     let counted = numbers_tested 6 6 last_number words named.1 in
     let six : length (numbers_in last_number words) ≡ 6 = omega (arith, length-numbers_in last_number words, counted.enough, counted.not_more) in
     record {

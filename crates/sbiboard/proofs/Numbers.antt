@@ -1,13 +1,13 @@
 -- Numbers: the digits read one after another are the number that a word spells.
-use Rattle.std.proofs.Common.{◌≡◌, ℕ, suc, ◌+◌, ◌*◌, ◌^◌, ◌<◌, ◌≤◌, Bool, true, false, cond, leb, ltb, ◌&&◌, List, [], ◌∷◌, length, drop, Option, Some, None, refl, sym, ap, ◌∙◌, inl, inr, arith}
+use Rattle.std.proofs.Common.{◌≡◌, ℕ, ◌+◌, ◌*◌, ◌^◌, ◌<◌, ◌≤◌, Bool, true, false, cond, leb, ◌&&◌, List, [], ◌∷◌, drop, Option, Some, None, refl, sym, inl, inr, arith}
 use Rattle.std.proofs.Math.Nat.{mul-le-mul_left}
 use Rattle.std.specs.Char.{digit_value, is_digit}
 use Rattle.std.specs.List.{list_all}
 use Rattle.std.specs.Str.Parse.{digits_value_after}
-use Rattle.std.proofs.lemmas.Bool.{cases_Bool, cases_lt, lt-ltb, le-ltb, lt-leb, le-leb}
+use Rattle.std.proofs.lemmas.Bool.{cases_Bool, cases_lt, lt-ltb, le-ltb, lt-leb}
 use Rattle.sbiboard.specs.FirstFault.{is_hexadecimal, is_numeral, is_number}
 use Rattle.sbiboard.specs.Scanning.{digit_after, digits_after, numeral_of, spelled_of}
-use Rattle.sbiboard.specs.Reading.{number_of, value_of}
+use Rattle.sbiboard.specs.Reading.{number_of}
 
 abbrev pub at_most : ℕ → Option ℕ → Option ℕ
 at_most limit None = None

@@ -1,11 +1,10 @@
 -- Words read one after another as numbers, which are counted, tested and kept at once.
-use Rattle.std.proofs.Common.{◌≡◌, ℕ, suc, ◌+◌, ◌<◌, ◌≤◌, Bool, true, false, cond, not, ltb, ◌&&◌, ◌||◌, ◌⊎◌, List, [], ◌∷◌, ◌++◌, length, map, Option, Some, None, Result, Ok, Err, refl, sym, ap, ◌∙◌, inl, inr, arith}
+use Rattle.std.proofs.Common.{◌≡◌, ℕ, ◌+◌, ◌<◌, ◌≤◌, Bool, true, false, cond, ltb, ◌&&◌, ◌||◌, ◌⊎◌, List, [], ◌∷◌, ◌++◌, length, Some, None, Ok, Err, refl, sym, ap, ◌∙◌, inl, inr, arith}
 use Rattle.std.specs.List.{list_all}
 use Rattle.std.specs.Option.{is_some, unwrap_or}
 use Rattle.std.proofs.lemmas.Bool.{cases_Bool, lt-ltb, le-ltb}
 use Rattle.std.proofs.lemmas.List.{append_assoc, append-nil, length-append, length-map}
 use Rattle.board_core.specs.Refusals.{first_that_holds}
-use Rattle.sbiboard.specs.declared.guest_script.fault.Fault.{Fault}
 use Rattle.sbiboard.specs.declared.guest_script.fault.Fault.TheVariants.{BadNumber, WordCount}
 use Rattle.board_core.specs.declared.event.Actor.TheVariants.{Hart}
 use Rattle.sbiboard.specs.Grammar.{last_hart}

@@ -1,12 +1,12 @@
 -- What is printed of a schedule is read back.
-use Rattle.std.proofs.Common.{◌≡◌, ◌≢◌, ℕ, zero, suc, ◌+◌, ◌-◌, ◌^◌, ◌<◌, ◌≤◌, ◌⊎◌, Bool, true, false, not, cond, eqb, leb, ltb, ◌&&◌, ◌||◌, List, [], ◌∷◌, ◌++◌, length, map, get_or, Option, Some, None, codes, subst, refl, sym, ap, ◌∙◌, inl, inr, arith}
+use Rattle.std.proofs.Common.{◌≡◌, ◌≢◌, ℕ, ◌-◌, ◌<◌, ◌≤◌, true, false, eqb, List, [], ◌∷◌, ◌++◌, length, map, get_or, Some, codes, subst, refl, sym, ap, ◌∙◌, inl, inr, arith}
 use Rattle.std.specs.Prelude.{IsTrue, IsFalse, decimal}
-use Rattle.std.specs.Char.{digit_value, is_digit}
+use Rattle.std.specs.Char.{digit_value}
 use Rattle.std.specs.Fmt.{digits}
-use Rattle.std.specs.List.{All, AllByRecursion, AllZip, flat_map, join_with_byte, slice_index, slice_split}
+use Rattle.std.specs.List.{AllByRecursion, flat_map, join_with_byte}
 use Rattle.std.specs.Str.Lines.{lines, strip_carriage_return}
 use Rattle.std.specs.Str.Parse.{AllDigits}
-use Rattle.std.proofs.lemmas.Bool.{cases_Bool, cases_lt, lt-ltb, le-ltb, lt-leb, le-leb, eqb-true, ne_eqb, false_from_ne_true}
+use Rattle.std.proofs.lemmas.Bool.{cases_lt, lt-ltb, le-ltb, le-leb, eqb-true, ne_eqb, false_from_ne_true}
 use Rattle.std.proofs.lemmas.Fmt.{decimal_is_IsNumeral, digits_is_IsNumeral}
 use Rattle.std.proofs.lemmas.List.{append_assoc, append-nil, length-map}
 use Rattle.std.proofs.lemmas.List.Elements.{All-from_recursion, All-get_or}
@@ -16,9 +16,9 @@ use Rattle.board_core.specs.declared.event.Actor.TheVariants.{Hart, Clock}
 use Rattle.board_core.specs.declared.event.Op.{Op}
 use Rattle.board_core.specs.declared.event.Op.TheVariants.{Ecall, Advance}
 use Rattle.sbiboard.specs.declared.guest_script.schedule.Line.{Line}
-use Rattle.sbiboard.specs.Words.{actor_word, board_words, hex, line_of, op_words, step_words}
-use Rattle.sbiboard.specs.Grammar.{AreNumbers, AreSchedule, AreSteps, Form, form_of, IsActor, is_allowed, is_blank, IsBoard, is_hash, IsLine, IsNumber, IsOp, IsStep, IsWord, last_hart, last_number, most_bytes, numbers_of, Reads, regs_of, Schedule, Spaces, Spells}
-use Rattle.sbiboard.specs.Laws.{FitsActor, FitsLine, FitsOp, FitsSchedule, NumberReadsBack, printed, ScheduleReadsBack, StepReadsBack, words_of}
+use Rattle.sbiboard.specs.Words.{actor_word, board_words, hex, line_of, op_words}
+use Rattle.sbiboard.specs.Grammar.{AreNumbers, AreSteps, Form, form_of, IsActor, is_allowed, is_blank, is_hash, IsLine, IsOp, IsWord, last_hart, last_number, numbers_of, regs_of, Spaces, Spells}
+use Rattle.sbiboard.specs.Laws.{FitsActor, FitsLine, FitsOp, NumberReadsBack, ScheduleReadsBack, StepReadsBack, words_of}
 use Rattle.sbiboard.proofs.LinesOf.{lines_fed}
 use Rattle.sbiboard.proofs.Spacing.{Spaces-blank}
 use Rattle.std.proofs.lemmas.List.FromFn.{fill_by_all}

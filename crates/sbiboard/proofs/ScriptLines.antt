@@ -1,15 +1,13 @@
 -- Bytes are a schedule exactly where none of a script's tests holds.
-use Rattle.std.proofs.Common.{◌≡◌, ℕ, ◌+◌, ◌<◌, ◌≤◌, ◌⊎◌, Bool, true, false, not, cond, ltb, List, [], ◌∷◌, ◌++◌, length, Option, Some, None, Result, Ok, Err, refl, sym, ap, ◌∙◌, subst, inl, inr, arith}
-use Rattle.std.specs.List.{cons_option}
+use Rattle.std.proofs.Common.{◌≡◌, ℕ, ◌+◌, Bool, true, cond, List, [], ◌∷◌, ◌++◌, Option, Some, None, Ok, Err, refl, sym, ap, ◌∙◌, subst, inl, inr}
 use Rattle.std.specs.Option.{option_map}
 use Rattle.std.specs.Str.Lines.{lines}
-use Rattle.std.proofs.lemmas.Bool.{cases_Bool, le-ltb, ltb-false, not-false, not_from_true}
-use Rattle.board_core.specs.Refusals.{first_that_holds}
+use Rattle.std.proofs.lemmas.Bool.{le-ltb, ltb-false, not-false, not_from_true}
 use Rattle.sbiboard.specs.declared.guest_script.fault.Fault.{Fault}
 use Rattle.sbiboard.specs.declared.guest_script.fault.ScriptFault.{ScriptFault}
 use Rattle.sbiboard.specs.declared.guest_script.schedule.Line.{Line}
-use Rattle.sbiboard.specs.Grammar.{AreSchedule, AreSteps, IsBoard, IsLine, IsStepOrNone, most_bytes, Reads, Schedule}
-use Rattle.sbiboard.specs.FirstFault.{at_line, board_tests, byte_test, first_fault, is_filled, schedule_tests, script_tests, step_tests, steps_tests, words_in}
+use Rattle.sbiboard.specs.Grammar.{AreSchedule, AreSteps, IsBoard, IsLine, IsStepOrNone, Reads, Schedule}
+use Rattle.sbiboard.specs.FirstFault.{at_line, board_tests, byte_test, first_fault, is_filled, schedule_tests, step_tests, steps_tests, words_in}
 use Rattle.sbiboard.specs.Laws.{HasOneReading}
 use Rattle.sbiboard.specs.Reading.{board_in, or_fault, schedule_in, schedule_of, script_of, step_in, steps_in}
 use Rattle.sbiboard.proofs.LineWords.{board_passes, board_tested, none_cons, none_first, NoneHolds, step_passes, step_tested}

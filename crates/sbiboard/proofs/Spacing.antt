@@ -1,9 +1,9 @@
 -- A line's text is its words under any spacing and a comment, and no other words.
-use Rattle.std.proofs.Common.{◌≡◌, ℕ, ◌≢◌, Bool, true, false, cond, ◌&&◌, List, [], ◌∷◌, ◌++◌, refl, sym, ap, ◌∙◌, inl, inr}
+use Rattle.std.proofs.Common.{◌≡◌, ℕ, Bool, true, cond, List, [], ◌∷◌, ◌++◌, refl, sym, ap, ◌∙◌, inl, inr}
 use Rattle.std.specs.Prelude.{IsTrue, IsFalse}
-use Rattle.std.specs.List.{AllByRecursion, filter, list_all, slice_split, onto_first}
+use Rattle.std.specs.List.{AllByRecursion, filter, list_all, slice_split}
 use Rattle.std.proofs.lemmas.Bool.{cases_Bool, and_parts, and_from}
-use Rattle.std.proofs.lemmas.List.{append_assoc, append-nil}
+use Rattle.std.proofs.lemmas.List.{append-nil}
 use Rattle.sbiboard.specs.Grammar.{is_blank, is_allowed, is_hash, IsApart, IsComment, IsGap, IsLine, IsWord, Spaces}
 use Rattle.sbiboard.specs.FirstFault.{before_comment, is_filled, words_in}
 

@@ -1,5 +1,5 @@
 -- A script, read line by line.
-use Rattle.std.proofs.Common.{◌≡◌, ℕ, ◌+◌, ◌<◌, ◌≤◌, ◌^◌, Bool, true, false, cond, List, [], ◌∷◌, ◌++◌, length, map, Option, Some, None, Result, Ok, Err, refl, sym, ap, ◌∙◌, inl, inr, arith}
+use Rattle.std.proofs.Common.{◌≡◌, ℕ, ◌+◌, ◌<◌, ◌≤◌, ◌^◌, Bool, true, false, cond, List, [], ◌∷◌, ◌++◌, length, Option, Some, None, Result, Ok, Err, refl, sym, ap, ◌∙◌, inl, inr}
 use Rattle.std.specs.List.{cons_option}
 use Rattle.std.specs.Option.{option_map, option_to_list}
 use Rattle.std.specs.Str.Lines.{lines}
@@ -12,9 +12,9 @@ use Rattle.sbiboard.specs.declared.guest_script.fault.Fault.{Fault}
 use Rattle.sbiboard.specs.declared.guest_script.fault.Fault.TheVariants.{NoBoardLine, TooLong}
 use Rattle.sbiboard.specs.declared.guest_script.fault.ScriptFault.{ScriptFault}
 use Rattle.sbiboard.specs.declared.guest_script.schedule.Line.{Line}
-use Rattle.sbiboard.specs.Grammar.{Schedule, most_bytes}
+use Rattle.sbiboard.specs.Grammar.{most_bytes}
 use Rattle.sbiboard.specs.FirstFault.{at_line, board_tests, byte_test, is_filled, schedule_tests, step_tests, steps_tests, words_in}
-use Rattle.sbiboard.specs.Reading.{board_in, located, or_fault, schedule_from, schedule_in, schedule_of, script_of, step_in, steps_from, steps_in, tested, with_config, with_front}
+use Rattle.sbiboard.specs.Reading.{board_in, located, or_fault, schedule_from, schedule_in, script_of, step_in, steps_from, steps_in, tested, with_config, with_front}
 
 -- ---- tests one after another
 

@@ -1,9 +1,8 @@
 -- The words of a text, from its front.
 use Rattle.std.proofs.lemmas.List.{at_drop_more}
-use Rattle.std.proofs.Common.{get_or, ◌≡◌, ℕ, zero, suc, ◌+◌, ◌<◌, ◌≤◌, Bool, true, false, cond, not, eqb, ◌&&◌, ◌||◌, List, [], ◌∷◌, ◌++◌, length, take, drop, refl, sym, ap, ◌∙◌, inl, inr, arith}
-use Rattle.std.specs.Prelude.{IsFalse, IsTrue}
-use Rattle.std.specs.List.{filter, slice_split, onto_first}
-use Rattle.std.proofs.lemmas.Bool.{cases_Bool, eqb-true, or_cases, or_parts, ne_eqb}
+use Rattle.std.proofs.Common.{get_or, ◌≡◌, ℕ, ◌+◌, ◌<◌, ◌≤◌, true, false, eqb, List, [], ◌∷◌, length, take, drop, refl, sym, ap, ◌∙◌, inl, inr, arith}
+use Rattle.std.specs.List.{filter, slice_split}
+use Rattle.std.proofs.lemmas.Bool.{cases_Bool, eqb-true, or_cases}
 use Rattle.sbiboard.specs.Grammar.{is_blank, is_hash}
 use Rattle.sbiboard.specs.FirstFault.{before_comment, is_filled, words_in}
 use Rattle.sbiboard.specs.Scanning.{begins_blank, is_word_end, word_length}

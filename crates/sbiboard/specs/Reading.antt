@@ -1,5 +1,5 @@
 -- What is read, where no test holds.
-use Rattle.std.specs.Prelude.{◌≡◌, ℕ, nat_lt, if◌then◌else◌, List, [], ◌∷◌, ◌++◌, length, drop, slice_index, map, codes, Option, Some, None, Result, Ok, Err, Bool}
+use Rattle.std.specs.Prelude.{◌≡◌, ℕ, if◌then◌else◌, List, [], ◌∷◌, ◌++◌, drop, slice_index, map, codes, Option, Some, None, Result, Ok, Err, Bool}
 use Rattle.std.specs.List.{filter_map}
 use Rattle.std.specs.Option.{unwrap_or}
 use Rattle.std.specs.Str.Lines.{lines}
@@ -73,9 +73,12 @@ op_in (name ∷ words) = op_from (form_of name) (numbers_in (limit_from (form_of
 abbrev pub actor_in : List ℕ → Actor
 actor_in word = if is_clock word then Clock else Hart (unwrap_or (number_of last_hart word) 0)
 
+abbrev pub line_in : (first : List ℕ) → List (List ℕ) → Line
+line_in first words = record { actor = actor_in first; op = op_in words }
+
 abbrev pub step_in : List (List ℕ) → Option Line
 step_in [] = None
-step_in (first ∷ words) = Some (record { actor = actor_in first; op = op_in words })
+step_in (first ∷ words) = Some (line_in first words)
 
 abbrev pub config_of : List ℕ → Config
 config_of ns = record {

@@ -87,6 +87,12 @@ EndsRead Good left = IsAtEnd left
 EndsRead HistoryFull left = IsAtEnd left
 EndsRead outcome left = Unit {0}
 
+-- what a schedule's text was written to holds nothing of it back
+abbrev pub EndsFlushed : Outcome → (is_flushed : Bool) → Type 0
+EndsFlushed Good is_flushed = is_flushed ≡ true
+EndsFlushed HistoryFull is_flushed = is_flushed ≡ true
+EndsFlushed outcome is_flushed = Unit {0}
+
 -- the counts of failed calls of a reader and of a writer: one is higher exactly where the outcome says so
 abbrev pub CountsEnd : Outcome → (reader reader' writer writer' : ℕ) → Type 0
 CountsEnd Io reader reader' writer writer' = (reader < reader') ⊎ (writer < writer')

@@ -1,5 +1,5 @@
 -- What is known of a sink after writes (profile).
-use Rattle.std.specs.Prelude.{◌≡◌, ℕ, ◌<◌, List, Option, Result, MatchResult, length}
+use Rattle.std.specs.Prelude.{◌≡◌, ℕ, Bool, ◌<◌, List, Option, Result, MatchResult, length}
 use Rattle.std.specs.Io.KnownBytes.{Appends}
 
 -- What a write that took n bytes of a piece says of the failed calls: taking none of a piece that has some is one more.
@@ -22,7 +22,8 @@ Puts written failures old new result text = MatchResult result
 abbrev pub CountsCall : {T E : Type 0} → (old new : ℕ) → Result T E → Type 0
 CountsCall old new result = MatchResult result (λ _. new ≡ old) (λ _. old < new)
 
--- A reader or a writer with the count of its failed calls.
+-- A reader or a writer with the count of its failed calls, and whether a writer was flushed since it was last written to.
 pub record Counted (T : Type 0) : Type 0 where
   pub inner : T
   pub failures : ℕ
+  pub flushed : Bool

@@ -1,6 +1,6 @@
 //! What is read, and the devices behind readers and writers.
 
-ghost use Rattle.std.specs.Prelude.{◌≡◌, ℕ, ◌^◌, ◌<◌, List, Option};
+ghost use Rattle.std.specs.Prelude.{◌≡◌, ℕ, ◌^◌, ◌<◌, Bool, false, List, Option};
 ghost use Rattle.sbiboard.specs.Sinks.{CountsWrite, Counted};
 
 mod source;
@@ -12,32 +12,41 @@ use std::io::{Read, Write};
 use std::marker::Model;
 pub use whole::{ReadFault, read_whole};
 
-/// A reader or a writer of the system, and how many of its calls failed. A call that a signal
-/// interrupted is one that failed.
+/// A reader or a writer of the system. It counts its failed calls, one that a signal interrupted among them,
+/// and tells whether a writer was flushed since it was last written to.
 #[derive(Debug, Drop)]
 pub struct Device<T> {
     inner: T,
     failures: u64,
+    flushed: bool,
 }
 
 impl<T> Model for Device<T> {
     ghost Value = { Counted T };
 
-    ghost view = { λ d. record { inner = d.inner; failures = d.failures } };
+    ghost view = { λ d. record { inner = d.inner; failures = d.failures; flushed = d.flushed } };
 }
 
 impl<T> Device<T> {
     pub fn new(inner: T) -> Device<T>
-        ensures { result ≡ record { inner = inner; failures = 0 } }
+        ensures { result ≡ record { inner = inner; failures = 0; flushed = false } }
     {
-        Device { inner, failures: 0 }
+        Device {
+            inner,
+            failures: 0,
+            flushed: false,
+        }
     }
 
     /// The reader or the writer.
     pub fn into_inner(self) -> T
         ensures { result ≡ self.inner }
     {
-        let Device { inner, failures: _ } = self;
+        let Device {
+            inner,
+            failures: _,
+            flushed: _,
+        } = self;
         inner
     }
 }
@@ -45,9 +54,12 @@ impl<T> Device<T> {
 impl<T: Write> Sink for Device<T> {
     ghost written = { λ d. T.contents d.inner };
 
+    ghost is_flushed = { λ d. d.flushed };
+
     ghost failures = { λ d. d.failures };
 
     fn write(&mut self, piece: &[u8]) -> Result<usize, Failed> {
+        self.flushed = false;
         match self.inner.write(piece) {
             Ok(taken) => {
                 if taken == 0 && !piece.is_empty() {
@@ -64,7 +76,10 @@ impl<T: Write> Sink for Device<T> {
 
     fn flush(&mut self) -> Result<(), Failed> {
         match self.inner.flush() {
-            Ok(()) => Ok(()),
+            Ok(()) => {
+                self.flushed = true;
+                Ok(())
+            }
             Err(_) => {
                 self.failures += 1;
                 Err(Failed)

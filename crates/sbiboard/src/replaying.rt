@@ -1,7 +1,6 @@
-ghost use Rattle.std.specs.Prelude.{◌≡◌, ◌^◌, ◌<◌, ℕ, List, IfOk, IfSome, MatchResult, take};
-ghost use Rattle.std.specs.Io.KnownBytes.{Appends, IsAtEnd};
-ghost use Rattle.board_core.specs.Course.{Course};
-ghost use Rattle.sbiboard.specs.Replay.{CountsEnd, EndsRead, EndsScript, Writes, answer_of, course_after, ended_as, is_full, lines_text, meets_full, opened, text_of};
+ghost use Rattle.std.specs.Prelude.{◌≡◌, ◌^◌, ◌<◌, true, IfOk, IfSome, OnOk, take};
+ghost use Rattle.std.specs.Io.KnownBytes.{Appends};
+ghost use Rattle.sbiboard.specs.Replay.{CountsEnd, EndsFlushed, EndsRead, EndsScript, Writes, course_after, ended_as, is_full, lines_text, meets_full, opened, text_of};
 ghost use Rattle.sbiboard.specs.Grammar.{schedule};
 ghost use Rattle.sbiboard.specs.Sinks.{Puts};
 
@@ -23,6 +22,7 @@ pub fn replay<R: Source, W: Sink>(alloc: Global, reader: &mut R, writer: &mut W)
     ensures writes { IfSome (R.left reader.old) (λ bytes.
         Writes (take READ_LIMIT bytes) result (W.written writer.old) (W.written writer.new)) }
     ensures to_the_end { EndsRead result (R.left reader.new) }
+    ensures flushed { EndsFlushed result (W.is_flushed writer.new) }
     ensures failed { CountsEnd result (R.failures reader.old) (R.failures reader.new)
         (W.failures writer.old) (W.failures writer.new) }
 {
@@ -37,6 +37,7 @@ pub fn replay<R: Source, W: Sink>(alloc: Global, reader: &mut R, writer: &mut W)
 fn replay_bytes<W: Sink>(alloc: Global, bytes: &[u8], writer: &mut W) -> Outcome
     requires { W.failures writer.old < 2 ^ 63 }
     ensures writes { Writes bytes.now result (W.written writer.old) (W.written writer.new) }
+    ensures flushed { EndsFlushed result (W.is_flushed writer.new) }
     ensures failed { CountsEnd result 0 0 (W.failures writer.old) (W.failures writer.new) }
 {
     let script = match parse(alloc, bytes) {
@@ -66,9 +67,10 @@ fn ended(fault: ScriptFault) -> Outcome
 fn replay_script<W: Sink>(script: &Script, board: &mut Board, writer: &mut W) -> Outcome
     requires at_opening { board.old ≡ opened script.now.config }
     requires counts { W.failures writer.old < 2 ^ 63 }
-    ensures { EndsScript result (meets_full (opened script.now.config) script.now.lines.items)
+    ensures end { EndsScript result (meets_full (opened script.now.config) script.now.lines.items)
         (Appends (W.written writer.old) (W.written writer.new) (text_of (schedule script.now)))
         (W.failures writer.old) (W.failures writer.new) }
+    ensures flushed { EndsFlushed result (W.is_flushed writer.new) }
 {
     match print_script(script, board, writer) {
         Ok(false) => Outcome::Good,
@@ -83,6 +85,7 @@ fn print_script<W: Sink>(script: &Script, board: &mut Board, writer: &mut W) -> 
     requires counts { W.failures writer.old < 2 ^ 63 }
     ensures text { Puts W.written W.failures writer.old writer.new result (text_of (schedule script.now)) }
     ensures full { IfOk result (λ full. full ≡ meets_full (opened script.now.config) script.now.lines.items) }
+    ensures flushed { OnOk result (W.is_flushed writer.new ≡ true) }
 {
     print_head(&script.config, writer)?;
     let met_full = print_lines(&script.lines, board, writer)?;

@@ -1,5 +1,5 @@
 ghost use Rattle.std.specs.Prelude.{◌≡◌, ◌≤◌, length, slice_index, MatchOption, Some, None};
-ghost use Rattle.sbiboard.specs.Grammar.{form_of, regs_of};
+ghost use Rattle.sbiboard.specs.Grammar.{form_of, last_number, regs_of};
 ghost use Rattle.sbiboard.specs.Reading.{HasForm, op_from, spelling};
 
 use crate::guest_script::numbers::MOST_NUMBERS;
@@ -45,16 +45,8 @@ impl OpName {
         ensures fits { result.most ≤ MOST_NUMBERS }
     {
         match self {
-            OpName::Ecall => Places {
-                least: 2,
-                most: 8,
-                limit: u64::MAX,
-            },
-            OpName::Advance => Places {
-                least: 0,
-                most: 0,
-                limit: u64::MAX,
-            },
+            OpName::Ecall => numbers(2, 8),
+            OpName::Advance => numbers(0, 0),
         }
     }
 
@@ -67,6 +59,17 @@ impl OpName {
             OpName::Ecall => Op::Ecall(regs(numbers)),
             OpName::Advance => Op::Advance,
         }
+    }
+}
+
+/// Numbers of any size, from `least` to `most` of them.
+fn numbers(least: usize, most: usize) -> Places
+    ensures { result ≡ record { least = least; most = most; limit = last_number } }
+{
+    Places {
+        least,
+        most,
+        limit: u64::MAX,
     }
 }
 

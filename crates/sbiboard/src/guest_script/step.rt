@@ -1,6 +1,6 @@
 ghost use Rattle.std.specs.Prelude.{◌≡◌, ◌∷◌, []};
 ghost use Rattle.sbiboard.specs.FirstFault.{actor_test, begins_actor_line, op_tests, step_tests, words_in};
-ghost use Rattle.sbiboard.specs.Reading.{actor_in, op_in, step_in, tested};
+ghost use Rattle.sbiboard.specs.Reading.{actor_in, line_in, op_in, step_in, tested};
 
 use crate::guest_script::fault::Fault;
 use crate::guest_script::number::number;
@@ -17,17 +17,27 @@ const LAST_HART: u64 = 127;
 pub fn step(text: &[u8]) -> Result<Option<Line>, Fault>
     ensures { result ≡ tested (step_tests (words_in text.now)) (step_in (words_in text.now)) }
 {
-    match next_word(text) {
-        None => Ok(None),
-        Some((first, rest)) => {
-            if !begins_actor_line(first) || has_arrow(rest) {
-                return Err(Fault::OtherKind);
-            }
-            let actor = actor(first)?;
-            let op = op(rest)?;
-            Ok(Some(Line { actor, op }))
-        }
+    let Some((first, rest)) = next_word(text) else {
+        return Ok(None);
+    };
+    if !begins_actor_line(first) {
+        return Err(Fault::OtherKind);
     }
+    match actor_step(first, rest) {
+        Ok(line) => Ok(Some(line)),
+        // No step has an arrow, so only what is none is searched for one.
+        Err(_) if has_arrow(rest) => Err(Fault::OtherKind),
+        Err(fault) => Err(fault),
+    }
+}
+
+/// The step of an actor, whose operation is the words of the text after it.
+fn actor_step(first: &[u8], rest: &[u8]) -> Result<Line, Fault>
+    ensures { result ≡ tested (actor_test first.now ∷ op_tests (words_in rest.now)) (line_in first.now (words_in rest.now)) }
+{
+    let actor = actor(first)?;
+    let op = op(rest)?;
+    Ok(Line { actor, op })
 }
 
 /// Whether a line with this first word is an actor's.

@@ -1,4 +1,4 @@
-ghost use Rattle.std.specs.Prelude.{◌≡◌, ℕ, ◌^◌, ◌<◌, ◌≤◌, List, Option, length, IfOk};
+ghost use Rattle.std.specs.Prelude.{◌≡◌, ℕ, ◌^◌, ◌<◌, ◌≤◌, Bool, true, List, Option, length, IfOk, OnOk};
 ghost use Rattle.std.specs.Io.KnownBytes.{Keeps, WriteAppends};
 ghost use Rattle.sbiboard.specs.Sinks.{CountsCall, CountsWrite, Puts};
 
@@ -10,6 +10,9 @@ pub struct Failed;
 pub trait Sink {
     // the bytes that were taken, where they are known
     ghost written: { Self → Option (List ℕ) };
+
+    // whether nothing of what was taken is held back
+    ghost is_flushed: { Self → Bool };
 
     // how many calls failed
     ghost failures: { Self → ℕ };
@@ -26,6 +29,7 @@ pub trait Sink {
     fn flush(&mut self) -> Result<(), Failed>
         requires { failures self.old < 2 ^ 63 }
         ensures bytes { Keeps (written self.old) (written self.new) }
+        ensures flushed { OnOk result (is_flushed self.new ≡ true) }
         ensures failed { CountsCall (failures self.old) (failures self.new) result };
 }
 

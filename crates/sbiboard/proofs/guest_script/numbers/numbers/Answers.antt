@@ -1,5 +1,4 @@
 use Rattle.std.proofs.Common.{arith}
-use Rattle.sbiboard.specs.FirstFault.{words_in}
 use Rattle.sbiboard.proofs.NumbersIn.{AreRead-more, one_too_many, too_few, all_good_numbers, a_bad_number}
 use Rattle.sbiboard.proofs.guest_script.numbers.numbers.Goals as goal
 
