@@ -18,7 +18,7 @@ use Rattle.board_core.specs.declared.event.Op.TheVariants.{Ecall, Advance}
 use Rattle.sbiboard.specs.declared.guest_script.schedule.Line.{Line}
 use Rattle.sbiboard.specs.Words.{actor_word, board_words, hex, line_of, op_words}
 use Rattle.sbiboard.specs.Grammar.{AreNumbers, AreSteps, Form, form_of, IsActor, is_allowed, is_blank, is_hash, IsLine, IsOp, IsWord, last_hart, last_number, numbers_of, regs_of, Spaces, Spells}
-use Rattle.sbiboard.specs.Laws.{FitsActor, FitsLine, FitsOp, NumberReadsBack, ScheduleReadsBack, StepReadsBack, words_of}
+use Rattle.sbiboard.specs.ScriptLaws.{FitsActor, FitsLine, FitsOp, NumberReadsBack, ScheduleReadsBack, StepReadsBack, words_of}
 use Rattle.sbiboard.proofs.LinesOf.{lines_fed}
 use Rattle.sbiboard.proofs.Spacing.{Spaces-blank}
 use Rattle.std.proofs.lemmas.List.FromFn.{fill_by_all}

@@ -8,7 +8,7 @@ use Rattle.sbiboard.specs.declared.guest_script.fault.ScriptFault.{ScriptFault}
 use Rattle.sbiboard.specs.declared.guest_script.schedule.Line.{Line}
 use Rattle.sbiboard.specs.Grammar.{AreSchedule, AreSteps, IsBoard, IsLine, IsStepOrNone, Reads, Schedule}
 use Rattle.sbiboard.specs.FirstFault.{at_line, board_tests, byte_test, first_fault, is_filled, schedule_tests, step_tests, steps_tests, words_in}
-use Rattle.sbiboard.specs.Laws.{HasOneReading}
+use Rattle.sbiboard.specs.ScriptLaws.{HasOneReading}
 use Rattle.sbiboard.specs.Reading.{board_in, or_fault, schedule_in, schedule_of, script_of, step_in, steps_in}
 use Rattle.sbiboard.proofs.LineWords.{board_passes, board_tested, none_cons, none_first, NoneHolds, step_passes, step_tested}
 use Rattle.sbiboard.proofs.Spacing.{line_allowed, line_has_words, line_words}

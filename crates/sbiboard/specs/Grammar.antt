@@ -19,11 +19,13 @@ pub record Schedule : Type 0 where
   pub config : Config
   pub lines : List Line
 
+-- what a `Script` says
 abbrev pub schedule : Script → Schedule
 schedule script = record { config = script.config; lines = script.lines.items }
 
 -- ---- bytes and words
 
+-- a blank or a tab
 abbrev pub is_blank : ℕ → Bool
 is_blank b = (b == 32) || (b == 9)
 
@@ -31,12 +33,15 @@ is_blank b = (b == 32) || (b == 9)
 abbrev pub is_allowed : ℕ → Bool
 is_allowed b = (nat_le 32 b && nat_le b 126) || (b == 9)
 
+-- `#`, which begins a comment
 abbrev pub is_hash : ℕ → Bool
 is_hash b = b == 35
 
+-- blanks and tabs, or nothing
 abbrev pub IsGap : List ℕ → Type 0
 IsGap gap = AllByRecursion (λ b. IsTrue (is_blank b)) gap
 
+-- at least one byte, and no blank among them
 abbrev pub IsWord : List ℕ → Type 0
 IsWord word = (word ≢ []) × AllByRecursion (λ b. IsFalse (is_blank b)) word
 
@@ -78,12 +83,15 @@ Spells word n =
 abbrev pub IsNumber : (limit : ℕ) → List ℕ → ℕ → Type 0
 IsNumber limit word n = (n ≤ limit) × Spells word n
 
+-- each word spells the number in its place
 abbrev pub AreNumbers : (limit : ℕ) → List (List ℕ) → List ℕ → Type 0
 AreNumbers limit words ns = AllZip (IsNumber limit) words ns
 
+-- the largest number of all
 abbrev pub last_number : ℕ
 last_number = 2 ^ 64 - 1
 
+-- the largest number of a hart
 abbrev pub last_hart : ℕ
 last_hart = 127
 
@@ -111,6 +119,7 @@ forms =
     ∷ (codes "advance", record { least = 0; most = 0; limit = last_number; op = λ ns. Advance })
     ∷ []
 
+-- the form of the operation with this name
 unfoldable pub form_of : List ℕ → Option Form
 form_of name = first_that_holds (map (λ row. (bytes_eq name row.0, row.1)) forms)
 
@@ -129,6 +138,7 @@ pub record IsOp (words : List (List ℕ)) (op : Op) : Type 0 where
 
 -- ---- lines
 
+-- a hart by its number, or `c` for the clock
 abbrev pub IsActor : List ℕ → Actor → Type 0
 IsActor word (Hart h) = IsNumber last_hart word h
 IsActor word Clock = word ≡ codes "c"
@@ -141,6 +151,7 @@ pub record IsStep (words : List (List ℕ)) (line : Line) : Type 0 where
   pub is_actor : IsActor first line.actor
   pub is_op : IsOp others line.op
 
+-- a board's numbers, as its line has them
 abbrev pub numbers_of : Config → List ℕ
 numbers_of c = c.harts ∷ c.pages ∷ c.limit ∷ c.boot_hart ∷ c.boot_addr ∷ c.boot_opaque ∷ []
 
@@ -155,6 +166,7 @@ abbrev pub IsStepOrNone : List (List ℕ) → Option Line → Type 0
 IsStepOrNone words None = words ≡ []
 IsStepOrNone words (Some line) = IsStep words line
 
+-- The lines after the board's, one step or none to each.
 abbrev pub AreSteps : List (List ℕ) → List Line → Type 0
 AreSteps [] found = found ≡ []
 AreSteps (text ∷ texts) found =
@@ -168,6 +180,7 @@ AreSchedule (text ∷ texts) s =
     (IsLine text [] × AreSchedule texts s)
     ⊎ ((words : List (List ℕ)) × IsLine text words × IsBoard words s.config × AreSteps texts s.lines)
 
+-- the size of the largest script
 abbrev pub most_bytes : ℕ
 most_bytes = 16777216
 

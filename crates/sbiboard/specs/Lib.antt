@@ -1,6 +1,6 @@
 pub mod FirstFault
 pub mod Grammar
-pub mod Laws
+pub mod ScriptLaws
 pub mod Line
 pub mod Outcomes
 pub mod Reading

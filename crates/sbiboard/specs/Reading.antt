@@ -19,6 +19,7 @@ use Rattle.sbiboard.specs.declared.guest_script.op_name.Places.{Places}
 use Rattle.sbiboard.specs.Grammar.{Schedule, Form, form_of, last_number, last_hart}
 use Rattle.sbiboard.specs.FirstFault.{words_in, is_number, is_hexadecimal, is_clock, steps_tests, schedule_tests, script_tests}
 
+-- the value, where there is no fault
 abbrev pub or_fault : {A F : Type 0} → Option F → A → Result A F
 or_fault None value = Ok value
 or_fault (Some fault) value = Err fault
@@ -34,23 +35,27 @@ Gives view (Err fault) read = read ≡ Err fault
 
 -- ---- an operation by its name
 
+-- the word that names it
 abbrev pub spelling : OpName → List ℕ
 spelling names.Ecall = codes "ecall"
 spelling names.Advance = codes "advance"
 
--- the places are those of the form
+-- the places are those of this form
 abbrev pub IsFormAt : Places → Option Form → Type 0
 IsFormAt places None = ⊥
 IsFormAt places (Some form) = (form.least ≡ places.least) × (form.most ≡ places.most) × (form.limit ≡ places.limit)
 
+-- the places are those of the form under that name
 abbrev pub HasForm : OpName → Places → Type 0
 HasForm name places = IsFormAt places (form_of (spelling name))
 
 -- ---- the values, which say nothing where a test holds
 
+-- the number that a word spells
 abbrev pub value_of : List ℕ → ℕ
 value_of word = if is_hexadecimal word then digits_value 16 (drop 2 word) else digits_value 10 word
 
+-- that number, if it is one and within the limit
 unfoldable pub number_of : (limit : ℕ) → List ℕ → Option ℕ
 number_of limit word = if is_number limit word then Some (value_of word) else None
 
@@ -58,28 +63,35 @@ number_of limit word = if is_number limit word then Some (value_of word) else No
 unfoldable pub numbers_in : (limit : ℕ) → List (List ℕ) → List ℕ
 numbers_in limit words = map (λ word. unwrap_or (number_of limit word) 0) words
 
+-- the operation that the form makes of numbers
 abbrev pub op_from : Option Form → List ℕ → Op
 op_from None ns = Advance
 op_from (Some form) ns = form.op ns
 
+-- the largest number that the form takes
 abbrev pub limit_from : Option Form → ℕ
 limit_from None = 0
 limit_from (Some form) = form.limit
 
+-- the operation that words are, its name first
 abbrev pub op_in : List (List ℕ) → Op
 op_in [] = Advance
 op_in (name ∷ words) = op_from (form_of name) (numbers_in (limit_from (form_of name)) words)
 
+-- the actor that a word is
 abbrev pub actor_in : List ℕ → Actor
 actor_in word = if is_clock word then Clock else Hart (unwrap_or (number_of last_hart word) 0)
 
+-- the step of an actor, from what follows it
 abbrev pub line_in : (first : List ℕ) → List (List ℕ) → Line
 line_in first words = record { actor = actor_in first; op = op_in words }
 
+-- the step of a line, if it has words
 abbrev pub step_in : List (List ℕ) → Option Line
 step_in [] = None
 step_in (first ∷ words) = Some (line_in first words)
 
+-- a board by its numbers
 abbrev pub config_of : List ℕ → Config
 config_of ns = record {
   harts = slice_index ns 0;
@@ -90,17 +102,21 @@ config_of ns = record {
   boot_opaque = slice_index ns 5;
 }
 
+-- the board of a line, if it has words
 abbrev pub board_in : List (List ℕ) → Option Config
 board_in [] = None
 board_in (first ∷ words) = Some (config_of (numbers_in last_number words))
 
+-- the steps of lines
 abbrev pub steps_in : List (List ℕ) → List Line
 steps_in texts = filter_map (λ text. step_in (words_in text)) texts
 
+-- a board and the steps after it, or what comes later
 abbrev pub schedule_of : Option Config → (steps : List Line) → (later : Schedule) → Schedule
 schedule_of None steps later = later
 schedule_of (Some config) steps later = record { config = config; lines = steps }
 
+-- the schedule of lines
 abbrev pub schedule_in : List (List ℕ) → Schedule
 schedule_in [] = record { config = config_of []; lines = [] }
 schedule_in (text ∷ texts) = schedule_of (board_in (words_in text)) (steps_in texts) (schedule_in texts)
@@ -117,15 +133,19 @@ abbrev pub with_front : List Line → Result (List Line) ScriptFault → Result 
 with_front front (Ok others) = Ok (front ++ others)
 with_front front (Err fault) = Err fault
 
+-- with the board's numbers
 abbrev pub with_config : Config → Result (List Line) ScriptFault → Result Schedule ScriptFault
 with_config config (Ok steps) = Ok (record { config = config; lines = steps })
 with_config config (Err fault) = Err fault
 
+-- the steps of the lines from line n on, or their first fault
 unfoldable pub steps_from : ℕ → List (List ℕ) → Result (List Line) ScriptFault
 steps_from n texts = tested (steps_tests n texts) (steps_in texts)
 
+-- the schedule of the lines from line n on, or their first fault
 unfoldable pub schedule_from : ℕ → List (List ℕ) → Result Schedule ScriptFault
 schedule_from n texts = tested (schedule_tests n texts) (schedule_in texts)
 
+-- the schedule of all bytes, or their first fault
 unfoldable pub script_of : List ℕ → Result Schedule ScriptFault
 script_of bytes = tested (script_tests bytes) (schedule_in (lines bytes))

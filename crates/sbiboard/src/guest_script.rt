@@ -15,6 +15,3 @@ pub use fault::{Fault, ScriptFault};
 pub use laws::{one_reading, read_back};
 pub use parsing::parse;
 pub use schedule::{Line, Script};
-
-#[cfg(test)]
-mod tests;

@@ -1,5 +1,5 @@
 ghost use Rattle.std.specs.Prelude.{ℕ, List};
-ghost use Rattle.sbiboard.specs.Laws.{HasOneReading, NumberReadsBack, ScheduleReadsBack, StepReadsBack};
+ghost use Rattle.sbiboard.specs.ScriptLaws.{HasOneReading, NumberReadsBack, ScheduleReadsBack, StepReadsBack};
 
 /// Bytes are one schedule at most, and they are one exactly where there is no first fault.
 pub fn one_reading()

@@ -29,12 +29,10 @@ impl OpName {
     pub fn of(word: &[u8]) -> Option<OpName>
         ensures { MatchOption result (form_of word.now ≡ None) (λ name. word.now ≡ spelling name) }
     {
-        if word == b"ecall".as_slice() {
-            Some(OpName::Ecall)
-        } else if word == b"advance".as_slice() {
-            Some(OpName::Advance)
-        } else {
-            None
+        match word {
+            b"ecall" => Some(OpName::Ecall),
+            b"advance" => Some(OpName::Advance),
+            _ => None,
         }
     }
 

@@ -44,7 +44,7 @@ fn actor_step(first: &[u8], rest: &[u8]) -> Result<Line, Fault>
 fn begins_actor_line(first: &[u8]) -> bool
     ensures { result ≡ begins_actor_line first.now }
 {
-    first == b"c".as_slice() || matches!(first, [b'0'..=b'9', ..])
+    matches!(first, b"c" | [b'0'..=b'9', ..])
 }
 
 #[tactic(auto, using(crate::proofs::NumbersIn::actor_read, crate::proofs::NumbersIn::actor_unread))]

@@ -21,18 +21,21 @@ pub record HasOneReading (bytes : List ℕ) : Type 0 where
 abbrev pub NumberReadsBack : Type 0
 NumberReadsBack = (limit n : ℕ) → n ≤ limit → limit ≤ last_number → IsNumber limit (decimal n) n × IsNumber limit (hex n) n
 
+-- the clock, or a hart with a number that may be written
 abbrev pub FitsActor : Actor → Type 0
 FitsActor (Hart h) = h ≤ last_hart
 FitsActor Clock = Unit {0}
 
--- an operation of registers
+-- an operation whose numbers fit registers, with six arguments to a call
 abbrev pub FitsOp : Op → Type 0
 FitsOp (Ecall regs) = (regs.eid ≤ last_number) × (regs.fid ≤ last_number) × (length regs.a ≡ 6) × AllByRecursion (λ n. n ≤ last_number) regs.a
 FitsOp Advance = Unit {0}
 
+-- a step that can be written
 abbrev pub FitsLine : Line → Type 0
 FitsLine line = FitsActor line.actor × FitsOp line.op
 
+-- a step's printed words
 abbrev pub words_of : Line → List (List ℕ)
 words_of line = step_words line.actor line.op
 
@@ -44,8 +47,10 @@ StepReadsBack = (line : Line) → FitsLine line → IsLine (join_with_byte 32 (w
 abbrev pub printed : Schedule → List ℕ
 printed s = line_of (board_words s.config) ++ flat_map (λ line. line_of (words_of line)) s.lines
 
+-- a board of registers' numbers, and steps that can be written
 abbrev pub FitsSchedule : Schedule → Type 0
 FitsSchedule s = AllByRecursion (λ n. n ≤ last_number) (numbers_of s.config) × AllByRecursion FitsLine s.lines
 
+-- a printed schedule that isn't too long is read as that schedule
 abbrev pub ScheduleReadsBack : Type 0
 ScheduleReadsBack = (s : Schedule) → FitsSchedule s → length (printed s) ≤ most_bytes → Reads (printed s) s
