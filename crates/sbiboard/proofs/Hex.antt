@@ -64,13 +64,6 @@ length-hex (suc k) n low high fits =
       | inr large ↦ omega (arith, length-hex-step n large fits, length-hex k (n / 16) (omega arith) (omega arith) (omega arith))
     ]
 
-pub length-hex-le : (k n : ℕ) → n < 16 ^ suc k → n < 2 ^ 64 → length (digits 16 false n) ≤ suc k
-length-hex-le zero n high fits = omega (arith, length-hex-one n (omega arith))
-length-hex-le (suc k) n high fits = elim (cases_lt n 16) [
-  | inl small ↦ omega (arith, length-hex-one n small)
-  | inr large ↦ omega (arith, length-hex-step n large fits, length-hex-le k (n / 16) (omega arith) (omega arith))
-]
-
 pow-four : (q : ℕ) → 2 ^ (4 * q) ≡ 16 ^ q
 pow-four zero = refl
 pow-four (suc q) = let e : 4 * suc q ≡ 4 * q + 4 = omega arith in rw (e, pow-add 2 (4 * q) 4, pow-four q) (omega arith)

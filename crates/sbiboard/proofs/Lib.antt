@@ -13,3 +13,4 @@ pub mod Spacing
 pub mod Spelling
 pub mod StepsFrom
 pub mod WordsIn
+pub mod WorkedTables

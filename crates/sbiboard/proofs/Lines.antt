@@ -13,11 +13,7 @@ with_words-join line word [] = refl
 with_words-join line word (next ∷ words) =
     with_words-join (line ++ 32 ∷ word) next words ∙ append_assoc line (32 ∷ word) (32 ∷ join_with_byte 32 (next ∷ words))
 
--- without its first blank the line is its words, joined
-pub words-joined : (line : List ℕ) (words : List (List ℕ)) → 0 < length line → line ≡ with_words [] words → drop 1 line ≡ join_with_byte 32 words
-words-joined line [] some e = absurd (omega (arith, ap length e))
-words-joined line (word ∷ words) some e = ap (drop 1) (e ∙ with_words-join [] word words)
-
+-- without its first blank, and ended, the line is the line of its words
 pub words-as_line : (line ended : List ℕ) (words : List (List ℕ)) → 0 < length line → ended ≡ line ++ 10 ∷ [] → line ≡ with_words [] words → drop 1 ended ≡ line_of words
 words-as_line line ended [] some e is = absurd (omega (arith, ap length is))
 words-as_line line ended (word ∷ words) some e is = ap (drop 1) (e ∙ ap (λ l. l ++ 10 ∷ []) (is ∙ with_words-join [] word words))

@@ -1,5 +1,5 @@
 -- What is known of a source after reads (profile).
-use Rattle.std.specs.Prelude.{◌≡◌, ℕ, ◌<◌}
+use Rattle.std.specs.Prelude.{◌≡◌, ℕ, ◌<◌, Result, MatchResult}
 use Rattle.sbiboard.specs.declared.device.whole.ReadFault.{ReadFault}
 use Rattle.sbiboard.specs.declared.device.whole.ReadFault.TheVariants.{Failed, NoMemory}
 
@@ -7,3 +7,7 @@ use Rattle.sbiboard.specs.declared.device.whole.ReadFault.TheVariants.{Failed, N
 abbrev pub CountsFault : (old new : ℕ) → ReadFault → Type 0
 CountsFault old new Failed = old < new
 CountsFault old new NoMemory = new ≡ old
+
+-- What was read took no call that failed, and a fault has its cause.
+abbrev pub CountsReading : {T : Type 0} → (old new : ℕ) → Result T ReadFault → Type 0
+CountsReading old new result = MatchResult result (λ _. new ≡ old) (CountsFault old new)

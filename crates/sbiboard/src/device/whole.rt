@@ -1,6 +1,6 @@
 ghost use Rattle.std.specs.Prelude.{◌≡◌, ℕ, ◌+◌, ◌^◌, ◌<◌, ◌≤◌, List, Option, length, take, IfSome, IfOk, MatchResult, vec_len};
 ghost use Rattle.std.specs.Io.KnownBytes.{Consumes, IsAtEnd};
-ghost use Rattle.sbiboard.specs.Sources.{CountsFault};
+ghost use Rattle.sbiboard.specs.Sources.{CountsReading};
 ghost use Rattle.sbiboard.specs.declared.device.whole.ReadFault.TheVariants.{Failed as ReadFailed, NoMemory};
 
 use super::source::Source;
@@ -44,9 +44,7 @@ pub fn read_whole<S: Source>(
     ensures bytes { IfOk result (λ v. IfSome (S.left source.old) (λ all. v.items ≡ take limit all)) }
     ensures rest { IfOk result (λ v. Consumes (S.left source.old) (S.left source.new) v.items) }
     ensures end { IfOk result (λ v. length v.items < limit → IsAtEnd (S.left source.new)) }
-    ensures failed { MatchResult result
-        (λ _. S.failures source.new ≡ S.failures source.old)
-        (CountsFault (S.failures source.old) (S.failures source.new)) }
+    ensures failed { CountsReading (S.failures source.old) (S.failures source.new) result }
 {
     let mut buffer = piece_buffer(alloc)?;
     let pieces = buffer.as_mut_slice();
@@ -79,9 +77,7 @@ fn read_onto<S: Source>(
         → Consumes before (S.left source.old) bytes.old.items
         → Consumes before (S.left source.new) bytes.new.items) }
     ensures end { IfOk result (λ count. count ≡ 0 → 0 < length piece.old → IsAtEnd (S.left source.new)) }
-    ensures failed { MatchResult result
-        (λ _. S.failures source.new ≡ S.failures source.old)
-        (CountsFault (S.failures source.old) (S.failures source.new)) }
+    ensures failed { CountsReading (S.failures source.old) (S.failures source.new) result }
 {
     let count = source.read(piece)?;
     bytes.extend_from_slice(&piece[..count])?;

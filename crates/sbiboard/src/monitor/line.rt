@@ -51,7 +51,8 @@ impl Line {
         requires failures { W.failures sink.old < 2 ^ 63 }
         requires some { 0 < length self.old }
         requires room { length self.old < CAPACITY }
-        ensures { (words : List (List ℕ)) → self.old ≡ with_words [] words
+        ensures ended { self.new ≡ self.old ++ 10 ∷ [] }
+        ensures puts { (words : List (List ℕ)) → self.old ≡ with_words [] words
             → Puts W.written W.failures sink.old sink.new result (line_of words) }
     {
         self.text(b"\n");
@@ -163,8 +164,8 @@ impl Line {
         self.len = end;
     }
 
-    /// Appends the hexadecimal digits of `n`.
-    pub fn hex_digits(&mut self, n: u64)
+    // Appends the hexadecimal digits of `n`.
+    fn hex_digits(&mut self, n: u64)
         requires { length self.old + 16 ≤ CAPACITY }
         ensures text { self.new ≡ self.old ++ digits 16 false n }
         ensures len { length self.new ≤ length self.old + 16 }

@@ -1,6 +1,6 @@
-use Rattle.std.proofs.Common.{◌≡◌, ◌∙◌, ◌++◌, List, ℕ, Option, ap, drop, subst, sym}
+use Rattle.std.proofs.Common.{◌∙◌, ap}
 use Rattle.sbiboard.specs.Replay.{is_full}
-use Rattle.sbiboard.proofs.Replayed.{HasWritten, drop_line, has_written-more, lines_text-more, replaying-more}
+use Rattle.sbiboard.proofs.Replayed.{drop_line, has_written-more, lines_text-more, replaying-more}
 use Rattle.sbiboard.proofs.replaying.print_lines.Goals as goal
 
 pub loop-line-preserved : goal.loop-line-preserved

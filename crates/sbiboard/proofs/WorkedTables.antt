@@ -1,0 +1,26 @@
+-- Worked tables, computed from the definitions.
+use Rattle.std.proofs.Common.{◌≡◌, [], ◌∷◌, replicate, codes, refl, pos}
+use Rattle.std.specs.Fmt.{digits}
+use Rattle.board_core.specs.declared.config.Config.{Config}
+use Rattle.board_core.specs.declared.event.Actor.TheVariants.{Hart}
+use Rattle.board_core.specs.declared.event.Op.TheVariants.{Ecall, Advance}
+use Rattle.board_core.specs.declared.event.Reply.TheVariants.{Ret, Entry}
+use Rattle.sbiboard.specs.Table.{entry_cells, hart_cells, head_cells, table, time_cells, totals_cells}
+
+abbrev one_hart : Config
+one_hart = record { harts = 1; pages = 1; limit = 10; boot_hart = 0; boot_addr = 0x80000000; boot_opaque = 0 }
+
+-- after the boot hart's entry and one call
+table-version : table one_hart
+    (record { actor = Hart 0; op = Ecall (record { eid = 0x10; fid = 0; a = replicate 6 0 }); reply = Ret (record { error = pos 0; value = 0x1000000 }) }
+    ∷ record { actor = Hart 0; op = Advance; reply = Entry 0x80000000 0 0 }
+    ∷ [])
+    ≡ codes "# time 0000000000000000 events       2 power on reset none\n# starts 1 entries 1 pending 0 asked 0 applied 0 waiting 0\n# hart state           wait out ss st ie se satp             deadline         tlb ic\n#    0 STARTED            0   -  0  0 00  0 0000000000000000 ----------------   0  0\n"
+unfolding digits time_cells totals_cells head_cells hart_cells
+table-version = refl
+
+-- the opening, with the start pending
+table-opening : table one_hart []
+    ≡ codes "# time 0000000000000000 events       0 power on reset none\n# starts 1 entries 0 pending 1 asked 0 applied 0 waiting 0\n# hart state           wait out ss st ie se satp             deadline         tlb ic\n#    0 START_PENDING      0   -  0  0 00  0 0000000000000000 ----------------   0  0\n# entry   0 0000000080000000 0000000000000000\n"
+unfolding digits time_cells totals_cells head_cells hart_cells entry_cells
+table-opening = refl
