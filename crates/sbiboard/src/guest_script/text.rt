@@ -43,5 +43,15 @@ pub fn line_limit(bytes: &[u8]) -> usize
 pub fn is_clean(text: &[u8]) -> bool
     ensures { result ≡ list_all is_allowed text.now }
 {
-    text.iter().all(|byte| matches!(*byte, b' '..=b'~' | b'\t'))
+    let mut clean = true;
+    for byte in text {
+        clean &= is_allowed(*byte);
+    }
+    clean
+}
+
+fn is_allowed(byte: u8) -> bool
+    ensures { result ≡ is_allowed byte }
+{
+    matches!(byte, b' '..=b'~' | b'\t')
 }
