@@ -16,8 +16,9 @@ fn main(rt: HostRuntime) -> ExitCode {
 }
 
 fn run<R: AllocGlobal + Env + Eprint + Files + Print>(rt: &R) -> u8 {
-    let Ok(words) = env::args(rt) else {
-        return ended(rt, Outcome::Io);
+    let words = match env::args(rt) {
+        Ok(words) => words,
+        Err(error) => return ended(rt, outcome_of(&error)),
     };
     let Ok(words) = words.collect::<Vec<String>>(rt.alloc()) else {
         return ended(rt, Outcome::NoMemory);
@@ -29,8 +30,9 @@ fn run<R: AllocGlobal + Env + Eprint + Files + Print>(rt: &R) -> u8 {
 }
 
 fn replay_file<R: AllocGlobal + Files + Print>(rt: &R, file: &str) -> Outcome {
-    let Ok(file) = fs::open(rt, file) else {
-        return Outcome::Io;
+    let file = match fs::open(rt, file) {
+        Ok(file) => file,
+        Err(error) => return outcome_of(&error),
     };
     let Ok(output) = BufWriter::with_capacity(rt.alloc(), BUFFER, io::writer(rt)) else {
         return Outcome::NoMemory;
@@ -60,6 +62,13 @@ fn refused<R: Eprint + Print>(rt: &R, error: &Error) -> u8 {
     match error.print(rt) {
         Ok(()) if error.use_stderr() => 2,
         Ok(()) => 0,
-        Err(_) => ended(rt, Outcome::Io),
+        Err(error) => ended(rt, outcome_of(&error)),
+    }
+}
+
+fn outcome_of(error: &io::Error) -> Outcome {
+    match error.kind() {
+        io::ErrorKind::OutOfMemory => Outcome::NoMemory,
+        _ => Outcome::Io,
     }
 }
