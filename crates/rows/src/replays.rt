@@ -150,7 +150,7 @@ c advance -> refused 2
 ];
 
 /// How the replay of these bytes ends, and what it prints.
-pub fn replayed(alloc: Global, schedule: &[u8]) -> (Outcome, Vec<u8>) {
+pub(crate) fn replayed(alloc: Global, schedule: &[u8]) -> (Outcome, Vec<u8>) {
     let mut reader = Device::new(schedule);
     let mut writer = Device::new(Vec::new(alloc));
     let outcome = replay(alloc, &mut reader, &mut writer);

@@ -1,0 +1,4 @@
+pub mod Below
+pub mod Sets
+pub mod Places
+pub mod Changes

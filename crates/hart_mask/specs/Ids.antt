@@ -1,0 +1,23 @@
+-- Sets of hart ids, each seen as the list of its ids in ascending order.
+use Rattle.std.specs.Prelude.{◌≡◌, ℕ, Bool, List, ◌==◌, ◌||◌, ◌&&◌, not, filter}
+use Rattle.std.specs.List.{list_any, range_with_len}
+
+-- The ids at which the test gives true, in ascending order; there are 128 ids (profile).
+unfoldable pub ids_where : (ℕ → Bool) → List ℕ
+ids_where test = filter test (range_with_len 0 128)
+
+-- whether an id is one of a list
+abbrev pub has : List ℕ → ℕ → Bool
+has ids id = list_any (λ i. i == id) ids
+
+-- a set is the ascending list of the ids that are in it
+unfoldable pub IsIdSet : List ℕ → Type 0
+IsIdSet ids = ids ≡ ids_where (has ids)
+
+-- the set with one id in it too
+abbrev pub with_id : List ℕ → ℕ → List ℕ
+with_id ids id = ids_where (λ i. i == id || has ids i)
+
+-- the set with one id out of it
+abbrev pub without_id : List ℕ → ℕ → List ℕ
+without_id ids id = ids_where (λ i. not (i == id) && has ids i)

@@ -1,0 +1,153 @@
+ghost use Rattle.std.specs.Prelude.{◌≡◌, ◌<◌, [], ◌∷◌, length, ◌==◌, IfSome, MatchOption};
+ghost use Rattle.hart_mask.specs.Ids.{IsIdSet, has, with_id, without_id};
+
+use crate::hart_ids::HartIds;
+use std::marker::Model;
+
+/// A set of hart ids, each below 128.
+#[derive(Clone, Copy, Debug)]
+pub struct HartSet {
+    bits: u128,
+}
+
+impl Model for HartSet {
+    ghost use Rattle.std.specs.Prelude.{List, ℕ, ◌<◌, ◌^◌};
+    ghost use Rattle.hart_mask.specs.Ids.{ids_where};
+    ghost use Rattle.hart_mask.specs.Bits.{is_set, number_of};
+    ghost use Rattle.hart_mask.specs.Inverse.{number_of-own_ids};
+
+    ghost Value = { List ℕ };
+
+    ghost view = { λ s. ids_where (is_set s.bits) };
+
+    ghost invariant = { λ s. s.bits < 2 ^ 128 };
+
+    ghost inverse = { λ ids. record { bits = number_of ids } };
+
+    ghost inverse_ok = { λ s below i. record { bits = number_of-own_ids s.bits below i } };
+}
+
+impl PartialEq for HartSet {
+    ghost use Rattle.std.specs.Prelude.{nat_eq};
+    ghost use Rattle.std.specs.Cmp.{partial_equiv_from_equiv};
+    ghost use Rattle.std.specs.Cmp.Lexicographic.{pointwise, nat_list_eq_equiv};
+
+    ghost eq = { pointwise nat_eq };
+
+    ghost laws = { partial_equiv_from_equiv nat_list_eq_equiv };
+
+    fn eq(&self, other: &HartSet) -> bool {
+        self.bits == other.bits
+    }
+}
+
+impl Eq for HartSet {
+    ghost use Rattle.std.specs.Cmp.Lexicographic.{nat_list_eq_equiv};
+
+    ghost laws = { nat_list_eq_equiv };
+}
+
+impl Default for HartSet {
+    ghost is_default = { λ set. set ≡ [] };
+
+    fn default() -> HartSet {
+        HartSet::new()
+    }
+}
+
+impl HartSet {
+    /// The empty set.
+    pub fn new() -> HartSet
+        ensures { result ≡ [] }
+    {
+        HartSet { bits: 0 }
+    }
+
+    /// Whether hart `id` is in the set. Which ids are in it makes the whole set.
+    pub fn contains(&self, id: u64) -> bool
+        requires { id < 128 }
+        ensures answer { result ≡ has self.now id }
+        ensures whole { IsIdSet self.now }
+    {
+        self.bits >> id & 1 == 1
+    }
+
+    /// Puts hart `id` into the set.
+    pub fn insert(&mut self, id: u64)
+        requires { id < 128 }
+        ensures { self.new ≡ with_id self.old id }
+    {
+        self.bits |= 1 << id;
+    }
+
+    /// Takes hart `id` out of the set.
+    pub fn remove(&mut self, id: u64)
+        requires { id < 128 }
+        ensures { self.new ≡ without_id self.old id }
+    {
+        self.bits &= !(1 << id);
+    }
+
+    /// Takes the lowest id out of the set.
+    pub fn pop_first(&mut self) -> Option<u64>
+        ensures lowest { MatchOption result ((self.old ≡ []) × (self.new ≡ [])) (λ id. self.old ≡ id ∷ self.new) }
+        ensures below { IfSome result (λ id. id < 128) }
+    {
+        if self.bits == 0 {
+            return None;
+        }
+        let id = u64::from(self.bits.trailing_zeros());
+        self.remove(id);
+        Some(id)
+    }
+
+    /// The ids of the set, in ascending order.
+    pub fn iter(&self) -> HartIds
+        ensures ids { result ≡ self.now }
+        ensures ascending { IsIdSet self.now }
+    {
+        let _bits = &self.bits;
+        (*self).into_iter()
+    }
+
+    /// How many ids the set has.
+    pub fn len(&self) -> u64
+        ensures { result ≡ length self.now }
+    {
+        u64::from(self.bits.count_ones())
+    }
+
+    /// Whether the set has no id.
+    pub fn is_empty(&self) -> bool
+        ensures { result ≡ (length self.now == 0) }
+    {
+        self.bits == 0
+    }
+}
+
+#[cfg(test)]
+mod tests {
+    use super::*;
+
+    #[test]
+    fn ids_at_the_edges_of_words(rt: HostRuntime) {
+        let mut set = HartSet::new();
+        assert!(rt; set.is_empty());
+        set.insert(127);
+        set.insert(64);
+        set.insert(63);
+        set.insert(0);
+        set.insert(64);
+        assert_eq!(rt; set.len(), 4);
+        let mut ids = set.iter();
+        for want in [Some(0), Some(63), Some(64), Some(127), None] {
+            assert_eq!(rt; ids.next(), want);
+        }
+        set.remove(63);
+        assert!(rt; set.contains(0) && !set.contains(63) && set.contains(64) && set.contains(127));
+        set.remove(0);
+        set.remove(64);
+        assert_eq!(rt; set.pop_first(), Some(127));
+        assert_eq!(rt; set, HartSet::default());
+    }
+}

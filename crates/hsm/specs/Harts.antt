@@ -1,0 +1,26 @@
+-- A hart as look-ups see it, and the harts that there are.
+use Rattle.std.specs.Prelude.{Option, Some, None}
+use Rattle.hsm.specs.declared.hart.HartState.{HartState}
+use Rattle.hsm.specs.declared.hart.HartState.TheVariants.{Started, Stopped, StartPending, StopPending}
+use Rattle.hsm.specs.declared.hart.Kept.{Kept}
+
+-- its state, and what its pending start keeps
+pub record Hart : Type 0 where
+  pub state : HartState
+  pub kept : Option Kept
+
+-- a hart that runs its guest
+abbrev pub running : Hart
+running = record { state = Started; kept = None }
+
+-- a hart at rest
+abbrev pub resting : Hart
+resting = record { state = Stopped; kept = None }
+
+-- a hart whose start is pending
+abbrev pub starting : Kept → Hart
+starting kept = record { state = StartPending; kept = Some kept }
+
+-- a hart whose stop is pending
+abbrev pub stopping : Hart
+stopping = record { state = StopPending; kept = None }

@@ -1,0 +1,4 @@
+pub mod States
+pub mod Harts
+pub mod Transitions
+pub mod Phases

@@ -1,0 +1,63 @@
+ghost use Rattle.std.specs.Prelude.{◌≡◌};
+ghost use Rattle.hsm.specs.States.{state_number};
+
+use sbi_abi::SbiError;
+
+/// The state of a hart (SBI 9, HSM states).
+#[derive(Clone, Copy, Debug, PartialEq, Eq)]
+pub enum HartState {
+    /// The hart runs its guest.
+    Started,
+    /// The hart isn't running.
+    Stopped,
+    /// The hart is being started, and hasn't begun yet.
+    StartPending,
+    /// The hart is being stopped, and hasn't come to rest yet.
+    StopPending,
+}
+
+impl HartState {
+    /// The state's number, as a call for a hart's status answers it.
+    pub fn number(self) -> u64
+        ensures { result ≡ state_number self }
+    {
+        match self {
+            HartState::Started => 0,
+            HartState::Stopped => 1,
+            HartState::StartPending => 2,
+            HartState::StopPending => 3,
+        }
+    }
+}
+
+/// What a start keeps until the hart begins (SBI 9.1).
+#[derive(Clone, Copy, Debug, PartialEq, Eq)]
+pub struct Kept {
+    /// Where the hart begins.
+    pub addr: u64,
+    /// What it is handed over in a1.
+    pub opaque: u64,
+}
+
+/// What the firmware brought a hart to.
+#[derive(Clone, Copy, Debug, PartialEq, Eq)]
+pub enum Moved {
+    /// The hart is STARTED, and begins as its start asked.
+    Entered(Kept),
+    /// The hart is in this state now.
+    To(HartState),
+}
+
+/// Why a start was refused: the hart isn't STOPPED (SBI 9.1).
+#[derive(Clone, Copy, Debug, PartialEq, Eq)]
+pub struct AlreadyAvailable;
+
+impl From<AlreadyAvailable> for SbiError {
+    ghost use Rattle.sbi_abi.specs.declared.answer.SbiError.TheVariants.{AlreadyAvailable as Already};
+
+    ghost from_gives = { λ _ error. error ≡ Already };
+
+    fn from(_refused: AlreadyAvailable) -> SbiError {
+        SbiError::AlreadyAvailable
+    }
+}

@@ -1,0 +1,9 @@
+//! The states of a board's harts, and how calls and the firmware's own steps move them (SBI 9, HSM states).
+#![tactic(auto)]
+
+mod hart;
+mod harts;
+mod phase;
+
+pub use hart::{AlreadyAvailable, HartState, Kept, Moved};
+pub use harts::Hsm;
