@@ -1,11 +1,10 @@
 -- What a change of one bit does to the set that the bits stand for.
-use Rattle.std.proofs.Common.{◌≡◌, ◌≢◌, ℕ, ◌+◌, ◌*◌, ◌%◌, ◌^◌, ◌<◌, Bool, true, false, List, [], ◌∷◌, length, refl, sym, ap, ◌∙◌, arith, inl, inr, eqb}
+use Rattle.std.proofs.Common.{◌≡◌, ℕ, ◌*◌, ◌%◌, ◌^◌, ◌<◌, [], ◌∷◌, length, refl, sym, ap, ◌∙◌, arith, inl, inr, eqb}
 use Rattle.std.specs.Prelude.{◌||◌, ◌&&◌, not}
-use Rattle.std.specs.Bool.{Decides}
 use Rattle.std.specs.Cmp.Lexicographic.{pointwise}
-use Rattle.std.specs.Int.{bit_at, bit_not, trailing_zeros, w128}
+use Rattle.std.specs.Int.{bit_not, trailing_zeros, w128}
 use Rattle.std.specs.Int.RustNames.{bit_and, bit_or, count_ones}
-use Rattle.std.proofs.Math.Nat.{mod-eq_of_lt, mod-lt}
+use Rattle.std.proofs.Math.Nat.{mod-eq_of_lt}
 use Rattle.std.proofs.lemmas.Bool.Decides.{Decides-eqb, Decides-like, eqb_tells, same_from_decides}
 use Rattle.std.proofs.lemmas.Nat.{or_mod, zero_from_ones}
 use Rattle.std.proofs.lemmas.Nat.Bits.{bit_at-trailing_zeros, bit_at_clear_other, bit_at_clear_same, bit_at_set_other, bit_at_set_same}

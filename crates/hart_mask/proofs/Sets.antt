@@ -1,5 +1,5 @@
 -- Sets of ids by their tests: what proofs about code that uses sets cite.
-use Rattle.std.proofs.Common.{◌≡◌, ℕ, ◌<◌, Bool, true, false, List, [], ◌∷◌, ◌++◌, length, subst, refl, sym, ap, ◌∙◌, arith, eqb}
+use Rattle.std.proofs.Common.{◌≡◌, ℕ, ◌<◌, Bool, false, List, [], ◌∷◌, ◌++◌, subst, refl, sym, ap, ◌∙◌, arith}
 use Rattle.std.specs.Prelude.{◌==◌, ◌||◌, ◌&&◌, not}
 use Rattle.std.specs.List.{All, Contains, range_with_len}
 use Rattle.std.proofs.lemmas.List.Elements.{All-contains, All-filter, All-same, Contains-append_right}
@@ -50,8 +50,8 @@ pub split-below : (before after ids : List ℕ) (id : ℕ) → IsIdSet ids → b
 unfolding IsIdSet ids_where
 split-below before after ids id is split =
     All-contains (λ i. i < 128) ids id
-      (All-same (λ i. i < 128) ids _ is (All-filter (has ids) (λ i. i < 128) (range_with_len 0 128) below))
-      (subst (λ is. Contains is id) split (Contains-append_right before (id ∷ after) id (0, omega arith, refl)))
+    (All-same (λ i. i < 128) ids _ is (All-filter (has ids) (λ i. i < 128) (range_with_len 0 128) below))
+    (subst (λ is. Contains is id) split (Contains-append_right before (id ∷ after) id (0, omega arith, refl)))
   where
     below : All (λ i. i < 128) (range_with_len 0 128)
     below k d inside =

@@ -1,5 +1,5 @@
 -- The ids of a number give the number back, as a set that is copied needs.
-use Rattle.std.proofs.Common.{◌≡◌, ℕ, ◌+◌, ◌*◌, ◌%◌, ◌^◌, ◌<◌, suc, zero, Bool, cond, List, [], ◌∷◌, ◌++◌, sym, ap, ◌∙◌, arith, inl, inr, eqb, add-one}
+use Rattle.std.proofs.Common.{◌≡◌, ℕ, ◌+◌, ◌*◌, ◌%◌, ◌^◌, ◌<◌, suc, zero, Bool, cond, [], ◌∷◌, ◌++◌, sym, ap, ◌∙◌, arith, inl, inr, eqb, add-one}
 use Rattle.std.specs.Int.{bit_at}
 use Rattle.std.specs.List.{filter, range_with_len, sum_by}
 use Rattle.std.proofs.Math.Nat.{mod-eq_of_lt}

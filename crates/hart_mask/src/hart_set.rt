@@ -106,8 +106,8 @@ impl HartSet {
         ensures ids { result ≡ self.now }
         ensures ascending { IsIdSet self.now }
     {
-        let _bits = &self.bits;
-        (*self).into_iter()
+        let set = HartSet { bits: self.bits };
+        set.into_iter()
     }
 
     /// How many ids the set has.

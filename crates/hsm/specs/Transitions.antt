@@ -1,4 +1,4 @@
--- How a hart goes from state to state (SBI 9, HSM states); what is written for no state, it refuses.
+-- How a hart goes from state to state (SBI 9, HSM states), a row of the table at a time.
 use Rattle.std.specs.Prelude.{ℕ, List, ◌==◌, if◌then◌else◌, Option, Some, None, map, option_map, slice_index_or, slice_set}
 use Rattle.std.specs.List.{range_with_len}
 use Rattle.hsm.specs.declared.hart.HartState.{HartState}
@@ -8,6 +8,7 @@ use Rattle.hsm.specs.declared.hart.Moved.{Moved}
 use Rattle.hsm.specs.declared.hart.Moved.TheVariants.{Entered, To}
 use Rattle.hsm.specs.Harts.{Hart, running, resting, starting, stopping}
 
+-- A STOPPED hart can be started; one in any other state is already available (SBI 9.1; for the pending states: profile).
 abbrev pub started_from : Kept → HartState → Option Hart
 started_from kept Stopped = Some (starting kept)
 started_from kept Started = None
@@ -18,6 +19,7 @@ started_from kept StopPending = None
 abbrev pub started : Kept → Hart → Option Hart
 started kept hart = started_from kept hart.state
 
+-- A hart that runs its guest can be stopped, and no other (SBI 9.2).
 abbrev pub stopped_from : HartState → Option Hart
 stopped_from Started = Some stopping
 stopped_from Stopped = None
@@ -33,6 +35,7 @@ pub record Step : Type 0 where
   pub hart : Hart
   pub moved : Moved
 
+-- What is pending goes on; a hart that is STARTED or STOPPED has nothing to go on to (profile).
 abbrev pub advanced_from : HartState → Option Kept → Option Step
 advanced_from StartPending kept = option_map (λ k. record { hart = running; moved = Entered k }) kept
 advanced_from StopPending kept = Some (record { hart = resting; moved = To Stopped })
@@ -53,6 +56,7 @@ abbrev pub changed : List Hart → ℕ → Option Hart → List Hart
 changed harts h (Some hart) = slice_set harts h hart
 changed harts h None = harts
 
+-- a hart at the opening
 abbrev pub opened : ℕ → Kept → ℕ → Hart
 opened boot_hart boot h = if h == boot_hart then starting boot else resting
 

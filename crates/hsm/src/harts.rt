@@ -1,4 +1,4 @@
-ghost use Rattle.std.specs.Prelude.{◌≡◌, ◌<◌, ◌↔◌, IfOk, IsSome, count_by, length, option_map, slice_set, is_ok, is_some};
+ghost use Rattle.std.specs.Prelude.{◌≡◌, ◌<◌, IfOk, count_by, length, option_map, is_ok, is_some};
 ghost use Rattle.hsm.specs.Transitions.{advanced, changed, hart_at, opened, opening, started, stopped};
 ghost use Rattle.hsm.specs.States.{is_start_pending};
 ghost use Rattle.hsm.specs.Phases.{hart_of};
@@ -38,7 +38,8 @@ impl Hsm {
         Ok(Hsm { phases })
     }
 
-    /// Starts hart `t`, which is to begin at `addr` with `opaque`. A hart that isn't STOPPED is left as it is.
+    /// Starts hart `t`, which is to begin at `addr` with `opaque` in a1 (SBI 9.1). A hart that isn't STOPPED is
+    /// refused, and left as it is.
     pub fn start(&mut self, t: u64, addr: u64, opaque: u64) -> Result<(), AlreadyAvailable>
         requires { t < length self.old }
         ensures answer { is_ok result ≡ is_some (started (record { addr = addr; opaque = opaque }) (hart_at self.old t)) }
@@ -53,7 +54,7 @@ impl Hsm {
         }
     }
 
-    /// Stops hart `h`, which is STARTED.
+    /// Stops hart `h`, which is STARTED (SBI 9.2).
     pub fn stop(&mut self, h: u64)
         requires in_range { h < length self.old }
         requires running { (hart_at self.old h).state ≡ HartState.Started }
@@ -62,7 +63,7 @@ impl Hsm {
         self.phases[h as usize] = Phase::StopPending;
     }
 
-    /// Brings hart `h` one state further, where its state is pending.
+    /// Brings hart `h` one state further, where its state is pending: a start is entered, and a stop ends.
     pub fn advance(&mut self, h: u64) -> Option<Moved>
         requires { h < length self.old }
         ensures answer { result ≡ option_map (λ step. step.moved) (advanced (hart_at self.old h)) }
@@ -81,7 +82,7 @@ impl Hsm {
         }
     }
 
-    /// The state of hart `t`.
+    /// The state of hart `t` (SBI 9.3).
     pub fn status(&self, t: u64) -> HartState
         requires { t < length self.now }
         ensures { result ≡ (hart_at self.now t).state }
@@ -116,6 +117,7 @@ impl Hsm {
     }
 }
 
+/// What is kept of hart `h` at the opening.
 fn opening_phase(boot_hart: u64, boot: Kept, h: u64) -> Phase
     ensures { hart_of result ≡ opened boot_hart boot h }
 {

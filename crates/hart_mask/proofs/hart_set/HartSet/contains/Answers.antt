@@ -1,4 +1,4 @@
-use Rattle.std.proofs.Common.{sym, ap, subst, ◌∙◌, nat_eq}
+use Rattle.std.proofs.Common.{sym, ap, ◌∙◌, nat_eq}
 use Rattle.std.proofs.lemmas.Nat.Bits.{shr_and_one}
 use Rattle.hart_mask.specs.Bits.{is_set}
 use Rattle.hart_mask.specs.Ids.{has}
