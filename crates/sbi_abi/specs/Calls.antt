@@ -3,7 +3,7 @@ use Rattle.std.specs.Prelude.{ℕ, Bool, List, [], ◌∷◌, ◌==◌, if◌the
 use Rattle.std.specs.List.{list_any}
 use Rattle.sbi_abi.specs.declared.call.Regs.{Regs}
 use Rattle.sbi_abi.specs.declared.call.Call.{Call}
-use Rattle.sbi_abi.specs.declared.call.Call.TheVariants.{GetSpecVersion, GetImplId, GetImplVersion, ProbeExtension, GetMvendorid, GetMarchid, GetMimpid, Unsupported}
+use Rattle.sbi_abi.specs.declared.call.Call.TheVariants.{GetSpecVersion, GetImplId, GetImplVersion, ProbeExtension, GetMvendorid, GetMarchid, GetMimpid, HartStart, HartStop, HartGetStatus, Unsupported}
 
 -- what a listing names by the number n, or else `other`
 abbrev pub named : {A : Type 0} → ℕ → A → List (ℕ × A) → A
@@ -22,9 +22,17 @@ base_listing regs =
     ∷ (6, GetMimpid)
     ∷ []
 
+-- The function listing of the Hart State Management Extension (SBI 9).
+abbrev pub hsm_listing : Regs → List (ℕ × Call)
+hsm_listing regs =
+    (0, HartStart (slice_index regs.a 0) (slice_index regs.a 1) (slice_index regs.a 2))
+    ∷ (1, HartStop)
+    ∷ (2, HartGetStatus (slice_index regs.a 0))
+    ∷ []
+
 -- The extensions by their ids, each with its function listing.
 abbrev pub extensions : Regs → List (ℕ × List (ℕ × Call))
-extensions regs = (0x10, base_listing regs) ∷ []
+extensions regs = (0x10, base_listing regs) ∷ (0x48534D, hsm_listing regs) ∷ []
 
 -- The call that the registers name (SBI 3: an EID or FID that isn't implemented is not supported).
 unfoldable pub call_of : Regs → Call
@@ -32,4 +40,4 @@ call_of regs = named regs.fid Unsupported (named regs.eid [] (extensions regs))
 
 -- The ids that probing answers 1 for (SBI 4.4).
 abbrev pub is_extension_id : ℕ → Bool
-is_extension_id eid = list_any (λ n. n == eid) (0x10 ∷ [])
+is_extension_id eid = list_any (λ n. n == eid) (0x10 ∷ 0x48534D ∷ [])

@@ -1,6 +1,6 @@
 ghost use Rattle.std.specs.Prelude.{◌≡◌};
 ghost use Rattle.sbi_abi.specs.declared.call.Call.TheVariants.{Unsupported};
-ghost use Rattle.sbi_abi.specs.Calls.{base_listing, call_of, is_extension_id, named};
+ghost use Rattle.sbi_abi.specs.Calls.{base_listing, call_of, hsm_listing, is_extension_id, named};
 
 /// The registers of an ECALL from a supervisor (SBI 3, Binary Encoding).
 #[derive(Clone, Copy, Debug, PartialEq, Eq)]
@@ -30,11 +30,26 @@ pub enum Call {
     GetMarchid,
     /// The CSR mimpid (SBI 4.7).
     GetMimpid,
+    /// Starts a hart (SBI 9.1).
+    HartStart {
+        /// The hart's id.
+        hart: u64,
+        /// Where the hart is to begin.
+        addr: u64,
+        /// What it is to be handed over in a1.
+        opaque: u64,
+    },
+    /// Stops the calling hart (SBI 9.2).
+    HartStop,
+    /// The state of the hart of this id (SBI 9.3).
+    HartGetStatus(u64),
     /// An extension or a function that isn't implemented (SBI 3).
     Unsupported,
 }
 
 const BASE: u64 = 0x10;
+
+const HSM: u64 = 0x48_534D;
 
 /// The call that the registers ask for.
 #[tactic(auto, unfolding(crate::specs::Calls::call_of))]
@@ -43,6 +58,7 @@ pub fn decode(regs: &Regs) -> Call
 {
     match regs.eid {
         BASE => base_call(regs),
+        HSM => hsm_call(regs),
         _ => Call::Unsupported,
     }
 }
@@ -51,7 +67,7 @@ pub fn decode(regs: &Regs) -> Call
 pub fn is_extension(eid: u64) -> bool
     ensures { result ≡ is_extension_id eid }
 {
-    eid == BASE
+    matches!(eid, BASE | HSM)
 }
 
 fn base_call(regs: &Regs) -> Call
@@ -65,6 +81,22 @@ fn base_call(regs: &Regs) -> Call
         4 => Call::GetMvendorid,
         5 => Call::GetMarchid,
         6 => Call::GetMimpid,
+        _ => Call::Unsupported,
+    }
+}
+
+fn hsm_call(regs: &Regs) -> Call
+    ensures { result ≡ named regs.now.fid Unsupported (hsm_listing regs.now) }
+{
+    let [first, second, third, ..] = regs.a;
+    match regs.fid {
+        0 => Call::HartStart {
+            hart: first,
+            addr: second,
+            opaque: third,
+        },
+        1 => Call::HartStop,
+        2 => Call::HartGetStatus(first),
         _ => Call::Unsupported,
     }
 }
