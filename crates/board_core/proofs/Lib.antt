@@ -1,3 +1,5 @@
 pub mod Tables
+pub mod Events
+pub mod Rows
 pub mod Standing
 pub mod StartsLaw

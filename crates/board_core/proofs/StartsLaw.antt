@@ -1,26 +1,34 @@
 -- In a legal history the starts of a hart are its entries and then its pending one.
-use Rattle.std.proofs.Common.{◌≡◌, ℕ, Bool, true, false, List, [], ◌∷◌, ◌++◌, inl, inr, refl, sym, ap, ◌∙◌, subst, eqb}
-use Rattle.std.specs.Prelude.{Option, Some, None, Ok, filter, nat_le, length, ◌==◌, if◌then◌else◌, unwrap_or}
+use Rattle.std.proofs.Common.{◌≡◌, ℕ, Bool, true, false, List, [], ◌∷◌, ◌++◌, refl, sym, ap, ◌∙◌, eqb}
+use Rattle.std.specs.Prelude.{Option, Some, None, Ok, filter, find, nat_le, length, ◌==◌, not, if◌then◌else◌, unwrap_or}
 use Rattle.std.specs.Option.{option_to_list}
-use Rattle.std.proofs.lemmas.Bool.Decides.{eqb_tells}
 use Rattle.std.proofs.lemmas.Bool.{eqb-true}
+use Rattle.sbi_abi.specs.declared.answer.SbiError.{SbiError}
+use Rattle.sbi_abi.specs.declared.answer.SbiError.TheVariants.{InvalidParam, InvalidAddress, AlreadyAvailable, Failed}
+use Rattle.sbi_abi.specs.declared.call.Call.{Call}
+use Rattle.sbi_abi.specs.declared.call.Call.TheVariants as calls
+use Rattle.sbi_abi.specs.Calls.{call_of}
+use Rattle.hsm.specs.declared.hart.HartState.{HartState}
+use Rattle.hsm.specs.declared.hart.HartState.TheVariants.{Started, Stopped, StartPending, StopPending}
+use Rattle.hsm.specs.States.{is_start_pending}
 use Rattle.board_core.specs.declared.config.Config.{Config}
 use Rattle.board_core.specs.declared.event.Actor.{Actor}
 use Rattle.board_core.specs.declared.event.Actor.TheVariants.{Hart, Clock}
 use Rattle.board_core.specs.declared.event.Event.{Event}
-use Rattle.board_core.specs.declared.event.HartState.{HartState}
-use Rattle.board_core.specs.declared.event.HartState.TheVariants.{Started, Stopped, StartPending}
 use Rattle.board_core.specs.declared.event.Op.{Op}
-use Rattle.board_core.specs.declared.event.Op.TheVariants.{Ecall, Advance}
+use Rattle.board_core.specs.declared.event.Op.TheVariants.{Ecall, WriteSstatusSie, Advance}
 use Rattle.board_core.specs.declared.event.Refusal.{Refusal}
 use Rattle.board_core.specs.declared.event.Refusal.TheVariants.{WrongPhase}
 use Rattle.board_core.specs.declared.event.Reply.{Reply}
-use Rattle.board_core.specs.declared.event.Reply.TheVariants.{Ret, Entry}
-use Rattle.board_core.specs.Refusals.{first_that_holds, refusals, refusals_in}
-use Rattle.board_core.specs.Replies.{IsLegal, answer, refused_or, reply}
-use Rattle.board_core.specs.Starts.{Start, StartsAreEntered, entries, is_of, last_start, pending, starts}
-use Rattle.board_core.specs.States.{is_start_pending, state}
-use Rattle.board_core.proofs.Tables.{eqb-other, eqb-same}
+use Rattle.board_core.specs.declared.event.Reply.TheVariants.{Ret, Gone, Entry, Moved, Done}
+use Rattle.board_core.specs.Csrs.{sstatus_sie}
+use Rattle.board_core.specs.Limits.{is_start_address}
+use Rattle.board_core.specs.Refusals.{IsAccepted, first_that_holds, refusals, refusals_in}
+use Rattle.board_core.specs.Replies.{IsLegal, advance_reply, answer, call_reply, failure, refused_or, reply, start_errors, success, unless}
+use Rattle.board_core.specs.Starts.{Start, StartsAreEntered, boot_start, entries, entry_by, is_of, last_start, pending, start_by_call, starts}
+use Rattle.board_core.specs.States.{Move, is_started, is_stopped, move_by, move_by_call, moved_to, state}
+use Rattle.board_core.proofs.Events.{is_success-failure}
+use Rattle.board_core.proofs.Rows.{unrefused}
 
 -- what passes a filter first passes the test
 filter-first : {A : Type 0} (p : A → Bool) (xs : List A) (y : A) (ys : List A) → filter p xs ≡ y ∷ ys → p y ≡ true
@@ -31,21 +39,25 @@ filter-first p (x ∷ xs) y ys e = by_test (p x) refl (filter-first p xs y ys)
     by_test true is later = let first : x ∷ filter p xs ≡ y ∷ ys = rw is at e in cc
     by_test false is later = later (rw is at e)
 
--- only a hart whose start is pending advances
-pending_if_advancing : (missing : Bool) (s : HartState) (is_full : Bool)
-    → first_that_holds ((missing, WrongPhase) ∷ refusals_in s Advance is_full) ≡ None → s ≡ StartPending
-pending_if_advancing true s is_full e = cc
-pending_if_advancing false Started is_full e = cc
-pending_if_advancing false Stopped is_full e = cc
-pending_if_advancing false StartPending is_full e = refl
-
 -- an accepted operation was not refused, and has its reply
-accepted : (o : Option Refusal) (r r' : Reply) → refused_or o r ≡ Ok r' → (o ≡ None) × (r ≡ r')
-accepted None r r' e = (refl, cc)
-accepted (Some refusal) r r' e = cc
+accepted : (missing : Bool) (s : HartState) (op : Op) (is_full : Bool) (r r' : Reply)
+    → refused_or (first_that_holds ((missing, WrongPhase) ∷ refusals_in s op is_full)) r ≡ Ok r' → IsAccepted op s × (r ≡ r')
+accepted true s op is_full r r' e = cc
+accepted false s op is_full r r' e = by_refusal (first_that_holds (refusals_in s op is_full)) refl e
+  where
+    by_refusal : (o : Option Refusal) → first_that_holds (refusals_in s op is_full) ≡ o → refused_or o r ≡ Ok r' → IsAccepted op s × (r ≡ r')
+    by_refusal None is same = (unrefused op s is_full is, cc)
+    by_refusal (Some refusal) is same = cc
+
+-- a guest runs where its hart is STARTED
+calling : (s : HartState) → not (is_started s) ≡ false → s ≡ Started
+calling Started running = refl
+calling Stopped running = cc
+calling StartPending running = cc
+calling StopPending running = cc
 
 -- the start that an entry's reply tells is the last start of its hart
-entered_start : (start : Start) (x addr hart opaque : ℕ) → start.hart ≡ x
+entered_start : (start : Start) (x addr hart opaque : ℕ) → x ≡ start.hart
     → Entry start.addr x start.opaque ≡ Entry addr hart opaque → record { hart = hart; addr = addr; opaque = opaque } ≡ start
 entered_start start x addr hart opaque own same =
     let hart_is : hart ≡ start.hart = cc in
@@ -53,25 +65,30 @@ entered_start start x addr hart opaque own same =
     let opaque_is : opaque ≡ start.opaque = cc in
     λ i. record { hart = hart_is i; addr = addr_is i; opaque = opaque_is i }
 
--- the law after an entry, by whether the hart in question made it and whether the entry is its own
-module _ (s : HartState) (start entry : Start) (theirs entered : List Start) where
-  after_entry : (makes is_its : Bool) → List Start
-  after_entry makes is_its =
-      option_to_list (if is_start_pending (unwrap_or (if makes then Some Started else None) s) then Some start else None)
-      ++ (if is_its then entry ∷ entered else entered)
+-- the law after one event more, by whether it concerns the hart: its state before, its starts and entries before, the
+-- last of its starts that was found, and the boot start
+module _ (s : HartState) (theirs entered : List Start) (found : Option Start) (boot : Start) where
+  pending_of : HartState → Option Start → List Start
+  pending_of now last = option_to_list (if is_start_pending now then Some (unwrap_or last boot) else None)
 
-  own_entry : (makes is_its : Bool) → makes ≡ true → is_its ≡ true → entry ≡ start → theirs ≡ start ∷ entered → theirs ≡ after_entry makes is_its
-  unfolding after_entry
-  own_entry true true m i is before = before ∙ ap (λ first. first ∷ entered) (sym is)
-  own_entry true false m i is before = cc
-  own_entry false is_its m i is before = cc
+  by_start : (start : Start) (own : Bool) → (own ≡ true → s ≡ Stopped) → theirs ≡ pending_of s found ++ entered
+      → (if own then start ∷ theirs else theirs)
+        ≡ pending_of (if own then StartPending else s) (if own then Some start else found) ++ entered
+  unfolding pending_of
+  by_start start true stopped before = ap (λ (xs : List Start). start ∷ xs) (rw (stopped refl) at before)
+  by_start start false stopped before = before
 
-  others_entry : (makes is_its : Bool) → makes ≡ false → is_its ≡ false
-      → theirs ≡ option_to_list (if is_start_pending s then Some start else None) ++ entered → theirs ≡ after_entry makes is_its
-  unfolding after_entry
-  others_entry false false m i before = before
-  others_entry false true m i before = cc
-  others_entry true is_its m i before = cc
+  by_move : (to : HartState) (own : Bool) → is_start_pending to ≡ false → (own ≡ true → is_start_pending s ≡ false)
+      → theirs ≡ pending_of s found ++ entered → theirs ≡ pending_of (if own then to else s) found ++ entered
+  unfolding pending_of
+  by_move to true settled was before = rw settled (rw (was refl) at before)
+  by_move to false settled was before = before
+
+  by_entry : (entry : Start) (own : Bool) → (own ≡ true → theirs ≡ entry ∷ entered) → theirs ≡ pending_of s found ++ entered
+      → theirs ≡ pending_of (if own then Started else s) found ++ (if own then entry ∷ entered else entered)
+  unfolding pending_of
+  by_entry entry true is before = is refl
+  by_entry entry false is before = before
 
 module _ (c : Config) where
   -- the law for one hart
@@ -80,34 +97,106 @@ module _ (c : Config) where
 
   at_opening : (h : ℕ) → IsEntered [] h
   unfolding IsEntered
-  at_opening h = elim (eqb_tells c.boot_hart h) as (λ _. IsEntered [] h) [
-    | inl same ↦ rw (← same.1) (rw (eqb-same c.boot_hart) refl)
-    | inr other ↦ rw (eqb-other c.boot_hart h other.1, eqb-other h c.boot_hart (λ e. other.1 (sym e))) refl
-  ]
+  at_opening h = by_test (eqb h c.boot_hart)
+    where
+      by_test : (own : Bool) → (if own then boot_start c ∷ [] else [])
+          ≡ option_to_list (if is_start_pending (if own then StartPending else Stopped) then Some (unwrap_or (if own then Some (boot_start c) else None) (boot_start c)) else None) ++ []
+      by_test true = refl
+      by_test false = refl
+
+  module _ (past : List Event) (before : (h : ℕ) → IsEntered past h) (h : ℕ) where
+    -- the law for one hart, after an event that does this
+    IsEnteredBy : Option Move → Option Start → Option Start → Type 0
+    IsEnteredBy move start entry =
+        filter (is_of h) (option_to_list start ++ starts c past)
+        ≡ option_to_list (if is_start_pending (moved_to move h (state c past h)) then Some (unwrap_or (find (is_of h) (option_to_list start ++ starts c past)) (boot_start c)) else None)
+        ++ filter (is_of h) (option_to_list entry ++ entries past)
+
+    quiet : IsEnteredBy None None None
+    unfolding IsEntered IsEnteredBy
+    quiet = before h
+
+    started : (t addr opaque : ℕ) → state c past t ≡ Stopped
+        → IsEnteredBy (Some (record { hart = t; state = StartPending })) (Some (record { hart = t; addr = addr; opaque = opaque })) None
+    unfolding IsEntered IsEnteredBy pending_of
+    started t addr opaque stopped =
+        by_start (state c past h) (filter (is_of h) (starts c past)) (filter (is_of h) (entries past)) (find (is_of h) (starts c past)) (boot_start c)
+        (record { hart = t; addr = addr; opaque = opaque }) (eqb h t) (λ own. ap (state c past) (eqb-true h t own) ∙ stopped) (before h)
+
+    settled : (x : ℕ) (to : HartState) → is_start_pending to ≡ false → is_start_pending (state c past x) ≡ false
+        → IsEnteredBy (Some (record { hart = x; state = to })) None None
+    unfolding IsEntered IsEnteredBy pending_of
+    settled x to at_end was =
+        by_move (state c past h) (filter (is_of h) (starts c past)) (filter (is_of h) (entries past)) (find (is_of h) (starts c past)) (boot_start c)
+        to (eqb h x) at_end (λ own. ap (λ n. is_start_pending (state c past n)) (eqb-true h x own) ∙ was) (before h)
+
+    entered : (x addr hart opaque : ℕ) → state c past x ≡ StartPending
+        → Entry (last_start c past x).addr x (last_start c past x).opaque ≡ Entry addr hart opaque
+        → IsEnteredBy (Some (record { hart = x; state = Started })) None (Some (record { hart = hart; addr = addr; opaque = opaque }))
+    unfolding IsEntered IsEnteredBy pending_of
+    entered x addr hart opaque ready told =
+        let start = last_start c past x in
+        let theirs = before x ∙ ap (λ s. option_to_list (if is_start_pending s then Some start else None) ++ filter (is_of x) (entries past)) ready in
+        let own = eqb-true x start.hart (filter-first (is_of x) (starts c past) start (filter (is_of x) (entries past)) theirs) in
+        let is = entered_start start x addr hart opaque own told in
+        let hart_is : x ≡ hart = cc in
+        let entry : Start = record { hart = hart; addr = addr; opaque = opaque } in
+        rw (ap (λ n. eqb h n) hart_is)
+        (by_entry (state c past h) (filter (is_of h) (starts c past)) (filter (is_of h) (entries past)) (find (is_of h) (starts c past)) (boot_start c)
+        entry (eqb h hart) (λ mine.
+            let same : h ≡ x = eqb-true h hart mine ∙ sym hart_is in
+            rw same (theirs ∙ ap (λ (first : Start). first ∷ filter (is_of x) (entries past)) (sym is))) (before h))
+
+  -- the law after a call
+  after_call : (past : List Event) (before : (h : ℕ) → IsEntered past h) (h x : ℕ) (call : Call) (r : Reply)
+      → state c past x ≡ Started → call_reply c past x call ≡ r → IsEnteredBy past before h (move_by_call x call r) (start_by_call call r) None
+  after_call past before h x calls.GetSpecVersion r running is = quiet past before h
+  after_call past before h x calls.GetImplId r running is = quiet past before h
+  after_call past before h x calls.GetImplVersion r running is = quiet past before h
+  after_call past before h x (calls.ProbeExtension eid) r running is = quiet past before h
+  after_call past before h x calls.GetMvendorid r running is = quiet past before h
+  after_call past before h x calls.GetMarchid r running is = quiet past before h
+  after_call past before h x calls.GetMimpid r running is = quiet past before h
+  after_call past before h x (calls.HartStart t addr opaque) r running is = rw (← is) (by_errors (nat_le c.harts t) (is_start_address c.pages addr) (state c past t) refl)
+    where
+      by_errors : (missing right : Bool) (s : HartState) → state c past t ≡ s
+          → (let r = Ret (unless (first_that_holds ((missing, InvalidParam) ∷ (not right, InvalidAddress) ∷ (not (is_stopped s), AlreadyAvailable) ∷ [])) 0) in
+            IsEnteredBy past before h (move_by_call x (calls.HartStart t addr opaque) r) (start_by_call (calls.HartStart t addr opaque) r) None)
+      by_errors true right s at = quiet past before h
+      by_errors false false s at = quiet past before h
+      by_errors false true Stopped at = started past before h t addr opaque at
+      by_errors false true Started at = quiet past before h
+      by_errors false true StartPending at = quiet past before h
+      by_errors false true StopPending at = quiet past before h
+  after_call past before h x calls.HartStop r running is = rw (← is) (by_enabled (sstatus_sie past x))
+    where
+      by_enabled : (enabled : Bool) → (let r = (if enabled then Ret (failure Failed) else Gone) in
+          IsEnteredBy past before h (move_by_call x calls.HartStop r) (start_by_call calls.HartStop r) None)
+      by_enabled true = quiet past before h
+      by_enabled false = settled past before h x StopPending refl (ap is_start_pending running)
+  after_call past before h x (calls.HartGetStatus t) r running is = quiet past before h
+  after_call past before h x calls.Unsupported r running is = quiet past before h
+
+  -- the law after an Advance
+  after_advance : (past : List Event) (before : (h : ℕ) → IsEntered past h) (h x : ℕ) (s : HartState) (r : Reply)
+      → IsAccepted Advance s → state c past x ≡ s → advance_reply x s (last_start c past x) ≡ r
+      → IsEnteredBy past before h (move_by x Advance r) None (entry_by Advance r)
+  after_advance past before h x Started r ready at is = absurd (let e = ready.in_phase in cc)
+  after_advance past before h x Stopped r ready at is = absurd (let e = ready.to_do in cc)
+  after_advance past before h x StartPending r ready at is = rw (← is) (entered past before h x _ _ _ at refl)
+  after_advance past before h x StopPending r ready at is = rw (← is) (settled past before h x Stopped refl (ap is_start_pending at))
 
   after_event : (past : List Event) (actor : Actor) (op : Op) (r : Reply) → answer c past actor op ≡ Ok r
       → ((h : ℕ) → IsEntered past h) → (h : ℕ) → IsEntered (record { actor = actor; op = op; reply = r } ∷ past) h
-  unfolding IsEntered after_entry
+  unfolding IsEntered IsEnteredBy
   after_event past Clock op r e before h = cc
-  after_event past (Hart x) (Ecall regs) r e before h = before h
-  after_event past (Hart x) Advance (Ret a) e before h =
-      let entered = (accepted (first_that_holds (refusals c past x Advance)) (reply c past x Advance) (Ret a) e).1 in cc
-  after_event past (Hart x) Advance (Entry addr hart opaque) e before h =
-      let facts = accepted (first_that_holds (refusals c past x Advance)) (reply c past x Advance) (Entry addr hart opaque) e in
-      let ready = pending_if_advancing (nat_le c.harts x) (state c past x) (length past == c.limit) facts.0 in
-      let start = last_start c past x in
-      let its_own = before x ∙ ap (λ s. option_to_list (if is_start_pending s then Some start else None) ++ filter (is_of x) (entries past)) ready in
-      let own = eqb-true start.hart x (filter-first (is_of x) (starts c past) start (filter (is_of x) (entries past)) its_own) in
-      let entry : Start = record { hart = hart; addr = addr; opaque = opaque } in
-      let is : entry ≡ start = entered_start start x addr hart opaque own facts.1 in
-      let hart_is : hart ≡ x = cc in
-      elim (eqb_tells x h) [
-        | inl same ↦ own_entry (state c past h) (last_start c past h) entry (filter (is_of h) (starts c past)) (filter (is_of h) (entries past))
-            (eqb x h) (eqb hart h) same.0 (ap (λ n. eqb n h) hart_is ∙ same.0) (is ∙ ap (last_start c past) same.1)
-            (subst (λ n. filter (is_of n) (starts c past) ≡ last_start c past n ∷ filter (is_of n) (entries past)) same.1 its_own)
-        | inr other ↦ others_entry (state c past h) (last_start c past h) entry (filter (is_of h) (starts c past)) (filter (is_of h) (entries past))
-            (eqb x h) (eqb hart h) other.0 (ap (λ n. eqb n h) hart_is ∙ other.0) (before h)
-      ]
+  after_event past (Hart x) (Ecall regs) r e before h =
+      let facts = accepted (nat_le c.harts x) (state c past x) (Ecall regs) (length past == c.limit) (reply c past x (Ecall regs)) r e in
+      after_call past before h x (call_of regs) r (calling (state c past x) facts.0.in_phase) facts.1
+  after_event past (Hart x) (WriteSstatusSie value) r e before h = before h
+  after_event past (Hart x) Advance r e before h =
+      let facts = accepted (nat_le c.harts x) (state c past x) Advance (length past == c.limit) (reply c past x Advance) r e in
+      after_advance past before h x (state c past x) r facts.0 refl facts.1
 
 pub starts_are_entered : (c : Config) (past : List Event) → IsLegal c past → StartsAreEntered c past
 unfolding IsEntered

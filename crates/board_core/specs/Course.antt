@@ -15,6 +15,7 @@ pub record Course : Type 0 where
 abbrev pub harts_of : Config → List ℕ
 harts_of c = range_with_len 0 c.harts
 
+-- whether hart h is the actor
 abbrev pub is_hart : ℕ → Actor → Bool
-is_hart h (Hart n) = n == h
+is_hart h (Hart n) = h == n
 is_hart h Clock = false

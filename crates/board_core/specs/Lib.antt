@@ -1,6 +1,7 @@
 pub mod Limits
 pub mod Course
 pub mod States
+pub mod Csrs
 pub mod Starts
 pub mod Replies
 pub mod Refusals

@@ -1,12 +1,11 @@
 -- The limits of a board (profile).
-use Rattle.std.specs.Prelude.{◌≡◌, ℕ, ◌+◌, ◌*◌, ◌%◌, ◌<◌, ◌≤◌}
+use Rattle.std.specs.Prelude.{ℕ, ◌+◌, ◌*◌, ◌%◌, ◌<◌, ◌≤◌, Bool, IsTrue, ◌==◌, ◌&&◌, nat_le, nat_lt}
 use Rattle.board_core.specs.declared.config.Config.{Config}
 
 -- An address where a hart may begin is even and in RAM, which is so many pages of 4,096 bytes from 0x80000000.
-pub record IsStartAddress (pages address : ℕ) : Type 0 where
-  pub even : address % 2 ≡ 0
-  pub from_base : 0x80000000 ≤ address
-  pub before_end : address < 0x80000000 + 4096 * pages
+abbrev pub is_start_address : (pages address : ℕ) → Bool
+is_start_address pages address =
+    address % 2 == 0 && (nat_le 0x80000000 address && nat_lt address (0x80000000 + 4096 * pages))
 
 pub record IsGood (c : Config) : Type 0 where
   pub some_harts : 1 ≤ c.harts
@@ -16,4 +15,4 @@ pub record IsGood (c : Config) : Type 0 where
   pub some_room : 1 ≤ c.limit
   pub at_most_a_million_events : c.limit ≤ 1000000
   pub boot_hart_is_there : c.boot_hart < c.harts
-  pub boot_address : IsStartAddress c.pages c.boot_addr
+  pub boot_address : IsTrue (is_start_address c.pages c.boot_addr)

@@ -1,10 +1,10 @@
 -- When a step is refused (profile).
-use Rattle.std.specs.Prelude.{ℕ, Bool, false, not, List, [], ◌∷◌, ◌==◌, nat_le, length, if◌then◌else◌, Option, Some, None}
+use Rattle.std.specs.Prelude.{◌≡◌, ℕ, Bool, false, not, List, [], ◌∷◌, ◌==◌, nat_le, length, if◌then◌else◌, Option, Some, None}
 use Rattle.board_core.specs.declared.config.Config.{Config}
 use Rattle.board_core.specs.declared.event.Event.{Event}
-use Rattle.board_core.specs.declared.event.HartState.{HartState}
+use Rattle.hsm.specs.declared.hart.HartState.{HartState}
 use Rattle.board_core.specs.declared.event.Op.{Op}
-use Rattle.board_core.specs.declared.event.Op.TheVariants.{Ecall, Advance}
+use Rattle.board_core.specs.declared.event.Op.TheVariants.{Ecall, WriteSstatusSie, Advance}
 use Rattle.board_core.specs.declared.event.Refusal.{Refusal}
 use Rattle.board_core.specs.declared.event.Refusal.TheVariants.{WrongPhase, Nothing, HistoryFull}
 use Rattle.board_core.specs.States.{state, is_started, is_stopped}
@@ -17,12 +17,18 @@ refusal_number HistoryFull = 4
 -- a guest's operation wants a STARTED hart, and the firmware's Advance one that isn't
 abbrev pub is_out_of_phase : Op → HartState → Bool
 is_out_of_phase (Ecall regs) s = not (is_started s)
+is_out_of_phase (WriteSstatusSie value) s = not (is_started s)
 is_out_of_phase Advance s = is_started s
 
 -- a STOPPED hart has no state to advance to
 abbrev pub has_nothing_to_do : Op → HartState → Bool
-has_nothing_to_do (Ecall regs) s = false
 has_nothing_to_do Advance s = is_stopped s
+has_nothing_to_do op s = false
+
+-- the state of its hart lets an operation happen
+pub record IsAccepted (op : Op) (s : HartState) : Type 0 where
+  pub in_phase : is_out_of_phase op s ≡ false
+  pub to_do : has_nothing_to_do op s ≡ false
 
 -- the second part of the first row whose test holds
 abbrev pub first_that_holds : {A : Type 0} → List (Bool × A) → Option A

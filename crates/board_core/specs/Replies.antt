@@ -1,25 +1,31 @@
 -- What a step answers.
-use Rattle.std.specs.Prelude.{◌≡◌, ℕ, pos, List, [], ◌∷◌, if◌then◌else◌, Option, Some, None, Result, Ok, Err}
+use Rattle.std.specs.Prelude.{◌≡◌, ℕ, pos, Bool, List, [], ◌∷◌, not, nat_le, if◌then◌else◌, Option, Some, None, Result, Ok, Err}
 use Rattle.sbi_abi.specs.declared.answer.Sbiret.{Sbiret}
 use Rattle.sbi_abi.specs.declared.answer.SbiError.{SbiError}
-use Rattle.sbi_abi.specs.declared.answer.SbiError.TheVariants.{NotSupported}
+use Rattle.sbi_abi.specs.declared.answer.SbiError.TheVariants.{Failed, NotSupported, InvalidParam, InvalidAddress, AlreadyAvailable}
 use Rattle.sbi_abi.specs.declared.call.Call.{Call}
-use Rattle.sbi_abi.specs.declared.call.Call.TheVariants.{GetSpecVersion, GetImplId, GetImplVersion, ProbeExtension, GetMvendorid, GetMarchid, GetMimpid, Unsupported}
+use Rattle.sbi_abi.specs.declared.call.Call.TheVariants.{GetSpecVersion, GetImplId, GetImplVersion, ProbeExtension, GetMvendorid, GetMarchid, GetMimpid, HartStart, HartStop, HartGetStatus, Unsupported}
 use Rattle.sbi_abi.specs.Calls.{call_of, is_extension_id}
 use Rattle.sbi_abi.specs.Errors.{number_of}
+use Rattle.hsm.specs.declared.hart.HartState.{HartState}
+use Rattle.hsm.specs.declared.hart.HartState.TheVariants as states
+use Rattle.hsm.specs.States.{state_number}
 use Rattle.board_core.specs.declared.config.Config.{Config}
 use Rattle.board_core.specs.declared.event.Actor.{Actor}
 use Rattle.board_core.specs.declared.event.Actor.TheVariants.{Hart, Clock}
 use Rattle.board_core.specs.declared.event.Event.{Event}
 use Rattle.board_core.specs.declared.event.Op.{Op}
-use Rattle.board_core.specs.declared.event.Op.TheVariants.{Ecall, Advance}
+use Rattle.board_core.specs.declared.event.Op.TheVariants.{Ecall, WriteSstatusSie, Advance}
 use Rattle.board_core.specs.declared.event.Refusal.{Refusal}
 use Rattle.board_core.specs.declared.event.Refusal.TheVariants.{WrongPhase}
 use Rattle.board_core.specs.declared.event.Reply.{Reply}
-use Rattle.board_core.specs.declared.event.Reply.TheVariants.{Ret, Entry}
+use Rattle.board_core.specs.declared.event.Reply.TheVariants.{Ret, Gone, Entry, Moved, Done}
 use Rattle.board_core.specs.Course.{Course}
+use Rattle.board_core.specs.Csrs.{sstatus_sie}
+use Rattle.board_core.specs.Limits.{is_start_address}
 use Rattle.board_core.specs.Refusals.{refusals, first_that_holds}
-use Rattle.board_core.specs.Starts.{last_start}
+use Rattle.board_core.specs.Starts.{Start, last_start}
+use Rattle.board_core.specs.States.{state, is_stopped}
 
 abbrev pub success : ℕ → Sbiret
 success value = record { error = pos 0; value = value }
@@ -28,21 +34,50 @@ success value = record { error = pos 0; value = value }
 abbrev pub failure : SbiError → Sbiret
 failure error = record { error = number_of error; value = 0 }
 
--- The answer to a call (SBI 4; the ids and versions of the implementation are the profile's).
-abbrev pub answer_to : Call → Sbiret
-answer_to GetSpecVersion = success 0x1000000
-answer_to GetImplId = success 0x5A5A5A
-answer_to GetImplVersion = success 1
-answer_to (ProbeExtension eid) = success (if is_extension_id eid then 1 else 0)
-answer_to GetMvendorid = success 0
-answer_to GetMarchid = success 0
-answer_to GetMimpid = success 0
-answer_to Unsupported = failure NotSupported
+-- the first error that holds, or else the value
+abbrev pub unless : Option SbiError → ℕ → Sbiret
+unless None value = success value
+unless (Some error) value = failure error
 
--- The reply to an operation of hart h that isn't refused.
-abbrev pub reply : Config → List Event → ℕ → Op → Reply
-reply c past h (Ecall regs) = Ret (answer_to (call_of regs))
-reply c past h Advance = let start = last_start c past h in Entry start.addr h start.opaque
+-- Why a start of hart t is refused, in this order (SBI 9.1; the order and what a right address is: profile).
+abbrev pub start_errors : Config → List Event → (t addr : ℕ) → List (Bool × SbiError)
+start_errors c past t addr =
+    (nat_le c.harts t, InvalidParam)
+    ∷ (not (is_start_address c.pages addr), InvalidAddress)
+    ∷ (not (is_stopped (state c past t)), AlreadyAvailable)
+    ∷ []
+
+-- Why the state of hart t isn't told (SBI 9.3).
+abbrev pub status_errors : Config → (t : ℕ) → List (Bool × SbiError)
+status_errors c t = (nat_le c.harts t, InvalidParam) ∷ []
+
+-- The reply to a call by hart x (SBI 4; the ids and versions of the implementation are the profile's). A stop doesn't
+-- return; it fails while the caller's interrupts are enabled (SBI 9.2; that this is looked at: profile).
+abbrev pub call_reply : Config → List Event → (x : ℕ) → Call → Reply
+call_reply c past x GetSpecVersion = Ret (success 0x1000000)
+call_reply c past x GetImplId = Ret (success 0x5A5A5A)
+call_reply c past x GetImplVersion = Ret (success 1)
+call_reply c past x (ProbeExtension eid) = Ret (success (if is_extension_id eid then 1 else 0))
+call_reply c past x GetMvendorid = Ret (success 0)
+call_reply c past x GetMarchid = Ret (success 0)
+call_reply c past x GetMimpid = Ret (success 0)
+call_reply c past x (HartStart t addr opaque) = Ret (unless (first_that_holds (start_errors c past t addr)) 0)
+call_reply c past x HartStop = if sstatus_sie past x then Ret (failure Failed) else Gone
+call_reply c past x (HartGetStatus t) = Ret (unless (first_that_holds (status_errors c t)) (state_number (state c past t)))
+call_reply c past x Unsupported = Ret (failure NotSupported)
+
+-- The reply to the Advance of hart x, by its state and its last start: an entry hands over the start's address, the
+-- hart's id and the start's opaque value (SBI 9.1). A STARTED or STOPPED hart is refused before.
+abbrev pub advance_reply : (x : ℕ) → HartState → Start → Reply
+advance_reply x states.StartPending start = Entry start.addr x start.opaque
+advance_reply x states.StopPending start = Moved states.Stopped
+advance_reply x s start = Moved s
+
+-- The reply to an operation of hart x that isn't refused.
+abbrev pub reply : Config → List Event → (x : ℕ) → Op → Reply
+reply c past x (Ecall regs) = call_reply c past x (call_of regs)
+reply c past x (WriteSstatusSie value) = Done
+reply c past x Advance = advance_reply x (state c past x) (last_start c past x)
 
 abbrev pub refused_or : Option Refusal → Reply → Result Reply Refusal
 refused_or (Some refusal) reply = Err refusal

@@ -1,36 +1,36 @@
--- What a board keeps, and how it stands for its history.
-use Rattle.std.specs.Prelude.{◌≡◌, ◌≤◌, List, Option, Some, None, map, length, ℕ}
+-- What a board keeps, and how each part of it stands for the history.
+use Rattle.std.specs.Prelude.{◌≡◌, ◌≤◌, List, map, length, ℕ}
+use Rattle.hart_mask.specs.Ids.{ids_where}
+use Rattle.hsm.specs.Harts.{Hart}
 use Rattle.board_core.specs.declared.config.Config.{Config}
 use Rattle.board_core.specs.declared.event.Event.{Event}
-use Rattle.board_core.specs.declared.event.HartState.{HartState}
-use Rattle.board_core.specs.declared.event.HartState.TheVariants as states
-use Rattle.board_core.specs.declared.event.Kept.{Kept}
+use Rattle.board_core.specs.declared.machine.Counts.{Counts}
+use Rattle.board_core.specs.declared.machine.Csrs.{Csrs}
 use Rattle.board_core.specs.declared.machine.Machine.{Machine}
-use Rattle.board_core.specs.declared.machine.Phase.{Phase}
-use Rattle.board_core.specs.declared.machine.Phase.TheVariants.{Started, Stopped, StartPending}
 use Rattle.board_core.specs.Course.{harts_of}
+use Rattle.board_core.specs.Csrs.{sstatus_sie}
 use Rattle.board_core.specs.Limits.{IsGood}
 use Rattle.board_core.specs.Replies.{IsLegal}
-use Rattle.board_core.specs.Starts.{entries, kept}
-use Rattle.board_core.specs.States.{state}
+use Rattle.board_core.specs.Starts.{entries, hart_of, starts}
 
--- a hart as look-ups see it
-pub record HartView : Type 0 where
-  pub state : HartState
-  pub kept : Option Kept
+-- the harts are those that the past makes
+pub record HartsStand (c : Config) (past : List Event) (harts : List Hart) : Type 0 where
+  pub each : harts ≡ map (hart_of c past) (harts_of c)
 
-abbrev pub hart_view : Phase → HartView
-hart_view Started = record { state = states.Started; kept = None }
-hart_view Stopped = record { state = states.Stopped; kept = None }
-hart_view (StartPending k) = record { state = states.StartPending; kept = Some k }
+-- the registers hold what was last written
+pub record CsrsStand (past : List Event) (csrs : Csrs) : Type 0 where
+  pub sstatus_sie : csrs.sstatus_sie ≡ ids_where (sstatus_sie past)
 
-abbrev pub hart_at : Config → List Event → ℕ → HartView
-hart_at c past h = record { state = state c past h; kept = kept c past h }
+-- the counts are those of the past
+pub record CountsStand (c : Config) (past : List Event) (counts : Counts) : Type 0 where
+  pub starts : counts.starts ≡ length (starts c past)
+  pub entries : counts.entries ≡ length (entries past)
 
 -- the machine holds what the definitions give on the past
 pub record StandsFor (c : Config) (past : List Event) (m : Machine) : Type 0 where
-  pub phases : map hart_view m.phases.items ≡ map (hart_at c past) (harts_of c)
-  pub entries : m.entries ≡ length (entries past)
+  pub harts : HartsStand c past m.hsm
+  pub csrs : CsrsStand past m.csrs
+  pub counts : CountsStand c past m.counts
 
 -- the past of a good board, within its limit
 pub record IsKept (c : Config) (past : List Event) : Type 0 where

@@ -2,15 +2,21 @@
 use Rattle.std.specs.Prelude.{◌≡◌, ℕ, List, [], ◌∷◌, ◌++◌, Bool, ◌==◌, if◌then◌else◌, Option, Some, None, unwrap_or, filter, find, option_to_list}
 use Rattle.std.specs.List.{filter_map}
 use Rattle.std.specs.Option.{option_map}
+use Rattle.sbi_abi.specs.declared.call.Call.{Call}
+use Rattle.sbi_abi.specs.declared.call.Call.TheVariants.{HartStart}
+use Rattle.sbi_abi.specs.Calls.{call_of}
+use Rattle.sbi_abi.specs.Errors.{is_success}
+use Rattle.hsm.specs.declared.hart.Kept.{Kept}
+use Rattle.hsm.specs.Harts.{Hart}
+use Rattle.hsm.specs.States.{is_start_pending}
 use Rattle.board_core.specs.declared.config.Config.{Config}
 use Rattle.board_core.specs.declared.event.Event.{Event}
-use Rattle.board_core.specs.declared.event.Kept.{Kept}
 use Rattle.board_core.specs.declared.event.Op.{Op}
 use Rattle.board_core.specs.declared.event.Op.TheVariants.{Ecall, Advance}
 use Rattle.board_core.specs.declared.event.Reply.{Reply}
 use Rattle.board_core.specs.declared.event.Reply.TheVariants.{Ret, Entry}
 use Rattle.board_core.specs.Course.{harts_of}
-use Rattle.board_core.specs.States.{state, is_start_pending}
+use Rattle.board_core.specs.States.{state}
 
 -- a start of a hart: where it begins and what it hands over
 pub record Start : Type 0 where
@@ -22,15 +28,25 @@ pub record Start : Type 0 where
 abbrev pub boot_start : Config → Start
 boot_start c = record { hart = c.boot_hart; addr = c.boot_addr; opaque = c.boot_opaque }
 
--- The accepted starts, newest first.
+-- the start that a call asks for, where it succeeded
+abbrev pub start_by_call : Call → Reply → Option Start
+start_by_call (HartStart t addr opaque) (Ret answer) =
+    if is_success answer then Some (record { hart = t; addr = addr; opaque = opaque }) else None
+start_by_call call reply = None
+
+abbrev pub start_by : Op → Reply → Option Start
+start_by (Ecall regs) reply = start_by_call (call_of regs) reply
+start_by op reply = None
+
+-- The accepted starts, newest first; the first of all is the firmware's own.
 abbrev pub starts : Config → List Event → List Start
-starts c past = boot_start c ∷ []
+starts c [] = boot_start c ∷ []
+starts c (event ∷ past) = option_to_list (start_by event.op event.reply) ++ starts c past
 
 -- the start that an operation with its reply enters
 abbrev pub entry_by : Op → Reply → Option Start
-entry_by (Ecall regs) reply = None
-entry_by Advance (Ret answer) = None
 entry_by Advance (Entry addr hart opaque) = Some (record { hart = hart; addr = addr; opaque = opaque })
+entry_by op reply = None
 
 -- The entries, newest first, as their replies tell them.
 abbrev pub entries : List Event → List Start
@@ -38,7 +54,7 @@ entries [] = []
 entries (event ∷ past) = option_to_list (entry_by event.op event.reply) ++ entries past
 
 abbrev pub is_of : ℕ → Start → Bool
-is_of h start = start.hart == h
+is_of h start = h == start.hart
 
 -- the last start of a hart that has one
 abbrev pub last_start : Config → List Event → ℕ → Start
@@ -54,6 +70,10 @@ all_pending c past = filter_map (pending c past) (harts_of c)
 -- what the firmware keeps of a pending start
 abbrev pub kept : Config → List Event → ℕ → Option Kept
 kept c past h = option_map (λ start. record { addr = start.addr; opaque = start.opaque }) (pending c past h)
+
+-- a hart as its history makes it: its state, and what is kept for its entry
+abbrev pub hart_of : Config → List Event → ℕ → Hart
+hart_of c past h = record { state = state c past h; kept = kept c past h }
 
 -- The starts law: the starts of a hart, newest first, are its pending one, if any, and then its entries, each
 -- entered with its own address and opaque value.

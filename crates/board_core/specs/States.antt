@@ -1,40 +1,58 @@
 -- The state of a hart: what the last event that moved it brought it to (SBI 9, HSM states).
-use Rattle.std.specs.Prelude.{ℕ, List, [], ◌∷◌, Bool, true, false, ◌==◌, if◌then◌else◌, Option, Some, None, unwrap_or}
+use Rattle.std.specs.Prelude.{ℕ, List, [], ◌∷◌, Bool, true, false, ◌==◌, if◌then◌else◌, Option, Some, None}
+use Rattle.sbi_abi.specs.declared.call.Call.{Call}
+use Rattle.sbi_abi.specs.declared.call.Call.TheVariants.{HartStart, HartStop}
+use Rattle.sbi_abi.specs.Calls.{call_of}
+use Rattle.sbi_abi.specs.Errors.{is_success}
+use Rattle.hsm.specs.declared.hart.HartState.{HartState}
+use Rattle.hsm.specs.declared.hart.HartState.TheVariants as states
 use Rattle.board_core.specs.declared.config.Config.{Config}
+use Rattle.board_core.specs.declared.event.Actor.{Actor}
+use Rattle.board_core.specs.declared.event.Actor.TheVariants.{Hart, Clock}
 use Rattle.board_core.specs.declared.event.Event.{Event}
-use Rattle.board_core.specs.declared.event.HartState.{HartState}
-use Rattle.board_core.specs.declared.event.HartState.TheVariants.{Started, Stopped, StartPending}
 use Rattle.board_core.specs.declared.event.Op.{Op}
-use Rattle.board_core.specs.declared.event.Op.TheVariants.{Ecall, Advance}
+use Rattle.board_core.specs.declared.event.Op.TheVariants.{Ecall, WriteSstatusSie, Advance}
 use Rattle.board_core.specs.declared.event.Reply.{Reply}
-use Rattle.board_core.specs.declared.event.Reply.TheVariants.{Ret, Entry}
-use Rattle.board_core.specs.Course.{is_hart}
+use Rattle.board_core.specs.declared.event.Reply.TheVariants.{Ret, Gone, Entry, Moved, Done}
 
--- what an operation with its reply does to the state of a hart; `own` says that the hart made it
-abbrev pub move_by : Op → Reply → (own : Bool) → Option HartState
-move_by (Ecall regs) reply own = None
-move_by Advance (Ret answer) own = None
-move_by Advance (Entry addr hart opaque) own = if own then Some Started else None
+-- a hart, and the state that an event brings it to
+pub record Move : Type 0 where
+  pub hart : ℕ
+  pub state : HartState
 
--- the new state of hart h, where the event moves it
-abbrev pub move : Event → ℕ → Option HartState
-move event h = move_by event.op event.reply (is_hart h event.actor)
+-- The move that a call by hart x is: a start that succeeded makes its hart START_PENDING (SBI 9.1), and a stop makes
+-- its caller STOP_PENDING (SBI 9.2).
+abbrev pub move_by_call : (x : ℕ) → Call → Reply → Option Move
+move_by_call x (HartStart t addr opaque) (Ret answer) =
+    if is_success answer then Some (record { hart = t; state = states.StartPending }) else None
+move_by_call x HartStop Gone = Some (record { hart = x; state = states.StopPending })
+move_by_call x call reply = None
+
+-- The move that an operation of hart x is: besides calls, the firmware brings its own hart further.
+abbrev pub move_by : (x : ℕ) → Op → Reply → Option Move
+move_by x (Ecall regs) reply = move_by_call x (call_of regs) reply
+move_by x Advance (Entry addr hart opaque) = Some (record { hart = x; state = states.Started })
+move_by x Advance (Moved s) = Some (record { hart = x; state = s })
+move_by x op reply = None
+
+-- the clock moves no hart
+abbrev pub move_of : Actor → Op → Reply → Option Move
+move_of (Hart x) op reply = move_by x op reply
+move_of Clock op reply = None
+
+-- the state of hart h after a move, if it is this hart's
+abbrev pub moved_to : Option Move → (h : ℕ) → HartState → HartState
+moved_to None h s = s
+moved_to (Some move) h s = if h == move.hart then move.state else s
 
 abbrev pub state : Config → List Event → ℕ → HartState
-state c [] h = if h == c.boot_hart then StartPending else Stopped
-state c (event ∷ past) h = unwrap_or (move event h) (state c past h)
+state c [] h = if h == c.boot_hart then states.StartPending else states.Stopped
+state c (event ∷ past) h = moved_to (move_of event.actor event.op event.reply) h (state c past h)
 
 abbrev pub is_started : HartState → Bool
-is_started Started = true
-is_started Stopped = false
-is_started StartPending = false
+is_started states.Started = true
+is_started s = false
 
 abbrev pub is_stopped : HartState → Bool
-is_stopped Started = false
-is_stopped Stopped = true
-is_stopped StartPending = false
-
-abbrev pub is_start_pending : HartState → Bool
-is_start_pending Started = false
-is_start_pending Stopped = false
-is_start_pending StartPending = true
+is_stopped states.Stopped = true
+is_stopped s = false

@@ -1,18 +1,22 @@
-ghost use Rattle.std.specs.Prelude.{◌≡◌, ◌<◌, ◌≤◌, ◌↔◌, ℕ, List, [], IfOk, IsErrOf, count_by, length, reverse, vec_len};
+ghost use Rattle.std.specs.Prelude.{◌≡◌, ◌<◌, ◌≤◌, ◌↔◌, List, [], IfOk, IsErrOf, length, reverse};
+ghost use Rattle.hsm.specs.declared.hart.HartState.{HartState};
 ghost use Rattle.board_core.specs.declared.config.BuildFault.TheVariants.{BadConfig};
 ghost use Rattle.board_core.specs.declared.config.Config.{Config};
 ghost use Rattle.board_core.specs.declared.event.Event.{Event};
+ghost use Rattle.board_core.specs.Csrs.{sstatus_sie};
 ghost use Rattle.board_core.specs.Limits.{IsGood};
 ghost use Rattle.board_core.specs.Refusals.{first_that_holds, refusals_in};
-ghost use Rattle.board_core.specs.States.{is_start_pending, state};
+ghost use Rattle.board_core.specs.States.{state};
 ghost use Rattle.board_core.specs.Starts.{kept, StartsAreEntered};
 ghost use Rattle.board_core.specs.Replies.{answer, stepped, IsLegal};
 ghost use Rattle.board_core.specs.Totals.{totals};
-ghost use Rattle.board_core.specs.Stands.{StandsFor, hart_at, hart_view};
+ghost use Rattle.board_core.specs.Stands.{StandsFor};
 
 use crate::config::{BuildFault, Config};
-use crate::event::{Actor, Event, HartState, Kept, Op, Refusal, Reply};
-use crate::machine::{Machine, Phase, perform};
+use crate::event::{Actor, Event, Op, Refusal, Reply};
+use crate::machine::{Counts, Csrs, Machine, perform};
+use hart_mask::HartSet;
+use hsm::{HartState, Hsm, Kept};
 use std::alloc::{AllocError, Global};
 use std::marker::Model;
 
@@ -89,12 +93,12 @@ impl Board {
         if id >= self.config.harts {
             return Err(Refusal::WrongPhase);
         }
-        let phase = self.phase(id);
+        let state = self.state(id);
         let is_full = self.events.len() as u64 == self.config.limit;
-        if let Some(refusal) = refusal(phase.state(), op, is_full) {
+        if let Some(refusal) = refusal(state, op, is_full) {
             return Err(refusal);
         }
-        let reply = perform(&mut self.machine, id as usize, phase, op);
+        let reply = perform(&mut self.machine, &self.config, id, op);
         self.events.push_reserved(Event { actor, op, reply });
         Ok(reply)
     }
@@ -121,7 +125,7 @@ impl Board {
         requires { h < self.now.config.harts }
         ensures { result ≡ state self.now.config self.now.past h }
     {
-        self.phase(h).state()
+        self.machine.hsm.status(h)
     }
 
     /// Where hart `h` begins, while its start is pending.
@@ -129,14 +133,15 @@ impl Board {
         requires { h < self.now.config.harts }
         ensures { result ≡ kept self.now.config self.now.past h }
     {
-        self.phase(h).kept()
+        self.machine.hsm.kept(h)
     }
 
-    fn phase(&self, h: u64) -> Phase
+    /// Whether sstatus.SIE of hart `h` is 1 (Privileged, sstatus).
+    pub fn sstatus_sie(&self, h: u64) -> bool
         requires { h < self.now.config.harts }
-        ensures { hart_view result ≡ hart_at self.now.config self.now.past h }
+        ensures { result ≡ sstatus_sie self.now.past h }
     {
-        self.machine.phases[h as usize]
+        self.machine.csrs.sstatus_sie.contains(h)
     }
 
     /// The counts of the board's table. For each hart, its accepted starts are its entries followed by its
@@ -146,9 +151,9 @@ impl Board {
         ensures starts { StartsAreEntered self.now.config self.now.past }
     {
         Totals {
-            starts: 1,
-            entries: self.machine.entries,
-            pending: pending_count(&self.machine.phases),
+            starts: self.machine.counts.starts,
+            entries: self.machine.counts.entries,
+            pending: self.machine.hsm.pending_starts(),
             asked: 0,
             applied: 0,
             waiting: 0,
@@ -167,25 +172,19 @@ fn opening(alloc: Global, config: &Config) -> Result<Machine, AllocError>
     requires { IsGood config.now }
     ensures { IfOk result (StandsFor config.now []) }
 {
-    let mut phases = Vec::with_capacity(alloc, config.harts as usize)?;
-    for h in 0..config.harts {
-        phases.push(opening_phase(config, h))?;
-    }
-    Ok(Machine { phases, entries: 0 })
-}
-
-/// At the opening the boot hart's start is pending, and the others are stopped.
-fn opening_phase(config: &Config, h: u64) -> Phase
-    ensures { hart_view result ≡ hart_at config.now [] h }
-{
-    if h == config.boot_hart {
-        Phase::StartPending(Kept {
-            addr: config.boot_addr,
-            opaque: config.boot_opaque,
-        })
-    } else {
-        Phase::Stopped
-    }
+    let boot = Kept {
+        addr: config.boot_addr,
+        opaque: config.boot_opaque,
+    };
+    let hsm = Hsm::new(alloc, config.harts, config.boot_hart, boot)?;
+    let csrs = Csrs {
+        sstatus_sie: HartSet::new(),
+    };
+    let counts = Counts {
+        starts: 1,
+        entries: 0,
+    };
+    Ok(Machine { hsm, csrs, counts })
 }
 
 /// The first refusal of an operation of a hart in this state.
@@ -194,7 +193,7 @@ fn refusal(state: HartState, op: Op, is_full: bool) -> Option<Refusal>
 {
     let is_started = state == HartState::Started;
     let (in_phase, has_work) = match op {
-        Op::Ecall(_) => (is_started, true),
+        Op::Ecall(_) | Op::WriteSstatusSie(_) => (is_started, true),
         Op::Advance => (!is_started, state != HartState::Stopped),
     };
     if !in_phase {
@@ -206,14 +205,4 @@ fn refusal(state: HartState, op: Op, is_full: bool) -> Option<Refusal>
     } else {
         None
     }
-}
-
-/// How many harts have a pending start.
-fn pending_count(phases: &[Phase]) -> u64
-    ensures { result ≡ count_by (λ p. is_start_pending (hart_view p).state) phases.now }
-{
-    phases
-        .iter()
-        .filter(|phase| phase.state() == HartState::StartPending)
-        .count() as u64
 }

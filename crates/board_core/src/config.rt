@@ -1,5 +1,5 @@
-ghost use Rattle.std.specs.Prelude.{◌≤◌, ◌↔◌, IsTrue};
-ghost use Rattle.board_core.specs.Limits.{IsGood, IsStartAddress};
+ghost use Rattle.std.specs.Prelude.{◌≡◌, ◌≤◌, ◌↔◌, IsTrue};
+ghost use Rattle.board_core.specs.Limits.{IsGood, is_start_address};
 
 use thiserror::Error;
 
@@ -47,10 +47,10 @@ impl Config {
     }
 }
 
-/// Whether a hart may begin at `address` on a board with so many pages.
-fn is_start_address(pages: u64, address: u64) -> bool
+/// Whether a hart may begin at `address` on a board with so many pages (profile).
+pub fn is_start_address(pages: u64, address: u64) -> bool
     requires { pages ≤ 256 }
-    ensures { IsTrue result ↔ IsStartAddress pages address }
+    ensures { result ≡ is_start_address pages address }
 {
     address.is_multiple_of(2) && (RAM_BASE..RAM_BASE + PAGE_BYTES * pages).contains(&address)
 }

@@ -1,6 +1,7 @@
 ghost use Rattle.std.specs.Prelude.{◌≡◌};
 ghost use Rattle.board_core.specs.Refusals.{refusal_number};
 
+use hsm::HartState;
 use sbi_abi::{Regs, Sbiret};
 
 /// Who makes a step.
@@ -17,6 +18,8 @@ pub enum Actor {
 pub enum Op {
     /// A guest's call of the firmware (SBI 3).
     Ecall(Regs),
+    /// A guest enables its hart's interrupts, or disables them (Privileged, sstatus.SIE).
+    WriteSstatusSie(bool),
     /// The firmware brings its hart one state further (profile).
     Advance,
 }
@@ -26,6 +29,8 @@ pub enum Op {
 pub enum Reply {
     /// The call returns.
     Ret(Sbiret),
+    /// The call doesn't return.
+    Gone,
     /// The hart begins at `addr`, with its id in a0 and `opaque` in a1 (SBI 9.1).
     Entry {
         /// The address.
@@ -35,6 +40,10 @@ pub enum Reply {
         /// The start's opaque value.
         opaque: u64,
     },
+    /// The hart's state is this one now (SBI 9).
+    Moved(HartState),
+    /// It is done.
+    Done,
 }
 
 /// Why a step was refused. Nothing changed.
@@ -70,24 +79,4 @@ pub struct Event {
     pub op: Op,
     /// What was answered.
     pub reply: Reply,
-}
-
-/// The state of a hart (SBI 9, HSM states).
-#[derive(Clone, Copy, Debug, PartialEq, Eq)]
-pub enum HartState {
-    /// The hart runs its guest.
-    Started,
-    /// The hart isn't running.
-    Stopped,
-    /// A start was accepted and the hart has not entered it yet.
-    StartPending,
-}
-
-/// Where a start begins, and what it hands over.
-#[derive(Clone, Copy, Debug, PartialEq, Eq)]
-pub struct Kept {
-    /// The address.
-    pub addr: u64,
-    /// The opaque value.
-    pub opaque: u64,
 }

@@ -4,10 +4,12 @@
 #![tactic(auto)]
 
 mod board;
+mod calls;
 mod config;
 mod event;
 mod machine;
 
 pub use board::{Board, Totals, starts_are_entered};
 pub use config::{BuildFault, Config};
-pub use event::{Actor, Event, HartState, Kept, Op, Refusal, Reply};
+pub use event::{Actor, Event, Op, Refusal, Reply};
+pub use hsm::{HartState, Kept};

@@ -14,3 +14,10 @@ is_start_pending Started = false
 is_start_pending Stopped = false
 is_start_pending StartPending = true
 is_start_pending StopPending = false
+
+-- whether the firmware has still to bring the hart to rest or to its guest
+abbrev pub is_pending : HartState → Bool
+is_pending Started = false
+is_pending Stopped = false
+is_pending StartPending = true
+is_pending StopPending = true

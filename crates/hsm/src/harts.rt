@@ -1,6 +1,6 @@
 ghost use Rattle.std.specs.Prelude.{◌≡◌, ◌<◌, IfOk, count_by, length, option_map, is_ok, is_some};
 ghost use Rattle.hsm.specs.Transitions.{advanced, changed, hart_at, opened, opening, started, stopped};
-ghost use Rattle.hsm.specs.States.{is_start_pending};
+ghost use Rattle.hsm.specs.States.{is_pending, is_start_pending};
 ghost use Rattle.hsm.specs.Phases.{hart_of};
 
 use crate::hart::{AlreadyAvailable, HartState, Kept, Moved};
@@ -67,6 +67,7 @@ impl Hsm {
     pub fn advance(&mut self, h: u64) -> Option<Moved>
         requires { h < length self.old }
         ensures answer { result ≡ option_map (λ step. step.moved) (advanced (hart_at self.old h)) }
+        ensures pending { is_some result ≡ is_pending (hart_at self.old h).state }
         ensures after { self.new ≡ changed self.old h (option_map (λ step. step.hart) (advanced (hart_at self.old h))) }
     {
         match self.phases[h as usize] {

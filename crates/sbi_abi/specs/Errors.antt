@@ -1,5 +1,6 @@
 -- The numbers of errors (SBI 3, Standard SBI Errors).
-use Rattle.std.specs.Prelude.{ℤ, negsuc}
+use Rattle.std.specs.Prelude.{ℤ, pos, negsuc, Bool, false, ◌==◌}
+use Rattle.sbi_abi.specs.declared.answer.Sbiret.{Sbiret}
 use Rattle.sbi_abi.specs.declared.answer.SbiError.{SbiError}
 use Rattle.sbi_abi.specs.declared.answer.SbiError.TheVariants.{Failed, NotSupported, InvalidParam, Denied, InvalidAddress, AlreadyAvailable, AlreadyStarted, AlreadyStopped}
 
@@ -13,3 +14,12 @@ number_of InvalidAddress = negsuc 4
 number_of AlreadyAvailable = negsuc 5
 number_of AlreadyStarted = negsuc 6
 number_of AlreadyStopped = negsuc 7
+
+-- whether a number is 0
+abbrev pub is_zero : ℤ → Bool
+is_zero (pos n) = n == 0
+is_zero (negsuc n) = false
+
+-- whether a call succeeded: its error is 0
+abbrev pub is_success : Sbiret → Bool
+is_success answer = is_zero answer.error

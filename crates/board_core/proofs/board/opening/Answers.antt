@@ -1,14 +1,30 @@
-use Rattle.std.proofs.Common.{ap, sym, ◌∙◌, ◌++◌, ◌∷◌, [], List, map, arith}
+use Rattle.std.proofs.Common.{◌≡◌, ℕ, [], ◌∷◌, refl, sym, ap, ◌∙◌, inl, inr, false}
 use Rattle.std.specs.List.{range_with_len}
-use Rattle.std.proofs.lemmas.List.{map-append}
-use Rattle.std.proofs.lemmas.List.FromFn.{map-range_with_len_more}
-use Rattle.board_core.specs.Stands.{HartView, hart_at, hart_view}
+use Rattle.std.proofs.lemmas.Bool.Decides.{eqb_tells}
+use Rattle.hart_mask.proofs.Sets.{ids_where-none}
+use Rattle.hsm.specs.declared.hart.Kept.{Kept}
+use Rattle.hsm.specs.Transitions.{opened}
+use Rattle.board_core.specs.declared.config.Config.{Config}
+use Rattle.board_core.specs.Course.{harts_of}
+use Rattle.board_core.specs.Csrs.{sstatus_sie}
+use Rattle.board_core.specs.Starts.{hart_of}
+use Rattle.board_core.proofs.Tables.{eqb-other, eqb-same, tabulate-same}
 use Rattle.board_core.proofs.board.opening.Goals as goal
 
-pub loop-h-preserved : goal.loop-h-preserved
-loop-h-preserved c =
-    ap (map hart_view) c.in_ok-push.ensures.items
-    ∙ map-append hart_view c.loop-h.phases.items (c.opening_phase.result ∷ [])
-    ∙ ap (λ (views : List HartView). views ++ hart_view c.opening_phase.result ∷ []) c.loop-h.invariant
-    ∙ ap (λ (view : HartView). map (hart_at c.args.config.now []) (range_with_len 0 c.loop-h.h) ++ view ∷ []) c.opening_phase.ensures
-    ∙ sym (map-range_with_len_more (hart_at c.args.config.now []) 0 c.loop-h.h c.loop-h.h (omega arith))
+boot : Config → Kept
+boot c = record { addr = c.boot_addr; opaque = c.boot_opaque }
+
+opened_as : (c : Config) (h : ℕ) → hart_of c [] h ≡ opened c.boot_hart (boot c) h
+unfolding boot
+opened_as c h = elim (eqb_tells h c.boot_hart) [
+  | inl same ↦ rw same.1 (rw (eqb-same c.boot_hart) refl)
+  | inr other ↦ rw (other.0) refl
+]
+
+pub returns : goal.returns
+unfolding boot
+returns c = record {
+  harts = record { each = c.in_ok-hsm.ensures ∙ tabulate-same (opened c.args.config.now.boot_hart (boot c.args.config.now)) (hart_of c.args.config.now []) (opened_as c.args.config.now) (harts_of c.args.config.now) };
+  csrs = record { sstatus_sie = c.new-2.ensures ∙ sym (ids_where-none (sstatus_sie []) (λ i below. refl)) };
+  counts = record { starts = refl; entries = refl };
+}
