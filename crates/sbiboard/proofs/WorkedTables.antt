@@ -1,6 +1,7 @@
 -- Worked tables, computed from the definitions.
 use Rattle.std.proofs.Common.{◌≡◌, [], ◌∷◌, replicate, codes, refl, pos}
 use Rattle.std.specs.Fmt.{digits}
+use Rattle.sbi_abi.specs.Calls.{call_of}
 use Rattle.board_core.specs.declared.config.Config.{Config}
 use Rattle.board_core.specs.declared.event.Actor.TheVariants.{Hart}
 use Rattle.board_core.specs.declared.event.Op.TheVariants.{Ecall, Advance}
@@ -16,7 +17,7 @@ table-version : table one_hart
     ∷ record { actor = Hart 0; op = Advance; reply = Entry 0x80000000 0 0 }
     ∷ [])
     ≡ codes "# time 0000000000000000 events       2 power on reset none\n# starts 1 entries 1 pending 0 asked 0 applied 0 waiting 0\n# hart state           wait out ss st ie se satp             deadline         tlb ic\n#    0 STARTED            0   -  0  0 00  0 0000000000000000 ----------------   0  0\n"
-unfolding digits time_cells totals_cells head_cells hart_cells
+unfolding digits call_of time_cells totals_cells head_cells hart_cells
 table-version = refl
 
 -- the opening, with the start pending

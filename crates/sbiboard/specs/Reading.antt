@@ -38,6 +38,7 @@ Gives view (Err fault) read = read ≡ Err fault
 -- the word that names it
 abbrev pub spelling : OpName → List ℕ
 spelling names.Ecall = codes "ecall"
+spelling names.Sstatus = codes "sstatus"
 spelling names.Advance = codes "advance"
 
 -- the places are those of this form

@@ -2,17 +2,18 @@
 use Rattle.std.specs.Prelude.{ℕ, ◌-◌, List, [], ◌∷◌, ◌++◌, length, replicate, codes, decimal, false, Option, Some, None}
 use Rattle.std.specs.Fmt.{digits}
 use Rattle.std.specs.List.{flat_map}
+use Rattle.hsm.specs.declared.hart.HartState.{HartState}
+use Rattle.hsm.specs.declared.hart.HartState.TheVariants.{Started, Stopped, StartPending, StopPending}
+use Rattle.hsm.specs.declared.hart.Kept.{Kept}
 use Rattle.board_core.specs.declared.board.Totals.{Totals}
 use Rattle.board_core.specs.declared.config.Config.{Config}
 use Rattle.board_core.specs.declared.event.Event.{Event}
-use Rattle.board_core.specs.declared.event.HartState.{HartState}
-use Rattle.board_core.specs.declared.event.HartState.TheVariants.{Started, Stopped, StartPending}
-use Rattle.board_core.specs.declared.event.Kept.{Kept}
 use Rattle.board_core.specs.Course.{harts_of}
+use Rattle.board_core.specs.Csrs.{sstatus_sie}
 use Rattle.board_core.specs.Starts.{kept}
 use Rattle.board_core.specs.States.{state}
 use Rattle.board_core.specs.Totals.{totals}
-use Rattle.sbiboard.specs.Words.{line_of}
+use Rattle.sbiboard.specs.Words.{bit_of, line_of}
 
 -- a text after as many of these bytes as fill the width
 abbrev pub filled : (width byte : ℕ) → List ℕ → List ℕ
@@ -36,8 +37,9 @@ abbrev pub state_name : HartState → List ℕ
 state_name Started = codes "STARTED"
 state_name Stopped = codes "STOPPED"
 state_name StartPending = codes "START_PENDING"
+state_name StopPending = codes "STOP_PENDING"
 
--- The time, the count of events, the power and the last reset. The clock, stops and resets aren't built yet.
+-- The time, the count of events, the power and the last reset. The clock and resets aren't built yet.
 unfoldable pub time_cells : List Event → List (List ℕ)
 time_cells past =
     codes "#"
@@ -76,7 +78,7 @@ head_cells =
     ∷ codes "ic"
     ∷ []
 
--- The row of a hart. What isn't built yet shows its opening value: no fence, no pending interrupt, none enabled, no
+-- The row of a hart. What isn't built yet shows its opening value: no fence, no pending interrupt, none in sie, no
 -- translation, no deadline, and empty caches.
 unfoldable pub hart_cells : Config → List Event → ℕ → List (List ℕ)
 hart_cells c past h =
@@ -88,7 +90,7 @@ hart_cells c past h =
     ∷ right 2 (decimal 0)
     ∷ right 2 (decimal 0)
     ∷ hex_column 2 0
-    ∷ right 2 (decimal 0)
+    ∷ right 2 (decimal (bit_of (sstatus_sie past h)))
     ∷ hex16 0
     ∷ replicate 16 45
     ∷ right 3 (decimal 0)

@@ -1,20 +1,25 @@
 -- The printed lines as words, which one blank parts (profile).
-use Rattle.std.specs.Prelude.{ℕ, List, [], ◌∷◌, ◌++◌, map, codes, decimal, false, Result, Ok, Err}
+use Rattle.std.specs.Prelude.{ℕ, List, [], ◌∷◌, ◌++◌, map, codes, decimal, Bool, false, if◌then◌else◌, Result, Ok, Err}
 use Rattle.std.specs.Fmt.{digits, signed_decimal}
 use Rattle.std.specs.List.{join_with_byte}
+use Rattle.hsm.specs.States.{state_number}
 use Rattle.board_core.specs.declared.config.Config.{Config}
 use Rattle.board_core.specs.declared.event.Actor.{Actor}
 use Rattle.board_core.specs.declared.event.Actor.TheVariants.{Hart, Clock}
 use Rattle.board_core.specs.declared.event.Op.{Op}
-use Rattle.board_core.specs.declared.event.Op.TheVariants.{Ecall, Advance}
+use Rattle.board_core.specs.declared.event.Op.TheVariants.{Ecall, WriteSstatusSie, Advance}
 use Rattle.board_core.specs.declared.event.Refusal.{Refusal}
 use Rattle.board_core.specs.declared.event.Reply.{Reply}
-use Rattle.board_core.specs.declared.event.Reply.TheVariants.{Ret, Entry}
+use Rattle.board_core.specs.declared.event.Reply.TheVariants.{Ret, Gone, Entry, Moved, Done}
 use Rattle.board_core.specs.Refusals.{refusal_number}
 
 -- `0x` and lower case hexadecimal digits with no leading zero
 abbrev pub hex : ℕ → List ℕ
 hex n = codes "0x" ++ digits 16 false n
+
+-- a bit: 1 for true
+abbrev pub bit_of : Bool → ℕ
+bit_of value = if value then 1 else 0
 
 abbrev pub actor_word : Actor → List ℕ
 actor_word (Hart h) = decimal h
@@ -22,11 +27,15 @@ actor_word Clock = codes "c"
 
 abbrev pub op_words : Op → List (List ℕ)
 op_words (Ecall regs) = codes "ecall" ∷ hex regs.eid ∷ hex regs.fid ∷ map hex regs.a
+op_words (WriteSstatusSie value) = codes "sstatus" ∷ decimal (bit_of value) ∷ []
 op_words Advance = codes "advance" ∷ []
 
 abbrev pub reply_words : Result Reply Refusal → List (List ℕ)
 reply_words (Ok (Ret answer)) = codes "ret" ∷ signed_decimal answer.error ∷ hex answer.value ∷ []
+reply_words (Ok Gone) = codes "gone" ∷ []
 reply_words (Ok (Entry addr hart opaque)) = codes "entry" ∷ hex addr ∷ decimal hart ∷ hex opaque ∷ []
+reply_words (Ok (Moved s)) = codes "moved" ∷ decimal (state_number s) ∷ []
+reply_words (Ok Done) = codes "done" ∷ []
 reply_words (Err refusal) = codes "refused" ∷ decimal (refusal_number refusal) ∷ []
 
 abbrev pub board_words : Config → List (List ℕ)

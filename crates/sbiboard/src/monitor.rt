@@ -7,4 +7,4 @@ mod table;
 
 pub use lines::{print_event, print_head, print_line, print_reply};
 pub use sink::{Failed, Sink, write_all};
-pub use table::print_table;
+pub use table::print;

@@ -6,7 +6,7 @@ ghost use Rattle.sbiboard.specs.Sinks.{Puts};
 
 use crate::device::{ReadFault, Source, read_whole};
 use crate::guest_script::{Fault, Line, Script, ScriptFault, parse};
-use crate::monitor::{Failed, Sink, print_head, print_line, print_table};
+use crate::monitor::{Failed, Sink, print_head, print, print_line};
 use crate::outcome::Outcome;
 use board_core::{Board, BuildFault, Refusal, Reply};
 use std::alloc::Global;
@@ -89,7 +89,7 @@ fn print_script<W: Sink>(script: &Script, board: &mut Board, writer: &mut W) -> 
 {
     print_head(&script.config, writer)?;
     let met_full = print_lines(&script.lines, board, writer)?;
-    print_table(board, writer)?;
+    print(board, writer)?;
     writer.flush()?;
     Ok(met_full)
 }

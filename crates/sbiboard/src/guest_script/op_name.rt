@@ -11,6 +11,8 @@ use sbi_abi::Regs;
 pub enum OpName {
     /// `ecall`
     Ecall,
+    /// `sstatus`
+    Sstatus,
     /// `advance`
     Advance,
 }
@@ -31,6 +33,7 @@ impl OpName {
     {
         match word {
             b"ecall" => Some(OpName::Ecall),
+            b"sstatus" => Some(OpName::Sstatus),
             b"advance" => Some(OpName::Advance),
             _ => None,
         }
@@ -44,6 +47,11 @@ impl OpName {
     {
         match self {
             OpName::Ecall => numbers(2, 8),
+            OpName::Sstatus => Places {
+                least: 1,
+                most: 1,
+                limit: 1,
+            },
             OpName::Advance => numbers(0, 0),
         }
     }
@@ -55,6 +63,7 @@ impl OpName {
     {
         match self {
             OpName::Ecall => Op::Ecall(regs(numbers)),
+            OpName::Sstatus => Op::WriteSstatusSie(at(numbers, 0) == 1),
             OpName::Advance => Op::Advance,
         }
     }

@@ -2,7 +2,7 @@ ghost use Rattle.std.specs.Prelude.{◌≡◌, ◌+◌, ◌^◌, ◌<◌, ◌≤
 ghost use Rattle.std.specs.List.{join_with_byte};
 ghost use Rattle.sbiboard.specs.Line.{with_words};
 ghost use Rattle.sbiboard.specs.Sinks.{Puts};
-ghost use Rattle.sbiboard.specs.Words.{hex, actor_word, board_words, event_words, line_of, op_words, reply_words};
+ghost use Rattle.sbiboard.specs.Words.{bit_of, hex, actor_word, board_words, event_words, line_of, op_words, reply_words};
 
 use super::line::Line;
 use super::sink::{Failed, Sink, write_all};
@@ -86,6 +86,10 @@ fn op_onto(line: &mut Line, op: Op)
             line.hex(regs.fid);
             numbers_onto(line, &regs.a);
         }
+        Op::WriteSstatusSie(value) => {
+            line.word(b"sstatus");
+            line.decimal(bit(value));
+        }
         Op::Advance => line.word(b"advance"),
     }
 }
@@ -102,17 +106,30 @@ fn reply_onto(line: &mut Line, answer: Result<Reply, Refusal>)
             line.signed(answer.error);
             line.hex(answer.value);
         }
+        Ok(Reply::Gone) => line.word(b"gone"),
         Ok(Reply::Entry { addr, hart, opaque }) => {
             line.word(b"entry");
             line.hex(addr);
             line.decimal(hart);
             line.hex(opaque);
         }
+        Ok(Reply::Moved(state)) => {
+            line.word(b"moved");
+            line.decimal(state.number());
+        }
+        Ok(Reply::Done) => line.word(b"done"),
         Err(refusal) => {
             line.word(b"refused");
             line.decimal(refusal.number());
         }
     }
+}
+
+/// A bit: 1 for true.
+pub fn bit(value: bool) -> u64
+    ensures { result ≡ bit_of value }
+{
+    u64::from(value)
 }
 
 fn numbers_onto(line: &mut Line, numbers: &[u64; 6])

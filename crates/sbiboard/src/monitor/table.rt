@@ -7,11 +7,12 @@ ghost use Rattle.sbiboard.specs.Table.{details, entry_cells, entry_line, hart_ce
 ghost use Rattle.sbiboard.specs.Words.{line_of};
 
 use super::line::Line;
+use super::lines::bit;
 use super::sink::{Failed, Sink};
 use board_core::{Board, HartState, Kept, Totals};
 
 /// Prints the board's table, of lines that are comments in a script.
-pub fn print_table<W: Sink>(board: &Board, sink: &mut W) -> Result<(), Failed>
+pub fn print<W: Sink>(board: &Board, sink: &mut W) -> Result<(), Failed>
     requires { W.failures sink.old < 2 ^ 63 }
     ensures { Puts W.written W.failures sink.old sink.new result
         (table board.now.config board.now.past) }
@@ -136,7 +137,7 @@ fn hart_line(board: &Board, h: u64) -> Line
     line.right_decimal(2, 0);
     line.right_decimal(2, 0);
     line.hex_column(2, 0);
-    line.right_decimal(2, 0);
+    line.right_decimal(2, bit(board.sstatus_sie(h)));
     line.hex_column(16, 0);
     line.word(&[b'-'; 16]);
     line.right_decimal(3, 0);
@@ -167,5 +168,6 @@ fn name(state: HartState) -> &'static [u8]
         HartState::Started => b"STARTED",
         HartState::Stopped => b"STOPPED",
         HartState::StartPending => b"START_PENDING",
+        HartState::StopPending => b"STOP_PENDING",
     }
 }

@@ -7,7 +7,7 @@ pub returns-clause-text : goal.returns-clause-text
 returns-clause-text g c =
     let body = c.in_ok-met_full.ensures in
     let flushed = c.in_ok-flush.ensures in
-    let printed = c.in_ok-print_table.ensures in
+    let printed = c.in_ok-print.ensures in
     let head = c.in_ok-print_head.ensures in (
       text_of-printed (schedule c.args.script.now) c.args.board.now _ _ c.requires.at_opening c.deref.ensures.value body.course
           _ _ _ _ _ head.0 body.text.0 printed.0 flushed.bytes,
