@@ -1,8 +1,11 @@
 -- What a test keeps of the numbers below a limit.
-use Rattle.std.proofs.Common.{◌≡◌, ◌≢◌, ℕ, ◌+◌, ◌<◌, ◌≤◌, suc, zero, Bool, true, false, ◌∷◌, refl, sym, ap, ◌∙◌, arith, inl, inr, eqb}
+use Rattle.std.proofs.Common.{◌≡◌, ◌≢◌, ℕ, ◌+◌, ◌<◌, ◌≤◌, suc, zero, Bool, true, false, ◌∷◌, refl, sym, ap, ◌∙◌, arith, inl, inr, eqb, zero-add}
 use Rattle.std.specs.Prelude.{◌&&◌}
 use Rattle.std.specs.List.{filter, list_any, range_with_len}
 use Rattle.std.proofs.lemmas.Bool.Decides.{eqb_tells}
+use Rattle.std.proofs.lemmas.List.Elements.{All-filter}
+use Rattle.std.proofs.lemmas.List.Folds.{list_any_none}
+use Rattle.std.proofs.lemmas.List.FromFn.{get_or-range_with_len, length-range_with_len}
 use Rattle.std.proofs.lemmas.Map.Views.{any-filter_same}
 
 pub eqb-same : (a : ℕ) → eqb a a ≡ true
@@ -44,6 +47,15 @@ any-filter p n i below =
     and_true : (b : Bool) → (b && true) ≡ b
     and_true true = refl
     and_true false = refl
+
+-- no number from the limit on is kept
+pub any-filter_above : (p : ℕ → Bool) (n i : ℕ) → n ≤ i → list_any (λ j. eqb j i) (filter p (range_with_len 0 n)) ≡ false
+any-filter_above p n i above = list_any_none (λ j. eqb j i) (filter p (range_with_len 0 n))
+    (All-filter p (λ j. eqb j i ≡ false) (range_with_len 0 n) (λ k d inside.
+    let long = length-range_with_len 0 n in
+    let low : k < n = omega arith in
+    let other : k ≢ i = omega arith in
+    ap (λ j. eqb j i) (get_or-range_with_len 0 n k d low ∙ zero-add k) ∙ eqb-other k i other))
 
 -- the lowest number that is kept comes first, and the rest is what the same test keeps without it
 pub filter-lowest : (p q : ℕ → Bool) (a n low : ℕ) → a ≤ low → low < a + n → p low ≡ true

@@ -2,3 +2,6 @@ pub mod Below
 pub mod Sets
 pub mod Places
 pub mod Changes
+pub mod Words
+pub mod Naming
+pub mod WorkedLists

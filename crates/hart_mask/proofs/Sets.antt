@@ -1,11 +1,13 @@
 -- Sets of ids by their tests: what proofs about code that uses sets cite.
-use Rattle.std.proofs.Common.{◌≡◌, ℕ, ◌<◌, Bool, false, List, [], ◌∷◌, ◌++◌, subst, refl, sym, ap, ◌∙◌, arith}
+use Rattle.std.proofs.Common.{◌≡◌, ℕ, ◌<◌, Bool, true, false, List, [], ◌∷◌, ◌++◌, subst, refl, sym, ap, ◌∙◌, arith, inl, inr}
 use Rattle.std.specs.Prelude.{◌==◌, ◌||◌, ◌&&◌, not}
 use Rattle.std.specs.List.{All, Contains, range_with_len}
+use Rattle.std.proofs.lemmas.Bool.{both_ways, cases_lt, or_left, or_right}
 use Rattle.std.proofs.lemmas.List.Elements.{All-contains, All-filter, All-same, Contains-append_right}
+use Rattle.std.proofs.lemmas.List.Folds.{list_any-append}
 use Rattle.std.proofs.lemmas.List.FromFn.{get_or-range_with_len, length-range_with_len}
-use Rattle.hart_mask.specs.Ids.{IsIdSet, has, ids_where, with_id, without_id}
-use Rattle.hart_mask.proofs.Below.{any-filter, filter-agree}
+use Rattle.hart_mask.specs.Ids.{IsIdSet, intersection_of, has, ids_where, union_of, with_id, without_id}
+use Rattle.hart_mask.proofs.Below.{any-filter, any-filter_above, eqb-same, filter-agree}
 
 -- tests that agree on the ids give the same set
 pub ids_where-agree : (p q : ℕ → Bool) → ((i : ℕ) → i < 128 → p i ≡ q i) → ids_where p ≡ ids_where q
@@ -45,7 +47,31 @@ with_id-by p q id rule = with_id-ids_where p id ∙ ids_where-agree _ q rule
 pub without_id-by : (p q : ℕ → Bool) (id : ℕ) → ((i : ℕ) → i < 128 → (not (i == id) && p i) ≡ q i) → without_id (ids_where p) id ≡ ids_where q
 without_id-by p q id rule = without_id-ids_where p id ∙ ids_where-agree _ q rule
 
--- each id of a set, as a loop comes to it, is below the limit
+-- a rule for the ids of either set, or of both
+pub union-by : (p q r : ℕ → Bool) → ((i : ℕ) → i < 128 → (p i || q i) ≡ r i) → union_of (ids_where p) (ids_where q) ≡ ids_where r
+union-by p q r rule = ids_where-agree _ r (λ i below.
+    ap (λ b. b || has (ids_where q) i) (has-ids_where p i below) ∙ ap (λ b. p i || b) (has-ids_where q i below) ∙ rule i below)
+
+pub intersection-by : (p q r : ℕ → Bool) → ((i : ℕ) → i < 128 → (p i && q i) ≡ r i) → intersection_of (ids_where p) (ids_where q) ≡ ids_where r
+intersection-by p q r rule = ids_where-agree _ r (λ i below.
+    ap (λ b. b && has (ids_where q) i) (has-ids_where p i below) ∙ ap (λ b. p i && b) (has-ids_where q i below) ∙ rule i below)
+
+-- each id that is in a set passes its test, and is below the limit
+pub passes-ids_where : (p : ℕ → Bool) (i : ℕ) → has (ids_where p) i ≡ true → (i < 128) × (p i ≡ true)
+unfolding ids_where
+passes-ids_where p i is = elim (cases_lt i 128) [
+  | inl low ↦ (low, sym (any-filter p 128 i low) ∙ is)
+  | inr high ↦ absurd (both_ways _ (any-filter_above p 128 i high) is)
+]
+
+-- each id of a set, as a loop comes to it, is in it
+pub split-has : (before after ids : List ℕ) (id : ℕ) → before ++ id ∷ after ≡ ids → has ids id ≡ true
+split-has before after ids id split =
+    ap (λ is. has is id) (sym split)
+    ∙ list_any-append (λ i. i == id) before (id ∷ after)
+    ∙ or_right (has before id) (has (id ∷ after) id) (or_left (id == id) (has after id) (eqb-same id))
+
+-- and below the limit
 pub split-below : (before after ids : List ℕ) (id : ℕ) → IsIdSet ids → before ++ id ∷ after ≡ ids → id < 128
 unfolding IsIdSet ids_where
 split-below before after ids id is split =

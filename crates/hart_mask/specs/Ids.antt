@@ -1,5 +1,5 @@
 -- Sets of hart ids, each seen as the list of its ids in ascending order.
-use Rattle.std.specs.Prelude.{◌≡◌, ℕ, Bool, List, ◌==◌, ◌||◌, ◌&&◌, not, filter}
+use Rattle.std.specs.Prelude.{◌≡◌, ℕ, Bool, List, ◌==◌, ◌||◌, ◌&&◌, not, nat_lt, filter}
 use Rattle.std.specs.List.{list_any, range_with_len}
 
 -- The ids at which the test gives true, in ascending order; there are 128 ids (profile).
@@ -21,3 +21,15 @@ with_id ids id = ids_where (λ i. i == id || has ids i)
 -- the set with one id out of it
 abbrev pub without_id : List ℕ → ℕ → List ℕ
 without_id ids id = ids_where (λ i. not (i == id) && has ids i)
+
+-- the ids below a number
+abbrev pub ids_below : ℕ → List ℕ
+ids_below n = ids_where (λ i. nat_lt i n)
+
+-- the ids that are in one set or in the other
+abbrev pub union_of : List ℕ → List ℕ → List ℕ
+union_of ids others = ids_where (λ i. has ids i || has others i)
+
+-- the ids that are in both sets
+abbrev pub intersection_of : List ℕ → List ℕ → List ℕ
+intersection_of ids others = ids_where (λ i. has ids i && has others i)

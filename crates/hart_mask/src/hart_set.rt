@@ -1,5 +1,6 @@
-ghost use Rattle.std.specs.Prelude.{◌≡◌, ◌<◌, [], ◌∷◌, length, ◌==◌, IfSome, MatchOption};
-ghost use Rattle.hart_mask.specs.Ids.{IsIdSet, has, with_id, without_id};
+ghost use Rattle.std.specs.Prelude.{◌≡◌, ◌<◌, ◌≤◌, [], ◌∷◌, length, ◌==◌, IfSome, MatchOption};
+ghost use Rattle.hart_mask.specs.HartList.{named_by};
+ghost use Rattle.hart_mask.specs.Ids.{IsIdSet, intersection_of, has, ids_below, union_of, with_id, without_id};
 
 use crate::hart_ids::HartIds;
 use std::marker::Model;
@@ -63,6 +64,27 @@ impl HartSet {
         HartSet { bits: 0 }
     }
 
+    /// The set of the ids below `n`.
+    pub fn below(n: u64) -> HartSet
+        requires { n ≤ 128 }
+        ensures { result ≡ ids_below n }
+    {
+        if n == 128 {
+            return HartSet { bits: u128::MAX };
+        }
+        HartSet { bits: (1 << n) - 1 }
+    }
+
+    /// The set of the ids `base + i` whose bit i is set in `mask`, of those that are below 128.
+    pub(crate) fn named_by(mask: u64, base: u64) -> HartSet
+        requires { base < 128 }
+        ensures { result ≡ named_by mask base }
+    {
+        HartSet {
+            bits: u128::from(mask) << base,
+        }
+    }
+
     /// Whether hart `id` is in the set. Which ids are in it makes the whole set.
     pub fn contains(&self, id: u64) -> bool
         requires { id < 128 }
@@ -86,6 +108,24 @@ impl HartSet {
         ensures { self.new ≡ without_id self.old id }
     {
         self.bits &= !(1 << id);
+    }
+
+    /// The ids that are in this set or in the other.
+    pub fn union(self, other: HartSet) -> HartSet
+        ensures { result ≡ union_of self other }
+    {
+        HartSet {
+            bits: self.bits | other.bits,
+        }
+    }
+
+    /// The ids that are in both this set and the other.
+    pub fn intersection(self, other: HartSet) -> HartSet
+        ensures { result ≡ intersection_of self other }
+    {
+        HartSet {
+            bits: self.bits & other.bits,
+        }
     }
 
     /// Takes the lowest id out of the set.
@@ -143,6 +183,9 @@ mod tests {
         for want in [Some(0), Some(63), Some(64), Some(127), None] {
             assert_eq!(rt; ids.next(), want);
         }
+        let low = HartSet::below(64);
+        assert_eq!(rt; low.union(set).len(), 66);
+        assert_eq!(rt; low.intersection(set).len(), 2);
         set.remove(63);
         assert!(rt; set.contains(0) && !set.contains(63) && set.contains(64) && set.contains(127));
         set.remove(0);
