@@ -3,7 +3,8 @@ use Rattle.std.specs.Prelude.{ℕ, Bool, List, [], ◌∷◌, ◌==◌, if◌the
 use Rattle.std.specs.List.{list_any}
 use Rattle.sbi_abi.specs.declared.call.Regs.{Regs}
 use Rattle.sbi_abi.specs.declared.call.Call.{Call}
-use Rattle.sbi_abi.specs.declared.call.Call.TheVariants.{GetSpecVersion, GetImplId, GetImplVersion, ProbeExtension, GetMvendorid, GetMarchid, GetMimpid, HartStart, HartStop, HartGetStatus, Unsupported}
+use Rattle.sbi_abi.specs.declared.call.Call.TheVariants.{GetSpecVersion, GetImplId, GetImplVersion, ProbeExtension, GetMvendorid, GetMarchid, GetMimpid, SetTimer, SendIpi, HartStart, HartStop, HartGetStatus, HartSuspend, Unsupported}
+use Rattle.sbi_abi.specs.SuspendTypes.{suspend_kind_of}
 
 -- what a listing names by the number n, or else `other`
 abbrev pub named : {A : Type 0} → ℕ → A → List (ℕ × A) → A
@@ -22,17 +23,31 @@ base_listing regs =
     ∷ (6, GetMimpid)
     ∷ []
 
+-- The function listing of the Timer Extension (SBI 6).
+abbrev pub time_listing : Regs → List (ℕ × Call)
+time_listing regs = (0, SetTimer (slice_index regs.a 0)) ∷ []
+
+-- The function listing of the s-mode IPI Extension (SBI 7).
+abbrev pub ipi_listing : Regs → List (ℕ × Call)
+ipi_listing regs = (0, SendIpi (slice_index regs.a 0) (slice_index regs.a 1)) ∷ []
+
 -- The function listing of the Hart State Management Extension (SBI 9).
 abbrev pub hsm_listing : Regs → List (ℕ × Call)
 hsm_listing regs =
     (0, HartStart (slice_index regs.a 0) (slice_index regs.a 1) (slice_index regs.a 2))
     ∷ (1, HartStop)
     ∷ (2, HartGetStatus (slice_index regs.a 0))
+    ∷ (3, HartSuspend (suspend_kind_of (slice_index regs.a 0)) (slice_index regs.a 1) (slice_index regs.a 2))
     ∷ []
 
 -- The extensions by their ids, each with its function listing.
 abbrev pub extensions : Regs → List (ℕ × List (ℕ × Call))
-extensions regs = (0x10, base_listing regs) ∷ (0x48534D, hsm_listing regs) ∷ []
+extensions regs =
+    (0x10, base_listing regs)
+    ∷ (0x54494D45, time_listing regs)
+    ∷ (0x735049, ipi_listing regs)
+    ∷ (0x48534D, hsm_listing regs)
+    ∷ []
 
 -- The call that the registers name (SBI 3: an EID or FID that isn't implemented is not supported).
 unfoldable pub call_of : Regs → Call
@@ -40,4 +55,4 @@ call_of regs = named regs.fid Unsupported (named regs.eid [] (extensions regs))
 
 -- The ids that probing answers 1 for (SBI 4.4).
 abbrev pub is_extension_id : ℕ → Bool
-is_extension_id eid = list_any (λ n. n == eid) (0x10 ∷ 0x48534D ∷ [])
+is_extension_id eid = list_any (λ n. n == eid) (0x10 ∷ 0x54494D45 ∷ 0x735049 ∷ 0x48534D ∷ [])

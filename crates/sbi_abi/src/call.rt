@@ -1,6 +1,9 @@
 ghost use Rattle.std.specs.Prelude.{◌≡◌};
 ghost use Rattle.sbi_abi.specs.declared.call.Call.TheVariants.{Unsupported};
-ghost use Rattle.sbi_abi.specs.Calls.{base_listing, call_of, hsm_listing, is_extension_id, named};
+ghost use Rattle.sbi_abi.specs.Calls.{base_listing, call_of, hsm_listing, ipi_listing, is_extension_id, named, time_listing};
+
+use crate::answer::SbiError;
+use crate::suspend::{SuspendKind, suspend_kind};
 
 /// The registers of an ECALL from a supervisor (SBI 3, Binary Encoding).
 #[derive(Clone, Copy, Debug, PartialEq, Eq)]
@@ -30,6 +33,15 @@ pub enum Call {
     GetMarchid,
     /// The CSR mimpid (SBI 4.7).
     GetMimpid,
+    /// Sets the calling hart's deadline, in ticks (SBI 6.1).
+    SetTimer(u64),
+    /// Sends an interrupt to the harts of a list (SBI 7.1).
+    SendIpi {
+        /// Bit i names hart `base + i`.
+        mask: u64,
+        /// The id that bit 0 names; 2^64-1 names all harts, whatever the mask (SBI 3).
+        base: u64,
+    },
     /// Starts a hart (SBI 9.1).
     HartStart {
         /// The hart's id.
@@ -43,11 +55,24 @@ pub enum Call {
     HartStop,
     /// The state of the hart of this id (SBI 9.3).
     HartGetStatus(u64),
+    /// Suspends the calling hart (SBI 9.4).
+    HartSuspend {
+        /// The kind of suspend, or why its type is refused.
+        kind: Result<SuspendKind, SbiError>,
+        /// Where the hart is to begin after a non-retentive suspend.
+        addr: u64,
+        /// What it is to be handed over in a1 then.
+        opaque: u64,
+    },
     /// An extension or a function that isn't implemented (SBI 3).
     Unsupported,
 }
 
 const BASE: u64 = 0x10;
+
+const TIME: u64 = 0x5449_4D45;
+
+const IPI: u64 = 0x73_5049;
 
 const HSM: u64 = 0x48_534D;
 
@@ -58,6 +83,8 @@ pub fn decode(regs: &Regs) -> Call
 {
     match regs.eid {
         BASE => base_call(regs),
+        TIME => time_call(regs),
+        IPI => ipi_call(regs),
         HSM => hsm_call(regs),
         _ => Call::Unsupported,
     }
@@ -67,7 +94,7 @@ pub fn decode(regs: &Regs) -> Call
 pub fn is_extension(eid: u64) -> bool
     ensures { result ≡ is_extension_id eid }
 {
-    matches!(eid, BASE | HSM)
+    matches!(eid, BASE | TIME | IPI | HSM)
 }
 
 fn base_call(regs: &Regs) -> Call
@@ -85,6 +112,25 @@ fn base_call(regs: &Regs) -> Call
     }
 }
 
+fn time_call(regs: &Regs) -> Call
+    ensures { result ≡ named regs.now.fid Unsupported (time_listing regs.now) }
+{
+    match regs.fid {
+        0 => Call::SetTimer(regs.a[0]),
+        _ => Call::Unsupported,
+    }
+}
+
+fn ipi_call(regs: &Regs) -> Call
+    ensures { result ≡ named regs.now.fid Unsupported (ipi_listing regs.now) }
+{
+    let [mask, base, ..] = regs.a;
+    match regs.fid {
+        0 => Call::SendIpi { mask, base },
+        _ => Call::Unsupported,
+    }
+}
+
 fn hsm_call(regs: &Regs) -> Call
     ensures { result ≡ named regs.now.fid Unsupported (hsm_listing regs.now) }
 {
@@ -97,6 +143,11 @@ fn hsm_call(regs: &Regs) -> Call
         },
         1 => Call::HartStop,
         2 => Call::HartGetStatus(first),
+        3 => Call::HartSuspend {
+            kind: suspend_kind(first),
+            addr: second,
+            opaque: third,
+        },
         _ => Call::Unsupported,
     }
 }

@@ -4,6 +4,8 @@
 
 mod answer;
 mod call;
+mod suspend;
 
 pub use answer::{SbiError, Sbiret};
 pub use call::{Call, Regs, decode, is_extension};
+pub use suspend::SuspendKind;
