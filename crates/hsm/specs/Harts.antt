@@ -1,10 +1,10 @@
 -- A hart as look-ups see it, and the harts that there are.
 use Rattle.std.specs.Prelude.{Option, Some, None}
 use Rattle.hsm.specs.declared.hart.HartState.{HartState}
-use Rattle.hsm.specs.declared.hart.HartState.TheVariants.{Started, Stopped, StartPending, StopPending}
+use Rattle.hsm.specs.declared.hart.HartState.TheVariants.{Started, Stopped, StartPending, StopPending, Suspended, SuspendPending, ResumePending}
 use Rattle.hsm.specs.declared.hart.Kept.{Kept}
 
--- its state, and what its pending start keeps
+-- its state, and what its pending start, or the suspend that it is in, keeps
 pub record Hart : Type 0 where
   pub state : HartState
   pub kept : Option Kept
@@ -24,3 +24,15 @@ starting kept = record { state = StartPending; kept = Some kept }
 -- a hart whose stop is pending
 abbrev pub stopping : Hart
 stopping = record { state = StopPending; kept = None }
+
+-- a hart whose suspend is pending
+abbrev pub suspending : Option Kept → Hart
+suspending kept = record { state = SuspendPending; kept = kept }
+
+-- a hart that is suspended
+abbrev pub sleeping : Option Kept → Hart
+sleeping kept = record { state = Suspended; kept = kept }
+
+-- a hart whose resume is pending
+abbrev pub resuming : Option Kept → Hart
+resuming kept = record { state = ResumePending; kept = kept }

@@ -1,4 +1,5 @@
 pub mod States
 pub mod Harts
 pub mod Transitions
+pub mod Interruptible
 pub mod Phases

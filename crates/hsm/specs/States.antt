@@ -1,23 +1,42 @@
 -- The states of a hart, and their numbers (SBI 9, HSM states).
 use Rattle.std.specs.Prelude.{ℕ, Bool, true, false}
 use Rattle.hsm.specs.declared.hart.HartState.{HartState}
-use Rattle.hsm.specs.declared.hart.HartState.TheVariants.{Started, Stopped, StartPending, StopPending}
+use Rattle.hsm.specs.declared.hart.HartState.TheVariants.{Started, Stopped, StartPending, StopPending, Suspended, SuspendPending, ResumePending}
 
 abbrev pub state_number : HartState → ℕ
 state_number Started = 0
 state_number Stopped = 1
 state_number StartPending = 2
 state_number StopPending = 3
+state_number Suspended = 4
+state_number SuspendPending = 5
+state_number ResumePending = 6
 
 abbrev pub is_start_pending : HartState → Bool
 is_start_pending Started = false
 is_start_pending Stopped = false
 is_start_pending StartPending = true
 is_start_pending StopPending = false
+is_start_pending Suspended = false
+is_start_pending SuspendPending = false
+is_start_pending ResumePending = false
 
--- whether the firmware has still to bring the hart to rest or to its guest
-abbrev pub is_pending : HartState → Bool
-is_pending Started = false
-is_pending Stopped = false
-is_pending StartPending = true
-is_pending StopPending = true
+-- A hart is in a suspend from the call on until it is STARTED again (SBI 9.4).
+abbrev pub is_in_suspend : HartState → Bool
+is_in_suspend Started = false
+is_in_suspend Stopped = false
+is_in_suspend StartPending = false
+is_in_suspend StopPending = false
+is_in_suspend Suspended = true
+is_in_suspend SuspendPending = true
+is_in_suspend ResumePending = true
+
+-- An interrupt or a remote fence reaches a hart that is STARTED or in a suspend, and skips it in another state (profile).
+abbrev pub is_interruptible : HartState → Bool
+is_interruptible Started = true
+is_interruptible Stopped = false
+is_interruptible StartPending = false
+is_interruptible StopPending = false
+is_interruptible Suspended = true
+is_interruptible SuspendPending = true
+is_interruptible ResumePending = true

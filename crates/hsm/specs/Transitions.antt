@@ -1,12 +1,14 @@
 -- How a hart goes from state to state (SBI 9, HSM states), a row of the table at a time.
-use Rattle.std.specs.Prelude.{ℕ, List, ◌==◌, if◌then◌else◌, Option, Some, None, map, option_map, slice_index_or, slice_set}
+use Rattle.std.specs.Prelude.{ℕ, Bool, true, false, List, ◌==◌, if◌then◌else◌, Option, Some, None, map, option_map, slice_index_or, slice_set}
 use Rattle.std.specs.List.{range_with_len}
+use Rattle.sbi_abi.specs.declared.suspend.SuspendKind.{SuspendKind}
+use Rattle.sbi_abi.specs.declared.suspend.SuspendKind.TheVariants.{Retentive, NonRetentive}
 use Rattle.hsm.specs.declared.hart.HartState.{HartState}
-use Rattle.hsm.specs.declared.hart.HartState.TheVariants.{Started, Stopped, StartPending, StopPending}
+use Rattle.hsm.specs.declared.hart.HartState.TheVariants.{Started, Stopped, StartPending, StopPending, Suspended, SuspendPending, ResumePending}
 use Rattle.hsm.specs.declared.hart.Kept.{Kept}
 use Rattle.hsm.specs.declared.hart.Moved.{Moved}
-use Rattle.hsm.specs.declared.hart.Moved.TheVariants.{Entered, To}
-use Rattle.hsm.specs.Harts.{Hart, running, resting, starting, stopping}
+use Rattle.hsm.specs.declared.hart.Moved.TheVariants.{Entered, Resumed, Returned, To}
+use Rattle.hsm.specs.Harts.{Hart, running, resting, starting, stopping, suspending, sleeping, resuming}
 
 -- A STOPPED hart can be started; one in any other state is already available (SBI 9.1; for the pending states: profile).
 abbrev pub started_from : Kept → HartState → Option Hart
@@ -14,6 +16,9 @@ started_from kept Stopped = Some (starting kept)
 started_from kept Started = None
 started_from kept StartPending = None
 started_from kept StopPending = None
+started_from kept Suspended = None
+started_from kept SuspendPending = None
+started_from kept ResumePending = None
 
 -- A start of another hart: from STOPPED to START_PENDING (SBI 9.1).
 abbrev pub started : Kept → Hart → Option Hart
@@ -25,27 +30,63 @@ stopped_from Started = Some stopping
 stopped_from Stopped = None
 stopped_from StartPending = None
 stopped_from StopPending = None
+stopped_from Suspended = None
+stopped_from SuspendPending = None
+stopped_from ResumePending = None
 
 -- A hart's stop of itself: from STARTED to STOP_PENDING (SBI 9.2).
 abbrev pub stopped : Hart → Option Hart
 stopped hart = stopped_from hart.state
+
+-- A non-retentive suspend keeps where the hart goes on, and a retentive one keeps nothing (SBI 9.4).
+abbrev pub kept_by : SuspendKind → Kept → Option Kept
+kept_by Retentive kept = None
+kept_by NonRetentive kept = Some kept
+
+-- A hart that runs its guest can be suspended, and no other (SBI 9.4).
+abbrev pub suspended_from : Option Kept → HartState → Option Hart
+suspended_from kept Started = Some (suspending kept)
+suspended_from kept Stopped = None
+suspended_from kept StartPending = None
+suspended_from kept StopPending = None
+suspended_from kept Suspended = None
+suspended_from kept SuspendPending = None
+suspended_from kept ResumePending = None
+
+-- A hart's suspend of itself: from STARTED to SUSPEND_PENDING (SBI 9.4).
+abbrev pub suspended : SuspendKind → Kept → Hart → Option Hart
+suspended kind kept hart = suspended_from (kept_by kind kept) hart.state
 
 -- what a step makes of a hart, and what it tells
 pub record Step : Type 0 where
   pub hart : Hart
   pub moved : Moved
 
--- What is pending goes on; a hart that is STARTED or STOPPED has nothing to go on to (profile).
-abbrev pub advanced_from : HartState → Option Kept → Option Step
-advanced_from StartPending kept = option_map (λ k. record { hart = running; moved = Entered k }) kept
-advanced_from StopPending kept = Some (record { hart = resting; moved = To Stopped })
-advanced_from Started kept = None
-advanced_from Stopped kept = None
+-- A suspended hart resumes where it has wake, and sleeps on where it has none (SBI 9.4).
+abbrev pub woken : Bool → Option Kept → Option Step
+woken true kept = Some (record { hart = resuming kept; moved = To ResumePending })
+woken false kept = None
 
--- The firmware's own step: a pending start becomes STARTED and is entered with what it kept, and a pending stop
--- becomes STOPPED (SBI 9, HSM states).
-abbrev pub advanced : Hart → Option Step
-advanced hart = advanced_from hart.state hart.kept
+-- A resume from a non-retentive suspend begins where the suspend said, and one from a retentive suspend returns to
+-- the call (SBI 9.4).
+abbrev pub resumed : Option Kept → Moved
+resumed (Some kept) = Resumed kept
+resumed None = Returned
+
+-- What is pending goes on; a hart that is STARTED or STOPPED has nothing to go on to (profile).
+abbrev pub advanced_from : Bool → HartState → Option Kept → Option Step
+advanced_from wake StartPending kept = option_map (λ k. record { hart = running; moved = Entered k }) kept
+advanced_from wake StopPending kept = Some (record { hart = resting; moved = To Stopped })
+advanced_from wake SuspendPending kept = Some (record { hart = sleeping kept; moved = To Suspended })
+advanced_from wake Suspended kept = woken wake kept
+advanced_from wake ResumePending kept = Some (record { hart = running; moved = resumed kept })
+advanced_from wake Started kept = None
+advanced_from wake Stopped kept = None
+
+-- The firmware's own step: a pending start becomes STARTED and is entered with what it kept, a pending stop becomes
+-- STOPPED, and a suspend goes on by SUSPENDED, with wake by RESUME_PENDING, to STARTED (SBI 9, HSM states).
+abbrev pub advanced : Bool → Hart → Option Step
+advanced wake hart = advanced_from wake hart.state hart.kept
 
 -- the hart of an id, of those that there are
 abbrev pub hart_at : List Hart → ℕ → Hart

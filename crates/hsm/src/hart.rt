@@ -1,5 +1,5 @@
 ghost use Rattle.std.specs.Prelude.{◌≡◌};
-ghost use Rattle.hsm.specs.States.{state_number};
+ghost use Rattle.hsm.specs.States.{is_interruptible, state_number};
 
 use sbi_abi::SbiError;
 
@@ -14,6 +14,12 @@ pub enum HartState {
     StartPending,
     /// The hart is being stopped, and hasn't come to rest yet.
     StopPending,
+    /// The hart sleeps until it has wake.
+    Suspended,
+    /// The hart is being suspended, and doesn't sleep yet.
+    SuspendPending,
+    /// The hart has had wake, and hasn't gone on yet.
+    ResumePending,
 }
 
 impl HartState {
@@ -26,11 +32,27 @@ impl HartState {
             HartState::Stopped => 1,
             HartState::StartPending => 2,
             HartState::StopPending => 3,
+            HartState::Suspended => 4,
+            HartState::SuspendPending => 5,
+            HartState::ResumePending => 6,
+        }
+    }
+
+    /// Whether an interrupt or a remote fence reaches a hart in this state (profile).
+    pub fn is_interruptible(self) -> bool
+        ensures { result ≡ is_interruptible self }
+    {
+        match self {
+            HartState::Started
+            | HartState::Suspended
+            | HartState::SuspendPending
+            | HartState::ResumePending => true,
+            HartState::Stopped | HartState::StartPending | HartState::StopPending => false,
         }
     }
 }
 
-/// What a start keeps until the hart begins (SBI 9.1).
+/// What a start keeps until the hart begins, and a non-retentive suspend until it resumes (SBI 9.1, 9.4).
 #[derive(Clone, Copy, Debug, PartialEq, Eq)]
 pub struct Kept {
     /// Where the hart begins.
@@ -44,6 +66,10 @@ pub struct Kept {
 pub enum Moved {
     /// The hart is STARTED, and begins as its start asked.
     Entered(Kept),
+    /// The hart is STARTED, and begins as its non-retentive suspend asked.
+    Resumed(Kept),
+    /// The hart is STARTED, and returns from the call of its retentive suspend.
+    Returned,
     /// The hart is in this state now.
     To(HartState),
 }

@@ -1,10 +1,13 @@
-ghost use Rattle.std.specs.Prelude.{◌≡◌, ◌<◌, IfOk, count_by, length, option_map, is_ok, is_some};
-ghost use Rattle.hsm.specs.Transitions.{advanced, changed, hart_at, opened, opening, started, stopped};
-ghost use Rattle.hsm.specs.States.{is_pending, is_start_pending};
+ghost use Rattle.std.specs.Prelude.{◌≡◌, ◌<◌, ◌≤◌, IfOk, count_by, length, option_map, is_ok, is_some, false, slice_set};
+ghost use Rattle.hsm.specs.Transitions.{advanced, changed, hart_at, opened, opening, started, stopped, suspended};
+ghost use Rattle.hsm.specs.States.{is_in_suspend, is_start_pending};
+ghost use Rattle.hsm.specs.Interruptible.{interruptible_ids};
 ghost use Rattle.hsm.specs.Phases.{hart_of};
 
 use crate::hart::{AlreadyAvailable, HartState, Kept, Moved};
-use crate::phase::Phase;
+use crate::phase::{Phase, kept_by};
+use hart_mask::HartSet;
+use sbi_abi::SuspendKind;
 use std::alloc::{AllocError, Global};
 use std::marker::Model;
 
@@ -12,6 +15,7 @@ use std::marker::Model;
 #[derive(Debug, Drop)]
 pub struct Hsm {
     phases: Vec<Phase>,
+    interruptible: HartSet,
 }
 
 impl Model for Hsm {
@@ -20,22 +24,28 @@ impl Model for Hsm {
 
     ghost Value = { List Hart };
 
-    ghost use Rattle.hsm.specs.Phases.{hart_of};
+    ghost use Rattle.hsm.specs.Phases.{AreKept, hart_of};
 
     ghost view = { λ m. map hart_of m.phases.items };
+
+    ghost invariant = { λ m. AreKept (map hart_of m.phases.items) m.interruptible };
 }
 
 impl Hsm {
     /// The boot hart's start is pending, and the others are STOPPED. It fails where memory runs out.
     pub fn new(alloc: Global, harts: u64, boot_hart: u64, boot: Kept) -> Result<Hsm, AllocError>
-        requires { boot_hart < harts }
+        requires limit { harts ≤ 128 }
+        requires boot_hart { boot_hart < harts }
         ensures { IfOk result (λ hsm. hsm ≡ opening harts boot_hart boot) }
     {
         let mut phases = Vec::with_capacity(alloc, harts as usize)?;
         for h in 0..harts {
             phases.push(opening_phase(boot_hart, boot, h))?;
         }
-        Ok(Hsm { phases })
+        Ok(Hsm {
+            phases,
+            interruptible: HartSet::new(),
+        })
     }
 
     /// Starts hart `t`, which is to begin at `addr` with `opaque` in a1 (SBI 9.1). A hart that isn't STOPPED is
@@ -47,10 +57,10 @@ impl Hsm {
     {
         match self.phases[t as usize] {
             Phase::Stopped => {
-                self.phases[t as usize] = Phase::StartPending(Kept { addr, opaque });
+                self.put(t, Phase::StartPending(Kept { addr, opaque }));
                 Ok(())
             }
-            Phase::Started | Phase::StartPending(_) | Phase::StopPending => Err(AlreadyAvailable),
+            _ => Err(AlreadyAvailable),
         }
     }
 
@@ -60,26 +70,42 @@ impl Hsm {
         requires running { (hart_at self.old h).state ≡ HartState.Started }
         ensures { self.new ≡ changed self.old h (stopped (hart_at self.old h)) }
     {
-        self.phases[h as usize] = Phase::StopPending;
+        self.put(h, Phase::StopPending);
     }
 
-    /// Brings hart `h` one state further, where its state is pending: a start is entered, and a stop ends.
-    pub fn advance(&mut self, h: u64) -> Option<Moved>
-        requires { h < length self.old }
-        ensures answer { result ≡ option_map (λ step. step.moved) (advanced (hart_at self.old h)) }
-        ensures pending { is_some result ≡ is_pending (hart_at self.old h).state }
-        ensures after { self.new ≡ changed self.old h (option_map (λ step. step.hart) (advanced (hart_at self.old h))) }
+    /// Suspends hart `h`, which is STARTED (SBI 9.4). A non-retentive suspend keeps `addr` and `opaque` until the hart
+    /// is STARTED again, and a retentive one keeps nothing.
+    pub fn suspend(&mut self, h: u64, kind: SuspendKind, addr: u64, opaque: u64)
+        requires in_range { h < length self.old }
+        requires running { (hart_at self.old h).state ≡ HartState.Started }
+        ensures { self.new ≡ changed self.old h (suspended kind (record { addr = addr; opaque = opaque }) (hart_at self.old h)) }
     {
-        match self.phases[h as usize] {
-            Phase::StartPending(kept) => {
-                self.phases[h as usize] = Phase::Started;
-                Some(Moved::Entered(kept))
-            }
-            Phase::StopPending => {
-                self.phases[h as usize] = Phase::Stopped;
-                Some(Moved::To(HartState::Stopped))
-            }
-            Phase::Started | Phase::Stopped => None,
+        let kept = kept_by(kind, Kept { addr, opaque });
+        self.put(h, Phase::SuspendPending(kept));
+    }
+
+    /// Brings hart `h` one state further, where its state is pending, or where it is SUSPENDED and has wake: a start is
+    /// entered, a stop ends, and a suspend comes to sleep, to its resume and to its end.
+    pub fn advance(&mut self, h: u64, wake: bool) -> Option<Moved>
+        requires { h < length self.old }
+        ensures answer { result ≡ option_map (λ step. step.moved) (advanced wake (hart_at self.old h)) }
+        ensures after { self.new ≡ changed self.old h (option_map (λ step. step.hart) (advanced wake (hart_at self.old h))) }
+    {
+        let (phase, moved) = self.phases[h as usize].advanced(wake)?;
+        self.put(h, phase);
+        Some(moved)
+    }
+
+    /// From now on this is kept of hart `h`.
+    fn put(&mut self, h: u64, phase: Phase)
+        requires { h < length self.old }
+        ensures { self.new ≡ slice_set self.old h (hart_of phase) }
+    {
+        self.phases[h as usize] = phase;
+        if phase.state().is_interruptible() {
+            self.interruptible.insert(h);
+        } else {
+            self.interruptible.remove(h);
         }
     }
 
@@ -91,18 +117,26 @@ impl Hsm {
         self.phases[t as usize].state()
     }
 
-    /// What hart `t` begins with, while its start is pending.
+    /// What hart `t` begins with, while its start is pending, or goes on with, while it is in a non-retentive suspend.
     pub fn kept(&self, t: u64) -> Option<Kept>
         requires { t < length self.now }
         ensures kept { result ≡ (hart_at self.now t).kept }
-        ensures pending { is_some result ≡ is_start_pending (hart_at self.now t).state }
+        ensures pending { is_in_suspend (hart_at self.now t).state ≡ false → is_some result ≡ is_start_pending (hart_at self.now t).state }
     {
         self.phases[t as usize].kept()
     }
 
-    /// How many harts there are.
+    /// The harts in an interruptible state: STARTED, or in a suspend (profile).
+    pub fn interruptible(&self) -> HartSet
+        ensures { result ≡ interruptible_ids self.now }
+    {
+        self.interruptible
+    }
+
+    /// How many harts there are; at most 128 (profile).
     pub fn len(&self) -> u64
-        ensures { result ≡ length self.now }
+        ensures count { result ≡ length self.now }
+        ensures limit { length self.now ≤ 128 }
     {
         self.phases.len() as u64
     }
@@ -146,24 +180,69 @@ mod tests {
         };
         let mut hsm = Hsm::new(rt.alloc(), 3, 1, boot)?;
         assert_eq!(rt; hsm.pending_starts(), 1);
-        assert_eq!(rt; hsm.advance(1), Some(Moved::Entered(boot)));
-        assert_eq!(rt; hsm.advance(1), None);
+        assert_eq!(rt; hsm.advance(1, false), Some(Moved::Entered(boot)));
+        assert_eq!(rt; hsm.advance(1, false), None);
         assert_eq!(rt; hsm.start(2, own.addr, own.opaque), Ok(()));
         assert_eq!(rt; hsm.start(2, 0, 0), Err(AlreadyAvailable));
         assert_eq!(rt; SbiError::from(AlreadyAvailable).number(), -6);
         assert_eq!(rt; (hsm.status(2).number(), hsm.kept(2)), (2, Some(own)));
-        assert_eq!(rt; hsm.advance(2), Some(Moved::Entered(own)));
+        assert_eq!(rt; hsm.advance(2, false), Some(Moved::Entered(own)));
         hsm.stop(2);
         assert_eq!(rt; (hsm.status(2).number(), hsm.kept(2)), (3, None));
         assert_eq!(rt; hsm.start(2, 0, 0), Err(AlreadyAvailable));
-        assert_eq!(rt; hsm.advance(2), Some(Moved::To(HartState::Stopped)));
-        assert_eq!(rt; hsm.advance(2), None);
+        assert_eq!(rt; hsm.advance(2, false), Some(Moved::To(HartState::Stopped)));
+        assert_eq!(rt; hsm.advance(2, false), None);
         let states = [hsm.status(0), hsm.status(1), hsm.status(2)];
         assert_eq!(rt;
             states,
             [HartState::Stopped, HartState::Started, HartState::Stopped]
         );
         assert_eq!(rt; hsm.len(), 3);
+        Ok(())
+    }
+
+    #[test]
+    fn the_life_of_a_suspended_hart(rt: HostRuntime) -> Result<(), AllocError> {
+        let boot = Kept {
+            addr: 0x8000_0000,
+            opaque: 7,
+        };
+        let own = Kept {
+            addr: 0x8000_3000,
+            opaque: 0x55,
+        };
+        let mut hsm = Hsm::new(rt.alloc(), 2, 1, boot)?;
+        assert!(rt; hsm.interruptible().is_empty());
+        assert_eq!(rt; hsm.advance(1, true), Some(Moved::Entered(boot)));
+        hsm.suspend(1, SuspendKind::NonRetentive, own.addr, own.opaque);
+        assert_eq!(rt; (hsm.status(1).number(), hsm.kept(1)), (5, Some(own)));
+        assert_eq!(rt; hsm.start(1, 0, 0), Err(AlreadyAvailable));
+        assert_eq!(rt;
+            hsm.advance(1, false),
+            Some(Moved::To(HartState::Suspended))
+        );
+        assert_eq!(rt; hsm.advance(1, false), None);
+        assert_eq!(rt; (hsm.status(1).number(), hsm.kept(1)), (4, Some(own)));
+        assert_eq!(rt;
+            hsm.advance(1, true),
+            Some(Moved::To(HartState::ResumePending))
+        );
+        assert_eq!(rt;
+            (hsm.status(1).number(), hsm.interruptible().contains(1)),
+            (6, true)
+        );
+        assert_eq!(rt; hsm.advance(1, false), Some(Moved::Resumed(own)));
+        hsm.suspend(1, SuspendKind::Retentive, own.addr, own.opaque);
+        assert_eq!(rt; hsm.kept(1), None);
+        assert_eq!(rt; hsm.advance(1, true), Some(Moved::To(HartState::Suspended)));
+        assert_eq!(rt;
+            hsm.advance(1, true),
+            Some(Moved::To(HartState::ResumePending))
+        );
+        assert_eq!(rt; hsm.advance(1, true), Some(Moved::Returned));
+        assert_eq!(rt; hsm.interruptible().len(), 1);
+        hsm.stop(1);
+        assert!(rt; hsm.interruptible().is_empty());
         Ok(())
     }
 }

@@ -1,7 +1,9 @@
-ghost use Rattle.std.specs.Prelude.{◌≡◌};
+ghost use Rattle.std.specs.Prelude.{◌≡◌, option_map};
 ghost use Rattle.hsm.specs.Phases.{hart_of};
+ghost use Rattle.hsm.specs.Transitions.{advanced, kept_by};
 
-use crate::hart::{HartState, Kept};
+use crate::hart::{HartState, Kept, Moved};
+use sbi_abi::SuspendKind;
 
 /// What is kept of one hart.
 #[derive(Clone, Copy, Debug, PartialEq, Eq)]
@@ -10,6 +12,9 @@ pub enum Phase {
     Stopped,
     StartPending(Kept),
     StopPending,
+    SuspendPending(Option<Kept>),
+    Suspended(Option<Kept>),
+    ResumePending(Option<Kept>),
 }
 
 impl Phase {
@@ -21,6 +26,9 @@ impl Phase {
             Phase::Stopped => HartState::Stopped,
             Phase::StartPending(_) => HartState::StartPending,
             Phase::StopPending => HartState::StopPending,
+            Phase::SuspendPending(_) => HartState::SuspendPending,
+            Phase::Suspended(_) => HartState::Suspended,
+            Phase::ResumePending(_) => HartState::ResumePending,
         }
     }
 
@@ -29,7 +37,40 @@ impl Phase {
     {
         match self {
             Phase::StartPending(kept) => Some(kept),
+            Phase::SuspendPending(kept) | Phase::Suspended(kept) | Phase::ResumePending(kept) => {
+                kept
+            }
             Phase::Started | Phase::Stopped | Phase::StopPending => None,
         }
+    }
+
+    /// The phase that the firmware's own step brings this one to, and what it tells.
+    pub fn advanced(self, wake: bool) -> Option<(Phase, Moved)>
+        ensures { option_map (λ step. record { hart = hart_of step.0; moved = step.1 }) result ≡ advanced wake (hart_of self) }
+    {
+        match self {
+            Phase::StartPending(kept) => Some((Phase::Started, Moved::Entered(kept))),
+            Phase::StopPending => Some((Phase::Stopped, Moved::To(HartState::Stopped))),
+            Phase::SuspendPending(kept) => {
+                Some((Phase::Suspended(kept), Moved::To(HartState::Suspended)))
+            }
+            Phase::Suspended(kept) if wake => Some((
+                Phase::ResumePending(kept),
+                Moved::To(HartState::ResumePending),
+            )),
+            Phase::ResumePending(Some(kept)) => Some((Phase::Started, Moved::Resumed(kept))),
+            Phase::ResumePending(None) => Some((Phase::Started, Moved::Returned)),
+            Phase::Suspended(_) | Phase::Started | Phase::Stopped => None,
+        }
+    }
+}
+
+/// What a suspend of this kind keeps of where the hart is to go on.
+pub fn kept_by(kind: SuspendKind, kept: Kept) -> Option<Kept>
+    ensures { result ≡ kept_by kind kept }
+{
+    match kind {
+        SuspendKind::Retentive => None,
+        SuspendKind::NonRetentive => Some(kept),
     }
 }
