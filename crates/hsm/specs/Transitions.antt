@@ -10,7 +10,7 @@ use Rattle.hsm.specs.declared.hart.Moved.{Moved}
 use Rattle.hsm.specs.declared.hart.Moved.TheVariants.{Entered, Resumed, Returned, To}
 use Rattle.hsm.specs.Harts.{Hart, running, resting, starting, stopping, suspending, sleeping, resuming}
 
--- A STOPPED hart can be started; one in any other state is already available (SBI 9.1; for the pending states: profile).
+-- A STOPPED hart can be started; one in any other state is already available (SBI 9.1; for all but STARTED: profile).
 abbrev pub started_from : Kept → HartState → Option Hart
 started_from kept Stopped = Some (starting kept)
 started_from kept Started = None
@@ -62,7 +62,7 @@ pub record Step : Type 0 where
   pub hart : Hart
   pub moved : Moved
 
--- A suspended hart resumes where it has wake, and sleeps on where it has none (SBI 9.4).
+-- A suspended hart resumes where it has wake, an enabled interrupt that is pending, and else sleeps on (SBI 9.4).
 abbrev pub woken : Bool → Option Kept → Option Step
 woken true kept = Some (record { hart = resuming kept; moved = To ResumePending })
 woken false kept = None

@@ -14,11 +14,11 @@ pub enum HartState {
     StartPending,
     /// The hart is being stopped, and hasn't come to rest yet.
     StopPending,
-    /// The hart sleeps until it has wake.
+    /// The hart sleeps until an interrupt that is enabled is pending.
     Suspended,
     /// The hart is being suspended, and doesn't sleep yet.
     SuspendPending,
-    /// The hart has had wake, and hasn't gone on yet.
+    /// The hart was woken, and hasn't gone on yet.
     ResumePending,
 }
 

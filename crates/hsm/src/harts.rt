@@ -84,8 +84,9 @@ impl Hsm {
         self.put(h, Phase::SuspendPending(kept));
     }
 
-    /// Brings hart `h` one state further, where its state is pending, or where it is SUSPENDED and has wake: a start is
-    /// entered, a stop ends, and a suspend comes to sleep, to its resume and to its end.
+    /// Brings hart `h` one state further, where its state is pending, or where it is SUSPENDED and has `wake`, an enabled
+    /// interrupt that is pending: a start is entered, a stop ends, and a suspend goes on to its sleep, its resume and its
+    /// end (SBI 9.4). In any other state nothing changes.
     pub fn advance(&mut self, h: u64, wake: bool) -> Option<Moved>
         requires { h < length self.old }
         ensures answer { result ≡ option_map (λ step. step.moved) (advanced wake (hart_at self.old h)) }
