@@ -1,0 +1,2 @@
+pub mod SoftwareInterrupts
+pub mod Timing

@@ -1,0 +1,64 @@
+ghost use Rattle.std.specs.Prelude.{◌≡◌, ◌<◌, []};
+ghost use Rattle.hart_mask.specs.Ids.{IsIdSet, has, without_id};
+ghost use Rattle.interrupts.specs.SoftwareInterrupts.{with_targets};
+
+use hart_mask::HartSet;
+use std::marker::Model;
+
+/// The harts with SSIP = 1: at each a supervisor software interrupt is pending (Privileged 4.1.3, SBI 7).
+#[derive(Clone, Copy, Debug)]
+pub struct Ipis {
+    harts: HartSet,
+}
+
+impl Model for Ipis {
+    ghost use Rattle.std.specs.Prelude.{List, ℕ};
+
+    ghost Value = { List ℕ };
+
+    ghost view = { λ ipis. ipis.harts };
+
+    ghost inverse = { λ ids. record { harts = ids } };
+}
+
+impl Ipis {
+    /// SSIP is 0 at every hart.
+    pub fn new() -> Ipis
+        ensures { result ≡ [] }
+    {
+        Ipis {
+            harts: HartSet::new(),
+        }
+    }
+
+    /// SSIP becomes 1 at each target, and stays what it is at the other harts (SBI 7.1).
+    pub fn send(&mut self, targets: HartSet)
+        ensures { self.new ≡ with_targets self.old targets }
+    {
+        self.harts = self.harts.union(targets);
+    }
+
+    /// SSIP of hart `h` becomes 0 (Privileged 4.1.3).
+    pub fn clear(&mut self, h: u64)
+        requires { h < 128 }
+        ensures { self.new ≡ without_id self.old h }
+    {
+        self.harts.remove(h);
+    }
+
+    /// SSIP of hart `h`. The harts at which it is 1 make the whole set.
+    pub fn pending(&self, h: u64) -> bool
+        requires { h < 128 }
+        ensures answer { result ≡ has self.now h }
+        ensures whole { IsIdSet self.now }
+    {
+        self.harts.contains(h)
+    }
+
+    /// SSIP becomes 0 at every hart, as a reset of the board asks (profile).
+    pub fn reset(&mut self)
+        ensures { self.new ≡ [] }
+    {
+        *self = Ipis::new();
+    }
+}

@@ -1,0 +1,109 @@
+ghost use Rattle.std.specs.Prelude.{◌≡◌, ◌<◌, ◌≤◌, ◌-◌, ◌^◌, false, length, nat_le, IfOk, Some, None, is_ok, is_some, unwrap_or};
+ghost use Rattle.interrupts.specs.Timing.{deadline_of, is_timer_pending, last_time, opening_timing, ticked, with_deadline, without_deadlines};
+
+use std::alloc::{AllocError, Global};
+use std::marker::Model;
+
+/// The last time that there is, in ticks: a deadline of `u64::MAX` lies after it.
+const LAST_TIME: u64 = u64::MAX - 1;
+
+/// Why a tick was refused: the time would go past 2^64-2 (profile).
+#[derive(Clone, Copy, Debug, PartialEq, Eq)]
+pub struct TimeFull;
+
+/// The time in ticks, and the deadlines of a board's harts, by their ids (SBI 6).
+#[derive(Debug, Drop)]
+pub struct Timers {
+    time: u64,
+    deadlines: Vec<Option<u64>>,
+}
+
+impl Model for Timers {
+    ghost use Rattle.std.specs.Prelude.{◌≤◌};
+    ghost use Rattle.interrupts.specs.Timing.{Timing, last_time};
+
+    ghost Value = { Timing };
+
+    ghost view = { λ t. record { time = t.time; deadlines = t.deadlines.items } };
+
+    ghost invariant = { λ t. t.time ≤ last_time };
+}
+
+impl Timers {
+    /// The time is 0, and no hart has a deadline. It fails where memory runs out.
+    pub fn new(alloc: Global, harts: u64) -> Result<Timers, AllocError>
+        ensures { IfOk result (λ timers. timers ≡ opening_timing harts) }
+    {
+        let deadlines = vec![in alloc; None; harts as usize]?;
+        Ok(Timers { time: 0, deadlines })
+    }
+
+    /// The deadline of hart `h` becomes this time in ticks, whatever it was (SBI 6.1). Afterwards its timer
+    /// interrupt is pending exactly where the new deadline is due.
+    pub fn set(&mut self, h: u64, deadline: u64)
+        requires { h < length self.old.deadlines }
+        ensures after { self.new ≡ with_deadline self.old h (Some deadline) }
+        ensures pending { is_timer_pending self.new h ≡ nat_le deadline self.old.time }
+    {
+        self.deadlines[h as usize] = Some(deadline);
+    }
+
+    /// Hart `h` has no deadline any more (profile).
+    pub fn forget(&mut self, h: u64)
+        requires { h < length self.old.deadlines }
+        ensures { self.new ≡ with_deadline self.old h None }
+    {
+        self.deadlines[h as usize] = None;
+    }
+
+    /// The deadline of hart `h` in ticks, if it has one.
+    pub fn deadline(&self, h: u64) -> Option<u64>
+        requires { h < length self.now.deadlines }
+        ensures { result ≡ deadline_of self.now h }
+    {
+        self.deadlines[h as usize]
+    }
+
+    /// STIP of hart `h`: whether its deadline is due (SBI 6.1). A deadline of 2^64-1 never is.
+    pub fn pending(&self, h: u64) -> bool
+        requires { h < length self.now.deadlines }
+        ensures answer { result ≡ is_timer_pending self.now h }
+        ensures infinitely_far { deadline_of self.now h ≡ Some (2 ^ 64 - 1) → result ≡ false }
+    {
+        self.deadlines[h as usize].is_some_and(|deadline| deadline <= self.time)
+    }
+
+    /// The time goes on by `n` ticks. Past 2^64-2 that is refused, and nothing changes.
+    pub fn tick(&mut self, n: u64) -> Result<(), TimeFull>
+        ensures answer { is_ok result ≡ is_some (ticked self.old n) }
+        ensures after { self.new ≡ unwrap_or (ticked self.old n) self.old }
+    {
+        if n > LAST_TIME - self.time {
+            return Err(TimeFull);
+        }
+        self.time += n;
+        Ok(())
+    }
+
+    /// The time, in ticks since the opening.
+    pub fn time(&self) -> u64
+        ensures time { result ≡ self.now.time }
+        ensures within { result ≤ last_time }
+    {
+        self.time
+    }
+
+    /// How many harts there are.
+    pub fn len(&self) -> u64
+        ensures { result ≡ length self.now.deadlines }
+    {
+        self.deadlines.len() as u64
+    }
+
+    /// No hart has a deadline any more, as a reset of the board asks, and the time goes on (profile).
+    pub fn reset(&mut self)
+        ensures { self.new ≡ without_deadlines self.old }
+    {
+        self.deadlines.fill(None);
+    }
+}
