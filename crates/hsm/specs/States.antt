@@ -40,3 +40,14 @@ is_interruptible StopPending = false
 is_interruptible Suspended = true
 is_interruptible SuspendPending = true
 is_interruptible ResumePending = true
+
+-- Whether the firmware's own step brings a hart further: where its state is pending, and where it is SUSPENDED and has
+-- wake (SBI 9.4; that a step does it: profile).
+abbrev pub goes_on : (wake : Bool) → HartState → Bool
+goes_on wake Started = false
+goes_on wake Stopped = false
+goes_on wake StartPending = true
+goes_on wake StopPending = true
+goes_on wake Suspended = wake
+goes_on wake SuspendPending = true
+goes_on wake ResumePending = true

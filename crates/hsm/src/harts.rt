@@ -1,6 +1,6 @@
 ghost use Rattle.std.specs.Prelude.{◌≡◌, ◌<◌, ◌≤◌, IfOk, count_by, length, option_map, is_ok, is_some, false, slice_set};
 ghost use Rattle.hsm.specs.Transitions.{advanced, changed, hart_at, opened, opening, started, stopped, suspended};
-ghost use Rattle.hsm.specs.States.{is_in_suspend, is_start_pending};
+ghost use Rattle.hsm.specs.States.{goes_on, is_in_suspend, is_start_pending};
 ghost use Rattle.hsm.specs.Interruptible.{interruptible_ids};
 ghost use Rattle.hsm.specs.Phases.{hart_of};
 
@@ -90,6 +90,7 @@ impl Hsm {
     pub fn advance(&mut self, h: u64, wake: bool) -> Option<Moved>
         requires { h < length self.old }
         ensures answer { result ≡ option_map (λ step. step.moved) (advanced wake (hart_at self.old h)) }
+        ensures some { is_some result ≡ goes_on wake (hart_at self.old h).state }
         ensures after { self.new ≡ changed self.old h (option_map (λ step. step.hart) (advanced wake (hart_at self.old h))) }
     {
         let (phase, moved) = self.phases[h as usize].advanced(wake)?;

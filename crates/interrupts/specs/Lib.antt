@@ -1,2 +1,1 @@
-pub mod SoftwareInterrupts
 pub mod Timing

@@ -1,6 +1,5 @@
 ghost use Rattle.std.specs.Prelude.{◌≡◌, ◌<◌, []};
-ghost use Rattle.hart_mask.specs.Ids.{IsIdSet, has, without_id};
-ghost use Rattle.interrupts.specs.SoftwareInterrupts.{with_targets};
+ghost use Rattle.hart_mask.specs.Ids.{IsIdSet, has, union_of, without_id};
 
 use hart_mask::HartSet;
 use std::marker::Model;
@@ -33,7 +32,7 @@ impl Ipis {
 
     /// SSIP becomes 1 at each target, and stays what it is at the other harts (SBI 7.1).
     pub fn send(&mut self, targets: HartSet)
-        ensures { self.new ≡ with_targets self.old targets }
+        ensures { self.new ≡ union_of self.old targets }
     {
         self.harts = self.harts.union(targets);
     }
