@@ -1,18 +1,22 @@
--- What the supervisor's registers hold (Privileged, Supervisor CSRs).
-use Rattle.std.specs.Prelude.{ℕ, List, [], ◌∷◌, Bool, true, false, if◌then◌else◌, Option, Some, None}
+-- What the supervisor's registers hold (Privileged 4.1, Supervisor CSRs).
+use Rattle.std.specs.Prelude.{ℕ, ◌+◌, List, [], ◌∷◌, Bool, true, false, ◌==◌, if◌then◌else◌, Option, Some, None}
+use Rattle.std.specs.Int.{bit_at}
+use Rattle.board_core.specs.declared.config.Config.{Config}
+use Rattle.board_core.specs.declared.csrs.Sie.{Sie}
 use Rattle.board_core.specs.declared.event.Event.{Event}
 use Rattle.board_core.specs.declared.event.Op.{Op}
-use Rattle.board_core.specs.declared.event.Op.TheVariants.{Ecall, WriteSstatusSie, Advance}
+use Rattle.board_core.specs.declared.event.Op.TheVariants.{WriteSie, WriteSstatusSie, Advance}
 use Rattle.board_core.specs.declared.event.Reply.{Reply}
 use Rattle.board_core.specs.declared.event.Reply.TheVariants.{Entry}
 use Rattle.board_core.specs.Course.{is_hart}
+use Rattle.board_core.specs.States.{is_start_entry, is_starting}
 
--- the value that an event of the hart's own wrote, or else the one before
+-- the value that an event of the hart's own made, or else the one before
 abbrev pub latest : {A : Type 0} → Option A → (own : Bool) → A → A
 latest None own before = before
 latest (Some value) own before = if own then value else before
 
--- A guest writes sstatus.SIE, and an entry clears it (SBI 9.1).
+-- A guest writes sstatus.SIE, and each entry clears it (SBI 9.1 and 9.4).
 abbrev pub sstatus_sie_by : Op → Reply → Option Bool
 sstatus_sie_by (WriteSstatusSie value) reply = Some value
 sstatus_sie_by Advance (Entry addr hart opaque) = Some false
@@ -22,3 +26,30 @@ sstatus_sie_by op reply = None
 abbrev pub sstatus_sie : List Event → ℕ → Bool
 sstatus_sie [] h = false
 sstatus_sie (event ∷ past) h = latest (sstatus_sie_by event.op event.reply) (is_hart h event.actor) (sstatus_sie past h)
+
+-- the bits of a number that sie keeps: SSIE is bit 1, and STIE is bit 5 (Privileged 4.1.3)
+abbrev pub sie_of : ℕ → Sie
+sie_of value = record { ssie = bit_at value 1 == 1; stie = bit_at value 5 == 1 }
+
+-- sie with no interrupt enabled
+abbrev pub none_enabled : Sie
+none_enabled = record { ssie = false; stie = false }
+
+-- a software interrupt in bit 1 and a timer interrupt in bit 5, as sie and sip have them (Privileged 4.1.3)
+abbrev pub value_of : (software timer : Bool) → ℕ
+value_of software timer = (if software then 2 else 0) + (if timer then 32 else 0)
+
+-- sie as a guest reads it
+abbrev pub bits_of : Sie → ℕ
+bits_of sie = value_of sie.ssie sie.stie
+
+-- A guest writes sie, and the entry of a start clears it (profile).
+abbrev pub sie_by : Op → Reply → (starting : Bool) → Option Sie
+sie_by (WriteSie value) reply starting = Some (sie_of value)
+sie_by op reply starting = if is_start_entry op reply starting then Some none_enabled else None
+
+-- sie of a hart: what its last write or entry by start made of it, and 0 before any.
+abbrev pub sie : Config → List Event → ℕ → Sie
+sie c [] h = none_enabled
+sie c (event ∷ past) h =
+    latest (sie_by event.op event.reply (is_starting c past event.actor)) (is_hart h event.actor) (sie c past h)

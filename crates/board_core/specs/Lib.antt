@@ -2,6 +2,8 @@ pub mod Limits
 pub mod Course
 pub mod States
 pub mod Csrs
+pub mod Suspends
+pub mod Interrupts
 pub mod Starts
 pub mod Replies
 pub mod Refusals

@@ -1,14 +1,16 @@
 -- What a board keeps, and how each part of it stands for the history.
-use Rattle.std.specs.Prelude.{◌≡◌, ◌≤◌, List, map, length, ℕ}
+use Rattle.std.specs.Prelude.{◌≡◌, ◌<◌, ◌≤◌, ◌^◌, List, map, length, ℕ}
 use Rattle.hart_mask.specs.Ids.{ids_where}
 use Rattle.hsm.specs.Harts.{Hart}
+use Rattle.interrupts.specs.Timing.{Timing}
 use Rattle.board_core.specs.declared.config.Config.{Config}
 use Rattle.board_core.specs.declared.event.Event.{Event}
 use Rattle.board_core.specs.declared.machine.Counts.{Counts}
-use Rattle.board_core.specs.declared.machine.Csrs.{Csrs}
+use Rattle.board_core.specs.declared.csrs.Csrs.{Csrs}
 use Rattle.board_core.specs.declared.machine.Machine.{Machine}
 use Rattle.board_core.specs.Course.{harts_of}
-use Rattle.board_core.specs.Csrs.{sstatus_sie}
+use Rattle.board_core.specs.Csrs.{sie, sstatus_sie}
+use Rattle.board_core.specs.Interrupts.{deadline, ssip, time}
 use Rattle.board_core.specs.Limits.{IsGood}
 use Rattle.board_core.specs.Replies.{IsLegal}
 use Rattle.board_core.specs.Starts.{entries, hart_of, starts}
@@ -18,19 +20,42 @@ pub record HartsStand (c : Config) (past : List Event) (harts : List Hart) : Typ
   pub each : harts ≡ map (hart_of c past) (harts_of c)
 
 -- the registers hold what was last written
-pub record CsrsStand (past : List Event) (csrs : Csrs) : Type 0 where
+pub record CsrsStand (c : Config) (past : List Event) (csrs : Csrs) : Type 0 where
   pub sstatus_sie : csrs.sstatus_sie ≡ ids_where (sstatus_sie past)
+  pub ssie : csrs.ssie ≡ ids_where (λ h. (sie c past h).ssie)
+  pub stie : csrs.stie ≡ ids_where (λ h. (sie c past h).stie)
+
+-- SSIP is 1 where the past makes it
+pub record IpisStand (c : Config) (past : List Event) (ipis : List ℕ) : Type 0 where
+  pub ssip : ipis ≡ ids_where (ssip c past)
+
+-- the time is the past's, and the deadlines are those that the past sets
+pub record TimersStand (c : Config) (past : List Event) (timers : Timing) : Type 0 where
+  pub time : timers.time ≡ time past
+  pub deadlines : timers.deadlines ≡ map (deadline c past) (harts_of c)
 
 -- the counts are those of the past
 pub record CountsStand (c : Config) (past : List Event) (counts : Counts) : Type 0 where
   pub starts : counts.starts ≡ length (starts c past)
-  pub entries : counts.entries ≡ length (entries past)
+  pub entries : counts.entries ≡ length (entries c past)
 
 -- the machine holds what the definitions give on the past
 pub record StandsFor (c : Config) (past : List Event) (m : Machine) : Type 0 where
   pub harts : HartsStand c past m.hsm
-  pub csrs : CsrsStand past m.csrs
+  pub csrs : CsrsStand c past m.csrs
+  pub ipis : IpisStand c past m.ipis
+  pub timers : TimersStand c past m.timers
   pub counts : CountsStand c past m.counts
+
+-- there is a hart and a deadline for each id
+pub record IsSized (c : Config) (m : Machine) : Type 0 where
+  pub harts : length m.hsm ≡ c.harts
+  pub deadlines : length m.timers.deadlines ≡ c.harts
+
+-- the counts can grow
+pub record HasRoom (counts : Counts) : Type 0 where
+  pub starts : counts.starts < 2 ^ 63
+  pub entries : counts.entries < 2 ^ 63
 
 -- the past of a good board, within its limit
 pub record IsKept (c : Config) (past : List Event) : Type 0 where

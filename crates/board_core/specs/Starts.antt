@@ -1,11 +1,12 @@
 -- Starts of harts, and their entries (SBI 9.1).
 use Rattle.std.specs.Prelude.{◌≡◌, ℕ, List, [], ◌∷◌, ◌++◌, Bool, ◌==◌, if◌then◌else◌, Option, Some, None, unwrap_or, filter, find, option_to_list}
 use Rattle.std.specs.List.{filter_map}
-use Rattle.std.specs.Option.{option_map}
 use Rattle.sbi_abi.specs.declared.call.Call.{Call}
 use Rattle.sbi_abi.specs.declared.call.Call.TheVariants.{HartStart}
 use Rattle.sbi_abi.specs.Calls.{call_of}
 use Rattle.sbi_abi.specs.Errors.{is_success}
+use Rattle.hsm.specs.declared.hart.HartState.{HartState}
+use Rattle.hsm.specs.declared.hart.HartState.TheVariants as states
 use Rattle.hsm.specs.declared.hart.Kept.{Kept}
 use Rattle.hsm.specs.Harts.{Hart}
 use Rattle.hsm.specs.States.{is_start_pending}
@@ -16,7 +17,8 @@ use Rattle.board_core.specs.declared.event.Op.TheVariants.{Ecall, Advance}
 use Rattle.board_core.specs.declared.event.Reply.{Reply}
 use Rattle.board_core.specs.declared.event.Reply.TheVariants.{Ret, Entry}
 use Rattle.board_core.specs.Course.{harts_of}
-use Rattle.board_core.specs.States.{state}
+use Rattle.board_core.specs.States.{is_starting, state}
+use Rattle.board_core.specs.Suspends.{resume_point}
 
 -- a start of a hart: where it begins and what it hands over
 pub record Start : Type 0 where
@@ -43,15 +45,17 @@ abbrev pub starts : Config → List Event → List Start
 starts c [] = boot_start c ∷ []
 starts c (event ∷ past) = option_to_list (start_by event.op event.reply) ++ starts c past
 
--- the start that an operation with its reply enters
-abbrev pub entry_by : Op → Reply → Option Start
-entry_by Advance (Entry addr hart opaque) = Some (record { hart = hart; addr = addr; opaque = opaque })
-entry_by op reply = None
+-- the start that a step enters: an Advance that enters, of a hart whose start is pending
+abbrev pub entry_by : Op → Reply → (starting : Bool) → Option Start
+entry_by Advance (Entry addr hart opaque) starting =
+    if starting then Some (record { hart = hart; addr = addr; opaque = opaque }) else None
+entry_by op reply starting = None
 
--- The entries, newest first, as their replies tell them.
-abbrev pub entries : List Event → List Start
-entries [] = []
-entries (event ∷ past) = option_to_list (entry_by event.op event.reply) ++ entries past
+-- The entries of starts, newest first, as their replies tell them.
+abbrev pub entries : Config → List Event → List Start
+entries c [] = []
+entries c (event ∷ past) =
+    option_to_list (entry_by event.op event.reply (is_starting c past event.actor)) ++ entries c past
 
 abbrev pub is_of : ℕ → Start → Bool
 is_of h start = h == start.hart
@@ -67,9 +71,17 @@ pending c past h = if is_start_pending (state c past h) then Some (last_start c 
 abbrev pub all_pending : Config → List Event → List Start
 all_pending c past = filter_map (pending c past) (harts_of c)
 
--- what the firmware keeps of a pending start
+-- What is kept for a hart's entry, by its state: in START_PENDING its start (SBI 9.1), and in a suspend where it is to
+-- begin anew (SBI 9.4).
+abbrev pub kept_in : HartState → Start → (resume : Option Kept) → Option Kept
+kept_in states.StartPending start resume = Some (record { addr = start.addr; opaque = start.opaque })
+kept_in states.SuspendPending start resume = resume
+kept_in states.Suspended start resume = resume
+kept_in states.ResumePending start resume = resume
+kept_in s start resume = None
+
 abbrev pub kept : Config → List Event → ℕ → Option Kept
-kept c past h = option_map (λ start. record { addr = start.addr; opaque = start.opaque }) (pending c past h)
+kept c past h = kept_in (state c past h) (last_start c past h) (resume_point past h)
 
 -- a hart as its history makes it: its state, and what is kept for its entry
 abbrev pub hart_of : Config → List Event → ℕ → Hart
@@ -79,4 +91,4 @@ hart_of c past h = record { state = state c past h; kept = kept c past h }
 -- entered with its own address and opaque value.
 abbrev pub StartsAreEntered : Config → List Event → Type 0
 StartsAreEntered c past = (h : ℕ) →
-    filter (is_of h) (starts c past) ≡ option_to_list (pending c past h) ++ filter (is_of h) (entries past)
+    filter (is_of h) (starts c past) ≡ option_to_list (pending c past h) ++ filter (is_of h) (entries c past)

@@ -9,7 +9,7 @@ use Rattle.board_core.specs.Starts.{starts, entries, all_pending}
 abbrev pub totals : Config → List Event → Totals
 totals c past = record {
   starts = length (starts c past);
-  entries = length (entries past);
+  entries = length (entries c past);
   pending = length (all_pending c past);
   asked = 0;
   applied = 0;

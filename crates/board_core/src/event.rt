@@ -18,10 +18,20 @@ pub enum Actor {
 pub enum Op {
     /// A guest's call of the firmware (SBI 3).
     Ecall(Regs),
-    /// A guest enables its hart's interrupts, or disables them (Privileged, sstatus.SIE).
+    /// A guest writes sie (Privileged 4.1.3).
+    WriteSie(u64),
+    /// A guest enables its hart's interrupts, or disables them (Privileged 4.1.1, sstatus.SIE).
     WriteSstatusSie(bool),
+    /// A guest reads sip (Privileged 4.1.3).
+    ReadSip,
+    /// A guest clears SSIP of its hart (Privileged 4.1.3).
+    ClearSsip,
+    /// A guest waits for an interrupt, which has come (Privileged 3.3.3, WFI).
+    Wfi,
     /// The firmware brings its hart one state further (profile).
     Advance,
+    /// The time goes on by so many ticks (profile).
+    Tick(u64),
 }
 
 /// What an accepted step answers.
@@ -29,17 +39,21 @@ pub enum Op {
 pub enum Reply {
     /// The call returns.
     Ret(Sbiret),
+    /// The hart waits inside the call.
+    Waiting,
     /// The call doesn't return.
     Gone,
-    /// The hart begins at `addr`, with its id in a0 and `opaque` in a1 (SBI 9.1).
+    /// The hart begins at `addr`, with its id in a0 and `opaque` in a1 (SBI 9.1 and 9.4).
     Entry {
         /// The address.
         addr: u64,
         /// The hart's id.
         hart: u64,
-        /// The start's opaque value.
+        /// The opaque value of its start, or of its suspend.
         opaque: u64,
     },
+    /// The value that was read.
+    Value(u64),
     /// The hart's state is this one now (SBI 9).
     Moved(HartState),
     /// It is done.
@@ -55,6 +69,8 @@ pub enum Refusal {
     Nothing,
     /// The history has as many events as its limit.
     HistoryFull,
+    /// The time would go past 2^64-2 ticks.
+    TimeFull,
 }
 
 impl Refusal {
@@ -66,6 +82,7 @@ impl Refusal {
             Refusal::WrongPhase => 2,
             Refusal::Nothing => 3,
             Refusal::HistoryFull => 4,
+            Refusal::TimeFull => 5,
         }
     }
 }

@@ -6,10 +6,12 @@
 mod board;
 mod calls;
 mod config;
+mod csrs;
 mod event;
 mod machine;
 
 pub use board::{Board, Totals, starts_are_entered};
+pub use csrs::Sie;
 pub use config::{BuildFault, Config};
 pub use event::{Actor, Event, Op, Refusal, Reply};
 pub use hsm::{HartState, Kept};

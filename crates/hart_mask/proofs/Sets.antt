@@ -1,12 +1,12 @@
 -- Sets of ids by their tests: what proofs about code that uses sets cite.
 use Rattle.std.proofs.Common.{◌≡◌, ℕ, ◌<◌, Bool, true, false, List, [], ◌∷◌, ◌++◌, subst, refl, sym, ap, ◌∙◌, arith, inl, inr}
-use Rattle.std.specs.Prelude.{◌==◌, ◌||◌, ◌&&◌, not}
+use Rattle.std.specs.Prelude.{◌==◌, ◌||◌, ◌&&◌, not, if◌then◌else◌}
 use Rattle.std.specs.List.{All, Contains, range_with_len}
 use Rattle.std.proofs.lemmas.Bool.{both_ways, cases_lt, or_left, or_right}
 use Rattle.std.proofs.lemmas.List.Elements.{All-contains, All-filter, All-same, Contains-append_right}
 use Rattle.std.proofs.lemmas.List.Folds.{list_any-append}
 use Rattle.std.proofs.lemmas.List.FromFn.{get_or-range_with_len, length-range_with_len}
-use Rattle.hart_mask.specs.Ids.{IsIdSet, intersection_of, has, ids_where, union_of, with_id, without_id}
+use Rattle.hart_mask.specs.Ids.{IsIdSet, intersection_of, has, ids_where, union_of, with_bit, with_id, without_id}
 use Rattle.hart_mask.proofs.Below.{any-filter, any-filter_above, eqb-same, filter-agree}
 
 -- tests that agree on the ids give the same set
@@ -46,6 +46,10 @@ with_id-by p q id rule = with_id-ids_where p id ∙ ids_where-agree _ q rule
 
 pub without_id-by : (p q : ℕ → Bool) (id : ℕ) → ((i : ℕ) → i < 128 → (not (i == id) && p i) ≡ q i) → without_id (ids_where p) id ≡ ids_where q
 without_id-by p q id rule = without_id-ids_where p id ∙ ids_where-agree _ q rule
+
+pub with_bit-by : (p q : ℕ → Bool) (id : ℕ) (value : Bool) → ((i : ℕ) → i < 128 → (if i == id then value else p i) ≡ q i) → with_bit (ids_where p) id value ≡ ids_where q
+with_bit-by p q id value rule = ids_where-agree _ q (λ i below.
+    ap (λ b. if i == id then value else b) (has-ids_where p i below) ∙ rule i below)
 
 -- a rule for the ids of either set, or of both
 pub union-by : (p q r : ℕ → Bool) → ((i : ℕ) → i < 128 → (p i || q i) ≡ r i) → union_of (ids_where p) (ids_where q) ≡ ids_where r

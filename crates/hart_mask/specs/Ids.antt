@@ -1,5 +1,5 @@
 -- Sets of hart ids, each seen as the list of its ids in ascending order.
-use Rattle.std.specs.Prelude.{◌≡◌, ℕ, Bool, List, ◌==◌, ◌||◌, ◌&&◌, not, nat_lt, filter}
+use Rattle.std.specs.Prelude.{◌≡◌, ℕ, Bool, List, ◌==◌, ◌||◌, ◌&&◌, not, nat_lt, if◌then◌else◌, filter}
 use Rattle.std.specs.List.{list_any, range_with_len}
 
 -- The ids at which the test gives true, in ascending order; there are 128 ids (profile).
@@ -25,6 +25,10 @@ without_id ids id = ids_where (λ i. not (i == id) && has ids i)
 -- the ids below a number
 abbrev pub ids_below : ℕ → List ℕ
 ids_below n = ids_where (λ i. nat_lt i n)
+
+-- the set with one id in it, or out of it
+abbrev pub with_bit : List ℕ → ℕ → Bool → List ℕ
+with_bit ids id value = ids_where (λ i. if i == id then value else has ids i)
 
 -- the ids that are in one set or in the other
 abbrev pub union_of : List ℕ → List ℕ → List ℕ

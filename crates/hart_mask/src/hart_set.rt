@@ -1,6 +1,6 @@
 ghost use Rattle.std.specs.Prelude.{◌≡◌, ◌<◌, ◌≤◌, [], ◌∷◌, length, ◌==◌, IfSome, MatchOption};
 ghost use Rattle.hart_mask.specs.HartList.{named_by};
-ghost use Rattle.hart_mask.specs.Ids.{IsIdSet, intersection_of, has, ids_below, union_of, with_id, without_id};
+ghost use Rattle.hart_mask.specs.Ids.{IsIdSet, intersection_of, has, ids_below, union_of, with_bit, with_id, without_id};
 
 use crate::hart_ids::HartIds;
 use std::marker::Model;
@@ -125,6 +125,18 @@ impl HartSet {
     {
         HartSet {
             bits: self.bits & other.bits,
+        }
+    }
+
+    /// Puts hart `id` into the set where `value` is true, and else takes it out.
+    pub fn set(&mut self, id: u64, value: bool)
+        requires { id < 128 }
+        ensures { self.new ≡ with_bit self.old id value }
+    {
+        if value {
+            self.insert(id);
+        } else {
+            self.remove(id);
         }
     }
 

@@ -1,0 +1,87 @@
+-- Pending interrupts (SBI 6 and 7; Privileged 4.1.3).
+use Rattle.std.specs.Prelude.{ℕ, ◌+◌, List, [], ◌∷◌, Bool, false, ◌&&◌, ◌||◌, if◌then◌else◌, Option, Some, None}
+use Rattle.sbi_abi.specs.declared.call.Call.{Call}
+use Rattle.sbi_abi.specs.declared.call.Call.TheVariants.{SetTimer, SendIpi, HartStop}
+use Rattle.sbi_abi.specs.Calls.{call_of}
+use Rattle.sbi_abi.specs.Errors.{is_success}
+use Rattle.hart_mask.specs.HartList.{targets_of}
+use Rattle.hart_mask.specs.Ids.{has}
+use Rattle.hsm.specs.States.{is_interruptible}
+use Rattle.interrupts.specs.Timing.{is_due}
+use Rattle.board_core.specs.declared.config.Config.{Config}
+use Rattle.board_core.specs.declared.event.Event.{Event}
+use Rattle.board_core.specs.declared.event.Op.{Op}
+use Rattle.board_core.specs.declared.event.Op.TheVariants.{Ecall, ClearSsip, Tick}
+use Rattle.board_core.specs.declared.event.Reply.{Reply}
+use Rattle.board_core.specs.declared.event.Reply.TheVariants.{Ret, Gone}
+use Rattle.board_core.specs.Course.{is_hart}
+use Rattle.board_core.specs.Csrs.{latest, sie}
+use Rattle.board_core.specs.States.{is_start_entry, is_starting, state}
+
+-- ---- software interrupts
+
+-- whether a hart is one of the targets, if there are any
+abbrev pub is_target : Option (List ℕ) → ℕ → Bool
+is_target None h = false
+is_target (Some ids) h = has ids h
+
+-- Whether an IPI that succeeded reaches hart h: it names it, and the hart is in an interruptible state (SBI 7.1; that
+-- it skips other states: profile).
+abbrev pub reaches_by_call : Config → List Event → Call → Reply → ℕ → Bool
+reaches_by_call c past (SendIpi mask base) (Ret answer) h =
+    is_success answer && (is_target (targets_of mask base c.harts) h && is_interruptible (state c past h))
+reaches_by_call c past call reply h = false
+
+abbrev pub reaches_by : Config → List Event → Op → Reply → ℕ → Bool
+reaches_by c past (Ecall regs) reply h = reaches_by_call c past (call_of regs) reply h
+reaches_by c past op reply h = false
+
+-- A guest clears SSIP of its hart, and so does the entry of a start (profile).
+abbrev pub ssip_by : Op → Reply → (starting : Bool) → Option Bool
+ssip_by ClearSsip reply starting = Some false
+ssip_by op reply starting = if is_start_entry op reply starting then Some false else None
+
+-- Whether SSIP of a hart is 1: the last event that wrote it was an IPI.
+abbrev pub ssip : Config → List Event → ℕ → Bool
+ssip c [] h = false
+ssip c (event ∷ past) h =
+    reaches_by c past event.op event.reply h
+    || latest (ssip_by event.op event.reply (is_starting c past event.actor)) (is_hart h event.actor) (ssip c past h)
+
+-- ---- the timer
+
+abbrev pub ticks_by : Op → ℕ
+ticks_by (Tick n) = n
+ticks_by op = 0
+
+-- The time is the sum of the ticks (profile).
+abbrev pub time : List Event → ℕ
+time [] = 0
+time (event ∷ past) = time past + ticks_by event.op
+
+-- A call sets its hart's deadline (SBI 6.1), and a stop forgets it (profile).
+abbrev pub deadline_by_call : Call → Reply → Option (Option ℕ)
+deadline_by_call (SetTimer deadline) (Ret answer) = Some (Some deadline)
+deadline_by_call HartStop Gone = Some None
+deadline_by_call call reply = None
+
+-- The entry of a start forgets it too (profile).
+abbrev pub deadline_by : Op → Reply → (starting : Bool) → Option (Option ℕ)
+deadline_by (Ecall regs) reply starting = deadline_by_call (call_of regs) reply
+deadline_by op reply starting = if is_start_entry op reply starting then Some None else None
+
+-- The deadline of a hart: that of its last call for one, unless it was forgotten since.
+abbrev pub deadline : Config → List Event → ℕ → Option ℕ
+deadline c [] h = None
+deadline c (event ∷ past) h =
+    latest (deadline_by event.op event.reply (is_starting c past event.actor)) (is_hart h event.actor) (deadline c past h)
+
+-- Whether STIP of a hart is 1: it has a deadline, and the deadline has come (SBI 6.1; Privileged 4.1.3).
+abbrev pub stip : Config → List Event → ℕ → Bool
+stip c past h = is_due (time past) (deadline c past h)
+
+-- ---- wake
+
+-- A hart has wake where an interrupt is pending that sie enables, whatever sstatus.SIE is (Privileged 3.3.3, WFI).
+abbrev pub wake : Config → List Event → ℕ → Bool
+wake c past h = (ssip c past h && (sie c past h).ssie) || (stip c past h && (sie c past h).stie)

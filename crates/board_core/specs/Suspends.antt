@@ -1,0 +1,29 @@
+-- Where a suspended hart is to go on (SBI 9.4).
+use Rattle.std.specs.Prelude.{ℕ, List, [], ◌∷◌, Option, Some, None}
+use Rattle.sbi_abi.specs.declared.call.Call.{Call}
+use Rattle.sbi_abi.specs.declared.call.Call.TheVariants.{HartSuspend}
+use Rattle.sbi_abi.specs.Calls.{call_of}
+use Rattle.hsm.specs.declared.hart.Kept.{Kept}
+use Rattle.board_core.specs.declared.event.Event.{Event}
+use Rattle.board_core.specs.declared.event.Op.{Op}
+use Rattle.board_core.specs.declared.event.Op.TheVariants.{Ecall}
+use Rattle.board_core.specs.declared.event.Reply.{Reply}
+use Rattle.board_core.specs.declared.event.Reply.TheVariants.{Waiting, Gone}
+use Rattle.board_core.specs.Course.{is_hart}
+use Rattle.board_core.specs.Csrs.{latest}
+
+-- A suspend that doesn't return is non-retentive, and says where the hart begins anew; one that waits is retentive, and
+-- the hart returns from its call (SBI 9.4).
+abbrev pub resume_by_call : Call → Reply → Option (Option Kept)
+resume_by_call (HartSuspend kind addr opaque) Gone = Some (Some (record { addr = addr; opaque = opaque }))
+resume_by_call (HartSuspend kind addr opaque) Waiting = Some None
+resume_by_call call reply = None
+
+abbrev pub resume_by : Op → Reply → Option (Option Kept)
+resume_by (Ecall regs) reply = resume_by_call (call_of regs) reply
+resume_by op reply = None
+
+-- What the last suspend of a hart said of where it begins anew, if it did.
+abbrev pub resume_point : List Event → ℕ → Option Kept
+resume_point [] h = None
+resume_point (event ∷ past) h = latest (resume_by event.op event.reply) (is_hart h event.actor) (resume_point past h)

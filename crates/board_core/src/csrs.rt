@@ -1,0 +1,86 @@
+ghost use Rattle.std.specs.Prelude.{◌≡◌, ◌<◌, ◌+◌};
+ghost use Rattle.hart_mask.specs.Ids.{has, with_bit};
+ghost use Rattle.board_core.specs.Csrs.{bits_of, none_enabled, sie_of, value_of};
+
+use hart_mask::HartSet;
+
+/// The interrupts that a hart's sie enables, of those that a board has (Privileged 4.1.3).
+#[derive(Clone, Copy, Debug, PartialEq, Eq)]
+pub struct Sie {
+    /// Supervisor software interrupts: SSIE, bit 1.
+    pub ssie: bool,
+    /// Supervisor timer interrupts: STIE, bit 5.
+    pub stie: bool,
+}
+
+impl Sie {
+    /// No interrupt is enabled.
+    pub fn none() -> Sie
+        ensures { result ≡ none_enabled }
+    {
+        Sie {
+            ssie: false,
+            stie: false,
+        }
+    }
+
+    /// What sie keeps of a value that is written to it.
+    pub fn of(value: u64) -> Sie
+        ensures { result ≡ sie_of value }
+    {
+        Sie {
+            ssie: value >> 1 & 1 == 1,
+            stie: value >> 5 & 1 == 1,
+        }
+    }
+
+    /// sie as a guest reads it: SSIE in bit 1, and STIE in bit 5.
+    pub fn bits(self) -> u64
+        ensures { result ≡ bits_of self }
+    {
+        interrupt_bits(self.ssie, self.stie)
+    }
+}
+
+/// A software interrupt in bit 1, and a timer interrupt in bit 5, as in sie and sip (Privileged 4.1.3).
+pub fn interrupt_bits(software: bool, timer: bool) -> u64
+    ensures { result ≡ value_of software timer }
+{
+    let low = if software { 2 } else { 0 };
+    let high = if timer { 32 } else { 0 };
+    low + high
+}
+
+/// What the supervisor's registers of the harts hold, for each bit the harts at which it is 1.
+#[derive(Drop)]
+pub struct Csrs {
+    pub sstatus_sie: HartSet,
+    pub ssie: HartSet,
+    pub stie: HartSet,
+}
+
+impl Csrs {
+    /// sie of hart `h`.
+    pub fn sie(&self, h: u64) -> Sie
+        requires { h < 128 }
+        ensures { result ≡ record { ssie = has self.now.ssie h; stie = has self.now.stie h } }
+    {
+        Sie {
+            ssie: self.ssie.contains(h),
+            stie: self.stie.contains(h),
+        }
+    }
+
+    /// Writes sie of hart `h`.
+    pub fn write_sie(&mut self, h: u64, sie: Sie)
+        requires { h < 128 }
+        ensures { self.new ≡ record {
+            sstatus_sie = self.old.sstatus_sie;
+            ssie = with_bit self.old.ssie h sie.ssie;
+            stie = with_bit self.old.stie h sie.stie;
+        } }
+    {
+        self.ssie.set(h, sie.ssie);
+        self.stie.set(h, sie.stie);
+    }
+}
