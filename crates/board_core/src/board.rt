@@ -1,11 +1,14 @@
-ghost use Rattle.std.specs.Prelude.{◌≡◌, ◌<◌, ◌≤◌, ◌↔◌, List, [], IfOk, IsErrOf, length, reverse};
+ghost use Rattle.std.specs.Prelude.{◌≡◌, ◌<◌, ◌≤◌, ◌↔◌, List, [], not, IfOk, IsErrOf, length, reverse};
 ghost use Rattle.hsm.specs.declared.hart.HartState.{HartState};
+ghost use Rattle.interrupts.specs.Timing.{last_time};
 ghost use Rattle.board_core.specs.declared.config.BuildFault.TheVariants.{BadConfig};
 ghost use Rattle.board_core.specs.declared.config.Config.{Config};
 ghost use Rattle.board_core.specs.declared.event.Event.{Event};
-ghost use Rattle.board_core.specs.Csrs.{sstatus_sie};
+ghost use Rattle.board_core.specs.declared.event.Actor.TheVariants.{Hart, Clock};
+ghost use Rattle.board_core.specs.Csrs.{sie, sstatus_sie};
+ghost use Rattle.board_core.specs.Interrupts.{deadline, ssip, stip, time, wake};
 ghost use Rattle.board_core.specs.Limits.{IsGood};
-ghost use Rattle.board_core.specs.Refusals.{first_that_holds, refusals_in};
+ghost use Rattle.board_core.specs.Refusals.{first_that_holds, has_nothing_to_do, is_full, refusals_in};
 ghost use Rattle.board_core.specs.States.{state};
 ghost use Rattle.board_core.specs.Starts.{kept, StartsAreEntered};
 ghost use Rattle.board_core.specs.Replies.{answer, stepped, IsLegal};
@@ -14,9 +17,11 @@ ghost use Rattle.board_core.specs.Stands.{StandsFor};
 
 use crate::config::{BuildFault, Config};
 use crate::event::{Actor, Event, Op, Refusal, Reply};
-use crate::machine::{Counts, Csrs, Machine, perform};
+use crate::csrs::{Csrs, Sie};
+use crate::machine::{Counts, Machine, perform};
 use hart_mask::HartSet;
 use hsm::{HartState, Hsm, Kept};
+use interrupts::{Ipis, Timers};
 use std::alloc::{AllocError, Global};
 use std::marker::Model;
 
@@ -87,20 +92,58 @@ impl Board {
         ensures answer { result ≡ answer self.old.config self.old.past actor op }
         ensures after { self.new ≡ stepped self.old actor op }
     {
-        let Actor::Hart(id) = actor else {
-            return Err(Refusal::WrongPhase);
-        };
-        if id >= self.config.harts {
+        match actor {
+            Actor::Hart(h) => self.hart_step(h, op),
+            Actor::Clock => self.clock_step(op),
+        }
+    }
+
+    /// One step of hart `h`.
+    fn hart_step(&mut self, h: u64, op: Op) -> Result<Reply, Refusal>
+        ensures answer { result ≡ answer self.old.config self.old.past (Hart h) op }
+        ensures after { self.new ≡ stepped self.old (Hart h) op }
+    {
+        if h >= self.config.harts {
             return Err(Refusal::WrongPhase);
         }
-        let state = self.state(id);
-        let is_full = self.events.len() as u64 == self.config.limit;
-        if let Some(refusal) = refusal(state, op, is_full) {
+        let wake = self.wake(h);
+        if let Some(refusal) = refusal(self.state(h), wake, op, self.is_full()) {
             return Err(refusal);
         }
-        let reply = perform(&mut self.machine, &self.config, id, op);
+        let reply = perform(&mut self.machine, &self.config, h, wake, op);
+        let actor = Actor::Hart(h);
         self.events.push_reserved(Event { actor, op, reply });
         Ok(reply)
+    }
+
+    /// One step of the clock, which only ticks.
+    fn clock_step(&mut self, op: Op) -> Result<Reply, Refusal>
+        ensures answer { result ≡ answer self.old.config self.old.past Clock op }
+        ensures after { self.new ≡ stepped self.old Clock op }
+    {
+        let Op::Tick(n) = op else {
+            return Err(Refusal::WrongPhase);
+        };
+        if self.is_full() {
+            return Err(Refusal::HistoryFull);
+        }
+        if self.machine.timers.tick(n).is_err() {
+            return Err(Refusal::TimeFull);
+        }
+        let event = Event {
+            actor: Actor::Clock,
+            op,
+            reply: Reply::Done,
+        };
+        self.events.push_reserved(event);
+        Ok(Reply::Done)
+    }
+
+    /// Whether the history holds as many events as it may.
+    fn is_full(&self) -> bool
+        ensures { result ≡ is_full self.now.config self.now.past }
+    {
+        self.events.len() as u64 == self.config.limit
     }
 
     /// The accepted events, oldest first: a legal history, within the limit.
@@ -128,7 +171,7 @@ impl Board {
         self.machine.hsm.status(h)
     }
 
-    /// Where hart `h` begins, while its start is pending.
+    /// Where hart `h` begins, while its start is pending, or while it is in a non-retentive suspend.
     pub fn kept(&self, h: u64) -> Option<Kept>
         requires { h < self.now.config.harts }
         ensures { result ≡ kept self.now.config self.now.past h }
@@ -136,12 +179,60 @@ impl Board {
         self.machine.hsm.kept(h)
     }
 
-    /// Whether sstatus.SIE of hart `h` is 1 (Privileged, sstatus).
+    /// Whether sstatus.SIE of hart `h` is 1 (Privileged 4.1.1).
     pub fn sstatus_sie(&self, h: u64) -> bool
         requires { h < self.now.config.harts }
         ensures { result ≡ sstatus_sie self.now.past h }
     {
         self.machine.csrs.sstatus_sie.contains(h)
+    }
+
+    /// The interrupts that sie of hart `h` enables (Privileged 4.1.3).
+    pub fn sie(&self, h: u64) -> Sie
+        requires { h < self.now.config.harts }
+        ensures { result ≡ sie self.now.config self.now.past h }
+    {
+        self.machine.csrs.sie(h)
+    }
+
+    /// Whether SSIP of hart `h` is 1: a software interrupt is pending (Privileged 4.1.3, SBI 7).
+    pub fn ssip(&self, h: u64) -> bool
+        requires { h < self.now.config.harts }
+        ensures { result ≡ ssip self.now.config self.now.past h }
+    {
+        self.machine.ipis.pending(h)
+    }
+
+    /// Whether STIP of hart `h` is 1: its deadline has come (Privileged 4.1.3, SBI 6).
+    pub fn stip(&self, h: u64) -> bool
+        requires { h < self.now.config.harts }
+        ensures { result ≡ stip self.now.config self.now.past h }
+    {
+        self.machine.timers.pending(h)
+    }
+
+    /// Whether an interrupt is pending at hart `h` that its sie enables (Privileged 3.3.3, WFI).
+    pub fn wake(&self, h: u64) -> bool
+        requires { h < self.now.config.harts }
+        ensures { result ≡ wake self.now.config self.now.past h }
+    {
+        self.machine.wake(h)
+    }
+
+    /// The deadline of hart `h`, in ticks, if it has one (SBI 6.1).
+    pub fn deadline(&self, h: u64) -> Option<u64>
+        requires { h < self.now.config.harts }
+        ensures { result ≡ deadline self.now.config self.now.past h }
+    {
+        self.machine.timers.deadline(h)
+    }
+
+    /// The time, in ticks since the opening: at most 2^64-2 (profile).
+    pub fn time(&self) -> u64
+        ensures time { result ≡ time self.now.past }
+        ensures within { result ≤ last_time }
+    {
+        self.machine.timers.time()
     }
 
     /// The counts of the board's table. For each hart, its accepted starts are its entries followed by its
@@ -177,24 +268,36 @@ fn opening(alloc: Global, config: &Config) -> Result<Machine, AllocError>
         opaque: config.boot_opaque,
     };
     let hsm = Hsm::new(alloc, config.harts, config.boot_hart, boot)?;
+    let timers = Timers::new(alloc, config.harts)?;
     let csrs = Csrs {
         sstatus_sie: HartSet::new(),
+        ssie: HartSet::new(),
+        stie: HartSet::new(),
     };
     let counts = Counts {
         starts: 1,
         entries: 0,
     };
-    Ok(Machine { hsm, csrs, counts })
+    Ok(Machine {
+        hsm,
+        csrs,
+        ipis: Ipis::new(),
+        timers,
+        counts,
+    })
 }
 
-/// The first refusal of an operation of a hart in this state.
-fn refusal(state: HartState, op: Op, is_full: bool) -> Option<Refusal>
-    ensures { result ≡ first_that_holds (refusals_in state op is_full) }
+/// The first refusal of an operation of a hart in this state, with or without wake.
+fn refusal(state: HartState, wake: bool, op: Op, is_full: bool) -> Option<Refusal>
+    ensures { result ≡ first_that_holds (refusals_in state wake op is_full) }
 {
     let is_started = state == HartState::Started;
     let (in_phase, has_work) = match op {
-        Op::Ecall(_) | Op::WriteSstatusSie(_) => (is_started, true),
-        Op::Advance => (!is_started, state != HartState::Stopped),
+        Op::Ecall(_) | Op::WriteSie(_) | Op::WriteSstatusSie(_) => (is_started, true),
+        Op::ReadSip | Op::ClearSsip => (is_started, true),
+        Op::Wfi => (is_started, wake),
+        Op::Advance => (!is_started, can_advance(state, wake)),
+        Op::Tick(_) => (false, true),
     };
     if !in_phase {
         Some(Refusal::WrongPhase)
@@ -204,5 +307,16 @@ fn refusal(state: HartState, op: Op, is_full: bool) -> Option<Refusal>
         Some(Refusal::HistoryFull)
     } else {
         None
+    }
+}
+
+/// Whether the firmware can bring a hart further from this state, with or without wake.
+fn can_advance(state: HartState, wake: bool) -> bool
+    ensures { result ≡ not (has_nothing_to_do Op.Advance state wake) }
+{
+    match state {
+        HartState::Stopped => false,
+        HartState::Suspended => wake,
+        _ => true,
     }
 }

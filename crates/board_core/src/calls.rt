@@ -154,7 +154,7 @@ fn hart_suspend(
 
 /// Tells the state of hart `t` (SBI 9.3).
 fn hart_get_status(machine: &Machine, config: &Config, t: u64) -> Reply
-    requires { length machine.now.hsm ≡ config.now.harts }
+    requires { IsSized config.now machine.now }
     ensures { (x : ℕ) (past : List Event) → StandsFor config.now past machine.now →
         result ≡ call_reply config.now past x (calls.HartGetStatus t) }
 {
