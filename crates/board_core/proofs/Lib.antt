@@ -1,5 +1,6 @@
 pub mod Tables
 pub mod Events
-pub mod Rows
 pub mod Standing
+pub mod Rows
+pub mod Steps
 pub mod StartsLaw

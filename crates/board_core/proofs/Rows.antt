@@ -1,19 +1,29 @@
--- What the rows of the table of states say of a hart's state.
-use Rattle.std.proofs.Common.{◌≡◌, ℕ, Bool, true, false, List, [], ◌∷◌, refl, sym, ap, ◌∙◌}
-use Rattle.std.specs.Prelude.{Option, Some, None, not, is_some, option_map, if◌then◌else◌}
-use Rattle.sbi_abi.specs.declared.answer.SbiError.{SbiError}
+-- What the rows of the table of states say of a hart.
+use Rattle.std.proofs.Common.{◌≡◌, ℕ, ◌<◌, Bool, true, false, List, [], ◌∷◌, length, subst, refl, sym, ap, ◌∙◌}
+use Rattle.std.proofs.lemmas.Option.{same_Some}
+use Rattle.std.specs.Prelude.{Option, Some, None, is_some, option_map, slice_set}
 use Rattle.hsm.specs.declared.hart.HartState.{HartState}
-use Rattle.hsm.specs.declared.hart.HartState.TheVariants.{Started, Stopped, StartPending, StopPending}
+use Rattle.hsm.specs.declared.hart.HartState.TheVariants.{Started, Stopped, StartPending, StopPending, Suspended, SuspendPending, ResumePending}
 use Rattle.hsm.specs.declared.hart.Kept.{Kept}
 use Rattle.hsm.specs.declared.hart.Moved.{Moved}
-use Rattle.hsm.specs.declared.hart.Moved.TheVariants.{Entered, To}
-use Rattle.hsm.specs.Harts.{Hart}
-use Rattle.hsm.specs.States.{is_pending}
-use Rattle.hsm.specs.Transitions.{Step, advanced_from, started_from}
+use Rattle.hsm.specs.declared.hart.Moved.TheVariants as moves
+use Rattle.hsm.specs.Harts.{Hart, running}
+use Rattle.hsm.specs.States.{goes_on, is_start_pending}
+use Rattle.hsm.specs.Transitions.{Step, advanced, advanced_from, changed, hart_at, resumed, started_from}
+use Rattle.board_core.specs.declared.config.Config.{Config}
+use Rattle.board_core.specs.declared.event.Event.{Event}
 use Rattle.board_core.specs.declared.event.Op.{Op}
+use Rattle.board_core.specs.declared.event.Op.TheVariants.{Advance}
 use Rattle.board_core.specs.declared.event.Refusal.TheVariants.{WrongPhase, Nothing, HistoryFull}
-use Rattle.board_core.specs.Refusals.{IsAccepted, first_that_holds, has_nothing_to_do, is_out_of_phase, refusals_in}
-use Rattle.board_core.specs.States.{is_started, is_stopped}
+use Rattle.board_core.specs.declared.event.Reply.{Reply}
+use Rattle.board_core.specs.declared.event.Reply.TheVariants as replies
+use Rattle.board_core.specs.Refusals.{IsAccepted, first_that_holds, has_nothing_to_do, is_out_of_phase, is_stopped, refusals_in}
+use Rattle.board_core.specs.Replies.{advance_reply, success}
+use Rattle.board_core.specs.Starts.{Start, hart_of, kept_in, last_start}
+use Rattle.board_core.specs.Stands.{HartsStand}
+use Rattle.board_core.specs.States.{state}
+use Rattle.board_core.specs.Suspends.{resume_point}
+use Rattle.board_core.proofs.Standing.{hart_at-inside}
 
 -- a hart that a start moves was STOPPED, and one that it doesn't wasn't
 pub started_stopped : (kept : Kept) (s : HartState) → true ≡ is_some (started_from kept s) → s ≡ Stopped
@@ -21,17 +31,31 @@ started_stopped kept Stopped started = refl
 started_stopped kept Started started = cc
 started_stopped kept StartPending started = cc
 started_stopped kept StopPending started = cc
+started_stopped kept Suspended started = cc
+started_stopped kept SuspendPending started = cc
+started_stopped kept ResumePending started = cc
 
 pub unstarted_not_stopped : (kept : Kept) (s : HartState) → false ≡ is_some (started_from kept s) → is_stopped s ≡ false
 unstarted_not_stopped kept Stopped unstarted = cc
 unstarted_not_stopped kept Started unstarted = refl
 unstarted_not_stopped kept StartPending unstarted = refl
 unstarted_not_stopped kept StopPending unstarted = refl
+unstarted_not_stopped kept Suspended unstarted = refl
+unstarted_not_stopped kept SuspendPending unstarted = refl
+unstarted_not_stopped kept ResumePending unstarted = refl
+
+pub unstarted_same : (kept : Kept) (s : HartState) → false ≡ is_some (started_from kept s) → started_from kept s ≡ None
+unstarted_same kept Stopped unstarted = cc
+unstarted_same kept Started unstarted = refl
+unstarted_same kept StartPending unstarted = refl
+unstarted_same kept StopPending unstarted = refl
+unstarted_same kept Suspended unstarted = refl
+unstarted_same kept SuspendPending unstarted = refl
+unstarted_same kept ResumePending unstarted = refl
 
 -- what isn't refused is in its phase, and has something to do
-pub unrefused : (op : Op) (s : HartState) (is_full : Bool) → first_that_holds (refusals_in s op is_full) ≡ None
-    → IsAccepted op s
-unrefused op s is_full none = let fails = both_fail (is_out_of_phase op s) (has_nothing_to_do op s) none in record { in_phase = fails.0; to_do = fails.1 }
+pub unrefused : (op : Op) (s : HartState) (wake is_full : Bool) → first_that_holds (refusals_in s wake op is_full) ≡ None → IsAccepted op s wake
+unrefused op s wake is_full none = let fails = both_fail (is_out_of_phase op s) (has_nothing_to_do op s wake) none in record { in_phase = fails.0; to_do = fails.1 }
   where
     both_fail : (first second : Bool) → first_that_holds ((first, WrongPhase) ∷ (second, Nothing) ∷ (is_full, HistoryFull) ∷ []) ≡ None
         → (first ≡ false) × (second ≡ false)
@@ -39,27 +63,78 @@ unrefused op s is_full none = let fails = both_fail (is_out_of_phase op s) (has_
     both_fail false true none = cc
     both_fail false false none = (refl, refl)
 
--- a hart that is neither STARTED nor STOPPED is on its way
-pub pending_between : (s : HartState) → is_started s ≡ false → is_stopped s ≡ false → is_pending s ≡ true
-pending_between Started running at_rest = cc
-pending_between Stopped running at_rest = cc
-pending_between StartPending running at_rest = refl
-pending_between StopPending running at_rest = refl
+-- a hart whose Advance is accepted goes on
+pub accepted_goes_on : (wake : Bool) (s : HartState) → IsAccepted Advance s wake → goes_on wake s ≡ true
+accepted_goes_on wake Started ready = absurd (let e = ready.in_phase in cc)
+accepted_goes_on wake Stopped ready = absurd (let e = ready.to_do in cc)
+accepted_goes_on wake StartPending ready = refl
+accepted_goes_on wake StopPending ready = refl
+accepted_goes_on true Suspended ready = refl
+accepted_goes_on false Suspended ready = absurd (let e = ready.to_do in cc)
+accepted_goes_on wake SuspendPending ready = refl
+accepted_goes_on wake ResumePending ready = refl
 
--- only a hart whose start is pending is entered, with what it kept
-pub entered_row : (s : HartState) (kept : Option Kept) (start : Kept)
-    → option_map (λ (step : Step). step.moved) (advanced_from s kept) ≡ Some (Entered start) → (s ≡ StartPending) × (kept ≡ Some start)
-entered_row StartPending (Some k) start is = (refl, cc)
-entered_row StartPending None start is = cc
-entered_row Started kept start is = cc
-entered_row Stopped kept start is = cc
-entered_row StopPending kept start is = cc
+-- ---- the Advance of hart x
 
--- only a hart whose stop is pending comes to another state, and to rest
-pub moved_row : (s : HartState) (kept : Option Kept) (to : HartState)
-    → option_map (λ (step : Step). step.moved) (advanced_from s kept) ≡ Some (To to) → (s ≡ StopPending) × (to ≡ Stopped)
-moved_row StartPending (Some k) to is = cc
-moved_row StartPending None to is = cc
-moved_row Started kept to is = cc
-moved_row Stopped kept to is = cc
-moved_row StopPending kept to is = (refl, cc)
+-- the reply to what a step tells, the state that it brings to, and whether it enters a start
+abbrev pub reply_of : (x : ℕ) → Moved → Reply
+reply_of x (moves.Entered start) = replies.Entry start.addr x start.opaque
+reply_of x (moves.Resumed resume) = replies.Entry resume.addr x resume.opaque
+reply_of x moves.Returned = replies.Ret (success 0)
+reply_of x (moves.To s) = replies.Moved s
+
+abbrev pub state_after : Moved → HartState
+state_after (moves.Entered start) = Started
+state_after (moves.Resumed resume) = Started
+state_after moves.Returned = Started
+state_after (moves.To s) = s
+
+abbrev pub is_entered : Moved → Bool
+is_entered (moves.Entered start) = true
+is_entered moved = false
+
+-- a row of the table, by what the past says of the hart: the reply, the hart afterwards, and whether it is an entry
+pub record Row (x : ℕ) (s : HartState) (start : Start) (resume : Option Kept) (moved : Moved) (hart : Hart) : Type 0 where
+  pub reply : reply_of x moved ≡ advance_reply x s start resume
+  pub after : hart ≡ record { state = state_after moved; kept = kept_in (state_after moved) start resume }
+  pub enters : is_start_pending s ≡ is_entered moved
+
+resume_row : (x : ℕ) (start : Start) (resume : Option Kept) → Row x ResumePending start resume (resumed resume) running
+resume_row x start None = record { reply = refl; after = refl; enters = refl }
+resume_row x start (Some kept) = record { reply = refl; after = refl; enters = refl }
+
+module _ (x : ℕ) (start : Start) (resume : Option Kept) where
+  row : (wake : Bool) (s : HartState) (step : Step) → advanced_from wake s (kept_in s start resume) ≡ Some step → Row x s start resume step.moved step.hart
+  row wake Started step is = absurd cc
+  row wake Stopped step is = absurd cc
+  row wake StartPending step is = subst (λ st. Row x StartPending start resume st.moved st.hart) (same_Some _ _ is) (record { reply = refl; after = refl; enters = refl })
+  row wake StopPending step is = subst (λ st. Row x StopPending start resume st.moved st.hart) (same_Some _ _ is) (record { reply = refl; after = refl; enters = refl })
+  row wake SuspendPending step is = subst (λ st. Row x SuspendPending start resume st.moved st.hart) (same_Some _ _ is) (record { reply = refl; after = refl; enters = refl })
+  row true Suspended step is = subst (λ st. Row x Suspended start resume st.moved st.hart) (same_Some _ _ is) (record { reply = refl; after = refl; enters = refl })
+  row false Suspended step is = absurd cc
+  row wake ResumePending step is = subst (λ st. Row x ResumePending start resume st.moved st.hart) (same_Some _ _ is) (resume_row x start resume)
+
+-- what a step of the hart's firmware told, by the past
+pub record Told (c : Config) (past : List Event) (harts : List Hart) (x : ℕ) (wake : Bool) (moved : Moved) : Type 0 where
+  pub reply : reply_of x moved ≡ advance_reply x (state c past x) (last_start c past x) (resume_point past x)
+  pub after : changed harts x (option_map (λ (step : Step). step.hart) (advanced wake (hart_at harts x)))
+      ≡ slice_set harts x (record { state = state_after moved; kept = kept_in (state_after moved) (last_start c past x) (resume_point past x) })
+  pub enters : is_start_pending (state c past x) ≡ is_entered moved
+
+module _ (c : Config) (past : List Event) (harts : List Hart) (x : ℕ) (wake : Bool) (moved : Moved) where
+  pub told : HartsStand c past harts → x < length harts → option_map (λ (step : Step). step.moved) (advanced wake (hart_at harts x)) ≡ Some moved → Told c past harts x wake moved
+  told stand inside is = by_step (advanced wake (hart_at harts x)) refl is
+    where
+      own : advanced wake (hart_at harts x) ≡ advanced_from wake (state c past x) (kept_in (state c past x) (last_start c past x) (resume_point past x))
+      own = ap (advanced wake) (hart_at-inside c past harts stand x inside)
+
+      by_step : (o : Option Step) → advanced wake (hart_at harts x) ≡ o → option_map (λ (step : Step). step.moved) o ≡ Some moved → Told c past harts x wake moved
+      by_step None at e = absurd cc
+      by_step (Some step) at e =
+          let same : step.moved ≡ moved = same_Some step.moved moved e in
+          let r = row x (last_start c past x) (resume_point past x) wake (state c past x) step (sym own ∙ at) in
+          subst (Told c past harts x wake) same (record {
+            reply = r.reply;
+            after = ap (λ o. changed harts x (option_map (λ (st : Step). st.hart) o)) at ∙ ap (slice_set harts x) r.after;
+            enters = r.enters;
+          })

@@ -1,32 +1,37 @@
 -- In a legal history the starts of a hart are its entries and then its pending one.
 use Rattle.std.proofs.Common.{◌≡◌, ℕ, Bool, true, false, List, [], ◌∷◌, ◌++◌, refl, sym, ap, ◌∙◌, eqb}
-use Rattle.std.specs.Prelude.{Option, Some, None, Ok, filter, find, nat_le, length, ◌==◌, not, if◌then◌else◌, unwrap_or}
+use Rattle.std.specs.Prelude.{Option, Some, None, Result, Ok, Err, filter, find, nat_le, length, ◌==◌, not, if◌then◌else◌, unwrap_or}
 use Rattle.std.specs.Option.{option_to_list}
 use Rattle.std.proofs.lemmas.Bool.{eqb-true}
 use Rattle.sbi_abi.specs.declared.answer.SbiError.{SbiError}
 use Rattle.sbi_abi.specs.declared.answer.SbiError.TheVariants.{InvalidParam, InvalidAddress, AlreadyAvailable, Failed}
 use Rattle.sbi_abi.specs.declared.call.Call.{Call}
 use Rattle.sbi_abi.specs.declared.call.Call.TheVariants as calls
+use Rattle.sbi_abi.specs.declared.suspend.SuspendKind.{SuspendKind}
+use Rattle.sbi_abi.specs.declared.suspend.SuspendKind.TheVariants.{Retentive, NonRetentive}
 use Rattle.sbi_abi.specs.Calls.{call_of}
 use Rattle.hsm.specs.declared.hart.HartState.{HartState}
-use Rattle.hsm.specs.declared.hart.HartState.TheVariants.{Started, Stopped, StartPending, StopPending}
+use Rattle.hsm.specs.declared.hart.HartState.TheVariants.{Started, Stopped, StartPending, StopPending, Suspended, SuspendPending, ResumePending}
+use Rattle.hsm.specs.declared.hart.Kept.{Kept}
 use Rattle.hsm.specs.States.{is_start_pending}
 use Rattle.board_core.specs.declared.config.Config.{Config}
 use Rattle.board_core.specs.declared.event.Actor.{Actor}
 use Rattle.board_core.specs.declared.event.Actor.TheVariants.{Hart, Clock}
 use Rattle.board_core.specs.declared.event.Event.{Event}
 use Rattle.board_core.specs.declared.event.Op.{Op}
-use Rattle.board_core.specs.declared.event.Op.TheVariants.{Ecall, WriteSstatusSie, Advance}
+use Rattle.board_core.specs.declared.event.Op.TheVariants.{Ecall, WriteSie, WriteSstatusSie, ReadSip, ClearSsip, Wfi, Advance, Tick}
 use Rattle.board_core.specs.declared.event.Refusal.{Refusal}
 use Rattle.board_core.specs.declared.event.Refusal.TheVariants.{WrongPhase}
 use Rattle.board_core.specs.declared.event.Reply.{Reply}
-use Rattle.board_core.specs.declared.event.Reply.TheVariants.{Ret, Gone, Entry, Moved, Done}
+use Rattle.board_core.specs.declared.event.Reply.TheVariants.{Ret, Waiting, Gone, Entry}
 use Rattle.board_core.specs.Csrs.{sstatus_sie}
 use Rattle.board_core.specs.Limits.{is_start_address}
-use Rattle.board_core.specs.Refusals.{IsAccepted, first_that_holds, refusals, refusals_in}
-use Rattle.board_core.specs.Replies.{IsLegal, advance_reply, answer, call_reply, failure, refused_or, reply, start_errors, success, unless}
+use Rattle.board_core.specs.Refusals.{IsAccepted, first_that_holds, is_full, is_started, is_stopped, refusals, refusals_in}
+use Rattle.board_core.specs.Interrupts.{wake}
+use Rattle.board_core.specs.Suspends.{resume_point}
+use Rattle.board_core.specs.Replies.{IsLegal, advance_reply, answer, call_reply, failure, refused_or, reply, resume_reply, suspend_reply, unless}
 use Rattle.board_core.specs.Starts.{Start, StartsAreEntered, boot_start, entries, entry_by, is_of, last_start, pending, start_by_call, starts}
-use Rattle.board_core.specs.States.{Move, is_started, is_stopped, move_by, move_by_call, moved_to, state}
+use Rattle.board_core.specs.States.{Move, move_by, move_by_call, moved_to, state}
 use Rattle.board_core.proofs.Events.{is_success-failure}
 use Rattle.board_core.proofs.Rows.{unrefused}
 
@@ -40,13 +45,13 @@ filter-first p (x ∷ xs) y ys e = by_test (p x) refl (filter-first p xs y ys)
     by_test false is later = later (rw is at e)
 
 -- an accepted operation was not refused, and has its reply
-accepted : (missing : Bool) (s : HartState) (op : Op) (is_full : Bool) (r r' : Reply)
-    → refused_or (first_that_holds ((missing, WrongPhase) ∷ refusals_in s op is_full)) r ≡ Ok r' → IsAccepted op s × (r ≡ r')
-accepted true s op is_full r r' e = cc
-accepted false s op is_full r r' e = by_refusal (first_that_holds (refusals_in s op is_full)) refl e
+accepted : (missing : Bool) (s : HartState) (wake : Bool) (op : Op) (is_full : Bool) (r r' : Reply)
+    → refused_or (first_that_holds ((missing, WrongPhase) ∷ refusals_in s wake op is_full)) r ≡ Ok r' → IsAccepted op s wake × (r ≡ r')
+accepted true s wake op is_full r r' e = cc
+accepted false s wake op is_full r r' e = by_refusal (first_that_holds (refusals_in s wake op is_full)) refl e
   where
-    by_refusal : (o : Option Refusal) → first_that_holds (refusals_in s op is_full) ≡ o → refused_or o r ≡ Ok r' → IsAccepted op s × (r ≡ r')
-    by_refusal None is same = (unrefused op s is_full is, cc)
+    by_refusal : (o : Option Refusal) → first_that_holds (refusals_in s wake op is_full) ≡ o → refused_or o r ≡ Ok r' → IsAccepted op s wake × (r ≡ r')
+    by_refusal None is same = (unrefused op s wake is_full is, cc)
     by_refusal (Some refusal) is same = cc
 
 -- a guest runs where its hart is STARTED
@@ -55,6 +60,9 @@ calling Started running = refl
 calling Stopped running = cc
 calling StartPending running = cc
 calling StopPending running = cc
+calling Suspended running = cc
+calling SuspendPending running = cc
+calling ResumePending running = cc
 
 -- the start that an entry's reply tells is the last start of its hart
 entered_start : (start : Start) (x addr hart opaque : ℕ) → x ≡ start.hart
@@ -93,7 +101,7 @@ module _ (s : HartState) (theirs entered : List Start) (found : Option Start) (b
 module _ (c : Config) where
   -- the law for one hart
   IsEntered : List Event → ℕ → Type 0
-  IsEntered past h = filter (is_of h) (starts c past) ≡ option_to_list (pending c past h) ++ filter (is_of h) (entries past)
+  IsEntered past h = filter (is_of h) (starts c past) ≡ option_to_list (pending c past h) ++ filter (is_of h) (entries c past)
 
   at_opening : (h : ℕ) → IsEntered [] h
   unfolding IsEntered
@@ -110,7 +118,7 @@ module _ (c : Config) where
     IsEnteredBy move start entry =
         filter (is_of h) (option_to_list start ++ starts c past)
         ≡ option_to_list (if is_start_pending (moved_to move h (state c past h)) then Some (unwrap_or (find (is_of h) (option_to_list start ++ starts c past)) (boot_start c)) else None)
-        ++ filter (is_of h) (option_to_list entry ++ entries past)
+        ++ filter (is_of h) (option_to_list entry ++ entries c past)
 
     quiet : IsEnteredBy None None None
     unfolding IsEntered IsEnteredBy
@@ -120,14 +128,14 @@ module _ (c : Config) where
         → IsEnteredBy (Some (record { hart = t; state = StartPending })) (Some (record { hart = t; addr = addr; opaque = opaque })) None
     unfolding IsEntered IsEnteredBy pending_of
     started t addr opaque stopped =
-        by_start (state c past h) (filter (is_of h) (starts c past)) (filter (is_of h) (entries past)) (find (is_of h) (starts c past)) (boot_start c)
+        by_start (state c past h) (filter (is_of h) (starts c past)) (filter (is_of h) (entries c past)) (find (is_of h) (starts c past)) (boot_start c)
         (record { hart = t; addr = addr; opaque = opaque }) (eqb h t) (λ own. ap (state c past) (eqb-true h t own) ∙ stopped) (before h)
 
     settled : (x : ℕ) (to : HartState) → is_start_pending to ≡ false → is_start_pending (state c past x) ≡ false
         → IsEnteredBy (Some (record { hart = x; state = to })) None None
     unfolding IsEntered IsEnteredBy pending_of
     settled x to at_end was =
-        by_move (state c past h) (filter (is_of h) (starts c past)) (filter (is_of h) (entries past)) (find (is_of h) (starts c past)) (boot_start c)
+        by_move (state c past h) (filter (is_of h) (starts c past)) (filter (is_of h) (entries c past)) (find (is_of h) (starts c past)) (boot_start c)
         to (eqb h x) at_end (λ own. ap (λ n. is_start_pending (state c past n)) (eqb-true h x own) ∙ was) (before h)
 
     entered : (x addr hart opaque : ℕ) → state c past x ≡ StartPending
@@ -136,16 +144,16 @@ module _ (c : Config) where
     unfolding IsEntered IsEnteredBy pending_of
     entered x addr hart opaque ready told =
         let start = last_start c past x in
-        let theirs = before x ∙ ap (λ s. option_to_list (if is_start_pending s then Some start else None) ++ filter (is_of x) (entries past)) ready in
-        let own = eqb-true x start.hart (filter-first (is_of x) (starts c past) start (filter (is_of x) (entries past)) theirs) in
+        let theirs = before x ∙ ap (λ s. option_to_list (if is_start_pending s then Some start else None) ++ filter (is_of x) (entries c past)) ready in
+        let own = eqb-true x start.hart (filter-first (is_of x) (starts c past) start (filter (is_of x) (entries c past)) theirs) in
         let is = entered_start start x addr hart opaque own told in
         let hart_is : x ≡ hart = cc in
         let entry : Start = record { hart = hart; addr = addr; opaque = opaque } in
         rw (ap (λ n. eqb h n) hart_is)
-        (by_entry (state c past h) (filter (is_of h) (starts c past)) (filter (is_of h) (entries past)) (find (is_of h) (starts c past)) (boot_start c)
+        (by_entry (state c past h) (filter (is_of h) (starts c past)) (filter (is_of h) (entries c past)) (find (is_of h) (starts c past)) (boot_start c)
         entry (eqb h hart) (λ mine.
             let same : h ≡ x = eqb-true h hart mine ∙ sym hart_is in
-            rw same (theirs ∙ ap (λ (first : Start). first ∷ filter (is_of x) (entries past)) (sym is))) (before h))
+            rw same (theirs ∙ ap (λ (first : Start). first ∷ filter (is_of x) (entries c past)) (sym is))) (before h))
 
   -- the law after a call
   after_call : (past : List Event) (before : (h : ℕ) → IsEntered past h) (h x : ℕ) (call : Call) (r : Reply)
@@ -168,6 +176,9 @@ module _ (c : Config) where
       by_errors false true Started at = quiet past before h
       by_errors false true StartPending at = quiet past before h
       by_errors false true StopPending at = quiet past before h
+      by_errors false true Suspended at = quiet past before h
+      by_errors false true SuspendPending at = quiet past before h
+      by_errors false true ResumePending at = quiet past before h
   after_call past before h x calls.HartStop r running is = rw (← is) (by_enabled (sstatus_sie past x))
     where
       by_enabled : (enabled : Bool) → (let r = (if enabled then Ret (failure Failed) else Gone) in
@@ -175,28 +186,62 @@ module _ (c : Config) where
       by_enabled true = quiet past before h
       by_enabled false = settled past before h x StopPending refl (ap is_start_pending running)
   after_call past before h x (calls.HartGetStatus t) r running is = quiet past before h
+  after_call past before h x (calls.SetTimer deadline) r running is = quiet past before h
+  after_call past before h x (calls.SendIpi mask base) r running is = quiet past before h
+  after_call past before h x (calls.HartSuspend kind addr opaque) r running is = rw (← is) (by_kind kind)
+    where
+      by_kind : (kind : Result SuspendKind SbiError) → (let r = suspend_reply c kind addr in
+          IsEnteredBy past before h (move_by_call x (calls.HartSuspend kind addr opaque) r) (start_by_call (calls.HartSuspend kind addr opaque) r) None)
+      by_kind (Err error) = quiet past before h
+      by_kind (Ok Retentive) = settled past before h x SuspendPending refl (ap is_start_pending running)
+      by_kind (Ok NonRetentive) = by_address (is_start_address c.pages addr)
+        where
+          by_address : (right : Bool) → (let r = (if right then Gone else Ret (failure InvalidAddress)) in
+              IsEnteredBy past before h (move_by_call x (calls.HartSuspend kind addr opaque) r) (start_by_call (calls.HartSuspend kind addr opaque) r) None)
+          by_address true = settled past before h x SuspendPending refl (ap is_start_pending running)
+          by_address false = quiet past before h
   after_call past before h x calls.Unsupported r running is = quiet past before h
 
   -- the law after an Advance
-  after_advance : (past : List Event) (before : (h : ℕ) → IsEntered past h) (h x : ℕ) (s : HartState) (r : Reply)
-      → IsAccepted Advance s → state c past x ≡ s → advance_reply x s (last_start c past x) ≡ r
-      → IsEnteredBy past before h (move_by x Advance r) None (entry_by Advance r)
-  after_advance past before h x Started r ready at is = absurd (let e = ready.in_phase in cc)
-  after_advance past before h x Stopped r ready at is = absurd (let e = ready.to_do in cc)
-  after_advance past before h x StartPending r ready at is = rw (← is) (entered past before h x _ _ _ at refl)
-  after_advance past before h x StopPending r ready at is = rw (← is) (settled past before h x Stopped refl (ap is_start_pending at))
+  after_advance : (past : List Event) (before : (h : ℕ) → IsEntered past h) (h x : ℕ) (s : HartState) (wake : Bool) (r : Reply)
+      → IsAccepted Advance s wake → state c past x ≡ s → advance_reply x s (last_start c past x) (resume_point past x) ≡ r
+      → IsEnteredBy past before h (move_by x Advance r) None (entry_by Advance r (is_start_pending s))
+  after_advance past before h x Started wake r ready at is = absurd (let e = ready.in_phase in cc)
+  after_advance past before h x Stopped wake r ready at is = absurd (let e = ready.to_do in cc)
+  after_advance past before h x StartPending wake r ready at is = rw (← is) (entered past before h x _ _ _ at refl)
+  after_advance past before h x StopPending wake r ready at is = rw (← is) (settled past before h x Stopped refl (ap is_start_pending at))
+  after_advance past before h x SuspendPending wake r ready at is = rw (← is) (settled past before h x Suspended refl (ap is_start_pending at))
+  after_advance past before h x Suspended wake r ready at is = rw (← is) (settled past before h x ResumePending refl (ap is_start_pending at))
+  after_advance past before h x ResumePending wake r ready at is = rw (← is) (by_resume (resume_point past x))
+    where
+      by_resume : (resume : Option Kept) → (let r = resume_reply x resume in
+          IsEnteredBy past before h (move_by x Advance r) None (entry_by Advance r false))
+      by_resume None = settled past before h x Started refl (ap is_start_pending at)
+      by_resume (Some kept) = settled past before h x Started refl (ap is_start_pending at)
 
   after_event : (past : List Event) (actor : Actor) (op : Op) (r : Reply) → answer c past actor op ≡ Ok r
       → ((h : ℕ) → IsEntered past h) → (h : ℕ) → IsEntered (record { actor = actor; op = op; reply = r } ∷ past) h
   unfolding IsEntered IsEnteredBy
-  after_event past Clock op r e before h = cc
+  after_event past Clock (Ecall regs) r e before h = cc
+  after_event past Clock (WriteSie value) r e before h = cc
+  after_event past Clock (WriteSstatusSie value) r e before h = cc
+  after_event past Clock ReadSip r e before h = cc
+  after_event past Clock ClearSsip r e before h = cc
+  after_event past Clock Wfi r e before h = cc
+  after_event past Clock Advance r e before h = cc
+  after_event past Clock (Tick n) r e before h = before h
   after_event past (Hart x) (Ecall regs) r e before h =
-      let facts = accepted (nat_le c.harts x) (state c past x) (Ecall regs) (length past == c.limit) (reply c past x (Ecall regs)) r e in
+      let facts = accepted (nat_le c.harts x) (state c past x) (wake c past x) (Ecall regs) (is_full c past) (reply c past x (Ecall regs)) r e in
       after_call past before h x (call_of regs) r (calling (state c past x) facts.0.in_phase) facts.1
+  after_event past (Hart x) (WriteSie value) r e before h = before h
   after_event past (Hart x) (WriteSstatusSie value) r e before h = before h
+  after_event past (Hart x) ReadSip r e before h = before h
+  after_event past (Hart x) ClearSsip r e before h = before h
+  after_event past (Hart x) Wfi r e before h = before h
   after_event past (Hart x) Advance r e before h =
-      let facts = accepted (nat_le c.harts x) (state c past x) Advance (length past == c.limit) (reply c past x Advance) r e in
-      after_advance past before h x (state c past x) r facts.0 refl facts.1
+      let facts = accepted (nat_le c.harts x) (state c past x) (wake c past x) Advance (is_full c past) (reply c past x Advance) r e in
+      after_advance past before h x (state c past x) (wake c past x) r facts.0 refl facts.1
+  after_event past (Hart x) (Tick n) r e before h = before h
 
 pub starts_are_entered : (c : Config) (past : List Event) → IsLegal c past → StartsAreEntered c past
 unfolding IsEntered

@@ -1,5 +1,5 @@
 -- What the supervisor's registers hold (Privileged 4.1, Supervisor CSRs).
-use Rattle.std.specs.Prelude.{ℕ, ◌+◌, List, [], ◌∷◌, Bool, true, false, ◌==◌, if◌then◌else◌, Option, Some, None}
+use Rattle.std.specs.Prelude.{ℕ, ◌+◌, List, [], ◌∷◌, Bool, true, false, ◌==◌, ◌&&◌, ◌||◌, if◌then◌else◌, Option, Some, None}
 use Rattle.std.specs.Int.{bit_at}
 use Rattle.board_core.specs.declared.config.Config.{Config}
 use Rattle.board_core.specs.declared.csrs.Sie.{Sie}
@@ -42,6 +42,10 @@ value_of software timer = (if software then 2 else 0) + (if timer then 32 else 0
 -- sie as a guest reads it
 abbrev pub bits_of : Sie → ℕ
 bits_of sie = value_of sie.ssie sie.stie
+
+-- whether one of the interrupts that are pending is enabled
+abbrev pub enables : Sie → (ssip stip : Bool) → Bool
+enables sie ssip stip = (sie.ssie && ssip) || (sie.stie && stip)
 
 -- A guest writes sie, and the entry of a start clears it (profile).
 abbrev pub sie_by : Op → Reply → (starting : Bool) → Option Sie

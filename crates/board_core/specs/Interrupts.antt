@@ -15,7 +15,7 @@ use Rattle.board_core.specs.declared.event.Op.TheVariants.{Ecall, ClearSsip, Tic
 use Rattle.board_core.specs.declared.event.Reply.{Reply}
 use Rattle.board_core.specs.declared.event.Reply.TheVariants.{Ret, Gone}
 use Rattle.board_core.specs.Course.{is_hart}
-use Rattle.board_core.specs.Csrs.{latest, sie}
+use Rattle.board_core.specs.Csrs.{enables, latest, sie}
 use Rattle.board_core.specs.States.{is_start_entry, is_starting, state}
 
 -- ---- software interrupts
@@ -84,4 +84,4 @@ stip c past h = is_due (time past) (deadline c past h)
 
 -- A hart has wake where an interrupt is pending that sie enables, whatever sstatus.SIE is (Privileged 3.3.3, WFI).
 abbrev pub wake : Config → List Event → ℕ → Bool
-wake c past h = (ssip c past h && (sie c past h).ssie) || (stip c past h && (sie c past h).stie)
+wake c past h = enables (sie c past h) (ssip c past h) (stip c past h)

@@ -1,6 +1,6 @@
 ghost use Rattle.std.specs.Prelude.{◌≡◌, ◌<◌, ◌+◌};
 ghost use Rattle.hart_mask.specs.Ids.{has, with_bit};
-ghost use Rattle.board_core.specs.Csrs.{bits_of, none_enabled, sie_of, value_of};
+ghost use Rattle.board_core.specs.Csrs.{bits_of, enables, none_enabled, sie_of, value_of};
 
 use hart_mask::HartSet;
 
@@ -32,6 +32,13 @@ impl Sie {
             ssie: value >> 1 & 1 == 1,
             stie: value >> 5 & 1 == 1,
         }
+    }
+
+    /// Whether one of the interrupts that are pending is enabled.
+    pub fn enables(self, ssip: bool, stip: bool) -> bool
+        ensures { result ≡ enables self ssip stip }
+    {
+        self.ssie && ssip || self.stie && stip
     }
 
     /// sie as a guest reads it: SSIE in bit 1, and STIE in bit 5.

@@ -1,12 +1,16 @@
 use Rattle.std.proofs.Common.{◌≡◌, ℕ, [], ◌∷◌, refl, sym, ap, ◌∙◌, inl, inr, false}
 use Rattle.std.specs.List.{range_with_len}
+use Rattle.std.proofs.lemmas.List.FromFn.{length-range_with_len}
+use Rattle.std.proofs.lemmas.Simd.{splat_is_map}
+use Rattle.std.specs.Prelude.{None}
 use Rattle.std.proofs.lemmas.Bool.Decides.{eqb_tells}
 use Rattle.hart_mask.proofs.Sets.{ids_where-none}
 use Rattle.hsm.specs.declared.hart.Kept.{Kept}
 use Rattle.hsm.specs.Transitions.{opened}
 use Rattle.board_core.specs.declared.config.Config.{Config}
 use Rattle.board_core.specs.Course.{harts_of}
-use Rattle.board_core.specs.Csrs.{sstatus_sie}
+use Rattle.board_core.specs.Csrs.{sie, sstatus_sie}
+use Rattle.board_core.specs.Interrupts.{deadline, ssip}
 use Rattle.board_core.specs.Starts.{hart_of}
 use Rattle.board_core.proofs.Tables.{eqb-other, eqb-same, tabulate-same}
 use Rattle.board_core.proofs.board.opening.Goals as goal
@@ -25,6 +29,15 @@ pub returns : goal.returns
 unfolding boot
 returns c = record {
   harts = record { each = c.in_ok-hsm.ensures ∙ tabulate-same (opened c.args.config.now.boot_hart (boot c.args.config.now)) (hart_of c.args.config.now []) (opened_as c.args.config.now) (harts_of c.args.config.now) };
-  csrs = record { sstatus_sie = c.new-2.ensures ∙ sym (ids_where-none (sstatus_sie []) (λ i below. refl)) };
+  csrs = record {
+    sstatus_sie = c.new-3.ensures ∙ sym (ids_where-none (sstatus_sie []) (λ i below. refl));
+    ssie = c.new-4.ensures ∙ sym (ids_where-none (λ h. (sie c.args.config.now [] h).ssie) (λ i below. refl));
+    stie = c.new-5.ensures ∙ sym (ids_where-none (λ h. (sie c.args.config.now [] h).stie) (λ i below. refl));
+  };
+  ipis = record { ssip = c.new-6.ensures ∙ sym (ids_where-none (ssip c.args.config.now []) (λ i below. refl)) };
+  timers = rw c.in_ok-timers.ensures record {
+    time = refl;
+    deadlines = splat_is_map (harts_of c.args.config.now) c.args.config.now.harts None (length-range_with_len 0 c.args.config.now.harts);
+  };
   counts = record { starts = refl; entries = refl };
 }

@@ -1,10 +1,12 @@
-use Rattle.std.proofs.Common.{arith, ap, ◌∙◌, reverse}
+use Rattle.std.proofs.Common.{◌≡◌, ap, ◌∙◌, arith, reverse}
 use Rattle.board_core.specs.Course.{Course}
-use Rattle.board_core.proofs.Standing.{sstatus_sie-read}
+use Rattle.board_core.specs.Csrs.{sstatus_sie}
+use Rattle.board_core.proofs.Standing.{bit-read}
 use Rattle.board_core.proofs.board.Board.sstatus_sie.Goals as goal
 
 pub returns : goal.returns
 returns c =
     let same_config = ap (λ (b : Course). b.config.harts) c.self.view_is in
     let most = c.self.invariant.0.good.at_most_128_harts in
-    rw (← c.self.view_is) (c.contains.ensures.answer ∙ sstatus_sie-read (reverse c.self.inside.events.items) _ c.args.h c.self.invariant.1.csrs.sstatus_sie (omega arith))
+    let past = reverse c.self.inside.events.items in
+    rw (← c.self.view_is) (c.contains.ensures.answer ∙ bit-read c.self.inside.config past (sstatus_sie past) _ c.args.h (omega arith) c.self.invariant.1.csrs.sstatus_sie)

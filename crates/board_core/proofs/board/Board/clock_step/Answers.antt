@@ -1,0 +1,41 @@
+use Rattle.std.proofs.Common.{◌≡◌, ◌+◌, ◌<◌, ◌≤◌, List, ap, refl, sym, ◌∙◌, arith, reverse, false, true}
+use Rattle.std.specs.Prelude.{is_some, nat_lt, not, unwrap_or}
+use Rattle.interrupts.specs.Timing.{last_time, ticked}
+use Rattle.board_core.specs.declared.event.Actor.TheVariants.{Clock}
+use Rattle.board_core.specs.declared.event.Event.{Event}
+use Rattle.board_core.specs.declared.event.Op.TheVariants.{Tick}
+use Rattle.board_core.specs.declared.event.Reply.TheVariants.{Done}
+use Rattle.board_core.specs.Course.{Course}
+use Rattle.board_core.specs.Refusals.{is_full}
+use Rattle.board_core.proofs.Events.{does_tick, still}
+use Rattle.board_core.proofs.Standing.{counts-quiet, csrs-quiet, harts-quiet, ipis-quiet, timers-ticked}
+use Rattle.board_core.proofs.Steps.{clock_answered, kept-more, past-more, ticked_on}
+use Rattle.board_core.proofs.board.Board.clock_step.Goals as goal
+
+pub invariant_of-self-2 : goal.invariant_of-self-2
+invariant_of-self-2 c =
+    let config = c.self.inside.config in
+    let past = reverse c.self.inside.events.items in
+    let m = c.self.inside.machine in
+    let n = c.in-Tick.n in
+    let stands = c.self.invariant.1 in
+    let tick : Event = record { actor = Clock; op = Tick n; reply = Done } in
+    let deed = record still { ticks = n } in
+    let does = does_tick config past n in
+    let room : is_full config past ≡ false = ap (λ (b : Course). is_full b.config b.past) c.self.view_is ∙ sym c.is_full.ensures ∙ c.if-is_full.false in
+    let taken : is_some (ticked m.timers n) ≡ true = sym c.tick.ensures.answer ∙ c.is_err.ensures.negation ∙ ap not c.if-is_err.false in
+    let on = ticked_on m.timers n taken in
+    let answered = clock_answered config past n room (ap (λ t. nat_lt last_time (t + n)) (sym stands.timers.time) ∙ on.1) in
+    rw (past-more c.self.inside.events.items _ tick c.push_reserved.ensures.items, c.tick.ensures.after) (
+      kept-more config past tick answered room c.self.invariant.0,
+      record {
+        harts = harts-quiet config past tick deed does m.hsm refl refl refl stands.harts;
+        csrs = csrs-quiet config past tick deed does m.csrs refl refl stands.csrs;
+        ipis = ipis-quiet config past tick deed does m.ipis refl (λ i. refl) stands.ipis;
+        timers = rw on.0 (timers-ticked config past tick deed does m.timers n refl refl stands.timers);
+        counts = counts-quiet config past tick deed does m.counts refl refl stands.counts;
+      },
+      let capacity = c.push_reserved.ensures.capacity in
+      let enough = c.self.invariant.2 in
+      omega arith,
+    )

@@ -1,0 +1,44 @@
+use Rattle.std.proofs.Common.{Bool, true, false, ◌≡◌, ℕ, ◌<◌, ◌≤◌, List, refl, sym, ap, ◌∙◌, arith, map, length}
+use Rattle.std.specs.Prelude.{Some, ◌&&◌}
+use Rattle.sbi_abi.specs.declared.call.Call.TheVariants.{SendIpi}
+use Rattle.hart_mask.specs.HartList.{targets_of}
+use Rattle.hart_mask.specs.Ids.{has}
+use Rattle.hart_mask.proofs.Sets.{has-ids_where}
+use Rattle.hsm.specs.Harts.{Hart}
+use Rattle.hsm.specs.States.{is_interruptible}
+use Rattle.hsm.specs.Transitions.{hart_at}
+use Rattle.board_core.specs.declared.event.Reply.TheVariants.{Ret}
+use Rattle.board_core.specs.Interrupts.{is_target}
+use Rattle.board_core.specs.States.{state}
+use Rattle.board_core.specs.Replies.{success}
+use Rattle.board_core.proofs.Events.{called, deed_of_call, does_call}
+use Rattle.board_core.proofs.Standing.{hart_at-stand, counts-quiet, csrs-quiet, harts-quiet, ipis-sent, timers-quiet}
+use Rattle.board_core.proofs.calls.send_ipi.Goals as goal
+
+-- what is looked at of targets alone
+of_targets : (is_target p q : Bool) → (is_target ≡ true → p ≡ q) → (is_target && p) ≡ (is_target && q)
+of_targets true p q same = same refl
+of_targets false p q same = refl
+
+pub returns-in-Ok-clause-after : goal.returns-in-Ok-clause-after
+returns-in-Ok-clause-after c = λ x past regs is stands.
+    let config = c.args.config.now in
+    let m = c.args.machine.now in
+    let call = SendIpi c.args.mask c.args.base in
+    let event = called config past x regs (Ret (success 0)) in
+    let deed = deed_of_call config past x call (Ret (success 0)) in
+    let does = does_call config past x regs call (Ret (success 0)) is in
+    let reached : (i : ℕ) → i < 128 → has c.intersection-reached.result i ≡ is_target (targets_of c.args.mask c.args.base config.harts) i && is_interruptible (state config past i) = λ i below.
+        ap (λ ids. has ids i) c.intersection-reached.ensures
+        ∙ has-ids_where (λ h. has c.in-Ok.harts h && has c.interruptible.result h) i below
+        ∙ ap (λ ids. has c.in-Ok.harts i && has ids i) c.interruptible.ensures
+        ∙ ap (λ b. has c.in-Ok.harts i && b) (has-ids_where (λ h. is_interruptible (hart_at m.hsm h).state) i below)
+        ∙ of_targets (has c.in-Ok.harts i) _ _ (λ named. ap (λ (hart : Hart). is_interruptible hart.state) (hart_at-stand config past m.hsm stands.harts i (c.in-Ok.ensures.below i named)))
+        ∙ ap (λ targets. is_target targets i && is_interruptible (state config past i)) (sym c.in-Ok.ensures.answer) in
+    rw (c.success.ensures, c.send.ensures) record {
+      harts = harts-quiet config past event deed does m.hsm refl refl refl stands.harts;
+      csrs = csrs-quiet config past event deed does m.csrs refl refl stands.csrs;
+      ipis = ipis-sent config past event deed does m.ipis c.intersection-reached.result refl reached stands.ipis;
+      timers = timers-quiet config past event deed does m.timers refl refl stands.timers;
+      counts = counts-quiet config past event deed does m.counts refl refl stands.counts;
+    }
