@@ -14,7 +14,7 @@ use Rattle.board_core.specs.declared.config.Config.{Config}
 use Rattle.board_core.specs.declared.event.Actor.{Actor}
 use Rattle.board_core.specs.declared.event.Actor.TheVariants.{Hart, Clock}
 use Rattle.board_core.specs.declared.event.Op.{Op}
-use Rattle.board_core.specs.declared.event.Op.TheVariants.{Ecall, WriteSstatusSie, Advance}
+use Rattle.board_core.specs.declared.event.Op.TheVariants.{Ecall, WriteSie, WriteSstatusSie, ReadSip, ClearSsip, Wfi, Advance, Tick}
 use Rattle.sbiboard.specs.declared.guest_script.schedule.Line.{Line}
 use Rattle.sbiboard.specs.Words.{actor_word, board_words, hex, line_of, op_words}
 use Rattle.sbiboard.specs.Grammar.{AreNumbers, AreSteps, Form, form_of, IsActor, is_allowed, is_blank, is_hash, IsLine, IsOp, IsWord, last_hart, last_number, numbers_of, regs_of, Spaces, Spells}
@@ -163,14 +163,26 @@ op_read_back (Ecall regs) fits =
     (op_spelled (codes "ecall") (hex regs.eid ∷ hex regs.fid ∷ map hex regs.a) _ (regs.eid ∷ regs.fid ∷ regs.a) refl
     (name_plain (codes "ecall") (λ e. cc) (omega arith)) (omega (arith, count)) (omega (arith, count, fits.2))
     (number regs.eid fits.0, (number regs.fid fits.1, hexes_read_back regs.a fits.3)))
+op_read_back (WriteSie value) fits =
+    op_spelled (codes "sie") (hex value ∷ []) _ (value ∷ []) refl (name_plain (codes "sie") (λ e. cc) (omega arith)) (omega arith) (omega arith)
+    ((number_read_back last_number value fits (omega arith)).1, tt)
 op_read_back (WriteSstatusSie false) fits =
     op_spelled (codes "sstatus") (decimal 0 ∷ []) _ (0 ∷ []) refl (name_plain (codes "sstatus") (λ e. cc) (omega arith)) (omega arith) (omega arith)
     ((number_read_back 1 0 (omega arith) (omega arith)).0, tt)
 op_read_back (WriteSstatusSie true) fits =
     op_spelled (codes "sstatus") (decimal 1 ∷ []) _ (1 ∷ []) refl (name_plain (codes "sstatus") (λ e. cc) (omega arith)) (omega arith) (omega arith)
     ((number_read_back 1 1 (omega arith) (omega arith)).0, tt)
+op_read_back ReadSip fits =
+    op_spelled (codes "sip") [] _ [] refl (name_plain (codes "sip") (λ e. cc) (omega arith)) (omega arith) (omega arith) tt
+op_read_back ClearSsip fits =
+    op_spelled (codes "clearssip") [] _ [] refl (name_plain (codes "clearssip") (λ e. cc) (omega arith)) (omega arith) (omega arith) tt
+op_read_back Wfi fits =
+    op_spelled (codes "wfi") [] _ [] refl (name_plain (codes "wfi") (λ e. cc) (omega arith)) (omega arith) (omega arith) tt
 op_read_back Advance fits =
     op_spelled (codes "advance") [] _ [] refl (name_plain (codes "advance") (λ e. cc) (omega arith)) (omega arith) (omega arith) tt
+op_read_back (Tick n) fits =
+    op_spelled (codes "tick") (hex n ∷ []) _ (n ∷ []) refl (name_plain (codes "tick") (λ e. cc) (omega arith)) (omega arith) (omega arith)
+    ((number_read_back last_number n fits (omega arith)).1, tt)
 
 actor_read_back : (actor : Actor) → FitsActor actor → IsActor (actor_word actor) actor
 actor_read_back (Hart h) fits = (number_read_back last_hart h fits (omega arith)).0

@@ -38,8 +38,13 @@ Gives view (Err fault) read = read ≡ Err fault
 -- the word that names it
 abbrev pub spelling : OpName → List ℕ
 spelling names.Ecall = codes "ecall"
+spelling names.Sie = codes "sie"
 spelling names.Sstatus = codes "sstatus"
+spelling names.Sip = codes "sip"
+spelling names.Clearssip = codes "clearssip"
+spelling names.Wfi = codes "wfi"
 spelling names.Advance = codes "advance"
+spelling names.Tick = codes "tick"
 
 -- the places are those of this form
 abbrev pub IsFormAt : Places → Option Form → Type 0

@@ -42,6 +42,7 @@ is_full (Ok reply) = false
 is_full (Err refusals.WrongPhase) = false
 is_full (Err refusals.Nothing) = false
 is_full (Err refusals.HistoryFull) = true
+is_full (Err refusals.TimeFull) = false
 
 -- some line was refused since the history was full
 abbrev pub meets_full : Course → List Line → Bool

@@ -3,13 +3,14 @@ use Rattle.std.specs.Prelude.{ℕ, ◌-◌, List, [], ◌∷◌, ◌++◌, lengt
 use Rattle.std.specs.Fmt.{digits}
 use Rattle.std.specs.List.{flat_map}
 use Rattle.hsm.specs.declared.hart.HartState.{HartState}
-use Rattle.hsm.specs.declared.hart.HartState.TheVariants.{Started, Stopped, StartPending, StopPending}
+use Rattle.hsm.specs.declared.hart.HartState.TheVariants.{Started, Stopped, StartPending, StopPending, Suspended, SuspendPending, ResumePending}
 use Rattle.hsm.specs.declared.hart.Kept.{Kept}
 use Rattle.board_core.specs.declared.board.Totals.{Totals}
 use Rattle.board_core.specs.declared.config.Config.{Config}
 use Rattle.board_core.specs.declared.event.Event.{Event}
 use Rattle.board_core.specs.Course.{harts_of}
-use Rattle.board_core.specs.Csrs.{sstatus_sie}
+use Rattle.board_core.specs.Csrs.{bits_of, sie, sstatus_sie}
+use Rattle.board_core.specs.Interrupts.{deadline, ssip, stip, time}
 use Rattle.board_core.specs.Starts.{kept}
 use Rattle.board_core.specs.States.{state}
 use Rattle.board_core.specs.Totals.{totals}
@@ -38,12 +39,20 @@ state_name Started = codes "STARTED"
 state_name Stopped = codes "STOPPED"
 state_name StartPending = codes "START_PENDING"
 state_name StopPending = codes "STOP_PENDING"
+state_name Suspended = codes "SUSPENDED"
+state_name SuspendPending = codes "SUSPEND_PENDING"
+state_name ResumePending = codes "RESUME_PENDING"
 
--- The time, the count of events, the power and the last reset. The clock and resets aren't built yet.
+-- a deadline's hexadecimal digits, or as many dashes where there is none
+abbrev pub deadline_cell : Option ℕ → List ℕ
+deadline_cell (Some deadline) = hex16 deadline
+deadline_cell None = replicate 16 45
+
+-- The time, the count of events, the power and the last reset. Resets aren't built yet.
 unfoldable pub time_cells : List Event → List (List ℕ)
 time_cells past =
     codes "#"
-    ∷ codes "time" ∷ hex16 0
+    ∷ codes "time" ∷ hex16 (time past)
     ∷ codes "events" ∷ right 7 (decimal (length past))
     ∷ codes "power" ∷ codes "on"
     ∷ codes "reset" ∷ codes "none"
@@ -78,8 +87,7 @@ head_cells =
     ∷ codes "ic"
     ∷ []
 
--- The row of a hart. What isn't built yet shows its opening value: no fence, no pending interrupt, none in sie, no
--- translation, no deadline, and empty caches.
+-- The row of a hart. What isn't built yet shows its opening value: no fence, no translation, and empty caches.
 unfoldable pub hart_cells : Config → List Event → ℕ → List (List ℕ)
 hart_cells c past h =
     codes "#"
@@ -87,12 +95,12 @@ hart_cells c past h =
     ∷ left 15 (state_name (state c past h))
     ∷ right 4 (decimal 0)
     ∷ right 3 (codes "-")
-    ∷ right 2 (decimal 0)
-    ∷ right 2 (decimal 0)
-    ∷ hex_column 2 0
+    ∷ right 2 (decimal (bit_of (ssip c past h)))
+    ∷ right 2 (decimal (bit_of (stip c past h)))
+    ∷ hex_column 2 (bits_of (sie c past h))
     ∷ right 2 (decimal (bit_of (sstatus_sie past h)))
     ∷ hex16 0
-    ∷ replicate 16 45
+    ∷ deadline_cell (deadline c past h)
     ∷ right 3 (decimal 0)
     ∷ right 2 (decimal 0)
     ∷ []

@@ -7,10 +7,10 @@ use Rattle.board_core.specs.declared.config.Config.{Config}
 use Rattle.board_core.specs.declared.event.Actor.{Actor}
 use Rattle.board_core.specs.declared.event.Actor.TheVariants.{Hart, Clock}
 use Rattle.board_core.specs.declared.event.Op.{Op}
-use Rattle.board_core.specs.declared.event.Op.TheVariants.{Ecall, WriteSstatusSie, Advance}
+use Rattle.board_core.specs.declared.event.Op.TheVariants.{Ecall, WriteSie, WriteSstatusSie, ReadSip, ClearSsip, Wfi, Advance, Tick}
 use Rattle.board_core.specs.declared.event.Refusal.{Refusal}
 use Rattle.board_core.specs.declared.event.Reply.{Reply}
-use Rattle.board_core.specs.declared.event.Reply.TheVariants.{Ret, Gone, Entry, Moved, Done}
+use Rattle.board_core.specs.declared.event.Reply.TheVariants.{Ret, Waiting, Gone, Entry, Value, Moved, Done}
 use Rattle.board_core.specs.Refusals.{refusal_number}
 
 -- `0x` and lower case hexadecimal digits with no leading zero
@@ -27,13 +27,20 @@ actor_word Clock = codes "c"
 
 abbrev pub op_words : Op → List (List ℕ)
 op_words (Ecall regs) = codes "ecall" ∷ hex regs.eid ∷ hex regs.fid ∷ map hex regs.a
+op_words (WriteSie value) = codes "sie" ∷ hex value ∷ []
 op_words (WriteSstatusSie value) = codes "sstatus" ∷ decimal (bit_of value) ∷ []
+op_words ReadSip = codes "sip" ∷ []
+op_words ClearSsip = codes "clearssip" ∷ []
+op_words Wfi = codes "wfi" ∷ []
 op_words Advance = codes "advance" ∷ []
+op_words (Tick n) = codes "tick" ∷ hex n ∷ []
 
 abbrev pub reply_words : Result Reply Refusal → List (List ℕ)
 reply_words (Ok (Ret answer)) = codes "ret" ∷ signed_decimal answer.error ∷ hex answer.value ∷ []
+reply_words (Ok Waiting) = codes "waiting" ∷ []
 reply_words (Ok Gone) = codes "gone" ∷ []
 reply_words (Ok (Entry addr hart opaque)) = codes "entry" ∷ hex addr ∷ decimal hart ∷ hex opaque ∷ []
+reply_words (Ok (Value value)) = codes "value" ∷ hex value ∷ []
 reply_words (Ok (Moved s)) = codes "moved" ∷ decimal (state_number s) ∷ []
 reply_words (Ok Done) = codes "done" ∷ []
 reply_words (Err refusal) = codes "refused" ∷ decimal (refusal_number refusal) ∷ []

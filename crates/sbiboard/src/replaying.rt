@@ -115,6 +115,6 @@ fn is_full(answer: &Result<Reply, Refusal>) -> bool
 {
     match answer {
         Err(Refusal::HistoryFull) => true,
-        Err(Refusal::WrongPhase | Refusal::Nothing) | Ok(_) => false,
+        Err(Refusal::WrongPhase | Refusal::Nothing | Refusal::TimeFull) | Ok(_) => false,
     }
 }

@@ -11,10 +11,20 @@ use sbi_abi::Regs;
 pub enum OpName {
     /// `ecall`
     Ecall,
+    /// `sie`
+    Sie,
     /// `sstatus`
     Sstatus,
+    /// `sip`
+    Sip,
+    /// `clearssip`
+    Clearssip,
+    /// `wfi`
+    Wfi,
     /// `advance`
     Advance,
+    /// `tick`
+    Tick,
 }
 
 /// What may follow a name: from `least` to `most` numbers, each at most `limit`.
@@ -33,8 +43,13 @@ impl OpName {
     {
         match word {
             b"ecall" => Some(OpName::Ecall),
+            b"sie" => Some(OpName::Sie),
             b"sstatus" => Some(OpName::Sstatus),
+            b"sip" => Some(OpName::Sip),
+            b"clearssip" => Some(OpName::Clearssip),
+            b"wfi" => Some(OpName::Wfi),
             b"advance" => Some(OpName::Advance),
+            b"tick" => Some(OpName::Tick),
             _ => None,
         }
     }
@@ -52,7 +67,8 @@ impl OpName {
                 most: 1,
                 limit: 1,
             },
-            OpName::Advance => numbers(0, 0),
+            OpName::Sie | OpName::Tick => numbers(1, 1),
+            OpName::Sip | OpName::Clearssip | OpName::Wfi | OpName::Advance => numbers(0, 0),
         }
     }
 
@@ -63,8 +79,13 @@ impl OpName {
     {
         match self {
             OpName::Ecall => Op::Ecall(regs(numbers)),
+            OpName::Sie => Op::WriteSie(at(numbers, 0)),
             OpName::Sstatus => Op::WriteSstatusSie(at(numbers, 0) == 1),
+            OpName::Sip => Op::ReadSip,
+            OpName::Clearssip => Op::ClearSsip,
+            OpName::Wfi => Op::Wfi,
             OpName::Advance => Op::Advance,
+            OpName::Tick => Op::Tick(at(numbers, 0)),
         }
     }
 }

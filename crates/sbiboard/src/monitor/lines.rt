@@ -86,11 +86,22 @@ fn op_onto(line: &mut Line, op: Op)
             line.hex(regs.fid);
             numbers_onto(line, &regs.a);
         }
+        Op::WriteSie(value) => {
+            line.word(b"sie");
+            line.hex(value);
+        }
         Op::WriteSstatusSie(value) => {
             line.word(b"sstatus");
             line.decimal(bit(value));
         }
+        Op::ReadSip => line.word(b"sip"),
+        Op::ClearSsip => line.word(b"clearssip"),
+        Op::Wfi => line.word(b"wfi"),
         Op::Advance => line.word(b"advance"),
+        Op::Tick(n) => {
+            line.word(b"tick");
+            line.hex(n);
+        }
     }
 }
 
@@ -106,12 +117,17 @@ fn reply_onto(line: &mut Line, answer: Result<Reply, Refusal>)
             line.signed(answer.error);
             line.hex(answer.value);
         }
+        Ok(Reply::Waiting) => line.word(b"waiting"),
         Ok(Reply::Gone) => line.word(b"gone"),
         Ok(Reply::Entry { addr, hart, opaque }) => {
             line.word(b"entry");
             line.hex(addr);
             line.decimal(hart);
             line.hex(opaque);
+        }
+        Ok(Reply::Value(value)) => {
+            line.word(b"value");
+            line.hex(value);
         }
         Ok(Reply::Moved(state)) => {
             line.word(b"moved");

@@ -1,9 +1,9 @@
-ghost use Rattle.std.specs.Prelude.{◌≡◌, ◌^◌, ◌<◌, ◌≤◌, [], length};
+ghost use Rattle.std.specs.Prelude.{◌≡◌, ◌+◌, ◌^◌, ◌<◌, ◌≤◌, [], ◌∷◌, ◌++◌, length};
 ghost use Rattle.std.specs.List.{flat_map};
 ghost use Rattle.board_core.specs.Course.{harts_of};
 ghost use Rattle.sbiboard.specs.Line.{with_words};
 ghost use Rattle.sbiboard.specs.Sinks.{Puts};
-ghost use Rattle.sbiboard.specs.Table.{details, entry_cells, entry_line, hart_cells, head_cells, row, state_name, table, time_cells, totals_cells};
+ghost use Rattle.sbiboard.specs.Table.{deadline_cell, details, entry_cells, entry_line, hart_cells, head_cells, row, state_name, table, time_cells, totals_cells};
 ghost use Rattle.sbiboard.specs.Words.{line_of};
 
 use super::line::Line;
@@ -65,7 +65,7 @@ fn time_line(board: &Board) -> Line
     let mut line = Line::new();
     line.word(b"#");
     line.word(b"time");
-    line.hex_column(16, 0);
+    line.hex_column(16, board.time());
     line.word(b"events");
     line.right_decimal(7, board.history().len() as u64);
     line.word(b"power");
@@ -134,15 +134,26 @@ fn hart_line(board: &Board, h: u64) -> Line
     line.left(15, name(board.state(h)));
     line.right_decimal(4, 0);
     line.right(3, b"-");
-    line.right_decimal(2, 0);
-    line.right_decimal(2, 0);
-    line.hex_column(2, 0);
+    line.right_decimal(2, bit(board.ssip(h)));
+    line.right_decimal(2, bit(board.stip(h)));
+    line.hex_column(2, board.sie(h).bits());
     line.right_decimal(2, bit(board.sstatus_sie(h)));
     line.hex_column(16, 0);
-    line.word(&[b'-'; 16]);
+    deadline_onto(&mut line, board.deadline(h));
     line.right_decimal(3, 0);
     line.right_decimal(2, 0);
     line
+}
+
+fn deadline_onto(line: &mut Line, deadline: Option<u64>)
+    requires { length line.old + 33 ≤ 256 }
+    ensures text { line.new ≡ line.old ++ 32 ∷ deadline_cell deadline }
+    ensures len { length line.new ≤ length line.old + 17 }
+{
+    match deadline {
+        Some(deadline) => line.hex_column(16, deadline),
+        None => line.word(&[b'-'; 16]),
+    }
 }
 
 #[tactic(auto, unfolding(crate::specs::Table::entry_cells))]
@@ -169,5 +180,8 @@ fn name(state: HartState) -> &'static [u8]
         HartState::Stopped => b"STOPPED",
         HartState::StartPending => b"START_PENDING",
         HartState::StopPending => b"STOP_PENDING",
+        HartState::Suspended => b"SUSPENDED",
+        HartState::SuspendPending => b"SUSPEND_PENDING",
+        HartState::ResumePending => b"RESUME_PENDING",
     }
 }
