@@ -8,8 +8,14 @@ mod failing;
 #[cfg(test)]
 mod faults;
 #[cfg(test)]
+mod harts;
+#[cfg(test)]
 mod limits;
 #[cfg(test)]
 mod printing;
 #[cfg(test)]
 mod replays;
+#[cfg(test)]
+mod states;
+#[cfg(test)]
+mod worked;
