@@ -19,7 +19,7 @@ use Rattle.board_core.specs.declared.event.Reply.{Reply}
 use Rattle.board_core.specs.declared.event.Reply.TheVariants as replies
 use Rattle.board_core.specs.Refusals.{IsAccepted, first_that_holds, has_nothing_to_do, is_out_of_phase, is_stopped, refusals_in}
 use Rattle.board_core.specs.Replies.{advance_reply, success}
-use Rattle.board_core.specs.Starts.{Start, hart_of, kept_in, last_start}
+use Rattle.board_core.specs.Starts.{Start, kept_in, last_start}
 use Rattle.board_core.specs.Stands.{HartsStand}
 use Rattle.board_core.specs.States.{state}
 use Rattle.board_core.specs.Suspends.{resume_point}

@@ -2,7 +2,6 @@
 use Rattle.std.proofs.Common.{◌≡◌, ◌≢◌, ℕ, ◌+◌, ◌<◌, ◌≤◌, Bool, true, false, List, [], ◌∷◌, ◌++◌, suc, length, set, map, refl, sym, ap, ◌∙◌, arith}
 use Rattle.std.specs.Prelude.{Option, Some, None, count_by, unwrap_or, not, ◌==◌, ◌&&◌, ◌||◌, if◌then◌else◌, slice_index_or, slice_set}
 use Rattle.std.specs.Option.{option_to_list}
-use Rattle.std.proofs.lemmas.Option.{same_Some}
 use Rattle.std.proofs.lemmas.List.FromFn.{get_or-map-range_with_len, length-map-range_with_len}
 use Rattle.hart_mask.specs.Ids.{has, ids_where, union_of, with_bit, without_id}
 use Rattle.hart_mask.proofs.Sets.{has-ids_where, ids_where-agree, with_bit-by, without_id-by}
@@ -22,7 +21,7 @@ use Rattle.board_core.specs.declared.machine.Counts.{Counts}
 use Rattle.board_core.specs.declared.machine.Machine.{Machine}
 use Rattle.board_core.specs.Course.{harts_of}
 use Rattle.board_core.specs.Csrs.{enables, latest, sie, sstatus_sie}
-use Rattle.board_core.specs.Interrupts.{deadline, ssip, stip, time, wake}
+use Rattle.board_core.specs.Interrupts.{deadline, ssip, stip, wake}
 use Rattle.board_core.specs.Starts.{Start, all_pending, entries, entry_by, hart_of, kept_in, last_start, start_by, starts}
 use Rattle.board_core.specs.Stands.{CountsStand, CsrsStand, HartsStand, IpisStand, StandsFor, TimersStand}
 use Rattle.board_core.specs.States.{is_starting, state}
@@ -66,9 +65,9 @@ module _ (c : Config) (past : List Event) (harts : List Hart) (stand : HartsStan
       → HartsStand c (event ∷ past) (slice_set harts t hart)
   harts-moved event t hart is others = record {
     each =
-      ap (slice_set harts t) (sym is)
-      ∙ ap (λ hs. slice_set hs t (hart_of c (event ∷ past) t)) stand.each
-      ∙ tabulate-set (hart_of c past) (hart_of c (event ∷ past)) c.harts t others;
+        ap (slice_set harts t) (sym is)
+        ∙ ap (λ hs. slice_set hs t (hart_of c (event ∷ past) t)) stand.each
+        ∙ tabulate-set (hart_of c past) (hart_of c (event ∷ past)) c.harts t others;
   }
 
 -- ---- one event more
@@ -134,9 +133,9 @@ module _ (c : Config) (past : List Event) (event : Event) (deed : Deed) (does : 
     pub ipis-cleared : (ipis : List ℕ) → deed.ssip ≡ Some false → ((i : ℕ) → deed.reach i ≡ false) → IpisStand c past ipis → IpisStand c (event ∷ past) (without_id ipis h)
     ipis-cleared ipis cleared none stand = record {
       ssip =
-        ap (λ ids. without_id ids h) stand.ssip
-        ∙ without_id-by (ssip c past) (ssip c (event ∷ past)) h
-        (λ i below. rw (does.reaches i, none i, does.writes_ssip, cleared, own) (out_or (i == h) (ssip c past i)));
+          ap (λ ids. without_id ids h) stand.ssip
+          ∙ without_id-by (ssip c past) (ssip c (event ∷ past)) h
+          (λ i below. rw (does.reaches i, none i, does.writes_ssip, cleared, own) (out_or (i == h) (ssip c past i)));
     }
       where
         out_or : (here before : Bool) → (not here && before) ≡ (if here then false else before)
@@ -149,10 +148,10 @@ module _ (c : Config) (past : List Event) (event : Event) (deed : Deed) (does : 
     timers-set timers value set no_ticks stand = record {
       time = stand.time ∙ rw (does.ticks, no_ticks) (omega arith);
       deadlines =
-        ap (λ (ds : List (Option ℕ)). slice_set ds h value) stand.deadlines
-        ∙ ap (slice_set (map (deadline c past) (harts_of c)) h) (sym (rw (does.sets, set, own, eqb-same h) refl))
-        ∙ tabulate-set (deadline c past) (deadline c (event ∷ past)) c.harts h
-        (λ j other. rw (does.sets, set, own, eqb-other j h (λ e. other (sym e))) refl);
+          ap (λ (ds : List (Option ℕ)). slice_set ds h value) stand.deadlines
+          ∙ ap (slice_set (map (deadline c past) (harts_of c)) h) (sym (rw (does.sets, set, own, eqb-same h) refl))
+          ∙ tabulate-set (deadline c past) (deadline c (event ∷ past)) c.harts h
+          (λ j other. rw (does.sets, set, own, eqb-other j h (λ e. other (sym e))) refl);
     }
 
   pub sstatus_sie-quiet : (set : List ℕ) → deed.sstatus ≡ None → set ≡ ids_where (sstatus_sie past) → set ≡ ids_where (sstatus_sie (event ∷ past))
@@ -181,11 +180,11 @@ module _ (c : Config) (past : List Event) (event : Event) (deed : Deed) (does : 
   pub ipis-sent : (ipis targets : List ℕ) → deed.ssip ≡ None → ((i : ℕ) → i < 128 → has targets i ≡ deed.reach i) → IpisStand c past ipis → IpisStand c (event ∷ past) (union_of ipis targets)
   ipis-sent ipis targets none reached stand = record {
     ssip =
-      ap (λ ids. union_of ids targets) stand.ssip
-      ∙ ids_where-agree _ (ssip c (event ∷ past)) (λ i below.
-          ap (λ b. b || has targets i) (has-ids_where (ssip c past) i below)
-          ∙ ap (λ b. ssip c past i || b) (reached i below)
-          ∙ rw (does.reaches i, does.writes_ssip, none) (either_way (ssip c past i) (deed.reach i)));
+        ap (λ ids. union_of ids targets) stand.ssip
+        ∙ ids_where-agree _ (ssip c (event ∷ past)) (λ i below.
+        ap (λ b. b || has targets i) (has-ids_where (ssip c past) i below)
+        ∙ ap (λ b. ssip c past i || b) (reached i below)
+        ∙ rw (does.reaches i, does.writes_ssip, none) (either_way (ssip c past i) (deed.reach i)));
   }
     where
       either_way : (a b : Bool) → (a || b) ≡ (b || a)
@@ -235,9 +234,9 @@ module _ (c : Config) (past : List Event) (event : Event) (deed : Deed) (does : 
   stands-moved m hsm x s resume own moves stands changed = record {
     harts = record {
       each =
-        changed
-        ∙ ap (λ (d : Deed). slice_set m.hsm x (record { state = s; kept = kept_in s (last_start c past x) (unwrap_or d.resume (resume_point past x)) })) (sym moves)
-        ∙ (harts-own m.hsm x s own (ap (λ (d : Deed). d.move) moves) (ap (λ (d : Deed). d.start) moves) stands.harts).each;
+          changed
+          ∙ ap (λ (d : Deed). slice_set m.hsm x (record { state = s; kept = kept_in s (last_start c past x) (unwrap_or d.resume (resume_point past x)) })) (sym moves)
+          ∙ (harts-own m.hsm x s own (ap (λ (d : Deed). d.move) moves) (ap (λ (d : Deed). d.start) moves) stands.harts).each;
     };
     csrs = csrs-quiet m.csrs (ap (λ (d : Deed). d.sstatus) moves) (ap (λ (d : Deed). d.sie) moves) stands.csrs;
     ipis = ipis-quiet m.ipis (ap (λ (d : Deed). d.ssip) moves) (λ i. ap (λ (d : Deed). d.reach i) moves) stands.ipis;

@@ -1,6 +1,6 @@
 -- In a legal history the starts of a hart are its entries and then its pending one.
 use Rattle.std.proofs.Common.{◌≡◌, ℕ, Bool, true, false, List, [], ◌∷◌, ◌++◌, refl, sym, ap, ◌∙◌, eqb}
-use Rattle.std.specs.Prelude.{Option, Some, None, Result, Ok, Err, filter, find, nat_le, length, ◌==◌, not, if◌then◌else◌, unwrap_or}
+use Rattle.std.specs.Prelude.{Option, Some, None, Result, Ok, Err, filter, find, nat_le, not, if◌then◌else◌, unwrap_or}
 use Rattle.std.specs.Option.{option_to_list}
 use Rattle.std.proofs.lemmas.Bool.{eqb-true}
 use Rattle.sbi_abi.specs.declared.answer.SbiError.{SbiError}
@@ -23,16 +23,15 @@ use Rattle.board_core.specs.declared.event.Op.TheVariants.{Ecall, WriteSie, Writ
 use Rattle.board_core.specs.declared.event.Refusal.{Refusal}
 use Rattle.board_core.specs.declared.event.Refusal.TheVariants.{WrongPhase}
 use Rattle.board_core.specs.declared.event.Reply.{Reply}
-use Rattle.board_core.specs.declared.event.Reply.TheVariants.{Ret, Waiting, Gone, Entry}
+use Rattle.board_core.specs.declared.event.Reply.TheVariants.{Ret, Gone, Entry}
 use Rattle.board_core.specs.Csrs.{sstatus_sie}
 use Rattle.board_core.specs.Limits.{is_start_address}
-use Rattle.board_core.specs.Refusals.{IsAccepted, first_that_holds, is_full, is_started, is_stopped, refusals, refusals_in}
+use Rattle.board_core.specs.Refusals.{IsAccepted, first_that_holds, is_full, is_started, is_stopped, refusals_in}
 use Rattle.board_core.specs.Interrupts.{wake}
 use Rattle.board_core.specs.Suspends.{resume_point}
 use Rattle.board_core.specs.Replies.{IsLegal, advance_reply, answer, call_reply, failure, refused_or, reply, resume_reply, suspend_reply, unless}
 use Rattle.board_core.specs.Starts.{Start, StartsAreEntered, boot_start, entries, entry_by, is_of, last_start, pending, start_by_call, starts}
 use Rattle.board_core.specs.States.{Move, move_by, move_by_call, moved_to, state}
-use Rattle.board_core.proofs.Events.{is_success-failure}
 use Rattle.board_core.proofs.Rows.{unrefused}
 
 -- what passes a filter first passes the test
@@ -81,7 +80,7 @@ module _ (s : HartState) (theirs entered : List Start) (found : Option Start) (b
 
   by_start : (start : Start) (own : Bool) → (own ≡ true → s ≡ Stopped) → theirs ≡ pending_of s found ++ entered
       → (if own then start ∷ theirs else theirs)
-        ≡ pending_of (if own then StartPending else s) (if own then Some start else found) ++ entered
+      ≡ pending_of (if own then StartPending else s) (if own then Some start else found) ++ entered
   unfolding pending_of
   by_start start true stopped before = ap (λ (xs : List Start). start ∷ xs) (rw (stopped refl) at before)
   by_start start false stopped before = before
@@ -152,8 +151,8 @@ module _ (c : Config) where
         rw (ap (λ n. eqb h n) hart_is)
         (by_entry (state c past h) (filter (is_of h) (starts c past)) (filter (is_of h) (entries c past)) (find (is_of h) (starts c past)) (boot_start c)
         entry (eqb h hart) (λ mine.
-            let same : h ≡ x = eqb-true h hart mine ∙ sym hart_is in
-            rw same (theirs ∙ ap (λ (first : Start). first ∷ filter (is_of x) (entries c past)) (sym is))) (before h))
+        let same : h ≡ x = eqb-true h hart mine ∙ sym hart_is in
+        rw same (theirs ∙ ap (λ (first : Start). first ∷ filter (is_of x) (entries c past)) (sym is))) (before h))
 
   -- the law after a call
   after_call : (past : List Event) (before : (h : ℕ) → IsEntered past h) (h x : ℕ) (call : Call) (r : Reply)
@@ -169,7 +168,7 @@ module _ (c : Config) where
     where
       by_errors : (missing right : Bool) (s : HartState) → state c past t ≡ s
           → (let r = Ret (unless (first_that_holds ((missing, InvalidParam) ∷ (not right, InvalidAddress) ∷ (not (is_stopped s), AlreadyAvailable) ∷ [])) 0) in
-            IsEnteredBy past before h (move_by_call x (calls.HartStart t addr opaque) r) (start_by_call (calls.HartStart t addr opaque) r) None)
+          IsEnteredBy past before h (move_by_call x (calls.HartStart t addr opaque) r) (start_by_call (calls.HartStart t addr opaque) r) None)
       by_errors true right s at = quiet past before h
       by_errors false false s at = quiet past before h
       by_errors false true Stopped at = started past before h t addr opaque at

@@ -1,12 +1,11 @@
 -- How an accepted step makes a course one event longer.
-use Rattle.std.proofs.Common.{◌≡◌, ◌≢◌, ℕ, ◌+◌, ◌<◌, ◌≤◌, Bool, true, false, List, [], ◌∷◌, ◌++◌, length, reverse, refl, sym, ap, ◌∙◌, arith, eqb, inl, inr}
-use Rattle.std.specs.Prelude.{Option, Some, None, Ok, is_some, unwrap_or, ◌==◌, nat_le, nat_lt}
+use Rattle.std.proofs.Common.{◌≡◌, ◌≢◌, ℕ, ◌+◌, ◌<◌, Bool, true, false, List, [], ◌∷◌, ◌++◌, length, reverse, refl, sym, ap, ◌∙◌, arith, eqb, inl, inr}
+use Rattle.std.specs.Prelude.{None, Ok, is_some, unwrap_or, nat_le, nat_lt}
 use Rattle.std.proofs.lemmas.Bool.{cases_Bool, le-ltb, leb-true, lt-leb}
 use Rattle.std.proofs.lemmas.List.{reverse-append}
 use Rattle.hsm.specs.declared.hart.HartState.{HartState}
 use Rattle.interrupts.specs.Timing.{Timing, last_time, ticked}
 use Rattle.board_core.specs.declared.config.Config.{Config}
-use Rattle.board_core.specs.declared.event.Actor.{Actor}
 use Rattle.board_core.specs.declared.event.Actor.TheVariants.{Hart, Clock}
 use Rattle.board_core.specs.declared.event.Event.{Event}
 use Rattle.board_core.specs.declared.event.Op.{Op}
@@ -72,9 +71,9 @@ module _ (c : Config) (past : List Event) (event : Event) (answered : answer c p
     good = kept.good;
     legal = (answered, kept.legal);
     within =
-      let within = kept.within in
-      let apart : length past ≢ c.limit = λ full. absurd (let e : true ≡ false = sym (eqb-same c.limit) ∙ ap (λ n. eqb n c.limit) (sym full) ∙ room in cc) in
-      omega arith;
+        let within = kept.within in
+        let apart : length past ≢ c.limit = λ full. absurd (let e : true ≡ false = sym (eqb-same c.limit) ∙ ap (λ n. eqb n c.limit) (sym full) ∙ room in cc) in
+        omega arith;
   }
 
   pub stepped-more : record { config = c; past = event ∷ past } ≡ stepped (record { config = c; past = past }) event.actor event.op

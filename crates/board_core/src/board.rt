@@ -16,8 +16,8 @@ ghost use Rattle.board_core.specs.Totals.{totals};
 ghost use Rattle.board_core.specs.Stands.{StandsFor};
 
 use crate::config::{BuildFault, Config};
-use crate::event::{Actor, Event, Op, Refusal, Reply};
 use crate::csrs::{Csrs, Sie};
+use crate::event::{Actor, Event, Op, Refusal, Reply};
 use crate::machine::{Counts, Machine, perform};
 use hart_mask::HartSet;
 use hsm::{HartState, Hsm, Kept};

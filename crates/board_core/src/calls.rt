@@ -148,7 +148,9 @@ fn hart_suspend(
             if !is_start_address(config.pages, addr) {
                 return failure(SbiError::InvalidAddress);
             }
-            machine.hsm.suspend(h, SuspendKind::NonRetentive, addr, opaque);
+            machine
+                .hsm
+                .suspend(h, SuspendKind::NonRetentive, addr, opaque);
             Reply::Gone
         }
     }

@@ -82,9 +82,9 @@ impl Csrs {
     pub fn write_sie(&mut self, h: u64, sie: Sie)
         requires { h < 128 }
         ensures { self.new ≡ record {
-            sstatus_sie = self.old.sstatus_sie;
-            ssie = with_bit self.old.ssie h sie.ssie;
-            stie = with_bit self.old.stie h sie.stie;
+          sstatus_sie = self.old.sstatus_sie;
+          ssie = with_bit self.old.ssie h sie.ssie;
+          stie = with_bit self.old.stie h sie.stie;
         } }
     {
         self.ssie.set(h, sie.ssie);

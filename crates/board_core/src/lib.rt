@@ -11,7 +11,7 @@ mod event;
 mod machine;
 
 pub use board::{Board, Totals, starts_are_entered};
-pub use csrs::Sie;
 pub use config::{BuildFault, Config};
+pub use csrs::Sie;
 pub use event::{Actor, Event, Op, Refusal, Reply};
 pub use hsm::{HartState, Kept};

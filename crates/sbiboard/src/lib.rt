@@ -12,7 +12,7 @@ pub use command_line::{Task, command};
 pub use device::{Device, ReadFault, Source, read_whole};
 pub use guest_script::{Fault, Line, Script, ScriptFault, one_reading, parse, read_back};
 pub use monitor::{
-    Failed, Sink, print_event, print_head, print_line, print_reply, print, write_all,
+    Failed, Sink, print, print_event, print_head, print_line, print_reply, write_all,
 };
 pub use outcome::Outcome;
 pub use replaying::replay;

@@ -6,7 +6,7 @@ ghost use Rattle.sbiboard.specs.Sinks.{Puts};
 
 use crate::device::{ReadFault, Source, read_whole};
 use crate::guest_script::{Fault, Line, Script, ScriptFault, parse};
-use crate::monitor::{Failed, Sink, print_head, print, print_line};
+use crate::monitor::{Failed, Sink, print, print_head, print_line};
 use crate::outcome::Outcome;
 use board_core::{Board, BuildFault, Refusal, Reply};
 use std::alloc::Global;

@@ -1,5 +1,4 @@
-use Rattle.std.proofs.Common.{◌≡◌, ℕ, [], ◌∷◌, refl, sym, ap, ◌∙◌, inl, inr, false}
-use Rattle.std.specs.List.{range_with_len}
+use Rattle.std.proofs.Common.{◌≡◌, ℕ, [], refl, sym, ◌∙◌, inl, inr}
 use Rattle.std.proofs.lemmas.List.FromFn.{length-range_with_len}
 use Rattle.std.proofs.lemmas.Simd.{splat_is_map}
 use Rattle.std.specs.Prelude.{None}
@@ -10,9 +9,9 @@ use Rattle.hsm.specs.Transitions.{opened}
 use Rattle.board_core.specs.declared.config.Config.{Config}
 use Rattle.board_core.specs.Course.{harts_of}
 use Rattle.board_core.specs.Csrs.{sie, sstatus_sie}
-use Rattle.board_core.specs.Interrupts.{deadline, ssip}
+use Rattle.board_core.specs.Interrupts.{ssip}
 use Rattle.board_core.specs.Starts.{hart_of}
-use Rattle.board_core.proofs.Tables.{eqb-other, eqb-same, tabulate-same}
+use Rattle.board_core.proofs.Tables.{eqb-same, tabulate-same}
 use Rattle.board_core.proofs.board.opening.Goals as goal
 
 boot : Config → Kept

@@ -1,4 +1,4 @@
-use Rattle.std.proofs.Common.{sym, ◌∙◌, refl, ap, arith, ◌≡◌, length}
+use Rattle.std.proofs.Common.{sym, ◌∙◌, refl, ap, arith}
 use Rattle.std.proofs.lemmas.Bool.{lt-leb}
 use Rattle.hsm.specs.declared.hart.Kept.{Kept}
 use Rattle.hsm.specs.Harts.{Hart}
@@ -34,8 +34,8 @@ returns-in-Ok-clause-after c = λ x past regs is stands.
     rw c.success.ensures record {
       harts = record {
         each =
-          c.start.ensures.after ∙ ap (λ s. changed m.hsm c.args.t (started_from start s)) stopped
-          ∙ (harts-started config past event deed does m.hsm c.args.t c.args.addr c.args.opaque refl refl refl stands.harts).each;
+            c.start.ensures.after ∙ ap (λ s. changed m.hsm c.args.t (started_from start s)) stopped
+            ∙ (harts-started config past event deed does m.hsm c.args.t c.args.addr c.args.opaque refl refl refl stands.harts).each;
       };
       csrs = csrs-quiet config past event deed does m.csrs refl refl stands.csrs;
       ipis = ipis-quiet config past event deed does m.ipis refl (λ i. refl) stands.ipis;

@@ -1,4 +1,4 @@
-use Rattle.std.proofs.Common.{sym, ◌∙◌, refl, ap, arith, true, false, ◌≡◌, ◌<◌, length}
+use Rattle.std.proofs.Common.{sym, ◌∙◌, refl, ap, arith, true, false, ◌≡◌}
 use Rattle.std.specs.Prelude.{None}
 use Rattle.sbi_abi.specs.declared.answer.SbiError.TheVariants.{Failed}
 use Rattle.sbi_abi.specs.declared.call.Call.TheVariants.{HartStop}
@@ -14,8 +14,8 @@ use Rattle.board_core.proofs.calls.hart_stop.Goals as goal
 pub returns-then-contains-clause-answered : goal.returns-then-contains-clause-answered
 returns-then-contains-clause-answered c = λ config past stands.
     let on : sstatus_sie past c.args.h ≡ true =
-        sym (bit-read config past (sstatus_sie past) c.args.machine.now.csrs.sstatus_sie c.args.h (omega (arith, c.requires.in_range, c.requires.most)) stands.csrs.sstatus_sie)
-        ∙ sym c.contains.ensures.answer ∙ c.if-contains.true in
+    sym (bit-read config past (sstatus_sie past) c.args.machine.now.csrs.sstatus_sie c.args.h (omega (arith, c.requires.in_range, c.requires.most)) stands.csrs.sstatus_sie)
+    ∙ sym c.contains.ensures.answer ∙ c.if-contains.true in
     rw on c.failure.ensures
 
 pub returns-then-contains-clause-after : goal.returns-then-contains-clause-after
@@ -28,8 +28,8 @@ returns-then-contains-clause-after c = λ config past regs is stands.
 pub returns-clause-answered : goal.returns-clause-answered
 returns-clause-answered c = λ config past stands.
     let off : sstatus_sie past c.args.h ≡ false =
-        sym (bit-read config past (sstatus_sie past) c.args.machine.now.csrs.sstatus_sie c.args.h (omega (arith, c.requires.in_range, c.requires.most)) stands.csrs.sstatus_sie)
-        ∙ sym c.contains.ensures.answer ∙ c.if-contains.false in
+    sym (bit-read config past (sstatus_sie past) c.args.machine.now.csrs.sstatus_sie c.args.h (omega (arith, c.requires.in_range, c.requires.most)) stands.csrs.sstatus_sie)
+    ∙ sym c.contains.ensures.answer ∙ c.if-contains.false in
     rw off refl
 
 pub returns-clause-after : goal.returns-clause-after
@@ -42,8 +42,8 @@ returns-clause-after c = λ config past regs is stands.
     record {
       harts = record {
         each =
-          c.stop.ensures ∙ ap (λ s. changed m.hsm h (stopped_from s)) c.requires.running
-          ∙ (harts-own config past event deed does m.hsm h StopPending refl refl refl stands.harts).each;
+            c.stop.ensures ∙ ap (λ s. changed m.hsm h (stopped_from s)) c.requires.running
+            ∙ (harts-own config past event deed does m.hsm h StopPending refl refl refl stands.harts).each;
       };
       csrs = csrs-quiet config past event deed does m.csrs refl refl stands.csrs;
       ipis = ipis-quiet config past event deed does m.ipis refl (λ i. refl) stands.ipis;

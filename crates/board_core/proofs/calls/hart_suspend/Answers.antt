@@ -1,10 +1,9 @@
-use Rattle.std.proofs.Common.{◌∙◌, refl, ap, sym}
+use Rattle.std.proofs.Common.{◌∙◌, refl, ap}
 use Rattle.std.specs.Prelude.{Some, None}
 use Rattle.sbi_abi.specs.declared.call.Call.TheVariants.{HartSuspend}
-use Rattle.sbi_abi.specs.declared.suspend.SuspendKind.TheVariants.{NonRetentive, Retentive}
 use Rattle.hsm.specs.declared.hart.HartState.TheVariants.{SuspendPending}
 use Rattle.hsm.specs.declared.hart.Kept.{Kept}
-use Rattle.hsm.specs.Transitions.{changed, kept_by, suspended_from}
+use Rattle.hsm.specs.Transitions.{changed, suspended_from}
 use Rattle.board_core.specs.declared.event.Reply.TheVariants.{Gone, Waiting}
 use Rattle.board_core.proofs.Events.{called, deed_of_call, does_call}
 use Rattle.board_core.proofs.Standing.{stands-moved}

@@ -1,5 +1,5 @@
-use Rattle.std.proofs.Common.{Bool, true, false, ◌≡◌, ℕ, ◌<◌, ◌≤◌, List, refl, sym, ap, ◌∙◌, arith, map, length}
-use Rattle.std.specs.Prelude.{Some, ◌&&◌}
+use Rattle.std.proofs.Common.{Bool, true, false, ◌≡◌, ℕ, ◌<◌, refl, sym, ap, ◌∙◌}
+use Rattle.std.specs.Prelude.{◌&&◌}
 use Rattle.sbi_abi.specs.declared.call.Call.TheVariants.{SendIpi}
 use Rattle.hart_mask.specs.HartList.{targets_of}
 use Rattle.hart_mask.specs.Ids.{has}
@@ -29,12 +29,12 @@ returns-in-Ok-clause-after c = λ x past regs is stands.
     let deed = deed_of_call config past x call (Ret (success 0)) in
     let does = does_call config past x regs call (Ret (success 0)) is in
     let reached : (i : ℕ) → i < 128 → has c.intersection-reached.result i ≡ is_target (targets_of c.args.mask c.args.base config.harts) i && is_interruptible (state config past i) = λ i below.
-        ap (λ ids. has ids i) c.intersection-reached.ensures
-        ∙ has-ids_where (λ h. has c.in-Ok.harts h && has c.interruptible.result h) i below
-        ∙ ap (λ ids. has c.in-Ok.harts i && has ids i) c.interruptible.ensures
-        ∙ ap (λ b. has c.in-Ok.harts i && b) (has-ids_where (λ h. is_interruptible (hart_at m.hsm h).state) i below)
-        ∙ of_targets (has c.in-Ok.harts i) _ _ (λ named. ap (λ (hart : Hart). is_interruptible hart.state) (hart_at-stand config past m.hsm stands.harts i (c.in-Ok.ensures.below i named)))
-        ∙ ap (λ targets. is_target targets i && is_interruptible (state config past i)) (sym c.in-Ok.ensures.answer) in
+    ap (λ ids. has ids i) c.intersection-reached.ensures
+    ∙ has-ids_where (λ h. has c.in-Ok.harts h && has c.interruptible.result h) i below
+    ∙ ap (λ ids. has c.in-Ok.harts i && has ids i) c.interruptible.ensures
+    ∙ ap (λ b. has c.in-Ok.harts i && b) (has-ids_where (λ h. is_interruptible (hart_at m.hsm h).state) i below)
+    ∙ of_targets (has c.in-Ok.harts i) _ _ (λ named. ap (λ (hart : Hart). is_interruptible hart.state) (hart_at-stand config past m.hsm stands.harts i (c.in-Ok.ensures.below i named)))
+    ∙ ap (λ targets. is_target targets i && is_interruptible (state config past i)) (sym c.in-Ok.ensures.answer) in
     rw (c.success.ensures, c.send.ensures) record {
       harts = harts-quiet config past event deed does m.hsm refl refl refl stands.harts;
       csrs = csrs-quiet config past event deed does m.csrs refl refl stands.csrs;

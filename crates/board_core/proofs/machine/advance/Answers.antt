@@ -1,24 +1,15 @@
-use Rattle.std.proofs.Common.{◌≡◌, ℕ, List, ◌∷◌, ap, sym, refl, ◌∙◌, arith, false, true}
-use Rattle.std.specs.Prelude.{None, Some, is_some, slice_set}
-use Rattle.hsm.specs.declared.hart.HartState.{HartState}
+use Rattle.std.proofs.Common.{◌≡◌, ap, sym, refl, ◌∙◌, arith, false, true}
+use Rattle.std.specs.Prelude.{None, Some, is_some}
 use Rattle.hsm.specs.declared.hart.HartState.TheVariants.{Started}
-use Rattle.hsm.specs.Harts.{Hart}
 use Rattle.hsm.specs.declared.hart.Moved.TheVariants as moves
 use Rattle.hsm.specs.Transitions.{hart_at}
 use Rattle.board_core.specs.declared.event.Op.TheVariants.{Advance}
 use Rattle.board_core.specs.declared.event.Reply.TheVariants.{Entry, Moved, Ret}
-use Rattle.board_core.specs.declared.config.Config.{Config}
-use Rattle.board_core.specs.declared.event.Event.{Event}
-use Rattle.board_core.specs.declared.event.Reply.{Reply}
-use Rattle.board_core.specs.declared.machine.Machine.{Machine}
 use Rattle.board_core.specs.Csrs.{none_enabled}
-use Rattle.board_core.specs.Starts.{kept_in, last_start}
-use Rattle.board_core.specs.Stands.{StandsFor}
-use Rattle.board_core.specs.Suspends.{resume_point}
 use Rattle.board_core.specs.Replies.{success}
 use Rattle.board_core.proofs.Events.{advanced, deed_of, deed_of_entry, deed_of_resume, does_entry, does_resume, does_step}
 use Rattle.board_core.proofs.Rows.{accepted_goes_on, told}
-use Rattle.board_core.proofs.Standing.{counts-quiet, csrs-quiet, harts-own, ipis-cleared, ipis-quiet, ssie-quiet, ssie-written, sstatus_sie-written, stands-moved, stie-quiet, stie-written, timers-quiet, timers-set}
+use Rattle.board_core.proofs.Standing.{counts-quiet, harts-own, ipis-cleared, ipis-quiet, ssie-quiet, ssie-written, sstatus_sie-written, stands-moved, stie-quiet, stie-written, timers-quiet, timers-set}
 use Rattle.board_core.proofs.machine.advance.Goals as goal
 
 pub unreachable-requires : goal.unreachable-requires
@@ -30,22 +21,22 @@ unreachable-requires c =
 pub returns-in-Some-Entered-clause-answered : goal.returns-in-Some-Entered-clause-answered
 returns-in-Some-Entered-clause-answered c = λ config past stands.
     (told config past c.args.machine.now.hsm c.args.h c.args.wake (moves.Entered c.in-Some-Entered.start) stands.harts c.requires.in_range
-        (sym c.advance.ensures.answer ∙ c.in-Some-Entered.is ∙ ap Some c.in-Some-Entered.field-0-is)).reply
+    (sym c.advance.ensures.answer ∙ c.in-Some-Entered.is ∙ ap Some c.in-Some-Entered.field-0-is)).reply
 
 pub returns-in-Some-Resumed-clause-answered : goal.returns-in-Some-Resumed-clause-answered
 returns-in-Some-Resumed-clause-answered c = λ config past stands.
     (told config past c.args.machine.now.hsm c.args.h c.args.wake (moves.Resumed c.in-Some-Resumed.resume) stands.harts c.requires.in_range
-        (sym c.advance.ensures.answer ∙ c.in-Some-Resumed.is ∙ ap Some c.in-Some-Resumed.field-0-is)).reply
+    (sym c.advance.ensures.answer ∙ c.in-Some-Resumed.is ∙ ap Some c.in-Some-Resumed.field-0-is)).reply
 
 pub returns-in-Some-Returned-clause-answered : goal.returns-in-Some-Returned-clause-answered
 returns-in-Some-Returned-clause-answered c = λ config past stands.
     (told config past c.args.machine.now.hsm c.args.h c.args.wake moves.Returned stands.harts c.requires.in_range
-        (sym c.advance.ensures.answer ∙ c.in-Some-Returned.is ∙ ap Some c.in-Some-Returned.field-0-is)).reply
+    (sym c.advance.ensures.answer ∙ c.in-Some-Returned.is ∙ ap Some c.in-Some-Returned.field-0-is)).reply
 
 pub returns-in-Some-To-clause-answered : goal.returns-in-Some-To-clause-answered
 returns-in-Some-To-clause-answered c = λ config past stands.
     (told config past c.args.machine.now.hsm c.args.h c.args.wake (moves.To c.in-Some-To.state) stands.harts c.requires.in_range
-        (sym c.advance.ensures.answer ∙ c.in-Some-To.is ∙ ap Some c.in-Some-To.field-0-is)).reply
+    (sym c.advance.ensures.answer ∙ c.in-Some-To.is ∙ ap Some c.in-Some-To.field-0-is)).reply
 
 pub returns-in-Some-Entered-clause-after : goal.returns-in-Some-Entered-clause-after
 returns-in-Some-Entered-clause-after c = λ config past stands.
@@ -53,7 +44,7 @@ returns-in-Some-Entered-clause-after c = λ config past stands.
     let h = c.args.h in
     let start = c.in-Some-Entered.start in
     let t = told config past m.hsm h c.args.wake (moves.Entered start) stands.harts c.requires.in_range
-        (sym c.advance.ensures.answer ∙ c.in-Some-Entered.is ∙ ap Some c.in-Some-Entered.field-0-is) in
+    (sym c.advance.ensures.answer ∙ c.in-Some-Entered.is ∙ ap Some c.in-Some-Entered.field-0-is) in
     let event = advanced config past h (Entry start.addr h start.opaque) in
     let deed = deed_of_entry config past h start.addr start.opaque in
     let does = does_entry config past h start.addr start.opaque t.enters in
@@ -78,7 +69,7 @@ returns-in-Some-Resumed-clause-after c = λ config past stands.
     let h = c.args.h in
     let resume = c.in-Some-Resumed.resume in
     let t = told config past m.hsm h c.args.wake (moves.Resumed resume) stands.harts c.requires.in_range
-        (sym c.advance.ensures.answer ∙ c.in-Some-Resumed.is ∙ ap Some c.in-Some-Resumed.field-0-is) in
+    (sym c.advance.ensures.answer ∙ c.in-Some-Resumed.is ∙ ap Some c.in-Some-Resumed.field-0-is) in
     let event = advanced config past h (Entry resume.addr h resume.opaque) in
     let deed = deed_of_resume config past h in
     let does = does_resume config past h resume.addr resume.opaque t.enters in
@@ -98,7 +89,7 @@ pub returns-in-Some-Returned-clause-after : goal.returns-in-Some-Returned-clause
 returns-in-Some-Returned-clause-after c = λ config past stands.
     let m = c.args.machine.now in
     let t = told config past m.hsm c.args.h c.args.wake moves.Returned stands.harts c.requires.in_range
-        (sym c.advance.ensures.answer ∙ c.in-Some-Returned.is ∙ ap Some c.in-Some-Returned.field-0-is) in
+    (sym c.advance.ensures.answer ∙ c.in-Some-Returned.is ∙ ap Some c.in-Some-Returned.field-0-is) in
     stands-moved config past (advanced config past c.args.h (Ret (success 0))) (deed_of config past c.args.h Advance (Ret (success 0))) (does_step config past c.args.h Advance (Ret (success 0)))
     m c.advance.new.self c.args.h Started None refl refl stands (c.advance.ensures.after ∙ t.after)
 
@@ -107,6 +98,6 @@ returns-in-Some-To-clause-after c = λ config past stands.
     let m = c.args.machine.now in
     let s = c.in-Some-To.state in
     let t = told config past m.hsm c.args.h c.args.wake (moves.To s) stands.harts c.requires.in_range
-        (sym c.advance.ensures.answer ∙ c.in-Some-To.is ∙ ap Some c.in-Some-To.field-0-is) in
+    (sym c.advance.ensures.answer ∙ c.in-Some-To.is ∙ ap Some c.in-Some-To.field-0-is) in
     stands-moved config past (advanced config past c.args.h (Moved s)) (deed_of config past c.args.h Advance (Moved s)) (does_step config past c.args.h Advance (Moved s))
     m c.advance.new.self c.args.h s None refl refl stands (c.advance.ensures.after ∙ t.after)

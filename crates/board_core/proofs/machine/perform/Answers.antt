@@ -1,5 +1,4 @@
-use Rattle.std.proofs.Common.{◌≡◌, ap, refl, sym, ◌∙◌, arith}
-use Rattle.std.specs.Prelude.{Some}
+use Rattle.std.proofs.Common.{ap, refl, ◌∙◌, arith}
 use Rattle.board_core.specs.declared.event.Op.TheVariants.{ClearSsip, ReadSip, Wfi, WriteSie, WriteSstatusSie}
 use Rattle.board_core.specs.declared.event.Reply.TheVariants.{Done, Value}
 use Rattle.board_core.specs.Csrs.{sie_of, value_of}

@@ -1,5 +1,5 @@
-use Rattle.std.proofs.Common.{◌≡◌, ◌+◌, ◌<◌, ◌≤◌, List, ap, refl, sym, ◌∙◌, arith, reverse, false, true}
-use Rattle.std.specs.Prelude.{is_some, nat_lt, not, unwrap_or}
+use Rattle.std.proofs.Common.{◌≡◌, ◌+◌, ap, refl, sym, ◌∙◌, arith, reverse, false, true}
+use Rattle.std.specs.Prelude.{is_some, nat_lt, not}
 use Rattle.interrupts.specs.Timing.{last_time, ticked}
 use Rattle.board_core.specs.declared.event.Actor.TheVariants.{Clock}
 use Rattle.board_core.specs.declared.event.Event.{Event}
@@ -36,6 +36,6 @@ invariant_of-self-2 c =
         counts = counts-quiet config past tick deed does m.counts refl refl stands.counts;
       },
       let capacity = c.push_reserved.ensures.capacity in
-      let enough = c.self.invariant.2 in
-      omega arith,
+          let enough = c.self.invariant.2 in
+          omega arith,
     )

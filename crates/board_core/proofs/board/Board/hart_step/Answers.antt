@@ -1,5 +1,4 @@
-use Rattle.std.proofs.Common.{◌≡◌, ◌<◌, ℕ, List, ap, sym, ◌∙◌, arith, length, reverse, subst}
-use Rattle.std.specs.Prelude.{None, Ok}
+use Rattle.std.proofs.Common.{List, ap, sym, ◌∙◌, arith, reverse}
 use Rattle.hsm.specs.Harts.{Hart as HartView}
 use Rattle.board_core.specs.declared.event.Actor.TheVariants.{Hart}
 use Rattle.board_core.specs.declared.event.Event.{Event}

@@ -1,4 +1,4 @@
-use Rattle.std.proofs.Common.{◌≡◌, ap, ◌∙◌, arith}
+use Rattle.std.proofs.Common.{ap, ◌∙◌, arith}
 use Rattle.board_core.specs.Course.{Course}
 use Rattle.board_core.proofs.Standing.{sie-read}
 use Rattle.board_core.proofs.board.Board.sie.Goals as goal

@@ -1,4 +1,4 @@
-use Rattle.std.proofs.Common.{◌≡◌, ap, ◌∙◌, arith, reverse}
+use Rattle.std.proofs.Common.{ap, ◌∙◌, arith, reverse}
 use Rattle.board_core.specs.Course.{Course}
 use Rattle.board_core.specs.Csrs.{sstatus_sie}
 use Rattle.board_core.proofs.Standing.{bit-read}

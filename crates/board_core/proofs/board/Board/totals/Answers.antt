@@ -1,4 +1,4 @@
-use Rattle.std.proofs.Common.{ap, ◌∙◌}
+use Rattle.std.proofs.Common.{◌∙◌}
 use Rattle.board_core.proofs.Standing.{count_by-pending}
 use Rattle.board_core.proofs.StartsLaw.{starts_are_entered}
 use Rattle.board_core.proofs.board.Board.totals.Goals as goal

@@ -1,4 +1,4 @@
-use Rattle.std.proofs.Common.{◌≡◌, ap, arith}
+use Rattle.std.proofs.Common.{ap, arith}
 use Rattle.board_core.specs.Course.{Course}
 use Rattle.board_core.proofs.Standing.{length-deadlines}
 use Rattle.board_core.proofs.board.Board.wake.Goals as goal
