@@ -4,3 +4,4 @@ pub mod Standing
 pub mod Rows
 pub mod Steps
 pub mod StartsLaw
+pub mod WorkedRows
