@@ -215,7 +215,7 @@ module _ (c : Config) (past : List Event) (event : Event) (deed : Deed) (does : 
     entries = rw (does.enters, no_entry) stand.entries;
   }
 
-  -- ---- what changes nothing but the history
+  -- ---- what changes nothing but the history, or one part
 
   pub stands-quiet : (m : Machine) → deed ≡ still → StandsFor c past m → StandsFor c (event ∷ past) m
   stands-quiet m none stands = record {
@@ -224,6 +224,39 @@ module _ (c : Config) (past : List Event) (event : Event) (deed : Deed) (does : 
     ipis = ipis-quiet m.ipis (ap (λ d. d.ssip) none) (λ i. ap (λ d. d.reach i) none) stands.ipis;
     timers = timers-quiet m.timers (ap (λ d. d.deadline) none) (ap (λ d. d.ticks) none) stands.timers;
     counts = counts-quiet m.counts (ap (λ d. d.start) none) (ap (λ d. d.entry) none) stands.counts;
+  }
+
+  -- what changes the registers alone
+  pub stands-csrs : (m : Machine) (csrs : Csrs) → deed ≡ record still { sstatus = deed.sstatus; sie = deed.sie } → StandsFor c past m
+      → CsrsStand c (event ∷ past) csrs → StandsFor c (event ∷ past) (record m { csrs = csrs })
+  stands-csrs m csrs alone stands changed = record {
+    harts = harts-quiet m.hsm (ap (λ d. d.move) alone) (ap (λ d. d.start) alone) (ap (λ d. d.resume) alone) stands.harts;
+    csrs = changed;
+    ipis = ipis-quiet m.ipis (ap (λ d. d.ssip) alone) (λ i. ap (λ d. d.reach i) alone) stands.ipis;
+    timers = timers-quiet m.timers (ap (λ d. d.deadline) alone) (ap (λ d. d.ticks) alone) stands.timers;
+    counts = counts-quiet m.counts (ap (λ d. d.start) alone) (ap (λ d. d.entry) alone) stands.counts;
+  }
+
+  -- what changes pending software interrupts alone
+  pub stands-ipis : (m : Machine) (ipis : List ℕ) → deed ≡ record still { ssip = deed.ssip; reach = deed.reach } → StandsFor c past m
+      → IpisStand c (event ∷ past) ipis → StandsFor c (event ∷ past) (record m { ipis = ipis })
+  stands-ipis m ipis alone stands changed = record {
+    harts = harts-quiet m.hsm (ap (λ d. d.move) alone) (ap (λ d. d.start) alone) (ap (λ d. d.resume) alone) stands.harts;
+    csrs = csrs-quiet m.csrs (ap (λ d. d.sstatus) alone) (ap (λ d. d.sie) alone) stands.csrs;
+    ipis = changed;
+    timers = timers-quiet m.timers (ap (λ d. d.deadline) alone) (ap (λ d. d.ticks) alone) stands.timers;
+    counts = counts-quiet m.counts (ap (λ d. d.start) alone) (ap (λ d. d.entry) alone) stands.counts;
+  }
+
+  -- what changes the time or a deadline alone
+  pub stands-timers : (m : Machine) (timers : Timing) → deed ≡ record still { deadline = deed.deadline; ticks = deed.ticks } → StandsFor c past m
+      → TimersStand c (event ∷ past) timers → StandsFor c (event ∷ past) (record m { timers = timers })
+  stands-timers m timers alone stands changed = record {
+    harts = harts-quiet m.hsm (ap (λ d. d.move) alone) (ap (λ d. d.start) alone) (ap (λ d. d.resume) alone) stands.harts;
+    csrs = csrs-quiet m.csrs (ap (λ d. d.sstatus) alone) (ap (λ d. d.sie) alone) stands.csrs;
+    ipis = ipis-quiet m.ipis (ap (λ d. d.ssip) alone) (λ i. ap (λ d. d.reach i) alone) stands.ipis;
+    timers = changed;
+    counts = counts-quiet m.counts (ap (λ d. d.start) alone) (ap (λ d. d.entry) alone) stands.counts;
   }
 
   -- what moves its hart alone, and may say where it is to go on

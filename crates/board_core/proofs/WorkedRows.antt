@@ -1,13 +1,11 @@
 -- Worked rows, computed from the definitions.
-use Rattle.std.proofs.Common.{◌≡◌, ℕ, Bool, true, false, List, [], ◌∷◌, refl, pos, negsuc}
+use Rattle.std.proofs.Common.{◌≡◌, ℕ, true, false, List, [], ◌∷◌, refl, pos, negsuc}
 use Rattle.std.specs.Prelude.{Result, Ok, Err}
 use Rattle.sbi_abi.specs.Calls.{call_of}
 use Rattle.sbi_abi.specs.SuspendTypes.{suspend_kind_of}
-use Rattle.sbi_abi.specs.declared.answer.Sbiret.{Sbiret}
 use Rattle.hart_mask.specs.HartList.{names_stray, targets_of}
 use Rattle.hart_mask.specs.Ids.{ids_where}
-use Rattle.hsm.specs.declared.hart.HartState.TheVariants.{ResumePending, Stopped, Suspended}
-use Rattle.board_core.specs.declared.config.Config.{Config}
+use Rattle.hsm.specs.declared.hart.HartState.TheVariants.{Stopped, Suspended}
 use Rattle.board_core.specs.declared.event.Actor.{Actor}
 use Rattle.board_core.specs.declared.event.Actor.TheVariants.{Hart, Clock}
 use Rattle.board_core.specs.declared.event.Op.{Op}

@@ -12,7 +12,7 @@ use Rattle.board_core.specs.Interrupts.{is_target}
 use Rattle.board_core.specs.States.{state}
 use Rattle.board_core.specs.Replies.{success}
 use Rattle.board_core.proofs.Events.{called, deed_of_call, does_call}
-use Rattle.board_core.proofs.Standing.{hart_at-stand, counts-quiet, csrs-quiet, harts-quiet, ipis-sent, timers-quiet}
+use Rattle.board_core.proofs.Standing.{hart_at-stand, ipis-sent, stands-ipis}
 use Rattle.board_core.proofs.calls.send_ipi.Goals as goal
 
 -- what is looked at of targets alone
@@ -35,10 +35,5 @@ returns-in-Ok-clause-after c = λ x past regs is stands.
     ∙ ap (λ b. has c.in-Ok.harts i && b) (has-ids_where (λ h. is_interruptible (hart_at m.hsm h).state) i below)
     ∙ of_targets (has c.in-Ok.harts i) _ _ (λ named. ap (λ (hart : Hart). is_interruptible hart.state) (hart_at-stand config past m.hsm stands.harts i (c.in-Ok.ensures.below i named)))
     ∙ ap (λ targets. is_target targets i && is_interruptible (state config past i)) (sym c.in-Ok.ensures.answer) in
-    rw (c.success.ensures, c.send.ensures) record {
-      harts = harts-quiet config past event deed does m.hsm refl refl refl stands.harts;
-      csrs = csrs-quiet config past event deed does m.csrs refl refl stands.csrs;
-      ipis = ipis-sent config past event deed does m.ipis c.intersection-reached.result refl reached stands.ipis;
-      timers = timers-quiet config past event deed does m.timers refl refl stands.timers;
-      counts = counts-quiet config past event deed does m.counts refl refl stands.counts;
-    }
+    rw (c.success.ensures, c.send.ensures)
+    (stands-ipis config past event deed does m _ refl stands (ipis-sent config past event deed does m.ipis c.intersection-reached.result refl reached stands.ipis))

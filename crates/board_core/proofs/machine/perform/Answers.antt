@@ -4,7 +4,7 @@ use Rattle.board_core.specs.declared.event.Reply.TheVariants.{Done, Value}
 use Rattle.board_core.specs.Csrs.{sie_of, value_of}
 use Rattle.board_core.specs.Interrupts.{ssip}
 use Rattle.board_core.proofs.Events.{deed_of, does_step, stepped}
-use Rattle.board_core.proofs.Standing.{bit-read, counts-quiet, csrs-quiet, harts-quiet, ipis-cleared, ipis-quiet, ssie-quiet, ssie-written, sstatus_sie-quiet, sstatus_sie-written, stands-quiet, stie-quiet, stie-written, stip-read, timers-quiet}
+use Rattle.board_core.proofs.Standing.{bit-read, ipis-cleared, ssie-quiet, ssie-written, sstatus_sie-quiet, sstatus_sie-written, stands-csrs, stands-ipis, stands-quiet, stie-quiet, stie-written, stip-read}
 use Rattle.board_core.proofs.machine.perform.Goals as goal
 
 pub returns-in-Ecall-clause-after : goal.returns-in-Ecall-clause-after
@@ -20,17 +20,12 @@ returns-in-WriteSie-clause-after c = λ past stands.
     let event = stepped config past h op Done in
     let deed = deed_of config past h op Done in
     let does = does_step config past h op Done in
-    rw (c.in-WriteSie.is, c.write_sie.ensures, c.of.ensures) record {
-      harts = harts-quiet config past event deed does m.hsm refl refl refl stands.harts;
-      csrs = record {
-        sstatus_sie = sstatus_sie-quiet config past event deed does m.csrs.sstatus_sie refl stands.csrs.sstatus_sie;
-        ssie = ssie-written config past event deed does h refl m.csrs.ssie sie refl stands.csrs.ssie;
-        stie = stie-written config past event deed does h refl m.csrs.stie sie refl stands.csrs.stie;
-      };
-      ipis = ipis-quiet config past event deed does m.ipis refl (λ i. refl) stands.ipis;
-      timers = timers-quiet config past event deed does m.timers refl refl stands.timers;
-      counts = counts-quiet config past event deed does m.counts refl refl stands.counts;
-    }
+    rw (c.in-WriteSie.is, c.write_sie.ensures, c.of.ensures)
+    (stands-csrs config past event deed does m _ refl stands record {
+      sstatus_sie = sstatus_sie-quiet config past event deed does m.csrs.sstatus_sie refl stands.csrs.sstatus_sie;
+      ssie = ssie-written config past event deed does h refl m.csrs.ssie sie refl stands.csrs.ssie;
+      stie = stie-written config past event deed does h refl m.csrs.stie sie refl stands.csrs.stie;
+    })
 
 pub returns-in-WriteSstatusSie-clause-after : goal.returns-in-WriteSstatusSie-clause-after
 returns-in-WriteSstatusSie-clause-after c = λ past stands.
@@ -41,17 +36,12 @@ returns-in-WriteSstatusSie-clause-after c = λ past stands.
     let event = stepped config past h op Done in
     let deed = deed_of config past h op Done in
     let does = does_step config past h op Done in
-    rw (c.in-WriteSstatusSie.is) record {
-      harts = harts-quiet config past event deed does m.hsm refl refl refl stands.harts;
-      csrs = record {
-        sstatus_sie = c.set.ensures ∙ sstatus_sie-written config past event deed does h refl m.csrs.sstatus_sie c.in-WriteSstatusSie.value refl stands.csrs.sstatus_sie;
-        ssie = ssie-quiet config past event deed does m.csrs.ssie refl stands.csrs.ssie;
-        stie = stie-quiet config past event deed does m.csrs.stie refl stands.csrs.stie;
-      };
-      ipis = ipis-quiet config past event deed does m.ipis refl (λ i. refl) stands.ipis;
-      timers = timers-quiet config past event deed does m.timers refl refl stands.timers;
-      counts = counts-quiet config past event deed does m.counts refl refl stands.counts;
-    }
+    rw c.in-WriteSstatusSie.is
+    (stands-csrs config past event deed does m _ refl stands record {
+      sstatus_sie = c.set.ensures ∙ sstatus_sie-written config past event deed does h refl m.csrs.sstatus_sie c.in-WriteSstatusSie.value refl stands.csrs.sstatus_sie;
+      ssie = ssie-quiet config past event deed does m.csrs.ssie refl stands.csrs.ssie;
+      stie = stie-quiet config past event deed does m.csrs.stie refl stands.csrs.stie;
+    })
 
 pub returns-in-ReadSip-clause-answered : goal.returns-in-ReadSip-clause-answered
 returns-in-ReadSip-clause-answered c = λ past stands.
@@ -77,13 +67,8 @@ returns-in-ClearSsip-clause-after c = λ past stands.
     let event = stepped config past h ClearSsip Done in
     let deed = deed_of config past h ClearSsip Done in
     let does = does_step config past h ClearSsip Done in
-    rw c.in-ClearSsip.is record {
-      harts = harts-quiet config past event deed does m.hsm refl refl refl stands.harts;
-      csrs = csrs-quiet config past event deed does m.csrs refl refl stands.csrs;
-      ipis = rw c.clear.ensures (ipis-cleared config past event deed does h refl m.ipis refl (λ i. refl) stands.ipis);
-      timers = timers-quiet config past event deed does m.timers refl refl stands.timers;
-      counts = counts-quiet config past event deed does m.counts refl refl stands.counts;
-    }
+    rw (c.in-ClearSsip.is, c.clear.ensures)
+    (stands-ipis config past event deed does m _ refl stands (ipis-cleared config past event deed does h refl m.ipis refl (λ i. refl) stands.ipis))
 
 pub returns-in-Wfi-clause-after : goal.returns-in-Wfi-clause-after
 returns-in-Wfi-clause-after c = λ past stands.

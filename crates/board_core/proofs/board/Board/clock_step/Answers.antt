@@ -8,7 +8,7 @@ use Rattle.board_core.specs.declared.event.Reply.TheVariants.{Done}
 use Rattle.board_core.specs.Course.{Course}
 use Rattle.board_core.specs.Refusals.{is_full}
 use Rattle.board_core.proofs.Events.{does_tick, still}
-use Rattle.board_core.proofs.Standing.{counts-quiet, csrs-quiet, harts-quiet, ipis-quiet, timers-ticked}
+use Rattle.board_core.proofs.Standing.{stands-timers, timers-ticked}
 use Rattle.board_core.proofs.Steps.{clock_answered, kept-more, past-more, ticked_on}
 use Rattle.board_core.proofs.board.Board.clock_step.Goals as goal
 
@@ -28,13 +28,7 @@ invariant_of-self-2 c =
     let answered = clock_answered config past n room (ap (λ t. nat_lt last_time (t + n)) (sym stands.timers.time) ∙ on.1) in
     rw (past-more c.self.inside.events.items _ tick c.push_reserved.ensures.items, c.tick.ensures.after) (
       kept-more config past tick answered room c.self.invariant.0,
-      record {
-        harts = harts-quiet config past tick deed does m.hsm refl refl refl stands.harts;
-        csrs = csrs-quiet config past tick deed does m.csrs refl refl stands.csrs;
-        ipis = ipis-quiet config past tick deed does m.ipis refl (λ i. refl) stands.ipis;
-        timers = rw on.0 (timers-ticked config past tick deed does m.timers n refl refl stands.timers);
-        counts = counts-quiet config past tick deed does m.counts refl refl stands.counts;
-      },
+      stands-timers config past tick deed does m _ refl stands (rw on.0 (timers-ticked config past tick deed does m.timers n refl refl stands.timers)),
       let capacity = c.push_reserved.ensures.capacity in
           let enough = c.self.invariant.2 in
           omega arith,
