@@ -1,12 +1,9 @@
 -- What accepted events do: which harts they move, and what they count and write.
 use Rattle.std.proofs.Common.{◌≡◌, ℕ, Bool, true, false, List, refl, sym, ap}
 use Rattle.std.specs.Prelude.{Option, Some, None}
-use Rattle.sbi_abi.specs.declared.answer.SbiError.{SbiError}
-use Rattle.sbi_abi.specs.declared.answer.SbiError.TheVariants as errors
 use Rattle.sbi_abi.specs.declared.call.Call.{Call}
 use Rattle.sbi_abi.specs.declared.call.Regs.{Regs}
 use Rattle.sbi_abi.specs.Calls.{call_of}
-use Rattle.sbi_abi.specs.Errors.{is_success}
 use Rattle.hsm.specs.declared.hart.HartState.TheVariants as states
 use Rattle.hsm.specs.declared.hart.Kept.{Kept}
 use Rattle.hsm.specs.States.{is_start_pending}
@@ -20,21 +17,9 @@ use Rattle.board_core.specs.declared.event.Reply.{Reply}
 use Rattle.board_core.specs.declared.event.Reply.TheVariants.{Entry, Done}
 use Rattle.board_core.specs.Csrs.{none_enabled, sie_by, sstatus_sie_by}
 use Rattle.board_core.specs.Interrupts.{deadline_by, deadline_by_call, reaches_by, reaches_by_call, ssip_by, ticks_by}
-use Rattle.board_core.specs.Replies.{failure}
 use Rattle.board_core.specs.Starts.{Start, entry_by, start_by, start_by_call}
 use Rattle.board_core.specs.States.{Move, is_starting, move_by, move_by_call, move_of, state}
 use Rattle.board_core.specs.Suspends.{resume_by, resume_by_call}
-
--- an error is no success
-pub is_success-failure : (error : SbiError) → is_success (failure error) ≡ false
-is_success-failure errors.Failed = refl
-is_success-failure errors.NotSupported = refl
-is_success-failure errors.InvalidParam = refl
-is_success-failure errors.Denied = refl
-is_success-failure errors.InvalidAddress = refl
-is_success-failure errors.AlreadyAvailable = refl
-is_success-failure errors.AlreadyStarted = refl
-is_success-failure errors.AlreadyStopped = refl
 
 -- What there is to do: a hart to move, a start, an entry of a start, what a suspend says of its end; values for
 -- sstatus.SIE, sie, SSIP and the deadline of the actor; ticks; and the harts that an IPI reaches.

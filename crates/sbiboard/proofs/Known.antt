@@ -1,17 +1,8 @@
 -- What several writes in a row did to the known bytes.
-use Rattle.std.proofs.Common.{◌≡◌, ℕ, zero, suc, append-nil, append_assoc, add-one, ◌+◌, ◌-◌, ◌≤◌, List, ◌++◌, Option, length, take, drop, sym, ap, ◌∙◌, subst, arith}
-use lib.Seq.{take-add, take-take}
+use Rattle.std.proofs.Common.{◌≡◌, ℕ, zero, suc, append-nil, append_assoc, add-one, ◌+◌, List, ◌++◌, Option, sym, ap, ◌∙◌, arith}
 use Rattle.std.specs.List.{flat_map, range_with_len}
 use Rattle.std.specs.Io.KnownBytes.{Appends}
 use Rattle.std.proofs.KnownBytes.{Appends-trans}
-
--- the front of a list, and then the front of what is left
-pub appends-more : (a b c : Option (List ℕ)) (xs : List ℕ) (done n : ℕ) → n ≤ length xs - done
-    → Appends a b (take done xs) → Appends b c (take n (take (length xs - done) (drop done xs))) → Appends a c (take (done + n) xs)
-appends-more a b c xs done n within front more =
-    let joined : take done xs ++ take n (take (length xs - done) (drop done xs)) ≡ take (done + n) xs =
-    ap (λ l. take done xs ++ l) (take-take n (length xs - done) (drop done xs) within) ∙ sym (take-add done n xs) in
-    subst (Appends a c) joined (Appends-trans a b c _ _ front more)
 
 texts-more : (f : ℕ → List ℕ) (from count : ℕ) → flat_map f (range_with_len from (suc count)) ≡ flat_map f (range_with_len from count) ++ f (from + count)
 texts-more f from zero = append-nil (f from) ∙ ap f (omega arith)

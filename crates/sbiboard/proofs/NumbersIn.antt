@@ -25,9 +25,6 @@ pub length-numbers_in : (limit : ℕ) (words : List (List ℕ)) → length (numb
 unfolding numbers_in
 length-numbers_in limit words = length-map words (λ word. unwrap_or (number_of limit word) 0)
 
-pub AreRead-none : (most limit : ℕ) (all : List (List ℕ)) → AreRead most limit all [] true all
-AreRead-none most limit all = record { values = refl; good = refl; within = omega arith }
-
 and_true : (a : Bool) → (a && true) ≡ a
 and_true true = refl
 and_true false = refl
