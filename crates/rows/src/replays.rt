@@ -10,7 +10,7 @@ struct Row {
     outcome: Outcome,
 }
 
-const ROWS: [Row; 6] = [
+const ROWS: [Row; 7] = [
     Row {
         name: "version",
         schedule: "board 1 1 10 0 0x80000000 0x0\n0 advance\n0 ecall 0x10 0\n",
@@ -146,6 +146,47 @@ c advance -> refused 2
 #    1 STOPPED            0   -  0  0 00  0 0000000000000000 ----------------   0  0
 ",
         outcome: Outcome::HistoryFull,
+    },
+    Row {
+        name: "examples/hart-life.sched",
+        schedule: "\
+# The life of a hart: hart 0 starts hart 1, which runs, stops, and is started again.
+board 2 1 20 0 0x80000000 0x0
+0 advance                            # hart 0 enters
+0 ecall 0x48534d 2 1                 # the state of hart 1? 1, STOPPED
+0 ecall 0x48534d 0 1 0x80000100 7    # hart 0 starts it
+0 ecall 0x48534d 2 1                 # 2, START_PENDING
+1 advance                            # hart 1 enters, with its id and 7
+1 sstatus 1                          # it enables its interrupts
+1 ecall 0x48534d 1                   # and so can't stop: -1
+1 sstatus 0
+1 ecall 0x48534d 1                   # now it can: the call doesn't return
+0 ecall 0x48534d 0 1 0x80000200 8    # STOP_PENDING can't be started: -6
+1 advance                            # 1, STOPPED
+0 ecall 0x48534d 0 1 0x80000200 8    # it is started again
+",
+        printed: "\
+board 2 1 20 0 0x80000000 0x0
+0 advance -> entry 0x80000000 0 0x0
+0 ecall 0x48534d 0x2 0x1 0x0 0x0 0x0 0x0 0x0 -> ret 0 0x1
+0 ecall 0x48534d 0x0 0x1 0x80000100 0x7 0x0 0x0 0x0 -> ret 0 0x0
+0 ecall 0x48534d 0x2 0x1 0x0 0x0 0x0 0x0 0x0 -> ret 0 0x2
+1 advance -> entry 0x80000100 1 0x7
+1 sstatus 1 -> done
+1 ecall 0x48534d 0x1 0x0 0x0 0x0 0x0 0x0 0x0 -> ret -1 0x0
+1 sstatus 0 -> done
+1 ecall 0x48534d 0x1 0x0 0x0 0x0 0x0 0x0 0x0 -> gone
+0 ecall 0x48534d 0x0 0x1 0x80000200 0x8 0x0 0x0 0x0 -> ret -6 0x0
+1 advance -> moved 1
+0 ecall 0x48534d 0x0 0x1 0x80000200 0x8 0x0 0x0 0x0 -> ret 0 0x0
+# time 0000000000000000 events      12 power on reset none
+# starts 3 entries 2 pending 1 asked 0 applied 0 waiting 0
+# hart state           wait out ss st ie se satp             deadline         tlb ic
+#    0 STARTED            0   -  0  0 00  0 0000000000000000 ----------------   0  0
+#    1 START_PENDING      0   -  0  0 00  0 0000000000000000 ----------------   0  0
+# entry   1 0000000080000200 0000000000000008
+",
+        outcome: Outcome::Good,
     },
 ];
 
