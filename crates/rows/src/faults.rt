@@ -27,9 +27,9 @@ const AFTER_BOARD: [(&[u8], u64, u64); 41] = [
     (b"0X1 advance", 2, 4),
     (b"0x advance", 2, 4),
     (b"18446744073709551616 advance", 2, 4),
-    (b"127 sip", 2, 3),
+    (b"127 sips", 2, 3),
     (b"0 load 1", 2, 3),
-    (b"c tick 1", 2, 3),
+    (b"c tock 1", 2, 3),
     (b"0 Advance", 2, 3),
     (b"0 ecal1 x", 2, 3),
     (b"0 ecall 0x10 0\n\n0 nope\n0 lod", 4, 3),
@@ -49,10 +49,12 @@ const AFTER_BOARD: [(&[u8], u64, u64); 41] = [
 ];
 
 /// Texts after a good board line that are steps, or none.
-const GOOD: [&[u8]; 10] = [
+const GOOD: [&[u8]; 12] = [
     b"",
     b" \t # -> any -> words",
     b"c advance#->",
+    b"127 sip",
+    b"c tick 1",
     b"127 advance\r\n",
     b"0x7f\tadvance\r\n\r\n",
     b"0000000000000000000000000127 advance",

@@ -4,7 +4,7 @@ use std::alloc::AllocError;
 use std::fmt::Write;
 use std::test::Fail;
 
-const ROWS: [Row; 13] = [
+const ROWS: [Row; 12] = [
     Row {
         name: "unknown-extension",
         opening: THREE_STARTED,
@@ -24,23 +24,6 @@ const ROWS: [Row; 13] = [
 0 ecall 0x10 3 0x504d55 -> ret 0 0x0
 0 ecall 0x10 7 -> ret -2 0x0",
         table: "# time 0000000000000000 events      10 power on reset none",
-        outcome: Outcome::Good,
-    },
-    // To be dropped line by line, as what they name is built.
-    Row {
-        name: "what isn't built yet",
-        opening: THREE_STARTED,
-        lines: "\
-0 ecall 0x10 3 0x54494d45 -> ret 0 0x0
-0 ecall 0x10 3 0x735049 -> ret 0 0x0
-0 ecall 0x10 3 0x52464e43 -> ret 0 0x0
-0 ecall 0x10 3 0x53525354 -> ret 0 0x0
-0 ecall 0x54494d45 0 10 -> ret -2 0x0
-0 ecall 0x735049 0 1 0 -> ret -2 0x0
-0 ecall 0x52464e43 0 1 0 -> ret -2 0x0
-0 ecall 0x53525354 0 0 0 -> ret -2 0x0
-0 ecall 0x48534d 3 0 -> ret -2 0x0",
-        table: "#    0 STARTED            0   -  0  0 00  0 0000000000000000 ----------------   0  0",
         outcome: Outcome::Good,
     },
     Row {

@@ -10,6 +10,8 @@ mod faults;
 #[cfg(test)]
 mod harts;
 #[cfg(test)]
+mod interrupts;
+#[cfg(test)]
 mod limits;
 #[cfg(test)]
 mod printing;
