@@ -10,7 +10,7 @@ mod faults;
 #[cfg(test)]
 mod harts;
 #[cfg(test)]
-mod interrupts;
+mod interrupt_rows;
 #[cfg(test)]
 mod limits;
 #[cfg(test)]
