@@ -1,14 +1,14 @@
 -- What the rows of the table of states say of a hart.
 use Rattle.std.proofs.Common.{◌≡◌, ℕ, ◌<◌, Bool, true, false, List, [], ◌∷◌, length, subst, refl, sym, ap, ◌∙◌}
 use Rattle.std.proofs.lemmas.Option.{same_Some}
-use Rattle.std.specs.Prelude.{Option, Some, None, is_some, option_map, slice_set}
+use Rattle.std.specs.Prelude.{Option, Some, None, not, is_some, option_map, slice_set}
 use Rattle.hsm.specs.declared.hart.HartState.{HartState}
 use Rattle.hsm.specs.declared.hart.HartState.TheVariants.{Started, Stopped, StartPending, StopPending, Suspended, SuspendPending, ResumePending}
 use Rattle.hsm.specs.declared.hart.Kept.{Kept}
 use Rattle.hsm.specs.declared.hart.Moved.{Moved}
 use Rattle.hsm.specs.declared.hart.Moved.TheVariants as moves
 use Rattle.hsm.specs.Harts.{Hart, running}
-use Rattle.hsm.specs.States.{goes_on, is_start_pending}
+use Rattle.hsm.specs.States.{goes_on, is_start_pending, is_stopped}
 use Rattle.hsm.specs.Transitions.{Step, advanced, advanced_from, changed, hart_at, resumed, started_from}
 use Rattle.board_core.specs.declared.config.Config.{Config}
 use Rattle.board_core.specs.declared.event.Event.{Event}
@@ -17,7 +17,7 @@ use Rattle.board_core.specs.declared.event.Op.TheVariants.{Advance}
 use Rattle.board_core.specs.declared.event.Refusal.TheVariants.{WrongPhase, Nothing, HistoryFull}
 use Rattle.board_core.specs.declared.event.Reply.{Reply}
 use Rattle.board_core.specs.declared.event.Reply.TheVariants as replies
-use Rattle.board_core.specs.Refusals.{IsAccepted, first_that_holds, has_nothing_to_do, is_out_of_phase, is_stopped, refusals_in}
+use Rattle.board_core.specs.Refusals.{IsAccepted, first_that_holds, has_nothing_to_do, is_out_of_phase, refusals_in}
 use Rattle.board_core.specs.Replies.{advance_reply, success}
 use Rattle.board_core.specs.Starts.{Start, kept_in, last_start}
 use Rattle.board_core.specs.Stands.{HartsStand}
@@ -65,14 +65,11 @@ unrefused op s wake is_full none = let fails = both_fail (is_out_of_phase op s) 
 
 -- a hart whose Advance is accepted goes on
 pub accepted_goes_on : (wake : Bool) (s : HartState) → IsAccepted Advance s wake → goes_on wake s ≡ true
-accepted_goes_on wake Started ready = absurd (let e = ready.in_phase in cc)
-accepted_goes_on wake Stopped ready = absurd (let e = ready.to_do in cc)
-accepted_goes_on wake StartPending ready = refl
-accepted_goes_on wake StopPending ready = refl
-accepted_goes_on true Suspended ready = refl
-accepted_goes_on false Suspended ready = absurd (let e = ready.to_do in cc)
-accepted_goes_on wake SuspendPending ready = refl
-accepted_goes_on wake ResumePending ready = refl
+accepted_goes_on wake s ready = by_test (goes_on wake s) ready.to_do
+  where
+    by_test : (on : Bool) → not on ≡ false → on ≡ true
+    by_test true to_do = refl
+    by_test false to_do = cc
 
 -- ---- the Advance of hart x
 

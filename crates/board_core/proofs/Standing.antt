@@ -17,16 +17,17 @@ use Rattle.board_core.specs.declared.csrs.Csrs.{Csrs}
 use Rattle.board_core.specs.declared.csrs.Sie.{Sie}
 use Rattle.board_core.specs.declared.event.Actor.TheVariants as actors
 use Rattle.board_core.specs.declared.event.Event.{Event}
-use Rattle.board_core.specs.declared.machine.Counts.{Counts}
+use Rattle.board_core.specs.declared.counts.Counts.{Counts}
+use Rattle.board_core.specs.declared.interrupt_state.Interrupts.{Interrupts}
 use Rattle.board_core.specs.declared.machine.Machine.{Machine}
 use Rattle.board_core.specs.Course.{harts_of}
-use Rattle.board_core.specs.Csrs.{enables, latest, sie, sstatus_sie}
-use Rattle.board_core.specs.Interrupts.{deadline, ssip, stip, wake}
+use Rattle.board_core.specs.Csrs.{enables, interrupt_bits, latest, sie, sie_by, sstatus_sie, sstatus_sie_by}
+use Rattle.board_core.specs.Interrupts.{deadline, deadline_by, reaches_by, ssip, ssip_by, stip, ticks_by, wake}
 use Rattle.board_core.specs.Starts.{Start, all_pending, entries, entry_by, hart_of, kept_in, last_start, start_by, starts}
-use Rattle.board_core.specs.Stands.{CountsStand, CsrsStand, HartsStand, IpisStand, StandsFor, TimersStand}
-use Rattle.board_core.specs.States.{is_starting, state}
-use Rattle.board_core.specs.Suspends.{resume_point}
-use Rattle.board_core.proofs.Events.{Deed, Does, still}
+use Rattle.board_core.specs.Stands.{CountsStand, CsrsStand, HartsStand, InterruptsStand, IpisStand, StandsFor, TimersStand}
+use Rattle.board_core.specs.States.{is_starting, move_of, state}
+use Rattle.board_core.specs.Suspends.{resume_by, resume_point}
+use Rattle.board_core.proofs.Events.{CountsDeed, Deed, HartsDeed, InterruptsDeed, deed, still}
 use Rattle.board_core.proofs.Tables.{count_by-map, eqb-other, eqb-same, length-filter_map, tabulate-same, tabulate-set}
 
 -- what was written last, at the hart that wrote and at another
@@ -72,70 +73,106 @@ module _ (c : Config) (past : List Event) (harts : List Hart) (stand : HartsStan
 
 -- ---- one event more
 
-module _ (c : Config) (past : List Event) (event : Event) (deed : Deed) (does : Does c past event deed) where
+module _ (c : Config) (past : List Event) (event : Event) (d : Deed) (does : deed c past event ≡ d) where
+  -- what it does, part by part
+  moves : move_of event.actor event.op event.reply ≡ d.harts.move
+  moves = ap (λ (e : Deed). e.harts.move) does
+
+  is_start : start_by event.op event.reply ≡ d.harts.start
+  is_start = ap (λ (e : Deed). e.harts.start) does
+
+  resumes : resume_by event.op event.reply ≡ d.harts.resume
+  resumes = ap (λ (e : Deed). e.harts.resume) does
+
+  writes_sstatus : sstatus_sie_by event.op event.reply ≡ d.interrupts.sstatus
+  writes_sstatus = ap (λ (e : Deed). e.interrupts.sstatus) does
+
+  writes_sie : sie_by event.op event.reply (is_starting c past event.actor) ≡ d.interrupts.sie
+  writes_sie = ap (λ (e : Deed). e.interrupts.sie) does
+
+  writes_ssip : ssip_by event.op event.reply (is_starting c past event.actor) ≡ d.interrupts.ssip
+  writes_ssip = ap (λ (e : Deed). e.interrupts.ssip) does
+
+  sets : deadline_by event.op event.reply (is_starting c past event.actor) ≡ d.interrupts.deadline
+  sets = ap (λ (e : Deed). e.interrupts.deadline) does
+
+  ticks : ticks_by event.op ≡ d.interrupts.ticks
+  ticks = ap (λ (e : Deed). e.interrupts.ticks) does
+
+  reaches : (h : ℕ) → reaches_by c past event.op event.reply h ≡ d.interrupts.reach h
+  reaches h = ap (λ (e : Deed). e.interrupts.reach h) does
+
+  counted_start : start_by event.op event.reply ≡ d.counts.start
+  counted_start = ap (λ (e : Deed). e.counts.start) does
+
+  counted_entry : entry_by event.op event.reply (is_starting c past event.actor) ≡ d.counts.entry
+  counted_entry = ap (λ (e : Deed). e.counts.entry) does
+
+  -- ---- harts
+
   -- what moves no hart
-  pub harts-quiet : (harts : List Hart) → deed.move ≡ None → deed.start ≡ None → deed.resume ≡ None
+  pub harts-quiet : (harts : List Hart) → d.harts.move ≡ None → d.harts.start ≡ None → d.harts.resume ≡ None
       → HartsStand c past harts → HartsStand c (event ∷ past) harts
   harts-quiet harts no_move no_start no_resume stand = record {
-    each = stand.each ∙ tabulate-same (hart_of c past) (hart_of c (event ∷ past)) (λ j. rw (does.moves, does.starts, does.resumes, no_move, no_start, no_resume) refl) (harts_of c);
+    each = stand.each ∙ tabulate-same (hart_of c past) (hart_of c (event ∷ past)) (λ j. rw (moves, is_start, resumes, no_move, no_start, no_resume) refl) (harts_of c);
   }
 
   -- a start makes its hart START_PENDING, and is kept
-  pub harts-started : (harts : List Hart) (t addr opaque : ℕ) → deed.move ≡ Some (record { hart = t; state = StartPending })
-      → deed.start ≡ Some (record { hart = t; addr = addr; opaque = opaque }) → deed.resume ≡ None
+  pub harts-started : (harts : List Hart) (t addr opaque : ℕ) → d.harts.move ≡ Some (record { hart = t; state = StartPending })
+      → d.harts.start ≡ Some (record { hart = t; addr = addr; opaque = opaque }) → d.harts.resume ≡ None
       → HartsStand c past harts → HartsStand c (event ∷ past) (slice_set harts t (starting (record { addr = addr; opaque = opaque })))
   harts-started harts t addr opaque move start resume stand =
       harts-moved c past harts stand event t _
-      (rw (does.moves, does.starts, move, start, eqb-same t) refl)
-      (λ j other. rw (does.moves, does.starts, does.resumes, move, start, resume, eqb-other j t (λ e. other (sym e))) refl)
+      (rw (moves, is_start, move, start, eqb-same t) refl)
+      (λ j other. rw (moves, is_start, resumes, move, start, resume, eqb-other j t (λ e. other (sym e))) refl)
 
   -- a hart's own move, which may say where it is to go on
   pub harts-own : (harts : List Hart) (x : ℕ) (s : HartState) → event.actor ≡ actors.Hart x
-      → deed.move ≡ Some (record { hart = x; state = s }) → deed.start ≡ None → HartsStand c past harts
-      → HartsStand c (event ∷ past) (slice_set harts x (record { state = s; kept = kept_in s (last_start c past x) (unwrap_or deed.resume (resume_point past x)) }))
+      → d.harts.move ≡ Some (record { hart = x; state = s }) → d.harts.start ≡ None → HartsStand c past harts
+      → HartsStand c (event ∷ past) (slice_set harts x (record { state = s; kept = kept_in s (last_start c past x) (unwrap_or d.harts.resume (resume_point past x)) }))
   harts-own harts x s own move start stand =
       harts-moved c past harts stand event x _
-      (rw (does.moves, does.starts, does.resumes, own, move, start, eqb-same x, latest-own deed.resume (resume_point past x)) refl)
-      (λ j other. rw (does.moves, does.starts, does.resumes, own, move, start, eqb-other j x (λ e. other (sym e)), latest-other deed.resume (resume_point past j)) refl)
+      (rw (moves, is_start, resumes, own, move, start, eqb-same x, latest-own d.harts.resume (resume_point past x)) refl)
+      (λ j other. rw (moves, is_start, resumes, own, move, start, eqb-other j x (λ e. other (sym e)), latest-other d.harts.resume (resume_point past j)) refl)
 
   -- ---- registers
 
   module _ (h : ℕ) (own : event.actor ≡ actors.Hart h) where
-    pub sstatus_sie-written : (set : List ℕ) (value : Bool) → deed.sstatus ≡ Some value → set ≡ ids_where (sstatus_sie past)
+    pub sstatus_sie-written : (set : List ℕ) (value : Bool) → d.interrupts.sstatus ≡ Some value → set ≡ ids_where (sstatus_sie past)
         → with_bit set h value ≡ ids_where (sstatus_sie (event ∷ past))
     sstatus_sie-written set value written stand =
         ap (λ ids. with_bit ids h value) stand
-        ∙ with_bit-by (sstatus_sie past) (sstatus_sie (event ∷ past)) h value (λ i below. rw (does.writes_sstatus, written, own) refl)
+        ∙ with_bit-by (sstatus_sie past) (sstatus_sie (event ∷ past)) h value (λ i below. rw (writes_sstatus, written, own) refl)
 
-    pub ssie-written : (set : List ℕ) (value : Sie) → deed.sie ≡ Some value → set ≡ ids_where (λ i. (sie c past i).ssie)
+    pub ssie-written : (set : List ℕ) (value : Sie) → d.interrupts.sie ≡ Some value → set ≡ ids_where (λ i. (sie c past i).ssie)
         → with_bit set h value.ssie ≡ ids_where (λ i. (sie c (event ∷ past) i).ssie)
     ssie-written set value written stand =
         ap (λ ids. with_bit ids h value.ssie) stand
         ∙ with_bit-by (λ i. (sie c past i).ssie) (λ i. (sie c (event ∷ past) i).ssie) h value.ssie
-        (λ i below. rw (does.writes_sie, written, own) (ssie-of (i == h) value (sie c past i)))
+        (λ i below. rw (writes_sie, written, own) (ssie-of (i == h) value (sie c past i)))
       where
         ssie-of : (b : Bool) (s t : Sie) → (if b then s.ssie else t.ssie) ≡ (if b then s else t).ssie
         ssie-of true s t = refl
         ssie-of false s t = refl
 
-    pub stie-written : (set : List ℕ) (value : Sie) → deed.sie ≡ Some value → set ≡ ids_where (λ i. (sie c past i).stie)
+    pub stie-written : (set : List ℕ) (value : Sie) → d.interrupts.sie ≡ Some value → set ≡ ids_where (λ i. (sie c past i).stie)
         → with_bit set h value.stie ≡ ids_where (λ i. (sie c (event ∷ past) i).stie)
     stie-written set value written stand =
         ap (λ ids. with_bit ids h value.stie) stand
         ∙ with_bit-by (λ i. (sie c past i).stie) (λ i. (sie c (event ∷ past) i).stie) h value.stie
-        (λ i below. rw (does.writes_sie, written, own) (stie-of (i == h) value (sie c past i)))
+        (λ i below. rw (writes_sie, written, own) (stie-of (i == h) value (sie c past i)))
       where
         stie-of : (b : Bool) (s t : Sie) → (if b then s.stie else t.stie) ≡ (if b then s else t).stie
         stie-of true s t = refl
         stie-of false s t = refl
 
     -- SSIP is cleared
-    pub ipis-cleared : (ipis : List ℕ) → deed.ssip ≡ Some false → ((i : ℕ) → deed.reach i ≡ false) → IpisStand c past ipis → IpisStand c (event ∷ past) (without_id ipis h)
+    pub ipis-cleared : (ipis : List ℕ) → d.interrupts.ssip ≡ Some false → ((i : ℕ) → d.interrupts.reach i ≡ false) → IpisStand c past ipis → IpisStand c (event ∷ past) (without_id ipis h)
     ipis-cleared ipis cleared none stand = record {
       ssip =
           ap (λ ids. without_id ids h) stand.ssip
           ∙ without_id-by (ssip c past) (ssip c (event ∷ past)) h
-          (λ i below. rw (does.reaches i, none i, does.writes_ssip, cleared, own) (out_or (i == h) (ssip c past i)));
+          (λ i below. rw (reaches i, none i, writes_ssip, cleared, own) (out_or (i == h) (ssip c past i)));
     }
       where
         out_or : (here before : Bool) → (not here && before) ≡ (if here then false else before)
@@ -143,27 +180,27 @@ module _ (c : Config) (past : List Event) (event : Event) (deed : Deed) (does : 
         out_or false before = refl
 
     -- the deadline is set, or forgotten
-    pub timers-set : (timers : Timing) (value : Option ℕ) → deed.deadline ≡ Some value → deed.ticks ≡ 0 → TimersStand c past timers
+    pub timers-set : (timers : Timing) (value : Option ℕ) → d.interrupts.deadline ≡ Some value → d.interrupts.ticks ≡ 0 → TimersStand c past timers
         → TimersStand c (event ∷ past) (with_deadline timers h value)
     timers-set timers value set no_ticks stand = record {
-      time = stand.time ∙ rw (does.ticks, no_ticks) (omega arith);
+      time = stand.time ∙ rw (ticks, no_ticks) (omega arith);
       deadlines =
           ap (λ (ds : List (Option ℕ)). slice_set ds h value) stand.deadlines
-          ∙ ap (slice_set (map (deadline c past) (harts_of c)) h) (sym (rw (does.sets, set, own, eqb-same h) refl))
+          ∙ ap (slice_set (map (deadline c past) (harts_of c)) h) (sym (rw (sets, set, own, eqb-same h) refl))
           ∙ tabulate-set (deadline c past) (deadline c (event ∷ past)) c.harts h
-          (λ j other. rw (does.sets, set, own, eqb-other j h (λ e. other (sym e))) refl);
+          (λ j other. rw (sets, set, own, eqb-other j h (λ e. other (sym e))) refl);
     }
 
-  pub sstatus_sie-quiet : (set : List ℕ) → deed.sstatus ≡ None → set ≡ ids_where (sstatus_sie past) → set ≡ ids_where (sstatus_sie (event ∷ past))
-  sstatus_sie-quiet set none stand = stand ∙ ids_where-agree (sstatus_sie past) (sstatus_sie (event ∷ past)) (λ i below. rw (does.writes_sstatus, none) refl)
+  pub sstatus_sie-quiet : (set : List ℕ) → d.interrupts.sstatus ≡ None → set ≡ ids_where (sstatus_sie past) → set ≡ ids_where (sstatus_sie (event ∷ past))
+  sstatus_sie-quiet set none stand = stand ∙ ids_where-agree (sstatus_sie past) (sstatus_sie (event ∷ past)) (λ i below. rw (writes_sstatus, none) refl)
 
-  pub ssie-quiet : (set : List ℕ) → deed.sie ≡ None → set ≡ ids_where (λ i. (sie c past i).ssie) → set ≡ ids_where (λ i. (sie c (event ∷ past) i).ssie)
-  ssie-quiet set none stand = stand ∙ ids_where-agree (λ i. (sie c past i).ssie) (λ i. (sie c (event ∷ past) i).ssie) (λ i below. rw (does.writes_sie, none) refl)
+  pub ssie-quiet : (set : List ℕ) → d.interrupts.sie ≡ None → set ≡ ids_where (λ i. (sie c past i).ssie) → set ≡ ids_where (λ i. (sie c (event ∷ past) i).ssie)
+  ssie-quiet set none stand = stand ∙ ids_where-agree (λ i. (sie c past i).ssie) (λ i. (sie c (event ∷ past) i).ssie) (λ i below. rw (writes_sie, none) refl)
 
-  pub stie-quiet : (set : List ℕ) → deed.sie ≡ None → set ≡ ids_where (λ i. (sie c past i).stie) → set ≡ ids_where (λ i. (sie c (event ∷ past) i).stie)
-  stie-quiet set none stand = stand ∙ ids_where-agree (λ i. (sie c past i).stie) (λ i. (sie c (event ∷ past) i).stie) (λ i below. rw (does.writes_sie, none) refl)
+  pub stie-quiet : (set : List ℕ) → d.interrupts.sie ≡ None → set ≡ ids_where (λ i. (sie c past i).stie) → set ≡ ids_where (λ i. (sie c (event ∷ past) i).stie)
+  stie-quiet set none stand = stand ∙ ids_where-agree (λ i. (sie c past i).stie) (λ i. (sie c (event ∷ past) i).stie) (λ i below. rw (writes_sie, none) refl)
 
-  pub csrs-quiet : (csrs : Csrs) → deed.sstatus ≡ None → deed.sie ≡ None → CsrsStand c past csrs → CsrsStand c (event ∷ past) csrs
+  pub csrs-quiet : (csrs : Csrs) → d.interrupts.sstatus ≡ None → d.interrupts.sie ≡ None → CsrsStand c past csrs → CsrsStand c (event ∷ past) csrs
   csrs-quiet csrs no_sstatus no_sie stand = record {
     sstatus_sie = sstatus_sie-quiet csrs.sstatus_sie no_sstatus stand.sstatus_sie;
     ssie = ssie-quiet csrs.ssie no_sie stand.ssie;
@@ -172,19 +209,19 @@ module _ (c : Config) (past : List Event) (event : Event) (deed : Deed) (does : 
 
   -- ---- interrupts
 
-  pub ipis-quiet : (ipis : List ℕ) → deed.ssip ≡ None → ((i : ℕ) → deed.reach i ≡ false) → IpisStand c past ipis → IpisStand c (event ∷ past) ipis
+  pub ipis-quiet : (ipis : List ℕ) → d.interrupts.ssip ≡ None → ((i : ℕ) → d.interrupts.reach i ≡ false) → IpisStand c past ipis → IpisStand c (event ∷ past) ipis
   ipis-quiet ipis none no_reach stand = record {
-    ssip = stand.ssip ∙ ids_where-agree (ssip c past) (ssip c (event ∷ past)) (λ i below. rw (does.reaches i, no_reach i, does.writes_ssip, none) refl);
+    ssip = stand.ssip ∙ ids_where-agree (ssip c past) (ssip c (event ∷ past)) (λ i below. rw (reaches i, no_reach i, writes_ssip, none) refl);
   }
 
-  pub ipis-sent : (ipis targets : List ℕ) → deed.ssip ≡ None → ((i : ℕ) → i < 128 → has targets i ≡ deed.reach i) → IpisStand c past ipis → IpisStand c (event ∷ past) (union_of ipis targets)
+  pub ipis-sent : (ipis targets : List ℕ) → d.interrupts.ssip ≡ None → ((i : ℕ) → i < 128 → has targets i ≡ d.interrupts.reach i) → IpisStand c past ipis → IpisStand c (event ∷ past) (union_of ipis targets)
   ipis-sent ipis targets none reached stand = record {
     ssip =
         ap (λ ids. union_of ids targets) stand.ssip
         ∙ ids_where-agree _ (ssip c (event ∷ past)) (λ i below.
         ap (λ b. b || has targets i) (has-ids_where (ssip c past) i below)
         ∙ ap (λ b. ssip c past i || b) (reached i below)
-        ∙ rw (does.reaches i, does.writes_ssip, none) (either_way (ssip c past i) (deed.reach i)));
+        ∙ rw (reaches i, writes_ssip, none) (either_way (ssip c past i) (d.interrupts.reach i)));
   }
     where
       either_way : (a b : Bool) → (a || b) ≡ (b || a)
@@ -193,88 +230,122 @@ module _ (c : Config) (past : List Event) (event : Event) (deed : Deed) (does : 
       either_way false true = refl
       either_way false false = refl
 
-  pub timers-quiet : (timers : Timing) → deed.deadline ≡ None → deed.ticks ≡ 0 → TimersStand c past timers → TimersStand c (event ∷ past) timers
+  pub timers-quiet : (timers : Timing) → d.interrupts.deadline ≡ None → d.interrupts.ticks ≡ 0 → TimersStand c past timers → TimersStand c (event ∷ past) timers
   timers-quiet timers none no_ticks stand = record {
-    time = stand.time ∙ rw (does.ticks, no_ticks) (omega arith);
-    deadlines = stand.deadlines ∙ tabulate-same (deadline c past) (deadline c (event ∷ past)) (λ j. rw (does.sets, none) refl) (harts_of c);
+    time = stand.time ∙ rw (ticks, no_ticks) (omega arith);
+    deadlines = stand.deadlines ∙ tabulate-same (deadline c past) (deadline c (event ∷ past)) (λ j. rw (sets, none) refl) (harts_of c);
   }
 
   -- the time goes on
-  pub timers-ticked : (timers : Timing) (n : ℕ) → deed.deadline ≡ None → deed.ticks ≡ n → TimersStand c past timers
+  pub timers-ticked : (timers : Timing) (n : ℕ) → d.interrupts.deadline ≡ None → d.interrupts.ticks ≡ n → TimersStand c past timers
       → TimersStand c (event ∷ past) (record timers { time = timers.time + n })
   timers-ticked timers n none ticked stand = record {
-    time = ap (λ t. t + n) stand.time ∙ rw (does.ticks, ticked) refl;
-    deadlines = stand.deadlines ∙ tabulate-same (deadline c past) (deadline c (event ∷ past)) (λ j. rw (does.sets, none) refl) (harts_of c);
+    time = ap (λ t. t + n) stand.time ∙ rw (ticks, ticked) refl;
+    deadlines = stand.deadlines ∙ tabulate-same (deadline c past) (deadline c (event ∷ past)) (λ j. rw (sets, none) refl) (harts_of c);
+  }
+
+  -- what changes the registers alone, pending software interrupts alone, or the time or a deadline alone
+  pub interrupts-csrs : (i : Interrupts) (csrs : Csrs) → d.interrupts ≡ record still.interrupts { sstatus = d.interrupts.sstatus; sie = d.interrupts.sie }
+      → InterruptsStand c past i → CsrsStand c (event ∷ past) csrs → InterruptsStand c (event ∷ past) (record i { csrs = csrs })
+  interrupts-csrs i csrs alone stands changed = record {
+    csrs = changed;
+    ipis = ipis-quiet i.ipis (ap (λ (e : InterruptsDeed). e.ssip) alone) (λ h. ap (λ (e : InterruptsDeed). e.reach h) alone) stands.ipis;
+    timers = timers-quiet i.timers (ap (λ (e : InterruptsDeed). e.deadline) alone) (ap (λ (e : InterruptsDeed). e.ticks) alone) stands.timers;
+  }
+
+  pub interrupts-ipis : (i : Interrupts) (ipis : List ℕ) → d.interrupts ≡ record still.interrupts { ssip = d.interrupts.ssip; reach = d.interrupts.reach }
+      → InterruptsStand c past i → IpisStand c (event ∷ past) ipis → InterruptsStand c (event ∷ past) (record i { ipis = ipis })
+  interrupts-ipis i ipis alone stands changed = record {
+    csrs = csrs-quiet i.csrs (ap (λ (e : InterruptsDeed). e.sstatus) alone) (ap (λ (e : InterruptsDeed). e.sie) alone) stands.csrs;
+    ipis = changed;
+    timers = timers-quiet i.timers (ap (λ (e : InterruptsDeed). e.deadline) alone) (ap (λ (e : InterruptsDeed). e.ticks) alone) stands.timers;
+  }
+
+  pub interrupts-timers : (i : Interrupts) (timers : Timing) → d.interrupts ≡ record still.interrupts { deadline = d.interrupts.deadline; ticks = d.interrupts.ticks }
+      → InterruptsStand c past i → TimersStand c (event ∷ past) timers → InterruptsStand c (event ∷ past) (record i { timers = timers })
+  interrupts-timers i timers alone stands changed = record {
+    csrs = csrs-quiet i.csrs (ap (λ (e : InterruptsDeed). e.sstatus) alone) (ap (λ (e : InterruptsDeed). e.sie) alone) stands.csrs;
+    ipis = ipis-quiet i.ipis (ap (λ (e : InterruptsDeed). e.ssip) alone) (λ h. ap (λ (e : InterruptsDeed). e.reach h) alone) stands.ipis;
+    timers = changed;
+  }
+
+  -- ---- components without a deed
+
+  pub harts-still : (harts : List Hart) → d.harts ≡ still.harts → HartsStand c past harts → HartsStand c (event ∷ past) harts
+  harts-still harts none stand =
+      harts-quiet harts (ap (λ (e : HartsDeed). e.move) none) (ap (λ (e : HartsDeed). e.start) none) (ap (λ (e : HartsDeed). e.resume) none) stand
+
+  pub interrupts-still : (i : Interrupts) → d.interrupts ≡ still.interrupts → InterruptsStand c past i → InterruptsStand c (event ∷ past) i
+  interrupts-still i none stands = record {
+    csrs = csrs-quiet i.csrs (ap (λ (e : InterruptsDeed). e.sstatus) none) (ap (λ (e : InterruptsDeed). e.sie) none) stands.csrs;
+    ipis = ipis-quiet i.ipis (ap (λ (e : InterruptsDeed). e.ssip) none) (λ h. ap (λ (e : InterruptsDeed). e.reach h) none) stands.ipis;
+    timers = timers-quiet i.timers (ap (λ (e : InterruptsDeed). e.deadline) none) (ap (λ (e : InterruptsDeed). e.ticks) none) stands.timers;
   }
 
   -- ---- counts
 
-  pub counts-quiet : (counts : Counts) → deed.start ≡ None → deed.entry ≡ None → CountsStand c past counts → CountsStand c (event ∷ past) counts
-  counts-quiet counts no_start no_entry stand = record {
-    starts = rw (does.starts, no_start) stand.starts;
-    entries = rw (does.enters, no_entry) stand.entries;
+  pub counts-still : (counts : Counts) → d.counts ≡ still.counts → CountsStand c past counts → CountsStand c (event ∷ past) counts
+  counts-still counts none stand = record {
+    starts = rw (counted_start, ap (λ (e : CountsDeed). e.start) none) stand.starts;
+    entries = rw (counted_entry, ap (λ (e : CountsDeed). e.entry) none) stand.entries;
   }
 
-  -- ---- what changes nothing but the history, or one part
+  -- one start more, and one entry more
+  pub counts-started : (counts : Counts) (start : Start) → d.counts ≡ record still.counts { start = Some start } → CountsStand c past counts
+      → CountsStand c (event ∷ past) (record counts { starts = counts.starts + 1 })
+  counts-started counts start is stand = record {
+    starts = let before = stand.starts in rw (counted_start, ap (λ (e : CountsDeed). e.start) is) (omega arith);
+    entries = rw (counted_entry, ap (λ (e : CountsDeed). e.entry) is) stand.entries;
+  }
 
-  pub stands-quiet : (m : Machine) → deed ≡ still → StandsFor c past m → StandsFor c (event ∷ past) m
+  pub counts-entered : (counts : Counts) (start : Start) → d.counts ≡ record still.counts { entry = Some start } → CountsStand c past counts
+      → CountsStand c (event ∷ past) (record counts { entries = counts.entries + 1 })
+  counts-entered counts start is stand = record {
+    starts = rw (counted_start, ap (λ (e : CountsDeed). e.start) is) stand.starts;
+    entries = let before = stand.entries in rw (counted_entry, ap (λ (e : CountsDeed). e.entry) is) (omega arith);
+  }
+
+  -- ---- the machine, by the components that an event touches; the others have no deed
+
+  pub stands-quiet : (m : Machine) → d ≡ still → StandsFor c past m → StandsFor c (event ∷ past) m
   stands-quiet m none stands = record {
-    harts = harts-quiet m.hsm (ap (λ d. d.move) none) (ap (λ d. d.start) none) (ap (λ d. d.resume) none) stands.harts;
-    csrs = csrs-quiet m.csrs (ap (λ d. d.sstatus) none) (ap (λ d. d.sie) none) stands.csrs;
-    ipis = ipis-quiet m.ipis (ap (λ d. d.ssip) none) (λ i. ap (λ d. d.reach i) none) stands.ipis;
-    timers = timers-quiet m.timers (ap (λ d. d.deadline) none) (ap (λ d. d.ticks) none) stands.timers;
-    counts = counts-quiet m.counts (ap (λ d. d.start) none) (ap (λ d. d.entry) none) stands.counts;
+    harts = harts-still m.hsm (ap (λ (e : Deed). e.harts) none) stands.harts;
+    interrupts = interrupts-still m.interrupts (ap (λ (e : Deed). e.interrupts) none) stands.interrupts;
+    counts = counts-still m.counts (ap (λ (e : Deed). e.counts) none) stands.counts;
   }
 
-  -- what changes the registers alone
-  pub stands-csrs : (m : Machine) (csrs : Csrs) → deed ≡ record still { sstatus = deed.sstatus; sie = deed.sie } → StandsFor c past m
-      → CsrsStand c (event ∷ past) csrs → StandsFor c (event ∷ past) (record m { csrs = csrs })
-  stands-csrs m csrs alone stands changed = record {
-    harts = harts-quiet m.hsm (ap (λ d. d.move) alone) (ap (λ d. d.start) alone) (ap (λ d. d.resume) alone) stands.harts;
-    csrs = changed;
-    ipis = ipis-quiet m.ipis (ap (λ d. d.ssip) alone) (λ i. ap (λ d. d.reach i) alone) stands.ipis;
-    timers = timers-quiet m.timers (ap (λ d. d.deadline) alone) (ap (λ d. d.ticks) alone) stands.timers;
-    counts = counts-quiet m.counts (ap (λ d. d.start) alone) (ap (λ d. d.entry) alone) stands.counts;
+  pub stands-interrupts : (m : Machine) (i : Interrupts) → d ≡ record still { interrupts = d.interrupts } → StandsFor c past m
+      → InterruptsStand c (event ∷ past) i → StandsFor c (event ∷ past) (record m { interrupts = i })
+  stands-interrupts m i alone stands changed = record {
+    harts = harts-still m.hsm (ap (λ (e : Deed). e.harts) alone) stands.harts;
+    interrupts = changed;
+    counts = counts-still m.counts (ap (λ (e : Deed). e.counts) alone) stands.counts;
   }
 
-  -- what changes pending software interrupts alone
-  pub stands-ipis : (m : Machine) (ipis : List ℕ) → deed ≡ record still { ssip = deed.ssip; reach = deed.reach } → StandsFor c past m
-      → IpisStand c (event ∷ past) ipis → StandsFor c (event ∷ past) (record m { ipis = ipis })
-  stands-ipis m ipis alone stands changed = record {
-    harts = harts-quiet m.hsm (ap (λ d. d.move) alone) (ap (λ d. d.start) alone) (ap (λ d. d.resume) alone) stands.harts;
-    csrs = csrs-quiet m.csrs (ap (λ d. d.sstatus) alone) (ap (λ d. d.sie) alone) stands.csrs;
-    ipis = changed;
-    timers = timers-quiet m.timers (ap (λ d. d.deadline) alone) (ap (λ d. d.ticks) alone) stands.timers;
-    counts = counts-quiet m.counts (ap (λ d. d.start) alone) (ap (λ d. d.entry) alone) stands.counts;
+  pub stands-harts : (m : Machine) (hsm : List Hart) → d ≡ record still { harts = d.harts } → StandsFor c past m
+      → HartsStand c (event ∷ past) hsm → StandsFor c (event ∷ past) (record m { hsm = hsm })
+  stands-harts m hsm alone stands changed = record {
+    harts = changed;
+    interrupts = interrupts-still m.interrupts (ap (λ (e : Deed). e.interrupts) alone) stands.interrupts;
+    counts = counts-still m.counts (ap (λ (e : Deed). e.counts) alone) stands.counts;
   }
 
-  -- what changes the time or a deadline alone
-  pub stands-timers : (m : Machine) (timers : Timing) → deed ≡ record still { deadline = deed.deadline; ticks = deed.ticks } → StandsFor c past m
-      → TimersStand c (event ∷ past) timers → StandsFor c (event ∷ past) (record m { timers = timers })
-  stands-timers m timers alone stands changed = record {
-    harts = harts-quiet m.hsm (ap (λ d. d.move) alone) (ap (λ d. d.start) alone) (ap (λ d. d.resume) alone) stands.harts;
-    csrs = csrs-quiet m.csrs (ap (λ d. d.sstatus) alone) (ap (λ d. d.sie) alone) stands.csrs;
-    ipis = ipis-quiet m.ipis (ap (λ d. d.ssip) alone) (λ i. ap (λ d. d.reach i) alone) stands.ipis;
-    timers = changed;
-    counts = counts-quiet m.counts (ap (λ d. d.start) alone) (ap (λ d. d.entry) alone) stands.counts;
+  pub stands-harts-interrupts : (m : Machine) (hsm : List Hart) (i : Interrupts) → d ≡ record still { harts = d.harts; interrupts = d.interrupts }
+      → StandsFor c past m → HartsStand c (event ∷ past) hsm → InterruptsStand c (event ∷ past) i
+      → StandsFor c (event ∷ past) (record m { hsm = hsm; interrupts = i })
+  stands-harts-interrupts m hsm i alone stands harts interrupts = record {
+    harts = harts;
+    interrupts = interrupts;
+    counts = counts-still m.counts (ap (λ (e : Deed). e.counts) alone) stands.counts;
   }
 
-  -- what moves its hart alone, and may say where it is to go on
-  pub stands-moved : (m : Machine) (hsm : List Hart) (x : ℕ) (s : HartState) (resume : Option (Option Kept)) → event.actor ≡ actors.Hart x
-      → deed ≡ record still { move = Some (record { hart = x; state = s }); resume = resume } → StandsFor c past m
-      → hsm ≡ slice_set m.hsm x (record { state = s; kept = kept_in s (last_start c past x) (unwrap_or resume (resume_point past x)) })
-      → StandsFor c (event ∷ past) (record m { hsm = hsm })
-  stands-moved m hsm x s resume own moves stands changed = record {
-    harts = record {
-      each =
-          changed
-          ∙ ap (λ (d : Deed). slice_set m.hsm x (record { state = s; kept = kept_in s (last_start c past x) (unwrap_or d.resume (resume_point past x)) })) (sym moves)
-          ∙ (harts-own m.hsm x s own (ap (λ (d : Deed). d.move) moves) (ap (λ (d : Deed). d.start) moves) stands.harts).each;
-    };
-    csrs = csrs-quiet m.csrs (ap (λ (d : Deed). d.sstatus) moves) (ap (λ (d : Deed). d.sie) moves) stands.csrs;
-    ipis = ipis-quiet m.ipis (ap (λ (d : Deed). d.ssip) moves) (λ i. ap (λ (d : Deed). d.reach i) moves) stands.ipis;
-    timers = timers-quiet m.timers (ap (λ (d : Deed). d.deadline) moves) (ap (λ (d : Deed). d.ticks) moves) stands.timers;
-    counts = counts-quiet m.counts (ap (λ (d : Deed). d.start) moves) (ap (λ (d : Deed). d.entry) moves) stands.counts;
+  pub stands-harts-counts : (m : Machine) (hsm : List Hart) (counts : Counts) → d ≡ record still { harts = d.harts; counts = d.counts }
+      → StandsFor c past m → HartsStand c (event ∷ past) hsm → CountsStand c (event ∷ past) counts
+      → StandsFor c (event ∷ past) (record m { hsm = hsm; counts = counts })
+  stands-harts-counts m hsm counts alone stands harts counted = record {
+    harts = harts;
+    interrupts = interrupts-still m.interrupts (ap (λ (e : Deed). e.interrupts) alone) stands.interrupts;
+    counts = counted;
   }
 
 -- ---- what the parts tell
@@ -301,13 +372,20 @@ module _ (c : Config) (past : List Event) where
       let timer = bit-read (λ i. (sie c past i).stie) csrs.stie h below stand.stie in
       λ i. record { ssie = software i; stie = timer i }
 
-  pub wake-read : (m : Machine) (h : ℕ) → h < 128 → h < c.harts → StandsFor c past m
-      → enables (record { ssie = has m.csrs.ssie h; stie = has m.csrs.stie h }) (has m.ipis h) (is_timer_pending m.timers h) ≡ wake c past h
-  wake-read m h below inside stands =
-      let enabled = sie-read m.csrs h below stands.csrs in
-      let software = bit-read (ssip c past) m.ipis h below stands.ipis.ssip in
-      let timer = stip-read m.timers h inside stands.timers in
-      λ i. enables (enabled i) (software i) (timer i)
+  pub wake-read : (i : Interrupts) (h : ℕ) → h < 128 → h < c.harts → InterruptsStand c past i
+      → enables (record { ssie = has i.csrs.ssie h; stie = has i.csrs.stie h }) (has i.ipis h) (is_timer_pending i.timers h) ≡ wake c past h
+  wake-read i h below inside stands =
+      let enabled = sie-read i.csrs h below stands.csrs in
+      let software = bit-read (ssip c past) i.ipis h below stands.ipis.ssip in
+      let timer = stip-read i.timers h inside stands.timers in
+      λ j. enables (enabled j) (software j) (timer j)
+
+  pub sip-read : (i : Interrupts) (h : ℕ) → h < 128 → h < c.harts → InterruptsStand c past i
+      → interrupt_bits (has i.ipis h) (is_timer_pending i.timers h) ≡ interrupt_bits (ssip c past h) (stip c past h)
+  sip-read i h below inside stands =
+      let software = bit-read (ssip c past) i.ipis h below stands.ipis.ssip in
+      let timer = stip-read i.timers h inside stands.timers in
+      λ j. interrupt_bits (software j) (timer j)
 
 -- ---- counts
 

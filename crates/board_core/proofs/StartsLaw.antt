@@ -13,7 +13,7 @@ use Rattle.sbi_abi.specs.Calls.{call_of}
 use Rattle.hsm.specs.declared.hart.HartState.{HartState}
 use Rattle.hsm.specs.declared.hart.HartState.TheVariants.{Started, Stopped, StartPending, StopPending, Suspended, SuspendPending, ResumePending}
 use Rattle.hsm.specs.declared.hart.Kept.{Kept}
-use Rattle.hsm.specs.States.{is_start_pending}
+use Rattle.hsm.specs.States.{is_start_pending, is_started, is_stopped}
 use Rattle.board_core.specs.declared.config.Config.{Config}
 use Rattle.board_core.specs.declared.event.Actor.{Actor}
 use Rattle.board_core.specs.declared.event.Actor.TheVariants.{Hart, Clock}
@@ -26,7 +26,7 @@ use Rattle.board_core.specs.declared.event.Reply.{Reply}
 use Rattle.board_core.specs.declared.event.Reply.TheVariants.{Ret, Gone, Entry}
 use Rattle.board_core.specs.Csrs.{sstatus_sie}
 use Rattle.board_core.specs.Limits.{is_start_address}
-use Rattle.board_core.specs.Refusals.{IsAccepted, first_that_holds, is_full, is_started, is_stopped, refusals_in}
+use Rattle.board_core.specs.Refusals.{IsAccepted, first_that_holds, is_full, refusals_in}
 use Rattle.board_core.specs.Interrupts.{wake}
 use Rattle.board_core.specs.Suspends.{resume_point}
 use Rattle.board_core.specs.Replies.{IsLegal, advance_reply, answer, call_reply, failure, refused_or, reply, resume_reply, suspend_reply, unless}

@@ -34,12 +34,13 @@ unrefused_room s wake op is_full none = third_fails (is_out_of_phase op s) (has_
 
 -- what wasn't refused by what a board tells isn't refused by its past
 pub unrefused-by : (b : Course) (c : Config) (past : List Event) → record { config = c; past = past } ≡ b → (h : ℕ) (op : Op) (s : HartState) (awake full : Bool)
-    → s ≡ state b.config b.past h → awake ≡ wake b.config b.past h → full ≡ is_full b.config b.past
-    → first_that_holds (refusals_in s awake op full) ≡ None
+    → s ≡ state b.config b.past h → ((s : HartState) → has_nothing_to_do op s awake ≡ has_nothing_to_do op s (wake b.config b.past h))
+    → full ≡ is_full b.config b.past → first_that_holds (refusals_in s awake op full) ≡ None
     → first_that_holds (refusals_in (state c past h) (wake c past h) op (is_full c past)) ≡ None
 unrefused-by b c past is h op s awake full state_is wake_is full_is none =
     ap (λ (b : Course). first_that_holds (refusals_in (state b.config b.past h) (wake b.config b.past h) op (is_full b.config b.past))) is
-    ∙ sym (λ i. first_that_holds (refusals_in (state_is i) (wake_is i) op (full_is i)))
+    ∙ sym (ap (λ nothing. first_that_holds ((is_out_of_phase op (state b.config b.past h), WrongPhase) ∷ (nothing, Nothing) ∷ (is_full b.config b.past, HistoryFull) ∷ [])) (wake_is (state b.config b.past h)))
+    ∙ sym (λ i. first_that_holds (refusals_in (state_is i) awake op (full_is i)))
     ∙ none
 
 -- the answer to a hart that is there and isn't refused is the reply

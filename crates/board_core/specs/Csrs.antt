@@ -36,12 +36,12 @@ abbrev pub none_enabled : Sie
 none_enabled = record { ssie = false; stie = false }
 
 -- a software interrupt in bit 1 and a timer interrupt in bit 5, as sie and sip have them (Privileged 4.1.3)
-abbrev pub value_of : (software timer : Bool) → ℕ
-value_of software timer = (if software then 2 else 0) + (if timer then 32 else 0)
+abbrev pub interrupt_bits : (software timer : Bool) → ℕ
+interrupt_bits software timer = (if software then 2 else 0) + (if timer then 32 else 0)
 
 -- sie as a guest reads it
 abbrev pub bits_of : Sie → ℕ
-bits_of sie = value_of sie.ssie sie.stie
+bits_of sie = interrupt_bits sie.ssie sie.stie
 
 -- whether one of the interrupts that are pending is enabled
 abbrev pub enables : Sie → (ssip stip : Bool) → Bool

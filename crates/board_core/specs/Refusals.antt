@@ -1,7 +1,7 @@
 -- When a step is refused (profile).
-use Rattle.std.specs.Prelude.{◌≡◌, ℕ, ◌+◌, Bool, true, false, not, ◌&&◌, ◌||◌, List, [], ◌∷◌, ◌==◌, nat_le, nat_lt, length, if◌then◌else◌, Option, Some, None}
+use Rattle.std.specs.Prelude.{◌≡◌, ℕ, ◌+◌, Bool, true, false, not, List, [], ◌∷◌, ◌==◌, nat_le, nat_lt, length, if◌then◌else◌, Option, Some, None}
 use Rattle.hsm.specs.declared.hart.HartState.{HartState}
-use Rattle.hsm.specs.declared.hart.HartState.TheVariants as states
+use Rattle.hsm.specs.States.{goes_on, is_started}
 use Rattle.interrupts.specs.Timing.{last_time}
 use Rattle.board_core.specs.declared.config.Config.{Config}
 use Rattle.board_core.specs.declared.event.Event.{Event}
@@ -18,18 +18,6 @@ refusal_number Nothing = 3
 refusal_number HistoryFull = 4
 refusal_number TimeFull = 5
 
-abbrev pub is_started : HartState → Bool
-is_started states.Started = true
-is_started s = false
-
-abbrev pub is_stopped : HartState → Bool
-is_stopped states.Stopped = true
-is_stopped s = false
-
-abbrev pub is_suspended : HartState → Bool
-is_suspended states.Suspended = true
-is_suspended s = false
-
 -- a guest's operation wants a STARTED hart, the firmware's Advance one that isn't, and a tick is no hart's
 abbrev pub is_out_of_phase : Op → HartState → Bool
 is_out_of_phase (Ecall regs) s = not (is_started s)
@@ -41,9 +29,9 @@ is_out_of_phase Wfi s = not (is_started s)
 is_out_of_phase Advance s = is_started s
 is_out_of_phase (Tick n) s = true
 
--- a STOPPED hart has no state to advance to, a SUSPENDED one has none without wake, and Wfi waits for wake
+-- an Advance wants a hart that goes on, and Wfi waits for wake
 abbrev pub has_nothing_to_do : Op → HartState → (wake : Bool) → Bool
-has_nothing_to_do Advance s wake = is_stopped s || (is_suspended s && not wake)
+has_nothing_to_do Advance s wake = not (goes_on wake s)
 has_nothing_to_do Wfi s wake = not wake
 has_nothing_to_do op s wake = false
 

@@ -13,7 +13,7 @@ use Rattle.hart_mask.specs.HartList.{targets_of}
 use Rattle.hsm.specs.declared.hart.HartState.{HartState}
 use Rattle.hsm.specs.declared.hart.HartState.TheVariants as states
 use Rattle.hsm.specs.declared.hart.Kept.{Kept}
-use Rattle.hsm.specs.States.{state_number}
+use Rattle.hsm.specs.States.{is_stopped, state_number}
 use Rattle.board_core.specs.declared.config.Config.{Config}
 use Rattle.board_core.specs.declared.event.Actor.{Actor}
 use Rattle.board_core.specs.declared.event.Actor.TheVariants.{Hart, Clock}
@@ -24,10 +24,10 @@ use Rattle.board_core.specs.declared.event.Refusal.{Refusal}
 use Rattle.board_core.specs.declared.event.Reply.{Reply}
 use Rattle.board_core.specs.declared.event.Reply.TheVariants.{Ret, Waiting, Gone, Entry, Value, Moved, Done}
 use Rattle.board_core.specs.Course.{Course}
-use Rattle.board_core.specs.Csrs.{sstatus_sie, value_of}
+use Rattle.board_core.specs.Csrs.{interrupt_bits, sstatus_sie}
 use Rattle.board_core.specs.Limits.{is_start_address}
 use Rattle.board_core.specs.Interrupts.{ssip, stip}
-use Rattle.board_core.specs.Refusals.{clock_refusals, first_that_holds, is_stopped, refusals}
+use Rattle.board_core.specs.Refusals.{clock_refusals, first_that_holds, refusals}
 use Rattle.board_core.specs.Starts.{Start, last_start}
 use Rattle.board_core.specs.States.{state}
 use Rattle.board_core.specs.Suspends.{resume_point}
@@ -56,7 +56,7 @@ start_errors c past t addr =
 abbrev pub status_errors : Config → (t : ℕ) → List (Bool × SbiError)
 status_errors c t = (nat_le c.harts t, InvalidParam) ∷ []
 
--- Why an IPI is refused: its hart list names no hart that there is (SBI 3 and 7.1).
+-- Why an IPI is refused: the base of its hart list, or a hart that it names, isn't there (SBI 3 and 7.1).
 abbrev pub ipi_errors : Config → (mask base : ℕ) → List (Bool × SbiError)
 ipi_errors c mask base = (is_none (targets_of mask base c.harts), InvalidParam) ∷ []
 
@@ -106,7 +106,7 @@ abbrev pub reply : Config → List Event → (x : ℕ) → Op → Reply
 reply c past x (Ecall regs) = call_reply c past x (call_of regs)
 reply c past x (WriteSie value) = Done
 reply c past x (WriteSstatusSie value) = Done
-reply c past x ReadSip = Value (value_of (ssip c past x) (stip c past x))
+reply c past x ReadSip = Value (interrupt_bits (ssip c past x) (stip c past x))
 reply c past x ClearSsip = Done
 reply c past x Wfi = Done
 reply c past x Advance = advance_reply x (state c past x) (last_start c past x) (resume_point past x)

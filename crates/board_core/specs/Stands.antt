@@ -5,8 +5,9 @@ use Rattle.hsm.specs.Harts.{Hart}
 use Rattle.interrupts.specs.Timing.{Timing}
 use Rattle.board_core.specs.declared.config.Config.{Config}
 use Rattle.board_core.specs.declared.event.Event.{Event}
-use Rattle.board_core.specs.declared.machine.Counts.{Counts}
+use Rattle.board_core.specs.declared.counts.Counts.{Counts}
 use Rattle.board_core.specs.declared.csrs.Csrs.{Csrs}
+use Rattle.board_core.specs.declared.interrupt_state.Interrupts.{Interrupts}
 use Rattle.board_core.specs.declared.machine.Machine.{Machine}
 use Rattle.board_core.specs.Course.{harts_of}
 use Rattle.board_core.specs.Csrs.{sie, sstatus_sie}
@@ -34,6 +35,12 @@ pub record TimersStand (c : Config) (past : List Event) (timers : Timing) : Type
   pub time : timers.time ≡ time past
   pub deadlines : timers.deadlines ≡ map (deadline c past) (harts_of c)
 
+-- what interrupts harts, and what enables it, is what the past makes it
+pub record InterruptsStand (c : Config) (past : List Event) (i : Interrupts) : Type 0 where
+  pub csrs : CsrsStand c past i.csrs
+  pub ipis : IpisStand c past i.ipis
+  pub timers : TimersStand c past i.timers
+
 -- the counts are those of the past
 pub record CountsStand (c : Config) (past : List Event) (counts : Counts) : Type 0 where
   pub starts : counts.starts ≡ length (starts c past)
@@ -42,15 +49,13 @@ pub record CountsStand (c : Config) (past : List Event) (counts : Counts) : Type
 -- the machine holds what the definitions give on the past
 pub record StandsFor (c : Config) (past : List Event) (m : Machine) : Type 0 where
   pub harts : HartsStand c past m.hsm
-  pub csrs : CsrsStand c past m.csrs
-  pub ipis : IpisStand c past m.ipis
-  pub timers : TimersStand c past m.timers
+  pub interrupts : InterruptsStand c past m.interrupts
   pub counts : CountsStand c past m.counts
 
 -- there is a hart and a deadline for each id
 pub record IsSized (c : Config) (m : Machine) : Type 0 where
   pub harts : length m.hsm ≡ c.harts
-  pub deadlines : length m.timers.deadlines ≡ c.harts
+  pub deadlines : length m.interrupts.timers.deadlines ≡ c.harts
 
 -- the counts can grow
 pub record HasRoom (counts : Counts) : Type 0 where

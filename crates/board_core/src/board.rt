@@ -16,9 +16,11 @@ ghost use Rattle.board_core.specs.Totals.{totals};
 ghost use Rattle.board_core.specs.Stands.{StandsFor};
 
 use crate::config::{BuildFault, Config};
+use crate::counts::Counts;
 use crate::csrs::{Csrs, Sie};
 use crate::event::{Actor, Event, Op, Refusal, Reply};
-use crate::machine::{Counts, Machine, perform};
+use crate::interrupt_state::Interrupts;
+use crate::machine::Machine;
 use hart_mask::HartSet;
 use hsm::{HartState, Hsm, Kept};
 use interrupts::{Ipis, Timers};
@@ -106,14 +108,25 @@ impl Board {
         if h >= self.config.harts {
             return Err(Refusal::WrongPhase);
         }
-        let wake = self.wake(h);
+        let wake = self.wake_for(h, op);
         if let Some(refusal) = refusal(self.state(h), wake, op, self.is_full()) {
             return Err(refusal);
         }
-        let reply = perform(&mut self.machine, &self.config, h, wake, op);
+        let reply = self.machine.perform(&self.config, h, wake, op);
         let actor = Actor::Hart(h);
         self.events.push_reserved(Event { actor, op, reply });
         Ok(reply)
+    }
+
+    /// Whether hart `h` has wake, where the operation asks for it.
+    fn wake_for(&self, h: u64, op: Op) -> bool
+        requires { h < self.now.config.harts }
+        ensures { (s : HartState) → has_nothing_to_do op s result ≡ has_nothing_to_do op s (wake self.now.config self.now.past h) }
+    {
+        match op {
+            Op::Advance | Op::Wfi => self.wake(h),
+            _ => false,
+        }
     }
 
     /// One step of the clock, which only ticks.
@@ -127,7 +140,7 @@ impl Board {
         if self.is_full() {
             return Err(Refusal::HistoryFull);
         }
-        if self.machine.timers.tick(n).is_err() {
+        if self.machine.interrupts.timers.tick(n).is_err() {
             return Err(Refusal::TimeFull);
         }
         let event = Event {
@@ -184,7 +197,7 @@ impl Board {
         requires { h < self.now.config.harts }
         ensures { result ≡ sstatus_sie self.now.past h }
     {
-        self.machine.csrs.sstatus_sie.contains(h)
+        self.machine.interrupts.csrs.sstatus_sie.contains(h)
     }
 
     /// The interrupts that sie of hart `h` enables (Privileged 4.1.3).
@@ -192,7 +205,7 @@ impl Board {
         requires { h < self.now.config.harts }
         ensures { result ≡ sie self.now.config self.now.past h }
     {
-        self.machine.csrs.sie(h)
+        self.machine.interrupts.csrs.sie(h)
     }
 
     /// Whether SSIP of hart `h` is 1: a software interrupt is pending (Privileged 4.1.3, SBI 7).
@@ -200,7 +213,7 @@ impl Board {
         requires { h < self.now.config.harts }
         ensures { result ≡ ssip self.now.config self.now.past h }
     {
-        self.machine.ipis.pending(h)
+        self.machine.interrupts.ipis.pending(h)
     }
 
     /// Whether STIP of hart `h` is 1: its deadline has come (Privileged 4.1.3, SBI 6).
@@ -208,7 +221,7 @@ impl Board {
         requires { h < self.now.config.harts }
         ensures { result ≡ stip self.now.config self.now.past h }
     {
-        self.machine.timers.pending(h)
+        self.machine.interrupts.timers.pending(h)
     }
 
     /// Whether an interrupt is pending at hart `h` that its sie enables (Privileged 3.3.3, WFI).
@@ -216,7 +229,7 @@ impl Board {
         requires { h < self.now.config.harts }
         ensures { result ≡ wake self.now.config self.now.past h }
     {
-        self.machine.wake(h)
+        self.machine.interrupts.wake(h)
     }
 
     /// The deadline of hart `h`, in ticks, if it has one (SBI 6.1).
@@ -224,7 +237,7 @@ impl Board {
         requires { h < self.now.config.harts }
         ensures { result ≡ deadline self.now.config self.now.past h }
     {
-        self.machine.timers.deadline(h)
+        self.machine.interrupts.timers.deadline(h)
     }
 
     /// The time, in ticks since the opening: at most 2^64-2 (profile).
@@ -232,7 +245,7 @@ impl Board {
         ensures time { result ≡ time self.now.past }
         ensures within { result ≤ last_time }
     {
-        self.machine.timers.time()
+        self.machine.interrupts.timers.time()
     }
 
     /// The counts of the board's table. For each hart, its accepted starts are its entries followed by its
@@ -278,11 +291,14 @@ fn opening(alloc: Global, config: &Config) -> Result<Machine, AllocError>
         starts: 1,
         entries: 0,
     };
-    Ok(Machine {
-        hsm,
+    let interrupts = Interrupts {
         csrs,
         ipis: Ipis::new(),
         timers,
+    };
+    Ok(Machine {
+        hsm,
+        interrupts,
         counts,
     })
 }
@@ -291,12 +307,11 @@ fn opening(alloc: Global, config: &Config) -> Result<Machine, AllocError>
 fn refusal(state: HartState, wake: bool, op: Op, is_full: bool) -> Option<Refusal>
     ensures { result ≡ first_that_holds (refusals_in state wake op is_full) }
 {
-    let is_started = state == HartState::Started;
     let (in_phase, has_work) = match op {
-        Op::Ecall(_) | Op::WriteSie(_) | Op::WriteSstatusSie(_) => (is_started, true),
-        Op::ReadSip | Op::ClearSsip => (is_started, true),
-        Op::Wfi => (is_started, wake),
-        Op::Advance => (!is_started, can_advance(state, wake)),
+        Op::Ecall(_) | Op::WriteSie(_) | Op::WriteSstatusSie(_) => (state.is_started(), true),
+        Op::ReadSip | Op::ClearSsip => (state.is_started(), true),
+        Op::Wfi => (state.is_started(), wake),
+        Op::Advance => (!state.is_started(), state.goes_on(wake)),
         Op::Tick(_) => (false, true),
     };
     if !in_phase {
@@ -307,16 +322,5 @@ fn refusal(state: HartState, wake: bool, op: Op, is_full: bool) -> Option<Refusa
         Some(Refusal::HistoryFull)
     } else {
         None
-    }
-}
-
-/// Whether the firmware can bring a hart further from this state, with or without wake.
-fn can_advance(state: HartState, wake: bool) -> bool
-    ensures { result ≡ not (has_nothing_to_do Op.Advance state wake) }
-{
-    match state {
-        HartState::Stopped => false,
-        HartState::Suspended => wake,
-        _ => true,
     }
 }

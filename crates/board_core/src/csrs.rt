@@ -1,6 +1,6 @@
 ghost use Rattle.std.specs.Prelude.{◌≡◌, ◌<◌, ◌+◌};
 ghost use Rattle.hart_mask.specs.Ids.{has, with_bit};
-ghost use Rattle.board_core.specs.Csrs.{bits_of, enables, none_enabled, sie_of, value_of};
+ghost use Rattle.board_core.specs.Csrs.{bits_of, enables, interrupt_bits, none_enabled, sie_of};
 
 use hart_mask::HartSet;
 
@@ -51,7 +51,7 @@ impl Sie {
 
 /// A software interrupt in bit 1, and a timer interrupt in bit 5, as in sie and sip (Privileged 4.1.3).
 pub fn interrupt_bits(software: bool, timer: bool) -> u64
-    ensures { result ≡ value_of software timer }
+    ensures { result ≡ interrupt_bits software timer }
 {
     let low = if software { 2 } else { 0 };
     let high = if timer { 32 } else { 0 };

@@ -6,8 +6,10 @@
 mod board;
 mod calls;
 mod config;
+mod counts;
 mod csrs;
 mod event;
+mod interrupt_state;
 mod machine;
 
 pub use board::{Board, Totals, starts_are_entered};

@@ -12,6 +12,24 @@ state_number Suspended = 4
 state_number SuspendPending = 5
 state_number ResumePending = 6
 
+abbrev pub is_started : HartState → Bool
+is_started Started = true
+is_started Stopped = false
+is_started StartPending = false
+is_started StopPending = false
+is_started Suspended = false
+is_started SuspendPending = false
+is_started ResumePending = false
+
+abbrev pub is_stopped : HartState → Bool
+is_stopped Started = false
+is_stopped Stopped = true
+is_stopped StartPending = false
+is_stopped StopPending = false
+is_stopped Suspended = false
+is_stopped SuspendPending = false
+is_stopped ResumePending = false
+
 abbrev pub is_start_pending : HartState → Bool
 is_start_pending Started = false
 is_start_pending Stopped = false

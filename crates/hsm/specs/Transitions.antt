@@ -24,38 +24,18 @@ started_from kept ResumePending = None
 abbrev pub started : Kept → Hart → Option Hart
 started kept hart = started_from kept hart.state
 
--- A hart that runs its guest can be stopped, and no other (SBI 9.2).
-abbrev pub stopped_from : HartState → Option Hart
-stopped_from Started = Some stopping
-stopped_from Stopped = None
-stopped_from StartPending = None
-stopped_from StopPending = None
-stopped_from Suspended = None
-stopped_from SuspendPending = None
-stopped_from ResumePending = None
-
 -- A hart's stop of itself: from STARTED to STOP_PENDING (SBI 9.2).
-abbrev pub stopped : Hart → Option Hart
-stopped hart = stopped_from hart.state
+abbrev pub stopped : Hart
+stopped = stopping
 
 -- A non-retentive suspend keeps where the hart goes on, and a retentive one keeps nothing (SBI 9.4).
 abbrev pub kept_by : SuspendKind → Kept → Option Kept
 kept_by Retentive kept = None
 kept_by NonRetentive kept = Some kept
 
--- A hart that runs its guest can be suspended, and no other (SBI 9.4).
-abbrev pub suspended_from : Option Kept → HartState → Option Hart
-suspended_from kept Started = Some (suspending kept)
-suspended_from kept Stopped = None
-suspended_from kept StartPending = None
-suspended_from kept StopPending = None
-suspended_from kept Suspended = None
-suspended_from kept SuspendPending = None
-suspended_from kept ResumePending = None
-
 -- A hart's suspend of itself: from STARTED to SUSPEND_PENDING (SBI 9.4).
-abbrev pub suspended : SuspendKind → Kept → Hart → Option Hart
-suspended kind kept hart = suspended_from (kept_by kind kept) hart.state
+abbrev pub suspended : SuspendKind → Kept → Hart
+suspended kind kept = suspending (kept_by kind kept)
 
 -- what a step makes of a hart, and what it tells
 pub record Step : Type 0 where

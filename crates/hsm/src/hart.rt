@@ -1,5 +1,5 @@
 ghost use Rattle.std.specs.Prelude.{◌≡◌};
-ghost use Rattle.hsm.specs.States.{is_interruptible, state_number};
+ghost use Rattle.hsm.specs.States.{goes_on, is_interruptible, is_started, state_number};
 
 use sbi_abi::SbiError;
 
@@ -35,6 +35,28 @@ impl HartState {
             HartState::Suspended => 4,
             HartState::SuspendPending => 5,
             HartState::ResumePending => 6,
+        }
+    }
+
+    /// Whether the hart runs its guest.
+    pub fn is_started(self) -> bool
+        ensures { result ≡ is_started self }
+    {
+        self == HartState::Started
+    }
+
+    /// Whether the firmware's own step brings a hart in this state further, which needs `wake`, an enabled interrupt
+    /// that is pending, where it is SUSPENDED (SBI 9.4; that a step does it: profile).
+    pub fn goes_on(self, wake: bool) -> bool
+        ensures { result ≡ goes_on wake self }
+    {
+        match self {
+            HartState::Started | HartState::Stopped => false,
+            HartState::Suspended => wake,
+            HartState::StartPending
+            | HartState::StopPending
+            | HartState::SuspendPending
+            | HartState::ResumePending => true,
         }
     }
 

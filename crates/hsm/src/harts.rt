@@ -68,7 +68,7 @@ impl Hsm {
     pub fn stop(&mut self, h: u64)
         requires in_range { h < length self.old }
         requires running { (hart_at self.old h).state ≡ HartState.Started }
-        ensures { self.new ≡ changed self.old h (stopped (hart_at self.old h)) }
+        ensures { self.new ≡ slice_set self.old h stopped }
     {
         self.put(h, Phase::StopPending);
     }
@@ -78,7 +78,7 @@ impl Hsm {
     pub fn suspend(&mut self, h: u64, kind: SuspendKind, addr: u64, opaque: u64)
         requires in_range { h < length self.old }
         requires running { (hart_at self.old h).state ≡ HartState.Started }
-        ensures { self.new ≡ changed self.old h (suspended kind (record { addr = addr; opaque = opaque }) (hart_at self.old h)) }
+        ensures { self.new ≡ slice_set self.old h (suspended kind (record { addr = addr; opaque = opaque })) }
     {
         let kept = kept_by(kind, Kept { addr, opaque });
         self.put(h, Phase::SuspendPending(kept));

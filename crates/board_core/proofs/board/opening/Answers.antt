@@ -28,15 +28,17 @@ pub returns : goal.returns
 unfolding boot
 returns c = record {
   harts = record { each = c.in_ok-hsm.ensures ∙ tabulate-same (opened c.args.config.now.boot_hart (boot c.args.config.now)) (hart_of c.args.config.now []) (opened_as c.args.config.now) (harts_of c.args.config.now) };
-  csrs = record {
-    sstatus_sie = c.new-3.ensures ∙ sym (ids_where-none (sstatus_sie []) (λ i below. refl));
-    ssie = c.new-4.ensures ∙ sym (ids_where-none (λ h. (sie c.args.config.now [] h).ssie) (λ i below. refl));
-    stie = c.new-5.ensures ∙ sym (ids_where-none (λ h. (sie c.args.config.now [] h).stie) (λ i below. refl));
-  };
-  ipis = record { ssip = c.new-6.ensures ∙ sym (ids_where-none (ssip c.args.config.now []) (λ i below. refl)) };
-  timers = rw c.in_ok-timers.ensures record {
-    time = refl;
-    deadlines = splat_is_map (harts_of c.args.config.now) c.args.config.now.harts None (length-range_with_len 0 c.args.config.now.harts);
+  interrupts = record {
+    csrs = record {
+      sstatus_sie = c.new-3.ensures ∙ sym (ids_where-none (sstatus_sie []) (λ i below. refl));
+      ssie = c.new-4.ensures ∙ sym (ids_where-none (λ h. (sie c.args.config.now [] h).ssie) (λ i below. refl));
+      stie = c.new-5.ensures ∙ sym (ids_where-none (λ h. (sie c.args.config.now [] h).stie) (λ i below. refl));
+    };
+    ipis = record { ssip = c.new-6.ensures ∙ sym (ids_where-none (ssip c.args.config.now []) (λ i below. refl)) };
+    timers = rw c.in_ok-timers.ensures record {
+      time = refl;
+      deadlines = splat_is_map (harts_of c.args.config.now) c.args.config.now.harts None (length-range_with_len 0 c.args.config.now.harts);
+    };
   };
   counts = record { starts = refl; entries = refl };
 }

@@ -7,8 +7,8 @@ use Rattle.board_core.specs.declared.event.Op.TheVariants.{Tick}
 use Rattle.board_core.specs.declared.event.Reply.TheVariants.{Done}
 use Rattle.board_core.specs.Course.{Course}
 use Rattle.board_core.specs.Refusals.{is_full}
-use Rattle.board_core.proofs.Events.{does_tick, still}
-use Rattle.board_core.proofs.Standing.{stands-timers, timers-ticked}
+use Rattle.board_core.proofs.Events.{deed}
+use Rattle.board_core.proofs.Standing.{interrupts-timers, stands-interrupts, timers-ticked}
 use Rattle.board_core.proofs.Steps.{clock_answered, kept-more, past-more, ticked_on}
 use Rattle.board_core.proofs.board.Board.clock_step.Goals as goal
 
@@ -20,15 +20,16 @@ invariant_of-self-2 c =
     let n = c.in-Tick.n in
     let stands = c.self.invariant.1 in
     let tick : Event = record { actor = Clock; op = Tick n; reply = Done } in
-    let deed = record still { ticks = n } in
-    let does = does_tick config past n in
+    let d = deed config past tick in
+    let timers = m.interrupts.timers in
     let room : is_full config past ≡ false = ap (λ (b : Course). is_full b.config b.past) c.self.view_is ∙ sym c.is_full.ensures ∙ c.if-is_full.false in
-    let taken : is_some (ticked m.timers n) ≡ true = sym c.tick.ensures.answer ∙ c.is_err.ensures.negation ∙ ap not c.if-is_err.false in
-    let on = ticked_on m.timers n taken in
-    let answered = clock_answered config past n room (ap (λ t. nat_lt last_time (t + n)) (sym stands.timers.time) ∙ on.1) in
+    let taken : is_some (ticked timers n) ≡ true = sym c.tick.ensures.answer ∙ c.is_err.ensures.negation ∙ ap not c.if-is_err.false in
+    let on = ticked_on timers n taken in
+    let answered = clock_answered config past n room (ap (λ t. nat_lt last_time (t + n)) (sym stands.interrupts.timers.time) ∙ on.1) in
     rw (past-more c.self.inside.events.items _ tick c.push_reserved.ensures.items, c.tick.ensures.after) (
       kept-more config past tick answered room c.self.invariant.0,
-      stands-timers config past tick deed does m _ refl stands (rw on.0 (timers-ticked config past tick deed does m.timers n refl refl stands.timers)),
+      stands-interrupts config past tick d refl m _ refl stands (interrupts-timers config past tick d refl m.interrupts _ refl stands.interrupts
+          (rw on.0 (timers-ticked config past tick d refl timers n refl refl stands.interrupts.timers))),
       let capacity = c.push_reserved.ensures.capacity in
           let enough = c.self.invariant.2 in
           omega arith,

@@ -15,7 +15,7 @@ use Rattle.board_core.proofs.board.Board.hart_step.Goals as goal
 pub perform-reply-requires-clause-sized : goal.perform-reply-requires-clause-sized
 perform-reply-requires-clause-sized c = record {
   harts = length-harts _ _ _ c.self.invariant.1.harts;
-  deadlines = length-deadlines _ _ _ c.self.invariant.1.timers;
+  deadlines = length-deadlines _ _ _ c.self.invariant.1.interrupts.timers;
 }
 
 pub perform-reply-requires-clause-room : goal.perform-reply-requires-clause-room
@@ -33,7 +33,7 @@ perform-reply-requires-clause-accepted c =
     let same_config = ap (λ (b : Course). b.config.harts) c.self.view_is in
     let own = ap (λ (hart : HartView). hart.state) (hart_at-stand _ _ _ c.self.invariant.1.harts c.args.h (omega arith)) in
     let told = own ∙ ap (λ (b : Course). state b.config b.past c.args.h) c.self.view_is ∙ sym c.state.ensures in
-    rw told (unrefused c.args.op c.state.result c.wake-wake.result c.is_full.result (sym c.refusal.ensures ∙ c.in_default.is))
+    rw told (unrefused c.args.op c.state.result c.wake_for-wake.result c.is_full.result (sym c.refusal.ensures ∙ c.in_default.is))
 
 pub invariant_of-self : goal.invariant_of-self
 invariant_of-self c =
@@ -41,7 +41,7 @@ invariant_of-self c =
     let past = reverse c.self.inside.events.items in
     let same_config = ap (λ (b : Course). b.config.harts) c.self.view_is in
     let event : Event = record { actor = Hart c.args.h; op = c.args.op; reply = c.perform-reply.result } in
-    let none = unrefused-by _ config past c.self.view_is c.args.h c.args.op _ _ _ c.state.ensures c.wake-wake.ensures c.is_full.ensures (sym c.refusal.ensures ∙ c.in_default.is) in
+    let none = unrefused-by _ config past c.self.view_is c.args.h c.args.op _ _ _ c.state.ensures c.wake_for-wake.ensures c.is_full.ensures (sym c.refusal.ensures ∙ c.in_default.is) in
     let answered = hart_answered config past c.args.h c.args.op c.perform-reply.result (omega arith) none (c.perform-reply.ensures.answered past c.self.invariant.1) in
     let room = unrefused_room (state config past c.args.h) (wake config past c.args.h) c.args.op (is_full config past) none in
     rw (past-more c.self.inside.events.items _ event c.push_reserved.ensures.items)
@@ -52,7 +52,7 @@ returns-clause-answer c =
     let config = c.self.inside.config in
     let past = reverse c.self.inside.events.items in
     let same_config = ap (λ (b : Course). b.config.harts) c.self.view_is in
-    let none = unrefused-by _ config past c.self.view_is c.args.h c.args.op _ _ _ c.state.ensures c.wake-wake.ensures c.is_full.ensures (sym c.refusal.ensures ∙ c.in_default.is) in
+    let none = unrefused-by _ config past c.self.view_is c.args.h c.args.op _ _ _ c.state.ensures c.wake_for-wake.ensures c.is_full.ensures (sym c.refusal.ensures ∙ c.in_default.is) in
     let answered = hart_answered config past c.args.h c.args.op c.perform-reply.result (omega arith) none (c.perform-reply.ensures.answered past c.self.invariant.1) in
     sym answered ∙ ap (λ (b : Course). answer b.config b.past (Hart c.args.h) c.args.op) c.self.view_is
 
@@ -62,7 +62,7 @@ returns-clause-after c =
     let past = reverse c.self.inside.events.items in
     let same_config = ap (λ (b : Course). b.config.harts) c.self.view_is in
     let event : Event = record { actor = Hart c.args.h; op = c.args.op; reply = c.perform-reply.result } in
-    let none = unrefused-by _ config past c.self.view_is c.args.h c.args.op _ _ _ c.state.ensures c.wake-wake.ensures c.is_full.ensures (sym c.refusal.ensures ∙ c.in_default.is) in
+    let none = unrefused-by _ config past c.self.view_is c.args.h c.args.op _ _ _ c.state.ensures c.wake_for-wake.ensures c.is_full.ensures (sym c.refusal.ensures ∙ c.in_default.is) in
     let answered = hart_answered config past c.args.h c.args.op c.perform-reply.result (omega arith) none (c.perform-reply.ensures.answered past c.self.invariant.1) in
     ap (λ (events : List Event). record { config = config; past = events }) (past-more c.self.inside.events.items _ event c.push_reserved.ensures.items)
     ∙ stepped-more config past event answered

@@ -7,4 +7,4 @@ pub returns : goal.returns
 returns c =
     let same_config = ap (λ (b : Course). b.config.harts) c.self.view_is in
     let most = c.self.invariant.0.good.at_most_128_harts in
-    rw (← c.self.view_is) (c.sie.ensures ∙ sie-read _ _ _ c.args.h (omega arith) c.self.invariant.1.csrs)
+    rw (← c.self.view_is) (c.sie.ensures ∙ sie-read _ _ _ c.args.h (omega arith) c.self.invariant.1.interrupts.csrs)

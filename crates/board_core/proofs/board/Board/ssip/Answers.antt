@@ -9,4 +9,4 @@ returns c =
     let same_config = ap (λ (b : Course). b.config.harts) c.self.view_is in
     let most = c.self.invariant.0.good.at_most_128_harts in
     let past = reverse c.self.inside.events.items in
-    rw (← c.self.view_is) (c.pending.ensures.answer ∙ bit-read c.self.inside.config past (ssip c.self.inside.config past) _ c.args.h (omega arith) c.self.invariant.1.ipis.ssip)
+    rw (← c.self.view_is) (c.pending.ensures.answer ∙ bit-read c.self.inside.config past (ssip c.self.inside.config past) _ c.args.h (omega arith) c.self.invariant.1.interrupts.ipis.ssip)

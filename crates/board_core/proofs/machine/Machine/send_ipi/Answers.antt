@@ -7,13 +7,14 @@ use Rattle.hart_mask.proofs.Sets.{has-ids_where}
 use Rattle.hsm.specs.Harts.{Hart}
 use Rattle.hsm.specs.States.{is_interruptible}
 use Rattle.hsm.specs.Transitions.{hart_at}
+use Rattle.board_core.specs.declared.event.Op.TheVariants.{Ecall}
 use Rattle.board_core.specs.declared.event.Reply.TheVariants.{Ret}
 use Rattle.board_core.specs.Interrupts.{is_target}
 use Rattle.board_core.specs.States.{state}
 use Rattle.board_core.specs.Replies.{success}
-use Rattle.board_core.proofs.Events.{called, deed_of_call, does_call}
-use Rattle.board_core.proofs.Standing.{hart_at-stand, ipis-sent, stands-ipis}
-use Rattle.board_core.proofs.calls.send_ipi.Goals as goal
+use Rattle.board_core.proofs.Events.{by_hart, deed_of_call, does_call}
+use Rattle.board_core.proofs.Standing.{hart_at-stand, interrupts-ipis, ipis-sent, stands-interrupts}
+use Rattle.board_core.proofs.machine.Machine.send_ipi.Goals as goal
 
 -- what is looked at of targets alone
 of_targets : (is_target p q : Bool) → (is_target ≡ true → p ≡ q) → (is_target && p) ≡ (is_target && q)
@@ -23,10 +24,10 @@ of_targets false p q same = refl
 pub returns-in-Ok-clause-after : goal.returns-in-Ok-clause-after
 returns-in-Ok-clause-after c = λ x past regs is stands.
     let config = c.args.config.now in
-    let m = c.args.machine.now in
+    let m = c.args.self.now in
     let call = SendIpi c.args.mask c.args.base in
-    let event = called config past x regs (Ret (success 0)) in
-    let deed = deed_of_call config past x call (Ret (success 0)) in
+    let event = by_hart x (Ecall regs) (Ret (success 0)) in
+    let d = deed_of_call config past x call (Ret (success 0)) in
     let does = does_call config past x regs call (Ret (success 0)) is in
     let reached : (i : ℕ) → i < 128 → has c.intersection-reached.result i ≡ is_target (targets_of c.args.mask c.args.base config.harts) i && is_interruptible (state config past i) = λ i below.
     ap (λ ids. has ids i) c.intersection-reached.ensures
@@ -36,4 +37,5 @@ returns-in-Ok-clause-after c = λ x past regs is stands.
     ∙ of_targets (has c.in-Ok.harts i) _ _ (λ named. ap (λ (hart : Hart). is_interruptible hart.state) (hart_at-stand config past m.hsm stands.harts i (c.in-Ok.ensures.below i named)))
     ∙ ap (λ targets. is_target targets i && is_interruptible (state config past i)) (sym c.in-Ok.ensures.answer) in
     rw (c.success.ensures, c.send.ensures)
-    (stands-ipis config past event deed does m _ refl stands (ipis-sent config past event deed does m.ipis c.intersection-reached.result refl reached stands.ipis))
+    (stands-interrupts config past event d does m _ refl stands (interrupts-ipis config past event d does m.interrupts _ refl stands.interrupts
+    (ipis-sent config past event d does m.interrupts.ipis c.intersection-reached.result refl reached stands.interrupts.ipis)))

@@ -1,9 +1,10 @@
 use Rattle.std.proofs.Common.{ap, refl, sym, ◌∙◌}
 use Rattle.sbi_abi.specs.declared.call.Call.TheVariants.{ProbeExtension}
+use Rattle.board_core.specs.declared.event.Op.TheVariants.{Ecall}
 use Rattle.board_core.specs.Replies.{call_reply}
-use Rattle.board_core.proofs.Events.{called, deed_of_call, does_call}
+use Rattle.board_core.proofs.Events.{by_hart, deed_of_call, does_call}
 use Rattle.board_core.proofs.Standing.{stands-quiet}
-use Rattle.board_core.proofs.calls.call.Goals as goal
+use Rattle.board_core.proofs.machine.Machine.call.Goals as goal
 
 pub returns-in-ProbeExtension-clause-after : goal.returns-in-ProbeExtension-clause-after
 returns-in-ProbeExtension-clause-after c = λ past regs is stands.
@@ -11,8 +12,8 @@ returns-in-ProbeExtension-clause-after c = λ past regs is stands.
     let h = c.args.h in
     let call = ProbeExtension c.in-ProbeExtension.eid in
     let reply = c.success-in-ProbeExtension.result in
-    stands-quiet config past (called config past h regs reply) (deed_of_call config past h call reply)
-    (does_call config past h regs call reply (sym c.in-ProbeExtension.is ∙ is)) c.args.machine.now refl stands
+    stands-quiet config past (by_hart h (Ecall regs) reply) (deed_of_call config past h call reply)
+    (does_call config past h regs call reply (sym c.in-ProbeExtension.is ∙ is)) c.args.self.now refl stands
 
 pub returns-in-SetTimer-clause-answered : goal.returns-in-SetTimer-clause-answered
 returns-in-SetTimer-clause-answered c = λ past stands.

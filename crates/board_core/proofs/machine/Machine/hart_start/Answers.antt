@@ -2,20 +2,21 @@ use Rattle.std.proofs.Common.{sym, ◌∙◌, refl, ap, arith}
 use Rattle.std.proofs.lemmas.Bool.{lt-leb}
 use Rattle.hsm.specs.declared.hart.Kept.{Kept}
 use Rattle.hsm.specs.Harts.{Hart}
+use Rattle.hsm.specs.States.{is_stopped}
 use Rattle.hsm.specs.Transitions.{changed, hart_at, started_from}
 use Rattle.sbi_abi.specs.declared.answer.SbiError.TheVariants.{AlreadyAvailable}
 use Rattle.sbi_abi.specs.declared.call.Call.TheVariants.{HartStart}
+use Rattle.board_core.specs.declared.event.Op.TheVariants.{Ecall}
 use Rattle.board_core.specs.declared.event.Reply.TheVariants.{Ret}
-use Rattle.board_core.specs.Refusals.{is_stopped}
 use Rattle.board_core.specs.Replies.{failure, success}
-use Rattle.board_core.proofs.Events.{called, deed_of_call, does_call}
+use Rattle.board_core.proofs.Events.{by_hart, deed_of_call, does_call}
 use Rattle.board_core.proofs.Rows.{started_stopped, unstarted_not_stopped, unstarted_same}
-use Rattle.board_core.proofs.Standing.{csrs-quiet, hart_at-stand, harts-started, ipis-quiet, stands-quiet, timers-quiet}
-use Rattle.board_core.proofs.calls.hart_start.Goals as goal
+use Rattle.board_core.proofs.Standing.{counts-started, hart_at-stand, harts-started, stands-harts-counts, stands-quiet}
+use Rattle.board_core.proofs.machine.Machine.hart_start.Goals as goal
 
 pub returns-in-Ok-clause-answered : goal.returns-in-Ok-clause-answered
 returns-in-Ok-clause-answered c = λ x past stands.
-    let m = c.args.machine.now in
+    let m = c.args.self.now in
     let start : Kept = record { addr = c.args.addr; opaque = c.args.opaque } in
     let is = ap (λ (hart : Hart). hart.state) (hart_at-stand c.args.config.now past m.hsm stands.harts c.args.t c.if-t-config.false) in
     let stopped = sym is ∙ started_stopped start (hart_at m.hsm c.args.t).state c.in-Ok.ensures.answer in
@@ -24,31 +25,23 @@ returns-in-Ok-clause-answered c = λ x past stands.
 pub returns-in-Ok-clause-after : goal.returns-in-Ok-clause-after
 returns-in-Ok-clause-after c = λ x past regs is stands.
     let config = c.args.config.now in
-    let m = c.args.machine.now in
+    let m = c.args.self.now in
     let start : Kept = record { addr = c.args.addr; opaque = c.args.opaque } in
     let call = HartStart c.args.t c.args.addr c.args.opaque in
-    let event = called config past x regs (Ret (success 0)) in
-    let deed = deed_of_call config past x call (Ret (success 0)) in
+    let event = by_hart x (Ecall regs) (Ret (success 0)) in
+    let d = deed_of_call config past x call (Ret (success 0)) in
     let does = does_call config past x regs call (Ret (success 0)) is in
     let stopped = started_stopped start (hart_at m.hsm c.args.t).state c.in-Ok.ensures.answer in
-    rw c.success.ensures record {
-      harts = record {
-        each =
-            c.start.ensures.after ∙ ap (λ s. changed m.hsm c.args.t (started_from start s)) stopped
-            ∙ (harts-started config past event deed does m.hsm c.args.t c.args.addr c.args.opaque refl refl refl stands.harts).each;
-      };
-      csrs = csrs-quiet config past event deed does m.csrs refl refl stands.csrs;
-      ipis = ipis-quiet config past event deed does m.ipis refl (λ i. refl) stands.ipis;
-      timers = timers-quiet config past event deed does m.timers refl refl stands.timers;
-      counts = record {
-        starts = let before = stands.counts.starts in rw does.starts (omega arith);
-        entries = stands.counts.entries;
-      };
-    }
+    rw c.success.ensures
+    (stands-harts-counts config past event d does m _ _ refl stands (record {
+      each =
+          c.start.ensures.after ∙ ap (λ s. changed m.hsm c.args.t (started_from start s)) stopped
+          ∙ (harts-started config past event d does m.hsm c.args.t c.args.addr c.args.opaque refl refl refl stands.harts).each;
+    }) (counts-started config past event d does m.counts _ refl stands.counts))
 
 pub returns-in-Err-clause-answered : goal.returns-in-Err-clause-answered
 returns-in-Err-clause-answered c = λ x past stands.
-    let m = c.args.machine.now in
+    let m = c.args.self.now in
     let start : Kept = record { addr = c.args.addr; opaque = c.args.opaque } in
     let is = ap (λ (hart : Hart). hart.state) (hart_at-stand c.args.config.now past m.hsm stands.harts c.args.t c.if-t-config.false) in
     let other = unstarted_not_stopped start (hart_at m.hsm c.args.t).state c.in-Err.ensures.answer in
@@ -58,10 +51,10 @@ returns-in-Err-clause-answered c = λ x past stands.
 pub returns-in-Err-clause-after : goal.returns-in-Err-clause-after
 returns-in-Err-clause-after c = λ x past regs is stands.
     let config = c.args.config.now in
-    let m = c.args.machine.now in
+    let m = c.args.self.now in
     let start : Kept = record { addr = c.args.addr; opaque = c.args.opaque } in
     let call = HartStart c.args.t c.args.addr c.args.opaque in
     let reply = Ret (failure AlreadyAvailable) in
     let same = c.start.ensures.after ∙ ap (changed m.hsm c.args.t) (unstarted_same start (hart_at m.hsm c.args.t).state c.in-Err.ensures.answer) in
     rw (c.failure-in-Err.ensures, c.into.ensures, same)
-    (stands-quiet config past (called config past x regs reply) (deed_of_call config past x call reply) (does_call config past x regs call reply is) m refl stands)
+    (stands-quiet config past (by_hart x (Ecall regs) reply) (deed_of_call config past x call reply) (does_call config past x regs call reply is) m refl stands)

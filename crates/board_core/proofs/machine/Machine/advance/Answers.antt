@@ -1,0 +1,104 @@
+use Rattle.std.proofs.Common.{◌≡◌, ap, sym, refl, ◌∙◌, arith, false, true}
+use Rattle.std.specs.Prelude.{None, Some, is_some}
+use Rattle.hsm.specs.declared.hart.HartState.TheVariants.{Started}
+use Rattle.hsm.specs.declared.hart.Moved.TheVariants as moves
+use Rattle.hsm.specs.Transitions.{hart_at}
+use Rattle.board_core.specs.declared.event.Op.TheVariants.{Advance}
+use Rattle.board_core.specs.declared.event.Reply.TheVariants.{Entry, Moved, Ret}
+use Rattle.board_core.specs.Csrs.{none_enabled}
+use Rattle.board_core.specs.Replies.{success}
+use Rattle.board_core.proofs.Events.{by_hart, deed, deed_of_entry, deed_of_resume, does_entry, does_resume}
+use Rattle.board_core.proofs.Rows.{accepted_goes_on, told}
+use Rattle.board_core.proofs.Standing.{counts-entered, harts-own, interrupts-csrs, ipis-cleared, ssie-quiet, ssie-written, sstatus_sie-written, stands-harts, stands-harts-interrupts, stie-quiet, stie-written, timers-set}
+use Rattle.board_core.proofs.machine.Machine.advance.Goals as goal
+
+pub unreachable-requires : goal.unreachable-requires
+unreachable-requires c =
+    let on = accepted_goes_on c.args.wake (hart_at c.args.self.now.hsm c.args.h).state c.requires.accepted in
+    let none : is_some c.advance.result ≡ false = ap is_some c.in-None.is in
+    absurd (let apart : true ≡ false = sym on ∙ sym c.advance.ensures.some ∙ none in cc)
+
+pub returns-in-Some-Entered-clause-answered : goal.returns-in-Some-Entered-clause-answered
+returns-in-Some-Entered-clause-answered c = λ config past stands.
+    (told config past c.args.self.now.hsm c.args.h c.args.wake (moves.Entered c.in-Some-Entered.start) stands.harts c.requires.in_range
+    (sym c.advance.ensures.answer ∙ c.in-Some-Entered.is ∙ ap Some c.in-Some-Entered.field-0-is)).reply
+
+pub returns-in-Some-Resumed-clause-answered : goal.returns-in-Some-Resumed-clause-answered
+returns-in-Some-Resumed-clause-answered c = λ config past stands.
+    (told config past c.args.self.now.hsm c.args.h c.args.wake (moves.Resumed c.in-Some-Resumed.resume) stands.harts c.requires.in_range
+    (sym c.advance.ensures.answer ∙ c.in-Some-Resumed.is ∙ ap Some c.in-Some-Resumed.field-0-is)).reply
+
+pub returns-in-Some-Returned-clause-answered : goal.returns-in-Some-Returned-clause-answered
+returns-in-Some-Returned-clause-answered c = λ config past stands.
+    (told config past c.args.self.now.hsm c.args.h c.args.wake moves.Returned stands.harts c.requires.in_range
+    (sym c.advance.ensures.answer ∙ c.in-Some-Returned.is ∙ ap Some c.in-Some-Returned.field-0-is)).reply
+
+pub returns-in-Some-To-clause-answered : goal.returns-in-Some-To-clause-answered
+returns-in-Some-To-clause-answered c = λ config past stands.
+    (told config past c.args.self.now.hsm c.args.h c.args.wake (moves.To c.in-Some-To.state) stands.harts c.requires.in_range
+    (sym c.advance.ensures.answer ∙ c.in-Some-To.is ∙ ap Some c.in-Some-To.field-0-is)).reply
+
+pub returns-in-Some-Entered-clause-after : goal.returns-in-Some-Entered-clause-after
+returns-in-Some-Entered-clause-after c = λ config past stands.
+    let m = c.args.self.now in
+    let h = c.args.h in
+    let start = c.in-Some-Entered.start in
+    let t = told config past m.hsm h c.args.wake (moves.Entered start) stands.harts c.requires.in_range
+    (sym c.advance.ensures.answer ∙ c.in-Some-Entered.is ∙ ap Some c.in-Some-Entered.field-0-is) in
+    let event = by_hart h Advance (Entry start.addr h start.opaque) in
+    let d = deed_of_entry config past h start.addr start.opaque in
+    let does = does_entry config past h start.addr start.opaque t.enters in
+    let csrs = stands.interrupts.csrs in
+    record {
+      harts = record { each = c.advance.ensures.after ∙ t.after ∙ (harts-own config past event d does m.hsm h Started refl refl refl stands.harts).each };
+      interrupts = rw c.enter.ensures record {
+        csrs = record {
+          sstatus_sie = sstatus_sie-written config past event d does h refl m.interrupts.csrs.sstatus_sie false refl csrs.sstatus_sie;
+          ssie = ssie-written config past event d does h refl m.interrupts.csrs.ssie none_enabled refl csrs.ssie;
+          stie = stie-written config past event d does h refl m.interrupts.csrs.stie none_enabled refl csrs.stie;
+        };
+        ipis = ipis-cleared config past event d does h refl m.interrupts.ipis refl (λ i. refl) stands.interrupts.ipis;
+        timers = timers-set config past event d does h refl m.interrupts.timers None refl refl stands.interrupts.timers;
+      };
+      counts = counts-entered config past event d does m.counts _ refl stands.counts;
+    }
+
+pub returns-in-Some-Resumed-clause-after : goal.returns-in-Some-Resumed-clause-after
+returns-in-Some-Resumed-clause-after c = λ config past stands.
+    let m = c.args.self.now in
+    let h = c.args.h in
+    let resume = c.in-Some-Resumed.resume in
+    let t = told config past m.hsm h c.args.wake (moves.Resumed resume) stands.harts c.requires.in_range
+    (sym c.advance.ensures.answer ∙ c.in-Some-Resumed.is ∙ ap Some c.in-Some-Resumed.field-0-is) in
+    let event = by_hart h Advance (Entry resume.addr h resume.opaque) in
+    let d = deed_of_resume config past h in
+    let does = does_resume config past h resume.addr resume.opaque t.enters in
+    let csrs = stands.interrupts.csrs in
+    stands-harts-interrupts config past event d does m _ _ refl stands
+    (record { each = c.advance.ensures.after ∙ t.after ∙ (harts-own config past event d does m.hsm h Started refl refl refl stands.harts).each })
+    (interrupts-csrs config past event d does m.interrupts _ refl stands.interrupts record {
+      sstatus_sie = c.set.ensures ∙ sstatus_sie-written config past event d does h refl m.interrupts.csrs.sstatus_sie false refl csrs.sstatus_sie;
+      ssie = ssie-quiet config past event d does m.interrupts.csrs.ssie refl csrs.ssie;
+      stie = stie-quiet config past event d does m.interrupts.csrs.stie refl csrs.stie;
+    })
+
+pub returns-in-Some-Returned-clause-after : goal.returns-in-Some-Returned-clause-after
+returns-in-Some-Returned-clause-after c = λ config past stands.
+    let m = c.args.self.now in
+    let t = told config past m.hsm c.args.h c.args.wake moves.Returned stands.harts c.requires.in_range
+    (sym c.advance.ensures.answer ∙ c.in-Some-Returned.is ∙ ap Some c.in-Some-Returned.field-0-is) in
+    let event = by_hart c.args.h Advance (Ret (success 0)) in
+    let d = deed config past event in
+    stands-harts config past event d refl m _ refl stands
+    (record { each = c.advance.ensures.after ∙ t.after ∙ (harts-own config past event d refl m.hsm c.args.h Started refl refl refl stands.harts).each })
+
+pub returns-in-Some-To-clause-after : goal.returns-in-Some-To-clause-after
+returns-in-Some-To-clause-after c = λ config past stands.
+    let m = c.args.self.now in
+    let s = c.in-Some-To.state in
+    let t = told config past m.hsm c.args.h c.args.wake (moves.To s) stands.harts c.requires.in_range
+    (sym c.advance.ensures.answer ∙ c.in-Some-To.is ∙ ap Some c.in-Some-To.field-0-is) in
+    let event = by_hart c.args.h Advance (Moved s) in
+    let d = deed config past event in
+    stands-harts config past event d refl m _ refl stands
+    (record { each = c.advance.ensures.after ∙ t.after ∙ (harts-own config past event d refl m.hsm c.args.h s refl refl refl stands.harts).each })

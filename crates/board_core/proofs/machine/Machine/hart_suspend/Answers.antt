@@ -1,0 +1,33 @@
+use Rattle.std.proofs.Common.{◌∙◌, refl}
+use Rattle.std.specs.Prelude.{Some, None}
+use Rattle.sbi_abi.specs.declared.call.Call.TheVariants.{HartSuspend}
+use Rattle.hsm.specs.declared.hart.HartState.TheVariants.{SuspendPending}
+use Rattle.board_core.specs.declared.event.Op.TheVariants.{Ecall}
+use Rattle.board_core.specs.declared.event.Reply.TheVariants.{Gone, Waiting}
+use Rattle.board_core.proofs.Events.{by_hart, deed_of_call, does_call}
+use Rattle.board_core.proofs.Standing.{harts-own, stands-harts}
+use Rattle.board_core.proofs.machine.Machine.hart_suspend.Goals as goal
+
+pub returns-in-Ok-Retentive-clause-after : goal.returns-in-Ok-Retentive-clause-after
+returns-in-Ok-Retentive-clause-after c = λ past regs is stands.
+    let config = c.args.config.now in
+    let m = c.args.self.now in
+    let h = c.args.h in
+    let call = HartSuspend c.args.kind c.args.addr c.args.opaque in
+    let event = by_hart h (Ecall regs) Waiting in
+    let d = deed_of_call config past h call Waiting in
+    let does = does_call config past h regs call Waiting is in
+    stands-harts config past event d does m _ refl stands
+    (record { each = c.suspend.ensures ∙ (harts-own config past event d does m.hsm h SuspendPending refl refl refl stands.harts).each })
+
+pub returns-else-not-is_start_address-clause-after : goal.returns-else-not-is_start_address-clause-after
+returns-else-not-is_start_address-clause-after c = λ past regs is stands.
+    let config = c.args.config.now in
+    let m = c.args.self.now in
+    let h = c.args.h in
+    let call = HartSuspend c.args.kind c.args.addr c.args.opaque in
+    let event = by_hart h (Ecall regs) Gone in
+    let d = deed_of_call config past h call Gone in
+    let does = does_call config past h regs call Gone is in
+    stands-harts config past event d does m _ refl stands
+    (record { each = c.suspend-in-Ok-NonRetentive.ensures ∙ (harts-own config past event d does m.hsm h SuspendPending refl refl refl stands.harts).each })

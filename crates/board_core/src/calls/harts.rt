@@ -1,0 +1,110 @@
+//! The Hart State Management extension (SBI 9).
+
+ghost use Rattle.std.specs.Prelude.{◌≡◌, ℕ, ◌<◌, ◌≤◌, List, ◌∷◌, length, Result};
+ghost use Rattle.sbi_abi.specs.declared.call.Call.TheVariants as calls;
+ghost use Rattle.sbi_abi.specs.declared.call.Regs.{Regs};
+ghost use Rattle.sbi_abi.specs.Calls.{call_of};
+ghost use Rattle.hsm.specs.declared.hart.HartState.TheVariants as states;
+ghost use Rattle.hsm.specs.Transitions.{hart_at};
+ghost use Rattle.board_core.specs.declared.config.Config.{Config};
+ghost use Rattle.board_core.specs.declared.event.Actor.TheVariants.{Hart};
+ghost use Rattle.board_core.specs.declared.event.Event.{Event};
+ghost use Rattle.board_core.specs.declared.event.Op.TheVariants.{Ecall};
+ghost use Rattle.board_core.specs.Limits.{IsGood};
+ghost use Rattle.board_core.specs.Replies.{call_reply};
+ghost use Rattle.board_core.specs.Stands.{HasRoom, IsSized, StandsFor};
+
+use super::{failure, success};
+use crate::config::{Config, is_start_address};
+use crate::event::Reply;
+use crate::machine::Machine;
+use sbi_abi::{SbiError, SuspendKind};
+
+impl Machine {
+    /// Starts hart `t` (SBI 9.1).
+    pub fn hart_start(&mut self, config: &Config, t: u64, addr: u64, opaque: u64) -> Reply
+        requires good { IsGood config.now }
+        requires sized { IsSized config.now self.old }
+        requires room { HasRoom self.old.counts }
+        ensures answered { (x : ℕ) (past : List Event) → StandsFor config.now past self.old →
+            result ≡ call_reply config.now past x (calls.HartStart t addr opaque) }
+        ensures after { (x : ℕ) (past : List Event) (regs : Regs) → calls.HartStart t addr opaque ≡ call_of regs → StandsFor config.now past self.old →
+            StandsFor config.now (record { actor = Hart x; op = Ecall regs; reply = result } ∷ past) self.new }
+    {
+        if t >= config.harts {
+            return failure(SbiError::InvalidParam);
+        }
+        if !is_start_address(config.pages, addr) {
+            return failure(SbiError::InvalidAddress);
+        }
+        match self.hsm.start(t, addr, opaque) {
+            Ok(()) => {
+                self.counts.starts += 1;
+                success(0)
+            }
+            Err(refused) => failure(refused.into()),
+        }
+    }
+
+    /// Stops hart `h`, which calls, and forgets its deadline (SBI 9.2).
+    pub fn hart_stop(&mut self, h: u64) -> Reply
+        requires in_range { h < length self.old.hsm }
+        requires most { length self.old.hsm ≤ 128 }
+        requires timers { length self.old.interrupts.timers.deadlines ≡ length self.old.hsm }
+        requires running { (hart_at self.old.hsm h).state ≡ states.Started }
+        ensures answered { (c : Config) (past : List Event) → StandsFor c past self.old → result ≡ call_reply c past h calls.HartStop }
+        ensures after { (c : Config) (past : List Event) (regs : Regs) → calls.HartStop ≡ call_of regs → StandsFor c past self.old →
+            StandsFor c (record { actor = Hart h; op = Ecall regs; reply = result } ∷ past) self.new }
+    {
+        if self.interrupts.csrs.sstatus_sie.contains(h) {
+            return failure(SbiError::Failed);
+        }
+        self.interrupts.timers.forget(h);
+        self.hsm.stop(h);
+        Reply::Gone
+    }
+
+    /// Suspends hart `h`, which calls (SBI 9.4).
+    pub fn hart_suspend(
+        &mut self,
+        config: &Config,
+        h: u64,
+        kind: Result<SuspendKind, SbiError>,
+        addr: u64,
+        opaque: u64,
+    ) -> Reply
+        requires good { IsGood config.now }
+        requires in_range { h < length self.old.hsm }
+        requires running { (hart_at self.old.hsm h).state ≡ states.Started }
+        ensures answered { (past : List Event) → result ≡ call_reply config.now past h (calls.HartSuspend kind addr opaque) }
+        ensures after { (past : List Event) (regs : Regs) → calls.HartSuspend kind addr opaque ≡ call_of regs → StandsFor config.now past self.old →
+            StandsFor config.now (record { actor = Hart h; op = Ecall regs; reply = result } ∷ past) self.new }
+    {
+        match kind {
+            Err(error) => failure(error),
+            Ok(SuspendKind::Retentive) => {
+                self.hsm.suspend(h, SuspendKind::Retentive, addr, opaque);
+                Reply::Waiting
+            }
+            Ok(SuspendKind::NonRetentive) => {
+                if !is_start_address(config.pages, addr) {
+                    return failure(SbiError::InvalidAddress);
+                }
+                self.hsm.suspend(h, SuspendKind::NonRetentive, addr, opaque);
+                Reply::Gone
+            }
+        }
+    }
+
+    /// Tells the state of hart `t` (SBI 9.3).
+    pub fn hart_get_status(&self, config: &Config, t: u64) -> Reply
+        requires { IsSized config.now self.now }
+        ensures { (x : ℕ) (past : List Event) → StandsFor config.now past self.now →
+            result ≡ call_reply config.now past x (calls.HartGetStatus t) }
+    {
+        if t >= config.harts {
+            return failure(SbiError::InvalidParam);
+        }
+        success(self.hsm.status(t).number())
+    }
+}

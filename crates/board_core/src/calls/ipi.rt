@@ -1,0 +1,37 @@
+//! The IPI extension (SBI 7).
+
+ghost use Rattle.std.specs.Prelude.{◌≡◌, ℕ, ◌≤◌, List, ◌∷◌};
+ghost use Rattle.sbi_abi.specs.declared.call.Call.TheVariants as calls;
+ghost use Rattle.sbi_abi.specs.declared.call.Regs.{Regs};
+ghost use Rattle.sbi_abi.specs.Calls.{call_of};
+ghost use Rattle.board_core.specs.declared.event.Actor.TheVariants.{Hart};
+ghost use Rattle.board_core.specs.declared.event.Event.{Event};
+ghost use Rattle.board_core.specs.declared.event.Op.TheVariants.{Ecall};
+ghost use Rattle.board_core.specs.Replies.{call_reply};
+ghost use Rattle.board_core.specs.Stands.{IsSized, StandsFor};
+
+use super::{failure, success};
+use crate::config::Config;
+use crate::event::Reply;
+use crate::machine::Machine;
+use hart_mask::targets;
+
+impl Machine {
+    /// Sends an IPI to the harts of a hart list, and skips those that aren't in an interruptible state (SBI 7.1).
+    pub fn send_ipi(&mut self, config: &Config, mask: u64, base: u64) -> Reply
+        requires sized { IsSized config.now self.old }
+        requires most { config.now.harts ≤ 128 }
+        ensures answered { (x : ℕ) (past : List Event) → result ≡ call_reply config.now past x (calls.SendIpi mask base) }
+        ensures after { (x : ℕ) (past : List Event) (regs : Regs) → calls.SendIpi mask base ≡ call_of regs → StandsFor config.now past self.old →
+            StandsFor config.now (record { actor = Hart x; op = Ecall regs; reply = result } ∷ past) self.new }
+    {
+        match targets(mask, base, config.harts) {
+            Ok(harts) => {
+                let reached = harts.intersection(self.hsm.interruptible());
+                self.interrupts.ipis.send(reached);
+                success(0)
+            }
+            Err(refused) => failure(refused.into()),
+        }
+    }
+}
