@@ -5,3 +5,4 @@ pub mod Rows
 pub mod Steps
 pub mod StartsLaw
 pub mod WorkedRows
+mod ErrorLaw

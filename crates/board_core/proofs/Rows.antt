@@ -1,24 +1,25 @@
 -- What the rows of the table of states say of a hart.
 use Rattle.std.proofs.Common.{◌≡◌, ℕ, ◌<◌, Bool, true, false, List, [], ◌∷◌, length, subst, refl, sym, ap, ◌∙◌}
 use Rattle.std.proofs.lemmas.Option.{same_Some}
-use Rattle.std.specs.Prelude.{Option, Some, None, not, is_some, option_map, slice_set}
+use Rattle.std.specs.Prelude.{Option, Some, None, Result, Ok, not, is_some, option_map, slice_set}
 use Rattle.hsm.specs.declared.hart.HartState.{HartState}
 use Rattle.hsm.specs.declared.hart.HartState.TheVariants.{Started, Stopped, StartPending, StopPending, Suspended, SuspendPending, ResumePending}
 use Rattle.hsm.specs.declared.hart.Kept.{Kept}
 use Rattle.hsm.specs.declared.hart.Moved.{Moved}
 use Rattle.hsm.specs.declared.hart.Moved.TheVariants as moves
 use Rattle.hsm.specs.Harts.{Hart, running}
-use Rattle.hsm.specs.States.{goes_on, is_start_pending, is_stopped}
+use Rattle.hsm.specs.States.{goes_on, is_start_pending, is_started, is_stopped}
 use Rattle.hsm.specs.Transitions.{Step, advanced, advanced_from, changed, hart_at, resumed, started_from}
 use Rattle.board_core.specs.declared.config.Config.{Config}
 use Rattle.board_core.specs.declared.event.Event.{Event}
 use Rattle.board_core.specs.declared.event.Op.{Op}
 use Rattle.board_core.specs.declared.event.Op.TheVariants.{Advance}
+use Rattle.board_core.specs.declared.event.Refusal.{Refusal}
 use Rattle.board_core.specs.declared.event.Refusal.TheVariants.{WrongPhase, Nothing, HistoryFull}
 use Rattle.board_core.specs.declared.event.Reply.{Reply}
 use Rattle.board_core.specs.declared.event.Reply.TheVariants as replies
 use Rattle.board_core.specs.Refusals.{IsAccepted, first_that_holds, has_nothing_to_do, is_out_of_phase, refusals_in}
-use Rattle.board_core.specs.Replies.{advance_reply, success}
+use Rattle.board_core.specs.Replies.{advance_reply, refused_or, success}
 use Rattle.board_core.specs.Starts.{Start, kept_in, last_start}
 use Rattle.board_core.specs.Stands.{HartsStand}
 use Rattle.board_core.specs.States.{state}
@@ -62,6 +63,26 @@ unrefused op s wake is_full none = let fails = both_fail (is_out_of_phase op s) 
     both_fail true second none = cc
     both_fail false true none = cc
     both_fail false false none = (refl, refl)
+
+-- an accepted operation was not refused, and has its reply
+pub accepted : (missing : Bool) (s : HartState) (wake : Bool) (op : Op) (is_full : Bool) (r r' : Reply)
+    → refused_or (first_that_holds ((missing, WrongPhase) ∷ refusals_in s wake op is_full)) r ≡ Ok r' → IsAccepted op s wake × (r ≡ r')
+accepted true s wake op is_full r r' e = cc
+accepted false s wake op is_full r r' e = by_refusal (first_that_holds (refusals_in s wake op is_full)) refl e
+  where
+    by_refusal : (o : Option Refusal) → first_that_holds (refusals_in s wake op is_full) ≡ o → refused_or o r ≡ Ok r' → IsAccepted op s wake × (r ≡ r')
+    by_refusal None is same = (unrefused op s wake is_full is, cc)
+    by_refusal (Some refusal) is same = cc
+
+-- a guest runs where its hart is STARTED
+pub calling : (s : HartState) → not (is_started s) ≡ false → s ≡ Started
+calling Started running = refl
+calling Stopped running = cc
+calling StartPending running = cc
+calling StopPending running = cc
+calling Suspended running = cc
+calling SuspendPending running = cc
+calling ResumePending running = cc
 
 -- a hart whose Advance is accepted goes on
 pub accepted_goes_on : (wake : Bool) (s : HartState) → IsAccepted Advance s wake → goes_on wake s ≡ true

@@ -32,7 +32,7 @@ use Rattle.board_core.specs.Suspends.{resume_point}
 use Rattle.board_core.specs.Replies.{IsLegal, advance_reply, answer, call_reply, failure, refused_or, reply, resume_reply, suspend_reply, unless}
 use Rattle.board_core.specs.Starts.{Start, StartsAreEntered, boot_start, entries, entry_by, is_of, last_start, pending, start_by_call, starts}
 use Rattle.board_core.specs.States.{Move, move_by, move_by_call, moved_to, state}
-use Rattle.board_core.proofs.Rows.{unrefused}
+use Rattle.board_core.proofs.Rows.{accepted, calling}
 
 -- what passes a filter first passes the test
 filter-first : {A : Type 0} (p : A → Bool) (xs : List A) (y : A) (ys : List A) → filter p xs ≡ y ∷ ys → p y ≡ true
@@ -42,26 +42,6 @@ filter-first p (x ∷ xs) y ys e = by_test (p x) refl (filter-first p xs y ys)
     by_test : (b : Bool) → p x ≡ b → (filter p xs ≡ y ∷ ys → p y ≡ true) → p y ≡ true
     by_test true is later = let first : x ∷ filter p xs ≡ y ∷ ys = rw is at e in cc
     by_test false is later = later (rw is at e)
-
--- an accepted operation was not refused, and has its reply
-accepted : (missing : Bool) (s : HartState) (wake : Bool) (op : Op) (is_full : Bool) (r r' : Reply)
-    → refused_or (first_that_holds ((missing, WrongPhase) ∷ refusals_in s wake op is_full)) r ≡ Ok r' → IsAccepted op s wake × (r ≡ r')
-accepted true s wake op is_full r r' e = cc
-accepted false s wake op is_full r r' e = by_refusal (first_that_holds (refusals_in s wake op is_full)) refl e
-  where
-    by_refusal : (o : Option Refusal) → first_that_holds (refusals_in s wake op is_full) ≡ o → refused_or o r ≡ Ok r' → IsAccepted op s wake × (r ≡ r')
-    by_refusal None is same = (unrefused op s wake is_full is, cc)
-    by_refusal (Some refusal) is same = cc
-
--- a guest runs where its hart is STARTED
-calling : (s : HartState) → not (is_started s) ≡ false → s ≡ Started
-calling Started running = refl
-calling Stopped running = cc
-calling StartPending running = cc
-calling StopPending running = cc
-calling Suspended running = cc
-calling SuspendPending running = cc
-calling ResumePending running = cc
 
 -- the start that an entry's reply tells is the last start of its hart
 entered_start : (start : Start) (x addr hart opaque : ℕ) → x ≡ start.hart

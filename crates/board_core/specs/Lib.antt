@@ -8,4 +8,5 @@ pub mod Starts
 pub mod Replies
 pub mod Refusals
 pub mod Totals
+pub mod ErrorLaw
 pub mod Stands

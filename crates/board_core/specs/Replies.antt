@@ -6,7 +6,7 @@ use Rattle.sbi_abi.specs.declared.answer.SbiError.TheVariants.{Failed, NotSuppor
 use Rattle.sbi_abi.specs.declared.call.Call.{Call}
 use Rattle.sbi_abi.specs.declared.call.Call.TheVariants.{GetSpecVersion, GetImplId, GetImplVersion, ProbeExtension, GetMvendorid, GetMarchid, GetMimpid, SetTimer, SendIpi, HartStart, HartStop, HartGetStatus, HartSuspend, Unsupported}
 use Rattle.sbi_abi.specs.Calls.{call_of, is_extension_id}
-use Rattle.sbi_abi.specs.Errors.{number_of}
+use Rattle.sbi_abi.specs.Errors.{error_number}
 use Rattle.sbi_abi.specs.declared.suspend.SuspendKind.{SuspendKind}
 use Rattle.sbi_abi.specs.declared.suspend.SuspendKind.TheVariants.{Retentive, NonRetentive}
 use Rattle.hart_mask.specs.HartList.{targets_of}
@@ -37,7 +37,7 @@ success value = record { error = pos 0; value = value }
 
 -- an error's value is 0 (profile)
 abbrev pub failure : SbiError → Sbiret
-failure error = record { error = number_of error; value = 0 }
+failure error = record { error = error_number error; value = 0 }
 
 -- the first error that holds, or else the value
 abbrev pub unless : Option SbiError → ℕ → Sbiret

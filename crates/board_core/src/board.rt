@@ -1,4 +1,4 @@
-ghost use Rattle.std.specs.Prelude.{◌≡◌, ◌<◌, ◌≤◌, ◌↔◌, List, [], not, IfOk, IsErrOf, length, reverse};
+ghost use Rattle.std.specs.Prelude.{◌≡◌, ◌<◌, ◌≤◌, ◌↔◌, List, [], ◌∷◌, true, IfOk, IsErrOf, length, reverse};
 ghost use Rattle.hsm.specs.declared.hart.HartState.{HartState};
 ghost use Rattle.interrupts.specs.Timing.{last_time};
 ghost use Rattle.board_core.specs.declared.config.BuildFault.TheVariants.{BadConfig};
@@ -6,6 +6,7 @@ ghost use Rattle.board_core.specs.declared.config.Config.{Config};
 ghost use Rattle.board_core.specs.declared.event.Event.{Event};
 ghost use Rattle.board_core.specs.declared.event.Actor.TheVariants.{Hart, Clock};
 ghost use Rattle.board_core.specs.Csrs.{sie, sstatus_sie};
+ghost use Rattle.board_core.specs.ErrorLaw.{LooksSame, is_error};
 ghost use Rattle.board_core.specs.Interrupts.{deadline, ssip, stip, time, wake};
 ghost use Rattle.board_core.specs.Limits.{IsGood};
 ghost use Rattle.board_core.specs.Refusals.{first_that_holds, has_nothing_to_do, is_full, refusals_in};
@@ -269,6 +270,12 @@ impl Board {
 /// with its own address and opaque value. A law: there is nothing to run.
 pub fn starts_are_entered()
     ensures { (c : Config) (past : List Event) → IsLegal c past → StartsAreEntered c past }
+{}
+
+/// In every legal history an event whose reply is an SBI error changes nothing: each look-up answers what it answered
+/// before (profile). A law: there is nothing to run.
+pub fn errors_change_nothing()
+    ensures { (c : Config) (event : Event) (past : List Event) → IsLegal c (event ∷ past) → is_error event.reply ≡ true → LooksSame c past (event ∷ past) }
 {}
 
 /// The machine of a board at its opening.

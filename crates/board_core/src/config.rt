@@ -1,5 +1,5 @@
 ghost use Rattle.std.specs.Prelude.{◌≡◌, ◌≤◌, ◌↔◌, IsTrue};
-ghost use Rattle.board_core.specs.Limits.{IsGood, is_start_address};
+ghost use Rattle.board_core.specs.Limits.{IsGood, build_fault_number, is_start_address};
 
 use thiserror::Error;
 
@@ -29,6 +29,18 @@ pub enum BuildFault {
     /// Memory was refused.
     #[error("no memory")]
     NoMemory,
+}
+
+impl BuildFault {
+    /// The fault's number (profile).
+    pub fn number(self) -> u64
+        ensures { result ≡ build_fault_number self }
+    {
+        match self {
+            BuildFault::BadConfig => 1,
+            BuildFault::NoMemory => 2,
+        }
+    }
 }
 
 const RAM_BASE: u64 = 0x8000_0000;

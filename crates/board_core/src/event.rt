@@ -3,6 +3,7 @@ ghost use Rattle.board_core.specs.Refusals.{refusal_number};
 
 use hsm::HartState;
 use sbi_abi::{Regs, Sbiret};
+use thiserror::Error;
 
 /// Who makes a step.
 #[derive(Clone, Copy, Debug, PartialEq, Eq)]
@@ -61,15 +62,19 @@ pub enum Reply {
 }
 
 /// Why a step was refused. Nothing changed.
-#[derive(Clone, Copy, Debug, PartialEq, Eq)]
+#[derive(Clone, Copy, Debug, PartialEq, Eq, Error)]
 pub enum Refusal {
     /// Another kind of actor's operation, no such hart, or not in this state.
+    #[error("not in this state, not by this actor, or no such hart")]
     WrongPhase,
     /// There is nothing to do.
+    #[error("nothing to do")]
     Nothing,
     /// The history has as many events as its limit.
+    #[error("history full")]
     HistoryFull,
     /// The time would go past 2^64-2 ticks.
+    #[error("the time would go past its end")]
     TimeFull,
 }
 

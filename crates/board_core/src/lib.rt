@@ -12,7 +12,7 @@ mod event;
 mod interrupt_state;
 mod machine;
 
-pub use board::{Board, Totals, starts_are_entered};
+pub use board::{Board, Totals, errors_change_nothing, starts_are_entered};
 pub use config::{BuildFault, Config};
 pub use csrs::Sie;
 pub use event::{Actor, Event, Op, Refusal, Reply};

@@ -9,9 +9,9 @@ use Rattle.std.proofs.lemmas.Bool.Decides.{Decides-eqb, Decides-like, eqb_tells,
 use Rattle.std.proofs.lemmas.Nat.{or_mod, zero_from_ones}
 use Rattle.std.proofs.lemmas.Nat.Bits.{bit_at-trailing_zeros, bit_at_clear_other, bit_at_clear_same, bit_at_set_other, bit_at_set_same}
 use Rattle.std.proofs.lemmas.Slice.Eq.{bytes_eq-Decides}
-use Rattle.hart_mask.specs.Bits.{is_set, number_of}
+use Rattle.hart_mask.specs.Bits.{is_set, word_of}
 use Rattle.hart_mask.specs.Ids.{ids_where, with_id, without_id}
-use Rattle.hart_mask.specs.Inverse.{number_of-own_ids}
+use Rattle.hart_mask.specs.Inverse.{word_of-own_ids}
 use Rattle.hart_mask.proofs.Below.{filter-lowest}
 use Rattle.hart_mask.proofs.Places.{count-of-places}
 use Rattle.hart_mask.proofs.Sets.{ids_where-agree, with_id-ids_where, without_id-ids_where}
@@ -102,7 +102,7 @@ pub pointwise-ids : (m n : ℕ) → m < 2 ^ 128 → n < 2 ^ 128 → eqb m n ≡ 
 pointwise-ids m n small below =
     same_from_decides (eqb m n) (pointwise eqb (ids_where (is_set m)) (ids_where (is_set n)))
     (Decides-like (eqb m n) (ap (λ k. ids_where (is_set k)))
-    (λ e. sym (number_of-own_ids m small) ∙ ap number_of e ∙ number_of-own_ids n below)
+    (λ e. sym (word_of-own_ids m small) ∙ ap word_of e ∙ word_of-own_ids n below)
     (Decides-eqb m n))
     (bytes_eq-Decides (ids_where (is_set m)) (ids_where (is_set n)))
 

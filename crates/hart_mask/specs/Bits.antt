@@ -8,5 +8,5 @@ abbrev pub is_set : ℕ → ℕ → Bool
 is_set n id = bit_at n id == 1
 
 -- the number whose bits for the ids are 1, and no other
-unfoldable pub number_of : List ℕ → ℕ
-number_of ids = sum_by (λ id. 2 ^ id) ids
+unfoldable pub word_of : List ℕ → ℕ
+word_of ids = sum_by (λ id. 2 ^ id) ids

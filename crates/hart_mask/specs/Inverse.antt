@@ -10,7 +10,7 @@ use Rattle.std.proofs.lemmas.List.FromFn.{map-range_with_len_more}
 use Rattle.std.proofs.lemmas.List.Sums.{sum_by-append}
 use Rattle.std.proofs.lemmas.Nat.{mod-pow-add}
 use Rattle.std.proofs.lemmas.Nat.Bits.{bit_at-lt}
-use Rattle.hart_mask.specs.Bits.{is_set, number_of}
+use Rattle.hart_mask.specs.Bits.{is_set, word_of}
 use Rattle.hart_mask.specs.Ids.{ids_where}
 
 range-more : (n : ℕ) → range_with_len 0 (n + 1) ≡ range_with_len 0 n ++ n ∷ []
@@ -47,6 +47,6 @@ sum-of-places n (suc k) =
     ∙ sym (low-more n k)
 
 -- the number of a number's ids is that number
-pub number_of-own_ids : (n : ℕ) → n < 2 ^ 128 → number_of (ids_where (is_set n)) ≡ n
-unfolding number_of ids_where
-number_of-own_ids n below = sum-of-places n 128 ∙ mod-eq_of_lt below
+pub word_of-own_ids : (n : ℕ) → n < 2 ^ 128 → word_of (ids_where (is_set n)) ≡ n
+unfolding word_of ids_where
+word_of-own_ids n below = sum-of-places n 128 ∙ mod-eq_of_lt below

@@ -4,9 +4,11 @@ ghost use Rattle.hart_mask.specs.Ids.{has};
 
 use crate::hart_set::HartSet;
 use sbi_abi::SbiError;
+use thiserror::Error;
 
 /// Why a hart list was refused: its base, or a hart that its mask names, isn't there (SBI 3, Hart list parameter).
-#[derive(Clone, Copy, Debug, PartialEq, Eq)]
+#[derive(Clone, Copy, Debug, PartialEq, Eq, Error)]
+#[error("invalid parameter")]
 pub struct InvalidParam;
 
 impl From<InvalidParam> for SbiError {

@@ -14,8 +14,8 @@ pub struct HartSet {
 impl Model for HartSet {
     ghost use Rattle.std.specs.Prelude.{List, ℕ, ◌<◌, ◌^◌};
     ghost use Rattle.hart_mask.specs.Ids.{ids_where};
-    ghost use Rattle.hart_mask.specs.Bits.{is_set, number_of};
-    ghost use Rattle.hart_mask.specs.Inverse.{number_of-own_ids};
+    ghost use Rattle.hart_mask.specs.Bits.{is_set, word_of};
+    ghost use Rattle.hart_mask.specs.Inverse.{word_of-own_ids};
 
     ghost Value = { List ℕ };
 
@@ -23,9 +23,9 @@ impl Model for HartSet {
 
     ghost invariant = { λ s. s.bits < 2 ^ 128 };
 
-    ghost inverse = { λ ids. record { bits = number_of ids } };
+    ghost inverse = { λ ids. record { bits = word_of ids } };
 
-    ghost inverse_ok = { λ s below i. record { bits = number_of-own_ids s.bits below i } };
+    ghost inverse_ok = { λ s below i. record { bits = word_of-own_ids s.bits below i } };
 }
 
 impl PartialEq for HartSet {

@@ -12,7 +12,7 @@ use Rattle.hsm.specs.Harts.{Hart, resting, starting}
 use Rattle.hsm.specs.Interruptible.{interruptible_ids}
 use Rattle.hsm.specs.Phases.{AreKept, hart_of}
 use Rattle.hsm.specs.States.{is_interruptible}
-use Rattle.hsm.specs.Transitions.{hart_at, opened, opening}
+use Rattle.hsm.specs.Transitions.{hart_at, hart_at_opening, opening}
 
 module _ (harts : List Hart) (h : ℕ) (hart : Hart) (inside : h < length harts) where
   at-written : (i : ℕ) → i ≡ h → hart_at (set harts h hart) i ≡ hart
@@ -72,8 +72,8 @@ module _ (phases : List Phase) (h : ℕ) (phase : Phase) (ids : List ℕ) (kept 
   }
 
 module _ (harts boot_hart : ℕ) (boot : Kept) where
-  opened-not : (h : ℕ) → is_interruptible (opened boot_hart boot h).state ≡ false
-  opened-not h = elim (eqb_tells h boot_hart) [
+  hart_at_opening-not : (h : ℕ) → is_interruptible (hart_at_opening boot_hart boot h).state ≡ false
+  hart_at_opening-not h = elim (eqb_tells h boot_hart) [
     | inl same ↦ ap (λ b. is_interruptible (if b then starting boot else resting).state) same.0
     | inr other ↦ ap (λ b. is_interruptible (if b then starting boot else resting).state) other.0
   ]
@@ -83,8 +83,8 @@ module _ (harts boot_hart : ℕ) (boot : Kept) where
   none-at-opening = ids_where-none _ (λ i _. elim (leb_tells (length (range_with_len 0 harts)) i) [
     | inl past ↦
         ap (λ (at : Hart). is_interruptible at.state)
-        (get_or_past (opening harts boot_hart boot) i resting (omega (arith, past.1, length-map (range_with_len 0 harts) (opened boot_hart boot))))
+        (get_or_past (opening harts boot_hart boot) i resting (omega (arith, past.1, length-map (range_with_len 0 harts) (hart_at_opening boot_hart boot))))
     | inr there ↦
-        ap (λ (at : Hart). is_interruptible at.state) (get_or-map (opened boot_hart boot) (range_with_len 0 harts) i 0 resting there.1)
-        ∙ opened-not _
+        ap (λ (at : Hart). is_interruptible at.state) (get_or-map (hart_at_opening boot_hart boot) (range_with_len 0 harts) i 0 resting there.1)
+        ∙ hart_at_opening-not _
   ])

@@ -78,9 +78,9 @@ changed harts h (Some hart) = slice_set harts h hart
 changed harts h None = harts
 
 -- a hart at the opening
-abbrev pub opened : ℕ → Kept → ℕ → Hart
-opened boot_hart boot h = if h == boot_hart then starting boot else resting
+abbrev pub hart_at_opening : ℕ → Kept → ℕ → Hart
+hart_at_opening boot_hart boot h = if h == boot_hart then starting boot else resting
 
 -- At the opening the boot hart's start is pending, and the others are STOPPED (profile).
 abbrev pub opening : ℕ → ℕ → Kept → List Hart
-opening harts boot_hart boot = map (opened boot_hart boot) (range_with_len 0 harts)
+opening harts boot_hart boot = map (hart_at_opening boot_hart boot) (range_with_len 0 harts)

@@ -2,6 +2,7 @@ ghost use Rattle.std.specs.Prelude.{◌≡◌};
 ghost use Rattle.hsm.specs.States.{goes_on, is_interruptible, is_started, state_number};
 
 use sbi_abi::SbiError;
+use thiserror::Error;
 
 /// The state of a hart (SBI 9, HSM states).
 #[derive(Clone, Copy, Debug, PartialEq, Eq)]
@@ -97,7 +98,8 @@ pub enum Moved {
 }
 
 /// Why a start was refused: the hart isn't STOPPED (SBI 9.1).
-#[derive(Clone, Copy, Debug, PartialEq, Eq)]
+#[derive(Clone, Copy, Debug, PartialEq, Eq, Error)]
+#[error("already available")]
 pub struct AlreadyAvailable;
 
 impl From<AlreadyAvailable> for SbiError {

@@ -1,5 +1,5 @@
 ghost use Rattle.std.specs.Prelude.{◌≡◌, ◌<◌, ◌≤◌, IfOk, count_by, length, option_map, is_ok, is_some, false, slice_set};
-ghost use Rattle.hsm.specs.Transitions.{advanced, changed, hart_at, opened, opening, started, stopped, suspended};
+ghost use Rattle.hsm.specs.Transitions.{advanced, changed, hart_at, hart_at_opening, opening, started, stopped, suspended};
 ghost use Rattle.hsm.specs.States.{goes_on, is_in_suspend, is_start_pending};
 ghost use Rattle.hsm.specs.Interruptible.{interruptible_ids};
 ghost use Rattle.hsm.specs.Phases.{hart_of};
@@ -156,7 +156,7 @@ impl Hsm {
 
 /// What is kept of hart `h` at the opening.
 fn opening_phase(boot_hart: u64, boot: Kept, h: u64) -> Phase
-    ensures { hart_of result ≡ opened boot_hart boot h }
+    ensures { hart_of result ≡ hart_at_opening boot_hart boot h }
 {
     if h == boot_hart {
         Phase::StartPending(boot)

@@ -3,12 +3,14 @@ ghost use Rattle.interrupts.specs.Timing.{deadline_of, is_timer_pending, last_ti
 
 use std::alloc::{AllocError, Global};
 use std::marker::Model;
+use thiserror::Error;
 
 /// The last time that there is, in ticks: a deadline of `u64::MAX` lies after it.
 const LAST_TIME: u64 = u64::MAX - 1;
 
 /// Why a tick was refused: the time would go past 2^64-2 (profile).
-#[derive(Clone, Copy, Debug, PartialEq, Eq)]
+#[derive(Clone, Copy, Debug, PartialEq, Eq, Error)]
+#[error("the time would go past its end")]
 pub struct TimeFull;
 
 /// The time in ticks, and the deadlines of a board's harts, by their ids (SBI 6).

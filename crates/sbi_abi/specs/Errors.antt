@@ -5,15 +5,15 @@ use Rattle.sbi_abi.specs.declared.answer.SbiError.{SbiError}
 use Rattle.sbi_abi.specs.declared.answer.SbiError.TheVariants.{Failed, NotSupported, InvalidParam, Denied, InvalidAddress, AlreadyAvailable, AlreadyStarted, AlreadyStopped}
 
 -- the number n is `negsuc (n - 1)` below zero
-abbrev pub number_of : SbiError → ℤ
-number_of Failed = negsuc 0
-number_of NotSupported = negsuc 1
-number_of InvalidParam = negsuc 2
-number_of Denied = negsuc 3
-number_of InvalidAddress = negsuc 4
-number_of AlreadyAvailable = negsuc 5
-number_of AlreadyStarted = negsuc 6
-number_of AlreadyStopped = negsuc 7
+abbrev pub error_number : SbiError → ℤ
+error_number Failed = negsuc 0
+error_number NotSupported = negsuc 1
+error_number InvalidParam = negsuc 2
+error_number Denied = negsuc 3
+error_number InvalidAddress = negsuc 4
+error_number AlreadyAvailable = negsuc 5
+error_number AlreadyStarted = negsuc 6
+error_number AlreadyStopped = negsuc 7
 
 -- whether a number is 0
 abbrev pub is_zero : ℤ → Bool

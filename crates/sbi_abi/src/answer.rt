@@ -1,5 +1,7 @@
 ghost use Rattle.std.specs.Prelude.{◌≡◌};
-ghost use Rattle.sbi_abi.specs.Errors.{number_of};
+ghost use Rattle.sbi_abi.specs.Errors.{error_number};
+
+use thiserror::Error;
 
 /// The answer to a call: `error` comes back in a0 and `value` in a1 (SBI 3, Binary Encoding).
 #[derive(Clone, Copy, Debug, PartialEq, Eq)]
@@ -11,30 +13,38 @@ pub struct Sbiret {
 }
 
 /// Why a call failed (SBI 3, Standard SBI Errors).
-#[derive(Clone, Copy, Debug, PartialEq, Eq)]
+#[derive(Clone, Copy, Debug, PartialEq, Eq, Error)]
 pub enum SbiError {
     /// Failed.
+    #[error("failed")]
     Failed,
     /// Not supported.
+    #[error("not supported")]
     NotSupported,
     /// Invalid parameter(s).
+    #[error("invalid parameter")]
     InvalidParam,
     /// Denied or not allowed.
+    #[error("denied")]
     Denied,
     /// Invalid address(es).
+    #[error("invalid address")]
     InvalidAddress,
     /// Already available.
+    #[error("already available")]
     AlreadyAvailable,
     /// Already started.
+    #[error("already started")]
     AlreadyStarted,
     /// Already stopped.
+    #[error("already stopped")]
     AlreadyStopped,
 }
 
 impl SbiError {
     /// The error's number, as a0 holds it.
     pub fn number(self) -> i64
-        ensures { result ≡ number_of self }
+        ensures { result ≡ error_number self }
     {
         match self {
             SbiError::Failed => -1,

@@ -5,7 +5,7 @@ use Rattle.std.specs.Prelude.{None}
 use Rattle.std.proofs.lemmas.Bool.Decides.{eqb_tells}
 use Rattle.hart_mask.proofs.Sets.{ids_where-none}
 use Rattle.hsm.specs.declared.hart.Kept.{Kept}
-use Rattle.hsm.specs.Transitions.{opened}
+use Rattle.hsm.specs.Transitions.{hart_at_opening}
 use Rattle.board_core.specs.declared.config.Config.{Config}
 use Rattle.board_core.specs.Course.{harts_of}
 use Rattle.board_core.specs.Csrs.{sie, sstatus_sie}
@@ -17,7 +17,7 @@ use Rattle.board_core.proofs.board.opening.Goals as goal
 boot : Config → Kept
 boot c = record { addr = c.boot_addr; opaque = c.boot_opaque }
 
-opened_as : (c : Config) (h : ℕ) → hart_of c [] h ≡ opened c.boot_hart (boot c) h
+opened_as : (c : Config) (h : ℕ) → hart_of c [] h ≡ hart_at_opening c.boot_hart (boot c) h
 unfolding boot
 opened_as c h = elim (eqb_tells h c.boot_hart) [
   | inl same ↦ rw same.1 (rw (eqb-same c.boot_hart) refl)
@@ -27,7 +27,7 @@ opened_as c h = elim (eqb_tells h c.boot_hart) [
 pub returns : goal.returns
 unfolding boot
 returns c = record {
-  harts = record { each = c.in_ok-hsm.ensures ∙ tabulate-same (opened c.args.config.now.boot_hart (boot c.args.config.now)) (hart_of c.args.config.now []) (opened_as c.args.config.now) (harts_of c.args.config.now) };
+  harts = record { each = c.in_ok-hsm.ensures ∙ tabulate-same (hart_at_opening c.args.config.now.boot_hart (boot c.args.config.now)) (hart_of c.args.config.now []) (opened_as c.args.config.now) (harts_of c.args.config.now) };
   interrupts = record {
     csrs = record {
       sstatus_sie = c.new-3.ensures ∙ sym (ids_where-none (sstatus_sie []) (λ i below. refl));

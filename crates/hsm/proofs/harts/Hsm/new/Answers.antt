@@ -5,7 +5,7 @@ use Rattle.std.specs.List.{range_with_len}
 use Rattle.hsm.specs.Harts.{Hart}
 use Rattle.hsm.specs.Phases.{hart_of}
 use Rattle.hsm.specs.Interruptible.{interruptible_ids}
-use Rattle.hsm.specs.Transitions.{opened, opening}
+use Rattle.hsm.specs.Transitions.{hart_at_opening, opening}
 use Rattle.hsm.proofs.Interruptible.{none-at-opening}
 use Rattle.hsm.proofs.harts.Hsm.new.Goals as goal
 
@@ -15,14 +15,14 @@ loop-h-preserved c =
     ∙ map-append hart_of c.loop-h.phases.items (c.opening_phase.result ∷ [])
     ∙ ap (λ (harts : List Hart). harts ++ hart_of c.opening_phase.result ∷ []) c.loop-h.invariant
     ∙ ap (λ (hart : Hart). opening c.loop-h.h c.args.boot_hart c.args.boot ++ hart ∷ []) c.opening_phase.ensures
-    ∙ sym (map-range_with_len_more (opened c.args.boot_hart c.args.boot) 0 c.loop-h.h c.loop-h.h (omega arith))
+    ∙ sym (map-range_with_len_more (hart_at_opening c.args.boot_hart c.args.boot) 0 c.loop-h.h c.loop-h.h (omega arith))
 
 pub invariant_of-result : goal.invariant_of-result
 invariant_of-result c =
     let h = c.loop-h.h in
     let long = ap length c.loop-h.invariant in
     let opened_long : length (opening h c.args.boot_hart c.args.boot) ≡ h =
-    length-map (range_with_len 0 h) (opened c.args.boot_hart c.args.boot) ∙ length-range_with_len 0 h in
+    length-map (range_with_len 0 h) (hart_at_opening c.args.boot_hart c.args.boot) ∙ length-range_with_len 0 h in
     record {
       limit = omega (arith, long, opened_long, c.loop-h.auto.h-end, c.requires.limit);
       interruptible =

@@ -1,0 +1,163 @@
+-- In a legal history an error does nothing, and what does nothing changes no look-up.
+use Rattle.std.proofs.Common.{◌≡◌, ℕ, ◌+◌, Bool, true, false, List, [], ◌∷◌, length, refl, sym, ap, ◌∙◌, arith}
+use Rattle.std.specs.Prelude.{Option, Some, None, Result, Ok, Err, nat_le, not, if◌then◌else◌, is_none}
+use Rattle.std.specs.List.{filter_map}
+use Rattle.sbi_abi.specs.declared.answer.SbiError.{SbiError}
+use Rattle.sbi_abi.specs.declared.answer.SbiError.TheVariants.{InvalidParam, InvalidAddress, AlreadyAvailable, Failed}
+use Rattle.sbi_abi.specs.declared.call.Call.{Call}
+use Rattle.sbi_abi.specs.declared.call.Call.TheVariants as calls
+use Rattle.sbi_abi.specs.declared.suspend.SuspendKind.{SuspendKind}
+use Rattle.sbi_abi.specs.declared.suspend.SuspendKind.TheVariants.{Retentive, NonRetentive}
+use Rattle.sbi_abi.specs.Calls.{call_of}
+use Rattle.hart_mask.specs.HartList.{targets_of}
+use Rattle.hsm.specs.declared.hart.HartState.{HartState}
+use Rattle.hsm.specs.declared.hart.HartState.TheVariants.{Started, Stopped, StartPending, StopPending, Suspended, SuspendPending, ResumePending}
+use Rattle.hsm.specs.declared.hart.Kept.{Kept}
+use Rattle.hsm.specs.States.{is_stopped}
+use Rattle.board_core.specs.declared.config.Config.{Config}
+use Rattle.board_core.specs.declared.event.Actor.{Actor}
+use Rattle.board_core.specs.declared.event.Actor.TheVariants.{Hart, Clock}
+use Rattle.board_core.specs.declared.event.Event.{Event}
+use Rattle.board_core.specs.declared.event.Op.{Op}
+use Rattle.board_core.specs.declared.event.Op.TheVariants.{Ecall, WriteSie, WriteSstatusSie, ReadSip, ClearSsip, Wfi, Advance, Tick}
+use Rattle.board_core.specs.declared.event.Refusal.{Refusal}
+use Rattle.board_core.specs.declared.event.Reply.{Reply}
+use Rattle.board_core.specs.declared.event.Reply.TheVariants.{Ret, Gone, Done}
+use Rattle.board_core.specs.Course.{harts_of}
+use Rattle.board_core.specs.Csrs.{sstatus_sie}
+use Rattle.board_core.specs.ErrorLaw.{LooksSame, is_error}
+use Rattle.board_core.specs.Interrupts.{reaches_by, time, wake}
+use Rattle.board_core.specs.Limits.{is_start_address}
+use Rattle.board_core.specs.Refusals.{clock_refusals, first_that_holds, is_full}
+use Rattle.board_core.specs.Replies.{IsLegal, advance_reply, answer, call_reply, failure, refused_or, reply, suspend_reply, unless}
+use Rattle.board_core.specs.Starts.{Start, entries, last_start, pending, starts}
+use Rattle.board_core.specs.States.{state}
+use Rattle.board_core.specs.Suspends.{resume_point}
+use Rattle.board_core.proofs.Events.{Deed, deed, deed_of_call, still}
+use Rattle.board_core.proofs.Rows.{accepted}
+
+module _ (c : Config) (past : List Event) where
+  -- a call that answers an error does nothing
+  module _ (x : ℕ) where
+    failed_call : (call : Call) (r : Reply) → call_reply c past x call ≡ r → is_error r ≡ true → deed_of_call c past x call r ≡ still
+    failed_call calls.GetSpecVersion r is error = refl
+    failed_call calls.GetImplId r is error = refl
+    failed_call calls.GetImplVersion r is error = refl
+    failed_call (calls.ProbeExtension eid) r is error = refl
+    failed_call calls.GetMvendorid r is error = refl
+    failed_call calls.GetMarchid r is error = refl
+    failed_call calls.GetMimpid r is error = refl
+    failed_call (calls.SetTimer deadline) r is error = absurd (let e = rw (← is) at error in cc)
+    failed_call (calls.SendIpi mask base) r is error = rw (← is) (by_targets (is_none (targets_of mask base c.harts)) (rw (← is) at error))
+      where
+        by_targets : (none : Bool) → (let r = Ret (unless (first_that_holds ((none, InvalidParam) ∷ [])) 0) in
+            is_error r ≡ true → deed_of_call c past x (calls.SendIpi mask base) r ≡ still)
+        by_targets true error = refl
+        by_targets false error = cc
+    failed_call (calls.HartStart t addr opaque) r is error =
+        rw (← is) (by_errors (nat_le c.harts t) (is_start_address c.pages addr) (is_stopped (state c past t)) (rw (← is) at error))
+      where
+        by_errors : (missing right stopped : Bool)
+            → (let r = Ret (unless (first_that_holds ((missing, InvalidParam) ∷ (not right, InvalidAddress) ∷ (not stopped, AlreadyAvailable) ∷ [])) 0) in
+            is_error r ≡ true → deed_of_call c past x (calls.HartStart t addr opaque) r ≡ still)
+        by_errors true right stopped error = refl
+        by_errors false false stopped error = refl
+        by_errors false true false error = refl
+        by_errors false true true error = cc
+    failed_call calls.HartStop r is error = rw (← is) (by_enabled (sstatus_sie past x) (rw (← is) at error))
+      where
+        by_enabled : (enabled : Bool) → (let r = (if enabled then Ret (failure Failed) else Gone) in is_error r ≡ true → deed_of_call c past x calls.HartStop r ≡ still)
+        by_enabled true error = refl
+        by_enabled false error = cc
+    failed_call (calls.HartGetStatus t) r is error = refl
+    failed_call (calls.HartSuspend kind addr opaque) r is error = rw (← is) (by_kind kind (rw (← is) at error))
+      where
+        by_address : (right : Bool) → (let r = (if right then Gone else Ret (failure InvalidAddress)) in
+            is_error r ≡ true → deed_of_call c past x (calls.HartSuspend kind addr opaque) r ≡ still)
+        by_address true error = cc
+        by_address false error = refl
+
+        by_kind : (kind' : Result SuspendKind SbiError) → (let r = suspend_reply c kind' addr in
+            is_error r ≡ true → deed_of_call c past x (calls.HartSuspend kind addr opaque) r ≡ still)
+        by_kind (Err error') error = refl
+        by_kind (Ok Retentive) error = cc
+        by_kind (Ok NonRetentive) error = by_address (is_start_address c.pages addr) error
+    failed_call calls.Unsupported r is error = refl
+
+    -- an Advance answers no error
+    advanced_well : (s : HartState) (start : Start) (resume : Option Kept) → is_error (advance_reply x s start resume) ≡ false
+    advanced_well Started start resume = refl
+    advanced_well Stopped start resume = refl
+    advanced_well StartPending start resume = refl
+    advanced_well StopPending start resume = refl
+    advanced_well SuspendPending start resume = refl
+    advanced_well Suspended start resume = refl
+    advanced_well ResumePending start None = refl
+    advanced_well ResumePending start (Some kept) = refl
+
+  -- a tick that isn't refused is done
+  ticked_well : (refusal : Option Refusal) (r : Reply) → refused_or refusal Done ≡ Ok r → r ≡ Done
+  ticked_well None r e = cc
+  ticked_well (Some refusal) r e = cc
+
+  failed : (actor : Actor) (op : Op) (r : Reply) → answer c past actor op ≡ Ok r → is_error r ≡ true
+      → deed c past (record { actor = actor; op = op; reply = r }) ≡ still
+  failed Clock (Ecall regs) r e error = cc
+  failed Clock (WriteSie value) r e error = cc
+  failed Clock (WriteSstatusSie value) r e error = cc
+  failed Clock ReadSip r e error = cc
+  failed Clock ClearSsip r e error = cc
+  failed Clock Wfi r e error = cc
+  failed Clock Advance r e error = cc
+  failed Clock (Tick n) r e error = absurd (let e = sym (ap is_error (ticked_well (first_that_holds (clock_refusals c past (Tick n))) r e)) ∙ error in cc)
+  failed (Hart x) op r e error = by_op op (accepted (nat_le c.harts x) (state c past x) (wake c past x) op (is_full c past) (reply c past x op) r e).1
+    where
+      by_op : (op : Op) → reply c past x op ≡ r → deed c past (record { actor = Hart x; op = op; reply = r }) ≡ still
+      by_op (Ecall regs) is = failed_call x (call_of regs) r is error
+      by_op (WriteSie value) is = absurd (let e = rw (← is) at error in cc)
+      by_op (WriteSstatusSie value) is = absurd (let e = rw (← is) at error in cc)
+      by_op ReadSip is = absurd (let e = rw (← is) at error in cc)
+      by_op ClearSsip is = absurd (let e = rw (← is) at error in cc)
+      by_op Wfi is = absurd (let e = rw (← is) at error in cc)
+      by_op Advance is = absurd (let e = sym (advanced_well x (state c past x) (last_start c past x) (resume_point past x)) ∙ ap is_error is ∙ error in cc)
+      by_op (Tick n) is = absurd (let e = rw (← is) at error in cc)
+
+  -- what does nothing changes no look-up
+  looks_same : (event : Event) → deed c past event ≡ still → LooksSame c past (event ∷ past)
+  looks_same event none =
+      let moves = ap (λ (d : Deed). d.harts.move) none in
+      let begun = ap (λ (d : Deed). d.harts.start) none in
+      let resumes = ap (λ (d : Deed). d.harts.resume) none in
+      let sstatus = ap (λ (d : Deed). d.interrupts.sstatus) none in
+      let sie = ap (λ (d : Deed). d.interrupts.sie) none in
+      let ssip = ap (λ (d : Deed). d.interrupts.ssip) none in
+      let deadline = ap (λ (d : Deed). d.interrupts.deadline) none in
+      let ticks = ap (λ (d : Deed). d.interrupts.ticks) none in
+      let entry = ap (λ (d : Deed). d.counts.entry) none in
+      let reach : (h : ℕ) → reaches_by c past event.op event.reply h ≡ false = λ h. ap (λ (d : Deed). d.interrupts.reach h) none in
+      let started : length (starts c (event ∷ past)) ≡ length (starts c past) = rw begun refl in
+      let entered : length (entries c (event ∷ past)) ≡ length (entries c past) = rw entry refl in
+      let still_pending : (h : ℕ) → pending c (event ∷ past) h ≡ pending c past h = λ h. rw (moves, begun) refl in
+      let later : time (event ∷ past) ≡ time past = rw ticks (omega arith) in
+      record {
+        state = λ h. rw moves refl;
+        kept = λ h. rw (moves, begun, resumes) refl;
+        sstatus_sie = λ h. rw sstatus refl;
+        sie = λ h. rw sie refl;
+        ssip = λ h. rw (reach h, ssip) refl;
+        stip = λ h. rw (deadline, later) refl;
+        wake = λ h. rw (sie, reach h, ssip, deadline, later) refl;
+        deadline = λ h. rw deadline refl;
+        time = later;
+        totals = λ i. record {
+          starts = started i;
+          entries = entered i;
+          pending = length (filter_map (λ h. still_pending h i) (harts_of c));
+          asked = 0;
+          applied = 0;
+          waiting = 0;
+        };
+      }
+
+pub errors_change_nothing : (c : Config) (event : Event) (past : List Event) → IsLegal c (event ∷ past) → is_error event.reply ≡ true → LooksSame c past (event ∷ past)
+errors_change_nothing c event past legal error = looks_same c past event (failed c past event.actor event.op event.reply legal.0 error)
