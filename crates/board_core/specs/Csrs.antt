@@ -52,7 +52,8 @@ abbrev pub sie_by : Op → Reply → (starting : Bool) → Option Sie
 sie_by (WriteSie value) reply starting = Some (sie_of value)
 sie_by op reply starting = if is_start_entry op reply starting then Some none_enabled else None
 
--- sie of a hart: what its last write or entry by start made of it, and 0 before any.
+-- sie of a hart: what its last write or entry by start made of it, and 0 before any. The entry of a resume keeps it
+-- (profile).
 abbrev pub sie : Config → List Event → ℕ → Sie
 sie c [] h = none_enabled
 sie c (event ∷ past) h =

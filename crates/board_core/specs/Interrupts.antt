@@ -82,6 +82,7 @@ stip c past h = is_due (time past) (deadline c past h)
 
 -- ---- wake
 
--- A hart has wake where an interrupt is pending that sie enables, whatever sstatus.SIE is (Privileged 3.3.3, WFI).
+-- A hart has wake where an interrupt is pending that sie enables, whatever sstatus.SIE is (Privileged 3.3.3, WFI; that
+-- this wakes a suspended hart, and nothing else does: profile).
 abbrev pub wake : Config → List Event → ℕ → Bool
 wake c past h = enables (sie c past h) (ssip c past h) (stip c past h)
