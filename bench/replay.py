@@ -5,9 +5,10 @@ usage: bench/replay.py [--runs N] [--instructions] [--harts N,..] [--lines N,..]
 
 PROGRAM is a built `sbiboard` (default: the one that `./sbiboard` builds); plain Rust is `bench/baseline.rs`, which
 is built here with rustc. First both replay each schedule once, and must print the same bytes. Then they take
-turns, RUNS times (default 9), and of each the fastest run counts: on a busy machine that is still too slow, so look
-at the load that is printed. Time is that of the whole process, reading and writing included. Memory is its peak,
-which can't be told below that of this script: there it stands behind a `<`.
+turns, --runs times (default 9), and of each the fastest run counts. Time is the processor's, of the whole process,
+in user and system: reading the file and writing the output are in it, waiting for a processor isn't. A busy machine
+still slows both by its caches, so look at the load that is printed. Memory is the peak, which can't be told below
+that of this script: there it stands behind a `<`.
 "Huge pages" is the same with GLIBC_TUNABLES=glibc.malloc.hugetlb=1, which has the C library ask for them; it changes
 both, and the ratio is the program's time over plain Rust's, both with it.
 
@@ -24,10 +25,10 @@ import shutil
 import subprocess
 import sys
 import tempfile
-import time
 
 ROOT = os.path.dirname(os.path.dirname(os.path.abspath(__file__)))
 RUSTC = ["rustc", "--edition", "2024", "-C", "opt-level=3", "-C", "codegen-units=1", "-C", "target-cpu=x86-64"]
+PLAIN_PAGES = {"GLIBC_TUNABLES": ""}
 HUGE_PAGES = {"GLIBC_TUNABLES": "glibc.malloc.hugetlb=1"}
 MOST_BYTES = 16_777_216
 
@@ -92,23 +93,21 @@ def schedule(folder, workload, harts, lines):
 # ---- runs
 
 
-def replay(program, path, output=os.devnull, env=None):
-    """The seconds of one replay, and its peak of memory in MiB."""
+def replay(program, path, pages, output=os.devnull):
+    """The seconds of the processor that one replay takes, and its peak of memory in MiB."""
     with open(output, "wb") as sink:
-        begin = time.perf_counter()
-        child = subprocess.Popen([program, "replay", path], stdout=sink, env=os.environ | (env or {}))
+        child = subprocess.Popen([program, "replay", path], stdout=sink, env=os.environ | pages)
         _, status, used = os.wait4(child.pid, 0)
-        seconds = time.perf_counter() - begin
     if status != 0:
         sys.exit(f"{program} replay {path}: status {os.waitstatus_to_exitcode(status)}")
-    return seconds, used.ru_maxrss / 1024
+    return used.ru_utime + used.ru_stime, used.ru_maxrss / 1024
 
 
 def agree(programs, path):
     """Both programs print the same bytes."""
     outputs = [f"{path}.{i}" for i in range(len(programs))]
     for program, output in zip(programs, outputs):
-        replay(program, path, output)
+        replay(program, path, PLAIN_PAGES, output)
     if not filecmp.cmp(*outputs, shallow=False):
         sys.exit(f"{path}: the outputs differ: {' '.join(outputs)}")
     for output in outputs:
@@ -117,8 +116,8 @@ def agree(programs, path):
 
 def fastest(programs, path, runs):
     """The fastest of the runs of each program, without huge pages and with them, in turns."""
-    variants = [(program, env) for program in programs for env in ({}, HUGE_PAGES)]
-    rounds = [[replay(program, path, env=env) for program, env in variants] for _ in range(runs)]
+    variants = [(program, pages) for program in programs for pages in (PLAIN_PAGES, HUGE_PAGES)]
+    rounds = [[replay(program, path, pages) for program, pages in variants] for _ in range(runs)]
     return [min(column) for column in zip(*rounds)]
 
 
