@@ -20,6 +20,7 @@ pub enum Name {
 }
 
 impl Name {
+    #[inline(always)]
     fn of(word: &[u8]) -> Option<Name> {
         Some(match word {
             b"ecall" => Name::Ecall,
@@ -105,11 +106,13 @@ struct Reader<'a> {
 }
 
 impl<'a> Reader<'a> {
+    #[inline(always)]
     fn peek(&self) -> u8 {
         self.bytes[self.at]
     }
 
     /// The next byte of the line that is no blank.
+    #[inline(always)]
     fn skip_gap(&mut self) -> u8 {
         let mut at = self.at;
         while matches!(self.bytes[at], b' ' | b'\t') {
@@ -119,6 +122,7 @@ impl<'a> Reader<'a> {
         self.bytes[at]
     }
 
+    #[inline(always)]
     fn word(&mut self) -> &'a [u8] {
         let start = self.at;
         let mut at = start;
@@ -130,6 +134,7 @@ impl<'a> Reader<'a> {
     }
 
     /// Goes past the end of a line that has no more words, if its other bytes are allowed.
+    #[inline(always)]
     fn end_line(&mut self) -> Option<()> {
         let mut at = self.at;
         while is_allowed(self.bytes[at]) {
@@ -154,7 +159,10 @@ impl<'a> Reader<'a> {
                 self.at = at;
                 return (at > start && ends_word(byte)).then_some(n);
             }
-            n = n.checked_mul(RADIX)?.checked_add(digit)?;
+            n = match RADIX {
+                16 => (n >> 60 == 0).then_some(n << 4 | digit)?,
+                _ => n.checked_mul(RADIX)?.checked_add(digit)?,
+            };
             at += 1;
         }
     }
@@ -168,6 +176,7 @@ impl<'a> Reader<'a> {
     }
 
     /// The numbers up to the line's end, at most `most` of them and each at most `limit`.
+    #[inline(always)]
     fn numbers(&mut self, most: usize, limit: u64, into: &mut Vec<u64>) -> Option<usize> {
         let mut count = 0;
         while !matches!(self.skip_gap(), b'\n' | b'\r' | b'#') {
