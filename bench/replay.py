@@ -13,9 +13,10 @@ that of this script: there it stands behind a `<`.
 both, and the ratio is the program's time over plain Rust's, both with it.
 
 A step is constant work, so a row's speed should depend neither on the number of harts nor on how long the history
-is: rows of 100,000 lines differ in their harts, and rows of 128 harts in their lines. --harts and --lines choose
-other ones. A script has at most 16,777,216 bytes, so workloads of longer lines end at 500,000 lines. --instructions
-counts instructions by valgrind in the place of time (some minutes), which tells the same of a busy machine.
+is: rows of 100,000 lines differ in their harts, and rows of 128 harts in their lines. (Of 10,000 lines a large part is
+the start of the process.) --harts and --lines choose other ones. A script has at most 16,777,216 bytes, so workloads
+of longer lines end at 500,000 lines. --instructions counts instructions by valgrind in the place of time, in some
+minutes: a busy machine doesn't change them.
 """
 import argparse
 import filecmp
