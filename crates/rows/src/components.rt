@@ -4,6 +4,10 @@ use interrupts::{Ipis, TimeFull, Timers};
 use sbi_abi::{SbiError, SuspendKind};
 use std::alloc::AllocError;
 
+/// The lowest and the highest bit of a hart list's mask.
+const ENDS: u64 = 0x8000_0000_0000_0001;
+
+/// Sets with the first and last ids of their two words.
 #[test]
 fn ids_at_the_edges_of_words(rt: HostRuntime) {
     let mut set = HartSet::new();
@@ -29,8 +33,7 @@ fn ids_at_the_edges_of_words(rt: HostRuntime) {
     assert_eq!(rt; set, HartSet::default());
 }
 
-const ENDS: u64 = 0x8000_0000_0000_0001;
-
+/// Hart lists with the harts that they name, or their refusal.
 #[test]
 fn hart_lists_at_their_edges(rt: HostRuntime) {
     let rows: [(u64, u64, u64, Option<&[u64]>); 24] = [
@@ -76,6 +79,7 @@ fn hart_lists_at_their_edges(rt: HostRuntime) {
     assert_eq!(rt; SbiError::from(InvalidParam).number(), -3);
 }
 
+/// A hart is started, enters, and is stopped.
 #[test]
 fn the_life_of_a_hart(rt: HostRuntime) -> Result<(), AllocError> {
     let boot = Kept {
@@ -109,6 +113,7 @@ fn the_life_of_a_hart(rt: HostRuntime) -> Result<(), AllocError> {
     Ok(())
 }
 
+/// A hart goes through a suspend of each kind.
 #[test]
 fn the_life_of_a_suspended_hart(rt: HostRuntime) -> Result<(), AllocError> {
     let boot = Kept {
@@ -154,6 +159,7 @@ fn the_life_of_a_suspended_hart(rt: HostRuntime) -> Result<(), AllocError> {
     Ok(())
 }
 
+/// Software interrupts are sent and cleared, and deadlines come.
 #[test]
 fn the_life_of_interrupts(rt: HostRuntime) -> Result<(), AllocError> {
     let mut ipis = Ipis::new();
