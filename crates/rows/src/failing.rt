@@ -54,6 +54,7 @@ impl Sink for Failing<'_> {
     ghost failures = { λ f. f.failures };
 
     fn write(&mut self, piece: &[u8]) -> Result<usize, Failed> {
+        self.flushed = false;
         if self.fails_now() {
             self.failures += 1;
             return if self.takes_nothing && !piece.is_empty() {

@@ -1,10 +1,10 @@
-use crate::replays::replayed;
+use crate::row::replayed;
 use sbiboard::Outcome;
 use std::alloc::{AllocError, Global};
 use std::test::Fail;
 
 /// Texts after a good board line, and the line and number of their first fault.
-const AFTER_BOARD: [(&[u8], u64, u64); 41] = [
+const AFTER_BOARD: [(&[u8], u64, u64); 67] = [
     (b"0 advance\x00", 2, 1),
     (b"# caf\xc3\xa9", 2, 1),
     (b"0 advance\n\n\x0b", 4, 1),
@@ -46,10 +46,36 @@ const AFTER_BOARD: [(&[u8], u64, u64); 41] = [
     (b"0 ecall 1 18446744073709551616", 2, 4),
     (b"0 ecall 1 0x10000000000000000", 2, 4),
     (b"0 ecall 1 2 3 4 5 6 7 a", 2, 4),
+    (b"0 sstatus", 2, 5),
+    (b"0 sstatus 0 1", 2, 5),
+    (b"0 sstatus 2", 2, 4),
+    (b"0 sstatus 0x2", 2, 4),
+    (b"0 sip 1", 2, 5),
+    (b"0 sip x", 2, 5),
+    (b"0 clearssip 0", 2, 5),
+    (b"0 wfi 1", 2, 5),
+    (b"0 sie", 2, 5),
+    (b"0 sie 1 2", 2, 5),
+    (b"0 sie x", 2, 4),
+    (b"0 sie -1", 2, 4),
+    (b"0 sie 18446744073709551616", 2, 4),
+    (b"0 sie 0x10000000000000000", 2, 4),
+    (b"c tick", 2, 5),
+    (b"c tick 1 2", 2, 5),
+    (b"c tick x", 2, 4),
+    (b"c tick -1", 2, 4),
+    (b"c tick 0X1", 2, 4),
+    (b"c tick 18446744073709551616", 2, 4),
+    (b"128 sip", 2, 4),
+    (b"cc sip", 2, 6),
+    (b"0 Sip", 2, 3),
+    (b"0 sips", 2, 3),
+    (b"0 si", 2, 3),
+    (b"0 sip -> value 0x0", 2, 6),
 ];
 
 /// Texts after a good board line that are steps, or none.
-const GOOD: [&[u8]; 12] = [
+const GOOD: [&[u8]; 15] = [
     b"",
     b" \t # -> any -> words",
     b"c advance#->",
@@ -62,6 +88,9 @@ const GOOD: [&[u8]; 12] = [
     b"0 ecall 18446744073709551615 0xffffffffffffffff",
     b"0 ecall 0xFfFfFfFfFfFfFfFf 000000000000000000000018446744073709551615",
     b"0 ecall 1 2 3 4 5 6 7 8",
+    b"0 sstatus 1",
+    b"0 sstatus 0x1",
+    b"0 sstatus 00",
 ];
 
 /// How the replay of a good board line and then this text ends, and whether it printed something.
