@@ -37,7 +37,11 @@ fn usage(rt: HostRuntime) -> Result<(), Fail> {
             "sbiboard replay examples/version.sched",
         ),
         ("sbiboard help replay", 0, "Replay a schedule"),
-        ("sbiboard replay --help", 0, "7  the file could not be opened"),
+        (
+            "sbiboard replay --help",
+            0,
+            "7  the file could not be opened",
+        ),
     ] {
         let words = words(rt.alloc(), line)?;
         let error = command(rt.alloc(), words.as_slice())

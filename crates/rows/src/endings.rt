@@ -1,5 +1,5 @@
 use crate::commands::words;
-use sbiboard::{Fault, Failed, Outcome, ReadFault, ScriptFault, Stop, command, ended};
+use sbiboard::{Failed, Fault, Outcome, ReadFault, ScriptFault, Stop, command, ended};
 use std::alloc::{AllocError, Global};
 use std::cell::Cell;
 use std::fmt::{Display, Write};
@@ -13,17 +13,6 @@ struct Console {
     out: Cell<String>,
     err: Cell<String>,
     fails: Option<ErrorKind>,
-}
-
-impl Console {
-    fn new(alloc: Global, fails: Option<ErrorKind>) -> Console {
-        Console {
-            alloc,
-            out: Cell::new(String::new(alloc)),
-            err: Cell::new(String::new(alloc)),
-            fails,
-        }
-    }
 }
 
 /// Appends a value to the text that a cell keeps.
@@ -68,7 +57,17 @@ impl Eprint for Console {
 }
 
 /// The status that a run ends with, and what it leaves on standard output and standard error.
-fn said(console: Console, run: Result<Outcome, Stop>) -> (u8, String, String) {
+fn said(
+    alloc: Global,
+    fails: Option<ErrorKind>,
+    run: Result<Outcome, Stop>,
+) -> (u8, String, String) {
+    let console = Console {
+        alloc,
+        out: Cell::new(String::new(alloc)),
+        err: Cell::new(String::new(alloc)),
+        fails,
+    };
     let status = ended(&console, run);
     (status, console.out.into_inner(), console.err.into_inner())
 }
@@ -85,11 +84,7 @@ const OUTCOMES: [(Outcome, u8, &str); 8] = [
         "sbiboard: line 12: fault 5\n",
     ),
     (Outcome::BadBoard, 1, "sbiboard: bad board\n"),
-    (
-        Outcome::WrongKind,
-        1,
-        "sbiboard: wrong kind of script\n",
-    ),
+    (Outcome::WrongKind, 1, "sbiboard: wrong kind of script\n"),
     (Outcome::HistoryFull, 3, "sbiboard: history full\n"),
     (Outcome::Differs, 5, ""),
     (Outcome::NoMemory, 6, "sbiboard: no memory\n"),
@@ -99,7 +94,7 @@ const OUTCOMES: [(Outcome, u8, &str); 8] = [
 #[test]
 fn outcomes(rt: HostRuntime) {
     for (outcome, wanted, text) in OUTCOMES {
-        let (status, out, err) = said(Console::new(rt.alloc(), None), Ok(outcome));
+        let (status, out, err) = said(rt.alloc(), None, Ok(outcome));
         assert_eq!(rt; (status, outcome.status()), (wanted, wanted));
         assert_eq!(rt; err.as_str(), text);
         assert_eq!(rt; out.as_str(), "");
@@ -110,11 +105,7 @@ fn outcomes(rt: HostRuntime) {
 #[test]
 fn failures(rt: HostRuntime) {
     for (kind, wanted, text) in [
-        (
-            ErrorKind::NotFound,
-            7,
-            "sbiboard: input or output failed\n",
-        ),
+        (ErrorKind::NotFound, 7, "sbiboard: input or output failed\n"),
         (
             ErrorKind::IsADirectory,
             7,
@@ -133,42 +124,54 @@ fn failures(rt: HostRuntime) {
         (ErrorKind::OutOfMemory, 6, "sbiboard: no memory\n"),
     ] {
         let stop = Stop::from(io::Error::from(kind));
-        let (status, _, err) = said(Console::new(rt.alloc(), None), Err(stop));
+        let (status, _, err) = said(rt.alloc(), None, Err(stop));
         assert_eq!(rt; (status, err.as_str()), (wanted, text));
     }
-    let (status, _, err) = said(Console::new(rt.alloc(), None), Err(Stop::from(AllocError)));
+    let (status, _, err) = said(rt.alloc(), None, Err(Stop::from(AllocError)));
     assert_eq!(rt; (status, err.as_str()), (6, "sbiboard: no memory\n"));
 }
 
-/// A command line that is no task, and the status, and whether clap's text goes to standard error.
+/// What clap says of a command line that is no task, and what the run ends with.
+fn refused(
+    alloc: Global,
+    line: &str,
+    fails: Option<ErrorKind>,
+) -> Result<(String, u8, String, String), Fail> {
+    let words = words(alloc, line)?;
+    let error = command(alloc, words.as_slice()).err().ok_or("no task")?;
+    let text = format!(in alloc; "{error}")?;
+    let (status, out, err) = said(alloc, fails, Err(Stop::from(error)));
+    Ok((text, status, out, err))
+}
+
+/// Help and the version go to standard output, which may fail.
 #[test]
-fn usage(rt: HostRuntime) -> Result<(), Fail> {
-    for (line, wanted, is_fault) in [
-        ("sbiboard --help", 0, false),
-        ("sbiboard --version", 0, false),
-        ("sbiboard replay", 2, true),
-        ("sbiboard --nope", 2, true),
+fn asked_for(rt: HostRuntime) -> Result<(), Fail> {
+    for line in [
+        "sbiboard --help",
+        "sbiboard --version",
+        "sbiboard replay --help",
     ] {
-        let words = words(rt.alloc(), line)?;
-        for fails in [
-            None,
-            Some(ErrorKind::BrokenPipe),
-            Some(ErrorKind::OutOfMemory),
-        ] {
-            let error = command(rt.alloc(), words.as_slice()).err().ok_or("no task")?;
-            let text = format!(in rt.alloc(); "{error}")?;
-            let (status, out, err) = said(Console::new(rt.alloc(), fails), Err(Stop::from(error)));
-            let (status_wanted, out_wanted, err_wanted) = match fails {
-                None if !is_fault => (wanted, text.as_str(), ""),
-                Some(ErrorKind::BrokenPipe) if !is_fault => {
-                    (7, "", "sbiboard: input or output failed\n")
-                }
-                Some(_) if !is_fault => (6, "", "sbiboard: no memory\n"),
-                _ => (wanted, "", text.as_str()),
-            };
-            assert_eq!(rt; (status, out.as_str()), (status_wanted, out_wanted));
-            assert_eq!(rt; err.as_str(), err_wanted);
-        }
+        let (text, status, out, err) = refused(rt.alloc(), line, None)?;
+        assert_eq!(rt; status, 0);
+        assert_eq!(rt; (out.as_str(), err.as_str()), (text.as_str(), ""));
+        let (_, status, out, err) = refused(rt.alloc(), line, Some(ErrorKind::BrokenPipe))?;
+        assert_eq!(rt; (status, out.as_str()), (7, ""));
+        assert_eq!(rt; err.as_str(), "sbiboard: input or output failed\n");
+        let (_, status, out, err) = refused(rt.alloc(), line, Some(ErrorKind::OutOfMemory))?;
+        assert_eq!(rt; (status, out.as_str()), (6, ""));
+        assert_eq!(rt; err.as_str(), "sbiboard: no memory\n");
+    }
+    Ok(())
+}
+
+/// A fault of usage goes to standard error.
+#[test]
+fn faults_of_usage(rt: HostRuntime) -> Result<(), Fail> {
+    for line in ["sbiboard", "sbiboard replay", "sbiboard --nope"] {
+        let (text, status, out, err) = refused(rt.alloc(), line, Some(ErrorKind::BrokenPipe))?;
+        assert_eq!(rt; (status, out.as_str()), (2, ""));
+        assert_eq!(rt; err.as_str(), text.as_str());
     }
     Ok(())
 }
@@ -177,7 +180,9 @@ fn usage(rt: HostRuntime) -> Result<(), Fail> {
 #[test]
 fn texts(rt: HostRuntime) -> Result<(), Fail> {
     let words = words(rt.alloc(), "sbiboard replay --help")?;
-    let help = command(rt.alloc(), words.as_slice()).err().ok_or("no help")?;
+    let help = command(rt.alloc(), words.as_slice())
+        .err()
+        .ok_or("no help")?;
     let help = format!(in rt.alloc(); "{help}")?;
     for (fault, number, text) in [
         (
@@ -209,12 +214,18 @@ fn texts(rt: HostRuntime) -> Result<(), Fail> {
         assert_eq!(rt; help.contains(entry.as_str()), number < 9);
     }
     for (shown, wanted) in [
-        (format!(in rt.alloc(); "{Failed}")?, "input or output failed"),
+        (
+            format!(in rt.alloc(); "{Failed}")?,
+            "input or output failed",
+        ),
         (
             format!(in rt.alloc(); "{}", ReadFault::Failed)?,
             "input failed",
         ),
-        (format!(in rt.alloc(); "{}", ReadFault::NoMemory)?, "no memory"),
+        (
+            format!(in rt.alloc(); "{}", ReadFault::NoMemory)?,
+            "no memory",
+        ),
     ] {
         assert_eq!(rt; shown.as_str(), wanted);
     }

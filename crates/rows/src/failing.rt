@@ -20,7 +20,8 @@ struct Failing<'a> {
 
 impl Failing<'_> {
     fn fails_now(&mut self) -> bool
-        ensures { self.new.failures ≡ self.old.failures }
+        ensures failures { self.new.failures ≡ self.old.failures }
+        ensures flushed { self.new.flushed ≡ self.old.flushed }
     {
         let call = self.calls;
         self.calls = call.wrapping_add(1);

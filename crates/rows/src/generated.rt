@@ -11,7 +11,10 @@ fn starts(lines: &mut String, harts: u64) -> Result<(), AllocError> {
     )?;
     for hart in 1..harts {
         let addr = hart.wrapping_mul(2).wrapping_add(0x8000_0000);
-        writeln!(lines, "0 ecall 0x48534d 0 {hart} {addr} {hart} -> ret 0 0x0")?;
+        writeln!(
+            lines,
+            "0 ecall 0x48534d 0 {hart} {addr} {hart} -> ret 0 0x0"
+        )?;
     }
     Ok(())
 }
@@ -65,10 +68,16 @@ fn all_harts_stop(rt: HostRuntime) -> Result<(), Fail> {
     let mut table = String::new(rt.alloc());
     for hart in 0..128u64 {
         if hart % 2 == 1 {
-            writeln!(lines, "{hart} sstatus 1 -> done\n{hart} ecall 0x48534d 1 -> ret -1 0x0")?;
+            writeln!(
+                lines,
+                "{hart} sstatus 1 -> done\n{hart} ecall 0x48534d 1 -> ret -1 0x0"
+            )?;
             hart_row(&mut table, hart, "STARTED", 1)?;
         } else {
-            writeln!(lines, "{hart} ecall 0x48534d 1 -> gone\n{hart} advance -> moved 1")?;
+            writeln!(
+                lines,
+                "{hart} ecall 0x48534d 1 -> gone\n{hart} advance -> moved 1"
+            )?;
             hart_row(&mut table, hart, "STOPPED", 0)?;
         }
     }
@@ -101,7 +110,10 @@ fn is_valid(mask: u64, base: u64, harts: u64) -> bool {
 fn asked(lines: &mut String, harts: u64, mask: u64, base: u64) -> Result<(), AllocError> {
     let is_valid = is_valid(mask, base, harts);
     let error = if is_valid { 0 } else { -3 };
-    writeln!(lines, "0 ecall 0x735049 0 {mask:#x} {base} -> ret {error} 0x0")?;
+    writeln!(
+        lines,
+        "0 ecall 0x735049 0 {mask:#x} {base} -> ret {error} 0x0"
+    )?;
     for h in 0..harts {
         let is_named = is_valid && names(mask, base, h);
         let value = if is_named { 2 } else { 0 };

@@ -6,6 +6,8 @@
 //! - `ends STATUS`, and whole lines that must be printed; `lacks TEXT` names a text that must not be.
 //! - `prints STATUS`, and all that must be printed. The schedule is replayed as it stands; a line `file NAME` in
 //!   its place names a file that has it.
+//! - `says`, and lines `OUTCOME | TEXT`: the schedule with the text after it, where `\n` is a line feed, must end
+//!   with that outcome, and print something only where it is good.
 //! - `each STATE`, and lines that are replayed one by one, each after the schedule. Hart 1 must be in that state
 //!   after each, or in the state behind `#`.
 #![tactic(auto)]
@@ -30,7 +32,7 @@ mod memory;
 mod printing;
 mod row;
 
-use crate::row::{Row, check, check_cases, check_text};
+use crate::row::{Row, check, check_cases, check_outcomes, check_text};
 use anyhow::{Context, Result};
 use std::rt::{Env, Files};
 use std::{env, fs};
@@ -58,6 +60,10 @@ fn check_file<R: AllocGlobal + Files + Print>(rt: &R, name: &str) -> Result<()> 
 
 /// Checks a row, whose name is the text's first line.
 fn check_row<R: AllocGlobal + Files>(rt: &R, text: &str) -> Result<()> {
+    if let Some((lines, cases)) = text.split_once("\nsays\n") {
+        let schedule = lines.split_once('\n').map_or("", |(_, schedule)| schedule);
+        return check_outcomes(rt.alloc(), schedule, cases);
+    }
     let (_, body) = text.split_once('\n').context("no lines")?;
     if let Some((lines, cases)) = body.split_once("\neach ") {
         let (state, cases) = cases.split_once('\n').context("no cases")?;

@@ -65,6 +65,27 @@ pub fn check_cases(alloc: Global, lines: &str, state: &str, cases: &str) -> Resu
     Ok(())
 }
 
+/// Replays each text after the lines, and compares its outcome. A text that isn't good prints nothing.
+pub fn check_outcomes(alloc: Global, lines: &str, cases: &str) -> Result<()> {
+    for case in cases.split('\n').filter(|case| !case.is_empty()) {
+        let (wanted, text) = case.split_once(" | ").context("no text")?;
+        let text = text.replace(alloc, "\\n", "\n")?;
+        let schedule = if lines.is_empty() {
+            text
+        } else {
+            format!(in alloc; "{lines}\n{text}")?
+        };
+        let (outcome, printed) = replayed(alloc, schedule.as_bytes());
+        let said = format!(in alloc; "{outcome}")?;
+        ensure!(said.as_str() == wanted, "{case}: {said}");
+        ensure!(
+            printed.is_empty() != (outcome == Outcome::Good),
+            "{case}: printed"
+        );
+    }
+    Ok(())
+}
+
 /// What the replay of a schedule prints, which must end with this status.
 fn printed(alloc: Global, schedule: &str, status: u8) -> Result<String> {
     let (outcome, printed) = replayed(alloc, schedule.as_bytes());
