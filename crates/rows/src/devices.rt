@@ -8,6 +8,8 @@ const SCHEDULE: &[u8] = b"board 2 1 9 0 0x80000000 0\n0 advance\n0 ecall 0x10 0\
 /// What a call of the system answers in place of what it would do.
 #[derive(Clone, Copy)]
 enum Answer {
+    /// As many bytes as it moves.
+    Moves,
     /// No byte.
     Zero,
     /// A failure.
@@ -85,54 +87,68 @@ impl Write for System<'_> {
     }
 }
 
-/// What one call of the system answers, `Ok` with so many bytes or a failure, each call of a device answers too,
-/// and makes no other call.
-#[test]
-fn one_call(rt: HostRuntime) {
-    for most in [1, 3, 5, 64] {
-        let mut device = Device::new(System::new(rt.alloc(), most, u64::MAX, Answer::Zero));
-        let mut buffer = [0; 5];
-        assert_eq!(rt; device.read(&mut buffer), Ok(most.min(5)));
-        let system = device.into_inner();
-        assert_eq!(rt; (system.calls, system.flushes), (1, 0));
-        assert_eq!(rt; system.rest, &SCHEDULE[most.min(5)..]);
-    }
-    for most in [0, 1, 3, 5, 64] {
-        let mut device = Device::new(System::new(rt.alloc(), most, u64::MAX, Answer::Zero));
-        assert_eq!(rt; device.write(b"bytes"), Ok(most.min(5)));
-        let system = device.into_inner();
-        assert_eq!(rt; (system.calls, system.flushes), (1, 0));
-        assert_eq!(rt; system.taken.as_slice(), &b"bytes"[..most.min(5)]);
-    }
-    let mut device = Device::new(System::new(rt.alloc(), 5, u64::MAX, Answer::Zero));
-    assert_eq!(rt; device.write(b""), Ok(0));
-    assert_eq!(rt; device.into_inner().calls, 1);
-    let mut device = Device::new(System::new(rt.alloc(), 5, u64::MAX, Answer::Zero));
-    assert_eq!(rt; device.flush(), Ok(()));
+/// What a read into five bytes answers, how many calls were made, and how much is left.
+fn read_once(alloc: Global, most: usize, answer: Answer) -> (Result<usize, Failed>, u64, usize) {
+    let mut device = Device::new(System::new(alloc, most, 0, answer));
+    let answer = device.read(&mut [0; 5]);
     let system = device.into_inner();
-    assert_eq!(rt; (system.calls, system.flushes), (1, 1));
+    (answer, system.calls, system.rest.len())
+}
+
+/// What a write answers, how many calls were made, and how much was taken.
+fn write_once(
+    alloc: Global,
+    piece: &[u8],
+    most: usize,
+    answer: Answer,
+) -> (Result<usize, Failed>, u64, usize) {
+    let mut device = Device::new(System::new(alloc, most, 0, answer));
+    let answer = device.write(piece);
+    let system = device.into_inner();
+    (answer, system.calls, system.taken.len())
+}
+
+/// What a flush answers, how many calls were made, and how many of them were flushes.
+fn flush_once(alloc: Global, answer: Answer) -> (Result<(), Failed>, u64, u64) {
+    let mut device = Device::new(System::new(alloc, 5, 0, answer));
+    let answer = device.flush();
+    let system = device.into_inner();
+    (answer, system.calls, system.flushes)
+}
+
+/// What one call of the system answers, so many bytes or a failure, each call of a device answers too, and makes
+/// no other call.
+#[test]
+fn good_calls(rt: HostRuntime) {
+    let left = SCHEDULE.len();
+    for (most, moved) in [(0, 0), (1, 1), (3, 3), (5, 5), (64, 5)] {
+        let read = read_once(rt.alloc(), most, Answer::Moves);
+        assert_eq!(rt; read, (Ok(moved), 1, left.saturating_sub(moved)));
+        let written = write_once(rt.alloc(), b"bytes", most, Answer::Moves);
+        assert_eq!(rt; written, (Ok(moved), 1, moved));
+    }
+    assert_eq!(rt;
+        write_once(rt.alloc(), b"", 5, Answer::Moves),
+        (Ok(0), 1, 0)
+    );
+    assert_eq!(rt; flush_once(rt.alloc(), Answer::Moves), (Ok(()), 1, 1));
 }
 
 #[test]
-fn one_failed_call(rt: HostRuntime) {
+fn failed_calls(rt: HostRuntime) {
     for answer in FAILURES {
-        let mut device = Device::new(System::new(rt.alloc(), 5, 0, answer));
-        assert_eq!(rt; device.read(&mut [0; 5]), Err(Failed));
-        assert_eq!(rt; device.into_inner().calls, 1);
-        let mut device = Device::new(System::new(rt.alloc(), 5, 0, answer));
-        assert_eq!(rt; device.write(b"bytes"), Err(Failed));
-        assert_eq!(rt; device.into_inner().calls, 1);
-        let mut device = Device::new(System::new(rt.alloc(), 5, 0, answer));
-        assert_eq!(rt; device.flush(), Err(Failed));
-        let system = device.into_inner();
-        assert_eq!(rt; (system.calls, system.flushes), (1, 1));
+        let read = read_once(rt.alloc(), 5, answer);
+        assert_eq!(rt; read, (Err(Failed), 1, SCHEDULE.len()));
+        let written = write_once(rt.alloc(), b"bytes", 5, answer);
+        assert_eq!(rt; written, (Err(Failed), 1, 0));
+        assert_eq!(rt; flush_once(rt.alloc(), answer), (Err(Failed), 1, 1));
     }
 }
 
 /// Each read in turn fails. Nothing is written then, and no more is read.
 #[test]
 fn each_read(rt: HostRuntime) {
-    let (outcome, calls, printed) = replay_from(rt.alloc(), u64::MAX, Answer::Zero);
+    let (outcome, calls, printed) = replay_from(rt.alloc(), u64::MAX, Answer::Moves);
     assert_eq!(rt; outcome, Outcome::Good);
     assert_eq!(rt; printed, replayed(rt.alloc(), SCHEDULE).1);
     assert!(rt; calls > 20);
@@ -149,7 +165,7 @@ fn each_read(rt: HostRuntime) {
 /// Each write in turn fails or takes nothing, and so does the flush at the end. No call is made after it.
 #[test]
 fn each_write(rt: HostRuntime) {
-    let (outcome, last, printed) = replay_to(rt.alloc(), u64::MAX, Answer::Zero);
+    let (outcome, last, printed) = replay_to(rt.alloc(), u64::MAX, Answer::Moves);
     assert_eq!(rt; outcome, Outcome::Good);
     assert_eq!(rt; printed, replayed(rt.alloc(), SCHEDULE).1);
     assert!(rt; last > 80);

@@ -39,8 +39,8 @@ fn long(alloc: Global, line: &[u8], bytes: usize) -> Result<Vec<u8>, AllocError>
 fn schedules(rt: HostRuntime) -> Result<(), Fail> {
     for (line, bytes) in [
         (b"0 ecall 0x10 0\n".as_slice(), 200_000),
-        (b"0 ecall 0x10 0\n".as_slice(), 15_000_000),
-        (b"# no step\n".as_slice(), 15_000_000),
+        (b"0 ecall 0x10 0\n".as_slice(), 14_900_000),
+        (b"# no step\n".as_slice(), 14_900_000),
     ] {
         let schedule = long(rt.alloc(), line, bytes)?;
         let (outcome, printed) = replayed(rt.alloc(), &schedule);
