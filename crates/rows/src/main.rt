@@ -4,8 +4,7 @@
 //! A line `row NAME` begins a row, and the lines after it are a schedule, written as a trace: what stands behind
 //! `->` is the reply that the board must give. Then one of these may follow:
 //! - `ends STATUS`, and whole lines that must be printed; `lacks TEXT` names a text that must not be.
-//! - `prints STATUS`, and all that must be printed. The schedule is replayed as it stands; a line `file NAME` in
-//!   its place names a file that has it.
+//! - `prints STATUS`, and all that must be printed. The schedule is replayed as it stands.
 //! - `says`, and lines `OUTCOME | TEXT`: the schedule with the text after it, where `\n` is a line feed, must end
 //!   with that outcome, and print something only where it is good.
 //! - `each STATE`, and lines that are replayed one by one, each after the schedule. Hart 1 must be in that state
@@ -14,6 +13,8 @@
 
 #[cfg(test)]
 mod commands;
+#[cfg(test)]
+mod components;
 #[cfg(test)]
 mod devices;
 #[cfg(test)]
@@ -59,7 +60,7 @@ fn check_file<R: AllocGlobal + Files + Print>(rt: &R, name: &str) -> Result<()> 
 }
 
 /// Checks a row, whose name is the text's first line.
-fn check_row<R: AllocGlobal + Files>(rt: &R, text: &str) -> Result<()> {
+fn check_row<R: AllocGlobal>(rt: &R, text: &str) -> Result<()> {
     if let Some((lines, cases)) = text.split_once("\nsays\n") {
         let schedule = lines.split_once('\n').map_or("", |(_, schedule)| schedule);
         return check_outcomes(rt.alloc(), schedule, cases);
@@ -72,10 +73,7 @@ fn check_row<R: AllocGlobal + Files>(rt: &R, text: &str) -> Result<()> {
     if let Some((schedule, end)) = body.split_once("\nprints ") {
         let (status, printed) = end.split_once('\n').context("no text")?;
         let status = status.parse::<u8>()?;
-        return match schedule.strip_prefix("file ") {
-            Some(name) => check_text(rt.alloc(), &fs::read_to_string(rt, name)?, status, printed),
-            None => check_text(rt.alloc(), schedule, status, printed),
-        };
+        return check_text(rt.alloc(), schedule, status, printed);
     }
     let (lines, end) = body.split_once("\nends ").unwrap_or((body, "0\n"));
     let (status, shown) = end.split_once('\n').context("no status")?;
