@@ -79,6 +79,13 @@ impl<F: Copy> Queues<F> {
         remove_at(&mut self.placed, t);
     }
 
+    /// Takes all requests out of all queues.
+    pub fn clear(&mut self)
+        ensures { self.new ≡ replicate (length self.old) [] }
+    {
+        self.placed.clear();
+    }
+
     /// The requests that wait at hart `t`, the first of them first. They come from distinct other harts.
     pub fn iter(&self, t: u64) -> Waiting<'_, F>
         requires { t < length self.now }
