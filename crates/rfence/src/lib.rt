@@ -1,0 +1,11 @@
+//! Remote fences (SBI 8): which wait at which hart, which were applied, and for which harts a call waits.
+#![tactic(auto)]
+
+mod caches;
+mod calls;
+mod fences;
+mod laws;
+
+pub use caches::Fenced;
+pub use fences::Fences;
+pub use laws::{applied_once, success_strikes, waits_are_of_open_calls};
