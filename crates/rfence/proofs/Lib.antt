@@ -6,3 +6,4 @@ pub mod Changes
 pub mod Stands
 pub mod Once
 pub mod Success
+pub mod Counts

@@ -1,12 +1,14 @@
 -- What holds of all right turns.
-use Rattle.std.specs.Prelude.{◌≡◌, ℕ, ◌+◌, ◌<◌, ◌≤◌, ◌==◌, Bool, true, List, [], ◌∷◌, ◌++◌, length, map, if◌then◌else◌, Some}
+use Rattle.std.specs.Prelude.{◌≡◌, ℕ, ◌+◌, ◌*◌, ◌<◌, ◌≤◌, ◌==◌, Bool, true, List, [], ◌∷◌, ◌++◌, length, map, if◌then◌else◌, Some}
 use Rattle.std.specs.List.{All}
+use Rattle.hart_mask.specs.Ids.{ids_where}
 use Rattle.fence_queue.specs.Queues.{IsQueue}
-use Rattle.rfence.specs.Turns.{Turn, Ask, Poll, is_asked}
+use Rattle.rfence.specs.Turns.{Turn, Ask, Own, Poll, Quiet, is_asked}
 use Rattle.rfence.specs.Waiting.{Asked, kept, one_more, waiting}
 use Rattle.rfence.specs.Applied.{Applied, Effect, Nothing, Drops, Empties, applied, effect}
-use Rattle.rfence.specs.Calls.{open_call}
+use Rattle.rfence.specs.Calls.{is_outstanding, open_call, outstanding}
 use Rattle.rfence.specs.Right.{IsRight}
+use Rattle.rfence.specs.State.{IsTaken, State, total_applied, total_asked}
 
 -- what waits at hart t: requests of distinct other harts, fewer than there are harts, each of its caller's open call
 pub record OfOpenCalls {F : Type 0} (n : ℕ) (turns : List (Turn F)) (t : ℕ) : Type 0 where
@@ -60,3 +62,18 @@ SuccessStrikes F =
     (n : ℕ) (newer between older : List (Turn F)) (x : ℕ) (asked : ℕ → Bool) (flush : F) (t : ℕ)
     → IsRight n (newer ++ Poll x ∷ (between ++ Ask x asked flush ∷ older)) → asked t ≡ true
     → WasStruck (newer ++ Poll x ∷ (between ++ Ask x asked flush ∷ older)) t (length older) flush
+
+-- On a board of at most 128 harts: what a call waits for, as the set that is kept of it, is the outstanding harts; and
+-- the counts grow by few with each turn.
+pub record IsSmall {F : Type 0} (n : ℕ) (turns : List (Turn F)) : Type 0 where
+  pub calls : (c : ℕ) → ids_where (is_outstanding turns c) ≡ outstanding n turns c
+  pub asked : total_asked turns ≤ 128 * length turns
+  pub applied : total_applied n turns ≤ 16384 * length turns
+
+abbrev pub BoardsAreSmall : Type 0 → Type 0
+BoardsAreSmall F = (n : ℕ) (turns : List (Turn F)) → n ≤ 128 → IsRight n turns → IsSmall n turns
+
+-- A fence of a hart by itself alone, and what has to do with no fence, leave what is kept as it is.
+abbrev pub OthersChangeNothing : Type 0 → Type 0
+OthersChangeNothing F =
+    (fences : State F) → ((x : ℕ) (flush : F) → IsTaken fences (Own x flush) fences) × IsTaken fences Quiet fences
