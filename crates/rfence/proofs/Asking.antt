@@ -1,12 +1,12 @@
 -- A request that is put into the queues of some harts, one after another.
-use Rattle.std.proofs.Common.{◌≡◌, ◌≢◌, ℕ, ◌+◌, ◌-◌, ◌<◌, ◌≤◌, suc, zero, Bool, true, false, cond, List, [], ◌∷◌, ◌++◌, length, get_or, set, map, refl, sym, ap, ◌∙◌, arith, inl, inr}
-use Rattle.std.specs.Prelude.{◌==◌, ◌||◌, filter, if◌then◌else◌}
+use Rattle.std.proofs.Common.{◌≡◌, ◌≢◌, ℕ, ◌+◌, ◌<◌, suc, zero, Bool, true, false, cond, List, [], ◌∷◌, ◌++◌, length, map, refl, sym, ap, ◌∙◌, arith, inl, inr}
+use Rattle.std.specs.Prelude.{◌==◌, filter, if◌then◌else◌}
 use Rattle.std.specs.List.{range_with_len}
-use Rattle.std.proofs.lemmas.Bool.{both_ways, eq-eqb, eqb-true, ne_eqb, or_left, or_right}
+use Rattle.std.proofs.lemmas.Bool.{both_ways, eq-eqb, ne_eqb, or_left, or_right}
 use Rattle.std.proofs.lemmas.Bool.Decides.{eqb_tells}
 use Rattle.std.proofs.lemmas.List.{append-nil, get_or_default, get_or-set_other, get_or-set_same, length-set, same_lists}
 use Rattle.std.proofs.lemmas.List.FromFn.{get_or-map-range_with_len, length-map-range_with_len}
-use Rattle.hart_mask.specs.Ids.{IsIdSet, has, ids_where}
+use Rattle.hart_mask.specs.Ids.{has, ids_where}
 use Rattle.fence_queue.specs.declared.request.Request.{Request}
 use Rattle.fence_queue.specs.Queues.{has_from, pushed, queue_at}
 use Rattle.rfence.specs.Marks.{CanAsk, requested}
@@ -51,13 +51,17 @@ module _ {F : Type 0} where
   can-ask (t ∷ targets) queues request apart below caller other once =
       let here = or_left (t == t) (has targets t) (eq-eqb t t refl) in
       let there = λ (j : ℕ) (is : has targets j ≡ true). or_right (t == j) (has targets j) is in
-      let long = length-set queues t (queue_at queues t ++ request ∷ []) in
-      (below t here, caller, other t here, once t here,
-      can-ask targets (pushed queues t request) request apart.1
-      (λ j is. let low = below j (there j is) in omega (arith, long))
-      (omega (arith, long))
-      (λ j is. other j (there j is))
-      (λ j is. ap (has_from request.from) (queue_at-other queues t j request (λ e. both_ways (has targets t) apart.0 (ap (has targets) e ∙ is))) ∙ once j (there j is)))
+      let long = length-set queues t (queue_at queues t ++ request ∷ []) in (
+        below t here,
+        caller,
+        other t here,
+        once t here,
+        can-ask targets (pushed queues t request) request apart.1
+            (λ j is. let low = below j (there j is) in omega (arith, long))
+            (omega (arith, long))
+            (λ j is. other j (there j is))
+            (λ j is. ap (has_from request.from) (queue_at-other queues t j request (λ e. both_ways (has targets t) apart.0 (ap (has targets) e ∙ is))) ∙ once j (there j is)),
+      )
 
   -- each target's queue has the request at its end, and the others are as they were
   pub requested-map : (targets : List ℕ) (queues : List (List (Request F))) (request : Request F) → AreApart targets

@@ -1,18 +1,16 @@
 -- Whose fences wait: those of harts that are in their calls, one of each at most.
-use Rattle.std.proofs.Common.{◌≡◌, ℕ, ◌+◌, ◌-◌, ◌<◌, ◌≤◌, suc, zero, Bool, true, false, List, [], ◌∷◌, ◌++◌, length, drop, map, subst, refl, sym, ap, ◌∙◌, arith, eqb, inl, inr}
-use Rattle.std.specs.Prelude.{◌==◌, ◌&&◌, ◌||◌, not, if◌then◌else◌, filter, Option, Some, None}
+use Rattle.std.proofs.Common.{◌≡◌, ℕ, ◌+◌, ◌<◌, ◌≤◌, suc, zero, Bool, true, false, List, [], ◌∷◌, ◌++◌, length, drop, map, refl, sym, ap, ◌∙◌, arith, inl, inr}
+use Rattle.std.specs.Prelude.{◌==◌, ◌||◌, if◌then◌else◌, filter, Option, Some, None}
 use Rattle.std.specs.List.{All, list_any, range_with_len}
 use Rattle.std.proofs.lemmas.List.Elements.{All-cons}
-use Rattle.std.proofs.lemmas.Bool.{and_parts, both_ways, cases_Bool, cases_lt, eq-eqb, eqb-false, eqb-true, ne_eqb, not-true, or_parts}
+use Rattle.std.proofs.lemmas.Bool.{cases_lt, eq-eqb, eqb-false, eqb-true, ne_eqb, or_parts}
 use Rattle.std.proofs.lemmas.Bool.Decides.{eqb_tells}
 use Rattle.std.proofs.lemmas.List.{map-append}
-use Rattle.std.proofs.lemmas.List.FromFn.{get_or-range_with_len, length-range_with_len}
-use Rattle.fence_queue.specs.declared.request.Request.{Request}
-use Rattle.fence_queue.specs.Queues.{IsQueue, has_from, is_from}
-use Rattle.fence_queue.proofs.Queue.{IsQueue-drop, IsQueue-push, length-IsQueue}
-use Rattle.rfence.specs.Turns.{Turn, Ask, Own, Serve, Poll, Stop, Reset, Quiet, empties, is_serve}
-use Rattle.rfence.specs.Waiting.{Asked, added, kept, request_by, requests, serves, waiting}
-use Rattle.rfence.specs.Calls.{is_at, is_outstanding, open_by, open_call, outstanding}
+use Rattle.fence_queue.specs.Queues.{IsQueue, has_from}
+use Rattle.fence_queue.proofs.Queue.{IsQueue-push}
+use Rattle.rfence.specs.Turns.{Turn, Ask, Own, Serve, Poll, Stop, Reset, Quiet}
+use Rattle.rfence.specs.Waiting.{Asked, kept, waiting}
+use Rattle.rfence.specs.Calls.{is_at, is_outstanding, open_by, open_call}
 use Rattle.rfence.specs.Right.{IsRight, IsRightTurn}
 use Rattle.rfence.proofs.Waits.{waited, waiting-more}
 
@@ -38,12 +36,15 @@ module _ {F : Type 0} where
     where
       older : (open_call turns c ≡ Some p → p < length turns) → open_call turns c ≡ Some p → p < suc (length turns)
       older ih before = let low = ih before in omega arith
+
       asked : (open_call turns c ≡ Some p → p < length turns) → (own : Bool) → (if own then Some (length turns) else open_call turns c) ≡ Some p → p < suc (length turns)
       asked ih true now = let same : length turns ≡ p = cc in omega arith
       asked ih false now = older ih now
+
       polled : (open_call turns c ≡ Some p → p < length turns) → (own : Bool) → (if own then None else open_call turns c) ≡ Some p → p < suc (length turns)
       polled ih true now = cc
       polled ih false now = older ih now
+
       by_turn : (open_call turns c ≡ Some p → p < length turns) → (turn : Turn F) → open_by (length turns) turn c (open_call turns c) ≡ Some p → p < suc (length turns)
       by_turn ih (Ask x ids flush) now = asked ih (x == c) now
       by_turn ih (Own x flush) now = older ih now
@@ -68,10 +69,12 @@ module _ {F : Type 0} where
           let same : length turns ≡ p = cc in
           let low = open-below turns c p now in absurd (omega arith)
       asked ih x false false here there now too = ih now too
+
       polled : (open_call turns c ≡ Some p → open_call turns d ≡ Some p → c ≡ d) → (b e : Bool) → (if b then None else open_call turns c) ≡ Some p → (if e then None else open_call turns d) ≡ Some p → c ≡ d
       polled ih true e now too = cc
       polled ih false true now too = cc
       polled ih false false now too = ih now too
+
       by_turn : (open_call turns c ≡ Some p → open_call turns d ≡ Some p → c ≡ d) → (turn : Turn F) → open_by (length turns) turn c (open_call turns c) ≡ Some p → open_by (length turns) turn d (open_call turns d) ≡ Some p → c ≡ d
       by_turn ih (Ask x ids flush) now too = asked ih x (x == c) (x == d) refl refl now too
       by_turn ih (Own x flush) now too = ih now too

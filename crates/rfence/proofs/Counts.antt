@@ -1,5 +1,5 @@
 -- How large the counts can become, and the outstanding harts as a set.
-use Rattle.std.proofs.Common.{◌≡◌, ℕ, ◌+◌, ◌*◌, ◌<◌, ◌≤◌, suc, zero, Bool, true, false, cond, List, [], ◌∷◌, length, get_or, map, refl, sym, ap, ◌∙◌, arith}
+use Rattle.std.proofs.Common.{◌≡◌, ℕ, ◌+◌, ◌*◌, ◌<◌, ◌≤◌, suc, zero, Bool, true, false, cond, List, [], ◌∷◌, length, get_or, map, refl, ap, arith}
 use Rattle.std.specs.Prelude.{filter, if◌then◌else◌, sum_by}
 use Rattle.std.specs.List.{All, list_any, range_with_len}
 use Rattle.std.proofs.lemmas.List.{length-map}
@@ -71,6 +71,7 @@ module _ {F : Type 0} where
       small : (b : Bool) → (if b then 1 else 0) ≤ 16384
       small true = omega arith
       small false = omega arith
+
       by_turn : (turn : Turn F) → IsRightTurn n turns turn → applied_in n turns turn ≤ 16384
       by_turn (Ask x asked flush) ok = small (asked x)
       by_turn (Own x flush) ok = omega arith

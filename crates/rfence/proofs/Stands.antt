@@ -1,33 +1,32 @@
 -- How what is kept stands for one turn more.
-use Rattle.std.proofs.Common.{◌≡◌, ◌≢◌, ℕ, ◌+◌, ◌-◌, ◌<◌, ◌≤◌, suc, zero, Bool, true, false, cond, List, [], ◌∷◌, ◌++◌, length, drop, get_or, set, map, replicate, subst, refl, sym, ap, ◌∙◌, arith, eqb, inl, inr}
-use Rattle.std.specs.Prelude.{◌==◌, ◌&&◌, ◌||◌, not, if◌then◌else◌, sum_by, Option, Some, None, option_map, slice_get}
-use Rattle.std.specs.List.{All, list_any, range_with_len}
+use Rattle.std.proofs.Common.{◌≡◌, ℕ, ◌+◌, ◌<◌, ◌≤◌, Bool, true, false, List, [], ◌∷◌, ◌++◌, length, drop, get_or, set, map, replicate, subst, refl, sym, ap, ◌∙◌, arith, inl, inr}
+use Rattle.std.specs.Prelude.{◌==◌, ◌&&◌, ◌||◌, not, if◌then◌else◌, sum_by, Option, Some, None, slice_get}
+use Rattle.std.specs.List.{All, range_with_len}
 use Rattle.std.proofs.lemmas.Bool.{and_parts, both_ways, eq-eqb, eqb-true, ne_eqb}
 use Rattle.std.proofs.lemmas.Bool.Decides.{eqb_tells}
-use Rattle.std.proofs.lemmas.List.{append-nil, length-map, map-append, same_lists}
+use Rattle.std.proofs.lemmas.List.{append-nil, length-map, map-append}
 use Rattle.std.proofs.lemmas.List.Folds.{list_any-append}
 use Rattle.std.proofs.lemmas.List.FromFn.{get_or-map-range_with_len, get_or-range_with_len, length-map-range_with_len, length-range_with_len}
 use Rattle.std.proofs.lemmas.List.Elements.{All-map}
 use Rattle.std.proofs.lemmas.List.Sums.{count_by-le-length, length-filter, sum_by-le}
-use Rattle.std.proofs.lemmas.Simd.{splat_is_map}
 use Rattle.hart_mask.specs.Ids.{IsIdSet, has, ids_where, without_id}
 use Rattle.hart_mask.proofs.Sets.{has-ids_where, ids_where-agree, passes-ids_where, without_id-by}
 use Rattle.fence_queue.specs.declared.request.Request.{Request}
-use Rattle.fence_queue.specs.Queues.{IsQueue, drained, has_from, is_from, popped, queue_at}
+use Rattle.fence_queue.specs.Queues.{drained, has_from, is_from, popped, queue_at}
 use Rattle.fence_queue.proofs.Queue.{length-IsQueue}
 use Rattle.fence_queue.proofs.Tables.{tabulate-set}
-use Rattle.rfence.specs.Turns.{Turn, Ask, Own, Serve, Poll, Stop, Reset, Quiet, empties, is_serve}
-use Rattle.rfence.specs.Waiting.{Asked, added, kept, request_by, waiting}
-use Rattle.rfence.specs.Calls.{is_outstanding, open_by, open_call}
+use Rattle.rfence.specs.Turns.{Turn, Ask, Own, Serve, Poll, Stop, Reset, Quiet}
+use Rattle.rfence.specs.Waiting.{Asked, added, kept, waiting}
+use Rattle.rfence.specs.Calls.{is_outstanding, open_call}
 use Rattle.rfence.specs.Marks.{CanAsk, forgotten, forgotten_at, requested}
-use Rattle.rfence.specs.Right.{IsRight, IsRightTurn}
-use Rattle.rfence.specs.State.{IsTaken, StandsFor, State, call_at, call_of, in_call, queue_of, total_applied, total_asked}
+use Rattle.rfence.specs.Right.{IsRight}
+use Rattle.rfence.specs.State.{StandsFor, State, call_at, call_of, in_call, queue_of, total_applied, total_asked}
 use Rattle.rfence.specs.Applied.{effect}
 use Rattle.rfence.specs.Effects.{affected, caches_after, changed_at}
 use Rattle.rfence.proofs.Changes.{changed-all, changed-none, changed-one}
 use Rattle.rfence.proofs.Tables.{tabulate-agree, tabulate-map, tabulate-replicate}
 use Rattle.rfence.proofs.Asking.{apart-ids, can-ask, requested-map}
-use Rattle.rfence.proofs.Waits.{waited, waiting-more}
+use Rattle.rfence.proofs.Waits.{waiting-more}
 use Rattle.rfence.proofs.Callers.{none-from, outstanding-from, sound}
 
 pub set-is : (ids : List ℕ) → IsIdSet ids → ids ≡ ids_where (has ids)
@@ -176,6 +175,7 @@ module _ {F : Type 0} (n : ℕ) (turns : List (Turn F)) (fences : State F) (stan
       where
         none : queue_of (Stop x ∷ turns) x ≡ []
         none = rw (stop-waits x, eq-eqb x x refl) refl
+
         by_call : (o : Option ℕ) (c : ℕ) → forgotten x (in_call o (ids_where (is_outstanding turns c))) ≡ in_call o (ids_where (is_outstanding (Stop x ∷ turns) c))
         by_call None c = refl
         by_call (Some p) c = ap (λ ids. Some ids) (without_id-by (is_outstanding turns c) (is_outstanding (Stop x ∷ turns) c) x (λ t below. stop-outstanding c t))
@@ -242,6 +242,7 @@ module _ {F : Type 0} (n : ℕ) (turns : List (Turn F)) (fences : State F) (stan
       where
         served : queue_of (Serve x ∷ turns) x ≡ drop 1 (queue_of turns x)
         served = rw (serve-waits x, eq-eqb x x refl, front) refl
+
         forgot : call_of (Serve x ∷ turns) first.from ≡ forgotten x (call_of turns first.from)
         forgot = rw first-open (ap (λ ids. Some ids) (sym (without_id-by (is_outstanding turns first.from) (is_outstanding (Serve x ∷ turns) first.from) x (λ t below.
             sym (serve-outstanding first.from t ∙ rw (eq-eqb first.from first.from refl) refl)))))
@@ -349,11 +350,13 @@ module _ {F : Type 0} (n : ℕ) (turns : List (Turn F)) (fences : State F) (stan
           | inl same ↦ same.0 ∙ sym (eq-eqb x t (sym same.1))
           | inr other ↦ other.0 ∙ sym (ne_eqb x t (λ e. other.1 (sym e)))
         ]
+
         and-false : (b o : Bool) → (o || (b && false)) ≡ o
         and-false true true = refl
         and-false true false = refl
         and-false false true = refl
         and-false false false = refl
+
         opened : call_of (Ask x (has ids) flush ∷ turns) x ≡ Some (without_id ids x)
         opened = rw (eq-eqb x x refl) (ap (λ harts. Some harts) (ids_where-agree _ _ (λ t below.
             ask-outstanding x t ∙ rw (outstanding-from n turns x t right.1, none-of t, eq-eqb x x refl, flip t) (and-true (not (x == t) && has ids t)))))

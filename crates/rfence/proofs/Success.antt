@@ -1,14 +1,14 @@
 -- A fence that was asked waits until it strikes, and a call is a success where it waits no more.
-use Rattle.std.proofs.Common.{◌≡◌, ℕ, ◌+◌, ◌<◌, ◌≤◌, suc, Bool, true, false, List, [], ◌∷◌, ◌++◌, length, drop, refl, sym, ap, ◌∙◌, append_assoc, arith, inl, inr}
-use Rattle.std.specs.Prelude.{◌==◌, ◌||◌, ◌&&◌, ◌⊎◌, not, if◌then◌else◌, Option, Some, None}
+use Rattle.std.proofs.Common.{◌≡◌, ℕ, ◌≤◌, Bool, true, false, List, [], ◌∷◌, ◌++◌, length, refl, sym, ap, ◌∙◌, append_assoc, arith, inl, inr}
+use Rattle.std.specs.Prelude.{◌==◌, ◌⊎◌, Option, Some, None}
 use Rattle.std.specs.List.{list_any}
 use Rattle.std.proofs.lemmas.Bool.{both_ways, cases_lt, eq-eqb, or_left, or_right}
 use Rattle.std.proofs.lemmas.List.{length-append}
 use Rattle.rfence.specs.Turns.{Turn, Ask, Own, Serve, Poll, Stop, Reset, Quiet, empties, is_serve}
 use Rattle.rfence.specs.Waiting.{Asked, added, request_by, waiting}
-use Rattle.rfence.specs.Applied.{Applied, Effect, Nothing, Drops, Empties, applied_by, effect, first_drop}
-use Rattle.rfence.specs.Calls.{is_at, is_outstanding, open_call, outstanding}
-use Rattle.rfence.specs.Right.{IsRight, IsRightTurn}
+use Rattle.rfence.specs.Applied.{effect}
+use Rattle.rfence.specs.Calls.{is_at, is_outstanding, open_call}
+use Rattle.rfence.specs.Right.{IsRight}
 use Rattle.rfence.specs.Laws.{Strikes, WasStruck}
 use Rattle.rfence.proofs.Waits.{waited, waiting-more}
 use Rattle.rfence.proofs.Callers.{AreOpen, none-passes, sound}
@@ -66,6 +66,7 @@ module _ {F : Type 0} where
         | inl same ↦ inr (struck-now turn turns t place asked.flush since (rw (serve, here, waits) (ap (λ (a : Asked F). a.flush) same)))
         | inr later ↦ inl (rw (is, serve, here, waits) later)
       ]
+
       by_serve : (turn' : Turn F) → turn ≡ turn' → (serves : Bool) → is_serve turn' t ≡ serves → empties turn' t ≡ false
           → IsAmong asked (waiting (turn ∷ turns) t) ⊎ WasStruck (turn ∷ turns) t place asked.flush
       by_serve (Serve x) same true here stays = by_front (waiting turns t) x same here refl among
@@ -77,6 +78,7 @@ module _ {F : Type 0} where
       by_serve Quiet same true here stays = cc
       by_serve turn' same false other stays =
           inl (rw (is, same, stays, other) (among-added (waiting turns t) asked (request_by (length turns) turn' t) among))
+
       by_empties : (gone : Bool) → empties turn t ≡ gone → IsAmong asked (waiting (turn ∷ turns) t) ⊎ WasStruck (turn ∷ turns) t place asked.flush
       by_empties true gone = inr (struck-now turn turns t place asked.flush since (rw gone tt))
       by_empties false stays = by_serve turn refl (is_serve turn t) refl stays

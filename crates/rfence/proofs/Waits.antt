@@ -1,7 +1,7 @@
 -- What waits at a hart, turn by turn.
-use Rattle.std.proofs.Common.{◌≡◌, ℕ, ◌+◌, ◌-◌, ◌<◌, ◌≤◌, suc, zero, Bool, true, false, List, [], ◌∷◌, ◌++◌, length, drop, refl, sym, ap, ◌∙◌, arith, eqb, inl, inr}
-use Rattle.std.specs.Prelude.{◌==◌, ◌&&◌, not, if◌then◌else◌, Option, Some, None}
-use Rattle.std.proofs.lemmas.Bool.{and_parts, both_ways, cases_Bool, eqb-true}
+use Rattle.std.proofs.Common.{◌≡◌, ℕ, ◌<◌, ◌≤◌, suc, zero, Bool, true, false, List, [], ◌∷◌, length, drop, refl, arith}
+use Rattle.std.specs.Prelude.{◌==◌, if◌then◌else◌, Option, Some, None}
+use Rattle.std.proofs.lemmas.Bool.{eqb-true}
 use Rattle.std.proofs.lemmas.List.{length-append, length-drop}
 use Rattle.rfence.specs.Turns.{Turn, Ask, Own, Serve, Poll, Stop, Reset, Quiet, empties, is_serve}
 use Rattle.rfence.specs.Waiting.{Asked, added, one_more, request_by, requests, serves, waiting}
@@ -38,6 +38,7 @@ module _ {F : Type 0} where
           → serves (turn ∷ turns) t ≤ length (requests (turn ∷ turns) t)
       more turn stays quiet before =
           rw (stays, quiet) (let long = length-added (requests turns t) (request_by (length turns) turn t) in omega arith)
+
       served : (x : ℕ) → (own : Bool) → (x == t) ≡ own → 0 < length (waiting turns x) → serves turns t ≤ length (requests turns t)
           → one_more (x == t) (serves turns t) ≤ length (requests turns t)
       served x true is some before =
@@ -45,6 +46,7 @@ module _ {F : Type 0} where
           let there : 0 < length (waiting turns t) = rw same at some in
           rw is (omega (arith, length-drop (serves turns t) (requests turns t)))
       served x false is some before = rw is before
+
       by_turn : (turn : Turn F) → IsRightTurn n turns turn → serves turns t ≤ length (requests turns t)
           → serves (turn ∷ turns) t ≤ length (requests (turn ∷ turns) t)
       by_turn (Ask x asked flush) ok before = more (Ask x asked flush) refl refl before
@@ -66,6 +68,7 @@ module _ {F : Type 0} where
     where
       within : serves turns t ≤ length (requests turns t)
       within = short n turns t right
+
       by_turn : (turn : Turn F) → waiting (turn ∷ turns) t ≡ waited (waiting turns t) (length turns) turn t
       by_turn (Ask x asked flush) = drop-added (serves turns t) (requests turns t) (request_by (length turns) (Ask x asked flush) t) within
       by_turn (Own x flush) = refl

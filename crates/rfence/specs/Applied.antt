@@ -1,5 +1,5 @@
 -- The fences that were applied at a hart, and what a turn does to its caches.
-use Rattle.std.specs.Prelude.{ℕ, Bool, List, [], ◌∷◌, ◌++◌, length, map, take, ◌==◌, ◌&&◌, if◌then◌else◌}
+use Rattle.std.specs.Prelude.{ℕ, List, [], ◌∷◌, ◌++◌, length, map, take, ◌==◌, ◌&&◌, if◌then◌else◌}
 use Rattle.rfence.specs.Turns.{Turn, Ask, Own, Serve, Stop, Reset, empties}
 use Rattle.rfence.specs.Waiting.{Asked, waiting}
 

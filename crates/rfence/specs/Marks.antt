@@ -1,6 +1,6 @@
 -- What turns make of the queues and of the harts that calls wait for.
-use Rattle.std.specs.Prelude.{◌≡◌, ℕ, ◌<◌, Bool, false, List, [], ◌∷◌, length, ◌==◌, slice_index_or, slice_set, Option, None, option_map}
-use Rattle.hart_mask.specs.Ids.{has, without_id}
+use Rattle.std.specs.Prelude.{◌≡◌, ℕ, ◌<◌, false, List, [], ◌∷◌, length, ◌==◌, slice_index_or, slice_set, Option, None, option_map}
+use Rattle.hart_mask.specs.Ids.{without_id}
 use Rattle.fence_queue.specs.declared.request.Request.{Request}
 use Rattle.fence_queue.specs.Queues.{has_from, pushed, queue_at}
 

@@ -1,5 +1,5 @@
 -- The turns that a board of n harts can make.
-use Rattle.std.specs.Prelude.{◌≡◌, ℕ, ◌<◌, Bool, true, List, [], ◌∷◌, length, None, is_some}
+use Rattle.std.specs.Prelude.{◌≡◌, ℕ, ◌<◌, true, List, [], ◌∷◌, length, None, is_some}
 use Rattle.rfence.specs.Turns.{Turn, Ask, Own, Serve, Poll, Stop, Reset, Quiet}
 use Rattle.rfence.specs.Waiting.{waiting}
 use Rattle.rfence.specs.Calls.{open_call, outstanding}

@@ -1,5 +1,5 @@
 -- What is kept of the fences of a board, and the turns that it stands for.
-use Rattle.std.specs.Prelude.{◌≡◌, ℕ, ◌+◌, ◌^◌, ◌<◌, ◌≤◌, Bool, List, [], ◌∷◌, length, map, sum_by, slice_index_or, if◌then◌else◌, Option, Some, None}
+use Rattle.std.specs.Prelude.{◌≡◌, ℕ, ◌+◌, ◌^◌, ◌<◌, ◌≤◌, List, [], ◌∷◌, length, map, sum_by, slice_index_or, if◌then◌else◌, Option, Some, None}
 use Rattle.std.specs.List.{range_with_len}
 use Rattle.hart_mask.specs.Ids.{ids_where}
 use Rattle.fence_queue.specs.declared.request.Request.{Request}

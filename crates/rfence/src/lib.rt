@@ -8,4 +8,6 @@ mod laws;
 
 pub use caches::Fenced;
 pub use fences::Fences;
-pub use laws::{applied_once, boards_are_small, others_change_nothing, success_strikes, waits_are_of_open_calls};
+pub use laws::{
+    applied_once, boards_are_small, others_change_nothing, success_strikes, waits_are_of_open_calls,
+};

@@ -1,4 +1,4 @@
-use Rattle.std.proofs.Common.{arith, map, length}
+use Rattle.std.proofs.Common.{arith, map}
 use Rattle.std.proofs.lemmas.List.{length-map}
 use Rattle.fence_queue.proofs.Queue.{length-IsQueue}
 use Rattle.rfence.specs.Waiting.{kept, waiting}

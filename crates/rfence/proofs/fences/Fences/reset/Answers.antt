@@ -1,5 +1,4 @@
 use Rattle.std.proofs.Common.{arith, ap}
-use Rattle.rfence.specs.State.{StandsFor}
 use Rattle.rfence.proofs.Stands.{affected-reset, stands-seen, taken-reset, total-small}
 use Rattle.rfence.proofs.fences.Fences.reset.Goals as goal
 

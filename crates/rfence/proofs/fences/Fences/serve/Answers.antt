@@ -1,4 +1,4 @@
-use Rattle.std.proofs.Common.{Some, sym, ap, ◌∙◌, arith}
+use Rattle.std.proofs.Common.{sym, ap, ◌∙◌, arith}
 use Rattle.rfence.proofs.Stands.{affected-serve, length-calls, length-queues, request-below, serve-request, stands-seen, taken-serve}
 use Rattle.rfence.proofs.fences.Fences.serve.Goals as goal
 
