@@ -1,3 +1,5 @@
 pub mod Causes
 pub mod Pages
 pub mod Leaves
+pub mod Memory
+pub mod Satp

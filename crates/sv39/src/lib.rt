@@ -3,6 +3,10 @@
 
 mod cause;
 mod page;
+mod ram;
+mod satp;
 
 pub use cause::{Cause, Kind};
 pub use page::{Leaf, Level, is_valid};
+pub use ram::Ram;
+pub use satp::Satp;
