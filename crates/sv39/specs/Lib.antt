@@ -3,3 +3,5 @@ pub mod Pages
 pub mod Leaves
 pub mod Memory
 pub mod Satp
+pub mod Entries
+pub mod Maps
