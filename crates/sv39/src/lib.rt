@@ -2,7 +2,15 @@
 #![tactic(auto)]
 
 mod cause;
+mod entry;
 mod page;
+mod page_tables;
+mod ram;
+mod satp;
 
 pub use cause::{Cause, Kind};
 pub use page::{Leaf, Level, is_valid};
+pub use page_tables::walk;
+pub use ram::Ram;
+pub use satp::Satp;
+

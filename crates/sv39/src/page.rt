@@ -1,6 +1,7 @@
 ghost use Rattle.std.specs.Prelude.{◌≡◌};
+ghost use Rattle.sv39.specs.Entries.{below};
 ghost use Rattle.sv39.specs.Leaves.{allows};
-ghost use Rattle.sv39.specs.Pages.{is_valid, level_number, size};
+ghost use Rattle.sv39.specs.Pages.{is_valid, level_number, part, size};
 
 use crate::cause::Kind;
 
@@ -36,6 +37,24 @@ impl Level {
             Level::Mega => 1 << 21,
             Level::Giga => 1 << 30,
         }
+    }
+
+    /// The level below, if there is one.
+    pub(crate) fn below(self) -> Option<Level>
+        ensures { result ≡ below self }
+    {
+        match self {
+            Level::Kilo => None,
+            Level::Mega => Some(Level::Kilo),
+            Level::Giga => Some(Level::Mega),
+        }
+    }
+
+    /// The place of an address's entry in a table of this level.
+    pub(crate) fn part(self, va: u64) -> u64
+        ensures { result ≡ part self va }
+    {
+        va / self.size() % 512
     }
 }
 
