@@ -44,20 +44,24 @@ fill_by (Hit entry) = None
 fill_by (Fill entry) = Some entry
 fill_by (Fault cause) = None
 
--- The physical address of an address that this entry translates, or none does (Privileged 4.3.2).
+-- The physical address that a leaf gives an address of its page (Privileged 4.3.2).
+abbrev pub phys_in : Leaf → (va : ℕ) → ℕ
+phys_in leaf va = leaf.pa + (va - leaf.page)
+
+-- The physical address of an address that an entry translates, or none does.
 abbrev pub phys_at : Option Entry → (va : ℕ) → ℕ
 phys_at None va = va
-phys_at (Some entry) va = entry.leaf.pa + (va - entry.leaf.page)
+phys_at (Some entry) va = phys_in entry.leaf va
 
--- An entry that doesn't allow the access makes it a page fault (Privileged 4.3.2).
-abbrev pub translated : Entry → (va : ℕ) → Kind → Result ℕ Cause
-translated entry va kind = if allows kind entry.leaf then Ok (phys_at (Some entry) va) else Err (page_fault kind)
+-- A leaf that doesn't allow the access makes it a page fault (Privileged 4.3.2).
+abbrev pub translated : Leaf → (va : ℕ) → Kind → Result ℕ Cause
+translated leaf va kind = if allows kind leaf then Ok (phys_in leaf va) else Err (page_fault kind)
 
 -- The physical address, or why there is none.
 abbrev pub phys_by : Way → (va : ℕ) → Kind → Result ℕ Cause
-phys_by Plain va kind = Ok (phys_at None va)
-phys_by (Hit entry) va kind = translated entry va kind
-phys_by (Fill entry) va kind = translated entry va kind
+phys_by Plain va kind = Ok va
+phys_by (Hit entry) va kind = translated entry.leaf va kind
+phys_by (Fill entry) va kind = translated entry.leaf va kind
 phys_by (Fault cause) va kind = Err cause
 
 -- A physical address outside the RAM is an access fault (Privileged 3.6.1).

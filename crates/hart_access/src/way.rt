@@ -1,10 +1,10 @@
-ghost use Rattle.std.specs.Prelude.{◌≡◌};
+ghost use Rattle.std.specs.Prelude.{◌≡◌, Ok};
 ghost use Rattle.sv39.specs.Memory.{word_in};
 ghost use Rattle.tlb_model.specs.Contents.{hit};
 ghost use Rattle.tlb_model.specs.Entries.{matches};
-ghost use Rattle.hart_access.specs.Ways.{place_by, used_by, way};
+ghost use Rattle.hart_access.specs.Ways.{in_memory, place_by, translated, used_by, way};
 
-use sv39::{Cause, Kind, Ram, Satp, is_valid, walk};
+use sv39::{Cause, Kind, Leaf, Ram, Satp, is_valid, walk};
 use tlb_model::{Address, Entry, Tlb};
 
 /// How an access comes from its virtual address to the physical one.
@@ -59,19 +59,35 @@ impl Way {
     pub fn place(self, ram: &Ram, va: u64, kind: Kind) -> Result<u64, Cause>
         ensures { result ≡ place_by (word_in ram.now) self va kind }
     {
-        let pa = match self {
-            Way::Plain => Some(va),
-            Way::Hit(entry) | Way::Fill(entry) => {
-                if !entry.leaf.allows(kind) {
-                    return Err(kind.page_fault());
-                }
-                entry.leaf.pa.checked_add(va.saturating_sub(entry.leaf.page))
-            }
-            Way::Fault(cause) => return Err(cause),
-        };
-        match pa {
-            Some(pa) if ram.holds(pa) => Ok(pa),
-            _ => Err(kind.access_fault()),
+        match self {
+            Way::Plain => in_memory(ram, va, kind),
+            Way::Hit(entry) | Way::Fill(entry) => translate(entry.leaf, ram, va, kind),
+            Way::Fault(cause) => Err(cause),
         }
+    }
+}
+
+/// The physical address that a leaf gives an address of its page, or why the access fails.
+#[tactic(auto, using(crate::proofs::Past::no_word_past))]
+fn translate(leaf: Leaf, ram: &Ram, va: u64, kind: Kind) -> Result<u64, Cause>
+    ensures { result ≡ in_memory (word_in ram.now) kind (translated leaf va kind) }
+{
+    if !leaf.allows(kind) {
+        return Err(kind.page_fault());
+    }
+    match leaf.pa.checked_add(va.saturating_sub(leaf.page)) {
+        Some(pa) => in_memory(ram, pa, kind),
+        None => Err(kind.access_fault()),
+    }
+}
+
+/// The physical address, where it has a word of the RAM, or why the access fails.
+fn in_memory(ram: &Ram, pa: u64, kind: Kind) -> Result<u64, Cause>
+    ensures { result ≡ in_memory (word_in ram.now) kind (Ok pa) }
+{
+    if ram.holds(pa) {
+        Ok(pa)
+    } else {
+        Err(kind.access_fault())
     }
 }
