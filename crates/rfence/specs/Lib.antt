@@ -5,5 +5,6 @@ pub mod Calls
 pub mod Effects
 pub mod Right
 pub mod Marks
+pub mod HartCaches
 pub mod State
 pub mod Laws

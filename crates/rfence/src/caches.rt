@@ -1,6 +1,8 @@
 ghost use Rattle.std.specs.Prelude.{◌≡◌, ◌<◌, length, map, if◌then◌else◌};
 ghost use Rattle.rfence.specs.Effects.{changed_at};
 
+use tlb_model::{Caches, Flush};
+
 /// What fences drop something from: the caches of one hart.
 pub trait Fenced<F> {
     ghost dropped: { F → Self → Self };
@@ -14,6 +16,25 @@ pub trait Fenced<F> {
     /// Drops everything.
     fn clear(&mut self)
         ensures { self.new ≡ emptied self.old };
+}
+
+/// A hart's two caches: a fence of translations drops those that it covers, and a FENCE.I all fetched words.
+impl Fenced<Flush> for Caches {
+    ghost use Rattle.rfence.specs.HartCaches.{dropped_of, emptied_of};
+
+    ghost dropped = { dropped_of };
+
+    ghost emptied = { emptied_of };
+
+    fn apply(&mut self, flush: Flush) {
+        self.tlb.apply(flush);
+        self.words.apply(flush);
+    }
+
+    fn clear(&mut self) {
+        self.tlb.clear();
+        self.words.clear();
+    }
 }
 
 /// Drops what this covers from the caches of hart `t`.
