@@ -1,0 +1,121 @@
+ghost use Rattle.std.specs.Prelude.{◌≡◌, ◌<◌, ◌≤◌, ◌==◌, false, length, drop, IfOk, replicate, sum_by, [], slice_get};
+ghost use Rattle.fence_queue.specs.Queues.{IsQueue, drained, has_from, popped, pushed, queue_at};
+
+use crate::placed::{Placed, count_at, first_at, remove_at};
+use crate::request::Request;
+use crate::waiting::Waiting;
+use std::alloc::{AllocError, Global};
+use std::marker::Model;
+
+/// For each hart of a board, by its id, the requests that wait there, in the order in which they came (profile).
+#[derive(Drop)]
+pub struct Queues<F> {
+    harts: u64,
+    placed: Vec<Placed<F>>,
+}
+
+impl<F> Model for Queues<F> {
+    ghost use Rattle.std.specs.Prelude.{List, map};
+    ghost use Rattle.std.specs.List.{range_with_len};
+    ghost use Rattle.fence_queue.specs.declared.request.Request.{Request};
+
+    ghost Value = { List (List (Request F)) };
+
+    ghost use Rattle.std.specs.Prelude.{vec_capacity};
+    ghost use Rattle.fence_queue.specs.Placed.{IsKept, queue_of};
+
+    ghost view = { λ q. map (queue_of q.placed.items) (range_with_len 0 q.harts) };
+
+    ghost invariant = { λ q. IsKept q.harts q.placed.items (vec_capacity q.placed) };
+}
+
+impl<F: Copy> Queues<F> {
+    /// Nothing waits at any hart. It fails where memory runs out; no other call takes memory.
+    pub fn new(alloc: Global, harts: u64) -> Result<Queues<F>, AllocError>
+        requires { harts ≤ 128 }
+        ensures { IfOk result (λ queues. queues ≡ replicate harts []) }
+    {
+        let room = harts * harts.saturating_sub(1);
+        let placed = Vec::with_capacity(alloc, room as usize)?;
+        Ok(Queues { harts, placed })
+    }
+
+    /// Puts a request at the end of hart `t`'s queue. It comes from another hart, of which no request waits there, so
+    /// there is room for it.
+    pub fn push(&mut self, t: u64, request: Request<F>)
+        requires in_range { t < length self.old }
+        requires caller { request.from < length self.old }
+        requires other { (request.from == t) ≡ false }
+        requires once { has_from request.from (queue_at self.old t) ≡ false }
+        ensures { self.new ≡ pushed self.old t request }
+    {
+        self.placed.push_reserved(Placed { at: t, request });
+    }
+
+    /// The first request that waits at hart `t`.
+    pub fn front(&self, t: u64) -> Option<Request<F>>
+        requires { t < length self.now }
+        ensures { result ≡ slice_get (queue_at self.now t) 0 }
+    {
+        self.iter(t).next()
+    }
+
+    /// Takes the first request out of hart `t`'s queue, where one waits.
+    pub fn pop(&mut self, t: u64) -> Option<Request<F>>
+        requires { t < length self.old }
+        ensures answer { result ≡ slice_get (queue_at self.old t) 0 }
+        ensures after { self.new ≡ popped self.old t }
+        ensures queue { IsQueue (length self.old) t (queue_at self.old t) }
+    {
+        let place = first_at(&self.placed, t)?;
+        Some(self.placed.remove(place).request)
+    }
+
+    /// Takes all requests out of hart `t`'s queue.
+    pub fn drain(&mut self, t: u64)
+        requires { t < length self.old }
+        ensures { self.new ≡ drained self.old t }
+    {
+        remove_at(&mut self.placed, t);
+    }
+
+    /// Takes all requests out of all queues.
+    pub fn clear(&mut self)
+        ensures { self.new ≡ replicate (length self.old) [] }
+    {
+        self.placed.clear();
+    }
+
+    /// The requests that wait at hart `t`, the first of them first. They come from distinct other harts.
+    pub fn iter(&self, t: u64) -> Waiting<'_, F>
+        requires { t < length self.now }
+        ensures requests { result ≡ queue_at self.now t }
+        ensures queue { IsQueue (length self.now) t (queue_at self.now t) }
+    {
+        Waiting::of(&self.placed, t)
+    }
+
+    /// How many requests wait at hart `t`: fewer than there are harts.
+    pub fn len(&self, t: u64) -> u64
+        requires { t < length self.now }
+        ensures count { result ≡ length (queue_at self.now t) }
+        ensures limit { result < length self.now }
+    {
+        count_at(&self.placed, t) as u64
+    }
+
+    /// How many requests wait, at all harts together.
+    pub fn total(&self) -> u64
+        ensures { result ≡ sum_by length self.now }
+    {
+        self.placed.len() as u64
+    }
+
+    /// How many harts there are; at most 128 (profile).
+    pub fn harts(&self) -> u64
+        ensures count { result ≡ length self.now }
+        ensures limit { length self.now ≤ 128 }
+    {
+        self.harts
+    }
+}

@@ -1,0 +1,51 @@
+use Rattle.std.proofs.Common.{◌+◌, ap, ◌∙◌, arith}
+use Rattle.std.specs.Prelude.{if◌then◌else◌}
+use Rattle.rfence.specs.Effects.{changed_at}
+use Rattle.rfence.proofs.Stands.{affected-ask, can-ask-others, length-calls, length-ids, one_or_none, stands-seen, taken-ask}
+use Rattle.rfence.proofs.fences.Fences.ask.Goals as goal
+
+pub apply_where-requires : goal.apply_where-requires
+apply_where-requires g c =
+    let takes = c.requires.takes in
+    let inside = takes.right.0.0 in
+    omega (arith, length-calls takes.n takes.turns _ takes.stands, c.requires.caches)
+
+pub remove-requires : goal.remove-requires
+remove-requires g c =
+    let inside = c.requires.takes.right.0.0 in
+    let limit = c.requires.takes.stands.limit in
+    omega arith
+
+pub ask_each-requires : goal.ask_each-requires
+ask_each-requires g c =
+    let takes = c.requires.takes in
+    can-ask-others takes.n takes.turns _ (stands-seen takes.n takes.turns _ _ c.self.view_is takes.stands) c.args.c c.args.asked c.args.flush c.contains-own.ensures.whole takes.right _ c.remove.ensures
+
+pub index_mut-requires : goal.index_mut-requires
+index_mut-requires g c =
+    let takes = c.requires.takes in
+    let stands = stands-seen takes.n takes.turns _ _ c.self.view_is takes.stands in
+    let inside = takes.right.0.0 in
+    omega (arith, length-calls takes.n takes.turns _ stands, c.self.inside.calls.ok.0)
+
+pub returns-clause-taken : goal.returns-clause-taken
+returns-clause-taken g c = λ n turns stands right.
+    taken-ask n turns _ (stands-seen n turns _ _ c.self.view_is stands) c.args.c c.args.asked c.args.flush c.contains-own.ensures.whole right
+    _ _ _ _ c.remove.ensures c.ask_each.ensures
+    (ap (λ m. c.self.inside.asked + m) c.len.ensures)
+    (ap (λ m. c.self.inside.applied + m) (c.one_if.ensures ∙ ap (λ b. if b then 1 else 0) c.contains-own.ensures.answer))
+
+pub returns-clause-affected : goal.returns-clause-affected
+returns-clause-affected g c = λ n turns stands right.
+    affected-ask n turns _ stands c.args.c c.args.asked c.args.flush c.contains-own.ensures.whole right g.C.Fenced.dropped g.C.Fenced.emptied c.args.caches.now _
+    (c.apply_where.ensures ∙ ap (λ b. if b then changed_at (g.C.Fenced.dropped c.args.flush) c.args.caches.now c.args.c else c.args.caches.now) c.contains-own.ensures.answer)
+
+pub overflow_add-self : goal.overflow_add-self
+overflow_add-self g c =
+    let room = c.requires.room.applied in
+    omega (arith, ap (λ f. f.applied) c.self.view_is, c.one_if.ensures, one_or_none c.contains-own.result)
+
+pub overflow_add-self-2 : goal.overflow_add-self-2
+overflow_add-self-2 g c =
+    let room = c.requires.room.asked in
+    omega (arith, ap (λ f. f.asked) c.self.view_is, c.len.ensures, length-ids c.args.asked c.contains-own.ensures.whole)

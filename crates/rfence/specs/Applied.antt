@@ -1,0 +1,49 @@
+-- The fences that were applied at a hart, and what a turn does to its caches.
+use Rattle.std.specs.Prelude.{ℕ, List, [], ◌∷◌, ◌++◌, length, map, take, ◌==◌, ◌&&◌, if◌then◌else◌}
+use Rattle.rfence.specs.Turns.{Turn, Ask, Own, Serve, Stop, Reset, empties}
+use Rattle.rfence.specs.Waiting.{Asked, waiting}
+
+-- A fence that was applied: the place of the turn that asked it, the place of the turn at which it was applied, and
+-- what it drops.
+pub record Applied (F : Type 0) : Type 0 where
+  pub place : ℕ
+  pub at : ℕ
+  pub flush : F
+
+-- what a turn does to the caches of a hart: nothing, what one fence does, or all goes
+pub data Effect (F : Type 0) : Type 0 where
+  Nothing : Effect F
+  Drops : F → Effect F
+  Empties : Effect F
+
+module _ {F : Type 0} where
+  -- a fence that waited, applied at this place
+  abbrev pub applied_at : ℕ → Asked F → Applied F
+  applied_at place asked = record { place = asked.place; at = place; flush = asked.flush }
+
+  -- A caller that is asked too applies its fence at once, and so does a hart that fences itself; a serve applies the
+  -- first of those that wait; a stop of the hart and a reset count as applying all of them (profile).
+  abbrev pub applied_by : ℕ → List (Asked F) → Turn F → ℕ → List (Applied F)
+  applied_by place waits (Ask x asked flush) t =
+      if (x == t) && asked t then record { place = place; at = place; flush = flush } ∷ [] else []
+  applied_by place waits (Own x flush) t = if x == t then record { place = place; at = place; flush = flush } ∷ [] else []
+  applied_by place waits (Serve x) t = if x == t then map (applied_at place) (take 1 waits) else []
+  applied_by place waits (Stop x) t = if x == t then map (applied_at place) waits else []
+  applied_by place waits Reset t = map (applied_at place) waits
+  applied_by place waits turn t = []
+
+  -- The fences that were applied at hart t.
+  abbrev pub applied : List (Turn F) → ℕ → List (Applied F)
+  applied [] t = []
+  applied (turn ∷ turns) t = applied_by (length turns) (waiting turns t) turn t ++ applied turns t
+
+  -- what the first of them drops
+  abbrev pub first_drop : List (Applied F) → Effect F
+  first_drop [] = Nothing
+  first_drop (fence ∷ fences) = Drops fence.flush
+
+  -- What a turn does to the caches of hart t: what it applies there, and where the hart stops or the board is reset,
+  -- all goes.
+  abbrev pub effect : List (Turn F) → Turn F → ℕ → Effect F
+  effect turns turn t =
+      if empties turn t then Empties else first_drop (applied_by (length turns) (waiting turns t) turn t)

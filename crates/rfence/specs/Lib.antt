@@ -1,0 +1,10 @@
+pub mod Turns
+pub mod Waiting
+pub mod Applied
+pub mod Calls
+pub mod Effects
+pub mod Right
+pub mod Marks
+pub mod HartCaches
+pub mod State
+pub mod Laws

@@ -1,0 +1,73 @@
+ghost use Rattle.std.specs.Prelude.{◌≡◌, ◌<◌, length, map, if◌then◌else◌};
+ghost use Rattle.rfence.specs.Effects.{changed_at};
+
+use tlb_model::{Caches, Flush};
+
+/// What fences drop something from: the caches of one hart.
+pub trait Fenced<F> {
+    ghost dropped: { F → Self → Self };
+
+    ghost emptied: { Self → Self };
+
+    /// Drops what this covers, and nothing else.
+    fn apply(&mut self, flush: F)
+        ensures { self.new ≡ dropped flush self.old };
+
+    /// Drops everything.
+    fn clear(&mut self)
+        ensures { self.new ≡ emptied self.old };
+}
+
+/// A hart's two caches: a fence of translations drops those that it covers, and a FENCE.I all fetched words.
+impl Fenced<Flush> for Caches {
+    ghost use Rattle.rfence.specs.HartCaches.{dropped_of, emptied_of};
+
+    ghost dropped = { dropped_of };
+
+    ghost emptied = { emptied_of };
+
+    fn apply(&mut self, flush: Flush) {
+        self.tlb.apply(flush);
+        self.words.apply(flush);
+    }
+
+    fn clear(&mut self) {
+        self.tlb.clear();
+        self.words.clear();
+    }
+}
+
+/// Drops what this covers from the caches of hart `t`.
+pub fn apply_at<F: Copy, C: Fenced<F>>(caches: &mut [C], t: u64, flush: F)
+    requires { t < length caches.old }
+    ensures { caches.new ≡ changed_at (C.dropped flush) caches.old t }
+{
+    caches[t as usize].apply(flush);
+}
+
+/// The same, where it is asked for.
+pub fn apply_where<F: Copy, C: Fenced<F>>(caches: &mut [C], t: u64, asked: bool, flush: F)
+    requires { t < length caches.old }
+    ensures { caches.new ≡ (if asked then changed_at (C.dropped flush) caches.old t else caches.old) }
+{
+    if asked {
+        apply_at(caches, t, flush);
+    }
+}
+
+/// Drops everything from the caches of hart `t`.
+pub fn clear_at<F: Copy, C: Fenced<F>>(caches: &mut [C], t: u64)
+    requires { t < length caches.old }
+    ensures { caches.new ≡ changed_at C.emptied caches.old t }
+{
+    caches[t as usize].clear();
+}
+
+/// Drops everything from the caches of all harts.
+pub fn clear_all<F: Copy, C: Fenced<F>>(caches: &mut [C])
+    ensures { caches.new ≡ map C.emptied caches.old }
+{
+    for cache in caches {
+        cache.clear();
+    }
+}

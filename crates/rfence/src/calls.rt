@@ -1,0 +1,64 @@
+ghost use Rattle.std.specs.Prelude.{◌≡◌, ◌<◌, ◌≤◌, IfOk, length, map, replicate, None};
+ghost use Rattle.rfence.specs.Marks.{CanAsk, forgotten, forgotten_at, requested};
+
+use fence_queue::{Queues, Request};
+use hart_mask::HartSet;
+use std::alloc::{AllocError, Global};
+
+/// Puts a request into the queue of each of these harts.
+pub fn ask_each<F: Copy>(queues: &mut Queues<F>, targets: HartSet, request: Request<F>)
+    requires { CanAsk queues.old targets request }
+    ensures { queues.new ≡ requested queues.old targets request }
+{
+    let mut left = targets;
+    while let Some(t) = left.pop_first() {
+        queues.push(t, request);
+    }
+}
+
+/// The call of hart `c` waits for hart `t` no more.
+pub fn forget(calls: &mut Vec<Option<HartSet>>, c: u64, t: u64)
+    requires in_range { c < length calls.old.items }
+    requires id { t < 128 }
+    ensures { calls.new.items ≡ forgotten_at calls.old.items c t }
+{
+    if let Some(mut harts) = calls[c as usize] {
+        harts.remove(t);
+        calls[c as usize] = Some(harts);
+    }
+}
+
+/// A call waits for hart `t` no more.
+fn forget_in(call: &mut Option<HartSet>, t: u64)
+    requires { t < 128 }
+    ensures { call.new ≡ forgotten t call.old }
+{
+    if let Some(harts) = call {
+        harts.remove(t);
+    }
+}
+
+/// No call waits for hart `t` any more.
+pub fn forget_all(calls: &mut Vec<Option<HartSet>>, t: u64)
+    requires { t < 128 }
+    ensures { calls.new.items ≡ map (forgotten t) calls.old.items }
+{
+    for call in calls.iter_mut() {
+        forget_in(call, t);
+    }
+}
+
+/// So many harts, none in a call. It fails where memory runs out.
+pub fn no_calls(alloc: Global, harts: u64) -> Result<Vec<Option<HartSet>>, AllocError>
+    requires { harts ≤ 128 }
+    ensures { IfOk result (λ calls. calls.items ≡ replicate harts None) }
+{
+    vec![in alloc; None; harts as usize]
+}
+
+/// No hart is in a call any more.
+pub fn close_all(calls: &mut Vec<Option<HartSet>>)
+    ensures { calls.new.items ≡ replicate (length calls.old.items) None }
+{
+    calls.fill(None);
+}

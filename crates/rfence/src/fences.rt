@@ -1,0 +1,187 @@
+ghost use Rattle.std.specs.Prelude.{◌≡◌, ◌<◌, ◌≤◌, [], IfOk, if◌then◌else◌, is_some, length, slice_get, sum_by};
+ghost use Rattle.hart_mask.specs.Ids.{has};
+ghost use Rattle.fence_queue.specs.Queues.{IsQueue, queue_at};
+ghost use Rattle.rfence.specs.Turns.{Ask, Serve, Poll, Stop, Reset};
+ghost use Rattle.rfence.specs.State.{AreAffected, HasRoom, IsTaken, StandsFor, Takes, call_at};
+
+use crate::caches::{Fenced, apply_at, apply_where, clear_all, clear_at};
+use crate::calls::{ask_each, close_all, forget, forget_all, no_calls};
+use fence_queue::{Queues, Request, Waiting};
+use hart_mask::HartSet;
+use std::alloc::{AllocError, Global};
+use std::marker::Model;
+
+/// The fences of a board's harts: for each hart those that wait there, for each hart inside a fence call the harts that
+/// it waits for, and how many were asked and applied (SBI 8).
+#[derive(Drop)]
+pub struct Fences<F> {
+    queues: Queues<F>,
+    calls: Vec<Option<HartSet>>,
+    asked: u64,
+    applied: u64,
+}
+
+impl<F> Model for Fences<F> {
+    ghost use Rattle.rfence.specs.State.{State};
+
+    ghost Value = { State F };
+
+    ghost view = { λ f. record { queues = f.queues; calls = f.calls.items; asked = f.asked; applied = f.applied } };
+}
+
+impl<F: Copy> Fences<F> {
+    /// Nothing waits, and no hart is in a call. It fails where memory runs out; no other call takes memory.
+    pub fn new(alloc: Global, harts: u64) -> Result<Fences<F>, AllocError>
+        requires { harts ≤ 128 }
+        ensures { IfOk result (λ fences. StandsFor harts [] fences) }
+    {
+        let queues = Queues::new(alloc, harts)?;
+        let calls = no_calls(alloc, harts)?;
+        Ok(Fences {
+            queues,
+            calls,
+            asked: 0,
+            applied: 0,
+        })
+    }
+
+    /// Hart `c` asks a fence of these harts (SBI 8): at itself, if it is one of them, it is applied at once, and at each
+    /// other one it waits (profile). The hart is now inside its call.
+    pub fn ask<C: Fenced<F>>(&mut self, caches: &mut [C], c: u64, asked: HartSet, flush: F)
+        requires takes { Takes self.old (Ask c (has asked) flush) }
+        requires room { HasRoom self.old }
+        requires caches { length caches.old ≡ length self.old.calls }
+        ensures taken { IsTaken self.old (Ask c (has asked) flush) self.new }
+        ensures affected { AreAffected C.dropped C.emptied self.old (Ask c (has asked) flush) caches.old caches.new }
+    {
+        let own = asked.contains(c);
+        apply_where(caches, c, own, flush);
+        self.applied += one_if(own);
+        self.asked += asked.len();
+        let mut others = asked;
+        others.remove(c);
+        ask_each(&mut self.queues, others, Request { from: c, flush });
+        self.calls[c as usize] = Some(others);
+    }
+
+    /// Hart `t` applies the first fence that waits there, and the hart that asked it waits for `t` no more (profile).
+    pub fn serve<C: Fenced<F>>(&mut self, caches: &mut [C], t: u64)
+        requires takes { Takes self.old (Serve t) }
+        requires room { HasRoom self.old }
+        requires caches { length caches.old ≡ length self.old.calls }
+        ensures taken { IsTaken self.old (Serve t) self.new }
+        ensures affected { AreAffected C.dropped C.emptied self.old (Serve t) caches.old caches.new }
+    {
+        let Some(request) = self.queues.pop(t) else {
+            unreachable!()
+        };
+        apply_at(caches, t, request.flush);
+        forget(&mut self.calls, request.from, t);
+        self.applied += 1;
+    }
+
+    /// The call that hart `c` is in, which waits for no hart any more, is over (profile).
+    pub fn poll(&mut self, c: u64)
+        requires { Takes self.old (Poll c) }
+        ensures { IsTaken self.old (Poll c) self.new }
+    {
+        self.calls[c as usize] = None;
+    }
+
+    /// Hart `t` stops: all that waits there counts as applied, its caches are emptied, and no hart waits for it (profile).
+    pub fn discharge_all<C: Fenced<F>>(&mut self, caches: &mut [C], t: u64)
+        requires takes { Takes self.old (Stop t) }
+        requires room { HasRoom self.old }
+        requires caches { length caches.old ≡ length self.old.calls }
+        ensures taken { IsTaken self.old (Stop t) self.new }
+        ensures affected { AreAffected C.dropped C.emptied self.old (Stop t) caches.old caches.new }
+    {
+        self.applied += self.queues.len(t);
+        self.queues.drain(t);
+        forget_all(&mut self.calls, t);
+        clear_at(caches, t);
+    }
+
+    /// The board is reset: all that waits counts as applied, all caches are emptied, and all calls are dropped (profile).
+    pub fn reset<C: Fenced<F>>(&mut self, caches: &mut [C])
+        requires takes { Takes self.old Reset }
+        requires room { HasRoom self.old }
+        ensures taken { IsTaken self.old Reset self.new }
+        ensures affected { AreAffected C.dropped C.emptied self.old Reset caches.old caches.new }
+    {
+        self.applied += self.queues.total();
+        self.queues.clear();
+        close_all(&mut self.calls);
+        clear_all(caches);
+    }
+
+    /// Whether hart `c` is inside a fence call.
+    pub fn is_open(&self, c: u64) -> bool
+        requires { c < length self.now.calls }
+        ensures { result ≡ is_some (call_at self.now c) }
+    {
+        self.calls[c as usize].is_some()
+    }
+
+    /// The harts that hart `c`'s fence call waits for, if it is in one.
+    pub fn outstanding(&self, c: u64) -> Option<HartSet>
+        requires { c < length self.now.calls }
+        ensures { result ≡ call_at self.now c }
+    {
+        self.calls[c as usize]
+    }
+
+    /// The requests that wait at hart `t`, the first of them first.
+    pub fn iter(&self, t: u64) -> Waiting<'_, F>
+        requires { t < length self.now.queues }
+        ensures requests { result ≡ queue_at self.now.queues t }
+        ensures queue { IsQueue (length self.now.queues) t (queue_at self.now.queues t) }
+    {
+        self.queues.iter(t)
+    }
+
+    /// The first request that waits at hart `t`.
+    pub fn front(&self, t: u64) -> Option<Request<F>>
+        requires { t < length self.now.queues }
+        ensures { result ≡ slice_get (queue_at self.now.queues t) 0 }
+    {
+        self.queues.front(t)
+    }
+
+    /// How many requests wait at hart `t`: fewer than there are harts.
+    pub fn len(&self, t: u64) -> u64
+        requires { t < length self.now.queues }
+        ensures count { result ≡ length (queue_at self.now.queues t) }
+        ensures limit { result < length self.now.queues }
+    {
+        self.queues.len(t)
+    }
+
+    /// Of how many harts fences were asked, all together.
+    pub fn asked(&self) -> u64
+        ensures { result ≡ self.now.asked }
+    {
+        self.asked
+    }
+
+    /// At how many harts they were applied, all together.
+    pub fn applied(&self) -> u64
+        ensures { result ≡ self.now.applied }
+    {
+        self.applied
+    }
+
+    /// How many wait, at all harts together.
+    pub fn waiting(&self) -> u64
+        ensures { result ≡ sum_by length self.now.queues }
+    {
+        self.queues.total()
+    }
+}
+
+/// 1 where it holds, and else 0.
+fn one_if(holds: bool) -> u64
+    ensures { result ≡ (if holds then 1 else 0) }
+{
+    if holds { 1 } else { 0 }
+}

@@ -1,0 +1,29 @@
+ghost use Rattle.rfence.specs.Laws.{AppliedOnce, BoardsAreSmall, OthersChangeNothing, SuccessStrikes, WaitsAreOfOpenCalls};
+
+/// The fences that wait at a hart are of distinct other harts of the board, each inside the call by which it asked;
+/// so fewer wait at a hart than there are harts (profile).
+pub fn waits_are_of_open_calls<F>()
+    ensures { WaitsAreOfOpenCalls F }
+{}
+
+/// Each fence that is asked of a hart, of itself or by another one, was applied there once, or waits there once.
+pub fn applied_once<F>()
+    ensures { AppliedOnce F }
+{}
+
+/// Where a hart polls after it asked a fence, so that its call was a success, the fence was applied at each hart that it
+/// asked, or that hart's caches were emptied, when it was asked or later (SBI 8).
+pub fn success_strikes<F>()
+    ensures { SuccessStrikes F }
+{}
+
+/// On a board of at most 128 harts, what is kept of a call is the set of its outstanding harts, and each turn adds at
+/// most 128 fences that are asked and 16,384 that are applied (profile).
+pub fn boards_are_small<F>()
+    ensures { BoardsAreSmall F }
+{}
+
+/// A fence of a hart by itself alone, and what has to do with no fence, leave what is kept as it is.
+pub fn others_change_nothing<F>()
+    ensures { OthersChangeNothing F }
+{}

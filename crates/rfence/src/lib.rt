@@ -1,0 +1,13 @@
+//! Remote fences (SBI 8): which wait at which hart, which were applied, and for which harts a call waits.
+#![tactic(auto)]
+
+mod caches;
+mod calls;
+mod fences;
+mod laws;
+
+pub use caches::Fenced;
+pub use fences::Fences;
+pub use laws::{
+    applied_once, boards_are_small, others_change_nothing, success_strikes, waits_are_of_open_calls,
+};

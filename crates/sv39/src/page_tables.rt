@@ -1,0 +1,55 @@
+ghost use Rattle.std.specs.Prelude.{◌≡◌, ◌↔◌, ◌≤◌, ◌<◌, ◌+◌, ℕ, Option, Result};
+ghost use Rattle.sv39.specs.Leaves.{by_right};
+ghost use Rattle.sv39.specs.Maps.{Maps, maps};
+ghost use Rattle.sv39.specs.Memory.{word_in};
+ghost use Rattle.sv39.specs.Pages.{size};
+
+use crate::cause::{Cause, Kind};
+use crate::entry::TableEntry;
+use crate::page::{Leaf, Level, is_valid};
+use crate::ram::Ram;
+use crate::satp::Satp;
+
+/// What the page tables in the RAM say of a virtual address: the leaf that maps it and allows an access of this kind,
+/// or why the access fails (Privileged 4.3.2, 4.4.1). At most three words are looked at. The tables are those that
+/// satp names, whatever its MODE.
+pub fn walk(ram: &Ram, satp: Satp, va: u64, kind: Kind) -> Result<Leaf, Cause>
+    ensures { result ≡ maps (word_in ram.now) satp va kind }
+{
+    if !is_valid(va) {
+        return Err(kind.page_fault());
+    }
+    let mut level = Level::Giga;
+    let mut table = satp.root();
+    let mut global = false;
+    loop {
+        let at = table + 8 * level.part(va);
+        if !ram.holds(at) {
+            return Err(kind.access_fault());
+        }
+        let entry = TableEntry { bits: ram.load(at) };
+        let Some(below) = entry.pointed(level) else {
+            return entry.outcome(va, kind, level, global);
+        };
+        global |= entry.is_global();
+        table = entry.address();
+        level = below;
+    }
+}
+
+/// What `walk` gives is the rule: there is one level with good pointers at all levels above and none there, and the
+/// entry there decides (Privileged 4.3.2, 4.4.1). A law: there is nothing to run.
+pub fn maps_is_the_rule()
+    ensures { (memory : ℕ → Option ℕ) (satp va : ℕ) (kind : Kind) (result : Result Leaf Cause)
+        → Maps memory satp va kind result ↔ (result ≡ maps memory satp va kind) }
+{}
+
+/// A leaf decides each access to its page: one that it allows gets it, and another one a page fault. A law: there is
+/// nothing to run.
+pub fn one_leaf_for_a_page()
+    ensures { (memory : ℕ → Option ℕ) (satp a b : ℕ) (kind other : Kind) (leaf : Leaf)
+        → maps memory satp a kind ≡ Ok leaf
+        → leaf.page ≤ b
+        → b < leaf.page + size leaf.level
+        → maps memory satp b other ≡ by_right other leaf }
+{}
