@@ -76,9 +76,6 @@ module _ (memory : ℕ → Option ℕ) (satp : ℕ) (tlb : Address → Option En
   passing is = record { aligned_to = eq-eqb (va % 8) 0 is.aligned; in_mode = is.mode; is_right = is.valid }
 
   module _ (access : Access) (entry : Entry) where
-    walked : Way
-    walked = way_by (hit_at satp tlb va) (asid_of satp) (maps memory satp va (kind_of access))
-
     filled_by : Mapped (hit_at satp tlb va) (asid_of satp) (maps memory satp va (kind_of access)) entry → IsTranslated satp va → Fills memory satp tlb va access entry
     filled_by mapped is = record { translated = is; missed = mapped.missed; mapped = mapped.leaf; space = mapped.space }
 

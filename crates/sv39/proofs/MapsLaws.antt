@@ -6,7 +6,7 @@ use Rattle.sv39.specs.declared.cause.Kind.{Kind}
 use Rattle.sv39.specs.declared.page.Leaf.{Leaf}
 use Rattle.sv39.specs.declared.page.Level.{Level}
 use Rattle.sv39.specs.declared.page.Level.TheVariants.{Kilo, Mega, Giga}
-use Rattle.sv39.specs.Causes.{access_fault}
+use Rattle.sv39.specs.Causes.{access_fault, page_fault}
 use Rattle.sv39.specs.Entries.{below, has_g, is_pointer, page_number}
 use Rattle.sv39.specs.Maps.{EndsAt, Maps, MapsBy, end_level, entry_at, global_above, is_some_global, is_some_pointer, maps, outcome, outcome_at, pointer_at, pointers_above, table_at, table_of}
 use Rattle.sv39.specs.Pages.{is_valid, part}
@@ -108,9 +108,9 @@ none_from (Some entry) e = cc
 none_from None e = refl
 
 -- a walk that finds no entry in the RAM
-pub ended-outside : (memory : ℕ → Option ℕ) (satp va : ℕ) (kind : Kind) (level : Level) (table : ℕ) (global : Bool) → Reached memory (root_of satp) va level table global
+pub ended_outside : (memory : ℕ → Option ℕ) (satp va : ℕ) (kind : Kind) (level : Level) (table : ℕ) (global : Bool) → Reached memory (root_of satp) va level table global
     → is_valid va ≡ true → is_some (memory (table + 8 * part level va)) ≡ false → maps memory satp va kind ≡ Err (access_fault kind)
-ended-outside memory satp va kind level table global r valid outside =
+ended_outside memory satp va kind level table global r valid outside =
     let none : memory (table + 8 * part level va) ≡ None = none_from _ outside in
     ended memory satp va kind level table global r valid (ap (is_some_pointer level) none)
     ∙ ap (λ entry. outcome entry va kind level global) none
@@ -121,18 +121,23 @@ not-pointed Mega entry none = elim (cases_Bool (is_pointer Mega entry)) [ inl go
 not-pointed Kilo entry none = refl
 
 -- a walk that finds an entry that is no good pointer
-pub ended-there : (memory : ℕ → Option ℕ) (satp va : ℕ) (kind : Kind) (level : Level) (table entry : ℕ) (global : Bool) → Reached memory (root_of satp) va level table global
+pub ended_there : (memory : ℕ → Option ℕ) (satp va : ℕ) (kind : Kind) (level : Level) (table entry : ℕ) (global : Bool) → Reached memory (root_of satp) va level table global
     → is_valid va ≡ true → memory (table + 8 * part level va) ≡ Some entry → cond (is_pointer level entry) (below level) None ≡ None
     → maps memory satp va kind ≡ outcome (Some entry) va kind level global
-ended-there memory satp va kind level table entry global r valid here none =
+ended_there memory satp va kind level table entry global r valid here none =
     ended memory satp va kind level table global r valid (ap (is_some_pointer level) here ∙ not-pointed level entry none)
     ∙ ap (λ e. outcome e va kind level global) here
 
 -- a walk that finds a good pointer
-pub goes-on : (memory : ℕ → Option ℕ) (root va : ℕ) (level lower : Level) (table entry : ℕ) (global : Bool) → Reached memory root va level table global
+pub goes_on : (memory : ℕ → Option ℕ) (root va : ℕ) (level lower : Level) (table entry : ℕ) (global : Bool) → Reached memory root va level table global
     → memory (table + 8 * part level va) ≡ Some entry → cond (is_pointer level entry) (below level) None ≡ Some lower
     → Reached memory root va lower (4096 * page_number entry) (global || has_g entry)
-goes-on memory root va level lower table entry global r here some = elim (cases_Bool (is_pointer level entry)) [
+goes_on memory root va level lower table entry global r here some = elim (cases_Bool (is_pointer level entry)) [
   | inl good ↦ let e = rw good at some in reached-next memory root va level lower table entry global r here good e
   | inr other ↦ let e = rw other at some in cc
 ]
+
+-- a walk of an address that isn't valid
+pub ended_invalid : (memory : ℕ → Option ℕ) (satp va : ℕ) (kind : Kind) → is_valid va ≡ false → maps memory satp va kind ≡ Err (page_fault kind)
+unfolding maps
+ended_invalid memory satp va kind invalid = rw invalid refl

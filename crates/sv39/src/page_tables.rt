@@ -22,7 +22,7 @@ pub fn walk(ram: &Ram, satp: Satp, va: u64, kind: Kind) -> Result<Leaf, Cause>
     let mut level = Level::Giga;
     let mut table = satp.root();
     let mut global = false;
-    loop {
+    'levels: loop {
         let at = table + 8 * level.part(va);
         if !ram.holds(at) {
             return Err(kind.access_fault());

@@ -1,27 +1,31 @@
-use Rattle.std.proofs.Common.{◌≡◌, ◌∙◌, true, Err, ap, sym}
-use Rattle.sv39.specs.Maps.{maps}
+use Rattle.std.proofs.Common.{◌≡◌, ◌∙◌, true, false, sym}
+use Rattle.sv39.specs.Memory.{word_in}
 use Rattle.sv39.specs.Pages.{is_valid}
-use Rattle.sv39.proofs.MapsLaws.{ended-outside, ended-there, goes-on}
+use Rattle.sv39.proofs.MapsLaws.{ended_invalid, ended_outside, ended_there, goes_on}
 use Rattle.sv39.proofs.page_tables.walk.Goals as goal
 
 pub returns-then-not-is_valid : goal.returns-then-not-is_valid
-unfolding maps
-returns-then-not-is_valid c = rw (← c.is_valid.ensures, c.if-not-is_valid.true) (ap Err c.page_fault.ensures)
+returns-then-not-is_valid c =
+    let invalid : is_valid c.args.va ≡ false = sym c.is_valid.ensures ∙ c.if-not-is_valid.true in
+    let ended = ended_invalid (word_in c.args.ram.now) c.args.satp _ c.args.kind invalid in
+    cc ended
 
 pub returns-then-not-holds : goal.returns-then-not-holds
 returns-then-not-holds c =
-    let valid : is_valid c.args.va ≡ true = cc in
+    let valid : is_valid c.args.va ≡ true = sym c.is_valid.ensures ∙ c.if-not-is_valid.false in
     let outside = rw (c.if-not-holds.true, c.part.ensures) at (sym c.holds.ensures.word) in
-    ap Err c.access_fault.ensures ∙ sym (ended-outside _ _ _ _ _ _ _ c.loop-level.invariant valid outside)
+    let ended = ended_outside _ _ _ c.args.kind _ _ _ c.levels.invariant valid outside in
+    cc ended
 
 pub returns-in_default : goal.returns-in_default
 returns-in_default c =
-    let valid : is_valid c.args.va ≡ true = cc in
+    let valid : is_valid c.args.va ≡ true = sym c.is_valid.ensures ∙ c.if-not-is_valid.false in
     let here = rw c.part.ensures at c.load.ensures in
-    c.outcome.ensures ∙ sym (ended-there _ _ _ _ _ _ _ _ c.loop-level.invariant valid here (sym c.pointed.ensures ∙ c.in_default.is))
+    let ended = ended_there _ _ _ c.args.kind _ _ _ _ c.levels.invariant valid here (sym c.pointed.ensures ∙ c.in_default.is) in
+    cc ended
 
-pub loop-level-preserved : goal.loop-level-preserved
-loop-level-preserved c =
+pub levels-preserved : goal.levels-preserved
+levels-preserved c =
     let here = rw c.part.ensures at c.load.ensures in
     rw (c.address-table.ensures, c.is_global-global.ensures)
-    (goes-on _ _ _ _ _ _ _ _ c.loop-level.invariant here (sym c.pointed.ensures ∙ c.in-Some.is))
+    (goes_on _ _ _ _ _ _ _ _ c.levels.invariant here (sym c.pointed.ensures ∙ c.in-Some.is))
