@@ -1,3 +1,4 @@
+use board_core::{BuildFault, Refusal};
 use hart_mask::{HartSet, InvalidParam, targets};
 use hsm::{AlreadyAvailable, HartState, Hsm, Kept, Moved};
 use interrupts::{Ipis, TimeFull, Timers};
@@ -205,5 +206,46 @@ fn the_life_of_interrupts(rt: HostRuntime) -> Result<(), AllocError> {
     timers.reset();
     assert_eq!(rt; (timers.deadline(0), timers.deadline(2)), (None, None));
     assert_eq!(rt; timers.time(), 0xffff_ffff_ffff_fffe);
+    Ok(())
+}
+
+/// The texts of the components' errors.
+#[test]
+fn texts(rt: HostRuntime) -> Result<(), AllocError> {
+    for (error, text) in [
+        (SbiError::Failed, "failed"),
+        (SbiError::NotSupported, "not supported"),
+        (SbiError::InvalidParam, "invalid parameter"),
+        (SbiError::Denied, "denied"),
+        (SbiError::InvalidAddress, "invalid address"),
+        (SbiError::AlreadyAvailable, "already available"),
+        (SbiError::AlreadyStarted, "already started"),
+        (SbiError::AlreadyStopped, "already stopped"),
+    ] {
+        assert_eq!(rt; format!(in rt.alloc(); "{error}")?.as_str(), text);
+    }
+    for (refusal, text) in [
+        (
+            Refusal::WrongPhase,
+            "not in this state, not by this actor, or no such hart",
+        ),
+        (Refusal::Nothing, "nothing to do"),
+        (Refusal::HistoryFull, "history full"),
+        (Refusal::TimeFull, "the time would go past its end"),
+    ] {
+        assert_eq!(rt; format!(in rt.alloc(); "{refusal}")?.as_str(), text);
+    }
+    for (fault, text) in [
+        (BuildFault::BadConfig, "bad board"),
+        (BuildFault::NoMemory, "no memory"),
+    ] {
+        assert_eq!(rt; format!(in rt.alloc(); "{fault}")?.as_str(), text);
+    }
+    let list = format!(in rt.alloc(); "{InvalidParam}")?;
+    let start = format!(in rt.alloc(); "{AlreadyAvailable}")?;
+    let tick = format!(in rt.alloc(); "{TimeFull}")?;
+    assert_eq!(rt; list.as_str(), "invalid parameter");
+    assert_eq!(rt; start.as_str(), "already available");
+    assert_eq!(rt; tick.as_str(), "the time would go past its end");
     Ok(())
 }
