@@ -1,0 +1,36 @@
+-- Why accesses fail, and the exception codes of it (Privileged 4.1.8, table 4.2).
+use Rattle.std.specs.Prelude.{ℕ}
+use Rattle.sv39.specs.declared.cause.Kind.{Kind}
+use Rattle.sv39.specs.declared.cause.Kind.TheVariants.{Fetch, Load, Store}
+use Rattle.sv39.specs.declared.cause.Cause.{Cause}
+use Rattle.sv39.specs.declared.cause.Cause.TheVariants.{InstructionAddressMisaligned, InstructionAccessFault, LoadAddressMisaligned, LoadAccessFault, StoreAddressMisaligned, StoreAccessFault, InstructionPageFault, LoadPageFault, StorePageFault}
+
+-- The exception codes (Privileged 4.1.8, table 4.2).
+abbrev pub cause_number : Cause → ℕ
+cause_number InstructionAddressMisaligned = 0
+cause_number InstructionAccessFault = 1
+cause_number LoadAddressMisaligned = 4
+cause_number LoadAccessFault = 5
+cause_number StoreAddressMisaligned = 6
+cause_number StoreAccessFault = 7
+cause_number InstructionPageFault = 12
+cause_number LoadPageFault = 13
+cause_number StorePageFault = 15
+
+-- An address that isn't aligned, by the kind of the access.
+abbrev pub misaligned : Kind → Cause
+misaligned Fetch = InstructionAddressMisaligned
+misaligned Load = LoadAddressMisaligned
+misaligned Store = StoreAddressMisaligned
+
+-- A physical address outside the RAM, by the kind of the access that needs it.
+abbrev pub access_fault : Kind → Cause
+access_fault Fetch = InstructionAccessFault
+access_fault Load = LoadAccessFault
+access_fault Store = StoreAccessFault
+
+-- An access that the page tables don't allow, by its kind.
+abbrev pub page_fault : Kind → Cause
+page_fault Fetch = InstructionPageFault
+page_fault Load = LoadPageFault
+page_fault Store = StorePageFault

@@ -1,0 +1,92 @@
+-- The entries of page tables (Privileged 4.3.1, 4.4.1).
+use Rattle.std.specs.Prelude.{ℕ, ◌*◌, ◌/◌, ◌%◌, ◌^◌, Bool, not, ◌==◌, ◌&&◌, ◌||◌, Option, Some, None, is_some}
+use Rattle.std.specs.Int.{bit_at}
+use Rattle.sv39.specs.declared.page.Level.{Level}
+use Rattle.sv39.specs.declared.page.Level.TheVariants.{Kilo, Mega, Giga}
+use Rattle.sv39.specs.declared.page.Leaf.{Leaf}
+use Rattle.sv39.specs.Pages.{level_number, page_of}
+
+-- Whether a bit of an entry is 1: V 0, R 1, W 2, X 3, U 4, G 5, A 6, D 7; bits 8 and 9, RSW, are ignored (Privileged
+-- 4.3.1, 4.4.1, figure 4.18).
+abbrev pub has_bit : ℕ → ℕ → Bool
+has_bit n entry = bit_at entry n == 1
+
+-- V: the entry is valid.
+abbrev pub has_v : ℕ → Bool
+has_v = has_bit 0
+
+-- R: the page may be read.
+abbrev pub has_r : ℕ → Bool
+has_r = has_bit 1
+
+-- W: the page may be written.
+abbrev pub has_w : ℕ → Bool
+has_w = has_bit 2
+
+-- X: instructions may be fetched from the page.
+abbrev pub has_x : ℕ → Bool
+has_x = has_bit 3
+
+-- U: the page is the user's.
+abbrev pub has_u : ℕ → Bool
+has_u = has_bit 4
+
+-- G: the mapping is in all address spaces.
+abbrev pub has_g : ℕ → Bool
+has_g = has_bit 5
+
+-- A: the page was accessed.
+abbrev pub has_a : ℕ → Bool
+has_a = has_bit 6
+
+-- D: the page was written.
+abbrev pub has_d : ℕ → Bool
+has_d = has_bit 7
+
+-- PPN, bits 53 to 10: the number of the physical page that the entry names.
+abbrev pub page_number : ℕ → ℕ
+page_number entry = entry / 2 ^ 10 % 2 ^ 44
+
+-- Bits 63 to 54 are 0: they are reserved, or of an extension that isn't there (Privileged 4.4.1; Svnapot and Svpbmt
+-- aren't supported: profile).
+abbrev pub has_no_reserved_bit : ℕ → Bool
+has_no_reserved_bit entry = entry / 2 ^ 54 == 0
+
+-- the level below another one, if there is one
+abbrev pub below : Level → Option Level
+below Giga = Some Mega
+below Mega = Some Kilo
+below Kilo = None
+
+-- The entry is a good pointer to the table of the level below: it is valid, without R, W and X, and without A, D and U,
+-- which are reserved there, and no bit from 54 on is set (Privileged 4.3.1, 4.3.2, 4.4.1).
+abbrev pub is_pointer : Level → ℕ → Bool
+is_pointer level entry =
+    is_some (below level) && has_v entry && not (has_r entry) && not (has_w entry) && not (has_x entry)
+    && not (has_a entry) && not (has_d entry) && not (has_u entry) && has_no_reserved_bit entry
+
+-- The low parts of a superpage's PPN, one of 9 bits for each level below, are 0 (Privileged 4.3.2).
+abbrev pub is_aligned : Level → ℕ → Bool
+is_aligned level entry = page_number entry % 512 ^ level_number level == 0
+
+-- The entry is a right leaf, whatever the access: it is valid, with R or X, and W only with R; no bit from 54 on is
+-- set; the page isn't the user's (a supervisor without SUM: profile), was accessed (a board faults in place of setting
+-- A: profile), and is aligned (Privileged 4.3.1, 4.3.2, 4.4.1).
+abbrev pub is_leaf : Level → ℕ → Bool
+is_leaf level entry =
+    has_v entry && (has_r entry || has_x entry) && not (has_w entry && not (has_r entry))
+    && has_no_reserved_bit entry && not (has_u entry) && has_a entry && is_aligned level entry
+
+-- What a right leaf says of the page that has the address. It is global by the entry, or by a pointer above it
+-- (Privileged 4.3.1).
+abbrev pub leaf_of : (entry va : ℕ) → Level → (global_above : Bool) → Leaf
+leaf_of entry va level global_above = record {
+  page = page_of level va;
+  level = level;
+  global = has_g entry || global_above;
+  pa = 4096 * page_number entry;
+  r = has_r entry;
+  w = has_w entry;
+  x = has_x entry;
+  d = has_d entry;
+}

@@ -1,0 +1,7 @@
+pub mod Causes
+pub mod Pages
+pub mod Leaves
+pub mod Memory
+pub mod Satp
+pub mod Entries
+pub mod Maps

@@ -1,0 +1,102 @@
+ghost use Rattle.std.specs.Prelude.{◌≡◌, ◌*◌, ◌<◌, Some, None, if◌then◌else◌};
+ghost use Rattle.sv39.specs.Entries.{below, has_bit, has_g, is_aligned, is_leaf, is_pointer, leaf_of, page_number};
+ghost use Rattle.sv39.specs.Maps.{outcome};
+
+use crate::cause::{Cause, Kind};
+use crate::page::{Leaf, Level};
+
+/// An entry of a page table (Privileged 4.3.1, 4.4.1).
+#[derive(Clone, Copy)]
+pub struct TableEntry {
+    pub bits: u64,
+}
+
+impl TableEntry {
+    /// Whether the bit is 1.
+    fn has(self, bit: u64) -> bool
+        requires { bit < 64 }
+        ensures { result ≡ has_bit bit self.bits }
+    {
+        self.bits >> bit & 1 == 1
+    }
+
+    /// G: the mapping is in all address spaces.
+    pub fn is_global(self) -> bool
+        ensures { result ≡ has_g self.bits }
+    {
+        self.has(5)
+    }
+
+    /// The physical address of the page that the entry names.
+    pub fn address(self) -> u64
+        ensures { result ≡ 4096 * page_number self.bits }
+    {
+        (self.bits >> 10) % (1 << 44) << 12
+    }
+
+    /// The level of the table that the entry points to, where it is a good pointer.
+    pub fn pointed(self, level: Level) -> Option<Level>
+        ensures { result ≡ (if is_pointer level self.bits then below level else None) }
+    {
+        if self.is_branch() { level.below() } else { None }
+    }
+
+    fn is_branch(self) -> bool
+        ensures { result ≡ is_pointer Level.Mega self.bits }
+    {
+        self.has(0)
+            && !self.has(1)
+            && !self.has(2)
+            && !self.has(3)
+            && !self.has(6)
+            && !self.has(7)
+            && !self.has(4)
+            && self.bits >> 54 == 0
+    }
+
+    /// Whether the entry is a right leaf of the level.
+    fn is_leaf(self, level: Level) -> bool
+        ensures { result ≡ is_leaf level self.bits }
+    {
+        self.has(0)
+            && (self.has(1) || self.has(3))
+            && !(self.has(2) && !self.has(1))
+            && self.bits >> 54 == 0
+            && !self.has(4)
+            && self.has(6)
+            && self.is_aligned(level)
+    }
+
+    /// Whether the page that the entry names begins where a page of the level may.
+    fn is_aligned(self, level: Level) -> bool
+        ensures { result ≡ is_aligned level self.bits }
+    {
+        self.address() % level.size() == 0
+    }
+
+    /// What the entry gives, where the walk ends at it.
+    pub fn outcome(self, va: u64, kind: Kind, level: Level, global: bool) -> Result<Leaf, Cause>
+        ensures { result ≡ outcome (Some self.bits) va kind level global }
+    {
+        if !self.is_leaf(level) {
+            return Err(kind.page_fault());
+        }
+        let leaf = self.leaf(va, level, global);
+        if leaf.allows(kind) { Ok(leaf) } else { Err(kind.page_fault()) }
+    }
+
+    fn leaf(self, va: u64, level: Level, global: bool) -> Leaf
+        ensures { result ≡ leaf_of self.bits va level global }
+    {
+        Leaf {
+            page: va - va % level.size(),
+            level,
+            global: self.is_global() || global,
+            pa: self.address(),
+            r: self.has(1),
+            w: self.has(2),
+            x: self.has(3),
+            d: self.has(7),
+        }
+    }
+}

@@ -1,0 +1,95 @@
+ghost use Rattle.std.specs.Prelude.{◌≡◌, ◌≤◌, ◌-◌, ◌/◌, IfOk, IsTrue, Some, is_some};
+ghost use Rattle.sv39.specs.Memory.{is_in_ram, pages_of, word_in, written, zero_memory};
+
+use std::alloc::{AllocError, Global};
+use std::marker::Model;
+
+/// The RAM's first address (profile).
+const START: u64 = 0x8000_0000;
+
+/// The words of a page.
+const PAGE_WORDS: usize = 512;
+
+/// The RAM: from 1 to 256 pages of 4,096 bytes from 0x80000000 on, in words of 8 bytes (profile).
+#[derive(Debug, Drop)]
+pub struct Ram {
+    words: Vec<u64>,
+}
+
+impl Model for Ram {
+    ghost use Rattle.std.specs.Prelude.{List, ℕ};
+    ghost use Rattle.sv39.specs.Memory.{IsRam};
+
+    ghost Value = { List ℕ };
+
+    ghost view = { λ ram. ram.words.items };
+
+    ghost invariant = { λ ram. IsRam ram.words.items };
+}
+
+impl Ram {
+    /// A RAM of so many pages, each word of which is 0. It fails where memory runs out.
+    pub fn new(alloc: Global, pages: u64) -> Result<Ram, AllocError>
+        requires some { 1 ≤ pages }
+        requires limit { pages ≤ 256 }
+        ensures words { IfOk result (λ ram. word_in ram ≡ zero_memory pages) }
+        ensures pages { IfOk result (λ ram. pages_of ram ≡ pages) }
+    {
+        let words = vec![in alloc; 0; PAGE_WORDS * pages as usize]?;
+        Ok(Ram { words })
+    }
+
+    /// How many pages there are.
+    pub fn pages(&self) -> u64
+        ensures pages { result ≡ pages_of self.now }
+        ensures some { 1 ≤ result }
+        ensures limit { result ≤ 256 }
+    {
+        (self.words.len() / PAGE_WORDS) as u64
+    }
+
+    /// Whether a word of the RAM stands at the address, which then is aligned to 8 and not outside the RAM.
+    #[tactic(auto, using(crate::proofs::Words::nat_tests, crate::proofs::Words::word_at), unfolding(crate::specs::Memory::is_in_ram))]
+    pub fn holds(&self, at: u64) -> bool
+        ensures word { result ≡ is_some (word_in self.now at) }
+        ensures place { result ≡ is_in_ram (pages_of self.now) at }
+    {
+        let Some(offset) = at.checked_sub(START) else {
+            return false;
+        };
+        offset % 8 == 0 && offset / 8 < self.words.len() as u64
+    }
+
+    /// The word at the address.
+    pub fn load(&self, at: u64) -> u64
+        requires { IsTrue (is_some (word_in self.now at)) }
+        ensures { word_in self.now at ≡ Some result }
+    {
+        self.words[word_place(at)]
+    }
+
+    /// Puts another word at the address. All others stay.
+    pub fn store(&mut self, at: u64, value: u64)
+        requires { IsTrue (is_some (word_in self.old at)) }
+        ensures words { word_in self.new ≡ written (word_in self.old) at value }
+        ensures pages { pages_of self.new ≡ pages_of self.old }
+    {
+        self.words[word_place(at)] = value;
+    }
+
+    /// Each word becomes 0.
+    pub fn clear(&mut self)
+        ensures words { word_in self.new ≡ zero_memory (pages_of self.old) }
+        ensures pages { pages_of self.new ≡ pages_of self.old }
+    {
+        self.words.fill(0);
+    }
+}
+
+/// The place of the word at an address among the RAM's words.
+fn word_place(at: u64) -> usize
+    requires { START ≤ at }
+    ensures { result ≡ (at - START) / 8 }
+{
+    ((at - START) / 8) as usize
+}
