@@ -1,0 +1,53 @@
+-- Lists that are filtered twice, mapped, turned round or searched.
+use Rattle.std.proofs.Common.{◌≡◌, Bool, true, false, cond, ◌&&◌, List, [], ◌∷◌, ◌++◌, refl, sym, ap, ◌∙◌, Some}
+use Rattle.std.specs.Prelude.{filter, find, map, option_map, reverse}
+use Rattle.std.specs.List.{All}
+use Rattle.std.proofs.lemmas.List.{append-nil, reverse-append}
+use Rattle.std.proofs.lemmas.List.Elements.{All-head, All-tail, filter-append}
+
+-- two tests that agree at each element of the list keep the same
+pub filter-agree_within : {A : Type 0} (p q : A → Bool) (xs : List A) → All (λ x. p x ≡ q x) xs → filter p xs ≡ filter q xs
+filter-agree_within p q [] agree = refl
+filter-agree_within p q (x ∷ xs) agree =
+    let here : p x ≡ q x = All-head (λ y. p y ≡ q y) x xs agree in
+    let rest = filter-agree_within p q xs (All-tail (λ y. p y ≡ q y) x xs agree) in
+    rw (here, rest) refl
+
+pub filter-both : {A : Type 0} (p q : A → Bool) (xs : List A) → filter (λ x. p x && q x) xs ≡ filter q (filter p xs)
+filter-both p q [] = refl
+filter-both {A} p q (x ∷ xs) = by_test (p x) (filter-both p q xs)
+  where
+    by_test : (b : Bool) → filter (λ y. p y && q y) xs ≡ filter q (filter p xs)
+        → cond (b && q x) (x ∷ filter (λ y. p y && q y) xs) (filter (λ y. p y && q y) xs) ≡ filter q (cond b (x ∷ filter p xs) (filter p xs))
+    by_test true rest = ap (λ (ys : List A). cond (q x) (x ∷ ys) ys) rest
+    by_test false rest = rest
+
+pub map-filter : {A B : Type 0} (f : A → B) (p : B → Bool) (xs : List A) → map f (filter (λ x. p (f x)) xs) ≡ filter p (map f xs)
+map-filter f p [] = refl
+map-filter {A} {B} f p (x ∷ xs) = by_test (p (f x)) (map-filter f p xs)
+  where
+    by_test : (b : Bool) → map f (filter (λ y. p (f y)) xs) ≡ filter p (map f xs)
+        → map f (cond b (x ∷ filter (λ y. p (f y)) xs) (filter (λ y. p (f y)) xs)) ≡ cond b (f x ∷ filter p (map f xs)) (filter p (map f xs))
+    by_test true rest = ap (λ (ys : List B). f x ∷ ys) rest
+    by_test false rest = rest
+
+pub filter-reverse : {A : Type 0} (p : A → Bool) (xs : List A) → reverse (filter p xs) ≡ filter p (reverse xs)
+filter-reverse p [] = refl
+filter-reverse {A} p (x ∷ xs) = by_test (p x) refl (filter-reverse p xs)
+  where
+    turned : filter p (reverse (x ∷ xs)) ≡ filter p (reverse xs) ++ filter p (x ∷ [])
+    turned = ap (filter p) (reverse-append (x ∷ []) xs) ∙ filter-append p (reverse xs) (x ∷ [])
+
+    by_test : (b : Bool) → p x ≡ b → reverse (filter p xs) ≡ filter p (reverse xs) → reverse (cond b (x ∷ filter p xs) (filter p xs)) ≡ filter p (reverse (x ∷ xs))
+    by_test true is rest = reverse-append (x ∷ []) (filter p xs) ∙ sym (turned ∙ (rw (is, rest) refl))
+    by_test false is rest = rest ∙ sym (turned ∙ (rw is (append-nil (filter p (reverse xs)))))
+
+pub find-map : {A B C : Type 0} (f : A → B) (g : B → C) (h : A → C) (same : (x : A) → g (f x) ≡ h x) (p : B → Bool) (xs : List A)
+    → option_map g (find p (map f xs)) ≡ option_map h (find (λ x. p (f x)) xs)
+find-map f g h same p [] = refl
+find-map f g h same p (x ∷ xs) = by_test (p (f x)) (find-map f g h same p xs)
+  where
+    by_test : (b : Bool) → option_map g (find p (map f xs)) ≡ option_map h (find (λ y. p (f y)) xs)
+        → option_map g (cond b (Some (f x)) (find p (map f xs))) ≡ option_map h (cond b (Some x) (find (λ y. p (f y)) xs))
+    by_test true rest = ap Some (same x)
+    by_test false rest = rest

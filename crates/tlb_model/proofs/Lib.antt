@@ -1,0 +1,4 @@
+pub mod Filters
+pub mod Recent
+pub mod Living
+pub mod Meeting

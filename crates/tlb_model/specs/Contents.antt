@@ -1,0 +1,39 @@
+-- What a cache is, for its contracts: its next number, and its live fills.
+use Rattle.std.specs.Prelude.{ℕ, ◌+◌, ◌<◌, ◌≤◌, nat_lt, List, [], ◌∷◌, Bool, not, filter, find, Option, option_map}
+use Rattle.tlb_model.specs.declared.cache.Numbered.{Numbered}
+
+-- the number of the next fill, and the live fills, newest first
+pub record Contents (E : Type 0) : Type 0 where
+  pub next : ℕ
+  pub live : List (Numbered E)
+
+module _ {E : Type 0} where
+  -- Nothing was filled.
+  abbrev pub empty : Contents E
+  empty = record { next = 0; live = [] }
+
+  -- Whether a fill outlives the one of this number, which replaces the one sixteen before it (profile).
+  abbrev pub is_young : ℕ → Numbered E → Bool
+  is_young number fill = nat_lt number (fill.number + 16)
+
+  -- A fill takes the next number, and replaces the fill sixteen before it (profile).
+  abbrev pub filled : Contents E → E → Contents E
+  filled cache item =
+      record { next = cache.next + 1; live = record { number = cache.next; item = item } ∷ filter (is_young cache.next) cache.live }
+
+  -- A fence drops what it covers, and nothing else (Privileged 4.2.1; Zifencei).
+  abbrev pub fenced : {F : Type 0} → (covers : F → E → Bool) → Contents E → F → Contents E
+  fenced covers cache flush = record cache { live = filter (λ fill. not (covers flush fill.item)) cache.live }
+
+  -- Nothing is live any more, and the numbers go on (profile).
+  abbrev pub cleared : Contents E → Contents E
+  cleared cache = record cache { live = [] }
+
+  -- The hit is the item of the key's that was filled last, of those that are live (profile).
+  abbrev pub hit : {K : Type 0} → (holds : K → E → Bool) → K → Contents E → Option E
+  hit holds key cache = option_map (λ fill. fill.item) (find (λ fill. holds key fill.item) cache.live)
+
+  -- Numbers that go down, below the upper bound and from the lower one on, as those of live fills do, newest first.
+  abbrev pub IsRecent : (from below : ℕ) → List (Numbered E) → Type 0
+  IsRecent from below [] = Unit {0}
+  IsRecent from below (fill ∷ fills) = (from ≤ fill.number) × (fill.number < below) × IsRecent from fill.number fills

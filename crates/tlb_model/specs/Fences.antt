@@ -1,0 +1,37 @@
+-- Fences of translations, local and remote (Privileged 4.2.1; SBI 8).
+use Rattle.std.specs.Prelude.{ℕ, ◌+◌, ◌-◌, ◌%◌, ◌^◌, ◌<◌, ◌≤◌, nat_lt, max, min, Bool, ◌==◌, ◌&&◌, ◌||◌, if◌then◌else◌, Option, Some, None, option_map}
+use Rattle.sv39.specs.Pages.{is_valid}
+use Rattle.tlb_model.specs.declared.fence.Fence.{Fence}
+use Rattle.tlb_model.specs.declared.fence.Range.{Range}
+
+-- The addresses [start, start + size) and [page, page + bytes) have one in common, as whole numbers.
+abbrev pub meets : Range → (page bytes : ℕ) → Bool
+meets range page bytes = nat_lt (max range.start page) (min (range.start + range.size) (page + bytes))
+
+-- that address, which *meets* says that there is
+pub record HaveInCommon (range : Range) (page bytes : ℕ) : Type 0 where
+  pub address : ℕ
+  pub from_start : range.start ≤ address
+  pub before_end : address < range.start + range.size
+  pub from_page : page ≤ address
+  pub before_page_end : address < page + bytes
+
+-- The ASID of a register is its low 16 bits (Privileged 4.2.1).
+abbrev pub low_asid : Option ℕ → Option ℕ
+low_asid = option_map (λ register. register % 2 ^ 16)
+
+-- An SFENCE.VMA of an address is one of [va, va + 1), and one of x0 is of all. An address that isn't valid is of no page
+-- (Privileged 4.2.1).
+abbrev pub range_of_address : Option ℕ → Option Range
+range_of_address = option_map (λ va. record { start = va; size = if is_valid va then 1 else 0 })
+
+abbrev pub fence_of_address : (va asid : Option ℕ) → Fence
+fence_of_address va asid = record { asid = low_asid asid; range = range_of_address va }
+
+-- A remote fence is of all addresses where start and size are 0, or size is 2^64-1 (SBI 8).
+abbrev pub is_full : (start size : ℕ) → Bool
+is_full start size = ((start == 0) && (size == 0)) || (size == 2 ^ 64 - 1)
+
+abbrev pub fence_of_range : (start size : ℕ) (asid : Option ℕ) → Fence
+fence_of_range start size asid =
+    record { asid = low_asid asid; range = if is_full start size then None else Some (record { start = start; size = size }) }

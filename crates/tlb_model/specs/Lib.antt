@@ -1,0 +1,5 @@
+pub mod Fences
+pub mod Entries
+pub mod Words
+pub mod Contents
+pub mod Acts

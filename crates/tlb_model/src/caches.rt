@@ -1,0 +1,54 @@
+ghost use Rattle.std.specs.Prelude.{◌≡◌, IfOk};
+ghost use Rattle.tlb_model.specs.Contents.{cleared, empty, fenced};
+ghost use Rattle.tlb_model.specs.Entries.{covers_entry};
+ghost use Rattle.tlb_model.specs.Words.{covers_word};
+
+use crate::cache::Cache;
+use crate::entry::Entry;
+use crate::fence::Flush;
+use crate::word::FetchWord;
+use std::alloc::{AllocError, Global};
+
+/// The cache of a hart's translations (Privileged 4.2.1).
+pub type Tlb = Cache<Entry>;
+
+/// The cache of the words that a hart fetched (Zifencei).
+pub type ICache = Cache<FetchWord>;
+
+/// The caches of one hart.
+#[derive(Debug, Drop)]
+pub struct Caches {
+    /// Its translations.
+    pub tlb: Tlb,
+    /// Its fetched words.
+    pub words: ICache,
+}
+
+impl Caches {
+    /// Caches in which nothing was filled, with their whole room. It fails where memory runs out.
+    pub fn new(alloc: Global) -> Result<Caches, AllocError>
+        ensures { IfOk result (λ caches. caches ≡ record { tlb = empty; words = empty }) }
+    {
+        let tlb = Cache::new(alloc)?;
+        let words = Cache::new(alloc)?;
+        Ok(Caches { tlb, words })
+    }
+
+    /// Drops exactly what this covers, in either cache.
+    pub fn apply(&mut self, flush: Flush)
+        ensures tlb { self.new.tlb ≡ fenced covers_entry self.old.tlb flush }
+        ensures words { self.new.words ≡ fenced covers_word self.old.words flush }
+    {
+        self.tlb.apply(flush);
+        self.words.apply(flush);
+    }
+
+    /// Drops everything in both, as a stop of the hart or a reset does (profile).
+    pub fn clear(&mut self)
+        ensures tlb { self.new.tlb ≡ cleared self.old.tlb }
+        ensures words { self.new.words ≡ cleared self.old.words }
+    {
+        self.tlb.clear();
+        self.words.clear();
+    }
+}

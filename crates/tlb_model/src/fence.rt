@@ -1,0 +1,100 @@
+ghost use Rattle.std.specs.Prelude.{◌≡◌, ◌<◌, ◌+◌, None};
+ghost use Rattle.tlb_model.specs.Fences.{fence_of_address, fence_of_range, low_asid, meets};
+
+use sv39::is_valid;
+
+/// The addresses from `start` on, so many of them as whole numbers: their end may lie at 2^64 or past it.
+#[derive(Clone, Copy, Debug, PartialEq, Eq)]
+pub struct Range {
+    /// The first address.
+    pub start: u64,
+    /// How many there are, in bytes.
+    pub size: u64,
+}
+
+impl Range {
+    /// Whether the page of so many bytes from `page` on has an address of the range.
+    pub fn meets(self, page: u64, size: u64) -> bool
+        requires { 0 < size }
+        ensures { result ≡ meets self page size }
+    {
+        if self.start <= page {
+            page - self.start < self.size
+        } else {
+            self.size > 0 && self.start - page < size
+        }
+    }
+}
+
+/// A fence of translations: an SFENCE.VMA (Privileged 4.2.1), or a remote one (SBI 8).
+#[derive(Clone, Copy, Debug, PartialEq, Eq)]
+pub struct Fence {
+    /// The address space that it is of. None: all of them, and the global mappings.
+    pub asid: Option<u16>,
+    /// The addresses that it is of. None: all of them.
+    pub range: Option<Range>,
+}
+
+impl Fence {
+    /// The fence of everything.
+    pub fn full() -> Fence
+        ensures { result ≡ record { asid = None; range = None } }
+    {
+        Fence {
+            asid: None,
+            range: None,
+        }
+    }
+
+    /// The fence that an SFENCE.VMA makes of its operands, each None where it is x0: of this address alone, and of the
+    /// address space in the low 16 bits (Privileged 4.2.1). An address that isn't valid is of no page.
+    pub fn of_address(va: Option<u64>, asid: Option<u64>) -> Fence
+        ensures { result ≡ fence_of_address va asid }
+    {
+        Fence {
+            asid: low_asid(asid),
+            range: match va {
+                None => None,
+                Some(start) => Some(Range {
+                    start,
+                    size: is_valid(start) as u64,
+                }),
+            },
+        }
+    }
+
+    /// The fence that a remote SFENCE.VMA asks for, with an ASID or without: of a range, which is full where `start`
+    /// and `size` are 0 or `size` is 2^64-1 (SBI 8), and of the address space in the low 16 bits (profile).
+    pub fn of_range(start: u64, size: u64, asid: Option<u64>) -> Fence
+        ensures { result ≡ fence_of_range start size asid }
+    {
+        let is_full = start == 0 && size == 0 || size == u64::MAX;
+        Fence {
+            asid: low_asid(asid),
+            range: if is_full {
+                None
+            } else {
+                Some(Range { start, size })
+            },
+        }
+    }
+}
+
+/// The address space that the low 16 bits of a register name, which are ASIDMAX bits (Privileged 4.2.1).
+fn low_asid(asid: Option<u64>) -> Option<u16>
+    ensures { result ≡ low_asid asid }
+{
+    match asid {
+        None => None,
+        Some(register) => Some((register % (1 << 16)) as u16),
+    }
+}
+
+/// What a fence drops from a hart's caches.
+#[derive(Clone, Copy, Debug, PartialEq, Eq)]
+pub enum Flush {
+    /// The fetched words, as a FENCE.I does (Zifencei).
+    Words,
+    /// The translations that a fence covers.
+    Entries(Fence),
+}

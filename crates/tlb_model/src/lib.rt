@@ -1,0 +1,20 @@
+//! The two caches of a hart, of translations and of fetched words, and the fences that drop from them (Privileged 4.2.1;
+//! Zifencei). Each cache numbers its fills, and keeps the last sixteen but for what fences dropped (profile).
+#![tactic(auto)]
+
+mod cache;
+mod caches;
+mod entry;
+mod fence;
+mod laws;
+mod word;
+
+pub use cache::{Cache, Cached, Numbered};
+pub use caches::{Caches, ICache, Tlb};
+pub use entry::{Address, Entry};
+pub use fence::{Fence, Flush, Range};
+pub use laws::{
+    caches_keep_what_lives, cleared_is_gone, common_address, covered_is_gone, hit_is_the_last,
+    live_was_filled,
+};
+pub use word::FetchWord;

@@ -1,0 +1,32 @@
+ghost use Rattle.tlb_model.specs.Words.{covers_word, is_at};
+
+use crate::cache::Cached;
+use crate::fence::Flush;
+
+/// A word that was fetched.
+#[derive(Clone, Copy, Debug, PartialEq, Eq)]
+pub struct FetchWord {
+    /// Its physical address.
+    pub pa: u64,
+    /// The word of 8 bytes that was there when it was fetched.
+    pub word: u64,
+}
+
+impl Cached for FetchWord {
+    type Key = u64;
+
+    ghost holds = { is_at };
+
+    ghost covers = { covers_word };
+
+    fn holds(&self, pa: u64) -> bool {
+        self.pa == pa
+    }
+
+    fn is_covered_by(&self, flush: Flush) -> bool {
+        match flush {
+            Flush::Words => true,
+            Flush::Entries(_) => false,
+        }
+    }
+}
