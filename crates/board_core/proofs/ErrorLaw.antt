@@ -19,7 +19,7 @@ use Rattle.board_core.specs.declared.event.Actor.{Actor}
 use Rattle.board_core.specs.declared.event.Actor.TheVariants.{Hart, Clock}
 use Rattle.board_core.specs.declared.event.Event.{Event}
 use Rattle.board_core.specs.declared.event.Op.{Op}
-use Rattle.board_core.specs.declared.event.Op.TheVariants.{Ecall, WriteSie, WriteSstatusSie, ReadSip, ClearSsip, Wfi, Advance, Tick}
+use Rattle.board_core.specs.declared.event.Op.TheVariants.{Ecall, WriteSatp, WriteSie, WriteSstatusSie, ReadSip, ClearSsip, Wfi, Advance, Tick}
 use Rattle.board_core.specs.declared.event.Refusal.{Refusal}
 use Rattle.board_core.specs.declared.event.Reply.{Reply}
 use Rattle.board_core.specs.declared.event.Reply.TheVariants.{Ret, Gone, Done}
@@ -103,6 +103,7 @@ module _ (c : Config) (past : List Event) where
   failed : (actor : Actor) (op : Op) (r : Reply) → answer c past actor op ≡ Ok r → is_error r ≡ true
       → deed c past (record { actor = actor; op = op; reply = r }) ≡ still
   failed Clock (Ecall regs) r e error = cc
+  failed Clock (WriteSatp value) r e error = cc
   failed Clock (WriteSie value) r e error = cc
   failed Clock (WriteSstatusSie value) r e error = cc
   failed Clock ReadSip r e error = cc
@@ -114,6 +115,7 @@ module _ (c : Config) (past : List Event) where
     where
       by_op : (op : Op) → reply c past x op ≡ r → deed c past (record { actor = Hart x; op = op; reply = r }) ≡ still
       by_op (Ecall regs) is = failed_call x (call_of regs) r is error
+      by_op (WriteSatp value) is = absurd (let e = rw (← is) at error in cc)
       by_op (WriteSie value) is = absurd (let e = rw (← is) at error in cc)
       by_op (WriteSstatusSie value) is = absurd (let e = rw (← is) at error in cc)
       by_op ReadSip is = absurd (let e = rw (← is) at error in cc)
@@ -132,6 +134,7 @@ module _ (c : Config) (past : List Event) where
       let sie = ap (λ (d : Deed). d.interrupts.sie) none in
       let ssip = ap (λ (d : Deed). d.interrupts.ssip) none in
       let deadline = ap (λ (d : Deed). d.interrupts.deadline) none in
+      let satp = ap (λ (d : Deed). d.memory.satp) none in
       let ticks = ap (λ (d : Deed). d.interrupts.ticks) none in
       let entry = ap (λ (d : Deed). d.counts.entry) none in
       let reach : (h : ℕ) → reaches_by c past event.op event.reply h ≡ false = λ h. ap (λ (d : Deed). d.interrupts.reach h) none in
@@ -148,6 +151,7 @@ module _ (c : Config) (past : List Event) where
         stip = λ h. rw (deadline, later) refl;
         wake = λ h. rw (sie, reach h, ssip, deadline, later) refl;
         deadline = λ h. rw deadline refl;
+        satp = λ h. rw satp refl;
         time = later;
         totals = λ i. record {
           starts = started i;

@@ -17,6 +17,7 @@ use Rattle.board_core.specs.declared.event.Reply.{Reply}
 use Rattle.board_core.specs.declared.event.Reply.TheVariants.{Entry}
 use Rattle.board_core.specs.Csrs.{none_enabled, sie_by, sstatus_sie_by}
 use Rattle.board_core.specs.Interrupts.{deadline_by, deadline_by_call, reaches_by, reaches_by_call, ssip_by, ticks_by}
+use Rattle.board_core.specs.Memory.{satp_by}
 use Rattle.board_core.specs.Starts.{Start, entry_by, start_by, start_by_call}
 use Rattle.board_core.specs.States.{Move, is_starting, move_by_call, move_of, state}
 use Rattle.board_core.specs.Suspends.{resume_by, resume_by_call}
@@ -36,6 +37,10 @@ pub record InterruptsDeed : Type 0 where
   pub ticks : ℕ
   pub reach : ℕ → Bool
 
+-- of memory: a value for satp of the actor
+pub record MemoryDeed : Type 0 where
+  pub satp : Option ℕ
+
 -- of the counts: a start, and an entry of a start
 pub record CountsDeed : Type 0 where
   pub start : Option Start
@@ -44,6 +49,7 @@ pub record CountsDeed : Type 0 where
 pub record Deed : Type 0 where
   pub harts : HartsDeed
   pub interrupts : InterruptsDeed
+  pub memory : MemoryDeed
   pub counts : CountsDeed
 
 -- nothing
@@ -51,6 +57,7 @@ abbrev pub still : Deed
 still = record {
   harts = record { move = None; start = None; resume = None };
   interrupts = record { sstatus = None; sie = None; ssip = None; deadline = None; ticks = 0; reach = λ h. false };
+  memory = record { satp = None };
   counts = record { start = None; entry = None };
 }
 
@@ -75,6 +82,7 @@ module _ (c : Config) (past : List Event) where
       ticks = ticks_by event.op;
       reach = reaches_by c past event.op event.reply;
     };
+    memory = record { satp = satp_by event.op event.reply };
     counts = record {
       start = start_by event.op event.reply;
       entry = entry_by event.op event.reply (is_starting c past event.actor);
@@ -95,6 +103,7 @@ module _ (c : Config) (past : List Event) where
         deadline = deadline_by_call call reply;
         reach = reaches_by_call c past call reply;
       };
+      memory = still.memory;
       counts = record { start = start_by_call call reply; entry = None };
     }
 
@@ -108,6 +117,7 @@ module _ (c : Config) (past : List Event) where
     deed_of_entry addr opaque = record {
       harts = record still.harts { move = Some (record { hart = x; state = states.Started }) };
       interrupts = record still.interrupts { sstatus = Some false; sie = Some none_enabled; ssip = Some false; deadline = Some None };
+      memory = record { satp = Some 0 };
       counts = record still.counts { entry = Some (record { hart = x; addr = addr; opaque = opaque }) };
     }
 
@@ -115,6 +125,7 @@ module _ (c : Config) (past : List Event) where
     deed_of_resume = record still {
       harts = record still.harts { move = Some (record { hart = x; state = states.Started }) };
       interrupts = record still.interrupts { sstatus = Some false };
+      memory = record { satp = Some 0 };
     }
 
     pub does_entry : (addr opaque : ℕ) → is_start_pending (state c past x) ≡ true → deed (by_hart x Advance (Entry addr x opaque)) ≡ deed_of_entry addr opaque

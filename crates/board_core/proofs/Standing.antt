@@ -20,14 +20,17 @@ use Rattle.board_core.specs.declared.event.Event.{Event}
 use Rattle.board_core.specs.declared.counts.Counts.{Counts}
 use Rattle.board_core.specs.declared.interrupt_state.Interrupts.{Interrupts}
 use Rattle.board_core.specs.declared.machine.Machine.{Machine}
+use Rattle.board_core.specs.declared.memory.Memory.{Memory}
 use Rattle.board_core.specs.Course.{harts_of}
 use Rattle.board_core.specs.Csrs.{enables, interrupt_bits, latest, sie, sie_by, sstatus_sie, sstatus_sie_by}
 use Rattle.board_core.specs.Interrupts.{deadline, deadline_by, reaches_by, ssip, ssip_by, stip, ticks_by, wake}
+use Rattle.board_core.specs.Memory.{satp, satp_by, satp_of_write}
+use Rattle.sv39.specs.Satp.{is_sv39, mode_of, satp_written}
 use Rattle.board_core.specs.Starts.{Start, all_pending, entries, entry_by, hart_of, kept_in, last_start, start_by, starts}
-use Rattle.board_core.specs.Stands.{CountsStand, CsrsStand, HartsStand, InterruptsStand, IpisStand, StandsFor, TimersStand}
+use Rattle.board_core.specs.Stands.{CountsStand, CsrsStand, HartsStand, InterruptsStand, IpisStand, MemoryStand, StandsFor, TimersStand}
 use Rattle.board_core.specs.States.{is_starting, move_of, state}
 use Rattle.board_core.specs.Suspends.{resume_by, resume_point}
-use Rattle.board_core.proofs.Events.{CountsDeed, Deed, HartsDeed, InterruptsDeed, deed, still}
+use Rattle.board_core.proofs.Events.{CountsDeed, Deed, HartsDeed, InterruptsDeed, MemoryDeed, deed, still}
 use Rattle.board_core.proofs.Tables.{count_by-map, eqb-other, eqb-same, length-filter_map, tabulate-same, tabulate-set}
 
 -- what was written last, at the hart that wrote and at another
@@ -101,6 +104,9 @@ module _ (c : Config) (past : List Event) (event : Event) (d : Deed) (does : dee
 
   reaches : (h : ℕ) → reaches_by c past event.op event.reply h ≡ d.interrupts.reach h
   reaches h = ap (λ (e : Deed). e.interrupts.reach h) does
+
+  writes_satp : satp_by event.op event.reply ≡ d.memory.satp
+  writes_satp = ap (λ (e : Deed). e.memory.satp) does
 
   counted_start : start_by event.op event.reply ≡ d.counts.start
   counted_start = ap (λ (e : Deed). e.counts.start) does
@@ -269,7 +275,39 @@ module _ (c : Config) (past : List Event) (event : Event) (d : Deed) (does : dee
     timers = changed;
   }
 
+  -- ---- memory
+
+  -- satp is written by its hart
+  pub satps-written : (satps : List ℕ) (h value : ℕ) → event.actor ≡ actors.Hart h → d.memory.satp ≡ Some value → satps ≡ map (satp past) (harts_of c)
+      → slice_set satps h value ≡ map (satp (event ∷ past)) (harts_of c)
+  satps-written satps h value own written stand =
+      ap (λ (xs : List ℕ). slice_set xs h value) stand
+      ∙ ap (slice_set (map (satp past) (harts_of c)) h) (sym (rw (writes_satp, written, own, eqb-same h) refl))
+      ∙ tabulate-set (satp past) (satp (event ∷ past)) c.harts h
+      (λ j other. rw (writes_satp, written, own, eqb-other j h (λ e. other (sym e))) refl)
+
+  -- by a write, which may have no effect
+  pub satps-put : (satps : List ℕ) (h value : ℕ) → event.actor ≡ actors.Hart h → d.memory.satp ≡ satp_of_write value → satps ≡ map (satp past) (harts_of c)
+      → slice_set satps h (satp_written (satp past h) value) ≡ map (satp (event ∷ past)) (harts_of c)
+  satps-put satps h value own written stand =
+      ap (λ (xs : List ℕ). slice_set xs h (satp_written (satp past h) value)) stand
+      ∙ ap (slice_set (map (satp past) (harts_of c)) h) (sym (rw (writes_satp, written, own, eqb-same h) (put (mode_of value == 0) (is_sv39 value) value (satp past h))))
+      ∙ tabulate-set (satp past) (satp (event ∷ past)) c.harts h
+      (λ j other. rw (writes_satp, written, own, eqb-other j h (λ e. other (sym e))) (latest-other (satp_of_write value) (satp past j)))
+    where
+      put : (bare sv39 : Bool) (value before : ℕ)
+          → latest (if bare then Some 0 else if sv39 then Some value else None) true before ≡ (if bare then 0 else if sv39 then value else before)
+      put true sv39 value before = refl
+      put false true value before = refl
+      put false false value before = refl
+
+  pub satps-quiet : (satps : List ℕ) → d.memory.satp ≡ None → satps ≡ map (satp past) (harts_of c) → satps ≡ map (satp (event ∷ past)) (harts_of c)
+  satps-quiet satps none stand = stand ∙ tabulate-same (satp past) (satp (event ∷ past)) (λ j. rw (writes_satp, none) refl) (harts_of c)
+
   -- ---- components without a deed
+
+  pub memory-still : (m : Memory) → d.memory ≡ still.memory → MemoryStand c past m → MemoryStand c (event ∷ past) m
+  memory-still m none stand = record { satps = satps-quiet m.satps.items (ap (λ (e : MemoryDeed). e.satp) none) stand.satps }
 
   pub harts-still : (harts : List Hart) → d.harts ≡ still.harts → HartsStand c past harts → HartsStand c (event ∷ past) harts
   harts-still harts none stand =
@@ -311,6 +349,7 @@ module _ (c : Config) (past : List Event) (event : Event) (d : Deed) (does : dee
   stands-quiet m none stands = record {
     harts = harts-still m.hsm (ap (λ (e : Deed). e.harts) none) stands.harts;
     interrupts = interrupts-still m.interrupts (ap (λ (e : Deed). e.interrupts) none) stands.interrupts;
+    memory = memory-still m.memory (ap (λ (e : Deed). e.memory) none) stands.memory;
     counts = counts-still m.counts (ap (λ (e : Deed). e.counts) none) stands.counts;
   }
 
@@ -319,6 +358,7 @@ module _ (c : Config) (past : List Event) (event : Event) (d : Deed) (does : dee
   stands-interrupts m i alone stands changed = record {
     harts = harts-still m.hsm (ap (λ (e : Deed). e.harts) alone) stands.harts;
     interrupts = changed;
+    memory = memory-still m.memory (ap (λ (e : Deed). e.memory) alone) stands.memory;
     counts = counts-still m.counts (ap (λ (e : Deed). e.counts) alone) stands.counts;
   }
 
@@ -327,6 +367,16 @@ module _ (c : Config) (past : List Event) (event : Event) (d : Deed) (does : dee
   stands-harts m hsm alone stands changed = record {
     harts = changed;
     interrupts = interrupts-still m.interrupts (ap (λ (e : Deed). e.interrupts) alone) stands.interrupts;
+    memory = memory-still m.memory (ap (λ (e : Deed). e.memory) alone) stands.memory;
+    counts = counts-still m.counts (ap (λ (e : Deed). e.counts) alone) stands.counts;
+  }
+
+  pub stands-memory : (m : Machine) (memory : Memory) → d ≡ record still { memory = d.memory } → StandsFor c past m
+      → MemoryStand c (event ∷ past) memory → StandsFor c (event ∷ past) (record m { memory = memory })
+  stands-memory m memory alone stands changed = record {
+    harts = harts-still m.hsm (ap (λ (e : Deed). e.harts) alone) stands.harts;
+    interrupts = interrupts-still m.interrupts (ap (λ (e : Deed). e.interrupts) alone) stands.interrupts;
+    memory = changed;
     counts = counts-still m.counts (ap (λ (e : Deed). e.counts) alone) stands.counts;
   }
 
@@ -336,6 +386,7 @@ module _ (c : Config) (past : List Event) (event : Event) (d : Deed) (does : dee
   stands-harts-interrupts m hsm i alone stands harts interrupts = record {
     harts = harts;
     interrupts = interrupts;
+    memory = memory-still m.memory (ap (λ (e : Deed). e.memory) alone) stands.memory;
     counts = counts-still m.counts (ap (λ (e : Deed). e.counts) alone) stands.counts;
   }
 
@@ -345,6 +396,7 @@ module _ (c : Config) (past : List Event) (event : Event) (d : Deed) (does : dee
   stands-harts-counts m hsm counts alone stands harts counted = record {
     harts = harts;
     interrupts = interrupts-still m.interrupts (ap (λ (e : Deed). e.interrupts) alone) stands.interrupts;
+    memory = memory-still m.memory (ap (λ (e : Deed). e.memory) alone) stands.memory;
     counts = counted;
   }
 
@@ -356,6 +408,14 @@ module _ (c : Config) (past : List Event) where
 
   pub length-deadlines : (timers : Timing) → TimersStand c past timers → length timers.deadlines ≡ c.harts
   length-deadlines timers stand = ap length stand.deadlines ∙ length-map-range_with_len (deadline c past) 0 c.harts
+
+  pub length-satps : (m : Memory) → MemoryStand c past m → length m.satps.items ≡ c.harts
+  length-satps m stand = ap length stand.satps ∙ length-map-range_with_len (satp past) 0 c.harts
+
+  pub satp-read : (m : Memory) (h d : ℕ) → h < c.harts → MemoryStand c past m → slice_index_or m.satps.items h d ≡ satp past h
+  satp-read m h d inside stand =
+      ap (λ (xs : List ℕ). slice_index_or xs h d) stand.satps
+      ∙ get_or-map-range_with_len (satp past) 0 c.harts h h d inside (omega arith)
 
   pub deadline-read : (timers : Timing) (h : ℕ) → h < c.harts → TimersStand c past timers → deadline_of timers h ≡ deadline c past h
   deadline-read timers h inside stand =

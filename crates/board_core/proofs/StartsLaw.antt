@@ -19,7 +19,7 @@ use Rattle.board_core.specs.declared.event.Actor.{Actor}
 use Rattle.board_core.specs.declared.event.Actor.TheVariants.{Hart, Clock}
 use Rattle.board_core.specs.declared.event.Event.{Event}
 use Rattle.board_core.specs.declared.event.Op.{Op}
-use Rattle.board_core.specs.declared.event.Op.TheVariants.{Ecall, WriteSie, WriteSstatusSie, ReadSip, ClearSsip, Wfi, Advance, Tick}
+use Rattle.board_core.specs.declared.event.Op.TheVariants.{Ecall, WriteSatp, WriteSie, WriteSstatusSie, ReadSip, ClearSsip, Wfi, Advance, Tick}
 use Rattle.board_core.specs.declared.event.Refusal.{Refusal}
 use Rattle.board_core.specs.declared.event.Refusal.TheVariants.{WrongPhase}
 use Rattle.board_core.specs.declared.event.Reply.{Reply}
@@ -202,6 +202,7 @@ module _ (c : Config) where
       → ((h : ℕ) → IsEntered past h) → (h : ℕ) → IsEntered (record { actor = actor; op = op; reply = r } ∷ past) h
   unfolding IsEntered IsEnteredBy
   after_event past Clock (Ecall regs) r e before h = cc
+  after_event past Clock (WriteSatp value) r e before h = cc
   after_event past Clock (WriteSie value) r e before h = cc
   after_event past Clock (WriteSstatusSie value) r e before h = cc
   after_event past Clock ReadSip r e before h = cc
@@ -212,6 +213,7 @@ module _ (c : Config) where
   after_event past (Hart x) (Ecall regs) r e before h =
       let facts = accepted (nat_le c.harts x) (state c past x) (wake c past x) (Ecall regs) (is_full c past) (reply c past x (Ecall regs)) r e in
       after_call past before h x (call_of regs) r (calling (state c past x) facts.0.in_phase) facts.1
+  after_event past (Hart x) (WriteSatp value) r e before h = before h
   after_event past (Hart x) (WriteSie value) r e before h = before h
   after_event past (Hart x) (WriteSstatusSie value) r e before h = before h
   after_event past (Hart x) ReadSip r e before h = before h

@@ -7,6 +7,7 @@ use Rattle.board_core.specs.declared.event.Reply.{Reply}
 use Rattle.board_core.specs.declared.event.Reply.TheVariants.{Ret}
 use Rattle.board_core.specs.Csrs as csrs
 use Rattle.board_core.specs.Interrupts as interrupts
+use Rattle.board_core.specs.Memory as memory
 use Rattle.board_core.specs.Starts as starts
 use Rattle.board_core.specs.States as states
 use Rattle.board_core.specs.Totals as counts
@@ -26,5 +27,6 @@ pub record LooksSame (c : Config) (past later : List Event) : Type 0 where
   pub stip : (h : ℕ) → interrupts.stip c later h ≡ interrupts.stip c past h
   pub wake : (h : ℕ) → interrupts.wake c later h ≡ interrupts.wake c past h
   pub deadline : (h : ℕ) → interrupts.deadline c later h ≡ interrupts.deadline c past h
+  pub satp : (h : ℕ) → memory.satp later h ≡ memory.satp past h
   pub time : interrupts.time later ≡ interrupts.time past
   pub totals : counts.totals c later ≡ counts.totals c past

@@ -2,6 +2,7 @@ pub mod Limits
 pub mod Course
 pub mod States
 pub mod Csrs
+pub mod Memory
 pub mod Suspends
 pub mod Interrupts
 pub mod Starts

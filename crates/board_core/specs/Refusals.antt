@@ -6,7 +6,7 @@ use Rattle.interrupts.specs.Timing.{last_time}
 use Rattle.board_core.specs.declared.config.Config.{Config}
 use Rattle.board_core.specs.declared.event.Event.{Event}
 use Rattle.board_core.specs.declared.event.Op.{Op}
-use Rattle.board_core.specs.declared.event.Op.TheVariants.{Ecall, WriteSie, WriteSstatusSie, ReadSip, ClearSsip, Wfi, Advance, Tick}
+use Rattle.board_core.specs.declared.event.Op.TheVariants.{Ecall, WriteSatp, WriteSie, WriteSstatusSie, ReadSip, ClearSsip, Wfi, Advance, Tick}
 use Rattle.board_core.specs.declared.event.Refusal.{Refusal}
 use Rattle.board_core.specs.declared.event.Refusal.TheVariants.{WrongPhase, Nothing, HistoryFull, TimeFull}
 use Rattle.board_core.specs.Interrupts.{ticks_by, time, wake}
@@ -21,6 +21,7 @@ refusal_number TimeFull = 5
 -- a guest's operation wants a STARTED hart, the firmware's Advance one that isn't, and a tick is no hart's
 abbrev pub is_out_of_phase : Op → HartState → Bool
 is_out_of_phase (Ecall regs) s = not (is_started s)
+is_out_of_phase (WriteSatp value) s = not (is_started s)
 is_out_of_phase (WriteSie value) s = not (is_started s)
 is_out_of_phase (WriteSstatusSie value) s = not (is_started s)
 is_out_of_phase ReadSip s = not (is_started s)

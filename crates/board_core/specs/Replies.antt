@@ -19,7 +19,7 @@ use Rattle.board_core.specs.declared.event.Actor.{Actor}
 use Rattle.board_core.specs.declared.event.Actor.TheVariants.{Hart, Clock}
 use Rattle.board_core.specs.declared.event.Event.{Event}
 use Rattle.board_core.specs.declared.event.Op.{Op}
-use Rattle.board_core.specs.declared.event.Op.TheVariants.{Ecall, WriteSie, WriteSstatusSie, ReadSip, ClearSsip, Wfi, Advance, Tick}
+use Rattle.board_core.specs.declared.event.Op.TheVariants.{Ecall, WriteSatp, WriteSie, WriteSstatusSie, ReadSip, ClearSsip, Wfi, Advance, Tick}
 use Rattle.board_core.specs.declared.event.Refusal.{Refusal}
 use Rattle.board_core.specs.declared.event.Reply.{Reply}
 use Rattle.board_core.specs.declared.event.Reply.TheVariants.{Ret, Waiting, Gone, Entry, Value, Moved, Done}
@@ -104,6 +104,7 @@ advance_reply x s start resume = Moved s
 -- The reply to an operation of hart x that isn't refused.
 abbrev pub reply : Config → List Event → (x : ℕ) → Op → Reply
 reply c past x (Ecall regs) = call_reply c past x (call_of regs)
+reply c past x (WriteSatp value) = Done
 reply c past x (WriteSie value) = Done
 reply c past x (WriteSstatusSie value) = Done
 reply c past x ReadSip = Value (interrupt_bits (ssip c past x) (stip c past x))

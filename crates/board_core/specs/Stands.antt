@@ -9,10 +9,12 @@ use Rattle.board_core.specs.declared.counts.Counts.{Counts}
 use Rattle.board_core.specs.declared.csrs.Csrs.{Csrs}
 use Rattle.board_core.specs.declared.interrupt_state.Interrupts.{Interrupts}
 use Rattle.board_core.specs.declared.machine.Machine.{Machine}
+use Rattle.board_core.specs.declared.memory.Memory.{Memory}
 use Rattle.board_core.specs.Course.{harts_of}
 use Rattle.board_core.specs.Csrs.{sie, sstatus_sie}
 use Rattle.board_core.specs.Interrupts.{deadline, ssip, time}
 use Rattle.board_core.specs.Limits.{IsGood}
+use Rattle.board_core.specs.Memory.{satp}
 use Rattle.board_core.specs.Replies.{IsLegal}
 use Rattle.board_core.specs.Starts.{entries, hart_of, starts}
 
@@ -41,6 +43,10 @@ pub record InterruptsStand (c : Config) (past : List Event) (i : Interrupts) : T
   pub ipis : IpisStand c past i.ipis
   pub timers : TimersStand c past i.timers
 
+-- satp of each hart is what was last written
+pub record MemoryStand (c : Config) (past : List Event) (m : Memory) : Type 0 where
+  pub satps : m.satps.items ≡ map (satp past) (harts_of c)
+
 -- the counts are those of the past
 pub record CountsStand (c : Config) (past : List Event) (counts : Counts) : Type 0 where
   pub starts : counts.starts ≡ length (starts c past)
@@ -50,12 +56,14 @@ pub record CountsStand (c : Config) (past : List Event) (counts : Counts) : Type
 pub record StandsFor (c : Config) (past : List Event) (m : Machine) : Type 0 where
   pub harts : HartsStand c past m.hsm
   pub interrupts : InterruptsStand c past m.interrupts
+  pub memory : MemoryStand c past m.memory
   pub counts : CountsStand c past m.counts
 
--- there is a hart and a deadline for each id
+-- there is a hart, a deadline and a satp for each id
 pub record IsSized (c : Config) (m : Machine) : Type 0 where
   pub harts : length m.hsm ≡ c.harts
   pub deadlines : length m.interrupts.timers.deadlines ≡ c.harts
+  pub satps : length m.memory.satps.items ≡ c.harts
 
 -- the counts can grow
 pub record HasRoom (counts : Counts) : Type 0 where

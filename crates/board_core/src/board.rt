@@ -9,6 +9,7 @@ ghost use Rattle.board_core.specs.Csrs.{sie, sstatus_sie};
 ghost use Rattle.board_core.specs.ErrorLaw.{LooksSame, is_error};
 ghost use Rattle.board_core.specs.Interrupts.{deadline, ssip, stip, time, wake};
 ghost use Rattle.board_core.specs.Limits.{IsGood};
+ghost use Rattle.board_core.specs.Memory.{satp};
 ghost use Rattle.board_core.specs.Refusals.{first_that_holds, has_nothing_to_do, is_full, refusals_in};
 ghost use Rattle.board_core.specs.States.{state};
 ghost use Rattle.board_core.specs.Starts.{kept, StartsAreEntered};
@@ -22,11 +23,13 @@ use crate::csrs::{Csrs, Sie};
 use crate::event::{Actor, Event, Op, Refusal, Reply};
 use crate::interrupt_state::Interrupts;
 use crate::machine::Machine;
+use crate::memory::Memory;
 use hart_mask::HartSet;
 use hsm::{HartState, Hsm, Kept};
 use interrupts::{Ipis, Timers};
 use std::alloc::{AllocError, Global};
 use std::marker::Model;
+use sv39::Satp;
 
 /// The counts of the board's table, since the opening.
 #[derive(Clone, Copy, Debug, PartialEq, Eq)]
@@ -233,6 +236,14 @@ impl Board {
         self.machine.interrupts.wake(h)
     }
 
+    /// satp of hart `h` (Privileged 4.1.11).
+    pub fn satp(&self, h: u64) -> u64
+        requires { h < self.now.config.harts }
+        ensures { result ≡ satp self.now.past h }
+    {
+        self.machine.memory.satps[h as usize].bits()
+    }
+
     /// The deadline of hart `h`, in ticks, if it has one (SBI 6.1).
     pub fn deadline(&self, h: u64) -> Option<u64>
         requires { h < self.now.config.harts }
@@ -303,9 +314,13 @@ fn opening(alloc: Global, config: &Config) -> Result<Machine, AllocError>
         ipis: Ipis::new(),
         timers,
     };
+    let memory = Memory {
+        satps: vec![in alloc; Satp::bare(); config.harts as usize]?,
+    };
     Ok(Machine {
         hsm,
         interrupts,
+        memory,
         counts,
     })
 }
@@ -315,7 +330,10 @@ fn refusal(state: HartState, wake: bool, op: Op, is_full: bool) -> Option<Refusa
     ensures { result ≡ first_that_holds (refusals_in state wake op is_full) }
 {
     let (in_phase, has_work) = match op {
-        Op::Ecall(_) | Op::WriteSie(_) | Op::WriteSstatusSie(_) => (state.is_started(), true),
+        Op::Ecall(_) | Op::WriteSatp(_) | Op::WriteSie(_) | Op::WriteSstatusSie(_) => (
+            state.is_started(),
+            true,
+        ),
         Op::ReadSip | Op::ClearSsip => (state.is_started(), true),
         Op::Wfi => (state.is_started(), wake),
         Op::Advance => (!state.is_started(), state.goes_on(wake)),

@@ -19,6 +19,8 @@ pub enum Actor {
 pub enum Op {
     /// A guest's call of the firmware (SBI 3).
     Ecall(Regs),
+    /// A guest writes satp (Privileged 4.1.11). No fence happens.
+    WriteSatp(u64),
     /// A guest writes sie (Privileged 4.1.3).
     WriteSie(u64),
     /// A guest enables its hart's interrupts, or disables them (Privileged 4.1.1, sstatus.SIE).

@@ -11,6 +11,7 @@ mod csrs;
 mod event;
 mod interrupt_state;
 mod machine;
+mod memory;
 
 pub use board::{Board, Totals, errors_change_nothing, starts_are_entered};
 pub use config::{BuildFault, Config};

@@ -7,7 +7,7 @@ use Rattle.board_core.specs.Interrupts.{wake}
 use Rattle.board_core.specs.Refusals.{is_full}
 use Rattle.board_core.specs.Replies.{answer, stepped}
 use Rattle.board_core.specs.States.{state}
-use Rattle.board_core.proofs.Standing.{hart_at-stand, length-deadlines, length-entries-le, length-harts, length-starts-le}
+use Rattle.board_core.proofs.Standing.{hart_at-stand, length-deadlines, length-entries-le, length-harts, length-satps, length-starts-le}
 use Rattle.board_core.proofs.Rows.{unrefused}
 use Rattle.board_core.proofs.Steps.{hart_answered, kept-more, past-more, stepped-more, unrefused-by, unrefused_room}
 use Rattle.board_core.proofs.board.Board.hart_step.Goals as goal
@@ -16,6 +16,7 @@ pub perform-reply-requires-clause-sized : goal.perform-reply-requires-clause-siz
 perform-reply-requires-clause-sized c = record {
   harts = length-harts _ _ _ c.self.invariant.1.harts;
   deadlines = length-deadlines _ _ _ c.self.invariant.1.interrupts.timers;
+  satps = length-satps _ _ _ c.self.invariant.1.memory;
 }
 
 pub perform-reply-requires-clause-room : goal.perform-reply-requires-clause-room

@@ -1,13 +1,28 @@
 use Rattle.std.proofs.Common.{ap, refl, ◌∙◌, arith}
-use Rattle.board_core.specs.declared.event.Op.TheVariants.{ClearSsip, ReadSip, Wfi, WriteSie, WriteSstatusSie}
+use Rattle.std.specs.Prelude.{slice_set}
+use Rattle.sv39.specs.Satp.{satp_written}
+use Rattle.board_core.specs.declared.event.Op.TheVariants.{ClearSsip, ReadSip, Wfi, WriteSatp, WriteSie, WriteSstatusSie}
 use Rattle.board_core.specs.declared.event.Reply.TheVariants.{Done, Value}
 use Rattle.board_core.specs.Csrs.{sie_of}
 use Rattle.board_core.proofs.Events.{by_hart, deed}
-use Rattle.board_core.proofs.Standing.{interrupts-csrs, interrupts-ipis, ipis-cleared, sip-read, ssie-quiet, ssie-written, sstatus_sie-quiet, sstatus_sie-written, stands-interrupts, stands-quiet, stie-quiet, stie-written}
+use Rattle.board_core.proofs.Standing.{interrupts-csrs, interrupts-ipis, ipis-cleared, satp-read, satps-put, sip-read, ssie-quiet, ssie-written, sstatus_sie-quiet, sstatus_sie-written, stands-interrupts, stands-memory, stands-quiet, stie-quiet, stie-written}
 use Rattle.board_core.proofs.machine.Machine.perform.Goals as goal
 
 pub returns-in-Ecall-clause-after : goal.returns-in-Ecall-clause-after
 returns-in-Ecall-clause-after c = λ past stands. rw c.in-Ecall.is (c.call.ensures.after past c.in-Ecall.regs c.decode.ensures stands)
+
+pub returns-in-WriteSatp-clause-after : goal.returns-in-WriteSatp-clause-after
+returns-in-WriteSatp-clause-after c = λ past stands.
+    let config = c.args.config.now in
+    let m = c.args.self.now in
+    let event = by_hart c.args.h (WriteSatp c.in-WriteSatp.value) Done in
+    rw c.in-WriteSatp.is
+    (stands-memory config past event (deed config past event) refl m _ refl stands (record {
+      satps =
+          c.write_satp.ensures
+          ∙ ap (λ satp. slice_set m.memory.satps.items c.args.h (satp_written satp c.in-WriteSatp.value)) (satp-read config past m.memory c.args.h 0 c.requires.in_range stands.memory)
+          ∙ satps-put config past event (deed config past event) refl m.memory.satps.items c.args.h c.in-WriteSatp.value refl refl stands.memory.satps;
+    }))
 
 pub returns-in-WriteSie-clause-after : goal.returns-in-WriteSie-clause-after
 returns-in-WriteSie-clause-after c = λ past stands.

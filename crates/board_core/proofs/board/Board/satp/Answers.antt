@@ -1,0 +1,9 @@
+use Rattle.std.proofs.Common.{ap, ◌∙◌, arith}
+use Rattle.board_core.specs.Course.{Course}
+use Rattle.board_core.proofs.Standing.{length-satps, satp-read}
+use Rattle.board_core.proofs.board.Board.satp.Goals as goal
+
+pub returns : goal.returns
+returns c =
+    let same_config = ap (λ (b : Course). b.config.harts) c.self.view_is in
+    rw (← c.self.view_is) (c.bits.ensures ∙ satp-read _ _ _ c.args.h _ (omega arith) c.self.invariant.1.memory)
