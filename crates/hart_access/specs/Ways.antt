@@ -1,0 +1,74 @@
+-- How an access comes to its physical address, by what is in the memory, in satp and in the TLB.
+-- The memory is a function from an address to the word there, and the TLB one from an address to the entry that is hit.
+use Rattle.std.specs.Prelude.{ℕ, ◌+◌, ◌-◌, ◌%◌, Bool, not, ◌==◌, if◌then◌else◌, Option, Some, None, is_some, Result, Ok, Err}
+use Rattle.sv39.specs.declared.cause.Cause.{Cause}
+use Rattle.sv39.specs.declared.cause.Kind.{Kind}
+use Rattle.sv39.specs.declared.page.Leaf.{Leaf}
+use Rattle.sv39.specs.Causes.{access_fault, misaligned, page_fault}
+use Rattle.sv39.specs.Leaves.{allows}
+use Rattle.sv39.specs.Maps.{maps}
+use Rattle.sv39.specs.Pages.{is_valid}
+use Rattle.sv39.specs.Satp.{asid_of, is_sv39}
+use Rattle.tlb_model.specs.declared.entry.Address.{Address}
+use Rattle.tlb_model.specs.declared.entry.Entry.{Entry}
+use Rattle.hart_access.specs.declared.way.Way.{Way}
+use Rattle.hart_access.specs.declared.way.Way.TheVariants.{Plain, Hit, Fill, Fault}
+
+-- A matching entry decides. Without one the page tables do: their leaf is filled with satp's ASID, and a walk that faults
+-- fills nothing (Privileged 4.2.1, 4.3.2; that a matching entry always decides: profile).
+abbrev pub way_by : (hit : Option Entry) → (asid : ℕ) → (walked : Result Leaf Cause) → Way
+way_by (Some entry) asid walked = Hit entry
+way_by None asid (Ok leaf) = Fill (record { leaf = leaf; asid = asid })
+way_by None asid (Err cause) = Fault cause
+
+-- The order of the checks: the alignment to 8 comes first (profile). With satp's MODE Bare the physical address is the
+-- address itself; with Sv39 an address that isn't valid is a page fault (Privileged 4.1.11, 4.4.1).
+abbrev pub way : (memory : ℕ → Option ℕ) → (satp : ℕ) → (tlb : Address → Option Entry) → (va : ℕ) → Kind → Way
+way memory satp tlb va kind =
+    if not (va % 8 == 0) then Fault (misaligned kind)
+    else if not (is_sv39 satp) then Plain
+    else if not (is_valid va) then Fault (page_fault kind)
+    else way_by (tlb (record { va = va; asid = asid_of satp })) (asid_of satp) (maps memory satp va kind)
+
+-- the entry that translates the address, found or filled
+abbrev pub used_by : Way → Option Entry
+used_by Plain = None
+used_by (Hit entry) = Some entry
+used_by (Fill entry) = Some entry
+used_by (Fault cause) = None
+
+-- the entry that is filled
+abbrev pub fill_by : Way → Option Entry
+fill_by Plain = None
+fill_by (Hit entry) = None
+fill_by (Fill entry) = Some entry
+fill_by (Fault cause) = None
+
+-- The physical address that a leaf gives an address of its page (Privileged 4.3.2).
+abbrev pub phys_in : Leaf → (va : ℕ) → ℕ
+phys_in leaf va = leaf.pa + (va - leaf.page)
+
+-- The physical address of an address that an entry translates, or none does.
+abbrev pub phys_at : Option Entry → (va : ℕ) → ℕ
+phys_at None va = va
+phys_at (Some entry) va = phys_in entry.leaf va
+
+-- A leaf that doesn't allow the access makes it a page fault (Privileged 4.3.2).
+abbrev pub translated : Leaf → (va : ℕ) → Kind → Result ℕ Cause
+translated leaf va kind = if allows kind leaf then Ok (phys_in leaf va) else Err (page_fault kind)
+
+-- The physical address, or why there is none.
+abbrev pub phys_by : Way → (va : ℕ) → Kind → Result ℕ Cause
+phys_by Plain va kind = Ok va
+phys_by (Hit entry) va kind = translated entry.leaf va kind
+phys_by (Fill entry) va kind = translated entry.leaf va kind
+phys_by (Fault cause) va kind = Err cause
+
+-- A physical address outside the RAM is an access fault (Privileged 3.6.1).
+abbrev pub in_memory : (memory : ℕ → Option ℕ) → Kind → Result ℕ Cause → Result ℕ Cause
+in_memory memory kind (Ok pa) = if is_some (memory pa) then Ok pa else Err (access_fault kind)
+in_memory memory kind (Err cause) = Err cause
+
+-- The physical address of a word of the RAM, or why the access fails.
+abbrev pub place_by : (memory : ℕ → Option ℕ) → Way → (va : ℕ) → Kind → Result ℕ Cause
+place_by memory way va kind = in_memory memory kind (phys_by way va kind)

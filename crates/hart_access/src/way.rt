@@ -1,0 +1,93 @@
+ghost use Rattle.std.specs.Prelude.{◌≡◌, Ok};
+ghost use Rattle.sv39.specs.Memory.{word_in};
+ghost use Rattle.tlb_model.specs.Contents.{hit};
+ghost use Rattle.tlb_model.specs.Entries.{matches};
+ghost use Rattle.hart_access.specs.Ways.{in_memory, place_by, translated, used_by, way};
+
+use sv39::{Cause, Kind, Leaf, Ram, Satp, is_valid, walk};
+use tlb_model::{Address, Entry, Tlb};
+
+/// How an access comes from its virtual address to the physical one.
+#[derive(Clone, Copy, Debug, PartialEq, Eq)]
+pub enum Way {
+    /// The addresses are the same: satp translates none.
+    Plain,
+    /// This entry of the TLB has it.
+    Hit(Entry),
+    /// The page tables have it, by a leaf that is filled as this entry.
+    Fill(Entry),
+    /// The access fails before that.
+    Fault(Cause),
+}
+
+impl Way {
+    /// The way of an access of this kind. A TLB entry that matches is taken whether or not it allows the access, and the
+    /// page tables are looked at only where there is none (profile).
+    pub fn of(ram: &Ram, satp: Satp, tlb: &Tlb, va: u64, kind: Kind) -> Way
+        ensures { result ≡ way (word_in ram.now) satp (λ at. hit matches at tlb.now) va kind }
+    {
+        if va % 8 != 0 {
+            return Way::Fault(kind.misaligned());
+        }
+        if !satp.is_sv39() {
+            return Way::Plain;
+        }
+        if !is_valid(va) {
+            return Way::Fault(kind.page_fault());
+        }
+        let asid = satp.asid() as u16;
+        if let Some(entry) = tlb.lookup(Address { va, asid }) {
+            return Way::Hit(entry);
+        }
+        match walk(ram, satp, va, kind) {
+            Ok(leaf) => Way::Fill(Entry { leaf, asid }),
+            Err(cause) => Way::Fault(cause),
+        }
+    }
+
+    /// The entry that translates the address, if one does.
+    pub fn used(self) -> Option<Entry>
+        ensures { result ≡ used_by self }
+    {
+        match self {
+            Way::Hit(entry) | Way::Fill(entry) => Some(entry),
+            Way::Plain | Way::Fault(_) => None,
+        }
+    }
+
+    /// The physical address, which has a word of the RAM, or why the access fails.
+    pub fn place(self, ram: &Ram, va: u64, kind: Kind) -> Result<u64, Cause>
+        ensures { result ≡ place_by (word_in ram.now) self va kind }
+    {
+        match self {
+            Way::Plain => in_memory(ram, va, kind),
+            Way::Hit(entry) | Way::Fill(entry) => translate(entry.leaf, ram, va, kind),
+            Way::Fault(cause) => Err(cause),
+        }
+    }
+}
+
+/// The physical address that a leaf gives an address of its page, or why the access fails.
+#[tactic(auto, using(crate::proofs::Past::no_word_past))]
+fn translate(leaf: Leaf, ram: &Ram, va: u64, kind: Kind) -> Result<u64, Cause>
+    ensures { result ≡ in_memory (word_in ram.now) kind (translated leaf va kind) }
+{
+    if !leaf.allows(kind) {
+        return Err(kind.page_fault());
+    }
+    match leaf.pa.checked_add(va.saturating_sub(leaf.page)) {
+        Some(pa) => in_memory(ram, pa, kind),
+        None => Err(kind.access_fault()),
+    }
+}
+
+/// The physical address, where it has a word of the RAM, or why the access fails.
+fn in_memory(ram: &Ram, pa: u64, kind: Kind) -> Result<u64, Cause>
+    ensures { result ≡ in_memory (word_in ram.now) kind (Ok pa) }
+{
+    if ram.holds(pa) {
+        Ok(pa)
+    } else {
+        Err(kind.access_fault())
+    }
+}
