@@ -1,15 +1,14 @@
 -- The rule of page tables, as a relation and as a function; and the walk that computes it.
-use Rattle.std.proofs.Common.{◌≡◌, ℕ, ◌+◌, ◌*◌, ◌^◌, ◌<◌, Bool, true, false, cond, not, ◌&&◌, ◌||◌, ◌↔◌, Option, Some, None, is_some, Result, Ok, Err, refl, sym, ap, ◌∙◌, arith, inl, inr}
-use Rattle.std.specs.Prelude.{MatchBool}
+use Rattle.std.proofs.Common.{◌≡◌, ℕ, ◌+◌, ◌*◌, ◌^◌, ◌<◌, Bool, true, false, cond, ◌||◌, ◌↔◌, Option, Some, None, is_some, Result, Err, refl, sym, ap, ◌∙◌, arith, inl, inr}
 use Rattle.std.proofs.lemmas.Bool.{and_from, and_parts, cases_Bool}
 use Rattle.sv39.specs.declared.cause.Cause.{Cause}
 use Rattle.sv39.specs.declared.cause.Kind.{Kind}
 use Rattle.sv39.specs.declared.page.Leaf.{Leaf}
 use Rattle.sv39.specs.declared.page.Level.{Level}
 use Rattle.sv39.specs.declared.page.Level.TheVariants.{Kilo, Mega, Giga}
-use Rattle.sv39.specs.Causes.{access_fault, page_fault}
-use Rattle.sv39.specs.Entries.{below, has_g, is_leaf, is_pointer, leaf_of, page_number}
-use Rattle.sv39.specs.Maps.{EndsAt, Maps, MapsBy, end_level, entry_at, entry_in, global_above, is_some_global, is_some_pointer, maps, outcome, outcome_at, pointer_at, pointers_above, table_at, table_of}
+use Rattle.sv39.specs.Causes.{access_fault}
+use Rattle.sv39.specs.Entries.{below, has_g, is_pointer, page_number}
+use Rattle.sv39.specs.Maps.{EndsAt, Maps, MapsBy, end_level, entry_at, global_above, is_some_global, is_some_pointer, maps, outcome, outcome_at, pointer_at, pointers_above, table_at, table_of}
 use Rattle.sv39.specs.Pages.{is_valid, part}
 use Rattle.sv39.specs.Satp.{root_of}
 
@@ -117,8 +116,8 @@ ended-outside memory satp va kind level table global r valid outside =
     ∙ ap (λ entry. outcome entry va kind level global) none
 
 not-pointed : (level : Level) (entry : ℕ) → cond (is_pointer level entry) (below level) None ≡ None → is_pointer level entry ≡ false
-not-pointed Giga entry none = elim (cases_Bool (is_pointer Giga entry)) [ | inl good ↦ let e = rw good at none in cc | inr other ↦ other ]
-not-pointed Mega entry none = elim (cases_Bool (is_pointer Mega entry)) [ | inl good ↦ let e = rw good at none in cc | inr other ↦ other ]
+not-pointed Giga entry none = elim (cases_Bool (is_pointer Giga entry)) [ inl good ↦ let e = rw good at none in cc | inr other ↦ other ]
+not-pointed Mega entry none = elim (cases_Bool (is_pointer Mega entry)) [ inl good ↦ let e = rw good at none in cc | inr other ↦ other ]
 not-pointed Kilo entry none = refl
 
 -- a walk that finds an entry that is no good pointer

@@ -1,5 +1,5 @@
 -- The supervisor address translation and protection register (Privileged 4.1.11).
-use Rattle.std.specs.Prelude.{◌≡◌, ℕ, ◌/◌, ◌%◌, ◌^◌, ◌<◌, Bool, false, ◌==◌, ◌||◌, if◌then◌else◌}
+use Rattle.std.specs.Prelude.{◌≡◌, ℕ, ◌/◌, ◌%◌, ◌^◌, Bool, false, ◌==◌, if◌then◌else◌}
 
 -- MODE, bits 63 to 60: 0 is Bare, 8 is Sv39 (Privileged 4.1.11, table 4.4).
 abbrev pub mode_of : ℕ → ℕ

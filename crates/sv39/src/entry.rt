@@ -38,7 +38,11 @@ impl TableEntry {
     pub fn pointed(self, level: Level) -> Option<Level>
         ensures { result ≡ (if is_pointer level self.bits then below level else None) }
     {
-        if self.is_branch() { level.below() } else { None }
+        if self.is_branch() {
+            level.below()
+        } else {
+            None
+        }
     }
 
     fn is_branch(self) -> bool
@@ -82,7 +86,11 @@ impl TableEntry {
             return Err(kind.page_fault());
         }
         let leaf = self.leaf(va, level, global);
-        if leaf.allows(kind) { Ok(leaf) } else { Err(kind.page_fault()) }
+        if leaf.allows(kind) {
+            Ok(leaf)
+        } else {
+            Err(kind.page_fault())
+        }
     }
 
     fn leaf(self, va: u64, level: Level, global: bool) -> Leaf

@@ -10,7 +10,6 @@ mod satp;
 
 pub use cause::{Cause, Kind};
 pub use page::{Leaf, Level, is_valid};
-pub use page_tables::walk;
+pub use page_tables::{maps_is_the_rule, one_leaf_for_a_page, walk};
 pub use ram::Ram;
 pub use satp::Satp;
-

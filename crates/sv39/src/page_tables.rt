@@ -1,6 +1,8 @@
-ghost use Rattle.std.specs.Prelude.{◌≡◌};
-ghost use Rattle.sv39.specs.Maps.{maps};
+ghost use Rattle.std.specs.Prelude.{◌≡◌, ◌↔◌, ◌≤◌, ◌<◌, ◌+◌, ℕ, Option, Result};
+ghost use Rattle.sv39.specs.Leaves.{by_right};
+ghost use Rattle.sv39.specs.Maps.{Maps, maps};
 ghost use Rattle.sv39.specs.Memory.{word_in};
+ghost use Rattle.sv39.specs.Pages.{size};
 
 use crate::cause::{Cause, Kind};
 use crate::entry::TableEntry;
@@ -34,3 +36,20 @@ pub fn walk(ram: &Ram, satp: Satp, va: u64, kind: Kind) -> Result<Leaf, Cause>
         level = below;
     }
 }
+
+/// What `walk` gives is the rule: there is one level with good pointers at all levels above and none there, and the
+/// entry there decides (Privileged 4.3.2, 4.4.1). A law: there is nothing to run.
+pub fn maps_is_the_rule()
+    ensures { (memory : ℕ → Option ℕ) (satp va : ℕ) (kind : Kind) (result : Result Leaf Cause)
+        → Maps memory satp va kind result ↔ (result ≡ maps memory satp va kind) }
+{}
+
+/// A leaf decides each access to its page: one that it allows gets it, and another one a page fault. A law: there is
+/// nothing to run.
+pub fn one_leaf_for_a_page()
+    ensures { (memory : ℕ → Option ℕ) (satp a b : ℕ) (kind other : Kind) (leaf : Leaf)
+        → maps memory satp a kind ≡ Ok leaf
+        → leaf.page ≤ b
+        → b < leaf.page + size leaf.level
+        → maps memory satp b other ≡ by_right other leaf }
+{}

@@ -1,4 +1,4 @@
-use Rattle.std.proofs.Common.{◌≡◌, ◌∙◌, true, Err, ap, sym, refl, arith, rules}
+use Rattle.std.proofs.Common.{◌≡◌, ◌∙◌, true, Err, ap, sym}
 use Rattle.sv39.specs.Maps.{maps}
 use Rattle.sv39.specs.Pages.{is_valid}
 use Rattle.sv39.proofs.MapsLaws.{ended-outside, ended-there, goes-on}

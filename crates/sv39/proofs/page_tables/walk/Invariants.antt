@@ -1,4 +1,3 @@
-use Rattle.std.proofs.Common.{◌≡◌, ℕ, ◌+◌, ◌-◌, ◌*◌, ◌<◌, ◌≤◌, length}
 use Rattle.sv39.specs.Memory.{word_in}
 use Rattle.sv39.specs.Pages.{level_number}
 use Rattle.sv39.specs.Satp.{root_of}

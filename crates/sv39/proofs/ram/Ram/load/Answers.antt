@@ -1,4 +1,4 @@
-use Rattle.std.proofs.Common.{◌∙◌, sym, ap, rules, length, arith}
+use Rattle.std.proofs.Common.{ap, length, arith}
 use Rattle.std.proofs.lemmas.Option.{slice_get_read}
 use Rattle.sv39.proofs.Words.{stands, word_in-place}
 use Rattle.sv39.proofs.ram.Ram.load.Goals as goal
