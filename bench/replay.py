@@ -1,88 +1,211 @@
 #!/usr/bin/env python3
-"""Writes schedules of 10,000 to 1,000,000 lines, replays each, and prints a table.
+"""Times the program beside plain Rust, and prints the README's table.
 
-usage: bench/replay.py [PROGRAM [RUNS]]
+usage: bench/replay.py [--runs N] [--instructions] [--harts N,..] [--lines N,..] [PROGRAM]
 
-PROGRAM is a built `sbiboard` (its default is the one that `./sbiboard` builds); each schedule is replayed
-RUNS times (default 5), and the fastest run counts. Time is that of the whole process, reading and writing
-files included; memory is its peak, most of which is the history and the lines of the schedule. A script
-has at most 16,777,216 bytes, so the workloads of longer lines end at 500,000.
+PROGRAM is a built `sbiboard` (default: the one that `./sbiboard` builds); plain Rust is `bench/baseline.rs`, which
+is built here with rustc. First both replay each schedule once, and must print the same bytes. Then they take
+turns, --runs times (default 9), and of each the fastest run counts. Time is the processor's, of the whole process,
+in user and system: reading the file and writing the output are in it, waiting for a processor isn't. A busy machine
+still slows both by its caches, so look at the load that is printed. Memory is the peak, which can't be told below
+that of this script: there it stands behind a `<`.
+"Huge pages" is the same with GLIBC_TUNABLES=glibc.malloc.hugetlb=1, which has the C library ask for them; it changes
+both, and the ratio is the program's time over plain Rust's, both with it.
+
+A step is constant work, so a row's speed should depend neither on the number of harts nor on how long the history
+is: rows of 100,000 lines differ in their harts, and rows of 128 harts in their lines. (Of 10,000 lines a large part is
+the start of the process.) --harts and --lines choose other ones. A script has at most 16,777,216 bytes, so workloads
+of longer lines end at 500,000 lines. --instructions counts instructions by valgrind in the place of time, in some
+minutes: a busy machine doesn't change them.
 """
+import argparse
+import filecmp
 import os
+import re
+import shutil
 import subprocess
 import sys
 import tempfile
-import time
 
 ROOT = os.path.dirname(os.path.dirname(os.path.abspath(__file__)))
-PROGRAM = sys.argv[1] if len(sys.argv) > 1 else os.path.join(ROOT, "crates/sbiboard_cli/out/sbiboard_cli")
-RUNS = int(sys.argv[2]) if len(sys.argv) > 2 else 5
+RUSTC = ["rustc", "--edition", "2024", "-C", "opt-level=3", "-C", "codegen-units=1", "-C", "target-cpu=x86-64"]
+PLAIN_PAGES = {"GLIBC_TUNABLES": ""}
+HUGE_PAGES = {"GLIBC_TUNABLES": "glibc.malloc.hugetlb=1"}
+MOST_BYTES = 16_777_216
 
 
-def calls(lines):
-    """One hart enters, and then calls the Base extension again and again."""
-    yield f"board 1 1 {lines} 0 0x80000000 0x0"
+# ---- workloads
+
+
+def started(harts, lines):
+    """All harts are started and entered: 2 * harts lines with the board's."""
+    yield f"board {harts} 1 {lines} 0 0x80000000 0x0"
     yield "0 advance"
-    for line in range(lines - 1):
-        yield f"0 ecall 0x10 {line % 8}"
-
-
-def refusals(lines):
-    """128 harts, of which those that are stopped try to advance in turn: nothing is recorded."""
-    yield "board 128 1 1000 0 0x80000000 0x0"
-    yield "0 advance"
-    for line in range(lines - 1):
-        yield f"{1 + line % 127} advance"
-
-
-def started(lines):
-    """128 harts, all started and entered: 255 lines."""
-    yield f"board 128 1 {lines} 0 0x80000000 0x0"
-    yield "0 advance"
-    for hart in range(1, 128):
+    for hart in range(1, harts):
         yield f"0 ecall 0x48534d 0 {hart} 0x80000000 0"
         yield f"{hart} advance"
 
 
-def ipis(lines):
-    """128 harts in turn send an IPI to all harts and clear their own."""
-    yield from started(lines)
-    for line in range(lines - 255):
-        hart = line // 2 % 128
+def calls(harts, lines):
+    """The harts in turn call the functions of the Base extension, and one that it lacks."""
+    yield from started(harts, lines)
+    for line in range(lines - 2 * harts):
+        yield f"{line % harts} ecall 0x10 {line % 8}"
+
+
+def refusals(harts, lines):
+    """The harts in turn try to advance, of which one is STARTED and the others are STOPPED: nothing is recorded."""
+    yield f"board {harts} 1 1000 0 0x80000000 0x0"
+    yield "0 advance"
+    for line in range(lines - 2):
+        yield f"{line % harts} advance"
+
+
+def ipis(harts, lines):
+    """The harts in turn send an IPI to all harts and clear their own."""
+    yield from started(harts, lines)
+    for line in range(lines - 2 * harts):
+        hart = line // 2 % harts
         yield f"{hart} clearssip" if line % 2 else f"{hart} ecall 0x735049 0 0 0xffffffffffffffff"
 
 
-def timers(lines):
-    """128 harts in turn set their timers, time goes on, and they look at what is pending."""
-    yield from started(lines)
-    for line in range(lines - 255):
-        hart = line // 3 % 128
+def timers(harts, lines):
+    """The harts in turn set their timers, time goes on, and they look at what is pending."""
+    yield from started(harts, lines)
+    for line in range(lines - 2 * harts):
+        hart = line // 3 % harts
         yield (f"{hart} ecall 0x54494d45 0 {line // 3 + 64}", "c tick 1", f"{hart} sip")[line % 3]
 
 
-def replay(path):
-    """The seconds of one replay, and its peak of memory in MiB."""
-    with open(os.devnull, "wb") as sink:
-        begin = time.perf_counter()
-        child = subprocess.Popen([PROGRAM, "replay", path], stdout=sink)
+WORKLOADS = ((calls, 1_000_000), (refusals, 1_000_000), (ipis, 500_000), (timers, 500_000))
+
+
+def schedule(folder, workload, harts, lines):
+    """The file of a workload."""
+    path = os.path.join(folder, f"{workload.__name__}-{harts}-{lines}.sched")
+    if not os.path.exists(path):
+        with open(path, "w") as file:
+            file.writelines(line + "\n" for line in workload(harts, lines))
+        if os.path.getsize(path) > MOST_BYTES:
+            sys.exit(f"{workload.__name__}: {lines} lines are more bytes than a script may have")
+    return path
+
+
+# ---- runs
+
+
+def replay(program, path, pages, output=os.devnull):
+    """The seconds of the processor that one replay takes, and its peak of memory in MiB."""
+    with open(output, "wb") as sink:
+        child = subprocess.Popen([program, "replay", path], stdout=sink, env=os.environ | pages)
         _, status, used = os.wait4(child.pid, 0)
-        seconds = time.perf_counter() - begin
     if status != 0:
-        sys.exit(f"{path}: status {status}")
-    return seconds, used.ru_maxrss / 1024
+        sys.exit(f"{program} replay {path}: status {os.waitstatus_to_exitcode(status)}")
+    return used.ru_utime + used.ru_stime, used.ru_maxrss / 1024
+
+
+def agree(programs, path):
+    """Both programs print the same bytes."""
+    outputs = [f"{path}.{i}" for i in range(len(programs))]
+    for program, output in zip(programs, outputs):
+        replay(program, path, PLAIN_PAGES, output)
+    if not filecmp.cmp(*outputs, shallow=False):
+        sys.exit(f"{path}: the outputs differ: {' '.join(outputs)}")
+    for output in outputs:
+        os.remove(output)
+
+
+def fastest(programs, path, runs):
+    """The fastest of the runs of each program, without huge pages and with them, in turns."""
+    variants = [(program, pages) for program in programs for pages in (PLAIN_PAGES, HUGE_PAGES)]
+    rounds = [[replay(program, path, pages) for program, pages in variants] for _ in range(runs)]
+    return [min(column) for column in zip(*rounds)]
+
+
+def least_memory():
+    """The peak that a process shows whatever it does, in MiB: that of this script, which starts it."""
+    child = subprocess.Popen(["true"])
+    return os.wait4(child.pid, 0)[2].ru_maxrss / 1024
+
+
+def instructions(program, path):
+    """How many instructions a replay takes."""
+    command = ["valgrind", "--tool=callgrind", "--callgrind-out-file=/dev/null", program, "replay", path]
+    said = subprocess.run(command, stdout=subprocess.DEVNULL, stderr=subprocess.PIPE, text=True, check=True).stderr
+    return int(re.search(r"Collected : (\d+)", said).group(1))
+
+
+# ---- tables
+
+
+def times_row(programs, path, lines, runs):
+    (own, memory), (own_huge, _), (plain, plain_memory), (plain_huge, _) = fastest(programs, path, runs)
+    speeds = [f"{lines / seconds:,.0f}" for seconds in (own, own_huge, plain, plain_huge)]
+    least = least_memory() + 1
+    peaks = [f"{peak:.0f}" if peak > least else f"< {least:.0f}" for peak in (memory, plain_memory)]
+    return speeds + [f"{own_huge / plain_huge:.2f}"] + peaks
+
+
+def instructions_row(programs, path, lines):
+    own, plain = (instructions(program, path) / lines for program in programs)
+    return [f"{own:,.0f}", f"{plain:,.0f}", f"{own / plain:.2f}"]
+
+
+TIMES = ("lines a second", "with huge pages", "plain Rust", "with huge pages", "ratio", "peak MiB", "plain Rust")
+INSTRUCTIONS = ("instructions a line", "plain Rust", "ratio")
+
+
+def sizes(most, chosen):
+    """How many harts and lines the rows of a workload have."""
+    if chosen.harts or chosen.lines:
+        lines = [min(n, most) for n in chosen.lines or [100_000]]
+        return [(harts, n) for harts in chosen.harts or [128] for n in lines]
+    return [(1, 100_000), (64, 100_000), (128, 10_000), (128, 100_000), (128, most)]
+
+
+def print_rows(programs, folder, chosen):
+    heads = INSTRUCTIONS if chosen.instructions else TIMES
+    print("| workload | harts | lines | " + " | ".join(heads) + " |")
+    print("|---" * (3 + len(heads)) + "|")
+    for workload, most in WORKLOADS:
+        for harts, lines in sizes(most, chosen):
+            path = schedule(folder, workload, harts, lines)
+            agree(programs, path)
+            if chosen.instructions:
+                cells = instructions_row(programs, path, lines)
+            else:
+                cells = times_row(programs, path, lines, chosen.runs)
+            print(f"| {workload.__name__} | {harts} | {lines:,} | " + " | ".join(cells) + " |", flush=True)
+            os.remove(path)
+
+
+def numbers(text):
+    return [int(word) for word in text.split(",")]
+
+
+def options():
+    parser = argparse.ArgumentParser(description="Times the program beside plain Rust, and prints the README's table.")
+    parser.add_argument("program", nargs="?", default=os.path.join(ROOT, "crates/sbiboard_cli/out/sbiboard_cli"))
+    parser.add_argument("--runs", type=int, default=9, help="how many runs of each, of which the fastest counts")
+    parser.add_argument("--instructions", action="store_true", help="count instructions by valgrind, not time")
+    parser.add_argument("--harts", type=numbers, help="as 1,64,128 (the default), each 1 to 128")
+    parser.add_argument("--lines", type=numbers, help="as 10000,100000 (default: these and the workload's most)")
+    return parser.parse_args()
 
 
 def main():
-    print("| workload | lines | seconds | lines a second | peak MiB |")
-    print("|---|---|---|---|---|")
+    chosen = options()
+    if not os.path.exists(chosen.program):
+        sys.exit(f"{chosen.program} isn't built: ./sbiboard builds it")
+    needed = ["rustc"] + ["valgrind"] * chosen.instructions
+    missing = [tool for tool in needed if not shutil.which(tool)]
+    if missing:
+        sys.exit(f"{' and '.join(missing)} not found")
+    print(f"load {os.getloadavg()[0]:.1f} on {os.cpu_count()} processors", file=sys.stderr)
     with tempfile.TemporaryDirectory() as folder:
-        for workload, most in ((calls, 1_000_000), (refusals, 1_000_000), (ipis, 500_000), (timers, 500_000)):
-            for lines in (10_000, 100_000, most):
-                path = os.path.join(folder, f"{workload.__name__}-{lines}.sched")
-                with open(path, "w") as file:
-                    file.writelines(line + "\n" for line in workload(lines))
-                seconds, memory = min(replay(path) for _ in range(RUNS))
-                print(f"| {workload.__name__} | {lines:,} | {seconds:.3f} | {lines / seconds:,.0f} | {memory:.0f} |")
+        baseline = os.path.join(folder, "baseline")
+        subprocess.run([*RUSTC, "-o", baseline, os.path.join(ROOT, "bench/baseline.rs")], check=True)
+        print_rows((os.path.abspath(chosen.program), baseline), folder, chosen)
 
 
 main()
