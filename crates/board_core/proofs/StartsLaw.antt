@@ -17,7 +17,7 @@ use Rattle.hsm.specs.States.{is_start_pending, is_started, is_stopped}
 use Rattle.board_core.specs.declared.config.Config.{Config}
 use Rattle.board_core.specs.declared.event.Actor.{Actor}
 use Rattle.board_core.specs.declared.event.Actor.TheVariants.{Hart, Clock}
-use Rattle.board_core.specs.declared.event.Event.{Event}
+use Rattle.board_core.specs.History.{Event}
 use Rattle.board_core.specs.declared.event.Op.{Op}
 use Rattle.board_core.specs.declared.event.Op.TheVariants.{Ecall, WriteSatp, WriteSie, WriteSstatusSie, ReadSip, ClearSsip, Wfi, Advance, Tick}
 use Rattle.board_core.specs.declared.event.Refusal.{Refusal}

@@ -7,7 +7,7 @@ use Rattle.hsm.specs.declared.hart.HartState.{HartState}
 use Rattle.interrupts.specs.Timing.{Timing, last_time, ticked}
 use Rattle.board_core.specs.declared.config.Config.{Config}
 use Rattle.board_core.specs.declared.event.Actor.TheVariants.{Hart, Clock}
-use Rattle.board_core.specs.declared.event.Event.{Event}
+use Rattle.board_core.specs.History.{Event}
 use Rattle.board_core.specs.declared.event.Op.{Op}
 use Rattle.board_core.specs.declared.event.Op.TheVariants.{Tick}
 use Rattle.board_core.specs.declared.event.Refusal.{Refusal}

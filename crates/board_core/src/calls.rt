@@ -6,7 +6,7 @@ ghost use Rattle.sbi_abi.specs.Calls.{call_of};
 ghost use Rattle.hsm.specs.declared.hart.HartState.TheVariants as states;
 ghost use Rattle.hsm.specs.Transitions.{hart_at};
 ghost use Rattle.board_core.specs.declared.event.Actor.TheVariants.{Hart};
-ghost use Rattle.board_core.specs.declared.event.Event.{Event};
+ghost use Rattle.board_core.specs.History.{Event};
 ghost use Rattle.board_core.specs.declared.event.Op.TheVariants.{Ecall};
 ghost use Rattle.board_core.specs.declared.event.Reply.TheVariants.{Ret};
 ghost use Rattle.board_core.specs.Limits.{IsGood};

@@ -18,3 +18,5 @@ pub use config::{BuildFault, Config};
 pub use csrs::Sie;
 pub use event::{Actor, Event, Op, Refusal, Reply};
 pub use hsm::{HartState, Kept};
+pub use sv39::Cause;
+pub use tlb_model::{Entry, FetchWord, Numbered};

@@ -8,7 +8,7 @@ ghost use Rattle.hsm.specs.declared.hart.HartState.TheVariants as states;
 ghost use Rattle.hsm.specs.Transitions.{hart_at};
 ghost use Rattle.board_core.specs.declared.config.Config.{Config};
 ghost use Rattle.board_core.specs.declared.event.Actor.TheVariants.{Hart};
-ghost use Rattle.board_core.specs.declared.event.Event.{Event};
+ghost use Rattle.board_core.specs.History.{Event};
 ghost use Rattle.board_core.specs.declared.event.Op.TheVariants.{Ecall};
 ghost use Rattle.board_core.specs.Limits.{IsGood};
 ghost use Rattle.board_core.specs.Replies.{call_reply};

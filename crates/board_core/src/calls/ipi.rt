@@ -5,7 +5,7 @@ ghost use Rattle.sbi_abi.specs.declared.call.Call.TheVariants as calls;
 ghost use Rattle.sbi_abi.specs.declared.call.Regs.{Regs};
 ghost use Rattle.sbi_abi.specs.Calls.{call_of};
 ghost use Rattle.board_core.specs.declared.event.Actor.TheVariants.{Hart};
-ghost use Rattle.board_core.specs.declared.event.Event.{Event};
+ghost use Rattle.board_core.specs.History.{Event};
 ghost use Rattle.board_core.specs.declared.event.Op.TheVariants.{Ecall};
 ghost use Rattle.board_core.specs.Replies.{call_reply};
 ghost use Rattle.board_core.specs.Stands.{IsSized, StandsFor};

@@ -2,7 +2,7 @@ use Rattle.std.proofs.Common.{◌≡◌, ◌+◌, ap, refl, sym, ◌∙◌, arit
 use Rattle.std.specs.Prelude.{is_some, nat_lt, not}
 use Rattle.interrupts.specs.Timing.{last_time, ticked}
 use Rattle.board_core.specs.declared.event.Actor.TheVariants.{Clock}
-use Rattle.board_core.specs.declared.event.Event.{Event}
+use Rattle.board_core.specs.History.{Event}
 use Rattle.board_core.specs.declared.event.Op.TheVariants.{Tick}
 use Rattle.board_core.specs.declared.event.Reply.TheVariants.{Done}
 use Rattle.board_core.specs.Course.{Course}

@@ -1,7 +1,7 @@
 use Rattle.std.proofs.Common.{List, ap, sym, ◌∙◌, arith, reverse}
 use Rattle.hsm.specs.Harts.{Hart as HartView}
 use Rattle.board_core.specs.declared.event.Actor.TheVariants.{Hart}
-use Rattle.board_core.specs.declared.event.Event.{Event}
+use Rattle.board_core.specs.History.{Event}
 use Rattle.board_core.specs.Course.{Course}
 use Rattle.board_core.specs.Interrupts.{wake}
 use Rattle.board_core.specs.Refusals.{is_full}
