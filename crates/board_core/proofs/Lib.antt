@@ -1,4 +1,5 @@
 pub mod Tables
+pub mod Accessing
 pub mod Events
 pub mod Standing
 pub mod Rows

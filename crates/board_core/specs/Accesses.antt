@@ -19,6 +19,13 @@ use Rattle.board_core.specs.declared.event.Reply.TheVariants.{Value, Fault, Done
 use Rattle.board_core.specs.History.{Event, Reach, access_of}
 use Rattle.board_core.specs.Memory.{memory, satp, tlb_acts, word_acts}
 
+-- What an access answers: the word that it read, that it is done, or why it failed.
+abbrev pub access_reply_of : Access → Result ℕ Cause → Reply
+access_reply_of Load (Ok word) = Value word
+access_reply_of (Store value) (Ok word) = Done
+access_reply_of Fetch (Ok word) = Value word
+access_reply_of access (Err cause) = Fault cause
+
 module _ (c : Config) (past : List Event) (x : ℕ) where
   -- the hit of an address in the TLB of hart x, and the word that its instruction cache has from a physical address
   abbrev pub hit : Address → Option Entry
@@ -34,13 +41,6 @@ module _ (c : Config) (past : List Event) (x : ℕ) where
 
   abbrev pub used : Op → Option Entry
   used op = used_by_access (access_of op)
-
-  -- What an access answers: the word that it read, that it is done, or why it failed.
-  abbrev pub access_reply_of : Access → Result ℕ Cause → Reply
-  access_reply_of Load (Ok word) = Value word
-  access_reply_of (Store value) (Ok word) = Done
-  access_reply_of Fetch (Ok word) = Value word
-  access_reply_of access (Err cause) = Fault cause
 
   abbrev pub access_reply : (va : ℕ) → Access → Reply
   access_reply va access = access_reply_of access (whole.answer (memory c past) (satp past x) hit cached va access)

@@ -38,6 +38,12 @@ access_of (Store va value) = Some (record { va = va; access = accesses.Store val
 access_of (Fetch va) = Some (record { va = va; access = accesses.Fetch })
 access_of op = None
 
+-- the operation that an access of an address is
+abbrev pub access_op : (va : ℕ) → Access → Op
+access_op va accesses.Load = Load va
+access_op va (accesses.Store value) = Store va value
+access_op va accesses.Fetch = Fetch va
+
 -- ---- how it is kept: private
 
 abbrev pub op_of : What → Op

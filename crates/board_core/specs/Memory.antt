@@ -13,6 +13,7 @@ use Rattle.tlb_model.specs.Acts.{Act, Fill, Drop, Clear, Nothing, last_live}
 use Rattle.tlb_model.specs.Entries.{covers_entry, matches}
 use Rattle.tlb_model.specs.Fences.{fence_of_address}
 use Rattle.tlb_model.specs.Words.{covers_word, is_at}
+use Rattle.hart_access.specs.Accesses.{fetched_from}
 use Rattle.hart_access.specs.Ways.{phys_at}
 use Rattle.board_core.specs.declared.config.Config.{Config}
 use Rattle.board_core.specs.declared.event.Op.{Op}
@@ -91,6 +92,7 @@ act_by empties filling = Clear
 
 -- of the events of other harts, nothing
 abbrev pub act_at : {E : Type 0} → (own : Bool) → Act E → Act E
+act_at own Nothing = Nothing
 act_at own act = if own then act else Nothing
 
 -- what an access fills that used an entry: that entry, where none was hit
@@ -118,11 +120,6 @@ tlb_acts (event ∷ past) h =
     (act_by (effect_by event.op event.reply) (entry_filling event.op event.translation (satp past h) (tlb_acts past h)))
     ∷ tlb_acts past h
 
--- the word that a fetch fills: the memory's, where the cache had none from its physical address
-abbrev pub word_of_fetch : (cached : Option FetchWord) → (pa word : ℕ) → Option FetchWord
-word_of_fetch None pa word = Some (record { pa = pa; word = word })
-word_of_fetch (Some fetched) pa word = None
-
 -- the word that was fetched last from a physical address, of those that live
 abbrev pub cached_in : List (Act FetchWord) → (pa : ℕ) → Option FetchWord
 cached_in acts pa = last_live covers_word is_at pa acts
@@ -130,7 +127,7 @@ cached_in acts pa = last_live covers_word is_at pa acts
 -- A fetch that answers a value fills the word that it read from the memory.
 abbrev pub word_filling : Op → Reply → (used : Option Entry) → (memory : ℕ → Option ℕ) → List (Act FetchWord) → Option FetchWord
 word_filling (ops.Fetch va) (replies.Value value) used memory acts =
-    word_of_fetch (cached_in acts (phys_at used va)) (phys_at used va) (unwrap_or (memory (phys_at used va)) 0)
+    fetched_from (cached_in acts (phys_at used va)) (phys_at used va) (unwrap_or (memory (phys_at used va)) 0)
 word_filling op reply used memory acts = None
 
 -- What happened to the instruction cache of a hart, newest first.

@@ -1,14 +1,17 @@
 -- What a board keeps, and how each part of it stands for the history.
-use Rattle.std.specs.Prelude.{slice_index_or, ◌≡◌, ◌<◌, ◌≤◌, ◌^◌, List, map, length, ℕ}
+use Rattle.std.specs.Prelude.{Option, slice_index_or, ◌≡◌, ◌<◌, ◌≤◌, ◌^◌, List, map, length, ℕ}
 use Rattle.hart_mask.specs.Ids.{ids_where}
 use Rattle.hsm.specs.Harts.{Hart}
 use Rattle.interrupts.specs.Timing.{Timing}
 use Rattle.sv39.specs.Memory.{pages_of, word_in}
 use Rattle.tlb_model.specs.declared.caches.Caches.{Caches}
+use Rattle.tlb_model.specs.declared.entry.Address.{Address}
+use Rattle.tlb_model.specs.declared.entry.Entry.{Entry}
+use Rattle.tlb_model.specs.declared.word.FetchWord.{FetchWord}
 use Rattle.tlb_model.specs.Acts.{cache_after}
-use Rattle.tlb_model.specs.Contents.{empty}
-use Rattle.tlb_model.specs.Entries.{covers_entry}
-use Rattle.tlb_model.specs.Words.{covers_word}
+use Rattle.tlb_model.specs.Contents.{empty, hit}
+use Rattle.tlb_model.specs.Entries.{covers_entry, matches}
+use Rattle.tlb_model.specs.Words.{covers_word, is_at}
 use Rattle.board_core.specs.declared.config.Config.{Config}
 use Rattle.board_core.specs.History.{Event}
 use Rattle.board_core.specs.declared.counts.Counts.{Counts}
@@ -53,6 +56,19 @@ pub record InterruptsStand (c : Config) (past : List Event) (i : Interrupts) : T
 abbrev pub no_caches : Caches
 no_caches = record { tlb = empty; words = empty }
 
+-- satp and the caches of hart h, and what is hit in them
+abbrev pub satp_at : Memory → ℕ → ℕ
+satp_at m h = slice_index_or m.satps.items h 0
+
+abbrev pub caches_at : Memory → ℕ → Caches
+caches_at m h = slice_index_or m.caches.items h no_caches
+
+abbrev pub tlb_hit : Caches → Address → Option Entry
+tlb_hit caches at = hit matches at caches.tlb
+
+abbrev pub word_hit : Caches → ℕ → Option FetchWord
+word_hit caches pa = hit is_at pa caches.words
+
 -- the caches of a hart as the past makes them
 abbrev pub caches_of : Config → List Event → ℕ → Caches
 caches_of c past h = record { tlb = cache_after covers_entry (tlb_acts past h); words = cache_after covers_word (word_acts c past h) }
@@ -87,8 +103,8 @@ pub record IsSized (c : Config) (m : Machine) : Type 0 where
 pub record CanFill (memory : Memory) (h : ℕ) : Type 0 where
   pub satps : h < length memory.satps.items
   pub caches : h < length memory.caches.items
-  pub tlb : (slice_index_or memory.caches.items h no_caches).tlb.next < 2 ^ 63
-  pub words : (slice_index_or memory.caches.items h no_caches).words.next < 2 ^ 63
+  pub tlb : (caches_at memory h).tlb.next < 2 ^ 63
+  pub words : (caches_at memory h).words.next < 2 ^ 63
 
 -- the counts can grow
 pub record HasRoom (counts : Counts) : Type 0 where

@@ -7,7 +7,8 @@ use Rattle.board_core.specs.declared.event.Op.TheVariants.{Advance}
 use Rattle.board_core.specs.declared.event.Reply.TheVariants.{Entry, Moved, Ret}
 use Rattle.board_core.specs.Csrs.{none_enabled}
 use Rattle.board_core.specs.Replies.{success}
-use Rattle.board_core.proofs.Events.{by_hart, deed, deed_of_entry, deed_of_resume, does_entry, does_resume}
+use Rattle.board_core.specs.History.{by_hart}
+use Rattle.board_core.proofs.Events.{deed, deed_of_entry, deed_of_resume, does_entry, does_resume}
 use Rattle.board_core.proofs.Rows.{accepted_goes_on, told}
 use Rattle.board_core.proofs.Standing.{counts-entered, counts-still, harts-own, interrupts-csrs, ipis-cleared, satps-written, ssie-quiet, ssie-written, sstatus_sie-written, stands-harts, stie-quiet, stie-written, timers-set}
 use Rattle.board_core.proofs.machine.Machine.advance.Goals as goal

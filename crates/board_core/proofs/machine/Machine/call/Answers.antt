@@ -2,7 +2,8 @@ use Rattle.std.proofs.Common.{ap, refl, sym, ◌∙◌}
 use Rattle.sbi_abi.specs.declared.call.Call.TheVariants.{ProbeExtension}
 use Rattle.board_core.specs.declared.event.Op.TheVariants.{Ecall}
 use Rattle.board_core.specs.Replies.{call_reply}
-use Rattle.board_core.proofs.Events.{by_hart, deed_of_call, does_call}
+use Rattle.board_core.specs.History.{by_hart}
+use Rattle.board_core.proofs.Events.{deed_of_call, does_call}
 use Rattle.board_core.proofs.Standing.{stands-quiet}
 use Rattle.board_core.proofs.machine.Machine.call.Goals as goal
 

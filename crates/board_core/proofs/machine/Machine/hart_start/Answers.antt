@@ -9,7 +9,8 @@ use Rattle.sbi_abi.specs.declared.call.Call.TheVariants.{HartStart}
 use Rattle.board_core.specs.declared.event.Op.TheVariants.{Ecall}
 use Rattle.board_core.specs.declared.event.Reply.TheVariants.{Ret}
 use Rattle.board_core.specs.Replies.{failure, success}
-use Rattle.board_core.proofs.Events.{by_hart, deed_of_call, does_call}
+use Rattle.board_core.specs.History.{by_hart}
+use Rattle.board_core.proofs.Events.{deed_of_call, does_call}
 use Rattle.board_core.proofs.Rows.{started_stopped, unstarted_not_stopped, unstarted_same}
 use Rattle.board_core.proofs.Standing.{counts-started, hart_at-stand, harts-started, stands-harts-counts, stands-quiet}
 use Rattle.board_core.proofs.machine.Machine.hart_start.Goals as goal

@@ -7,7 +7,8 @@ use Rattle.board_core.specs.declared.event.Op.TheVariants.{Ecall}
 use Rattle.board_core.specs.declared.event.Reply.TheVariants.{Ret, Gone}
 use Rattle.board_core.specs.Csrs.{sstatus_sie}
 use Rattle.board_core.specs.Replies.{failure}
-use Rattle.board_core.proofs.Events.{by_hart, deed_of_call, does_call}
+use Rattle.board_core.specs.History.{by_hart}
+use Rattle.board_core.proofs.Events.{deed_of_call, does_call}
 use Rattle.board_core.proofs.Standing.{bit-read, harts-own, interrupts-timers, stands-harts-interrupts, stands-quiet, timers-set}
 use Rattle.board_core.proofs.machine.Machine.hart_stop.Goals as goal
 

@@ -4,7 +4,8 @@ use Rattle.sbi_abi.specs.declared.call.Call.TheVariants.{HartSuspend}
 use Rattle.hsm.specs.declared.hart.HartState.TheVariants.{SuspendPending}
 use Rattle.board_core.specs.declared.event.Op.TheVariants.{Ecall}
 use Rattle.board_core.specs.declared.event.Reply.TheVariants.{Gone, Waiting}
-use Rattle.board_core.proofs.Events.{by_hart, deed_of_call, does_call}
+use Rattle.board_core.specs.History.{by_hart}
+use Rattle.board_core.proofs.Events.{deed_of_call, does_call}
 use Rattle.board_core.proofs.Standing.{harts-own, stands-harts}
 use Rattle.board_core.proofs.machine.Machine.hart_suspend.Goals as goal
 

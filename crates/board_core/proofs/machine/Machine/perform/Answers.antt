@@ -4,7 +4,8 @@ use Rattle.sv39.specs.Satp.{satp_written}
 use Rattle.board_core.specs.declared.event.Op.TheVariants.{ClearSsip, ReadSip, Wfi, WriteSatp, WriteSie, WriteSstatusSie}
 use Rattle.board_core.specs.declared.event.Reply.TheVariants.{Done, Value}
 use Rattle.board_core.specs.Csrs.{sie_of}
-use Rattle.board_core.proofs.Events.{by_hart, deed}
+use Rattle.board_core.specs.History.{by_hart}
+use Rattle.board_core.proofs.Events.{deed}
 use Rattle.board_core.proofs.Standing.{interrupts-csrs, interrupts-ipis, ipis-cleared, satp-read, satps-put, sip-read, ssie-quiet, ssie-written, sstatus_sie-quiet, sstatus_sie-written, stands-interrupts, stands-memory, stands-quiet, stie-quiet, stie-written}
 use Rattle.board_core.proofs.machine.Machine.perform.Goals as goal
 

@@ -12,7 +12,8 @@ use Rattle.board_core.specs.declared.event.Reply.TheVariants.{Ret}
 use Rattle.board_core.specs.Interrupts.{is_target}
 use Rattle.board_core.specs.States.{state}
 use Rattle.board_core.specs.Replies.{success}
-use Rattle.board_core.proofs.Events.{by_hart, deed_of_call, does_call}
+use Rattle.board_core.specs.History.{by_hart}
+use Rattle.board_core.proofs.Events.{deed_of_call, does_call}
 use Rattle.board_core.proofs.Standing.{hart_at-stand, interrupts-ipis, ipis-sent, stands-interrupts}
 use Rattle.board_core.proofs.machine.Machine.send_ipi.Goals as goal
 
