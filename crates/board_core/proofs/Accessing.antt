@@ -1,5 +1,5 @@
 -- What an access does, by the way that it takes.
-use Rattle.std.proofs.Common.{◌≡◌, ℕ, ◌%◌, Bool, true, false, not, refl, sym, ap, ◌∙◌}
+use Rattle.std.proofs.Common.{◌≡◌, ℕ, ◌%◌, Bool, true, false, not, List, refl, sym, ap, ◌∙◌}
 use Rattle.std.specs.Prelude.{Option, Some, None, Result, Ok, Err, unwrap_or, ◌==◌, if◌then◌else◌}
 use Rattle.sv39.specs.declared.cause.Cause.{Cause}
 use Rattle.sv39.specs.declared.cause.Kind.{Kind}
@@ -12,7 +12,11 @@ use Rattle.sv39.specs.Satp.{asid_of, is_sv39}
 use Rattle.tlb_model.specs.declared.entry.Address.{Address}
 use Rattle.tlb_model.specs.declared.entry.Entry.{Entry}
 use Rattle.tlb_model.specs.declared.word.FetchWord.{FetchWord}
-use Rattle.tlb_model.specs.Acts.{Act}
+use Rattle.tlb_model.specs.declared.fence.Flush.{Flush}
+use Rattle.tlb_model.specs.Acts.{Act, Fill, Drop, Clear, Nothing, acted}
+use Rattle.tlb_model.specs.Contents.{Contents}
+use Rattle.tlb_model.specs.Entries.{covers_entry}
+use Rattle.tlb_model.specs.Words.{covers_word}
 use Rattle.hart_access.specs.declared.operation.Access.{Access}
 use Rattle.hart_access.specs.declared.operation.Access.TheVariants.{Load, Store, Fetch}
 use Rattle.hart_access.specs.declared.way.Way.{Way}
@@ -22,8 +26,49 @@ use Rattle.hart_access.specs.Operations.{kind_of}
 use Rattle.hart_access.specs.Ways.{fill_by, phys_at, place_by, used_by, way, way_by}
 use Rattle.hart_access.proofs.Used.{place_of_used}
 use Rattle.board_core.specs.Accesses.{access_reply_of}
-use Rattle.board_core.specs.History.{access_op}
-use Rattle.board_core.specs.Memory.{cached_in, filling_of, storing_by, word_filling, written_by}
+use Rattle.board_core.specs.declared.config.Config.{Config}
+use Rattle.board_core.specs.declared.event.Reply.{Reply}
+use Rattle.board_core.specs.History.{Event, access_op, using}
+use Rattle.board_core.specs.Memory.{act_at, act_by, cached_in, effect_by, entry_filling, filling_of, hit_in, nothing, satp_by, storing_by, word_filling, written_by}
+use Rattle.board_core.proofs.Events.{deed, still}
+
+-- an act of the hart's own is what its cache sees
+pub own_act : {E : Type 0} (own : Bool) → own ≡ true → (act : Act E) → act_at own act ≡ act
+own_act own is Nothing = refl
+own_act own is (Fill item) = rw is refl
+own_act own is (Drop flush) = rw is refl
+own_act own is Clear = rw is refl
+
+filled_by_act : {E : Type 0} (covers : Flush → E → Bool) (cache : Contents E) (own : Bool) → own ≡ true → (filling : Option E)
+    → acted covers cache (act_at own (act_by nothing filling)) ≡ whole.filled_if cache filling
+filled_by_act covers cache own is None = refl
+filled_by_act covers cache own is (Some item) = rw is refl
+
+-- what the act of an access makes of the two caches
+pub tlb_by_act : (cache : Contents Entry) (own : Bool) → own ≡ true → (va : ℕ) (what : Access) (reply : Reply) (used : Option Entry) (satp : ℕ) (acts : List (Act Entry))
+    → acted covers_entry cache (act_at own (act_by (effect_by (access_op va what) reply) (entry_filling (access_op va what) used satp acts)))
+    ≡ whole.filled_if cache (filling_of (hit_in acts satp va) used)
+tlb_by_act cache own is va Load reply used satp acts = filled_by_act covers_entry cache own is (filling_of (hit_in acts satp va) used)
+tlb_by_act cache own is va (Store value) reply used satp acts = filled_by_act covers_entry cache own is (filling_of (hit_in acts satp va) used)
+tlb_by_act cache own is va Fetch reply used satp acts = filled_by_act covers_entry cache own is (filling_of (hit_in acts satp va) used)
+
+pub words_by_act : (cache : Contents FetchWord) (own : Bool) → own ≡ true → (va : ℕ) (what : Access) (reply : Reply) (filling : Option FetchWord)
+    → acted covers_word cache (act_at own (act_by (effect_by (access_op va what) reply) filling)) ≡ whole.filled_if cache filling
+words_by_act cache own is va Load reply filling = filled_by_act covers_word cache own is filling
+words_by_act cache own is va (Store value) reply filling = filled_by_act covers_word cache own is filling
+words_by_act cache own is va Fetch reply filling = filled_by_act covers_word cache own is filling
+
+-- an access touches nothing but the memory
+pub memory_alone : (c : Config) (past : List Event) (h va : ℕ) (what : Access) (reply : Reply) (used : Option Entry)
+    → (let d = deed c past (using h (access_op va what) reply used) in d ≡ record still { memory = d.memory })
+memory_alone c past h va Load reply used = refl
+memory_alone c past h va (Store value) reply used = refl
+memory_alone c past h va Fetch reply used = refl
+
+pub no_satp : (va : ℕ) (what : Access) (reply : Reply) → satp_by (access_op va what) reply ≡ None
+no_satp va Load reply = refl
+no_satp va (Store value) reply = refl
+no_satp va Fetch reply = refl
 
 -- an access fills what it used, where it hit nothing
 pub filled_unless_hit : (memory : ℕ → Option ℕ) (satp : ℕ) (tlb : Address → Option Entry) (va : ℕ) (kind : Kind)

@@ -355,10 +355,8 @@ fn refusal(state: HartState, wake: bool, op: Op, is_full: bool) -> Option<Refusa
     ensures { result ≡ first_that_holds (refusals_in state wake op is_full) }
 {
     let (in_phase, has_work) = match op {
-        Op::Ecall(_) | Op::WriteSatp(_) | Op::WriteSie(_) | Op::WriteSstatusSie(_) => (
-            state.is_started(),
-            true,
-        ),
+        Op::Ecall(_) | Op::Load(_) | Op::Store(..) | Op::Fetch(_) => (state.is_started(), true),
+        Op::WriteSatp(_) | Op::WriteSie(_) | Op::WriteSstatusSie(_) => (state.is_started(), true),
         Op::ReadSip | Op::ClearSsip | Op::Sfence(..) | Op::FenceI => (state.is_started(), true),
         Op::Wfi => (state.is_started(), wake),
         Op::Advance => (!state.is_started(), state.goes_on(wake)),

@@ -31,7 +31,7 @@ impl Memory {
         let ram = Ram::new(alloc, config.pages)?;
         let mut satps = Vec::with_capacity(alloc, config.harts as usize)?;
         let mut caches = Vec::with_capacity(alloc, config.harts as usize)?;
-        for _h in 0..config.harts {
+        for h in 0..config.harts {
             satps.push(Satp::bare())?;
             caches.push(Caches::new(alloc)?)?;
         }
@@ -81,7 +81,14 @@ impl Memory {
     {
         let satp = self.satps[h as usize];
         let caches = &mut self.caches[h as usize];
-        access(&mut self.ram, satp, &mut caches.tlb, &mut caches.words, va, what)
+        access(
+            &mut self.ram,
+            satp,
+            &mut caches.tlb,
+            &mut caches.words,
+            va,
+            what,
+        )
     }
 
     /// A local fence of hart `h` drops what it covers from its caches (Privileged 4.2.1; Zifencei).

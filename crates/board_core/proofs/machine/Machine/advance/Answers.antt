@@ -10,7 +10,7 @@ use Rattle.board_core.specs.Replies.{success}
 use Rattle.board_core.specs.History.{by_hart}
 use Rattle.board_core.proofs.Events.{deed, deed_of_entry, deed_of_resume, does_entry, does_resume}
 use Rattle.board_core.proofs.Rows.{accepted_goes_on, told}
-use Rattle.board_core.proofs.Standing.{counts-entered, counts-still, harts-own, interrupts-csrs, ipis-cleared, satps-written, ssie-quiet, ssie-written, sstatus_sie-written, stands-harts, stie-quiet, stie-written, timers-set}
+use Rattle.board_core.proofs.Standing.{counts-entered, counts-still, harts-own, interrupts-csrs, ipis-cleared, memory-satps, satps-written, ssie-quiet, ssie-written, sstatus_sie-written, stands-harts, stie-quiet, stie-written, timers-set}
 use Rattle.board_core.proofs.machine.Machine.advance.Goals as goal
 
 pub unreachable-requires : goal.unreachable-requires
@@ -61,7 +61,8 @@ returns-in-Some-Entered-clause-after c = λ config past stands.
         ipis = ipis-cleared config past event d does h refl m.interrupts.ipis refl (λ i. refl) stands.interrupts.ipis;
         timers = timers-set config past event d does h refl m.interrupts.timers None refl refl stands.interrupts.timers;
       };
-      memory = record { satps = c.enter-2.ensures ∙ satps-written config past event d does m.memory.satps.items h 0 refl refl stands.memory.satps };
+      memory = memory-satps config past event d does m.memory _ refl stands.memory c.make_bare.ensures.ram c.make_bare.ensures.caches
+          (c.make_bare.ensures.satps ∙ satps-written config past event d does m.memory.satps.items h 0 refl refl stands.memory.satps);
       counts = counts-entered config past event d does m.counts _ refl stands.counts;
     }
 
@@ -83,7 +84,8 @@ returns-in-Some-Resumed-clause-after c = λ config past stands.
         ssie = ssie-quiet config past event d does m.interrupts.csrs.ssie refl csrs.ssie;
         stie = stie-quiet config past event d does m.interrupts.csrs.stie refl csrs.stie;
       };
-      memory = record { satps = c.enter-in-Some-Resumed.ensures ∙ satps-written config past event d does m.memory.satps.items h 0 refl refl stands.memory.satps };
+      memory = memory-satps config past event d does m.memory _ refl stands.memory c.make_bare-in-Some-Resumed.ensures.ram c.make_bare-in-Some-Resumed.ensures.caches
+          (c.make_bare-in-Some-Resumed.ensures.satps ∙ satps-written config past event d does m.memory.satps.items h 0 refl refl stands.memory.satps);
       counts = counts-still config past event d does m.counts refl stands.counts;
     }
 
