@@ -1,22 +1,16 @@
 -- What an access answers and what it leaves, by what is in the memory, in satp and in the caches before it.
 -- The memory is a function from an address to the word there; the caches are functions from what is looked up to the hit.
-use Rattle.std.specs.Prelude.{ℕ, Option, Some, None, unwrap_or, option_map, Result, Ok, Err}
+use Rattle.std.specs.Prelude.{ℕ, Option, Some, None, unwrap_or, Result, Ok, Err}
 use Rattle.sv39.specs.declared.cause.Cause.{Cause}
 use Rattle.sv39.specs.Memory.{written}
 use Rattle.tlb_model.specs.declared.entry.Address.{Address}
 use Rattle.tlb_model.specs.declared.entry.Entry.{Entry}
 use Rattle.tlb_model.specs.declared.word.FetchWord.{FetchWord}
-use Rattle.tlb_model.specs.Contents.{Contents, filled}
 use Rattle.hart_access.specs.declared.operation.Access.{Access}
 use Rattle.hart_access.specs.declared.operation.Access.TheVariants.{Load, Store, Fetch}
 use Rattle.hart_access.specs.declared.way.Way.{Way}
 use Rattle.hart_access.specs.Operations.{kind_of}
 use Rattle.hart_access.specs.Ways.{fill_by, place_by, used_by, way}
-
--- a cache after this fill, or none
-abbrev pub filled_if : {E : Type 0} → Contents E → Option E → Contents E
-filled_if cache (Some item) = filled cache item
-filled_if cache None = cache
 
 -- A fetch reads the word that was fetched before, where the cache has it, and else the memory's (Zifencei).
 abbrev pub fetched_or : Option FetchWord → (word : ℕ) → ℕ

@@ -1,3 +1,4 @@
 pub mod Operations
 pub mod Ways
 pub mod Accesses
+pub mod Translations

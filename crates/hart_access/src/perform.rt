@@ -1,9 +1,9 @@
 ghost use Rattle.std.specs.Prelude.{◌≡◌, ◌<◌, ◌^◌, IsTrue, is_some};
 ghost use Rattle.sv39.specs.Memory.{pages_of, word_in};
-ghost use Rattle.tlb_model.specs.Contents.{hit};
+ghost use Rattle.tlb_model.specs.Contents.{filled_if, hit};
 ghost use Rattle.tlb_model.specs.Entries.{matches};
 ghost use Rattle.tlb_model.specs.Words.{is_at};
-ghost use Rattle.hart_access.specs.Accesses.{answer, filling, filled_if, read_at, stored, stored_at, used, word_filling, word_filling_at};
+ghost use Rattle.hart_access.specs.Accesses.{answer, filling, read_at, stored, stored_at, used, word_filling, word_filling_at};
 
 use crate::operation::{Access, Accessed};
 use crate::way::Way;

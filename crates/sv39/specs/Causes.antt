@@ -1,11 +1,11 @@
--- Why accesses fail, and the exception codes of it (Privileged 4.1.8, table 4.2).
+-- Why accesses fail, and the exception codes of it (Privileged 4.1.8).
 use Rattle.std.specs.Prelude.{ℕ}
 use Rattle.sv39.specs.declared.cause.Kind.{Kind}
 use Rattle.sv39.specs.declared.cause.Kind.TheVariants.{Fetch, Load, Store}
 use Rattle.sv39.specs.declared.cause.Cause.{Cause}
 use Rattle.sv39.specs.declared.cause.Cause.TheVariants.{InstructionAddressMisaligned, InstructionAccessFault, LoadAddressMisaligned, LoadAccessFault, StoreAddressMisaligned, StoreAccessFault, InstructionPageFault, LoadPageFault, StorePageFault}
 
--- The exception codes (Privileged 4.1.8, table 4.2).
+-- The exception codes (Privileged 4.1.8).
 abbrev pub cause_number : Cause → ℕ
 cause_number InstructionAddressMisaligned = 0
 cause_number InstructionAccessFault = 1

@@ -7,7 +7,7 @@ use Rattle.sv39.specs.declared.page.Leaf.{Leaf}
 use Rattle.sv39.specs.Pages.{level_number, page_of}
 
 -- Whether a bit of an entry is 1: V 0, R 1, W 2, X 3, U 4, G 5, A 6, D 7; bits 8 and 9, RSW, are ignored (Privileged
--- 4.3.1, 4.4.1, figure 4.18).
+-- 4.3.1, 4.4.1).
 abbrev pub has_bit : ℕ → ℕ → Bool
 has_bit n entry = bit_at entry n == 1
 
@@ -47,10 +47,10 @@ has_d = has_bit 7
 abbrev pub page_number : ℕ → ℕ
 page_number entry = entry / 2 ^ 10 % 2 ^ 44
 
--- Bits 63 to 54 are 0: they are reserved, or of an extension that isn't there (Privileged 4.4.1; Svnapot and Svpbmt
--- aren't supported: profile).
-abbrev pub has_no_reserved_bit : ℕ → Bool
-has_no_reserved_bit entry = entry / 2 ^ 54 == 0
+-- An entry can be a pointer or a leaf only with V, and with bits 63 to 54 all 0: those are reserved, or of an extension
+-- (Privileged 4.3.2, 4.4.1; that a board has neither Svnapot nor Svpbmt: profile).
+abbrev pub is_present : ℕ → Bool
+is_present entry = has_v entry && (entry / 2 ^ 54 == 0)
 
 -- the level below another one, if there is one
 abbrev pub below : Level → Option Level
@@ -58,24 +58,25 @@ below Giga = Some Mega
 below Mega = Some Kilo
 below Kilo = None
 
--- The entry is a good pointer to the table of the level below: it is valid, without R, W and X, and without A, D and U,
--- which are reserved there, and no bit from 54 on is set (Privileged 4.3.1, 4.3.2, 4.4.1).
+-- The entry is a good pointer to a table of the level below: it has none of R, W and X, and none of A, D and U, which
+-- are reserved in a pointer (Privileged 4.3.1, 4.3.2).
 abbrev pub is_pointer : Level → ℕ → Bool
 is_pointer level entry =
-    is_some (below level) && has_v entry && not (has_r entry) && not (has_w entry) && not (has_x entry)
-    && not (has_a entry) && not (has_d entry) && not (has_u entry) && has_no_reserved_bit entry
+    is_some (below level) && is_present entry
+    && not (has_r entry || has_w entry || has_x entry)
+    && not (has_a entry || has_d entry || has_u entry)
 
 -- The low parts of a superpage's PPN, one of 9 bits for each level below, are 0 (Privileged 4.3.2).
 abbrev pub is_aligned : Level → ℕ → Bool
 is_aligned level entry = page_number entry % 512 ^ level_number level == 0
 
--- The entry is a right leaf, whatever the access: it is valid, with R or X, and W only with R; no bit from 54 on is
--- set; the page isn't the user's (a supervisor without SUM: profile), was accessed (a board faults in place of setting
--- A: profile), and is aligned (Privileged 4.3.1, 4.3.2, 4.4.1).
+-- The entry is a right leaf, whatever the access: it has R or X, and W only with R; the page isn't the user's (a board
+-- has no SUM: profile), was accessed (a board faults in place of setting A: profile), and is aligned (Privileged 4.3.1,
+-- 4.3.2, 4.4.1).
 abbrev pub is_leaf : Level → ℕ → Bool
 is_leaf level entry =
-    has_v entry && (has_r entry || has_x entry) && not (has_w entry && not (has_r entry))
-    && has_no_reserved_bit entry && not (has_u entry) && has_a entry && is_aligned level entry
+    is_present entry && (has_r entry || has_x entry) && (has_r entry || not (has_w entry))
+    && not (has_u entry) && has_a entry && is_aligned level entry
 
 -- What a right leaf says of the page that has the address. It is global by the entry, or by a pointer above it
 -- (Privileged 4.3.1).

@@ -22,6 +22,6 @@ unfoldable pub is_valid : ℕ → Bool
 is_valid va = va / 2 ^ 39 == (2 ^ 25 - 1) * bit_at va 38
 
 -- VPN: the part of an address that picks the entry of a level's table, 9 bits above the page offset and the parts of
--- the levels below (Privileged 4.4.1, figure 4.16).
+-- the levels below (Privileged 4.4.1).
 abbrev pub part : Level → ℕ → ℕ
 part level va = va / size level % 512

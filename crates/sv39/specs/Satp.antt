@@ -1,7 +1,7 @@
 -- The supervisor address translation and protection register (Privileged 4.1.11).
 use Rattle.std.specs.Prelude.{◌≡◌, ℕ, ◌/◌, ◌%◌, ◌^◌, Bool, false, ◌==◌, if◌then◌else◌}
 
--- MODE, bits 63 to 60: 0 is Bare, 8 is Sv39 (Privileged 4.1.11, table 4.4).
+-- MODE, bits 63 to 60: 0 is Bare, 8 is Sv39 (Privileged 4.1.11).
 abbrev pub mode_of : ℕ → ℕ
 mode_of satp = satp / 2 ^ 60 % 2 ^ 4
 

@@ -1,7 +1,7 @@
 ghost use Rattle.std.specs.Prelude.{◌≡◌};
 ghost use Rattle.sv39.specs.Causes.{access_fault, cause_number, misaligned, page_fault};
 
-/// The kinds of access (Privileged 3.1.15).
+/// The kinds of access (Privileged 4.1.8).
 #[derive(Clone, Copy, Debug, PartialEq, Eq)]
 pub enum Kind {
     /// An instruction is fetched.

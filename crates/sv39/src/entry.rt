@@ -1,9 +1,27 @@
 ghost use Rattle.std.specs.Prelude.{◌≡◌, ◌*◌, ◌<◌, Some, None, if◌then◌else◌};
-ghost use Rattle.sv39.specs.Entries.{below, has_bit, has_g, is_aligned, is_leaf, is_pointer, leaf_of, page_number};
+ghost use Rattle.sv39.specs.Entries.{below, has_bit, has_g, is_aligned, is_leaf, is_pointer, is_present, leaf_of, page_number};
 ghost use Rattle.sv39.specs.Maps.{outcome};
 
 use crate::cause::{Cause, Kind};
 use crate::page::{Leaf, Level};
+
+// The bits of an entry (Privileged 4.3.1).
+
+const V: u64 = 0;
+
+const R: u64 = 1;
+
+const W: u64 = 2;
+
+const X: u64 = 3;
+
+const U: u64 = 4;
+
+const G: u64 = 5;
+
+const A: u64 = 6;
+
+const D: u64 = 7;
 
 /// An entry of a page table (Privileged 4.3.1, 4.4.1).
 #[derive(Clone, Copy)]
@@ -24,7 +42,7 @@ impl TableEntry {
     pub fn is_global(self) -> bool
         ensures { result ≡ has_g self.bits }
     {
-        self.has(5)
+        self.has(G)
     }
 
     /// The physical address of the page that the entry names.
@@ -45,29 +63,31 @@ impl TableEntry {
         }
     }
 
+    /// V, and no bit from 54 on.
+    fn is_present(self) -> bool
+        ensures { result ≡ is_present self.bits }
+    {
+        self.has(V) && self.bits >> 54 == 0
+    }
+
+    /// Whether the entry is a good pointer, at a level with another one below.
     fn is_branch(self) -> bool
         ensures { result ≡ is_pointer Level.Mega self.bits }
     {
-        self.has(0)
-            && !self.has(1)
-            && !self.has(2)
-            && !self.has(3)
-            && !self.has(6)
-            && !self.has(7)
-            && !self.has(4)
-            && self.bits >> 54 == 0
+        self.is_present()
+            && !(self.has(R) || self.has(W) || self.has(X))
+            && !(self.has(A) || self.has(D) || self.has(U))
     }
 
     /// Whether the entry is a right leaf of the level.
     fn is_leaf(self, level: Level) -> bool
         ensures { result ≡ is_leaf level self.bits }
     {
-        self.has(0)
-            && (self.has(1) || self.has(3))
-            && !(self.has(2) && !self.has(1))
-            && self.bits >> 54 == 0
-            && !self.has(4)
-            && self.has(6)
+        self.is_present()
+            && (self.has(R) || self.has(X))
+            && (self.has(R) || !self.has(W))
+            && !self.has(U)
+            && self.has(A)
             && self.is_aligned(level)
     }
 
@@ -101,10 +121,10 @@ impl TableEntry {
             level,
             global: self.is_global() || global,
             pa: self.address(),
-            r: self.has(1),
-            w: self.has(2),
-            x: self.has(3),
-            d: self.has(7),
+            r: self.has(R),
+            w: self.has(W),
+            x: self.has(X),
+            d: self.has(D),
         }
     }
 }

@@ -65,7 +65,8 @@ impl Ram {
         requires { IsTrue (is_some (word_in self.now at)) }
         ensures { word_in self.now at ≡ Some result }
     {
-        self.words[word_place(at)]
+        let place = word_place(at);
+        self.words[place]
     }
 
     /// Puts another word at the address. All others stay.

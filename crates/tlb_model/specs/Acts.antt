@@ -1,5 +1,5 @@
 -- What happened to a cache, and what lives in it by that alone (profile).
-use Rattle.std.specs.Prelude.{◌≡◌, ℕ, ◌-◌, ◌<◌, ◌≤◌, nat_lt, List, [], ◌∷◌, ◌++◌, length, map, take, Bool, true, false, not, ◌&&◌, filter, find, Option, option_map}
+use Rattle.std.specs.Prelude.{◌≡◌, ℕ, ◌-◌, ◌<◌, ◌≤◌, nat_lt, List, [], ◌∷◌, ◌++◌, length, map, take, Bool, true, false, not, ◌&&◌, filter, find, Option, Some, None, option_map}
 use Rattle.std.specs.List.{All, list_any}
 use Rattle.tlb_model.specs.declared.cache.Numbered.{Numbered}
 use Rattle.tlb_model.specs.declared.fence.Flush.{Flush}
@@ -11,6 +11,11 @@ pub data Act (E : Type 0) : Type 0 where
   Drop : Flush → Act E
   Clear : Act E
   Nothing : Act E
+
+-- a fill, where an item is filled
+abbrev pub act_of : {E : Type 0} → Option E → Act E
+act_of (Some item) = Fill item
+act_of None = Nothing
 
 -- A fill of the past: its date is how many acts there were before it, and its number how many fills.
 pub record Filling (E : Type 0) : Type 0 where

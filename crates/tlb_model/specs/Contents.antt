@@ -1,5 +1,5 @@
 -- What a cache is, for its contracts: its next number, and its live fills.
-use Rattle.std.specs.Prelude.{ℕ, ◌+◌, ◌<◌, ◌≤◌, nat_lt, List, [], ◌∷◌, Bool, not, filter, find, Option, option_map}
+use Rattle.std.specs.Prelude.{ℕ, ◌+◌, ◌<◌, ◌≤◌, nat_lt, List, [], ◌∷◌, Bool, not, filter, find, Option, Some, None, option_map}
 use Rattle.tlb_model.specs.declared.cache.Numbered.{Numbered}
 
 -- the number of the next fill, and the live fills, newest first
@@ -20,6 +20,11 @@ module _ {E : Type 0} where
   abbrev pub filled : Contents E → E → Contents E
   filled cache item =
       record { next = cache.next + 1; live = record { number = cache.next; item = item } ∷ filter (is_young cache.next) cache.live }
+
+  -- the cache after this fill, or after none
+  abbrev pub filled_if : Contents E → Option E → Contents E
+  filled_if cache (Some item) = filled cache item
+  filled_if cache None = cache
 
   -- A fence drops what it covers, and nothing else (Privileged 4.2.1; Zifencei).
   abbrev pub fenced : {F : Type 0} → (covers : F → E → Bool) → Contents E → F → Contents E

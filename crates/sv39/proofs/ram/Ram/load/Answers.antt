@@ -3,8 +3,8 @@ use Rattle.std.proofs.lemmas.Option.{slice_get_read}
 use Rattle.sv39.proofs.Words.{stands, word_in-place}
 use Rattle.sv39.proofs.ram.Ram.load.Goals as goal
 
-pub word_place-requires : goal.word_place-requires
-word_place-requires c = omega (arith, stands _ _ c.requires)
+pub word_place-place-requires : goal.word_place-place-requires
+word_place-place-requires c = omega (arith, stands _ _ c.requires)
 
 pub index-requires : goal.index-requires
 index-requires c = omega (arith, ap length c.self.view_is, stands _ _ c.requires)

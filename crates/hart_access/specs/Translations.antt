@@ -1,0 +1,42 @@
+-- Which entry an access uses, and what it fills, by conditions.
+use Rattle.std.specs.Prelude.{◌≡◌, ℕ, ◌%◌, true, Option, Some, None, Ok}
+use Rattle.sv39.specs.Maps.{maps}
+use Rattle.sv39.specs.Pages.{is_valid}
+use Rattle.sv39.specs.Satp.{asid_of, is_sv39}
+use Rattle.tlb_model.specs.declared.entry.Address.{Address}
+use Rattle.tlb_model.specs.declared.entry.Entry.{Entry}
+use Rattle.tlb_model.specs.declared.word.FetchWord.{FetchWord}
+use Rattle.hart_access.specs.declared.operation.Access.{Access}
+use Rattle.hart_access.specs.declared.operation.Access.TheVariants.{Fetch}
+use Rattle.hart_access.specs.Accesses.{place}
+use Rattle.hart_access.specs.Operations.{kind_of}
+
+-- The address is aligned to 8 and valid, and satp translates it by Sv39 (Privileged 4.1.11, 4.4.1).
+pub record IsTranslated (satp va : ℕ) : Type 0 where
+  pub aligned : va % 8 ≡ 0
+  pub mode : is_sv39 satp ≡ true
+  pub valid : is_valid va ≡ true
+
+-- what the TLB has for the address, in satp's address space
+abbrev pub hit_at : (satp : ℕ) → (tlb : Address → Option Entry) → (va : ℕ) → Option Entry
+hit_at satp tlb va = tlb (record { va = va; asid = asid_of satp })
+
+-- The access hits this entry (Privileged 4.2.1).
+pub record Hits (satp : ℕ) (tlb : Address → Option Entry) (va : ℕ) (entry : Entry) : Type 0 where
+  pub translated : IsTranslated satp va
+  pub hit : hit_at satp tlb va ≡ Some entry
+
+-- The access fills this entry: it hits none, and the page tables give the entry's leaf. The entry has satp's ASID
+-- (Privileged 4.2.1, 4.3.2).
+pub record Fills (memory : ℕ → Option ℕ) (satp : ℕ) (tlb : Address → Option Entry) (va : ℕ) (access : Access) (entry : Entry) : Type 0 where
+  pub translated : IsTranslated satp va
+  pub missed : hit_at satp tlb va ≡ None
+  pub mapped : maps memory satp va (kind_of access) ≡ Ok entry.leaf
+  pub space : entry.asid ≡ asid_of satp
+
+-- The access fills this word: it is a fetch that has a word of the memory, and the cache had none (Zifencei).
+pub record Fetches (memory : ℕ → Option ℕ) (satp : ℕ) (tlb : Address → Option Entry) (words : ℕ → Option FetchWord) (va : ℕ) (access : Access) (fetched : FetchWord) : Type 0 where
+  pub kind : access ≡ Fetch
+  pub place : place memory satp tlb va access ≡ Ok fetched.pa
+  pub missed : words fetched.pa ≡ None
+  pub word : memory fetched.pa ≡ Some fetched.word
