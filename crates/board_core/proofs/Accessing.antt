@@ -14,7 +14,7 @@ use Rattle.tlb_model.specs.declared.entry.Entry.{Entry}
 use Rattle.tlb_model.specs.declared.word.FetchWord.{FetchWord}
 use Rattle.tlb_model.specs.declared.fence.Flush.{Flush}
 use Rattle.tlb_model.specs.Acts.{Act, Fill, Drop, Clear, Nothing, acted}
-use Rattle.tlb_model.specs.Contents.{Contents}
+use Rattle.tlb_model.specs.Contents.{Contents, filled_if}
 use Rattle.tlb_model.specs.Entries.{covers_entry}
 use Rattle.tlb_model.specs.Words.{covers_word}
 use Rattle.hart_access.specs.declared.operation.Access.{Access}
@@ -40,20 +40,20 @@ own_act own is (Drop flush) = rw is refl
 own_act own is Clear = rw is refl
 
 filled_by_act : {E : Type 0} (covers : Flush → E → Bool) (cache : Contents E) (own : Bool) → own ≡ true → (filling : Option E)
-    → acted covers cache (act_at own (act_by nothing filling)) ≡ whole.filled_if cache filling
+    → acted covers cache (act_at own (act_by nothing filling)) ≡ filled_if cache filling
 filled_by_act covers cache own is None = refl
 filled_by_act covers cache own is (Some item) = rw is refl
 
 -- what the act of an access makes of the two caches
 pub tlb_by_act : (cache : Contents Entry) (own : Bool) → own ≡ true → (va : ℕ) (what : Access) (reply : Reply) (used : Option Entry) (satp : ℕ) (acts : List (Act Entry))
     → acted covers_entry cache (act_at own (act_by (effect_by (access_op va what) reply) (entry_filling (access_op va what) used satp acts)))
-    ≡ whole.filled_if cache (filling_of (hit_in acts satp va) used)
+    ≡ filled_if cache (filling_of (hit_in acts satp va) used)
 tlb_by_act cache own is va Load reply used satp acts = filled_by_act covers_entry cache own is (filling_of (hit_in acts satp va) used)
 tlb_by_act cache own is va (Store value) reply used satp acts = filled_by_act covers_entry cache own is (filling_of (hit_in acts satp va) used)
 tlb_by_act cache own is va Fetch reply used satp acts = filled_by_act covers_entry cache own is (filling_of (hit_in acts satp va) used)
 
 pub words_by_act : (cache : Contents FetchWord) (own : Bool) → own ≡ true → (va : ℕ) (what : Access) (reply : Reply) (filling : Option FetchWord)
-    → acted covers_word cache (act_at own (act_by (effect_by (access_op va what) reply) filling)) ≡ whole.filled_if cache filling
+    → acted covers_word cache (act_at own (act_by (effect_by (access_op va what) reply) filling)) ≡ filled_if cache filling
 words_by_act cache own is va Load reply filling = filled_by_act covers_word cache own is filling
 words_by_act cache own is va (Store value) reply filling = filled_by_act covers_word cache own is filling
 words_by_act cache own is va Fetch reply filling = filled_by_act covers_word cache own is filling

@@ -16,7 +16,12 @@ use Rattle.board_core.specs.declared.config.Config.{Config}
 use Rattle.board_core.specs.declared.csrs.Csrs.{Csrs}
 use Rattle.board_core.specs.declared.csrs.Sie.{Sie}
 use Rattle.board_core.specs.declared.event.Actor.TheVariants as actors
-use Rattle.board_core.specs.History.{Event}
+use Rattle.board_core.specs.History.{Event, by_hart}
+use Rattle.sbi_abi.specs.declared.call.Call.{Call}
+use Rattle.sbi_abi.specs.declared.call.Regs.{Regs}
+use Rattle.sbi_abi.specs.Calls.{call_of}
+use Rattle.board_core.specs.declared.event.Op.TheVariants.{Ecall}
+use Rattle.board_core.specs.declared.event.Reply.{Reply}
 use Rattle.board_core.specs.declared.counts.Counts.{Counts}
 use Rattle.board_core.specs.declared.interrupt_state.Interrupts.{Interrupts}
 use Rattle.board_core.specs.declared.machine.Machine.{Machine}
@@ -39,7 +44,7 @@ use Rattle.board_core.specs.Starts.{Start, all_pending, entries, entry_by, hart_
 use Rattle.board_core.specs.Stands.{CanFill, CountsStand, CsrsStand, HartsStand, InterruptsStand, IpisStand, MemoryStand, StandsFor, TimersStand, caches_at, caches_of, no_caches, tlb_hit, word_hit}
 use Rattle.board_core.specs.States.{is_starting, move_of, state}
 use Rattle.board_core.specs.Suspends.{resume_by, resume_point}
-use Rattle.board_core.proofs.Events.{CountsDeed, Deed, HartsDeed, InterruptsDeed, MemoryDeed, deed, still}
+use Rattle.board_core.proofs.Events.{CountsDeed, Deed, HartsDeed, InterruptsDeed, MemoryDeed, deed, deed_of_call, does_call, still}
 use Rattle.board_core.proofs.Tables.{count_by-map, eqb-other, eqb-same, length-filter_map, tabulate-same, tabulate-set}
 
 -- what was written last, at the hart that wrote and at another
@@ -340,7 +345,7 @@ module _ (c : Config) (past : List Event) (event : Event) (d : Deed) (does : dee
       let words = keeps_what_lives covers_word _ (word_acts c past h) ∙ ap (acted covers_word (caches_of c past h).words) (acts_on_words h) in
       λ i. record { tlb = tlb i; words = words i }
 
-  caches-same : (h : ℕ) → d.memory.tlb_act h ≡ Nothing → d.memory.word_act h ≡ Nothing → caches_of c (event ∷ past) h ≡ caches_of c past h
+  pub caches-same : (h : ℕ) → d.memory.tlb_act h ≡ Nothing → d.memory.word_act h ≡ Nothing → caches_of c (event ∷ past) h ≡ caches_of c past h
   caches-same h no_tlb no_words =
       caches-more h ∙ (λ i. record { tlb = acted covers_entry (caches_of c past h).tlb (no_tlb i); words = acted covers_word (caches_of c past h).words (no_words i) })
 
@@ -502,6 +507,12 @@ module _ (c : Config) (past : List Event) (event : Event) (d : Deed) (does : dee
     memory = memory-still m.memory (ap (λ (e : Deed). e.memory) alone) stands.memory;
     counts = counted;
   }
+
+-- a call that does nothing
+pub call-quiet : (c : Config) (past : List Event) (x : ℕ) (regs : Regs) (call : Call) (reply : Reply) (m : Machine) → call ≡ call_of regs
+    → deed_of_call c past x call reply ≡ still → StandsFor c past m → StandsFor c (by_hart x (Ecall regs) reply ∷ past) m
+call-quiet c past x regs call reply m is none stands =
+    stands-quiet c past (by_hart x (Ecall regs) reply) (deed_of_call c past x call reply) (does_call c past x regs call reply is) m none stands
 
 -- ---- what the parts tell
 

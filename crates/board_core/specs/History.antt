@@ -4,7 +4,7 @@ use Rattle.tlb_model.specs.declared.entry.Entry.{Entry}
 use Rattle.hart_access.specs.declared.operation.Access.{Access}
 use Rattle.hart_access.specs.declared.operation.Access.TheVariants as accesses
 use Rattle.board_core.specs.declared.event.Actor.{Actor}
-use Rattle.board_core.specs.declared.event.Actor.TheVariants.{Hart}
+use Rattle.board_core.specs.declared.event.Actor.TheVariants.{Hart, Clock}
 use Rattle.board_core.specs.declared.event.Op.{Op}
 use Rattle.board_core.specs.declared.event.Op.TheVariants.{Load, Store, Fetch}
 use Rattle.board_core.specs.declared.event.Reply.{Reply}
@@ -25,6 +25,10 @@ by_hart x op reply = record { actor = Hart x; op = op; reply = reply; translatio
 -- an operation of hart x, with the entry that it used
 abbrev pub using : (x : ℕ) → Op → Reply → Option Entry → Event
 using x op reply used = record { actor = Hart x; op = op; reply = reply; translation = used }
+
+-- an operation of the clock
+abbrev pub by_clock : Op → Reply → Event
+by_clock op reply = record { actor = Clock; op = op; reply = reply; translation = None }
 
 -- an access, and its address
 pub record Reach : Type 0 where

@@ -1,10 +1,10 @@
 ghost use Rattle.std.specs.Prelude.{◌≡◌, ◌<◌, IfOk, [], length, slice_set};
 ghost use Rattle.sv39.specs.Memory.{pages_of, word_in};
 ghost use Rattle.sv39.specs.Satp.{satp_written};
-ghost use Rattle.tlb_model.specs.Contents.{cleared, fenced};
+ghost use Rattle.tlb_model.specs.Contents.{cleared, fenced, filled_if};
 ghost use Rattle.tlb_model.specs.Entries.{covers_entry};
 ghost use Rattle.tlb_model.specs.Words.{covers_word};
-ghost use Rattle.hart_access.specs.Accesses.{answer, filled_if, filling, stored, used, word_filling};
+ghost use Rattle.hart_access.specs.Accesses.{answer, filling, stored, used, word_filling};
 ghost use Rattle.board_core.specs.Limits.{IsGood};
 ghost use Rattle.board_core.specs.Stands.{CanFill, MemoryStand, caches_at, satp_at, tlb_hit, word_hit};
 

@@ -3,7 +3,12 @@ use Rattle.board_core.specs.Course.{Course}
 use Rattle.board_core.proofs.Standing.{length-satps, satp-read}
 use Rattle.board_core.proofs.board.Board.satp.Goals as goal
 
+pub satp-requires : goal.satp-requires
+satp-requires c =
+    let same_config = ap (λ (b : Course). b.config.harts) c.self.view_is in
+    omega (arith, length-satps _ _ _ c.self.invariant.1.memory)
+
 pub returns : goal.returns
 returns c =
     let same_config = ap (λ (b : Course). b.config.harts) c.self.view_is in
-    rw (← c.self.view_is) (c.bits.ensures ∙ satp-read _ _ _ c.args.h _ (omega arith) c.self.invariant.1.memory)
+    rw (← c.self.view_is) (c.bits.ensures ∙ c.satp.ensures ∙ satp-read _ _ _ c.args.h 0 (omega arith) c.self.invariant.1.memory)
