@@ -1,13 +1,14 @@
 -- How an accepted step makes a course one event longer.
 use Rattle.std.proofs.Common.{◌≡◌, ◌≢◌, ℕ, ◌+◌, ◌<◌, Bool, true, false, List, [], ◌∷◌, ◌++◌, length, reverse, refl, sym, ap, ◌∙◌, arith, eqb, inl, inr}
-use Rattle.std.specs.Prelude.{None, Ok, is_some, unwrap_or, nat_le, nat_lt}
+use Rattle.std.specs.Prelude.{Option, None, Ok, is_some, unwrap_or, nat_le, nat_lt}
 use Rattle.std.proofs.lemmas.Bool.{cases_Bool, le-ltb, leb-true, lt-leb}
 use Rattle.std.proofs.lemmas.List.{reverse-append}
 use Rattle.hsm.specs.declared.hart.HartState.{HartState}
 use Rattle.interrupts.specs.Timing.{Timing, last_time, ticked}
+use Rattle.tlb_model.specs.declared.entry.Entry.{Entry}
 use Rattle.board_core.specs.declared.config.Config.{Config}
 use Rattle.board_core.specs.declared.event.Actor.TheVariants.{Hart, Clock}
-use Rattle.board_core.specs.History.{Event, translation_of, what_of}
+use Rattle.board_core.specs.History.{Event, translation_of, using, what_of}
 use Rattle.board_core.specs.declared.event.Op.{Op}
 use Rattle.board_core.specs.declared.event.Op.TheVariants.{Ecall, Load, Store, Fetch, WriteSatp, WriteSie, WriteSstatusSie, ReadSip, ClearSsip, Wfi, Sfence, FenceI, Advance, Tick}
 use Rattle.board_core.specs.declared.event.Refusal.{Refusal}
@@ -83,6 +84,13 @@ kept_used c past x (Sfence va asid) = refl
 kept_used c past x FenceI = refl
 kept_used c past x Advance = refl
 kept_used c past x (Tick n) = refl
+
+-- so an event that is made of it is the one of the definitions
+pub recorded_as : (c : Config) (past : List Event) (x : ℕ) (op : Op) (reply : Reply) (entry : Option Entry) → entry ≡ used c past x op
+    → (let made : Event = record { actor = Hart x; op = op; reply = reply; translation = translation_of (what_of op entry) } in made) ≡ using x op reply entry
+recorded_as c past x op reply entry is =
+    let same = ap (λ u. translation_of (what_of op u)) is ∙ kept_used c past x op ∙ sym is in
+    λ i. record { actor = Hart x; op = op; reply = reply; translation = same i }
 
 module _ (c : Config) (past : List Event) (event : Event) (answered : answer c past event.actor event.op ≡ Ok event.reply)
     (translated : event.translation ≡ used_by_actor c past event.actor event.op) where

@@ -1,4 +1,4 @@
-use Rattle.std.proofs.Common.{sym, ◌∙◌, refl, arith, true, false, ◌≡◌}
+use Rattle.std.proofs.Common.{◌<◌, sym, ◌∙◌, refl, arith, true, false, ◌≡◌}
 use Rattle.std.specs.Prelude.{None}
 use Rattle.sbi_abi.specs.declared.answer.SbiError.TheVariants.{Failed}
 use Rattle.sbi_abi.specs.declared.call.Call.TheVariants.{HartStop}
@@ -43,7 +43,7 @@ returns-clause-after c = λ config past regs is stands.
     let event = by_hart h (Ecall regs) Gone in
     let d = deed_of_call config past h HartStop Gone in
     let does = does_call config past h regs HartStop Gone is in
-    let inside = omega (arith, c.requires.in_range, length-harts config past m.hsm stands.harts) in
+    let inside : h < config.harts = omega (arith, c.requires.in_range, length-harts config past m.hsm stands.harts) in
     rw c.forget.ensures
     (stands-but-counts config past event d does m _ _ _ refl stands
     (record { each = c.stop.ensures ∙ (harts-own config past event d does m.hsm h StopPending refl refl refl stands.harts).each })
