@@ -176,33 +176,3 @@ impl HartSet {
         self.bits == 0
     }
 }
-
-#[cfg(test)]
-mod tests {
-    use super::*;
-
-    #[test]
-    fn ids_at_the_edges_of_words(rt: HostRuntime) {
-        let mut set = HartSet::new();
-        assert!(rt; set.is_empty());
-        set.insert(127);
-        set.insert(64);
-        set.insert(63);
-        set.insert(0);
-        set.insert(64);
-        assert_eq!(rt; set.len(), 4);
-        let mut ids = set.iter();
-        for want in [Some(0), Some(63), Some(64), Some(127), None] {
-            assert_eq!(rt; ids.next(), want);
-        }
-        let low = HartSet::below(64);
-        assert_eq!(rt; low.union(set).len(), 66);
-        assert_eq!(rt; low.intersection(set).len(), 2);
-        set.remove(63);
-        assert!(rt; set.contains(0) && !set.contains(63) && set.contains(64) && set.contains(127));
-        set.remove(0);
-        set.remove(64);
-        assert_eq!(rt; set.pop_first(), Some(127));
-        assert_eq!(rt; set, HartSet::default());
-    }
-}
