@@ -2,7 +2,8 @@ use sbiboard::{Task, command};
 use std::alloc::Global;
 use std::test::Fail;
 
-fn words(alloc: Global, line: &str) -> Result<Vec<String>, Fail> {
+/// The words of a command line.
+pub(crate) fn words(alloc: Global, line: &str) -> Result<Vec<String>, Fail> {
     let mut words = Vec::new(alloc);
     for word in line.split(' ') {
         words.push(String::from_str(alloc, word)?)?;
@@ -28,12 +29,19 @@ fn usage(rt: HostRuntime) -> Result<(), Fail> {
         ("sbiboard replay a b", 2, "unexpected argument 'b'"),
         ("sbiboard run a", 2, "unrecognized subcommand 'run'"),
         ("sbiboard --nope", 2, "unexpected argument '--nope'"),
+        ("sbiboard --version", 0, "sbiboard 0.1.0"),
+        ("sbiboard -V", 0, "sbiboard 0.1.0"),
         (
             "sbiboard --help",
             0,
             "sbiboard replay examples/version.sched",
         ),
         ("sbiboard help replay", 0, "Replay a schedule"),
+        (
+            "sbiboard replay --help",
+            0,
+            "7  the file could not be opened",
+        ),
     ] {
         let words = words(rt.alloc(), line)?;
         let error = command(rt.alloc(), words.as_slice())

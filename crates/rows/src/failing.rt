@@ -20,7 +20,8 @@ struct Failing<'a> {
 
 impl Failing<'_> {
     fn fails_now(&mut self) -> bool
-        ensures { self.new.failures ≡ self.old.failures }
+        ensures failures { self.new.failures ≡ self.old.failures }
+        ensures flushed { self.new.flushed ≡ self.old.flushed }
     {
         let call = self.calls;
         self.calls = call.wrapping_add(1);
@@ -54,6 +55,7 @@ impl Sink for Failing<'_> {
     ghost failures = { λ f. f.failures };
 
     fn write(&mut self, piece: &[u8]) -> Result<usize, Failed> {
+        self.flushed = false;
         if self.fails_now() {
             self.failures += 1;
             return if self.takes_nothing && !piece.is_empty() {

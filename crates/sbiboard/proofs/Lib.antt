@@ -12,5 +12,6 @@ pub mod ScriptLines
 pub mod Spacing
 pub mod Spelling
 pub mod StepsFrom
+pub mod UpTo
 pub mod WordsIn
 pub mod WorkedTables

@@ -1,7 +1,7 @@
 -- Words after a blank each, and words that one blank parts.
 use Rattle.std.proofs.Common.{◌≡◌, ℕ, List, [], ◌∷◌, ◌++◌, ◌<◌, length, drop, arith, refl, ap, ◌∙◌, append_assoc}
 use Rattle.std.specs.List.{join_with_byte}
-use Rattle.sbiboard.specs.Line.{with_words}
+use Rattle.sbiboard.specs.LineText.{with_words}
 use Rattle.sbiboard.specs.Words.{line_of}
 
 pub with_words-append : (line : List ℕ) (words more : List (List ℕ)) → with_words line (words ++ more) ≡ with_words (with_words line words) more

@@ -7,7 +7,7 @@ use Rattle.std.specs.Str.Parse.{digits_value_after}
 use Rattle.std.proofs.lemmas.Bool.{cases_Bool, cases_lt, lt-ltb, le-ltb, lt-leb}
 use Rattle.sbiboard.specs.FirstFault.{is_hexadecimal, is_numeral, is_number}
 use Rattle.sbiboard.specs.Scanning.{digit_after, digits_after, numeral_of, spelled_of}
-use Rattle.sbiboard.specs.Reading.{number_of}
+use Rattle.sbiboard.specs.Reading.{number_in}
 
 abbrev pub at_most : ℕ → Option ℕ → Option ℕ
 at_most limit None = None
@@ -45,8 +45,8 @@ numeral_of-at_most radix limit [] r l = refl
 numeral_of-at_most radix limit (b ∷ ds) r l = digits_after-at_most radix limit 0 (b ∷ ds) r l (omega arith)
 
 -- what a word spells, as far as its place allows
-pub of_spelled : (limit : ℕ) (word : List ℕ) → limit < 2 ^ 64 → number_of limit word ≡ at_most limit (spelled_of word)
-unfolding number_of is_number spelled_of
+pub of_spelled : (limit : ℕ) (word : List ℕ) → limit < 2 ^ 64 → number_in limit word ≡ at_most limit (spelled_of word)
+unfolding number_in is_number spelled_of
 of_spelled limit word l =
     elim (cases_Bool (is_hexadecimal word)) [
       | inl hex ↦ rw hex (sym (numeral_of-at_most 16 limit (drop 2 word) (omega arith) l))

@@ -9,7 +9,7 @@ use Rattle.sbiboard.specs.declared.guest_script.fault.Fault.TheVariants.{BadNumb
 use Rattle.board_core.specs.declared.event.Actor.TheVariants.{Hart}
 use Rattle.sbiboard.specs.Grammar.{last_hart}
 use Rattle.sbiboard.specs.FirstFault.{actor_test, is_clock, is_number, number_tests, numbers_tests}
-use Rattle.sbiboard.specs.Reading.{actor_in, or_fault, tested, number_of, numbers_in}
+use Rattle.sbiboard.specs.Reading.{actor_in, or_fault, tested, number_in, numbers_in}
 
 -- Of all the words some are read, and these are left.
 pub record AreRead (most limit : ℕ) (all : List (List ℕ)) (found : List ℕ) (all_good : Bool) (words : List (List ℕ)) : Type 0 where
@@ -17,13 +17,13 @@ pub record AreRead (most limit : ℕ) (all : List (List ℕ)) (found : List ℕ)
   pub good : (all_good && list_all (is_number limit) words) ≡ list_all (is_number limit) all
   pub within : length found ≤ most
 
-pub is_some-number_of : (limit : ℕ) (word : List ℕ) → is_some (number_of limit word) ≡ is_number limit word
-unfolding number_of
-is_some-number_of limit word = elim (cases_Bool (is_number limit word)) [ inl good ↦ rw good refl | inr bad ↦ rw bad refl ]
+pub is_some-number_in : (limit : ℕ) (word : List ℕ) → is_some (number_in limit word) ≡ is_number limit word
+unfolding number_in
+is_some-number_in limit word = elim (cases_Bool (is_number limit word)) [ inl good ↦ rw good refl | inr bad ↦ rw bad refl ]
 
 pub length-numbers_in : (limit : ℕ) (words : List (List ℕ)) → length (numbers_in limit words) ≡ length words
 unfolding numbers_in
-length-numbers_in limit words = length-map words (λ word. unwrap_or (number_of limit word) 0)
+length-numbers_in limit words = length-map words (λ word. unwrap_or (number_in limit word) 0)
 
 and_true : (a : Bool) → (a && true) ≡ a
 and_true true = refl
@@ -34,17 +34,17 @@ and_assoc true b c = refl
 and_assoc false b c = refl
 
 values_more : (limit : ℕ) (found : List ℕ) (word : List ℕ) (words : List (List ℕ))
-    → (found ++ unwrap_or (number_of limit word) 0 ∷ []) ++ numbers_in limit words ≡ found ++ numbers_in limit (word ∷ words)
+    → (found ++ unwrap_or (number_in limit word) 0 ∷ []) ++ numbers_in limit words ≡ found ++ numbers_in limit (word ∷ words)
 unfolding numbers_in
-values_more limit found word words = append_assoc found (unwrap_or (number_of limit word) 0 ∷ []) (numbers_in limit words)
+values_more limit found word words = append_assoc found (unwrap_or (number_in limit word) 0 ∷ []) (numbers_in limit words)
 
 pub AreRead-more : (most limit : ℕ) (all : List (List ℕ)) (found : List ℕ) (all_good : Bool) (words : List (List ℕ)) (word : List ℕ) (others : List (List ℕ))
     → AreRead most limit all found all_good words → words ≡ word ∷ others → length found < most
-    → AreRead most limit all (found ++ unwrap_or (number_of limit word) 0 ∷ []) (all_good && is_some (number_of limit word)) others
+    → AreRead most limit all (found ++ unwrap_or (number_in limit word) 0 ∷ []) (all_good && is_some (number_in limit word)) others
 AreRead-more most limit all found all_good words word others read at small = record {
   values = values_more limit found word others ∙ rw at at read.values;
-  good = rw (is_some-number_of limit word) (and_assoc all_good (is_number limit word) (list_all (is_number limit) others) ∙ rw at at read.good);
-  within = omega (arith, length-append found (unwrap_or (number_of limit word) 0 ∷ []));
+  good = rw (is_some-number_in limit word) (and_assoc all_good (is_number limit word) (list_all (is_number limit) others) ∙ rw at at read.good);
+  within = omega (arith, length-append found (unwrap_or (number_in limit word) 0 ∷ []));
 }
 
 count_read : (most limit : ℕ) (all : List (List ℕ)) (found : List ℕ) (all_good : Bool) (words : List (List ℕ))
@@ -101,14 +101,14 @@ module _ (least most limit : ℕ) (all : List (List ℕ)) (found : List ℕ) (al
   pub a_bad_number : words ≡ [] → least ≤ length found → all_good ≡ false → tested (numbers_tests least most limit all) (numbers_in limit all) ≡ Err BadNumber
   a_bad_number at enough bad = all_read at enough ∙ rw bad refl
 
-pub is_number_some : (limit : ℕ) (word : List ℕ) (n : ℕ) → number_of limit word ≡ Some n → is_number limit word ≡ true
-is_number_some limit word n e = sym (is_some-number_of limit word) ∙ ap is_some e
+pub is_number_some : (limit : ℕ) (word : List ℕ) (n : ℕ) → number_in limit word ≡ Some n → is_number limit word ≡ true
+is_number_some limit word n e = sym (is_some-number_in limit word) ∙ ap is_some e
 
-pub is_number_none : (limit : ℕ) (word : List ℕ) → number_of limit word ≡ None → is_number limit word ≡ false
-is_number_none limit word e = sym (is_some-number_of limit word) ∙ ap is_some e
+pub is_number_none : (limit : ℕ) (word : List ℕ) → number_in limit word ≡ None → is_number limit word ≡ false
+is_number_none limit word e = sym (is_some-number_in limit word) ∙ ap is_some e
 
-pub actor_read : (word : List ℕ) (h : ℕ) → is_clock word ≡ false → number_of last_hart word ≡ Some h → tested (actor_test word ∷ []) (actor_in word) ≡ Ok (Hart h)
+pub actor_read : (word : List ℕ) (h : ℕ) → is_clock word ≡ false → number_in last_hart word ≡ Some h → tested (actor_test word ∷ []) (actor_in word) ≡ Ok (Hart h)
 actor_read word h other e = rw (other, is_number_some last_hart word h e, e) refl
 
-pub actor_unread : (word : List ℕ) → is_clock word ≡ false → number_of last_hart word ≡ None → tested (actor_test word ∷ []) (actor_in word) ≡ Err BadNumber
+pub actor_unread : (word : List ℕ) → is_clock word ≡ false → number_in last_hart word ≡ None → tested (actor_test word ∷ []) (actor_in word) ≡ Err BadNumber
 actor_unread word other e = rw (other, is_number_none last_hart word e) refl

@@ -8,7 +8,7 @@ use Rattle.board_core.specs.declared.event.Reply.{Reply}
 use Rattle.board_core.specs.Course.{Course}
 use Rattle.board_core.specs.Replies.{stepped}
 use Rattle.sbiboard.specs.declared.guest_script.schedule.Line.{Line}
-use Rattle.sbiboard.specs.Replay.{answer_of, course_after, is_full, lines_text, meets_full, opened, table_of, text_of}
+use Rattle.sbiboard.specs.Replay.{answer_of, course_after, is_history_full, lines_text, meets_full, opening_of, table_of, text_of}
 use Rattle.sbiboard.specs.Grammar.{Schedule}
 use Rattle.sbiboard.specs.Words.{board_words, event_words, line_of}
 
@@ -41,13 +41,13 @@ has_written-more before middle after others piece rest whole are so_far more = r
 
 module _ (b next : Course) (others rest : List Line) (line : Line) (are : others ≡ line ∷ rest)
     (stepped_is : next ≡ stepped b line.actor line.op) where
-  pub replaying-more : (first : Course) (lines : List Line) (met full : Bool) → full ≡ is_full (answer_of b line)
+  pub replaying-more : (first : Course) (lines : List Line) (met full : Bool) → full ≡ is_history_full (answer_of b line)
       → Replaying first b lines others met → Replaying first next lines rest (met || full)
   replaying-more first lines met full is so_far = record {
     course = ap (λ c. course_after c rest) stepped_is ∙ ap (course_after b) (sym are) ∙ so_far.course;
     full = or_assoc met full (meets_full next rest)
         ∙ ap (λ f. met || (f || meets_full next rest)) is
-        ∙ ap (λ c. met || (is_full (answer_of b line) || meets_full c rest)) stepped_is
+        ∙ ap (λ c. met || (is_history_full (answer_of b line) || meets_full c rest)) stepped_is
         ∙ ap (λ ls. met || meets_full b ls) (sym are) ∙ so_far.full;
   }
 
@@ -60,15 +60,15 @@ module _ (b next : Course) (others rest : List Line) (line : Line) (are : others
 
 -- the board line, the lines and the table, one after the other, are the schedule's text
 pub text_of-printed : (s : Schedule) (first last : Course) (lines : List Line)
-    → first ≡ opened s.config → lines ≡ s.lines → last ≡ course_after first lines
+    → first ≡ opening_of s.config → lines ≡ s.lines → last ≡ course_after first lines
     → (at_first at_lines at_table at_flush at_end : Option (List ℕ))
     → Appends at_first at_lines (line_of (board_words s.config)) → Appends at_lines at_table (lines_text first lines)
     → Appends at_table at_flush (table_of last) → Keeps at_flush at_end → Appends at_first at_end (text_of s)
 unfolding text_of
-text_of-printed s first last lines opened_is lines_are last_is a b c d e head body table kept =
+text_of-printed s first last lines opening_is lines_are last_is a b c d e head body table kept =
     let whole = Appends-kept a d e _ (Appends-trans a b d _ _ head (Appends-trans b c d _ _ body table)) kept in
-    let lines_text_is : lines_text first lines ≡ lines_text (opened s.config) s.lines =
-    ap (λ b. lines_text b lines) opened_is ∙ ap (lines_text (opened s.config)) lines_are in
-    let table_is : table_of last ≡ table_of (course_after (opened s.config) s.lines) =
-    ap table_of (last_is ∙ ap (λ b. course_after b lines) opened_is ∙ ap (course_after (opened s.config)) lines_are) in
+    let lines_text_is : lines_text first lines ≡ lines_text (opening_of s.config) s.lines =
+    ap (λ b. lines_text b lines) opening_is ∙ ap (lines_text (opening_of s.config)) lines_are in
+    let table_is : table_of last ≡ table_of (course_after (opening_of s.config) s.lines) =
+    ap table_of (last_is ∙ ap (λ b. course_after b lines) opening_is ∙ ap (course_after (opening_of s.config)) lines_are) in
     subst (λ t. Appends a e (line_of (board_words s.config) ++ t)) (λ i. lines_text_is i ++ table_is i) whole

@@ -9,7 +9,7 @@ use Rattle.std.proofs.lemmas.Slice.Eq.{bytes_eq-Decides}
 use Rattle.std.proofs.lemmas.List.{take-append-drop}
 use Rattle.sbiboard.specs.Grammar.{AreNumbers, IsNumber, Spells}
 use Rattle.sbiboard.specs.FirstFault.{is_filled, is_hexadecimal, is_numeral, is_number}
-use Rattle.sbiboard.specs.Reading.{number_of, numbers_in, value_of}
+use Rattle.sbiboard.specs.Reading.{number_in, numbers_in, word_value}
 
 -- ---- digits
 
@@ -65,11 +65,11 @@ hexadecimal_parts word hex =
 
 -- ---- one number
 
-number_value : (limit : ℕ) (word : List ℕ) → is_number limit word ≡ true → unwrap_or (number_of limit word) 0 ≡ value_of word
-unfolding number_of
+number_value : (limit : ℕ) (word : List ℕ) → is_number limit word ≡ true → unwrap_or (number_in limit word) 0 ≡ word_value word
+unfolding number_in
 number_value limit word good = rw good refl
 
-value_spelled : (limit : ℕ) (word : List ℕ) → is_number limit word ≡ true → IsNumber limit word (value_of word)
+value_spelled : (limit : ℕ) (word : List ℕ) → is_number limit word ≡ true → IsNumber limit word (word_value word)
 unfolding is_number
 value_spelled limit word good = elim (cases_Bool (is_hexadecimal word)) [
   | inl hex ↦
@@ -78,7 +78,7 @@ value_spelled limit word good = elim (cases_Bool (is_hexadecimal word)) [
   | inr plain ↦ let t = numeral_tested 10 limit word (rw plain at good) in rw plain (t.1, inl (t.0, refl))
 ]
 
-spelled_value : (limit : ℕ) (word : List ℕ) (n : ℕ) → n ≤ limit → Spells word n → (is_number limit word ≡ true) × (value_of word ≡ n)
+spelled_value : (limit : ℕ) (word : List ℕ) (n : ℕ) → n ≤ limit → Spells word n → (is_number limit word ≡ true) × (word_value word ≡ n)
 unfolding is_number
 spelled_value limit word n small (inl decimal) =
     let plain = decimal_is_plain word decimal.0.1 in
@@ -86,10 +86,10 @@ spelled_value limit word n small (inl decimal) =
 spelled_value limit word n small (inr hex) =
     rw hex.1 (numeral_passes 16 limit hex.0 hex.2 (omega (arith, hex.3)), sym hex.3)
 
-pub number_spelled : (limit : ℕ) (word : List ℕ) → is_number limit word ≡ true → IsNumber limit word (unwrap_or (number_of limit word) 0)
+pub number_spelled : (limit : ℕ) (word : List ℕ) → is_number limit word ≡ true → IsNumber limit word (unwrap_or (number_in limit word) 0)
 number_spelled limit word good = rw (number_value limit word good) (value_spelled limit word good)
 
-pub spelled_number : (limit : ℕ) (word : List ℕ) (n : ℕ) → IsNumber limit word n → (is_number limit word ≡ true) × (unwrap_or (number_of limit word) 0 ≡ n)
+pub spelled_number : (limit : ℕ) (word : List ℕ) (n : ℕ) → IsNumber limit word n → (is_number limit word ≡ true) × (unwrap_or (number_in limit word) 0 ≡ n)
 spelled_number limit word n number =
     let value = spelled_value limit word n number.0 number.1 in
     (value.0, number_value limit word value.0 ∙ value.1)

@@ -1,7 +1,7 @@
 pub mod FirstFault
 pub mod Grammar
 pub mod ScriptLaws
-pub mod Line
+pub mod LineText
 pub mod Outcomes
 pub mod Reading
 pub mod Replay

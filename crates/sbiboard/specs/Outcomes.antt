@@ -1,5 +1,13 @@
--- The program's exit statuses (profile).
-use Rattle.std.specs.Prelude.{ℕ}
+-- The program's exit statuses, and what it says on standard error (profile).
+use Rattle.std.specs.Prelude.{◌≡◌, ◌≢◌, ◌⊎◌, ℕ, Bool, true, false, Result, MatchResult}
+use Rattle.std.specs.IoError.{error_kind}
+use Rattle.std.specs.declared.io.ErrorKind.{ErrorKind}
+use Rattle.std.specs.declared.io.ErrorKind.TheVariants as io_kinds
+use Rattle.clap.specs.Values.{kind_of}
+use Rattle.clap.specs.declared.error.kind.ErrorKind as clap_kind
+use Rattle.clap.specs.declared.error.kind.ErrorKind.TheVariants as clap_kinds
+use Rattle.sbiboard.specs.declared.ending.Stop.{Stop}
+use Rattle.sbiboard.specs.declared.ending.Stop.TheVariants.{Usage, System}
 use Rattle.sbiboard.specs.declared.outcome.Outcome.{Outcome}
 use Rattle.sbiboard.specs.declared.outcome.Outcome.TheVariants.{Good, Script, BadBoard, WrongKind, HistoryFull, Differs, NoMemory, Io}
 
@@ -12,3 +20,41 @@ status_of HistoryFull = 3
 status_of Differs = 5
 status_of NoMemory = 6
 status_of Io = 7
+
+-- whether a line on standard error says how a run ended
+abbrev pub is_told : Outcome → Bool
+is_told Good = false
+is_told (Script line number) = true
+is_told BadBoard = true
+is_told WrongKind = true
+is_told HistoryFull = true
+is_told Differs = false
+is_told NoMemory = true
+is_told Io = true
+
+-- How a run ends with an error of the system: refused memory is that, and any other failed.
+pub record FailsAs (kind : ErrorKind) (outcome : Outcome) : Type 0 where
+  pub memory : kind ≡ io_kinds.OutOfMemory → outcome ≡ NoMemory
+  pub others : kind ≢ io_kinds.OutOfMemory → outcome ≡ Io
+
+-- The status where the command line was not a task: 0 where help or the version was asked for, 6 where memory was refused, else 2.
+abbrev pub usage_status : clap_kind.ErrorKind → ℕ
+usage_status clap_kinds.DisplayHelp = 0
+usage_status clap_kinds.DisplayVersion = 0
+usage_status clap_kinds.OutOfMemory = 6
+usage_status kind = 2
+
+-- memory was refused
+abbrev pub IsMemory : Stop → Type 0
+IsMemory (System error) = error_kind error ≡ io_kinds.OutOfMemory
+IsMemory (Usage error) = ⊥
+
+-- The status with which a run ends that came to no outcome. Of help, and of a fault of usage, the text may fail to be written.
+abbrev pub StopsWith : Stop → (status : ℕ) → Type 0
+StopsWith (System error) status = (outcome : Outcome) × FailsAs (error_kind error) outcome × (status ≡ status_of outcome)
+StopsWith (Usage error) status =
+    (status ≡ usage_status (kind_of error)) ⊎ ((status ≡ status_of NoMemory) ⊎ (status ≡ status_of Io))
+
+-- The status with which a run ends.
+abbrev pub EndsWith : Result Outcome Stop → (status : ℕ) → Type 0
+EndsWith run status = MatchResult run (λ outcome. status ≡ status_of outcome) (λ stop. StopsWith stop status)

@@ -58,16 +58,16 @@ HasForm name places = IsFormAt places (form_of (spelling name))
 -- ---- the values, which say nothing where a test holds
 
 -- the number that a word spells
-abbrev pub value_of : List ℕ → ℕ
-value_of word = if is_hexadecimal word then digits_value 16 (drop 2 word) else digits_value 10 word
+abbrev pub word_value : List ℕ → ℕ
+word_value word = if is_hexadecimal word then digits_value 16 (drop 2 word) else digits_value 10 word
 
 -- that number, if it is one and within the limit
-unfoldable pub number_of : (limit : ℕ) → List ℕ → Option ℕ
-number_of limit word = if is_number limit word then Some (value_of word) else None
+unfoldable pub number_in : (limit : ℕ) → List ℕ → Option ℕ
+number_in limit word = if is_number limit word then Some (word_value word) else None
 
 -- the numbers that the words spell, with 0 for a word that spells none
 unfoldable pub numbers_in : (limit : ℕ) → List (List ℕ) → List ℕ
-numbers_in limit words = map (λ word. unwrap_or (number_of limit word) 0) words
+numbers_in limit words = map (λ word. unwrap_or (number_in limit word) 0) words
 
 -- the operation that the form makes of numbers
 abbrev pub op_from : Option Form → List ℕ → Op
@@ -86,7 +86,7 @@ op_in (name ∷ words) = op_from (form_of name) (numbers_in (limit_from (form_of
 
 -- the actor that a word is
 abbrev pub actor_in : List ℕ → Actor
-actor_in word = if is_clock word then Clock else Hart (unwrap_or (number_of last_hart word) 0)
+actor_in word = if is_clock word then Clock else Hart (unwrap_or (number_in last_hart word) 0)
 
 -- the step of an actor, from what follows it
 abbrev pub line_in : (first : List ℕ) → List (List ℕ) → Line

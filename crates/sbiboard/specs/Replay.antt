@@ -1,5 +1,5 @@
 -- What the replay of a schedule writes, and how it ends (profile).
-use Rattle.std.specs.Prelude.{◌≡◌, ◌⊎◌, ℕ, ◌<◌, Bool, true, false, ◌||◌, List, [], ◌∷◌, ◌++◌, Option, Some, Result, Ok, Err}
+use Rattle.std.specs.Prelude.{◌≡◌, ◌⊎◌, ℕ, ◌+◌, ◌<◌, Bool, true, false, ◌||◌, List, [], ◌∷◌, ◌++◌, Option, Some, Result, Ok, Err}
 use Rattle.std.specs.Io.KnownBytes.{Appends, IsAtEnd}
 use Rattle.board_core.specs.declared.config.Config.{Config}
 use Rattle.board_core.specs.declared.event.Refusal.{Refusal}
@@ -15,13 +15,17 @@ use Rattle.sbiboard.specs.declared.guest_script.fault.ScriptFault.{ScriptFault}
 use Rattle.sbiboard.specs.declared.outcome.Outcome.{Outcome}
 use Rattle.sbiboard.specs.declared.outcome.Outcome.TheVariants.{Good, Script, BadBoard, WrongKind, HistoryFull, Differs, NoMemory, Io}
 use Rattle.sbiboard.specs.FirstFault.{fault_number, first_fault}
-use Rattle.sbiboard.specs.Grammar.{Reads, Schedule}
+use Rattle.sbiboard.specs.Grammar.{Reads, Schedule, most_bytes}
 use Rattle.sbiboard.specs.Table.{table}
 use Rattle.sbiboard.specs.Words.{board_words, event_words, line_of}
 
+-- how many bytes are read at most: one more than a script may have
+abbrev pub read_limit : ℕ
+read_limit = most_bytes + 1
+
 -- a board at its opening
-abbrev pub opened : Config → Course
-opened c = record { config = c; past = [] }
+abbrev pub opening_of : Config → Course
+opening_of c = record { config = c; past = [] }
 
 abbrev pub answer_of : Course → Line → Result Reply Refusal
 answer_of b line = answer b.config b.past line.actor line.op
@@ -37,17 +41,17 @@ lines_text b [] = []
 lines_text b (line ∷ lines) =
     line_of (event_words line.actor line.op (answer_of b line)) ++ lines_text (stepped b line.actor line.op) lines
 
-abbrev pub is_full : Result Reply Refusal → Bool
-is_full (Ok reply) = false
-is_full (Err refusals.WrongPhase) = false
-is_full (Err refusals.Nothing) = false
-is_full (Err refusals.HistoryFull) = true
-is_full (Err refusals.TimeFull) = false
+abbrev pub is_history_full : Result Reply Refusal → Bool
+is_history_full (Ok reply) = false
+is_history_full (Err refusals.WrongPhase) = false
+is_history_full (Err refusals.Nothing) = false
+is_history_full (Err refusals.HistoryFull) = true
+is_history_full (Err refusals.TimeFull) = false
 
 -- some line was refused since the history was full
 abbrev pub meets_full : Course → List Line → Bool
 meets_full b [] = false
-meets_full b (line ∷ lines) = is_full (answer_of b line) || meets_full (stepped b line.actor line.op) lines
+meets_full b (line ∷ lines) = is_history_full (answer_of b line) || meets_full (stepped b line.actor line.op) lines
 
 abbrev pub table_of : Course → List ℕ
 table_of b = table b.config b.past
@@ -56,7 +60,7 @@ table_of b = table b.config b.past
 unfoldable pub text_of : Schedule → List ℕ
 text_of s =
     line_of (board_words s.config)
-    ++ (lines_text (opened s.config) s.lines ++ table_of (course_after (opened s.config) s.lines))
+    ++ (lines_text (opening_of s.config) s.lines ++ table_of (course_after (opening_of s.config) s.lines))
 
 -- The schedule was read and a board was made of it.
 pub record Runs (bytes : List ℕ) (s : Schedule) : Type 0 where
@@ -66,9 +70,9 @@ pub record Runs (bytes : List ℕ) (s : Schedule) : Type 0 where
 -- What is written with each outcome, of the bytes that were read.
 abbrev pub EndsAs : List ℕ → Outcome → List ℕ → Type 0
 EndsAs bytes Good text =
-    (s : Schedule) × Runs bytes s × (meets_full (opened s.config) s.lines ≡ false) × (text ≡ text_of s)
+    (s : Schedule) × Runs bytes s × (meets_full (opening_of s.config) s.lines ≡ false) × (text ≡ text_of s)
 EndsAs bytes HistoryFull text =
-    (s : Schedule) × Runs bytes s × (meets_full (opened s.config) s.lines ≡ true) × (text ≡ text_of s)
+    (s : Schedule) × Runs bytes s × (meets_full (opening_of s.config) s.lines ≡ true) × (text ≡ text_of s)
 EndsAs bytes (Script line number) text =
     (f : ScriptFault) × (first_fault bytes ≡ Some f) × (f.line ≡ line) × (fault_number f.fault ≡ number) × (text ≡ [])
 EndsAs bytes BadBoard text = (s : Schedule) × Reads bytes s × (¬ IsGood s.config) × (text ≡ [])

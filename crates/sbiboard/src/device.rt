@@ -1,19 +1,20 @@
 //! What is read, and the devices behind readers and writers.
 
 ghost use Rattle.std.specs.Prelude.{◌≡◌, ℕ, ◌^◌, ◌<◌, Bool, false, List, Option};
-ghost use Rattle.sbiboard.specs.Sinks.{CountsWrite, Counted};
+ghost use Rattle.sbiboard.specs.Sinks.{CountsWrite, Counted, HandsOn, HandsOnFlush, HandsOnWrite};
 
 mod source;
 mod whole;
 
 use crate::monitor::{Failed, Sink};
 pub use source::Source;
-use std::io::{Read, Write};
+use std::io::{self, Read, Write};
 use std::marker::Model;
 pub use whole::{ReadFault, read_whole};
 
-/// A reader or a writer of the system. It counts its failed calls, one that a signal interrupted among them,
-/// and tells whether a writer was flushed since it was last written to.
+/// A reader or a writer of the system. Each call is one call of it, whose answer is handed on. Failed calls are
+/// counted, one that a signal interrupted among them, and so is whether a writer was flushed since it was last
+/// written to.
 #[derive(Debug, Drop)]
 pub struct Device<T> {
     inner: T,
@@ -28,6 +29,7 @@ impl<T> Model for Device<T> {
 }
 
 impl<T> Device<T> {
+    /// A reader or a writer with no failed call. Of what a writer was given before nothing is known to be flushed.
     pub fn new(inner: T) -> Device<T>
         ensures { result ≡ record { inner = inner; failures = 0; flushed = false } }
     {
@@ -51,6 +53,50 @@ impl<T> Device<T> {
     }
 }
 
+/// What the calls of the reader or the writer answered is handed on by these alone.
+impl<T> Device<T> {
+    /// Hands on what a call answered.
+    fn hand_on<A>(&mut self, answer: io::Result<A>) -> Result<A, Failed>
+        requires { self.old.failures < 2 ^ 63 }
+        ensures { HandsOn self.old self.new answer result }
+    {
+        match answer {
+            Ok(value) => Ok(value),
+            Err(_) => {
+                self.failures += 1;
+                Err(Failed)
+            }
+        }
+    }
+
+    /// Hands on what a write of a piece answered.
+    fn hand_on_write(&mut self, answer: io::Result<usize>, piece: &[u8]) -> Result<usize, Failed>
+        requires { self.old.failures < 2 ^ 63 }
+        ensures { HandsOnWrite self.old self.new answer piece.now result }
+    {
+        let taken = self.hand_on(answer)?;
+        if taken == 0 && !piece.is_empty() {
+            self.failures += 1;
+        }
+        Ok(taken)
+    }
+
+    /// Hands on what a flush answered.
+    fn hand_on_flush(&mut self, answer: io::Result<()>) -> Result<(), Failed>
+        requires { self.old.failures < 2 ^ 63 }
+        ensures handed { HandsOnFlush self.old self.new answer result }
+        ensures inner { self.new.inner ≡ self.old.inner }
+    {
+        match answer {
+            Ok(()) => {
+                self.flushed = true;
+                Ok(())
+            }
+            Err(error) => self.hand_on(Err(error)),
+        }
+    }
+}
+
 impl<T: Write> Sink for Device<T> {
     ghost written = { λ d. T.contents d.inner };
 
@@ -60,31 +106,13 @@ impl<T: Write> Sink for Device<T> {
 
     fn write(&mut self, piece: &[u8]) -> Result<usize, Failed> {
         self.flushed = false;
-        match self.inner.write(piece) {
-            Ok(taken) => {
-                if taken == 0 && !piece.is_empty() {
-                    self.failures += 1;
-                }
-                Ok(taken)
-            }
-            Err(_) => {
-                self.failures += 1;
-                Err(Failed)
-            }
-        }
+        let answer = self.inner.write(piece);
+        self.hand_on_write(answer, piece)
     }
 
     fn flush(&mut self) -> Result<(), Failed> {
-        match self.inner.flush() {
-            Ok(()) => {
-                self.flushed = true;
-                Ok(())
-            }
-            Err(_) => {
-                self.failures += 1;
-                Err(Failed)
-            }
-        }
+        let answer = self.inner.flush();
+        self.hand_on_flush(answer)
     }
 }
 
@@ -94,12 +122,7 @@ impl<T: Read> Source for Device<T> {
     ghost failures = { λ d. d.failures };
 
     fn read(&mut self, buffer: &mut [u8]) -> Result<usize, Failed> {
-        match self.inner.read(buffer) {
-            Ok(count) => Ok(count),
-            Err(_) => {
-                self.failures += 1;
-                Err(Failed)
-            }
-        }
+        let answer = self.inner.read(buffer);
+        self.hand_on(answer)
     }
 }

@@ -1,6 +1,6 @@
 //! What is printed: sinks of bytes, and the lines that go into them.
 
-mod line;
+mod line_text;
 mod lines;
 mod sink;
 mod table;

@@ -1,12 +1,18 @@
 ghost use Rattle.std.specs.Prelude.{◌≡◌};
-ghost use Rattle.sbiboard.specs.Outcomes.{status_of};
+ghost use Rattle.std.specs.IoError.{error_kind};
+ghost use Rattle.sbiboard.specs.Outcomes.{FailsAs, is_told, status_of};
 
-/// How a run of the program's library ended.
-#[derive(Clone, Copy, Debug, PartialEq, Eq)]
+use std::io::{self, ErrorKind};
+use thiserror::Error;
+
+/// How a run of the program's library ended. Its text is what the program says of it on standard error.
+#[derive(Clone, Copy, Debug, PartialEq, Eq, Error)]
 pub enum Outcome {
     /// All was done.
+    #[error("good")]
     Good,
     /// The bytes are no script.
+    #[error("line {line}: fault {number}")]
     Script {
         /// The line of the first fault, from 1; 0 is the script as a whole.
         line: u64,
@@ -14,16 +20,22 @@ pub enum Outcome {
         number: u64,
     },
     /// The board line is outside the board's limits.
+    #[error("bad board")]
     BadBoard,
     /// The script is of another kind.
+    #[error("wrong kind of script")]
     WrongKind,
     /// A line was refused since the history was full.
+    #[error("history full")]
     HistoryFull,
     /// A trace differs from what the board answers.
+    #[error("differs")]
     Differs,
     /// Memory was refused.
+    #[error("no memory")]
     NoMemory,
     /// A read or a write failed.
+    #[error("input or output failed")]
     Io,
 }
 
@@ -39,6 +51,25 @@ impl Outcome {
             Outcome::Differs => 5,
             Outcome::NoMemory => 6,
             Outcome::Io => 7,
+        }
+    }
+
+    /// Whether a line on standard error says how the run ended (profile).
+    pub fn is_told(self) -> bool
+        ensures { result ≡ is_told self }
+    {
+        !matches!(self, Outcome::Good | Outcome::Differs)
+    }
+}
+
+/// How a run ends where a call of the system failed.
+impl From<io::Error> for Outcome {
+    ghost from_gives = { λ error outcome. FailsAs (error_kind error) outcome };
+
+    fn from(error: io::Error) -> Outcome {
+        match error.kind() {
+            ErrorKind::OutOfMemory => Outcome::NoMemory,
+            _ => Outcome::Io,
         }
     }
 }

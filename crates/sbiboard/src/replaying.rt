@@ -1,8 +1,9 @@
 ghost use Rattle.std.specs.Prelude.{◌≡◌, ◌^◌, ◌<◌, true, IfOk, IfSome, OnOk, take};
 ghost use Rattle.std.specs.Io.KnownBytes.{Appends};
-ghost use Rattle.sbiboard.specs.Replay.{CountsEnd, EndsFlushed, EndsRead, EndsScript, Writes, course_after, ended_as, is_full, lines_text, meets_full, opened, text_of};
+ghost use Rattle.sbiboard.specs.Replay.{CountsEnd, EndsFlushed, EndsRead, EndsScript, Writes, course_after, ended_as, is_history_full, lines_text, meets_full, opening_of, read_limit, text_of};
 ghost use Rattle.sbiboard.specs.Grammar.{schedule};
 ghost use Rattle.sbiboard.specs.Sinks.{Puts};
+ghost use Rattle.sbiboard.specs.Sources.{ReadsUpTo};
 
 use crate::device::{ReadFault, Source, read_whole};
 use crate::guest_script::{Fault, Line, Script, ScriptFault, parse};
@@ -15,13 +16,16 @@ use std::alloc::Global;
 const READ_LIMIT: usize = 16_777_217;
 
 /// Reads a schedule to its end, makes its board, and writes the board line, each line with its reply, and
-/// the board's table. Nothing is written before the schedule is read and the board made.
+/// the board's table. Nothing is written before the schedule is read and the board made; at most 16,777,217 bytes
+/// are read, and after a failed read the writer is as it was.
 pub fn replay<R: Source, W: Sink>(alloc: Global, reader: &mut R, writer: &mut W) -> Outcome
     requires reader_counts { R.failures reader.old < 2 ^ 63 }
     requires writer_counts { W.failures writer.old < 2 ^ 63 }
     ensures writes { IfSome (R.left reader.old) (λ bytes.
-        Writes (take READ_LIMIT bytes) result (W.written writer.old) (W.written writer.new)) }
+        Writes (take read_limit bytes) result (W.written writer.old) (W.written writer.new)) }
     ensures to_the_end { EndsRead result (R.left reader.new) }
+    ensures at_most { ReadsUpTo read_limit (R.left reader.old) (R.left reader.new) }
+    ensures untouched { R.failures reader.old < R.failures reader.new → writer.new ≡ writer.old }
     ensures flushed { EndsFlushed result (W.is_flushed writer.new) }
     ensures failed { CountsEnd result (R.failures reader.old) (R.failures reader.new)
         (W.failures writer.old) (W.failures writer.new) }
@@ -65,9 +69,9 @@ fn ended(fault: ScriptFault) -> Outcome
 }
 
 fn replay_script<W: Sink>(script: &Script, board: &mut Board, writer: &mut W) -> Outcome
-    requires at_opening { board.old ≡ opened script.now.config }
+    requires at_opening { board.old ≡ opening_of script.now.config }
     requires counts { W.failures writer.old < 2 ^ 63 }
-    ensures end { EndsScript result (meets_full (opened script.now.config) script.now.lines.items)
+    ensures end { EndsScript result (meets_full (opening_of script.now.config) script.now.lines.items)
         (Appends (W.written writer.old) (W.written writer.new) (text_of (schedule script.now)))
         (W.failures writer.old) (W.failures writer.new) }
     ensures flushed { EndsFlushed result (W.is_flushed writer.new) }
@@ -81,10 +85,10 @@ fn replay_script<W: Sink>(script: &Script, board: &mut Board, writer: &mut W) ->
 
 /// Writes all that a schedule's replay prints, and answers whether a line met a full history.
 fn print_script<W: Sink>(script: &Script, board: &mut Board, writer: &mut W) -> Result<bool, Failed>
-    requires at_opening { board.old ≡ opened script.now.config }
+    requires at_opening { board.old ≡ opening_of script.now.config }
     requires counts { W.failures writer.old < 2 ^ 63 }
     ensures text { Puts W.written W.failures writer.old writer.new result (text_of (schedule script.now)) }
-    ensures full { IfOk result (λ full. full ≡ meets_full (opened script.now.config) script.now.lines.items) }
+    ensures full { IfOk result (λ full. full ≡ meets_full (opening_of script.now.config) script.now.lines.items) }
     ensures flushed { OnOk result (W.is_flushed writer.new ≡ true) }
 {
     print_head(&script.config, writer)?;
@@ -104,14 +108,14 @@ fn print_lines<W: Sink>(lines: &[Line], board: &mut Board, writer: &mut W) -> Re
     let mut met_full = false;
     for line in lines {
         let answer = board.step(line.actor, line.op);
-        met_full |= is_full(&answer);
+        met_full |= is_history_full(&answer);
         print_line(line.actor, line.op, answer, writer)?;
     }
     Ok(met_full)
 }
 
-fn is_full(answer: &Result<Reply, Refusal>) -> bool
-    ensures { result ≡ is_full answer.now }
+fn is_history_full(answer: &Result<Reply, Refusal>) -> bool
+    ensures { result ≡ is_history_full answer.now }
 {
     match answer {
         Err(Refusal::HistoryFull) => true,

@@ -1,20 +1,23 @@
 ghost use Rattle.std.specs.Prelude.{◌≡◌, ℕ, ◌+◌, ◌^◌, ◌<◌, ◌≤◌, List, Option, length, take, IfSome, IfOk, MatchResult, vec_len};
 ghost use Rattle.std.specs.Io.KnownBytes.{Consumes, IsAtEnd};
-ghost use Rattle.sbiboard.specs.Sources.{CountsReading};
+ghost use Rattle.sbiboard.specs.Sources.{CountsReading, ReadsUpTo};
 ghost use Rattle.sbiboard.specs.declared.device.whole.ReadFault.TheVariants.{Failed as ReadFailed, NoMemory};
 
 use super::source::Source;
 use crate::monitor::Failed;
 use std::alloc::{AllocError, Global};
+use thiserror::Error;
 
 const PIECE: usize = 65_536;
 
 /// Why bytes were not read.
-#[derive(Clone, Copy, Debug, PartialEq, Eq)]
+#[derive(Clone, Copy, Debug, PartialEq, Eq, Error)]
 pub enum ReadFault {
     /// A call failed.
+    #[error("input failed")]
     Failed,
     /// Memory was refused.
+    #[error("no memory")]
     NoMemory,
 }
 
@@ -34,7 +37,7 @@ impl From<AllocError> for ReadFault {
     }
 }
 
-/// Reads to the end, or until there are `limit` bytes.
+/// Reads to the end, or until there are `limit` bytes. No more than these are read, also where it fails.
 pub fn read_whole<S: Source>(
     alloc: Global,
     source: &mut S,
@@ -43,6 +46,7 @@ pub fn read_whole<S: Source>(
     requires { S.failures source.old < 2 ^ 63 }
     ensures bytes { IfOk result (λ v. IfSome (S.left source.old) (λ all. v.items ≡ take limit all)) }
     ensures rest { IfOk result (λ v. Consumes (S.left source.old) (S.left source.new) v.items) }
+    ensures at_most { ReadsUpTo limit (S.left source.old) (S.left source.new) }
     ensures end { IfOk result (λ v. length v.items < limit → IsAtEnd (S.left source.new)) }
     ensures failed { CountsReading (S.failures source.old) (S.failures source.new) result }
 {
@@ -64,7 +68,7 @@ fn piece_buffer(alloc: Global) -> Result<Vec<u8>, AllocError>
     vec![in alloc; 0; PIECE]
 }
 
-// Appends what one read into `piece` gives, and answers how much that is.
+/// Appends what one read into `piece` gives, and answers how much that is.
 fn read_onto<S: Source>(
     source: &mut S,
     piece: &mut [u8],
@@ -76,6 +80,7 @@ fn read_onto<S: Source>(
     ensures bytes { IfOk result (λ _. (before : Option (List ℕ))
         → Consumes before (S.left source.old) bytes.old.items
         → Consumes before (S.left source.new) bytes.new.items) }
+    ensures at_most { ReadsUpTo (length piece.old) (S.left source.old) (S.left source.new) }
     ensures end { IfOk result (λ count. count ≡ 0 → 0 < length piece.old → IsAtEnd (S.left source.new)) }
     ensures failed { CountsReading (S.failures source.old) (S.failures source.new) result }
 {

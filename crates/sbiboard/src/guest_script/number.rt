@@ -1,11 +1,11 @@
 ghost use Rattle.std.specs.Prelude.{◌≡◌, ◌≤◌};
-ghost use Rattle.sbiboard.specs.Reading.{number_of};
+ghost use Rattle.sbiboard.specs.Reading.{number_in};
 ghost use Rattle.sbiboard.specs.Scanning.{digit_after, numeral_of, spelled_of};
 
 /// The number that a word spells, if it is at most `limit`.
 #[tactic(auto, using(crate::proofs::Numbers::of_spelled))]
 pub fn number(word: &[u8], limit: u64) -> Option<u64>
-    ensures { result ≡ number_of limit word.now }
+    ensures { result ≡ number_in limit word.now }
 {
     match spelled(word) {
         Some(n) if n <= limit => Some(n),

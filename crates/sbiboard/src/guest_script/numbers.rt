@@ -12,7 +12,7 @@ use arrayvec::ArrayVec;
 pub const MOST_NUMBERS: usize = 8;
 
 /// The numbers that a text's words are: from `least` to `most` of them, each at most `limit`.
-pub fn numbers(
+pub fn numbers_in(
     text: &[u8],
     least: usize,
     most: usize,

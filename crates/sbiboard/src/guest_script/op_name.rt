@@ -61,14 +61,14 @@ impl OpName {
         ensures fits { result.most ≤ MOST_NUMBERS }
     {
         match self {
-            OpName::Ecall => numbers(2, 8),
+            OpName::Ecall => any_numbers(2, 8),
             OpName::Sstatus => Places {
                 least: 1,
                 most: 1,
                 limit: 1,
             },
-            OpName::Sie | OpName::Tick => numbers(1, 1),
-            OpName::Sip | OpName::Clearssip | OpName::Wfi | OpName::Advance => numbers(0, 0),
+            OpName::Sie | OpName::Tick => any_numbers(1, 1),
+            OpName::Sip | OpName::Clearssip | OpName::Wfi | OpName::Advance => any_numbers(0, 0),
         }
     }
 
@@ -91,7 +91,7 @@ impl OpName {
 }
 
 /// Numbers of any size, from `least` to `most` of them.
-fn numbers(least: usize, most: usize) -> Places
+fn any_numbers(least: usize, most: usize) -> Places
     ensures { result ≡ record { least = least; most = most; limit = last_number } }
 {
     Places {

@@ -7,7 +7,7 @@ ghost use Rattle.sbiboard.specs.FirstFault.{board_tests, byte_test, first_fault,
 ghost use Rattle.sbiboard.specs.Reading.{Gives, board_in, config_of, located, schedule_from, script_of, step_in, steps_from, tested, with_config, with_front};
 
 use crate::guest_script::fault::{Fault, ScriptFault};
-use crate::guest_script::numbers::numbers;
+use crate::guest_script::numbers::numbers_in;
 use crate::guest_script::schedule::{Line, Script};
 use crate::guest_script::step::step;
 use crate::guest_script::text::{is_clean, line_limit, next_line};
@@ -89,7 +89,7 @@ fn board_words(text: &[u8]) -> Result<Option<Config>, Fault>
             if first != b"board".as_slice() {
                 return Err(Fault::NoBoardLine);
             }
-            let numbers = numbers(rest, 6, 6, u64::MAX)?;
+            let numbers = numbers_in(rest, 6, 6, u64::MAX)?;
             Ok(Some(config(&numbers)))
         }
     }

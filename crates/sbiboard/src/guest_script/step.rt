@@ -4,7 +4,7 @@ ghost use Rattle.sbiboard.specs.Reading.{actor_in, line_in, op_in, step_in, test
 
 use crate::guest_script::fault::Fault;
 use crate::guest_script::number::number;
-use crate::guest_script::numbers::numbers;
+use crate::guest_script::numbers::numbers_in;
 use crate::guest_script::op_name::OpName;
 use crate::guest_script::schedule::Line;
 use crate::guest_script::words::{has_arrow, next_word};
@@ -67,6 +67,6 @@ fn op(text: &[u8]) -> Result<Op, Fault>
     let (word, rest) = next_word(text).ok_or(Fault::WordCount)?;
     let name = OpName::of(word).ok_or(Fault::UnknownWord)?;
     let places = name.places();
-    let numbers = numbers(rest, places.least, places.most, places.limit)?;
+    let numbers = numbers_in(rest, places.least, places.most, places.limit)?;
     Ok(name.op(&numbers))
 }

@@ -1,10 +1,10 @@
 ghost use Rattle.std.specs.Prelude.{◌≡◌, ◌+◌, ◌^◌, ◌<◌, ◌≤◌, ◌∷◌, ◌++◌, length, map, Ok};
 ghost use Rattle.std.specs.List.{join_with_byte};
-ghost use Rattle.sbiboard.specs.Line.{with_words};
+ghost use Rattle.sbiboard.specs.LineText.{arguments_room, arrow_room, call_room, decimal_room, reply_room, step_room, with_words};
 ghost use Rattle.sbiboard.specs.Sinks.{Puts};
 ghost use Rattle.sbiboard.specs.Words.{bit_of, hex, actor_word, board_words, event_words, line_of, op_words, reply_words};
 
-use super::line::Line;
+use super::line_text::LineText;
 use super::sink::{Failed, Sink, write_all};
 use board_core::{Actor, Config, Event, Op, Refusal, Reply};
 
@@ -13,7 +13,7 @@ pub fn print_head<W: Sink>(config: &Config, sink: &mut W) -> Result<(), Failed>
     requires { W.failures sink.old < 2 ^ 63 }
     ensures { Puts W.written W.failures sink.old sink.new result (line_of (board_words config.now)) }
 {
-    let mut line = Line::new();
+    let mut line = LineText::new();
     line.word(b"board");
     line.decimal(config.harts);
     line.decimal(config.pages);
@@ -35,7 +35,7 @@ pub fn print_line<W: Sink>(
     ensures { Puts W.written W.failures sink.old sink.new result
         (line_of (event_words actor op answer)) }
 {
-    let mut line = Line::new();
+    let mut line = LineText::new();
     actor_onto(&mut line, actor);
     op_onto(&mut line, op);
     line.word(b"->");
@@ -58,15 +58,15 @@ pub fn print_reply<W: Sink>(answer: Result<Reply, Refusal>, sink: &mut W) -> Res
     ensures { Puts W.written W.failures sink.old sink.new result
         (join_with_byte 32 (reply_words answer)) }
 {
-    let mut line = Line::new();
+    let mut line = LineText::new();
     reply_onto(&mut line, answer);
     write_all(sink, line.as_bytes())
 }
 
-fn actor_onto(line: &mut Line, actor: Actor)
+fn actor_onto(line: &mut LineText, actor: Actor)
     requires { length line.old ≡ 0 }
     ensures text { line.new ≡ line.old ++ 32 ∷ actor_word actor }
-    ensures len { length line.new ≤ 21 }
+    ensures len { length line.new ≤ decimal_room }
 {
     match actor {
         Actor::Hart(hart) => line.decimal(hart),
@@ -74,10 +74,10 @@ fn actor_onto(line: &mut Line, actor: Actor)
     }
 }
 
-fn op_onto(line: &mut Line, op: Op)
-    requires { length line.old ≤ 21 }
+fn op_onto(line: &mut LineText, op: Op)
+    requires { length line.old ≤ decimal_room }
     ensures text { line.new ≡ with_words line.old (op_words op) }
-    ensures len { length line.new ≤ 179 }
+    ensures len { length line.new ≤ step_room }
 {
     match op {
         Op::Ecall(regs) => {
@@ -105,10 +105,10 @@ fn op_onto(line: &mut Line, op: Op)
     }
 }
 
-fn reply_onto(line: &mut Line, answer: Result<Reply, Refusal>)
-    requires { length line.old ≤ 182 }
+fn reply_onto(line: &mut LineText, answer: Result<Reply, Refusal>)
+    requires { length line.old ≤ arrow_room }
     ensures text { line.new ≡ with_words line.old (reply_words answer) }
-    ensures len { length line.new ≤ length line.old + 65 }
+    ensures len { length line.new ≤ length line.old + reply_room }
     ensures some { 0 < length line.new }
 {
     match answer {
@@ -148,10 +148,10 @@ pub fn bit(value: bool) -> u64
     u64::from(value)
 }
 
-fn numbers_onto(line: &mut Line, numbers: &[u64; 6])
-    requires { length line.old ≤ 65 }
+fn numbers_onto(line: &mut LineText, numbers: &[u64; 6])
+    requires { length line.old ≤ call_room }
     ensures text { line.new ≡ with_words line.old (map hex numbers.now) }
-    ensures len { length line.new ≤ length line.old + 114 }
+    ensures len { length line.new ≤ length line.old + arguments_room }
 {
     for number in numbers {
         line.hex(*number);

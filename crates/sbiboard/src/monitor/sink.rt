@@ -1,9 +1,12 @@
-ghost use Rattle.std.specs.Prelude.{◌≡◌, ℕ, ◌^◌, ◌<◌, ◌≤◌, Bool, true, List, Option, length, IfOk, OnOk};
+ghost use Rattle.std.specs.Prelude.{◌≡◌, ℕ, ◌^◌, ◌<◌, ◌≤◌, Bool, true, false, List, Option, length, IfOk, OnOk};
 ghost use Rattle.std.specs.Io.KnownBytes.{Keeps, WriteAppends};
 ghost use Rattle.sbiboard.specs.Sinks.{CountsCall, CountsWrite, Puts};
 
+use thiserror::Error;
+
 /// A write or a read failed.
-#[derive(Clone, Copy, Debug, PartialEq, Eq)]
+#[derive(Clone, Copy, Debug, PartialEq, Eq, Error)]
+#[error("input or output failed")]
 pub struct Failed;
 
 /// What bytes are written to.
@@ -11,18 +14,19 @@ pub trait Sink {
     // the bytes that were taken, where they are known
     ghost written: { Self → Option (List ℕ) };
 
-    // whether nothing of what was taken is held back
+    // whether it was flushed since it was last written to, so that nothing of what was taken is held back
     ghost is_flushed: { Self → Bool };
 
     // how many calls failed
     ghost failures: { Self → ℕ };
 
     /// Takes bytes from the front of `piece`, and answers how many. To take none of a piece that
-    /// has some is a failure too.
+    /// has some is a failure too. Until the next flush what was taken may be held back.
     fn write(&mut self, piece: &[u8]) -> Result<usize, Failed>
         requires { failures self.old < 2 ^ 63 }
         ensures bound { IfOk result (λ n. n ≤ length piece.now) }
         ensures taken { WriteAppends (written self.old) (written self.new) result piece.now }
+        ensures unflushed { is_flushed self.new ≡ false }
         ensures failed { CountsWrite (failures self.old) (failures self.new) result piece.now };
 
     /// Passes on what the sink took and still holds back.

@@ -1,12 +1,12 @@
 ghost use Rattle.std.specs.Prelude.{◌≡◌, ◌+◌, ◌^◌, ◌<◌, ◌≤◌, [], ◌∷◌, ◌++◌, length};
 ghost use Rattle.std.specs.List.{flat_map};
 ghost use Rattle.board_core.specs.Course.{harts_of};
-ghost use Rattle.sbiboard.specs.Line.{with_words};
+ghost use Rattle.sbiboard.specs.LineText.{hex_column_room, hex_column_work, line_room, with_words};
 ghost use Rattle.sbiboard.specs.Sinks.{Puts};
 ghost use Rattle.sbiboard.specs.Table.{deadline_cell, details, entry_cells, entry_line, hart_cells, head_cells, row, state_name, table, time_cells, totals_cells};
 ghost use Rattle.sbiboard.specs.Words.{line_of};
 
-use super::line::Line;
+use super::line_text::LineText;
 use super::lines::bit;
 use super::sink::{Failed, Sink};
 use board_core::{Board, HartState, Kept, Totals};
@@ -57,12 +57,12 @@ fn print_entry<W: Sink>(h: u64, kept: Option<Kept>, sink: &mut W) -> Result<(), 
 }
 
 #[tactic(auto, unfolding(crate::specs::Table::time_cells))]
-fn time_line(board: &Board) -> Line
+fn time_line(board: &Board) -> LineText
     ensures text { result ≡ with_words [] (time_cells board.now.past) }
     ensures some { 0 < length result }
-    ensures room { length result < 256 }
+    ensures room { length result < line_room }
 {
-    let mut line = Line::new();
+    let mut line = LineText::new();
     line.word(b"#");
     line.word(b"time");
     line.hex_column(16, board.time());
@@ -76,12 +76,12 @@ fn time_line(board: &Board) -> Line
 }
 
 #[tactic(auto, unfolding(crate::specs::Table::totals_cells))]
-fn totals_line(totals: &Totals) -> Line
+fn totals_line(totals: &Totals) -> LineText
     ensures text { result ≡ with_words [] (totals_cells totals.now) }
     ensures some { 0 < length result }
-    ensures room { length result < 256 }
+    ensures room { length result < line_room }
 {
-    let mut line = Line::new();
+    let mut line = LineText::new();
     line.word(b"#");
     line.word(b"starts");
     line.decimal(totals.starts);
@@ -99,12 +99,12 @@ fn totals_line(totals: &Totals) -> Line
 }
 
 #[tactic(auto, unfolding(crate::specs::Table::head_cells))]
-fn columns_line() -> Line
+fn columns_line() -> LineText
     ensures text { result ≡ with_words [] (head_cells) }
     ensures some { 0 < length result }
-    ensures room { length result < 256 }
+    ensures room { length result < line_room }
 {
-    let mut line = Line::new();
+    let mut line = LineText::new();
     line.word(b"#");
     line.word(b"hart");
     line.left(15, b"state");
@@ -122,13 +122,13 @@ fn columns_line() -> Line
 }
 
 #[tactic(auto, unfolding(crate::specs::Table::hart_cells))]
-fn hart_line(board: &Board, h: u64) -> Line
+fn hart_line(board: &Board, h: u64) -> LineText
     requires { h < board.now.config.harts }
     ensures text { result ≡ with_words [] (hart_cells board.now.config board.now.past h) }
     ensures some { 0 < length result }
-    ensures room { length result < 256 }
+    ensures room { length result < line_room }
 {
-    let mut line = Line::new();
+    let mut line = LineText::new();
     line.word(b"#");
     line.right_decimal(4, h);
     line.left(15, name(board.state(h)));
@@ -145,10 +145,10 @@ fn hart_line(board: &Board, h: u64) -> Line
     line
 }
 
-fn deadline_onto(line: &mut Line, deadline: Option<u64>)
-    requires { length line.old + 33 ≤ 256 }
+fn deadline_onto(line: &mut LineText, deadline: Option<u64>)
+    requires { length line.old + hex_column_work ≤ line_room }
     ensures text { line.new ≡ line.old ++ 32 ∷ deadline_cell deadline }
-    ensures len { length line.new ≤ length line.old + 17 }
+    ensures len { length line.new ≤ length line.old + hex_column_room }
 {
     match deadline {
         Some(deadline) => line.hex_column(16, deadline),
@@ -157,12 +157,12 @@ fn deadline_onto(line: &mut Line, deadline: Option<u64>)
 }
 
 #[tactic(auto, unfolding(crate::specs::Table::entry_cells))]
-fn entry_line(h: u64, start: &Kept) -> Line
+fn entry_line(h: u64, start: &Kept) -> LineText
     ensures text { result ≡ with_words [] (entry_cells h start.now) }
     ensures some { 0 < length result }
-    ensures room { length result < 256 }
+    ensures room { length result < line_room }
 {
-    let mut line = Line::new();
+    let mut line = LineText::new();
     line.word(b"#");
     line.word(b"entry");
     line.right_decimal(3, h);

@@ -1,5 +1,5 @@
 use Rattle.std.proofs.Common.{◌≡◌, ◌+◌, ◌*◌, ◌≤◌, length, map, drop}
-use Rattle.sbiboard.specs.Line.{with_words}
+use Rattle.sbiboard.specs.LineText.{with_words}
 use Rattle.sbiboard.specs.Words.{hex}
 use Rattle.sbiboard.proofs.monitor.lines.numbers_onto.Given as goal
 

@@ -1,0 +1,90 @@
+//! The worked rows. The program reads the files of rows that are named to it, replays each row, and prints what
+//! differs; the tests are of what such a file can't hold.
+//!
+//! A line `row NAME` begins a row, and the lines after it are a schedule, written as a trace: what stands behind
+//! `->` is the reply that the board must give. Then one of these may follow:
+//! - `ends STATUS`, and whole lines that must be printed; `lacks TEXT` names a text that must not be.
+//! - `prints STATUS`, and all that must be printed. The schedule is replayed as it stands; a line `file NAME` in
+//!   its place names a file that has it.
+//! - `says`, and lines `OUTCOME | TEXT`: the schedule with the text after it, where `\n` is a line feed, must end
+//!   with that outcome, and print something only where it is good.
+//! - `each STATE`, and lines that are replayed one by one, each after the schedule. Hart 1 must be in that state
+//!   after each, or in the state behind `#`.
+#![tactic(auto)]
+
+#[cfg(test)]
+mod commands;
+#[cfg(test)]
+mod devices;
+#[cfg(test)]
+mod endings;
+#[cfg(test)]
+mod failing;
+#[cfg(test)]
+mod faults;
+#[cfg(test)]
+mod generated;
+#[cfg(test)]
+mod limits;
+#[cfg(test)]
+mod memory;
+#[cfg(test)]
+mod printing;
+mod row;
+
+use crate::row::{Row, check, check_cases, check_outcomes, check_text};
+use anyhow::{Context, Result};
+use std::rt::{Env, Files};
+use std::{env, fs};
+
+fn main(rt: HostRuntime) -> Result<()> {
+    let names = env::args(&rt)?.collect::<Vec<String>>(rt.alloc())?;
+    for name in names.iter().skip(1) {
+        check_file(&rt, name)?;
+    }
+    Ok(())
+}
+
+/// Checks the rows of a file, and prints how many they are and what differs.
+fn check_file<R: AllocGlobal + Files + Print>(rt: &R, name: &str) -> Result<()> {
+    let text = fs::read_to_string(rt, name)?;
+    for row in text.split("\nrow ").skip(1) {
+        if let Err(why) = check_row(rt, row) {
+            let name = row.lines().next().unwrap_or("");
+            println!(rt; "{name}: {why}")?;
+        }
+    }
+    println!(rt; "{name}: {} rows", text.split("\nrow ").skip(1).count())?;
+    Ok(())
+}
+
+/// Checks a row, whose name is the text's first line.
+fn check_row<R: AllocGlobal + Files>(rt: &R, text: &str) -> Result<()> {
+    if let Some((lines, cases)) = text.split_once("\nsays\n") {
+        let schedule = lines.split_once('\n').map_or("", |(_, schedule)| schedule);
+        return check_outcomes(rt.alloc(), schedule, cases);
+    }
+    let (_, body) = text.split_once('\n').context("no lines")?;
+    if let Some((lines, cases)) = body.split_once("\neach ") {
+        let (state, cases) = cases.split_once('\n').context("no cases")?;
+        return check_cases(rt.alloc(), lines, state, cases);
+    }
+    if let Some((schedule, end)) = body.split_once("\nprints ") {
+        let (status, printed) = end.split_once('\n').context("no text")?;
+        let status = status.parse::<u8>()?;
+        return match schedule.strip_prefix("file ") {
+            Some(name) => check_text(rt.alloc(), &fs::read_to_string(rt, name)?, status, printed),
+            None => check_text(rt.alloc(), schedule, status, printed),
+        };
+    }
+    let (lines, end) = body.split_once("\nends ").unwrap_or((body, "0\n"));
+    let (status, shown) = end.split_once('\n').context("no status")?;
+    let status = status.parse::<u8>()?;
+    let row = Row {
+        lines,
+        status,
+        shown,
+    };
+    let _ = check(rt.alloc(), row)?;
+    Ok(())
+}

@@ -1,0 +1,143 @@
+use anyhow::{Context, Result, ensure};
+use sbiboard::{Device, Outcome, replay};
+use std::alloc::{AllocError, Global};
+
+/// A schedule with what it must give.
+#[derive(Clone, Copy)]
+pub struct Row<'a> {
+    /// The board line and the steps, each with its reply behind `->`, or without one where any reply will do that
+    /// is no refusal.
+    pub lines: &'a str,
+    /// The status that it ends with.
+    pub status: u8,
+    /// Whole lines that must be printed; `lacks TEXT` names a text that must not be.
+    pub shown: &'a str,
+}
+
+/// How the replay of these bytes ends, and what it prints.
+pub fn replayed(alloc: Global, schedule: &[u8]) -> (Outcome, Vec<u8>) {
+    let mut reader = Device::new(schedule);
+    let mut writer = Device::new(Vec::new(alloc));
+    let outcome = replay(alloc, &mut reader, &mut writer);
+    (outcome, writer.into_inner())
+}
+
+/// Replays a row, and compares its replies, its status and what must be printed. It answers what was printed.
+pub fn check(alloc: Global, row: Row) -> Result<String> {
+    let schedule = schedule(alloc, row.lines)?;
+    let printed = printed(alloc, &schedule, row.status)?;
+    let mut answers = printed.lines();
+    for line in row.lines.lines() {
+        let answer = answers.next().context("fewer lines than steps")?;
+        check_reply(line, answer)?;
+    }
+    let table = answers.next().context("no table")?;
+    ensure!(table.starts_with("# time "), "more lines than steps");
+    for wanted in row.shown.lines() {
+        check_shown(wanted, &printed)?;
+    }
+    Ok(printed)
+}
+
+/// Replays a schedule as it stands, and compares all that it prints.
+pub fn check_text(alloc: Global, schedule: &str, status: u8, wanted: &str) -> Result<()> {
+    let printed = printed(alloc, schedule, status)?;
+    ensure!(printed.as_str() == wanted, "another text");
+    Ok(())
+}
+
+/// Replays each case by itself after the lines, and compares its reply and the state of hart 1 after it.
+pub fn check_cases(alloc: Global, lines: &str, state: &str, cases: &str) -> Result<()> {
+    for case in cases.lines() {
+        let lines = format!(in alloc; "{lines}\n{case}")?;
+        let row = Row {
+            lines: &lines,
+            status: 0,
+            shown: "",
+        };
+        let printed = check(alloc, row)?;
+        let wanted = case
+            .split_once('#')
+            .map_or(state, |(_, after)| after.trim());
+        let shown = state_shown(&printed, "1").context("no row of hart 1")?;
+        ensure!(shown == wanted, "{case}: {shown}");
+    }
+    Ok(())
+}
+
+/// Replays each text after the lines, and compares its outcome. A text that isn't good prints nothing.
+pub fn check_outcomes(alloc: Global, lines: &str, cases: &str) -> Result<()> {
+    for case in cases.split('\n').filter(|case| !case.is_empty()) {
+        let (wanted, text) = case.split_once(" | ").context("no text")?;
+        let text = text.replace(alloc, "\\n", "\n")?;
+        let schedule = if lines.is_empty() {
+            text
+        } else {
+            format!(in alloc; "{lines}\n{text}")?
+        };
+        let (outcome, printed) = replayed(alloc, schedule.as_bytes());
+        let said = format!(in alloc; "{outcome}")?;
+        ensure!(said.as_str() == wanted, "{case}: {said}");
+        ensure!(
+            printed.is_empty() != (outcome == Outcome::Good),
+            "{case}: printed"
+        );
+    }
+    Ok(())
+}
+
+/// What the replay of a schedule prints, which must end with this status.
+fn printed(alloc: Global, schedule: &str, status: u8) -> Result<String> {
+    let (outcome, printed) = replayed(alloc, schedule.as_bytes());
+    ensure!(outcome.status() == status, "ended: {outcome}");
+    let printed = String::from_utf8(printed).ok().context("no text")?;
+    Ok(printed)
+}
+
+/// The lines without their replies.
+fn schedule(alloc: Global, lines: &str) -> Result<String, AllocError> {
+    let mut schedule = String::new(alloc);
+    for line in lines.lines() {
+        schedule.push_str(parted(line).0)?;
+        schedule.push_str("\n")?;
+    }
+    Ok(schedule)
+}
+
+/// What stands before the arrow of a line, and the reply after it. A comment isn't part of either.
+fn parted(line: &str) -> (&str, Option<&str>) {
+    let words = line.split_once('#').map_or(line, |(words, _)| words);
+    match words.split_once("->") {
+        Some((step, reply)) => (step.trim(), Some(reply.trim())),
+        None => (words.trim(), None),
+    }
+}
+
+fn check_reply(line: &str, answer: &str) -> Result<()> {
+    let is_right = match parted(line) {
+        (_, None) => !answer.contains("refused"),
+        (_, wanted) => parted(answer).1 == wanted,
+    };
+    ensure!(is_right, "{line}: {answer}");
+    Ok(())
+}
+
+fn check_shown(wanted: &str, printed: &str) -> Result<()> {
+    let is_right = match wanted.strip_prefix("lacks ") {
+        Some(text) => !printed.contains(text),
+        None => wanted.is_empty() || printed.lines().any(|line| line == wanted),
+    };
+    ensure!(is_right, "not so: {wanted}");
+    Ok(())
+}
+
+/// The state that the table shows of a hart.
+fn state_shown<'a>(printed: &'a str, hart: &str) -> Option<&'a str> {
+    printed
+        .lines()
+        .map(|line| line.split_whitespace())
+        .find_map(|mut words| {
+            let is_row = words.next() == Some("#") && words.next() == Some(hart);
+            if is_row { words.next() } else { None }
+        })
+}

@@ -1,0 +1,47 @@
+-- A line under way, and how much room its parts take.
+use Rattle.std.specs.Prelude.{ℕ, ◌+◌, ◌*◌, List, [], ◌∷◌, ◌++◌}
+
+-- the line, and then each of the words after a blank
+abbrev pub with_words : List ℕ → List (List ℕ) → List ℕ
+with_words line [] = line
+with_words line (word ∷ words) = with_words (line ++ 32 ∷ word) words
+
+-- the room of a line
+abbrev pub line_room : ℕ
+line_room = 256
+
+-- a blank, and the digits of the largest number, or a sign and those of the largest signed one
+abbrev pub decimal_room : ℕ
+decimal_room = 21
+
+-- a blank, `0x`, and the hexadecimal digits of the largest number
+abbrev pub hex_room : ℕ
+hex_room = 19
+
+-- a blank, and 16 hexadecimal digits
+abbrev pub hex_column_room : ℕ
+hex_column_room = 17
+
+-- the room in which a column of hexadecimal digits is composed: a blank, up to 16 zeros, and then up to 16 digits
+abbrev pub hex_column_work : ℕ
+hex_column_work = 33
+
+-- an actor, the word `ecall`, an extension and a function
+abbrev pub call_room : ℕ
+call_room = decimal_room + 6 + 2 * hex_room
+
+-- the six arguments of a call
+abbrev pub arguments_room : ℕ
+arguments_room = 6 * hex_room
+
+-- an actor and what it does, of which a call is the longest
+abbrev pub step_room : ℕ
+step_room = call_room + arguments_room
+
+-- a step and the arrow after it
+abbrev pub arrow_room : ℕ
+arrow_room = step_room + 3
+
+-- an answer, of which `entry`, an address, a hart and an opaque value are the longest
+abbrev pub reply_room : ℕ
+reply_room = 6 + hex_room + decimal_room + hex_room

@@ -1,0 +1,92 @@
+ghost use Rattle.std.specs.Prelude.{◌≡◌};
+ghost use Rattle.sbiboard.specs.Outcomes.{EndsWith, IsMemory, StopsWith, status_of, usage_status};
+ghost use Rattle.sbiboard.specs.declared.ending.Stop.TheVariants.{System, Usage};
+
+use crate::outcome::Outcome;
+use clap::error::ErrorKind;
+use std::alloc::AllocError;
+use std::io;
+use thiserror::Error;
+
+/// Why a run of the program came to no outcome of its task.
+#[derive(Debug, Drop, Error)]
+pub enum Stop {
+    /// The command line is no task: help or the version was asked for, or it is a fault of usage.
+    #[error(transparent)]
+    Usage(clap::Error),
+    /// A call of the system failed.
+    #[error(transparent)]
+    System(io::Error),
+}
+
+impl From<clap::Error> for Stop {
+    ghost from_gives = { λ error stop. stop ≡ Usage error };
+
+    fn from(error: clap::Error) -> Stop {
+        Stop::Usage(error)
+    }
+}
+
+impl From<io::Error> for Stop {
+    ghost from_gives = { λ error stop. stop ≡ System error };
+
+    fn from(error: io::Error) -> Stop {
+        Stop::System(error)
+    }
+}
+
+impl From<AllocError> for Stop {
+    ghost from_gives = { λ _ stop. IsMemory stop };
+
+    fn from(refused: AllocError) -> Stop {
+        Stop::System(io::Error::from(refused))
+    }
+}
+
+/// Says how a run of the program ended, and answers its exit status (profile). An outcome that isn't good is a line
+/// on standard error; of a command line that is no task clap's text is printed, help and the version on standard
+/// output.
+pub fn ended<R: Eprint + Print>(rt: &R, run: Result<Outcome, Stop>) -> u8
+    ensures { EndsWith run result }
+{
+    match run {
+        Ok(outcome) => told(rt, outcome),
+        Err(Stop::System(error)) => told(rt, Outcome::from(error)),
+        Err(Stop::Usage(error)) => shown(rt, &error),
+    }
+}
+
+/// Prints what clap says of a command line that is no task, and answers the status.
+fn shown<R: Eprint + Print>(rt: &R, error: &clap::Error) -> u8
+    ensures { StopsWith (Usage error.now) result }
+{
+    let kind = error.kind();
+    if kind == ErrorKind::OutOfMemory {
+        return told(rt, Outcome::NoMemory);
+    }
+    match error.print(rt) {
+        Ok(()) => usage_status(kind),
+        Err(error) => told(rt, Outcome::from(error)),
+    }
+}
+
+/// Says an outcome on standard error, where there is a line to say, and answers its status.
+fn told<R: Eprint>(rt: &R, outcome: Outcome) -> u8
+    ensures { result ≡ status_of outcome }
+{
+    if outcome.is_told() {
+        let _ = eprintln!(rt; "sbiboard: {outcome}");
+    }
+    outcome.status()
+}
+
+/// The status of what clap says of a command line that is no task.
+fn usage_status(kind: ErrorKind) -> u8
+    ensures { result ≡ usage_status kind }
+{
+    match kind {
+        ErrorKind::DisplayHelp | ErrorKind::DisplayVersion => 0,
+        ErrorKind::OutOfMemory => 6,
+        _ => 2,
+    }
+}
