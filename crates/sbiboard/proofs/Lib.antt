@@ -1,3 +1,4 @@
+pub mod Caches
 pub mod FaultsFound
 pub mod Hex
 pub mod Known

@@ -14,7 +14,7 @@ use Rattle.board_core.specs.declared.config.Config.{Config}
 use Rattle.board_core.specs.declared.event.Actor.{Actor}
 use Rattle.board_core.specs.declared.event.Actor.TheVariants.{Hart, Clock}
 use Rattle.board_core.specs.declared.event.Op.{Op}
-use Rattle.board_core.specs.declared.event.Op.TheVariants.{Ecall, WriteSie, WriteSstatusSie, ReadSip, ClearSsip, Wfi, Advance, Tick}
+use Rattle.board_core.specs.declared.event.Op.TheVariants.{Ecall, Load, Store, Fetch, WriteSatp, WriteSie, WriteSstatusSie, ReadSip, ClearSsip, Sfence, FenceI, Wfi, Advance, Tick}
 use Rattle.sbiboard.specs.declared.guest_script.schedule.Line.{Line}
 use Rattle.sbiboard.specs.Words.{actor_word, board_words, hex, line_of, op_words}
 use Rattle.sbiboard.specs.Grammar.{AreNumbers, AreSteps, Form, form_of, IsActor, is_allowed, is_blank, is_hash, IsLine, IsOp, IsWord, last_hart, last_number, numbers_of, regs_of, Spaces, Spells}
@@ -163,6 +163,18 @@ op_read_back (Ecall regs) fits =
     (op_spelled (codes "ecall") (hex regs.eid ∷ hex regs.fid ∷ map hex regs.a) _ (regs.eid ∷ regs.fid ∷ regs.a) refl
     (name_plain (codes "ecall") (λ e. cc) (omega arith)) (omega (arith, count)) (omega (arith, count, fits.2))
     (number regs.eid fits.0, (number regs.fid fits.1, hexes_read_back regs.a fits.3)))
+op_read_back (Load va) fits =
+    op_spelled (codes "load") (hex va ∷ []) _ (va ∷ []) refl (name_plain (codes "load") (λ e. cc) (omega arith)) (omega arith) (omega arith)
+    ((number_read_back last_number va fits (omega arith)).1, tt)
+op_read_back (Store va value) fits =
+    op_spelled (codes "store") (hex va ∷ hex value ∷ []) _ (va ∷ value ∷ []) refl (name_plain (codes "store") (λ e. cc) (omega arith)) (omega arith) (omega arith)
+    ((number_read_back last_number va fits.0 (omega arith)).1, ((number_read_back last_number value fits.1 (omega arith)).1, tt))
+op_read_back (Fetch va) fits =
+    op_spelled (codes "fetch") (hex va ∷ []) _ (va ∷ []) refl (name_plain (codes "fetch") (λ e. cc) (omega arith)) (omega arith) (omega arith)
+    ((number_read_back last_number va fits (omega arith)).1, tt)
+op_read_back (WriteSatp value) fits =
+    op_spelled (codes "satp") (hex value ∷ []) _ (value ∷ []) refl (name_plain (codes "satp") (λ e. cc) (omega arith)) (omega arith) (omega arith)
+    ((number_read_back last_number value fits (omega arith)).1, tt)
 op_read_back (WriteSie value) fits =
     op_spelled (codes "sie") (hex value ∷ []) _ (value ∷ []) refl (name_plain (codes "sie") (λ e. cc) (omega arith)) (omega arith) (omega arith)
     ((number_read_back last_number value fits (omega arith)).1, tt)
@@ -176,6 +188,9 @@ op_read_back ReadSip fits =
     op_spelled (codes "sip") [] _ [] refl (name_plain (codes "sip") (λ e. cc) (omega arith)) (omega arith) (omega arith) tt
 op_read_back ClearSsip fits =
     op_spelled (codes "clearssip") [] _ [] refl (name_plain (codes "clearssip") (λ e. cc) (omega arith)) (omega arith) (omega arith) tt
+op_read_back (Sfence va asid) fits = absurd fits
+op_read_back FenceI fits =
+    op_spelled (codes "fencei") [] _ [] refl (name_plain (codes "fencei") (λ e. cc) (omega arith)) (omega arith) (omega arith) tt
 op_read_back Wfi fits =
     op_spelled (codes "wfi") [] _ [] refl (name_plain (codes "wfi") (λ e. cc) (omega arith)) (omega arith) (omega arith) tt
 op_read_back Advance fits =

@@ -9,7 +9,7 @@ use Rattle.board_core.specs.declared.config.Config.{Config}
 use Rattle.board_core.specs.declared.event.Actor.{Actor}
 use Rattle.board_core.specs.declared.event.Actor.TheVariants.{Hart, Clock}
 use Rattle.board_core.specs.declared.event.Op.{Op}
-use Rattle.board_core.specs.declared.event.Op.TheVariants.{Ecall, WriteSie, WriteSstatusSie, ReadSip, ClearSsip, Wfi, Advance, Tick}
+use Rattle.board_core.specs.declared.event.Op.TheVariants.{Ecall, Load, Store, Fetch, WriteSatp, WriteSie, WriteSstatusSie, ReadSip, ClearSsip, FenceI, Wfi, Advance, Tick}
 use Rattle.board_core.specs.Refusals.{first_that_holds}
 use Rattle.sbiboard.specs.declared.guest_script.schedule.Line.{Line}
 use Rattle.sbiboard.specs.declared.guest_script.schedule.Script.{Script}
@@ -116,10 +116,15 @@ regs_of ns = record {
 abbrev pub forms : List (List ℕ × Form)
 forms =
     (codes "ecall", record { least = 2; most = 8; limit = last_number; op = λ ns. Ecall (regs_of ns) })
+    ∷ (codes "load", record { least = 1; most = 1; limit = last_number; op = λ ns. Load (slice_index ns 0) })
+    ∷ (codes "store", record { least = 2; most = 2; limit = last_number; op = λ ns. Store (slice_index ns 0) (slice_index ns 1) })
+    ∷ (codes "fetch", record { least = 1; most = 1; limit = last_number; op = λ ns. Fetch (slice_index ns 0) })
+    ∷ (codes "satp", record { least = 1; most = 1; limit = last_number; op = λ ns. WriteSatp (slice_index ns 0) })
     ∷ (codes "sie", record { least = 1; most = 1; limit = last_number; op = λ ns. WriteSie (slice_index ns 0) })
     ∷ (codes "sstatus", record { least = 1; most = 1; limit = 1; op = λ ns. WriteSstatusSie (slice_index ns 0 == 1) })
     ∷ (codes "sip", record { least = 0; most = 0; limit = last_number; op = λ ns. ReadSip })
     ∷ (codes "clearssip", record { least = 0; most = 0; limit = last_number; op = λ ns. ClearSsip })
+    ∷ (codes "fencei", record { least = 0; most = 0; limit = last_number; op = λ ns. FenceI })
     ∷ (codes "wfi", record { least = 0; most = 0; limit = last_number; op = λ ns. Wfi })
     ∷ (codes "advance", record { least = 0; most = 0; limit = last_number; op = λ ns. Advance })
     ∷ (codes "tick", record { least = 1; most = 1; limit = last_number; op = λ ns. Tick (slice_index ns 0) })

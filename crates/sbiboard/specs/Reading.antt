@@ -38,10 +38,15 @@ Gives view (Err fault) read = read ≡ Err fault
 -- the word that names it
 abbrev pub spelling : OpName → List ℕ
 spelling names.Ecall = codes "ecall"
+spelling names.Load = codes "load"
+spelling names.Store = codes "store"
+spelling names.Fetch = codes "fetch"
+spelling names.Satp = codes "satp"
 spelling names.Sie = codes "sie"
 spelling names.Sstatus = codes "sstatus"
 spelling names.Sip = codes "sip"
 spelling names.Clearssip = codes "clearssip"
+spelling names.Fencei = codes "fencei"
 spelling names.Wfi = codes "wfi"
 spelling names.Advance = codes "advance"
 spelling names.Tick = codes "tick"

@@ -11,6 +11,14 @@ use sbi_abi::Regs;
 pub enum OpName {
     /// `ecall`
     Ecall,
+    /// `load`
+    Load,
+    /// `store`
+    Store,
+    /// `fetch`
+    Fetch,
+    /// `satp`
+    Satp,
     /// `sie`
     Sie,
     /// `sstatus`
@@ -19,6 +27,8 @@ pub enum OpName {
     Sip,
     /// `clearssip`
     Clearssip,
+    /// `fencei`
+    Fencei,
     /// `wfi`
     Wfi,
     /// `advance`
@@ -43,10 +53,15 @@ impl OpName {
     {
         match word {
             b"ecall" => Some(OpName::Ecall),
+            b"load" => Some(OpName::Load),
+            b"store" => Some(OpName::Store),
+            b"fetch" => Some(OpName::Fetch),
+            b"satp" => Some(OpName::Satp),
             b"sie" => Some(OpName::Sie),
             b"sstatus" => Some(OpName::Sstatus),
             b"sip" => Some(OpName::Sip),
             b"clearssip" => Some(OpName::Clearssip),
+            b"fencei" => Some(OpName::Fencei),
             b"wfi" => Some(OpName::Wfi),
             b"advance" => Some(OpName::Advance),
             b"tick" => Some(OpName::Tick),
@@ -67,8 +82,11 @@ impl OpName {
                 most: 1,
                 limit: 1,
             },
+            OpName::Load | OpName::Fetch | OpName::Satp => any_numbers(1, 1),
             OpName::Sie | OpName::Tick => any_numbers(1, 1),
-            OpName::Sip | OpName::Clearssip | OpName::Wfi | OpName::Advance => any_numbers(0, 0),
+            OpName::Store => any_numbers(2, 2),
+            OpName::Sip | OpName::Clearssip | OpName::Fencei => any_numbers(0, 0),
+            OpName::Wfi | OpName::Advance => any_numbers(0, 0),
         }
     }
 
@@ -79,10 +97,15 @@ impl OpName {
     {
         match self {
             OpName::Ecall => Op::Ecall(regs(numbers)),
+            OpName::Load => Op::Load(at(numbers, 0)),
+            OpName::Store => Op::Store(at(numbers, 0), at(numbers, 1)),
+            OpName::Fetch => Op::Fetch(at(numbers, 0)),
+            OpName::Satp => Op::WriteSatp(at(numbers, 0)),
             OpName::Sie => Op::WriteSie(at(numbers, 0)),
             OpName::Sstatus => Op::WriteSstatusSie(at(numbers, 0) == 1),
             OpName::Sip => Op::ReadSip,
             OpName::Clearssip => Op::ClearSsip,
+            OpName::Fencei => Op::FenceI,
             OpName::Wfi => Op::Wfi,
             OpName::Advance => Op::Advance,
             OpName::Tick => Op::Tick(at(numbers, 0)),
