@@ -1,5 +1,5 @@
 -- What holds of schedules as text: each has one reading, and what is printed of one is read back (profile).
-use Rattle.std.specs.Prelude.{◌≡◌, ◌↔◌, ℕ, ◌≤◌, List, ◌++◌, length, None, decimal}
+use Rattle.std.specs.Prelude.{◌≡◌, ◌↔◌, ℕ, ◌≤◌, List, ◌++◌, length, None, IfSome, decimal}
 use Rattle.std.specs.List.{AllByRecursion, flat_map, join_with_byte}
 use Rattle.board_core.specs.declared.event.Actor.{Actor}
 use Rattle.board_core.specs.declared.event.Actor.TheVariants.{Hart, Clock}
@@ -34,7 +34,7 @@ FitsOp (Store va value) = (va ≤ last_number) × (value ≤ last_number)
 FitsOp (Fetch va) = va ≤ last_number
 FitsOp (WriteSatp value) = value ≤ last_number
 FitsOp (WriteSie value) = value ≤ last_number
-FitsOp (Sfence va asid) = ⊥
+FitsOp (Sfence va asid) = IfSome va (λ n. n ≤ last_number) × IfSome asid (λ n. n ≤ last_number)
 FitsOp (Tick n) = n ≤ last_number
 FitsOp op = Unit {0}
 
