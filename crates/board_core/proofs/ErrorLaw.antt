@@ -17,14 +17,23 @@ use Rattle.hsm.specs.States.{is_stopped}
 use Rattle.board_core.specs.declared.config.Config.{Config}
 use Rattle.board_core.specs.declared.event.Actor.{Actor}
 use Rattle.board_core.specs.declared.event.Actor.TheVariants.{Hart, Clock}
-use Rattle.board_core.specs.declared.event.Event.{Event}
+use Rattle.board_core.specs.History.{Event}
 use Rattle.board_core.specs.declared.event.Op.{Op}
-use Rattle.board_core.specs.declared.event.Op.TheVariants.{Ecall, WriteSie, WriteSstatusSie, ReadSip, ClearSsip, Wfi, Advance, Tick}
+use Rattle.board_core.specs.declared.event.Op.TheVariants.{Ecall, Load, Store, Fetch, WriteSatp, WriteSie, WriteSstatusSie, ReadSip, ClearSsip, Wfi, Sfence, FenceI, Advance, Tick}
 use Rattle.board_core.specs.declared.event.Refusal.{Refusal}
 use Rattle.board_core.specs.declared.event.Reply.{Reply}
 use Rattle.board_core.specs.declared.event.Reply.TheVariants.{Ret, Gone, Done}
 use Rattle.board_core.specs.Course.{harts_of}
+use Rattle.sv39.specs.declared.cause.Cause.{Cause}
+use Rattle.tlb_model.specs.declared.caches.Caches.{Caches}
+use Rattle.tlb_model.specs.declared.entry.Entry.{Entry}
+use Rattle.hart_access.specs.declared.operation.Access.{Access}
+use Rattle.hart_access.specs.declared.operation.Access.TheVariants as accesses
+use Rattle.hart_access.specs.Accesses as whole
+use Rattle.board_core.specs.Accesses.{access_reply_of, cached, hit}
 use Rattle.board_core.specs.Csrs.{sstatus_sie}
+use Rattle.board_core.specs.Memory.{memory, satp, written_by}
+use Rattle.board_core.proofs.Standing.{caches-same}
 use Rattle.board_core.specs.ErrorLaw.{LooksSame, is_error}
 use Rattle.board_core.specs.Interrupts.{reaches_by, time, wake}
 use Rattle.board_core.specs.Limits.{is_start_address}
@@ -95,30 +104,51 @@ module _ (c : Config) (past : List Event) where
     advanced_well ResumePending start None = refl
     advanced_well ResumePending start (Some kept) = refl
 
+  -- an access answers no SBI error
+  accessed_well : (what : Access) (result : Result ℕ Cause) → is_error (access_reply_of what result) ≡ false
+  accessed_well accesses.Load (Ok word) = refl
+  accessed_well accesses.Load (Err cause) = refl
+  accessed_well (accesses.Store value) (Ok word) = refl
+  accessed_well (accesses.Store value) (Err cause) = refl
+  accessed_well accesses.Fetch (Ok word) = refl
+  accessed_well accesses.Fetch (Err cause) = refl
+
   -- a tick that isn't refused is done
   ticked_well : (refusal : Option Refusal) (r : Reply) → refused_or refusal Done ≡ Ok r → r ≡ Done
   ticked_well None r e = cc
   ticked_well (Some refusal) r e = cc
 
-  failed : (actor : Actor) (op : Op) (r : Reply) → answer c past actor op ≡ Ok r → is_error r ≡ true
-      → deed c past (record { actor = actor; op = op; reply = r }) ≡ still
-  failed Clock (Ecall regs) r e error = cc
-  failed Clock (WriteSie value) r e error = cc
-  failed Clock (WriteSstatusSie value) r e error = cc
-  failed Clock ReadSip r e error = cc
-  failed Clock ClearSsip r e error = cc
-  failed Clock Wfi r e error = cc
-  failed Clock Advance r e error = cc
-  failed Clock (Tick n) r e error = absurd (let e = sym (ap is_error (ticked_well (first_that_holds (clock_refusals c past (Tick n))) r e)) ∙ error in cc)
-  failed (Hart x) op r e error = by_op op (accepted (nat_le c.harts x) (state c past x) (wake c past x) op (is_full c past) (reply c past x op) r e).1
+  failed : (actor : Actor) (op : Op) (r : Reply) (used : Option Entry) → answer c past actor op ≡ Ok r → is_error r ≡ true
+      → deed c past (record { actor = actor; op = op; reply = r; translation = used }) ≡ still
+  failed Clock (Ecall regs) r used e error = cc
+  failed Clock (Load va) r used e error = cc
+  failed Clock (Store va value) r used e error = cc
+  failed Clock (Fetch va) r used e error = cc
+  failed Clock (WriteSatp value) r used e error = cc
+  failed Clock (WriteSie value) r used e error = cc
+  failed Clock (WriteSstatusSie value) r used e error = cc
+  failed Clock ReadSip r used e error = cc
+  failed Clock ClearSsip r used e error = cc
+  failed Clock Wfi r used e error = cc
+  failed Clock (Sfence va asid) r used e error = cc
+  failed Clock FenceI r used e error = cc
+  failed Clock Advance r used e error = cc
+  failed Clock (Tick n) r used e error = absurd (let e = sym (ap is_error (ticked_well (first_that_holds (clock_refusals c past (Tick n))) r e)) ∙ error in cc)
+  failed (Hart x) op r used e error = by_op op (accepted (nat_le c.harts x) (state c past x) (wake c past x) op (is_full c past) (reply c past x op) r e).1
     where
-      by_op : (op : Op) → reply c past x op ≡ r → deed c past (record { actor = Hart x; op = op; reply = r }) ≡ still
+      by_op : (op : Op) → reply c past x op ≡ r → deed c past (record { actor = Hart x; op = op; reply = r; translation = used }) ≡ still
       by_op (Ecall regs) is = failed_call x (call_of regs) r is error
+      by_op (Load va) is = absurd (let e = sym (accessed_well accesses.Load (whole.answer (memory c past) (satp past x) (hit c past x) (cached c past x) va accesses.Load)) ∙ ap is_error is ∙ error in cc)
+      by_op (Store va value) is = absurd (let e = sym (accessed_well (accesses.Store value) (whole.answer (memory c past) (satp past x) (hit c past x) (cached c past x) va (accesses.Store value))) ∙ ap is_error is ∙ error in cc)
+      by_op (Fetch va) is = absurd (let e = sym (accessed_well accesses.Fetch (whole.answer (memory c past) (satp past x) (hit c past x) (cached c past x) va accesses.Fetch)) ∙ ap is_error is ∙ error in cc)
+      by_op (WriteSatp value) is = absurd (let e = rw (← is) at error in cc)
       by_op (WriteSie value) is = absurd (let e = rw (← is) at error in cc)
       by_op (WriteSstatusSie value) is = absurd (let e = rw (← is) at error in cc)
       by_op ReadSip is = absurd (let e = rw (← is) at error in cc)
       by_op ClearSsip is = absurd (let e = rw (← is) at error in cc)
       by_op Wfi is = absurd (let e = rw (← is) at error in cc)
+      by_op (Sfence va asid) is = absurd (let e = rw (← is) at error in cc)
+      by_op FenceI is = absurd (let e = rw (← is) at error in cc)
       by_op Advance is = absurd (let e = sym (advanced_well x (state c past x) (last_start c past x) (resume_point past x)) ∙ ap is_error is ∙ error in cc)
       by_op (Tick n) is = absurd (let e = rw (← is) at error in cc)
 
@@ -132,6 +162,7 @@ module _ (c : Config) (past : List Event) where
       let sie = ap (λ (d : Deed). d.interrupts.sie) none in
       let ssip = ap (λ (d : Deed). d.interrupts.ssip) none in
       let deadline = ap (λ (d : Deed). d.interrupts.deadline) none in
+      let no_satp = ap (λ (d : Deed). d.memory.satp) none in
       let ticks = ap (λ (d : Deed). d.interrupts.ticks) none in
       let entry = ap (λ (d : Deed). d.counts.entry) none in
       let reach : (h : ℕ) → reaches_by c past event.op event.reply h ≡ false = λ h. ap (λ (d : Deed). d.interrupts.reach h) none in
@@ -148,6 +179,10 @@ module _ (c : Config) (past : List Event) where
         stip = λ h. rw (deadline, later) refl;
         wake = λ h. rw (sie, reach h, ssip, deadline, later) refl;
         deadline = λ h. rw deadline refl;
+        satp = λ h. rw no_satp refl;
+        word = λ at. ap (λ storing. written_by storing (memory c past) at) (ap (λ (d : Deed). d.memory.storing) none);
+        tlb = λ h. ap (λ (caches : Caches). caches.tlb.live) (caches-same c past event still none h refl refl);
+        fetched = λ h. ap (λ (caches : Caches). caches.words.live) (caches-same c past event still none h refl refl);
         time = later;
         totals = λ i. record {
           starts = started i;
@@ -160,4 +195,4 @@ module _ (c : Config) (past : List Event) where
       }
 
 pub errors_change_nothing : (c : Config) (event : Event) (past : List Event) → IsLegal c (event ∷ past) → is_error event.reply ≡ true → LooksSame c past (event ∷ past)
-errors_change_nothing c event past legal error = looks_same c past event (failed c past event.actor event.op event.reply legal.0 error)
+errors_change_nothing c event past legal error = looks_same c past event (failed c past event.actor event.op event.reply event.translation legal.0 error)

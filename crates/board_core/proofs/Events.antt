@@ -1,22 +1,26 @@
 -- What accepted events do, by component: each part of a deed is what the definitions read off the event.
 use Rattle.std.proofs.Common.{◌≡◌, ℕ, Bool, true, false, List, refl, sym, ap}
-use Rattle.std.specs.Prelude.{Option, Some, None}
+use Rattle.std.specs.Prelude.{Option, Some, None, ◌==◌}
 use Rattle.sbi_abi.specs.declared.call.Call.{Call}
 use Rattle.sbi_abi.specs.declared.call.Regs.{Regs}
 use Rattle.sbi_abi.specs.Calls.{call_of}
 use Rattle.hsm.specs.declared.hart.HartState.TheVariants as states
 use Rattle.hsm.specs.declared.hart.Kept.{Kept}
 use Rattle.hsm.specs.States.{is_start_pending}
+use Rattle.tlb_model.specs.declared.entry.Entry.{Entry as CacheEntry}
+use Rattle.tlb_model.specs.declared.word.FetchWord.{FetchWord}
+use Rattle.tlb_model.specs.Acts.{Act, Nothing}
 use Rattle.board_core.specs.declared.config.Config.{Config}
 use Rattle.board_core.specs.declared.csrs.Sie.{Sie}
-use Rattle.board_core.specs.declared.event.Actor.TheVariants.{Hart}
-use Rattle.board_core.specs.declared.event.Event.{Event}
+use Rattle.board_core.specs.Course.{is_hart}
+use Rattle.board_core.specs.History.{Event, by_hart}
 use Rattle.board_core.specs.declared.event.Op.{Op}
 use Rattle.board_core.specs.declared.event.Op.TheVariants.{Ecall, Advance}
 use Rattle.board_core.specs.declared.event.Reply.{Reply}
 use Rattle.board_core.specs.declared.event.Reply.TheVariants.{Entry}
 use Rattle.board_core.specs.Csrs.{none_enabled, sie_by, sstatus_sie_by}
 use Rattle.board_core.specs.Interrupts.{deadline_by, deadline_by_call, reaches_by, reaches_by_call, ssip_by, ticks_by}
+use Rattle.board_core.specs.Memory.{Storing, act_at, act_by, effect_by, effect_by_call, entry_filling, memory, satp, satp_by, storing_by, tlb_acts, word_acts, word_filling}
 use Rattle.board_core.specs.Starts.{Start, entry_by, start_by, start_by_call}
 use Rattle.board_core.specs.States.{Move, is_starting, move_by_call, move_of, state}
 use Rattle.board_core.specs.Suspends.{resume_by, resume_by_call}
@@ -36,6 +40,13 @@ pub record InterruptsDeed : Type 0 where
   pub ticks : ℕ
   pub reach : ℕ → Bool
 
+-- of memory: a value for satp of the actor, a word to store, and what happens to the TLB and to the instruction cache of a hart
+pub record MemoryDeed : Type 0 where
+  pub satp : Option ℕ
+  pub storing : Option Storing
+  pub tlb_act : ℕ → Act CacheEntry
+  pub word_act : ℕ → Act FetchWord
+
 -- of the counts: a start, and an entry of a start
 pub record CountsDeed : Type 0 where
   pub start : Option Start
@@ -44,6 +55,7 @@ pub record CountsDeed : Type 0 where
 pub record Deed : Type 0 where
   pub harts : HartsDeed
   pub interrupts : InterruptsDeed
+  pub memory : MemoryDeed
   pub counts : CountsDeed
 
 -- nothing
@@ -51,12 +63,9 @@ abbrev pub still : Deed
 still = record {
   harts = record { move = None; start = None; resume = None };
   interrupts = record { sstatus = None; sie = None; ssip = None; deadline = None; ticks = 0; reach = λ h. false };
+  memory = record { satp = None; storing = None; tlb_act = λ h. Nothing; word_act = λ h. Nothing };
   counts = record { start = None; entry = None };
 }
-
--- an operation of hart x
-abbrev pub by_hart : (x : ℕ) → Op → Reply → Event
-by_hart x op reply = record { actor = Hart x; op = op; reply = reply }
 
 module _ (c : Config) (past : List Event) where
   -- what an event does
@@ -74,6 +83,12 @@ module _ (c : Config) (past : List Event) where
       deadline = deadline_by event.op event.reply (is_starting c past event.actor);
       ticks = ticks_by event.op;
       reach = reaches_by c past event.op event.reply;
+    };
+    memory = record {
+      satp = satp_by event.op event.reply;
+      storing = storing_by event.op event.reply event.translation;
+      tlb_act = λ h. act_at (is_hart h event.actor) (act_by (effect_by event.op event.reply) (entry_filling event.op event.translation (satp past h) (tlb_acts past h)));
+      word_act = λ h. act_at (is_hart h event.actor) (act_by (effect_by event.op event.reply) (word_filling event.op event.reply event.translation (memory c past) (word_acts c past h)));
     };
     counts = record {
       start = start_by event.op event.reply;
@@ -95,6 +110,10 @@ module _ (c : Config) (past : List Event) where
         deadline = deadline_by_call call reply;
         reach = reaches_by_call c past call reply;
       };
+      memory = record still.memory {
+        tlb_act = λ h. act_at (h == x) (act_by (effect_by_call call reply) None);
+        word_act = λ h. act_at (h == x) (act_by (effect_by_call call reply) None);
+      };
       counts = record { start = start_by_call call reply; entry = None };
     }
 
@@ -108,6 +127,7 @@ module _ (c : Config) (past : List Event) where
     deed_of_entry addr opaque = record {
       harts = record still.harts { move = Some (record { hart = x; state = states.Started }) };
       interrupts = record still.interrupts { sstatus = Some false; sie = Some none_enabled; ssip = Some false; deadline = Some None };
+      memory = record still.memory { satp = Some 0 };
       counts = record still.counts { entry = Some (record { hart = x; addr = addr; opaque = opaque }) };
     }
 
@@ -115,6 +135,7 @@ module _ (c : Config) (past : List Event) where
     deed_of_resume = record still {
       harts = record still.harts { move = Some (record { hart = x; state = states.Started }) };
       interrupts = record still.interrupts { sstatus = Some false };
+      memory = record still.memory { satp = Some 0 };
     }
 
     pub does_entry : (addr opaque : ℕ) → is_start_pending (state c past x) ≡ true → deed (by_hart x Advance (Entry addr x opaque)) ≡ deed_of_entry addr opaque

@@ -1,5 +1,6 @@
 pub mod Tables
 pub mod Events
+pub mod Accessing
 pub mod Standing
 pub mod Rows
 pub mod Steps

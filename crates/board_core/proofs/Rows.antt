@@ -11,7 +11,7 @@ use Rattle.hsm.specs.Harts.{Hart, running}
 use Rattle.hsm.specs.States.{goes_on, is_start_pending, is_started, is_stopped}
 use Rattle.hsm.specs.Transitions.{Step, advanced, advanced_from, changed, hart_at, resumed, started_from}
 use Rattle.board_core.specs.declared.config.Config.{Config}
-use Rattle.board_core.specs.declared.event.Event.{Event}
+use Rattle.board_core.specs.History.{Event}
 use Rattle.board_core.specs.declared.event.Op.{Op}
 use Rattle.board_core.specs.declared.event.Op.TheVariants.{Advance}
 use Rattle.board_core.specs.declared.event.Refusal.{Refusal}

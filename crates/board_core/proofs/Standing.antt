@@ -16,18 +16,35 @@ use Rattle.board_core.specs.declared.config.Config.{Config}
 use Rattle.board_core.specs.declared.csrs.Csrs.{Csrs}
 use Rattle.board_core.specs.declared.csrs.Sie.{Sie}
 use Rattle.board_core.specs.declared.event.Actor.TheVariants as actors
-use Rattle.board_core.specs.declared.event.Event.{Event}
+use Rattle.board_core.specs.History.{Event, by_hart}
+use Rattle.sbi_abi.specs.declared.call.Call.{Call}
+use Rattle.sbi_abi.specs.declared.call.Regs.{Regs}
+use Rattle.sbi_abi.specs.Calls.{call_of}
+use Rattle.board_core.specs.declared.event.Op.TheVariants.{Ecall}
+use Rattle.board_core.specs.declared.event.Reply.{Reply}
 use Rattle.board_core.specs.declared.counts.Counts.{Counts}
 use Rattle.board_core.specs.declared.interrupt_state.Interrupts.{Interrupts}
 use Rattle.board_core.specs.declared.machine.Machine.{Machine}
-use Rattle.board_core.specs.Course.{harts_of}
+use Rattle.board_core.specs.declared.memory.Memory.{Memory}
+use Rattle.board_core.specs.Course.{harts_of, is_hart}
 use Rattle.board_core.specs.Csrs.{enables, interrupt_bits, latest, sie, sie_by, sstatus_sie, sstatus_sie_by}
 use Rattle.board_core.specs.Interrupts.{deadline, deadline_by, reaches_by, ssip, ssip_by, stip, ticks_by, wake}
+use Rattle.sv39.specs.Memory.{pages_of, word_in}
+use Rattle.sv39.specs.Satp.{is_sv39, mode_of, satp_written}
+use Rattle.tlb_model.specs.declared.caches.Caches.{Caches}
+use Rattle.tlb_model.specs.declared.fence.Flush.{Flush}
+use Rattle.tlb_model.specs.Acts.{Act, Fill, Drop, Clear, Nothing, acted, fillings}
+use Rattle.tlb_model.specs.Contents.{cleared, fenced}
+use Rattle.tlb_model.specs.Entries.{covers_entry, matches}
+use Rattle.tlb_model.specs.Words.{covers_word, is_at}
+use Rattle.tlb_model.proofs.Living.{hit_is_last, keeps_what_lives}
+use Rattle.board_core.specs.Accesses.{cached, hit}
+use Rattle.board_core.specs.Memory.{act_at, act_by, effect_by, entry_filling, memory, satp, satp_by, satp_of_write, storing_by, tlb_acts, word_acts, word_filling, written_by}
 use Rattle.board_core.specs.Starts.{Start, all_pending, entries, entry_by, hart_of, kept_in, last_start, start_by, starts}
-use Rattle.board_core.specs.Stands.{CountsStand, CsrsStand, HartsStand, InterruptsStand, IpisStand, StandsFor, TimersStand}
+use Rattle.board_core.specs.Stands.{CanFill, CountsStand, CsrsStand, HartsStand, InterruptsStand, IpisStand, MemoryStand, StandsFor, TimersStand, caches_at, caches_of, no_caches, tlb_hit, word_hit}
 use Rattle.board_core.specs.States.{is_starting, move_of, state}
 use Rattle.board_core.specs.Suspends.{resume_by, resume_point}
-use Rattle.board_core.proofs.Events.{CountsDeed, Deed, HartsDeed, InterruptsDeed, deed, still}
+use Rattle.board_core.proofs.Events.{CountsDeed, Deed, HartsDeed, InterruptsDeed, MemoryDeed, deed, deed_of_call, does_call, still}
 use Rattle.board_core.proofs.Tables.{count_by-map, eqb-other, eqb-same, length-filter_map, tabulate-same, tabulate-set}
 
 -- what was written last, at the hart that wrote and at another
@@ -71,6 +88,13 @@ module _ (c : Config) (past : List Event) (harts : List Hart) (stand : HartsStan
         ∙ tabulate-set (hart_of c past) (hart_of c (event ∷ past)) c.harts t others;
   }
 
+-- an event of another hart does nothing to a cache
+act-elsewhere : {E : Type 0} (act : Act E) → act_at false act ≡ Nothing
+act-elsewhere Nothing = refl
+act-elsewhere (Fill item) = refl
+act-elsewhere (Drop flush) = refl
+act-elsewhere Clear = refl
+
 -- ---- one event more
 
 module _ (c : Config) (past : List Event) (event : Event) (d : Deed) (does : deed c past event ≡ d) where
@@ -101,6 +125,18 @@ module _ (c : Config) (past : List Event) (event : Event) (d : Deed) (does : dee
 
   reaches : (h : ℕ) → reaches_by c past event.op event.reply h ≡ d.interrupts.reach h
   reaches h = ap (λ (e : Deed). e.interrupts.reach h) does
+
+  writes_satp : satp_by event.op event.reply ≡ d.memory.satp
+  writes_satp = ap (λ (e : Deed). e.memory.satp) does
+
+  stores : storing_by event.op event.reply event.translation ≡ d.memory.storing
+  stores = ap (λ (e : Deed). e.memory.storing) does
+
+  acts_on_tlb : (h : ℕ) → act_at (is_hart h event.actor) (act_by (effect_by event.op event.reply) (entry_filling event.op event.translation (satp past h) (tlb_acts past h))) ≡ d.memory.tlb_act h
+  acts_on_tlb h = ap (λ (e : Deed). e.memory.tlb_act h) does
+
+  acts_on_words : (h : ℕ) → act_at (is_hart h event.actor) (act_by (effect_by event.op event.reply) (word_filling event.op event.reply event.translation (memory c past) (word_acts c past h))) ≡ d.memory.word_act h
+  acts_on_words h = ap (λ (e : Deed). e.memory.word_act h) does
 
   counted_start : start_by event.op event.reply ≡ d.counts.start
   counted_start = ap (λ (e : Deed). e.counts.start) does
@@ -269,7 +305,116 @@ module _ (c : Config) (past : List Event) (event : Event) (d : Deed) (does : dee
     timers = changed;
   }
 
+  -- ---- memory
+
+  -- satp is written by its hart
+  pub satps-written : (satps : List ℕ) (h value : ℕ) → event.actor ≡ actors.Hart h → d.memory.satp ≡ Some value → satps ≡ map (satp past) (harts_of c)
+      → slice_set satps h value ≡ map (satp (event ∷ past)) (harts_of c)
+  satps-written satps h value own written stand =
+      ap (λ (xs : List ℕ). slice_set xs h value) stand
+      ∙ ap (slice_set (map (satp past) (harts_of c)) h) (sym (rw (writes_satp, written, own, eqb-same h) refl))
+      ∙ tabulate-set (satp past) (satp (event ∷ past)) c.harts h
+      (λ j other. rw (writes_satp, written, own, eqb-other j h (λ e. other (sym e))) refl)
+
+  -- by a write, which may have no effect
+  pub satps-put : (satps : List ℕ) (h value : ℕ) → event.actor ≡ actors.Hart h → d.memory.satp ≡ satp_of_write value → satps ≡ map (satp past) (harts_of c)
+      → slice_set satps h (satp_written (satp past h) value) ≡ map (satp (event ∷ past)) (harts_of c)
+  satps-put satps h value own written stand =
+      ap (λ (xs : List ℕ). slice_set xs h (satp_written (satp past h) value)) stand
+      ∙ ap (slice_set (map (satp past) (harts_of c)) h) (sym (rw (writes_satp, written, own, eqb-same h) (put (mode_of value == 0) (is_sv39 value) value (satp past h))))
+      ∙ tabulate-set (satp past) (satp (event ∷ past)) c.harts h
+      (λ j other. rw (writes_satp, written, own, eqb-other j h (λ e. other (sym e))) (latest-other (satp_of_write value) (satp past j)))
+    where
+      put : (bare sv39 : Bool) (value before : ℕ)
+          → latest (if bare then Some 0 else if sv39 then Some value else None) true before ≡ (if bare then 0 else if sv39 then value else before)
+      put true sv39 value before = refl
+      put false true value before = refl
+      put false false value before = refl
+
+  pub satps-quiet : (satps : List ℕ) → d.memory.satp ≡ None → satps ≡ map (satp past) (harts_of c) → satps ≡ map (satp (event ∷ past)) (harts_of c)
+  satps-quiet satps none stand = stand ∙ tabulate-same (satp past) (satp (event ∷ past)) (λ j. rw (writes_satp, none) refl) (harts_of c)
+
+  pub ram-still : (ram : List ℕ) → d.memory.storing ≡ None → word_in ram ≡ memory c past → word_in ram ≡ memory c (event ∷ past)
+  ram-still ram none stand = stand ∙ sym (ap (λ storing. written_by storing (memory c past)) (stores ∙ none))
+
+  -- the caches of a hart after the event
+  caches-more : (h : ℕ) → caches_of c (event ∷ past) h
+      ≡ record { tlb = acted covers_entry (caches_of c past h).tlb (d.memory.tlb_act h); words = acted covers_word (caches_of c past h).words (d.memory.word_act h) }
+  caches-more h =
+      let tlb = keeps_what_lives covers_entry _ (tlb_acts past h) ∙ ap (acted covers_entry (caches_of c past h).tlb) (acts_on_tlb h) in
+      let words = keeps_what_lives covers_word _ (word_acts c past h) ∙ ap (acted covers_word (caches_of c past h).words) (acts_on_words h) in
+      λ i. record { tlb = tlb i; words = words i }
+
+  pub caches-same : (h : ℕ) → d.memory.tlb_act h ≡ Nothing → d.memory.word_act h ≡ Nothing → caches_of c (event ∷ past) h ≡ caches_of c past h
+  caches-same h no_tlb no_words =
+      caches-more h ∙ (λ i. record { tlb = acted covers_entry (caches_of c past h).tlb (no_tlb i); words = acted covers_word (caches_of c past h).words (no_words i) })
+
+  pub caches-still : (caches : List Caches) → ((h : ℕ) → d.memory.tlb_act h ≡ Nothing) → ((h : ℕ) → d.memory.word_act h ≡ Nothing)
+      → caches ≡ map (caches_of c past) (harts_of c) → caches ≡ map (caches_of c (event ∷ past)) (harts_of c)
+  caches-still caches no_tlb no_words stand =
+      stand ∙ tabulate-same (caches_of c past) (caches_of c (event ∷ past)) (λ j. caches-same j (no_tlb j) (no_words j)) (harts_of c)
+
+  -- those of the actor change, and no others
+  pub caches-acted : (caches : List Caches) (h : ℕ) (changed : Caches) → event.actor ≡ actors.Hart h
+      → changed ≡ record { tlb = acted covers_entry (caches_of c past h).tlb (d.memory.tlb_act h); words = acted covers_word (caches_of c past h).words (d.memory.word_act h) }
+      → caches ≡ map (caches_of c past) (harts_of c) → slice_set caches h changed ≡ map (caches_of c (event ∷ past)) (harts_of c)
+  caches-acted caches h changed own is stand =
+      ap (slice_set caches h) (is ∙ sym (caches-more h))
+      ∙ ap (λ (xs : List Caches). slice_set xs h (caches_of c (event ∷ past) h)) stand
+      ∙ tabulate-set (caches_of c past) (caches_of c (event ∷ past)) c.harts h
+      (λ j other.
+      let elsewhere : is_hart j event.actor ≡ false = rw own (eqb-other j h (λ e. other (sym e))) in
+      caches-same j
+      (sym (acts_on_tlb j) ∙ ap (λ b. act_at b (act_by (effect_by event.op event.reply) (entry_filling event.op event.translation (satp past j) (tlb_acts past j)))) elsewhere ∙ act-elsewhere _)
+      (sym (acts_on_words j) ∙ ap (λ b. act_at b (act_by (effect_by event.op event.reply) (word_filling event.op event.reply event.translation (memory c past) (word_acts c past j)))) elsewhere ∙ act-elsewhere _))
+
+  -- a fence of the actor's drops what it covers there, and its stop empties them
+  pub caches-fenced : (m : Memory) (h : ℕ) (flush : Flush) → event.actor ≡ actors.Hart h → caches_at m h ≡ caches_of c past h
+      → d.memory.tlb_act h ≡ Drop flush → d.memory.word_act h ≡ Drop flush → m.caches.items ≡ map (caches_of c past) (harts_of c)
+      → slice_set m.caches.items h (record { tlb = fenced covers_entry (caches_at m h).tlb flush; words = fenced covers_word (caches_at m h).words flush }) ≡ map (caches_of c (event ∷ past)) (harts_of c)
+  caches-fenced m h flush own was tlb words stand =
+      caches-acted m.caches.items h _ own
+      ((λ i. record { tlb = fenced covers_entry (was i).tlb flush; words = fenced covers_word (was i).words flush })
+      ∙ sym (λ i. record { tlb = acted covers_entry (caches_of c past h).tlb (tlb i); words = acted covers_word (caches_of c past h).words (words i) }))
+      stand
+
+  pub caches-emptied : (m : Memory) (h : ℕ) → event.actor ≡ actors.Hart h → caches_at m h ≡ caches_of c past h
+      → d.memory.tlb_act h ≡ Clear → d.memory.word_act h ≡ Clear → m.caches.items ≡ map (caches_of c past) (harts_of c)
+      → slice_set m.caches.items h (record { tlb = cleared (caches_at m h).tlb; words = cleared (caches_at m h).words }) ≡ map (caches_of c (event ∷ past)) (harts_of c)
+  caches-emptied m h own was tlb words stand =
+      caches-acted m.caches.items h _ own
+      ((λ i. record { tlb = cleared (was i).tlb; words = cleared (was i).words })
+      ∙ sym (λ i. record { tlb = acted covers_entry (caches_of c past h).tlb (tlb i); words = acted covers_word (caches_of c past h).words (words i) }))
+      stand
+
+  -- what changes satp alone, or caches alone
+  pub memory-satps : (m m' : Memory) → d.memory ≡ record still.memory { satp = d.memory.satp } → MemoryStand c past m
+      → m'.ram ≡ m.ram → m'.caches.items ≡ m.caches.items → m'.satps.items ≡ map (satp (event ∷ past)) (harts_of c) → MemoryStand c (event ∷ past) m'
+  memory-satps m m' alone stand ram caches satps = record {
+    pages = ap pages_of ram ∙ stand.pages;
+    ram = ap word_in ram ∙ ram-still m.ram (ap (λ (e : MemoryDeed). e.storing) alone) stand.ram;
+    satps = satps;
+    caches = caches ∙ caches-still m.caches.items (λ h. ap (λ (e : MemoryDeed). e.tlb_act h) alone) (λ h. ap (λ (e : MemoryDeed). e.word_act h) alone) stand.caches;
+  }
+
+  pub memory-caches : (m m' : Memory) → d.memory.storing ≡ None → d.memory.satp ≡ None → MemoryStand c past m
+      → m'.ram ≡ m.ram → m'.satps.items ≡ m.satps.items → m'.caches.items ≡ map (caches_of c (event ∷ past)) (harts_of c) → MemoryStand c (event ∷ past) m'
+  memory-caches m m' no_storing no_satp stand ram satps caches = record {
+    pages = ap pages_of ram ∙ stand.pages;
+    ram = ap word_in ram ∙ ram-still m.ram no_storing stand.ram;
+    satps = satps ∙ satps-quiet m.satps.items no_satp stand.satps;
+    caches = caches;
+  }
+
   -- ---- components without a deed
+
+  pub memory-still : (m : Memory) → d.memory ≡ still.memory → MemoryStand c past m → MemoryStand c (event ∷ past) m
+  memory-still m none stand = record {
+    pages = stand.pages;
+    ram = ram-still m.ram (ap (λ (e : MemoryDeed). e.storing) none) stand.ram;
+    satps = satps-quiet m.satps.items (ap (λ (e : MemoryDeed). e.satp) none) stand.satps;
+    caches = caches-still m.caches.items (λ h. ap (λ (e : MemoryDeed). e.tlb_act h) none) (λ h. ap (λ (e : MemoryDeed). e.word_act h) none) stand.caches;
+  }
 
   pub harts-still : (harts : List Hart) → d.harts ≡ still.harts → HartsStand c past harts → HartsStand c (event ∷ past) harts
   harts-still harts none stand =
@@ -311,6 +456,7 @@ module _ (c : Config) (past : List Event) (event : Event) (d : Deed) (does : dee
   stands-quiet m none stands = record {
     harts = harts-still m.hsm (ap (λ (e : Deed). e.harts) none) stands.harts;
     interrupts = interrupts-still m.interrupts (ap (λ (e : Deed). e.interrupts) none) stands.interrupts;
+    memory = memory-still m.memory (ap (λ (e : Deed). e.memory) none) stands.memory;
     counts = counts-still m.counts (ap (λ (e : Deed). e.counts) none) stands.counts;
   }
 
@@ -319,6 +465,7 @@ module _ (c : Config) (past : List Event) (event : Event) (d : Deed) (does : dee
   stands-interrupts m i alone stands changed = record {
     harts = harts-still m.hsm (ap (λ (e : Deed). e.harts) alone) stands.harts;
     interrupts = changed;
+    memory = memory-still m.memory (ap (λ (e : Deed). e.memory) alone) stands.memory;
     counts = counts-still m.counts (ap (λ (e : Deed). e.counts) alone) stands.counts;
   }
 
@@ -327,16 +474,28 @@ module _ (c : Config) (past : List Event) (event : Event) (d : Deed) (does : dee
   stands-harts m hsm alone stands changed = record {
     harts = changed;
     interrupts = interrupts-still m.interrupts (ap (λ (e : Deed). e.interrupts) alone) stands.interrupts;
+    memory = memory-still m.memory (ap (λ (e : Deed). e.memory) alone) stands.memory;
     counts = counts-still m.counts (ap (λ (e : Deed). e.counts) alone) stands.counts;
   }
 
-  pub stands-harts-interrupts : (m : Machine) (hsm : List Hart) (i : Interrupts) → d ≡ record still { harts = d.harts; interrupts = d.interrupts }
-      → StandsFor c past m → HartsStand c (event ∷ past) hsm → InterruptsStand c (event ∷ past) i
-      → StandsFor c (event ∷ past) (record m { hsm = hsm; interrupts = i })
-  stands-harts-interrupts m hsm i alone stands harts interrupts = record {
+  pub stands-memory : (m : Machine) (memory : Memory) → d ≡ record still { memory = d.memory } → StandsFor c past m
+      → MemoryStand c (event ∷ past) memory → StandsFor c (event ∷ past) (record m { memory = memory })
+  stands-memory m memory alone stands changed = record {
+    harts = harts-still m.hsm (ap (λ (e : Deed). e.harts) alone) stands.harts;
+    interrupts = interrupts-still m.interrupts (ap (λ (e : Deed). e.interrupts) alone) stands.interrupts;
+    memory = changed;
+    counts = counts-still m.counts (ap (λ (e : Deed). e.counts) alone) stands.counts;
+  }
+
+  -- all but the counts
+  pub stands-but-counts : (m : Machine) (hsm : List Hart) (i : Interrupts) (memory : Memory) → d.counts ≡ still.counts → StandsFor c past m
+      → HartsStand c (event ∷ past) hsm → InterruptsStand c (event ∷ past) i → MemoryStand c (event ∷ past) memory
+      → StandsFor c (event ∷ past) (record m { hsm = hsm; interrupts = i; memory = memory })
+  stands-but-counts m hsm i memory alone stands harts interrupts changed = record {
     harts = harts;
     interrupts = interrupts;
-    counts = counts-still m.counts (ap (λ (e : Deed). e.counts) alone) stands.counts;
+    memory = changed;
+    counts = counts-still m.counts alone stands.counts;
   }
 
   pub stands-harts-counts : (m : Machine) (hsm : List Hart) (counts : Counts) → d ≡ record still { harts = d.harts; counts = d.counts }
@@ -345,8 +504,15 @@ module _ (c : Config) (past : List Event) (event : Event) (d : Deed) (does : dee
   stands-harts-counts m hsm counts alone stands harts counted = record {
     harts = harts;
     interrupts = interrupts-still m.interrupts (ap (λ (e : Deed). e.interrupts) alone) stands.interrupts;
+    memory = memory-still m.memory (ap (λ (e : Deed). e.memory) alone) stands.memory;
     counts = counted;
   }
+
+-- a call that does nothing
+pub call-quiet : (c : Config) (past : List Event) (x : ℕ) (regs : Regs) (call : Call) (reply : Reply) (m : Machine) → call ≡ call_of regs
+    → deed_of_call c past x call reply ≡ still → StandsFor c past m → StandsFor c (by_hart x (Ecall regs) reply ∷ past) m
+call-quiet c past x regs call reply m is none stands =
+    stands-quiet c past (by_hart x (Ecall regs) reply) (deed_of_call c past x call reply) (does_call c past x regs call reply is) m none stands
 
 -- ---- what the parts tell
 
@@ -356,6 +522,29 @@ module _ (c : Config) (past : List Event) where
 
   pub length-deadlines : (timers : Timing) → TimersStand c past timers → length timers.deadlines ≡ c.harts
   length-deadlines timers stand = ap length stand.deadlines ∙ length-map-range_with_len (deadline c past) 0 c.harts
+
+  pub length-caches : (m : Memory) → MemoryStand c past m → length m.caches.items ≡ c.harts
+  length-caches m stand = ap length stand.caches ∙ length-map-range_with_len (caches_of c past) 0 c.harts
+
+  pub caches-read : (m : Memory) (h : ℕ) → h < c.harts → MemoryStand c past m → caches_at m h ≡ caches_of c past h
+  caches-read m h inside stand =
+      ap (λ (xs : List Caches). slice_index_or xs h no_caches) stand.caches
+      ∙ get_or-map-range_with_len (caches_of c past) 0 c.harts h h no_caches inside (omega arith)
+
+  -- what is hit in them
+  pub tlb_hit-read : (m : Memory) (h : ℕ) → h < c.harts → MemoryStand c past m → tlb_hit (caches_at m h) ≡ hit c past h
+  tlb_hit-read m h inside stand = ap tlb_hit (caches-read m h inside stand) ∙ (λ i at. hit_is_last covers_entry matches at (tlb_acts past h) i)
+
+  pub word_hit-read : (m : Memory) (h : ℕ) → h < c.harts → MemoryStand c past m → word_hit (caches_at m h) ≡ cached c past h
+  word_hit-read m h inside stand = ap word_hit (caches-read m h inside stand) ∙ (λ i pa. hit_is_last covers_word is_at pa (word_acts c past h) i)
+
+  pub length-satps : (m : Memory) → MemoryStand c past m → length m.satps.items ≡ c.harts
+  length-satps m stand = ap length stand.satps ∙ length-map-range_with_len (satp past) 0 c.harts
+
+  pub satp-read : (m : Memory) (h d : ℕ) → h < c.harts → MemoryStand c past m → slice_index_or m.satps.items h d ≡ satp past h
+  satp-read m h d inside stand =
+      ap (λ (xs : List ℕ). slice_index_or xs h d) stand.satps
+      ∙ get_or-map-range_with_len (satp past) 0 c.harts h h d inside (omega arith)
 
   pub deadline-read : (timers : Timing) (h : ℕ) → h < c.harts → TimersStand c past timers → deadline_of timers h ≡ deadline c past h
   deadline-read timers h inside stand =
@@ -388,6 +577,41 @@ module _ (c : Config) (past : List Event) where
       λ j. interrupt_bits (software j) (timer j)
 
 -- ---- counts
+
+-- fills are at most as many as the events
+length-fillings-le : {E : Type 0} (acts : List (Act E)) → length (fillings acts) ≤ length acts
+length-fillings-le [] = omega arith
+length-fillings-le (Fill item ∷ acts) = let before = length-fillings-le acts in omega arith
+length-fillings-le (Drop flush ∷ acts) = let before = length-fillings-le acts in omega arith
+length-fillings-le (Clear ∷ acts) = let before = length-fillings-le acts in omega arith
+length-fillings-le (Nothing ∷ acts) = let before = length-fillings-le acts in omega arith
+
+length-tlb_acts : (past : List Event) (h : ℕ) → length (tlb_acts past h) ≡ length past
+length-tlb_acts [] h = refl
+length-tlb_acts (event ∷ past) h = ap suc (length-tlb_acts past h)
+
+length-word_acts : (c : Config) (past : List Event) (h : ℕ) → length (word_acts c past h) ≡ length past
+length-word_acts c [] h = refl
+length-word_acts c (event ∷ past) h = ap suc (length-word_acts c past h)
+
+-- so a history of a million events leaves room for one more
+pub can-fill : (c : Config) (past : List Event) (m : Memory) (h : ℕ) → h < c.harts → length past ≤ 1000000 → MemoryStand c past m → CanFill m h
+can-fill c past m h inside few stand =
+    let own = caches-read c past m h inside stand in
+    record {
+      satps = omega (arith, length-satps c past m stand);
+      caches = omega (arith, length-caches c past m stand);
+      tlb =
+          let next = ap (λ (caches : Caches). caches.tlb.next) own in
+          let fills = length-fillings-le (tlb_acts past h) in
+          let acts = length-tlb_acts past h in
+          omega arith;
+      words =
+          let next = ap (λ (caches : Caches). caches.words.next) own in
+          let fills = length-fillings-le (word_acts c past h) in
+          let acts = length-word_acts c past h in
+          omega arith;
+    }
 
 -- starts and entries are at most as many as the events, and the boot start
 one_or_none : (o : Option Start) (xs : List Start) (n : ℕ) → length xs ≤ n → length (option_to_list o ++ xs) ≤ suc n

@@ -17,13 +17,14 @@ use Rattle.hsm.specs.States.{is_start_pending, is_started, is_stopped}
 use Rattle.board_core.specs.declared.config.Config.{Config}
 use Rattle.board_core.specs.declared.event.Actor.{Actor}
 use Rattle.board_core.specs.declared.event.Actor.TheVariants.{Hart, Clock}
-use Rattle.board_core.specs.declared.event.Event.{Event}
+use Rattle.board_core.specs.History.{Event}
 use Rattle.board_core.specs.declared.event.Op.{Op}
-use Rattle.board_core.specs.declared.event.Op.TheVariants.{Ecall, WriteSie, WriteSstatusSie, ReadSip, ClearSsip, Wfi, Advance, Tick}
+use Rattle.board_core.specs.declared.event.Op.TheVariants.{Ecall, Load, Store, Fetch, WriteSatp, WriteSie, WriteSstatusSie, ReadSip, ClearSsip, Wfi, Sfence, FenceI, Advance, Tick}
 use Rattle.board_core.specs.declared.event.Refusal.{Refusal}
 use Rattle.board_core.specs.declared.event.Refusal.TheVariants.{WrongPhase}
 use Rattle.board_core.specs.declared.event.Reply.{Reply}
 use Rattle.board_core.specs.declared.event.Reply.TheVariants.{Ret, Gone, Entry}
+use Rattle.tlb_model.specs.declared.entry.Entry.{Entry as CacheEntry}
 use Rattle.board_core.specs.Csrs.{sstatus_sie}
 use Rattle.board_core.specs.Limits.{is_start_address}
 use Rattle.board_core.specs.Refusals.{IsAccepted, first_that_holds, is_full, refusals_in}
@@ -198,32 +199,44 @@ module _ (c : Config) where
       by_resume None = settled past before h x Started refl (ap is_start_pending at)
       by_resume (Some kept) = settled past before h x Started refl (ap is_start_pending at)
 
-  after_event : (past : List Event) (actor : Actor) (op : Op) (r : Reply) → answer c past actor op ≡ Ok r
-      → ((h : ℕ) → IsEntered past h) → (h : ℕ) → IsEntered (record { actor = actor; op = op; reply = r } ∷ past) h
+  after_event : (past : List Event) (actor : Actor) (op : Op) (r : Reply) (used : Option CacheEntry) → answer c past actor op ≡ Ok r
+      → ((h : ℕ) → IsEntered past h) → (h : ℕ) → IsEntered (record { actor = actor; op = op; reply = r; translation = used } ∷ past) h
   unfolding IsEntered IsEnteredBy
-  after_event past Clock (Ecall regs) r e before h = cc
-  after_event past Clock (WriteSie value) r e before h = cc
-  after_event past Clock (WriteSstatusSie value) r e before h = cc
-  after_event past Clock ReadSip r e before h = cc
-  after_event past Clock ClearSsip r e before h = cc
-  after_event past Clock Wfi r e before h = cc
-  after_event past Clock Advance r e before h = cc
-  after_event past Clock (Tick n) r e before h = before h
-  after_event past (Hart x) (Ecall regs) r e before h =
+  after_event past Clock (Ecall regs) r used e before h = cc
+  after_event past Clock (Load va) r used e before h = cc
+  after_event past Clock (Store va value) r used e before h = cc
+  after_event past Clock (Fetch va) r used e before h = cc
+  after_event past Clock (WriteSatp value) r used e before h = cc
+  after_event past Clock (WriteSie value) r used e before h = cc
+  after_event past Clock (WriteSstatusSie value) r used e before h = cc
+  after_event past Clock ReadSip r used e before h = cc
+  after_event past Clock ClearSsip r used e before h = cc
+  after_event past Clock Wfi r used e before h = cc
+  after_event past Clock (Sfence va asid) r used e before h = cc
+  after_event past Clock FenceI r used e before h = cc
+  after_event past Clock Advance r used e before h = cc
+  after_event past Clock (Tick n) r used e before h = before h
+  after_event past (Hart x) (Ecall regs) r used e before h =
       let facts = accepted (nat_le c.harts x) (state c past x) (wake c past x) (Ecall regs) (is_full c past) (reply c past x (Ecall regs)) r e in
       after_call past before h x (call_of regs) r (calling (state c past x) facts.0.in_phase) facts.1
-  after_event past (Hart x) (WriteSie value) r e before h = before h
-  after_event past (Hart x) (WriteSstatusSie value) r e before h = before h
-  after_event past (Hart x) ReadSip r e before h = before h
-  after_event past (Hart x) ClearSsip r e before h = before h
-  after_event past (Hart x) Wfi r e before h = before h
-  after_event past (Hart x) Advance r e before h =
+  after_event past (Hart x) (Load va) r used e before h = before h
+  after_event past (Hart x) (Store va value) r used e before h = before h
+  after_event past (Hart x) (Fetch va) r used e before h = before h
+  after_event past (Hart x) (WriteSatp value) r used e before h = before h
+  after_event past (Hart x) (WriteSie value) r used e before h = before h
+  after_event past (Hart x) (WriteSstatusSie value) r used e before h = before h
+  after_event past (Hart x) ReadSip r used e before h = before h
+  after_event past (Hart x) ClearSsip r used e before h = before h
+  after_event past (Hart x) Wfi r used e before h = before h
+  after_event past (Hart x) (Sfence va asid) r used e before h = before h
+  after_event past (Hart x) FenceI r used e before h = before h
+  after_event past (Hart x) Advance r used e before h =
       let facts = accepted (nat_le c.harts x) (state c past x) (wake c past x) Advance (is_full c past) (reply c past x Advance) r e in
       after_advance past before h x (state c past x) (wake c past x) r facts.0 refl facts.1
-  after_event past (Hart x) (Tick n) r e before h = before h
+  after_event past (Hart x) (Tick n) r used e before h = before h
 
 pub starts_are_entered : (c : Config) (past : List Event) → IsLegal c past → StartsAreEntered c past
 unfolding IsEntered
 starts_are_entered c [] legal h = at_opening c h
 starts_are_entered c (event ∷ past) legal h =
-    after_event c past event.actor event.op event.reply legal.0 (starts_are_entered c past legal.1) h
+    after_event c past event.actor event.op event.reply event.translation legal.0 (starts_are_entered c past legal.2) h

@@ -1,19 +1,21 @@
 -- How an accepted step makes a course one event longer.
 use Rattle.std.proofs.Common.{◌≡◌, ◌≢◌, ℕ, ◌+◌, ◌<◌, Bool, true, false, List, [], ◌∷◌, ◌++◌, length, reverse, refl, sym, ap, ◌∙◌, arith, eqb, inl, inr}
-use Rattle.std.specs.Prelude.{None, Ok, is_some, unwrap_or, nat_le, nat_lt}
+use Rattle.std.specs.Prelude.{Option, None, Ok, is_some, unwrap_or, nat_le, nat_lt}
 use Rattle.std.proofs.lemmas.Bool.{cases_Bool, le-ltb, leb-true, lt-leb}
 use Rattle.std.proofs.lemmas.List.{reverse-append}
 use Rattle.hsm.specs.declared.hart.HartState.{HartState}
 use Rattle.interrupts.specs.Timing.{Timing, last_time, ticked}
+use Rattle.tlb_model.specs.declared.entry.Entry.{Entry}
 use Rattle.board_core.specs.declared.config.Config.{Config}
 use Rattle.board_core.specs.declared.event.Actor.TheVariants.{Hart, Clock}
-use Rattle.board_core.specs.declared.event.Event.{Event}
+use Rattle.board_core.specs.History.{Event, translation_of, using, what_of}
 use Rattle.board_core.specs.declared.event.Op.{Op}
-use Rattle.board_core.specs.declared.event.Op.TheVariants.{Tick}
+use Rattle.board_core.specs.declared.event.Op.TheVariants.{Ecall, Load, Store, Fetch, WriteSatp, WriteSie, WriteSstatusSie, ReadSip, ClearSsip, Wfi, Sfence, FenceI, Advance, Tick}
 use Rattle.board_core.specs.declared.event.Refusal.{Refusal}
 use Rattle.board_core.specs.declared.event.Refusal.TheVariants.{WrongPhase, Nothing, HistoryFull}
 use Rattle.board_core.specs.declared.event.Reply.{Reply}
 use Rattle.board_core.specs.declared.event.Reply.TheVariants.{Done}
+use Rattle.board_core.specs.Accesses.{used, used_by_actor}
 use Rattle.board_core.specs.Course.{Course}
 use Rattle.board_core.specs.Interrupts.{time, wake}
 use Rattle.board_core.specs.Refusals.{first_that_holds, has_nothing_to_do, is_full, is_out_of_phase, refusals_in}
@@ -66,11 +68,36 @@ ticked_on t n taken = elim (cases_Bool (nat_le (t.time + n) last_time)) [
   | inr late ↦ absurd (let e = rw late at taken in cc)
 ]
 
-module _ (c : Config) (past : List Event) (event : Event) (answered : answer c past event.actor event.op ≡ Ok event.reply) where
+-- an event keeps the entry that its operation used
+pub kept_used : (c : Config) (past : List Event) (x : ℕ) (op : Op) → translation_of (what_of op (used c past x op)) ≡ used c past x op
+kept_used c past x (Ecall regs) = refl
+kept_used c past x (Load va) = refl
+kept_used c past x (Store va value) = refl
+kept_used c past x (Fetch va) = refl
+kept_used c past x (WriteSatp value) = refl
+kept_used c past x (WriteSie value) = refl
+kept_used c past x (WriteSstatusSie value) = refl
+kept_used c past x ReadSip = refl
+kept_used c past x ClearSsip = refl
+kept_used c past x Wfi = refl
+kept_used c past x (Sfence va asid) = refl
+kept_used c past x FenceI = refl
+kept_used c past x Advance = refl
+kept_used c past x (Tick n) = refl
+
+-- so an event that is made of it is the one of the definitions
+pub recorded_as : (c : Config) (past : List Event) (x : ℕ) (op : Op) (reply : Reply) (entry : Option Entry) → entry ≡ used c past x op
+    → (let made : Event = record { actor = Hart x; op = op; reply = reply; translation = translation_of (what_of op entry) } in made) ≡ using x op reply entry
+recorded_as c past x op reply entry is =
+    let same = ap (λ u. translation_of (what_of op u)) is ∙ kept_used c past x op ∙ sym is in
+    λ i. record { actor = Hart x; op = op; reply = reply; translation = same i }
+
+module _ (c : Config) (past : List Event) (event : Event) (answered : answer c past event.actor event.op ≡ Ok event.reply)
+    (translated : event.translation ≡ used_by_actor c past event.actor event.op) where
   pub kept-more : is_full c past ≡ false → IsKept c past → IsKept c (event ∷ past)
   kept-more room kept = record {
     good = kept.good;
-    legal = (answered, kept.legal);
+    legal = (answered, translated, kept.legal);
     within =
         let within = kept.within in
         let apart : length past ≢ c.limit = λ full. absurd (let e : true ≡ false = sym (eqb-same c.limit) ∙ ap (λ n. eqb n c.limit) (sym full) ∙ room in cc) in
@@ -78,7 +105,7 @@ module _ (c : Config) (past : List Event) (event : Event) (answered : answer c p
   }
 
   pub stepped-more : record { config = c; past = event ∷ past } ≡ stepped (record { config = c; past = past }) event.actor event.op
-  stepped-more = rw answered refl
+  stepped-more = rw answered (λ i. record { config = c; past = record { actor = event.actor; op = event.op; reply = event.reply; translation = translated i } ∷ past })
 
 pub past-more : (events more : List Event) (event : Event) → more ≡ events ++ event ∷ [] → reverse more ≡ event ∷ reverse events
 past-more events more event is = ap reverse is ∙ reverse-append events (event ∷ [])

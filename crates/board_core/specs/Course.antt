@@ -4,7 +4,7 @@ use Rattle.std.specs.List.{range_with_len}
 use Rattle.board_core.specs.declared.config.Config.{Config}
 use Rattle.board_core.specs.declared.event.Actor.{Actor}
 use Rattle.board_core.specs.declared.event.Actor.TheVariants.{Hart, Clock}
-use Rattle.board_core.specs.declared.event.Event.{Event}
+use Rattle.board_core.specs.History.{Event}
 
 -- The past is the list of accepted events, newest first: what came before an event is the rest of the list.
 pub record Course : Type 0 where

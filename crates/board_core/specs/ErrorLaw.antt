@@ -1,12 +1,16 @@
 -- A call that answers an error changes nothing but the history (profile).
 use Rattle.std.specs.Prelude.{◌≡◌, ℕ, List, Bool, true, false, not}
 use Rattle.sbi_abi.specs.Errors.{is_success}
+use Rattle.tlb_model.specs.Acts.{cache_after}
+use Rattle.tlb_model.specs.Entries.{covers_entry}
+use Rattle.tlb_model.specs.Words.{covers_word}
 use Rattle.board_core.specs.declared.config.Config.{Config}
-use Rattle.board_core.specs.declared.event.Event.{Event}
+use Rattle.board_core.specs.History.{Event}
 use Rattle.board_core.specs.declared.event.Reply.{Reply}
 use Rattle.board_core.specs.declared.event.Reply.TheVariants.{Ret}
 use Rattle.board_core.specs.Csrs as csrs
 use Rattle.board_core.specs.Interrupts as interrupts
+use Rattle.board_core.specs.Memory as memory
 use Rattle.board_core.specs.Starts as starts
 use Rattle.board_core.specs.States as states
 use Rattle.board_core.specs.Totals as counts
@@ -26,5 +30,9 @@ pub record LooksSame (c : Config) (past later : List Event) : Type 0 where
   pub stip : (h : ℕ) → interrupts.stip c later h ≡ interrupts.stip c past h
   pub wake : (h : ℕ) → interrupts.wake c later h ≡ interrupts.wake c past h
   pub deadline : (h : ℕ) → interrupts.deadline c later h ≡ interrupts.deadline c past h
+  pub satp : (h : ℕ) → memory.satp later h ≡ memory.satp past h
+  pub word : (at : ℕ) → memory.memory c later at ≡ memory.memory c past at
+  pub tlb : (h : ℕ) → (cache_after covers_entry (memory.tlb_acts later h)).live ≡ (cache_after covers_entry (memory.tlb_acts past h)).live
+  pub fetched : (h : ℕ) → (cache_after covers_word (memory.word_acts c later h)).live ≡ (cache_after covers_word (memory.word_acts c past h)).live
   pub time : interrupts.time later ≡ interrupts.time past
   pub totals : counts.totals c later ≡ counts.totals c past

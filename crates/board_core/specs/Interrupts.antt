@@ -9,7 +9,7 @@ use Rattle.hart_mask.specs.Ids.{has}
 use Rattle.hsm.specs.States.{is_interruptible}
 use Rattle.interrupts.specs.Timing.{is_due}
 use Rattle.board_core.specs.declared.config.Config.{Config}
-use Rattle.board_core.specs.declared.event.Event.{Event}
+use Rattle.board_core.specs.History.{Event}
 use Rattle.board_core.specs.declared.event.Op.{Op}
 use Rattle.board_core.specs.declared.event.Op.TheVariants.{Ecall, ClearSsip, Tick}
 use Rattle.board_core.specs.declared.event.Reply.{Reply}

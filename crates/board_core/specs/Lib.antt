@@ -2,6 +2,9 @@ pub mod Limits
 pub mod Course
 pub mod States
 pub mod Csrs
+pub mod History
+pub mod Memory
+pub mod Accesses
 pub mod Suspends
 pub mod Interrupts
 pub mod Starts

@@ -4,9 +4,9 @@ use Rattle.hsm.specs.declared.hart.HartState.{HartState}
 use Rattle.hsm.specs.States.{goes_on, is_started}
 use Rattle.interrupts.specs.Timing.{last_time}
 use Rattle.board_core.specs.declared.config.Config.{Config}
-use Rattle.board_core.specs.declared.event.Event.{Event}
+use Rattle.board_core.specs.History.{Event}
 use Rattle.board_core.specs.declared.event.Op.{Op}
-use Rattle.board_core.specs.declared.event.Op.TheVariants.{Ecall, WriteSie, WriteSstatusSie, ReadSip, ClearSsip, Wfi, Advance, Tick}
+use Rattle.board_core.specs.declared.event.Op.TheVariants.{Ecall, Load, Store, Fetch, WriteSatp, WriteSie, WriteSstatusSie, ReadSip, ClearSsip, Wfi, Sfence, FenceI, Advance, Tick}
 use Rattle.board_core.specs.declared.event.Refusal.{Refusal}
 use Rattle.board_core.specs.declared.event.Refusal.TheVariants.{WrongPhase, Nothing, HistoryFull, TimeFull}
 use Rattle.board_core.specs.Interrupts.{ticks_by, time, wake}
@@ -21,11 +21,17 @@ refusal_number TimeFull = 5
 -- a guest's operation wants a STARTED hart, the firmware's Advance one that isn't, and a tick is no hart's
 abbrev pub is_out_of_phase : Op → HartState → Bool
 is_out_of_phase (Ecall regs) s = not (is_started s)
+is_out_of_phase (Load va) s = not (is_started s)
+is_out_of_phase (Store va value) s = not (is_started s)
+is_out_of_phase (Fetch va) s = not (is_started s)
+is_out_of_phase (WriteSatp value) s = not (is_started s)
 is_out_of_phase (WriteSie value) s = not (is_started s)
 is_out_of_phase (WriteSstatusSie value) s = not (is_started s)
 is_out_of_phase ReadSip s = not (is_started s)
 is_out_of_phase ClearSsip s = not (is_started s)
 is_out_of_phase Wfi s = not (is_started s)
+is_out_of_phase (Sfence va asid) s = not (is_started s)
+is_out_of_phase FenceI s = not (is_started s)
 is_out_of_phase Advance s = is_started s
 is_out_of_phase (Tick n) s = true
 

@@ -10,6 +10,7 @@ use Rattle.sbi_abi.specs.Errors.{error_number}
 use Rattle.sbi_abi.specs.declared.suspend.SuspendKind.{SuspendKind}
 use Rattle.sbi_abi.specs.declared.suspend.SuspendKind.TheVariants.{Retentive, NonRetentive}
 use Rattle.hart_mask.specs.HartList.{targets_of}
+use Rattle.hart_access.specs.declared.operation.Access.TheVariants as accesses
 use Rattle.hsm.specs.declared.hart.HartState.{HartState}
 use Rattle.hsm.specs.declared.hart.HartState.TheVariants as states
 use Rattle.hsm.specs.declared.hart.Kept.{Kept}
@@ -17,12 +18,13 @@ use Rattle.hsm.specs.States.{is_stopped, state_number}
 use Rattle.board_core.specs.declared.config.Config.{Config}
 use Rattle.board_core.specs.declared.event.Actor.{Actor}
 use Rattle.board_core.specs.declared.event.Actor.TheVariants.{Hart, Clock}
-use Rattle.board_core.specs.declared.event.Event.{Event}
+use Rattle.board_core.specs.History.{Event}
 use Rattle.board_core.specs.declared.event.Op.{Op}
-use Rattle.board_core.specs.declared.event.Op.TheVariants.{Ecall, WriteSie, WriteSstatusSie, ReadSip, ClearSsip, Wfi, Advance, Tick}
+use Rattle.board_core.specs.declared.event.Op.TheVariants.{Ecall, Load, Store, Fetch, WriteSatp, WriteSie, WriteSstatusSie, ReadSip, ClearSsip, Wfi, Sfence, FenceI, Advance, Tick}
 use Rattle.board_core.specs.declared.event.Refusal.{Refusal}
 use Rattle.board_core.specs.declared.event.Reply.{Reply}
 use Rattle.board_core.specs.declared.event.Reply.TheVariants.{Ret, Waiting, Gone, Entry, Value, Moved, Done}
+use Rattle.board_core.specs.Accesses.{access_reply, used_by_actor}
 use Rattle.board_core.specs.Course.{Course}
 use Rattle.board_core.specs.Csrs.{interrupt_bits, sstatus_sie}
 use Rattle.board_core.specs.Limits.{is_start_address}
@@ -104,11 +106,17 @@ advance_reply x s start resume = Moved s
 -- The reply to an operation of hart x that isn't refused.
 abbrev pub reply : Config → List Event → (x : ℕ) → Op → Reply
 reply c past x (Ecall regs) = call_reply c past x (call_of regs)
+reply c past x (Load va) = access_reply c past x va accesses.Load
+reply c past x (Store va value) = access_reply c past x va (accesses.Store value)
+reply c past x (Fetch va) = access_reply c past x va accesses.Fetch
+reply c past x (WriteSatp value) = Done
 reply c past x (WriteSie value) = Done
 reply c past x (WriteSstatusSie value) = Done
 reply c past x ReadSip = Value (interrupt_bits (ssip c past x) (stip c past x))
 reply c past x ClearSsip = Done
 reply c past x Wfi = Done
+reply c past x (Sfence va asid) = Done
+reply c past x FenceI = Done
 reply c past x Advance = advance_reply x (state c past x) (last_start c past x) (resume_point past x)
 reply c past x (Tick n) = Done
 
@@ -121,14 +129,19 @@ abbrev pub answer : Config → List Event → Actor → Op → Result Reply Refu
 answer c past (Hart h) op = refused_or (first_that_holds (refusals c past h op)) (reply c past h op)
 answer c past Clock op = refused_or (first_that_holds (clock_refusals c past op)) Done
 
--- A legal history: each event holds the answer that the events before it give.
+-- A legal history: each event holds the answer that the events before it give, and the entry that it used by them.
 abbrev pub IsLegal : Config → List Event → Type 0
 IsLegal c [] = Unit {0}
-IsLegal c (event ∷ past) = (answer c past event.actor event.op ≡ Ok event.reply) × IsLegal c past
+IsLegal c (event ∷ past) =
+    (answer c past event.actor event.op ≡ Ok event.reply)
+    × (event.translation ≡ used_by_actor c past event.actor event.op)
+    × IsLegal c past
 
 abbrev pub recorded : Course → Actor → Op → Result Reply Refusal → Course
-recorded b actor op (Ok reply) =
-    record { config = b.config; past = record { actor = actor; op = op; reply = reply } ∷ b.past }
+recorded b actor op (Ok reply) = record {
+  config = b.config;
+  past = record { actor = actor; op = op; reply = reply; translation = used_by_actor b.config b.past actor op } ∷ b.past;
+}
 recorded b actor op (Err refusal) = b
 
 -- The course after a step: one more event where it is accepted, the same course where it is refused.

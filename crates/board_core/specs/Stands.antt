@@ -1,18 +1,29 @@
 -- What a board keeps, and how each part of it stands for the history.
-use Rattle.std.specs.Prelude.{◌≡◌, ◌<◌, ◌≤◌, ◌^◌, List, map, length, ℕ}
+use Rattle.std.specs.Prelude.{Option, slice_index_or, ◌≡◌, ◌<◌, ◌≤◌, ◌^◌, List, map, length, ℕ}
 use Rattle.hart_mask.specs.Ids.{ids_where}
 use Rattle.hsm.specs.Harts.{Hart}
 use Rattle.interrupts.specs.Timing.{Timing}
+use Rattle.sv39.specs.Memory.{pages_of, word_in}
+use Rattle.tlb_model.specs.declared.caches.Caches.{Caches}
+use Rattle.tlb_model.specs.declared.entry.Address.{Address}
+use Rattle.tlb_model.specs.declared.entry.Entry.{Entry}
+use Rattle.tlb_model.specs.declared.word.FetchWord.{FetchWord}
+use Rattle.tlb_model.specs.Acts.{cache_after}
+use Rattle.tlb_model.specs.Contents.{empty, hit}
+use Rattle.tlb_model.specs.Entries.{covers_entry, matches}
+use Rattle.tlb_model.specs.Words.{covers_word, is_at}
 use Rattle.board_core.specs.declared.config.Config.{Config}
-use Rattle.board_core.specs.declared.event.Event.{Event}
+use Rattle.board_core.specs.History.{Event}
 use Rattle.board_core.specs.declared.counts.Counts.{Counts}
 use Rattle.board_core.specs.declared.csrs.Csrs.{Csrs}
 use Rattle.board_core.specs.declared.interrupt_state.Interrupts.{Interrupts}
 use Rattle.board_core.specs.declared.machine.Machine.{Machine}
+use Rattle.board_core.specs.declared.memory.Memory.{Memory}
 use Rattle.board_core.specs.Course.{harts_of}
 use Rattle.board_core.specs.Csrs.{sie, sstatus_sie}
 use Rattle.board_core.specs.Interrupts.{deadline, ssip, time}
 use Rattle.board_core.specs.Limits.{IsGood}
+use Rattle.board_core.specs.Memory.{memory, satp, tlb_acts, word_acts}
 use Rattle.board_core.specs.Replies.{IsLegal}
 use Rattle.board_core.specs.Starts.{entries, hart_of, starts}
 
@@ -41,6 +52,34 @@ pub record InterruptsStand (c : Config) (past : List Event) (i : Interrupts) : T
   pub ipis : IpisStand c past i.ipis
   pub timers : TimersStand c past i.timers
 
+-- caches in which nothing was filled
+abbrev pub no_caches : Caches
+no_caches = record { tlb = empty; words = empty }
+
+-- satp and the caches of hart h, and what is hit in them
+abbrev pub satp_at : Memory → ℕ → ℕ
+satp_at m h = slice_index_or m.satps.items h 0
+
+abbrev pub caches_at : Memory → ℕ → Caches
+caches_at m h = slice_index_or m.caches.items h no_caches
+
+abbrev pub tlb_hit : Caches → Address → Option Entry
+tlb_hit caches at = hit matches at caches.tlb
+
+abbrev pub word_hit : Caches → ℕ → Option FetchWord
+word_hit caches pa = hit is_at pa caches.words
+
+-- the caches of a hart as the past makes them
+abbrev pub caches_of : Config → List Event → ℕ → Caches
+caches_of c past h = record { tlb = cache_after covers_entry (tlb_acts past h); words = cache_after covers_word (word_acts c past h) }
+
+-- the RAM has the past's words, satp of each hart is what was last written, and its caches have what lives
+pub record MemoryStand (c : Config) (past : List Event) (m : Memory) : Type 0 where
+  pub pages : pages_of m.ram ≡ c.pages
+  pub ram : word_in m.ram ≡ memory c past
+  pub satps : m.satps.items ≡ map (satp past) (harts_of c)
+  pub caches : m.caches.items ≡ map (caches_of c past) (harts_of c)
+
 -- the counts are those of the past
 pub record CountsStand (c : Config) (past : List Event) (counts : Counts) : Type 0 where
   pub starts : counts.starts ≡ length (starts c past)
@@ -50,12 +89,22 @@ pub record CountsStand (c : Config) (past : List Event) (counts : Counts) : Type
 pub record StandsFor (c : Config) (past : List Event) (m : Machine) : Type 0 where
   pub harts : HartsStand c past m.hsm
   pub interrupts : InterruptsStand c past m.interrupts
+  pub memory : MemoryStand c past m.memory
   pub counts : CountsStand c past m.counts
 
--- there is a hart and a deadline for each id
+-- there is a hart, a deadline, a satp and a pair of caches for each id
 pub record IsSized (c : Config) (m : Machine) : Type 0 where
   pub harts : length m.hsm ≡ c.harts
   pub deadlines : length m.interrupts.timers.deadlines ≡ c.harts
+  pub satps : length m.memory.satps.items ≡ c.harts
+  pub caches : length m.memory.caches.items ≡ c.harts
+
+-- the caches of hart h can be filled once more
+pub record CanFill (memory : Memory) (h : ℕ) : Type 0 where
+  pub satps : h < length memory.satps.items
+  pub caches : h < length memory.caches.items
+  pub tlb : (caches_at memory h).tlb.next < 2 ^ 63
+  pub words : (caches_at memory h).words.next < 2 ^ 63
 
 -- the counts can grow
 pub record HasRoom (counts : Counts) : Type 0 where

@@ -1,7 +1,7 @@
 -- The counts that the board's table shows.
 use Rattle.std.specs.Prelude.{List, length}
 use Rattle.board_core.specs.declared.config.Config.{Config}
-use Rattle.board_core.specs.declared.event.Event.{Event}
+use Rattle.board_core.specs.History.{Event}
 use Rattle.board_core.specs.declared.board.Totals.{Totals}
 use Rattle.board_core.specs.Starts.{starts, entries, all_pending}
 

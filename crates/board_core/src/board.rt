@@ -1,14 +1,18 @@
 ghost use Rattle.std.specs.Prelude.{◌≡◌, ◌<◌, ◌≤◌, ◌↔◌, List, [], ◌∷◌, true, IfOk, IsErrOf, length, reverse};
 ghost use Rattle.hsm.specs.declared.hart.HartState.{HartState};
 ghost use Rattle.interrupts.specs.Timing.{last_time};
+ghost use Rattle.tlb_model.specs.Acts.{cache_after};
+ghost use Rattle.tlb_model.specs.Entries.{covers_entry};
+ghost use Rattle.tlb_model.specs.Words.{covers_word};
 ghost use Rattle.board_core.specs.declared.config.BuildFault.TheVariants.{BadConfig};
 ghost use Rattle.board_core.specs.declared.config.Config.{Config};
-ghost use Rattle.board_core.specs.declared.event.Event.{Event};
+ghost use Rattle.board_core.specs.History.{Event};
 ghost use Rattle.board_core.specs.declared.event.Actor.TheVariants.{Hart, Clock};
 ghost use Rattle.board_core.specs.Csrs.{sie, sstatus_sie};
 ghost use Rattle.board_core.specs.ErrorLaw.{LooksSame, is_error};
 ghost use Rattle.board_core.specs.Interrupts.{deadline, ssip, stip, time, wake};
 ghost use Rattle.board_core.specs.Limits.{IsGood};
+ghost use Rattle.board_core.specs.Memory.{memory, satp, tlb_acts, word_acts};
 ghost use Rattle.board_core.specs.Refusals.{first_that_holds, has_nothing_to_do, is_full, refusals_in};
 ghost use Rattle.board_core.specs.States.{state};
 ghost use Rattle.board_core.specs.Starts.{kept, StartsAreEntered};
@@ -22,11 +26,13 @@ use crate::csrs::{Csrs, Sie};
 use crate::event::{Actor, Event, Op, Refusal, Reply};
 use crate::interrupt_state::Interrupts;
 use crate::machine::Machine;
+use crate::memory::Memory;
 use hart_mask::HartSet;
 use hsm::{HartState, Hsm, Kept};
 use interrupts::{Ipis, Timers};
 use std::alloc::{AllocError, Global};
 use std::marker::Model;
+use tlb_model::{Entry, FetchWord, Numbered};
 
 /// The counts of the board's table, since the opening.
 #[derive(Clone, Copy, Debug, PartialEq, Eq)]
@@ -113,9 +119,9 @@ impl Board {
         if let Some(refusal) = refusal(self.state(h), wake, op, self.is_full()) {
             return Err(refusal);
         }
-        let reply = self.machine.perform(&self.config, h, wake, op);
-        let actor = Actor::Hart(h);
-        self.events.push_reserved(Event { actor, op, reply });
+        let (reply, used) = self.machine.perform(&self.config, h, wake, op);
+        self.events
+            .push_reserved(Event::new(Actor::Hart(h), op, reply, used));
         Ok(reply)
     }
 
@@ -144,12 +150,8 @@ impl Board {
         if self.machine.interrupts.timers.tick(n).is_err() {
             return Err(Refusal::TimeFull);
         }
-        let event = Event {
-            actor: Actor::Clock,
-            op,
-            reply: Reply::Done,
-        };
-        self.events.push_reserved(event);
+        self.events
+            .push_reserved(Event::new(Actor::Clock, op, Reply::Done, None));
         Ok(Reply::Done)
     }
 
@@ -233,6 +235,42 @@ impl Board {
         self.machine.interrupts.wake(h)
     }
 
+    /// satp of hart `h` (Privileged 4.1.11).
+    pub fn satp(&self, h: u64) -> u64
+        requires { h < self.now.config.harts }
+        ensures { result ≡ satp self.now.past h }
+    {
+        self.machine.memory.satp(h).bits()
+    }
+
+    /// The word of the RAM at a physical address; None where the address isn't aligned to 8, or outside the RAM.
+    pub fn word(&self, at: u64) -> Option<u64>
+        ensures { result ≡ memory self.now.config self.now.past at }
+    {
+        let ram = &self.machine.memory.ram;
+        if ram.holds(at) {
+            Some(ram.load(at))
+        } else {
+            None
+        }
+    }
+
+    /// The live entries of the TLB of hart `h`, in the order of filling.
+    pub fn tlb(&self, h: u64) -> &[Numbered<Entry>]
+        requires { h < self.now.config.harts }
+        ensures { reverse result.now ≡ (cache_after covers_entry (tlb_acts self.now.past h)).live }
+    {
+        self.machine.memory.caches[h as usize].tlb.live()
+    }
+
+    /// The live words of the instruction cache of hart `h`, in the order of filling.
+    pub fn fetched(&self, h: u64) -> &[Numbered<FetchWord>]
+        requires { h < self.now.config.harts }
+        ensures { reverse result.now ≡ (cache_after covers_word (word_acts self.now.config self.now.past h)).live }
+    {
+        self.machine.memory.caches[h as usize].words.live()
+    }
+
     /// The deadline of hart `h`, in ticks, if it has one (SBI 6.1).
     pub fn deadline(&self, h: u64) -> Option<u64>
         requires { h < self.now.config.harts }
@@ -303,9 +341,11 @@ fn opening(alloc: Global, config: &Config) -> Result<Machine, AllocError>
         ipis: Ipis::new(),
         timers,
     };
+    let memory = Memory::new(alloc, config)?;
     Ok(Machine {
         hsm,
         interrupts,
+        memory,
         counts,
     })
 }
@@ -315,8 +355,9 @@ fn refusal(state: HartState, wake: bool, op: Op, is_full: bool) -> Option<Refusa
     ensures { result ≡ first_that_holds (refusals_in state wake op is_full) }
 {
     let (in_phase, has_work) = match op {
-        Op::Ecall(_) | Op::WriteSie(_) | Op::WriteSstatusSie(_) => (state.is_started(), true),
-        Op::ReadSip | Op::ClearSsip => (state.is_started(), true),
+        Op::Ecall(_) | Op::Load(_) | Op::Store(..) | Op::Fetch(_) => (state.is_started(), true),
+        Op::WriteSatp(_) | Op::WriteSie(_) | Op::WriteSstatusSie(_) => (state.is_started(), true),
+        Op::ReadSip | Op::ClearSsip | Op::Sfence(..) | Op::FenceI => (state.is_started(), true),
         Op::Wfi => (state.is_started(), wake),
         Op::Advance => (!state.is_started(), state.goes_on(wake)),
         Op::Tick(_) => (false, true),

@@ -5,8 +5,7 @@ ghost use Rattle.sbi_abi.specs.declared.call.Regs.{Regs};
 ghost use Rattle.sbi_abi.specs.Calls.{call_of};
 ghost use Rattle.hsm.specs.declared.hart.HartState.TheVariants as states;
 ghost use Rattle.hsm.specs.Transitions.{hart_at};
-ghost use Rattle.board_core.specs.declared.event.Actor.TheVariants.{Hart};
-ghost use Rattle.board_core.specs.declared.event.Event.{Event};
+ghost use Rattle.board_core.specs.History.{Event, by_hart};
 ghost use Rattle.board_core.specs.declared.event.Op.TheVariants.{Ecall};
 ghost use Rattle.board_core.specs.declared.event.Reply.TheVariants.{Ret};
 ghost use Rattle.board_core.specs.Limits.{IsGood};
@@ -32,7 +31,7 @@ impl Machine {
         requires running { (hart_at self.old.hsm h).state ≡ states.Started }
         ensures answered { (past : List Event) → StandsFor config.now past self.old → result ≡ call_reply config.now past h call }
         ensures after { (past : List Event) (regs : Regs) → call ≡ call_of regs → StandsFor config.now past self.old →
-            StandsFor config.now (record { actor = Hart h; op = Ecall regs; reply = result } ∷ past) self.new }
+            StandsFor config.now (by_hart h (Ecall regs) result ∷ past) self.new }
     {
         match call {
             Call::GetSpecVersion => success(0x100_0000),

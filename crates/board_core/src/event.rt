@@ -1,9 +1,13 @@
 ghost use Rattle.std.specs.Prelude.{◌≡◌};
+ghost use Rattle.board_core.specs.History.{translation_of, what_of};
 ghost use Rattle.board_core.specs.Refusals.{refusal_number};
 
 use hsm::HartState;
 use sbi_abi::{Regs, Sbiret};
+use std::marker::Model;
+use sv39::Cause;
 use thiserror::Error;
+use tlb_model::Entry;
 
 /// Who makes a step.
 #[derive(Clone, Copy, Debug, PartialEq, Eq)]
@@ -19,6 +23,14 @@ pub enum Actor {
 pub enum Op {
     /// A guest's call of the firmware (SBI 3).
     Ecall(Regs),
+    /// A guest loads the word of 8 bytes at a virtual address.
+    Load(u64),
+    /// A guest stores a word of 8 bytes at a virtual address: the address, and the word.
+    Store(u64, u64),
+    /// A guest fetches the word of 8 bytes at a virtual address.
+    Fetch(u64),
+    /// A guest writes satp (Privileged 4.1.11). No fence happens.
+    WriteSatp(u64),
     /// A guest writes sie (Privileged 4.1.3).
     WriteSie(u64),
     /// A guest enables its hart's interrupts, or disables them (Privileged 4.1.1, sstatus.SIE).
@@ -29,6 +41,11 @@ pub enum Op {
     ClearSsip,
     /// A guest waits for an interrupt, which has come (Privileged 3.3.3, WFI).
     Wfi,
+    /// A guest's local fence of translations, SFENCE.VMA: of this address, or of all, and of this ASID's address space, or
+    /// of all (Privileged 4.2.1).
+    Sfence(Option<u64>, Option<u64>),
+    /// A guest's local fence of fetched words, FENCE.I (Zifencei).
+    FenceI,
     /// The firmware brings its hart one state further (profile).
     Advance,
     /// The time goes on by so many ticks (profile).
@@ -55,6 +72,8 @@ pub enum Reply {
     },
     /// The value that was read.
     Value(u64),
+    /// The access failed, for this cause (Privileged 4.1.8).
+    Fault(Cause),
     /// The hart's state is this one now (SBI 9).
     Moved(HartState),
     /// It is done.
@@ -92,13 +111,84 @@ impl Refusal {
     }
 }
 
-/// An accepted step.
+/// An accepted step: who made it, what it did, what was answered, and the TLB entry that an access used.
 #[derive(Clone, Copy, Debug, PartialEq, Eq)]
 pub struct Event {
+    actor: Actor,
+    reply: Reply,
+    what: What,
+}
+
+/// What a step did. An access's entry and a call's six arguments never occur together, which keeps events small.
+#[derive(Clone, Copy, Debug, PartialEq, Eq)]
+enum What {
+    Load(u64, Option<Entry>),
+    Store(u64, u64, Option<Entry>),
+    Fetch(u64, Option<Entry>),
+    Other(Op),
+}
+
+impl Model for Event {
+    ghost use Rattle.board_core.specs.History.{Event as Seen, IsKeptWell, op_of, translation_of, what_of};
+
+    ghost Value = { Seen };
+
+    ghost view = { λ e. record { actor = e.actor; op = op_of e.what; reply = e.reply; translation = translation_of e.what } };
+
+    ghost invariant = { λ e. IsKeptWell e.what };
+
+    ghost inverse = { λ e. record { actor = e.actor; reply = e.reply; what = what_of e.op e.translation } };
+
+    ghost inverse_ok = { λ e well i. record { actor = e.actor; reply = e.reply; what = well i } };
+}
+
+impl Event {
+    /// An accepted step; of accesses alone the entry is kept.
+    pub fn new(actor: Actor, op: Op, reply: Reply, used: Option<Entry>) -> Event
+        ensures { result ≡ record { actor = actor; op = op; reply = reply; translation = translation_of (what_of op used) } }
+    {
+        let what = match op {
+            Op::Load(va) => What::Load(va, used),
+            Op::Store(va, value) => What::Store(va, value, used),
+            Op::Fetch(va) => What::Fetch(va, used),
+            _ => What::Other(op),
+        };
+        Event { actor, reply, what }
+    }
+
     /// Who made it.
-    pub actor: Actor,
+    pub fn actor(&self) -> Actor
+        ensures { result ≡ self.now.actor }
+    {
+        self.actor
+    }
+
     /// What it did.
-    pub op: Op,
+    pub fn op(&self) -> Op
+        ensures { result ≡ self.now.op }
+    {
+        match self.what {
+            What::Load(va, _) => Op::Load(va),
+            What::Store(va, value, _) => Op::Store(va, value),
+            What::Fetch(va, _) => Op::Fetch(va),
+            What::Other(op) => op,
+        }
+    }
+
     /// What was answered.
-    pub reply: Reply,
+    pub fn reply(&self) -> Reply
+        ensures { result ≡ self.now.reply }
+    {
+        self.reply
+    }
+
+    /// The TLB entry that an access by Sv39 used, found or filled (profile); None of every other step.
+    pub fn translation(&self) -> Option<Entry>
+        ensures { result ≡ self.now.translation }
+    {
+        match self.what {
+            What::Load(_, used) | What::Store(_, _, used) | What::Fetch(_, used) => used,
+            What::Other(_) => None,
+        }
+    }
 }

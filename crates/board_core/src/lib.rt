@@ -11,9 +11,12 @@ mod csrs;
 mod event;
 mod interrupt_state;
 mod machine;
+mod memory;
 
 pub use board::{Board, Totals, errors_change_nothing, starts_are_entered};
 pub use config::{BuildFault, Config};
 pub use csrs::Sie;
 pub use event::{Actor, Event, Op, Refusal, Reply};
 pub use hsm::{HartState, Kept};
+pub use sv39::Cause;
+pub use tlb_model::{Entry, FetchWord, Numbered};

@@ -10,8 +10,8 @@ use Rattle.sbiboard.specs.declared.guest_script.fault.Fault.{Fault}
 use Rattle.sbiboard.specs.declared.guest_script.fault.Fault.TheVariants.{NoMemory}
 use Rattle.sbiboard.specs.declared.guest_script.fault.ScriptFault.{ScriptFault}
 use Rattle.sbiboard.specs.declared.guest_script.schedule.Script.{Script}
-use Rattle.sbiboard.specs.Grammar.{Form, form_of, Reads, schedule, Schedule}
-use Rattle.sbiboard.specs.FirstFault.{at_line, board_tests, byte_test, first_fault, form_tests, is_filled, no_memory, number_tests, op_tests, schedule_tests, script_tests, step_tests, steps_tests, words_in}
+use Rattle.sbiboard.specs.Grammar.{Form, form_of, last_number, Reads, schedule, Schedule}
+use Rattle.sbiboard.specs.FirstFault.{at_line, board_tests, byte_test, first_fault, form_tests, is_filled, no_memory, argument_tests, op_tests, schedule_tests, script_tests, step_tests, steps_tests, words_in}
 use Rattle.sbiboard.specs.Reading.{script_of}
 use Rattle.sbiboard.proofs.ScriptLines.{first_fault_answered, read_what_it_reads, reads_what_is_read}
 
@@ -23,13 +23,13 @@ AreOfBytes tests = AllByRecursion (λ test. test.1 ≢ NoMemory) tests
 abbrev AreFound : List (Bool × ScriptFault) → Type 0
 AreFound tests = AllByRecursion (λ test. test.1.fault ≢ NoMemory) tests
 
-numbers_of_bytes : (limit : ℕ) (words : List (List ℕ)) → AreOfBytes (number_tests limit words)
-numbers_of_bytes limit [] = tt
-numbers_of_bytes limit (word ∷ words) = ((λ e. cc), numbers_of_bytes limit words)
+arguments_of_bytes : (dash : Bool) (limit : ℕ) (words : List (List ℕ)) → AreOfBytes (argument_tests dash limit words)
+arguments_of_bytes dash limit [] = tt
+arguments_of_bytes dash limit (word ∷ words) = ((λ e. cc), arguments_of_bytes dash limit words)
 
 form_of_bytes : (form : Option Form) (words : List (List ℕ)) → AreOfBytes (form_tests form words)
 form_of_bytes None words = ((λ e. cc), tt)
-form_of_bytes (Some form) words = ((λ e. cc), numbers_of_bytes form.limit words)
+form_of_bytes (Some form) words = ((λ e. cc), arguments_of_bytes form.may_be_absent form.limit words)
 
 op_of_bytes : (words : List (List ℕ)) → AreOfBytes (op_tests words)
 op_of_bytes [] = ((λ e. cc), tt)
@@ -41,7 +41,7 @@ step_of_bytes (first ∷ words) = ((λ e. cc), ((λ e. cc), op_of_bytes words))
 
 board_of_bytes : (words : List (List ℕ)) → AreOfBytes (board_tests words)
 board_of_bytes [] = tt
-board_of_bytes (first ∷ words) = ((λ e. cc), ((λ e. cc), numbers_of_bytes _ words))
+board_of_bytes (first ∷ words) = ((λ e. cc), ((λ e. cc), arguments_of_bytes false last_number words))
 
 found_on_line : (n : ℕ) (tests : List (Bool × Fault)) → AreOfBytes tests → AreFound (at_line n tests)
 found_on_line n [] all = tt

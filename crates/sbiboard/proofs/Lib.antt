@@ -1,3 +1,4 @@
+pub mod Caches
 pub mod FaultsFound
 pub mod Hex
 pub mod Known
@@ -5,7 +6,7 @@ pub mod LineWords
 pub mod Lines
 pub mod LinesOf
 pub mod Numbers
-pub mod NumbersIn
+pub mod ArgumentsIn
 pub mod ReadBack
 pub mod Replayed
 pub mod ScriptLines

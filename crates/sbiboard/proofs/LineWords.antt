@@ -1,9 +1,11 @@
 -- The words of a line are a step, or the board's, exactly where none of the line's tests holds.
-use Rattle.std.proofs.Common.{◌≡◌, ℕ, suc, ◌≤◌, Bool, true, false, not, cond, ltb, ◌||◌, List, [], ◌∷◌, length, get_or, Option, Some, None, Ok, codes, refl, sym, ap, ◌∙◌, inl, inr, arith}
+use Rattle.std.proofs.Common.{◌≡◌, ℕ, suc, ◌≤◌, Bool, true, false, not, cond, ltb, ◌||◌, List, [], ◌∷◌, length, map, get_or, Option, Some, None, Ok, codes, refl, sym, ap, ◌∙◌, inl, inr, arith}
 use Rattle.std.specs.Char.{digit_value, is_digit}
 use Rattle.std.specs.List.{slice_index}
+use Rattle.std.specs.Option.{unwrap_or}
 use Rattle.std.specs.Str.{bytes_eq}
 use Rattle.std.proofs.lemmas.Bool.{cases_Bool, lt-ltb, le-ltb, ltb-false, or_parts, or_from, not-false, not_from_true, false_from_ne_true}
+use Rattle.std.proofs.lemmas.List.{get_or-map, length-map}
 use Rattle.std.proofs.lemmas.List.FromFn.{fill_by_all}
 use Rattle.std.proofs.lemmas.Slice.Eq.{bytes_eq-Decides}
 use Rattle.board_core.specs.declared.config.Config.{Config}
@@ -14,11 +16,11 @@ use Rattle.board_core.specs.Refusals.{first_that_holds}
 use Rattle.sbiboard.specs.declared.guest_script.fault.Fault.{Fault}
 use Rattle.sbiboard.specs.declared.guest_script.fault.Fault.TheVariants.{NoBoardLine}
 use Rattle.sbiboard.specs.declared.guest_script.schedule.Line.{Line}
-use Rattle.sbiboard.specs.Grammar.{AreNumbers, Form, form_of, IsActor, IsBoard, IsNumber, IsOp, IsStep, last_hart, last_number, numbers_of, Spells}
-use Rattle.sbiboard.specs.FirstFault.{actor_test, begins_actor_line, board_tests, form_tests, has_arrow, is_clock, is_number, number_tests, numbers_tests, op_tests, step_tests}
-use Rattle.sbiboard.specs.Reading.{actor_in, board_in, config_of, limit_from, line_in, or_fault, tested, numbers_in, op_from, op_in, step_in}
-use Rattle.sbiboard.proofs.NumbersIn.{first_number_fault, length-numbers_in}
-use Rattle.sbiboard.proofs.Spelling.{number_spelled, numbers_spelled, spelled_number, spelled_numbers}
+use Rattle.sbiboard.specs.Grammar.{AreArguments, AreNumbers, Form, form_of, IsActor, IsArgument, IsBoard, IsNumber, IsOp, IsStep, last_hart, last_number, number_at, numbers_of, Spells}
+use Rattle.sbiboard.specs.FirstFault.{actor_test, begins_actor_line, board_tests, form_tests, has_arrow, is_clock, is_number, argument_tests, arguments_tests, op_tests, step_tests}
+use Rattle.sbiboard.specs.Reading.{actor_in, board_in, config_of, limit_from, line_in, or_fault, tested, arguments_in, op_from, op_in, step_in}
+use Rattle.sbiboard.proofs.ArgumentsIn.{first_argument_fault, length-arguments_in}
+use Rattle.sbiboard.proofs.Spelling.{arguments_as_numbers, arguments_spelled, number_spelled, numbers_as_arguments, spelled_number, spelled_arguments}
 
 -- ---- tests of which none holds
 
@@ -36,30 +38,32 @@ none_cons test tests fails none = rw fails none
 
 -- ---- numbers
 
-record AreCounted (least most limit : ℕ) (words : List (List ℕ)) (ns : List ℕ) : Type 0 where
+record AreCounted (least most : ℕ) (dash : Bool) (limit : ℕ) (words : List (List ℕ)) (ns : List (Option ℕ)) : Type 0 where
   enough : least ≤ length words
   not_more : length words ≤ most
-  are_numbers : AreNumbers limit words ns
+  are_arguments : AreArguments dash limit words ns
 
 all_from_none : (b : Bool) (fault : Fault) → cond b None (Some fault) ≡ None → b ≡ true
 all_from_none true fault none = refl
 all_from_none false fault none = absurd cc
 
-numbers_tested : (least most limit : ℕ) (words : List (List ℕ)) → NoneHolds (numbers_tests least most limit words) → AreCounted least most limit words (numbers_in limit words)
-numbers_tested least most limit words none =
-    let rows = none_first _ (number_tests limit words) none in
+arguments_tested : (least most : ℕ) (dash : Bool) (limit : ℕ) (words : List (List ℕ)) → NoneHolds (arguments_tests least most dash limit words)
+    → AreCounted least most dash limit words (arguments_in limit words)
+arguments_tested least most dash limit words none =
+    let rows = none_first _ (argument_tests dash limit words) none in
     let counts = or_parts (ltb (length words) least) (ltb most (length words)) rows.0 in
     record {
       enough = ltb-false _ _ counts.0;
       not_more = ltb-false _ _ counts.1;
-      are_numbers = numbers_spelled limit words (all_from_none _ _ (sym (first_number_fault limit words) ∙ rows.1));
+      are_arguments = arguments_spelled dash limit words (all_from_none _ _ (sym (first_argument_fault dash limit words) ∙ rows.1));
     }
 
-numbers_pass : (least most limit : ℕ) (words : List (List ℕ)) (ns : List ℕ) → AreCounted least most limit words ns → NoneHolds (numbers_tests least most limit words) × (numbers_in limit words ≡ ns)
-numbers_pass least most limit words ns counted =
-    let spelled = spelled_numbers limit words ns counted.are_numbers in
+arguments_pass : (least most : ℕ) (dash : Bool) (limit : ℕ) (words : List (List ℕ)) (ns : List (Option ℕ)) → AreCounted least most dash limit words ns
+    → NoneHolds (arguments_tests least most dash limit words) × (arguments_in limit words ≡ ns)
+arguments_pass least most dash limit words ns counted =
+    let spelled = spelled_arguments dash limit words ns counted.are_arguments in
     let count = or_from (ltb (length words) least) (ltb most (length words)) (le-ltb _ _ counted.enough) (le-ltb _ _ counted.not_more) in
-    (none_cons _ (number_tests limit words) count (first_number_fault limit words ∙ rw spelled.0 refl), spelled.1)
+    (none_cons _ (argument_tests dash limit words) count (first_argument_fault dash limit words ∙ rw spelled.0 refl), spelled.1)
 
 length_numbers : (limit : ℕ) (words : List (List ℕ)) (ns : List ℕ) → AreNumbers limit words ns → length words ≡ length ns
 length_numbers limit [] [] numbers = refl
@@ -70,20 +74,20 @@ length_numbers limit (word ∷ words) (n ∷ ns) numbers = ap suc (length_number
 -- ---- operations
 
 form_tested : (name : List ℕ) (words : List (List ℕ)) (form : Option Form) → form_of name ≡ form → NoneHolds (form_tests form words)
-    → IsOp (name ∷ words) (op_from form (numbers_in (limit_from form) words))
+    → IsOp (name ∷ words) (op_from form (arguments_in (limit_from form) words))
 form_tested name words None at none = absurd cc
 form_tested name words (Some form) at none =
-    let counted = numbers_tested form.least form.most form.limit words none in
+    let counted = arguments_tested form.least form.most form.may_be_absent form.limit words none in
     record {
       name = name;
-      arguments = words;
+      others = words;
       form = form;
-      numbers = numbers_in form.limit words;
+      arguments = arguments_in form.limit words;
       parts = refl;
       has_form = at;
       enough = counted.enough;
       not_more = counted.not_more;
-      are_numbers = counted.are_numbers;
+      are_arguments = counted.are_arguments;
       makes = refl;
     }
 
@@ -94,7 +98,9 @@ op_tested (name ∷ words) none = form_tested name words (form_of name) refl non
 pub op_passes : (words : List (List ℕ)) (op : Op) → IsOp words op → NoneHolds (op_tests words) × (op_in words ≡ op)
 op_passes words op is_op =
     let form = is_op.form in
-    let pass = numbers_pass form.least form.most form.limit is_op.arguments is_op.numbers (record { enough = is_op.enough; not_more = is_op.not_more; are_numbers = is_op.are_numbers }) in
+    let counted : AreCounted form.least form.most form.may_be_absent form.limit is_op.others is_op.arguments =
+    record { enough = is_op.enough; not_more = is_op.not_more; are_arguments = is_op.are_arguments } in
+    let pass = arguments_pass form.least form.most form.may_be_absent form.limit is_op.others is_op.arguments counted in
     rw (is_op.parts, is_op.has_form) (pass.0, ap form.op pass.1 ∙ sym is_op.makes)
 
 -- ---- actors
@@ -139,18 +145,22 @@ form_of-arrow : form_of (codes "->") ≡ None
 unfolding form_of
 form_of-arrow = refl
 
-numbers_no_arrow : (limit : ℕ) (words : List (List ℕ)) (ns : List ℕ) → AreNumbers limit words ns → has_arrow words ≡ false
-numbers_no_arrow limit [] ns numbers = refl
-numbers_no_arrow limit (word ∷ words) [] numbers = absurd numbers
-numbers_no_arrow limit (word ∷ words) (n ∷ ns) numbers =
-    or_from (bytes_eq word (codes "->")) (has_arrow words) (no_number limit word (codes "->") n refl numbers.0) (numbers_no_arrow limit words ns numbers.1)
+argument_no_arrow : (dash : Bool) (limit : ℕ) (word : List ℕ) (a : Option ℕ) → IsArgument dash limit word a → bytes_eq word (codes "->") ≡ false
+argument_no_arrow dash limit word (Some n) number = no_number limit word (codes "->") n refl number
+argument_no_arrow dash limit word None absent = rw absent.1 refl
+
+arguments_no_arrow : (dash : Bool) (limit : ℕ) (words : List (List ℕ)) (ns : List (Option ℕ)) → AreArguments dash limit words ns → has_arrow words ≡ false
+arguments_no_arrow dash limit [] ns arguments = refl
+arguments_no_arrow dash limit (word ∷ words) [] arguments = absurd arguments
+arguments_no_arrow dash limit (word ∷ words) (n ∷ ns) arguments =
+    or_from (bytes_eq word (codes "->")) (has_arrow words) (argument_no_arrow dash limit word n arguments.0) (arguments_no_arrow dash limit words ns arguments.1)
 
 op_no_arrow : (words : List (List ℕ)) (op : Op) → IsOp words op → has_arrow words ≡ false
 op_no_arrow words op is_op =
     let named : bytes_eq is_op.name (codes "->") ≡ false = false_from_ne_true _ (λ same.
     let none : form_of is_op.name ≡ None = ap form_of ((bytes_eq-Decides is_op.name (codes "->")).0 same) ∙ form_of-arrow in
     let both = sym none ∙ is_op.has_form in cc) in
-    rw is_op.parts (or_from (bytes_eq is_op.name (codes "->")) (has_arrow is_op.arguments) named (numbers_no_arrow is_op.form.limit is_op.arguments is_op.numbers is_op.are_numbers))
+    rw is_op.parts (or_from (bytes_eq is_op.name (codes "->")) (has_arrow is_op.others) named (arguments_no_arrow is_op.form.may_be_absent is_op.form.limit is_op.others is_op.arguments is_op.are_arguments))
 
 is_value : (o : Option Fault) (x y : Line) → or_fault o x ≡ Ok y → o ≡ None
 is_value None x y e = refl
@@ -193,22 +203,29 @@ step_passes words line step =
 
 -- ---- the board
 
-pub config_numbers : (ns : List ℕ) → length ns ≡ 6 → numbers_of (config_of ns) ≡ ns
-config_numbers ns six = sym (fill_by_all (λ k. get_or ns k 0) ns 6 0 six (λ k h. refl))
+abbrev pub values : List (Option ℕ) → List ℕ
+values arguments = map (λ a. unwrap_or a 0) arguments
 
-pub board_tested : (first : List ℕ) (words : List (List ℕ)) → NoneHolds (board_tests (first ∷ words)) → IsBoard (first ∷ words) (config_of (numbers_in last_number words))
+pub config_numbers : (ns : List (Option ℕ)) → length ns ≡ 6 → numbers_of (config_of ns) ≡ values ns
+unfolding config_of
+config_numbers ns six =
+    sym (fill_by_all (λ k. number_at ns k) (values ns) 6 0 (length-map ns (λ a. unwrap_or a 0) ∙ six) (λ k h. get_or-map (λ a. unwrap_or a 0) ns k None 0 (omega (arith, six, h))))
+
+pub board_tested : (first : List ℕ) (words : List (List ℕ)) → NoneHolds (board_tests (first ∷ words)) → IsBoard (first ∷ words) (config_of (arguments_in last_number words))
 board_tested first words none =
-    let named = none_first (not (bytes_eq first (codes "board")), NoBoardLine) (numbers_tests 6 6 last_number words) none in
-    let counted = numbers_tested 6 6 last_number words named.1 in
-    let six : length (numbers_in last_number words) ≡ 6 = omega (arith, length-numbers_in last_number words, counted.enough, counted.not_more) in
+    let named = none_first (not (bytes_eq first (codes "board")), NoBoardLine) (arguments_tests 6 6 false last_number words) none in
+    let counted = arguments_tested 6 6 false last_number words named.1 in
+    let six : length (arguments_in last_number words) ≡ 6 = omega (arith, length-arguments_in last_number words, counted.enough, counted.not_more) in
     record {
       arguments = words;
       parts = ap (λ (w : List ℕ). w ∷ words) ((bytes_eq-Decides first (codes "board")).0 (not-false _ named.0));
-      are_numbers = rw (config_numbers (numbers_in last_number words) six) counted.are_numbers;
+      are_numbers = rw (config_numbers (arguments_in last_number words) six) (arguments_as_numbers last_number words (arguments_in last_number words) counted.are_arguments);
     }
 
 pub board_passes : (words : List (List ℕ)) (config : Config) → IsBoard words config → NoneHolds (board_tests words) × (board_in words ≡ Some config)
+unfolding config_of
 board_passes words config board =
     let count = length_numbers last_number board.arguments (numbers_of config) board.are_numbers in
-    let pass = numbers_pass 6 6 last_number board.arguments (numbers_of config) (record { enough = omega (arith, count); not_more = omega (arith, count); are_numbers = board.are_numbers }) in
-    rw board.parts (none_cons (false, NoBoardLine) (numbers_tests 6 6 last_number board.arguments) refl pass.0, ap (λ (ns : List ℕ). Some (config_of ns)) pass.1)
+    let are = numbers_as_arguments last_number board.arguments (numbers_of config) board.are_numbers in
+    let pass = arguments_pass 6 6 false last_number board.arguments (map (λ n. Some n) (numbers_of config)) (record { enough = omega (arith, count); not_more = omega (arith, count); are_arguments = are }) in
+    rw board.parts (none_cons (false, NoBoardLine) (arguments_tests 6 6 false last_number board.arguments) refl pass.0, ap (λ (ns : List (Option ℕ)). Some (config_of ns)) pass.1)

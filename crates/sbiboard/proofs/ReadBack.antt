@@ -1,6 +1,6 @@
 -- What is printed of a schedule is read back.
-use Rattle.std.proofs.Common.{◌≡◌, ◌≢◌, ℕ, ◌-◌, ◌<◌, ◌≤◌, true, false, eqb, List, [], ◌∷◌, ◌++◌, length, map, get_or, Some, codes, subst, refl, sym, ap, ◌∙◌, inl, inr, arith}
-use Rattle.std.specs.Prelude.{IsTrue, IsFalse, decimal}
+use Rattle.std.proofs.Common.{◌≡◌, ◌≢◌, ℕ, zero, suc, ◌-◌, ◌<◌, ◌≤◌, Bool, true, false, eqb, List, [], ◌∷◌, ◌++◌, length, map, get_or, Option, Some, None, codes, subst, refl, sym, ap, ◌∙◌, inl, inr, arith}
+use Rattle.std.specs.Prelude.{IfSome, IsTrue, IsFalse, decimal}
 use Rattle.std.specs.Char.{digit_value}
 use Rattle.std.specs.Fmt.{digits}
 use Rattle.std.specs.List.{AllByRecursion, flat_map, join_with_byte}
@@ -14,10 +14,10 @@ use Rattle.board_core.specs.declared.config.Config.{Config}
 use Rattle.board_core.specs.declared.event.Actor.{Actor}
 use Rattle.board_core.specs.declared.event.Actor.TheVariants.{Hart, Clock}
 use Rattle.board_core.specs.declared.event.Op.{Op}
-use Rattle.board_core.specs.declared.event.Op.TheVariants.{Ecall, WriteSie, WriteSstatusSie, ReadSip, ClearSsip, Wfi, Advance, Tick}
+use Rattle.board_core.specs.declared.event.Op.TheVariants.{Ecall, Load, Store, Fetch, WriteSatp, WriteSie, WriteSstatusSie, ReadSip, ClearSsip, Sfence, FenceI, Wfi, Advance, Tick}
 use Rattle.sbiboard.specs.declared.guest_script.schedule.Line.{Line}
-use Rattle.sbiboard.specs.Words.{actor_word, board_words, hex, line_of, op_words}
-use Rattle.sbiboard.specs.Grammar.{AreNumbers, AreSteps, Form, form_of, IsActor, is_allowed, is_blank, is_hash, IsLine, IsOp, IsWord, last_hart, last_number, numbers_of, regs_of, Spaces, Spells}
+use Rattle.sbiboard.specs.Words.{actor_word, board_words, hex, hex_or_dash, line_of, op_words}
+use Rattle.sbiboard.specs.Grammar.{AreArguments, AreNumbers, AreSteps, Form, form_of, IsActor, IsArgument, is_allowed, is_blank, is_hash, IsLine, IsOp, IsWord, last_hart, last_number, number_at, numbers_of, regs_of, Spaces, Spells}
 use Rattle.sbiboard.specs.ScriptLaws.{FitsActor, FitsLine, FitsOp, NumberReadsBack, ScheduleReadsBack, StepReadsBack, words_of}
 use Rattle.sbiboard.proofs.LinesOf.{lines_fed}
 use Rattle.sbiboard.proofs.Spacing.{Spaces-blank}
@@ -111,6 +111,13 @@ numbers_plain limit [] ns numbers = tt
 numbers_plain limit (word ∷ words) [] numbers = absurd numbers
 numbers_plain limit (word ∷ words) (n ∷ ns) numbers = (spelled_plain word n numbers.0.1, numbers_plain limit words ns numbers.1)
 
+arguments_plain : (dash : Bool) (limit : ℕ) (words : List (List ℕ)) (ns : List (Option ℕ)) → AreArguments dash limit words ns → AllByRecursion IsPlain words
+arguments_plain dash limit [] ns arguments = tt
+arguments_plain dash limit (word ∷ words) [] arguments = absurd arguments
+arguments_plain dash limit (word ∷ words) (Some n ∷ ns) arguments = (spelled_plain word n arguments.0.1, arguments_plain dash limit words ns arguments.1)
+arguments_plain dash limit (word ∷ words) (None ∷ ns) arguments =
+    (rw arguments.0.1 ((λ e. cc), (record { allowed = refl; solid = refl; no_hash = refl }, tt)), arguments_plain dash limit words ns arguments.1)
+
 -- ---- printed numbers
 
 pub number_read_back : NumberReadsBack
@@ -119,7 +126,7 @@ number_read_back limit n small limited =
     let sixteen = digits_is_IsNumeral 16 false (omega arith) (omega arith) n (omega arith) in
     ((small, inl (ten.0, sym ten.1)), (small, inr (digits 16 false n, refl, sixteen.0, sym sixteen.1)))
 
-hexes_read_back : (ns : List ℕ) → AllByRecursion (λ n. n ≤ last_number) ns → AreNumbers last_number (map hex ns) ns
+hexes_read_back : (ns : List ℕ) → AllByRecursion (λ n. n ≤ last_number) ns → AreArguments false last_number (map hex ns) (map (λ n. Some n) ns)
 hexes_read_back [] fits = tt
 hexes_read_back (n ∷ ns) fits = ((number_read_back last_number n fits.0 (omega arith)).1, hexes_read_back ns fits.1)
 
@@ -133,26 +140,41 @@ record IsSpelled (words : List (List ℕ)) (op : Op) : Type 0 where
 name_plain : (name : List ℕ) → name ≢ [] → AllDigits 36 name → IsPlain name
 name_plain name some letters = (some, digits_plain 36 name (omega arith) letters)
 
-op_spelled : (name : List ℕ) (arguments : List (List ℕ)) (form : Form) (ns : List ℕ) → form_of name ≡ Some form → IsPlain name
-    → form.least ≤ length arguments → length arguments ≤ form.most → AreNumbers form.limit arguments ns → IsSpelled (name ∷ arguments) (form.op ns)
+op_spelled : (name : List ℕ) (arguments : List (List ℕ)) (form : Form) (ns : List (Option ℕ)) → form_of name ≡ Some form → IsPlain name
+    → form.least ≤ length arguments → length arguments ≤ form.most → AreArguments form.may_be_absent form.limit arguments ns → IsSpelled (name ∷ arguments) (form.op ns)
 op_spelled name arguments form ns at plain enough not_more numbers = record {
   is_op = record {
     name = name;
-    arguments = arguments;
+    others = arguments;
     form = form;
-    numbers = ns;
+    arguments = ns;
     parts = refl;
     has_form = at;
     enough = enough;
     not_more = not_more;
-    are_numbers = numbers;
+    are_arguments = numbers;
     makes = refl;
   };
-  plain = (plain, numbers_plain form.limit arguments ns numbers);
+  plain = (plain, arguments_plain form.may_be_absent form.limit arguments ns numbers);
 }
 
-six_arguments : (regs : Regs) → length regs.a ≡ 6 → regs_of (regs.eid ∷ regs.fid ∷ regs.a) ≡ regs
-six_arguments regs six = ap (λ (a : List ℕ). record { eid = regs.eid; fid = regs.fid; a = a }) (sym (fill_by_all (λ k. get_or regs.a k 0) regs.a 6 0 six (λ k h. refl)))
+number_written : (ns : List ℕ) (k : ℕ) → number_at (map (λ n. Some n) ns) k ≡ get_or ns k 0
+number_written [] k = refl
+number_written (n ∷ ns) zero = refl
+number_written (n ∷ ns) (suc k) = number_written ns k
+
+-- the arguments that a call's printed numbers are
+abbrev written : Regs → List (Option ℕ)
+written regs = Some regs.eid ∷ Some regs.fid ∷ map (λ n. Some n) regs.a
+
+six_arguments : (regs : Regs) → length regs.a ≡ 6 → regs_of (written regs) ≡ regs
+six_arguments regs six =
+    ap (λ (a : List ℕ). record { eid = regs.eid; fid = regs.fid; a = a })
+    (sym (fill_by_all (λ k. number_at (map (λ n. Some n) regs.a) k) regs.a 6 0 six (λ k h. sym (number_written regs.a k))))
+
+optional_read_back : (n : Option ℕ) → IfSome n (λ m. m ≤ last_number) → IsArgument true last_number (hex_or_dash n) n
+optional_read_back (Some n) fits = (number_read_back last_number n fits (omega arith)).1
+optional_read_back None fits = (refl, refl)
 
 op_read_back : (op : Op) → FitsOp op → IsSpelled (op_words op) op
 unfolding form_of
@@ -160,28 +182,45 @@ op_read_back (Ecall regs) fits =
     let number = λ (n : ℕ) (small : n ≤ last_number). (number_read_back last_number n small (omega arith)).1 in
     let count = length-map regs.a hex in
     subst (λ (r : Regs). IsSpelled (op_words (Ecall regs)) (Ecall r)) (six_arguments regs fits.2)
-    (op_spelled (codes "ecall") (hex regs.eid ∷ hex regs.fid ∷ map hex regs.a) _ (regs.eid ∷ regs.fid ∷ regs.a) refl
+    (op_spelled (codes "ecall") (hex regs.eid ∷ hex regs.fid ∷ map hex regs.a) _ (written regs) refl
     (name_plain (codes "ecall") (λ e. cc) (omega arith)) (omega (arith, count)) (omega (arith, count, fits.2))
     (number regs.eid fits.0, (number regs.fid fits.1, hexes_read_back regs.a fits.3)))
+op_read_back (Load va) fits =
+    op_spelled (codes "load") (hex va ∷ []) _ (Some va ∷ []) refl (name_plain (codes "load") (λ e. cc) (omega arith)) (omega arith) (omega arith)
+    ((number_read_back last_number va fits (omega arith)).1, tt)
+op_read_back (Store va value) fits =
+    op_spelled (codes "store") (hex va ∷ hex value ∷ []) _ (Some va ∷ Some value ∷ []) refl (name_plain (codes "store") (λ e. cc) (omega arith)) (omega arith) (omega arith)
+    ((number_read_back last_number va fits.0 (omega arith)).1, ((number_read_back last_number value fits.1 (omega arith)).1, tt))
+op_read_back (Fetch va) fits =
+    op_spelled (codes "fetch") (hex va ∷ []) _ (Some va ∷ []) refl (name_plain (codes "fetch") (λ e. cc) (omega arith)) (omega arith) (omega arith)
+    ((number_read_back last_number va fits (omega arith)).1, tt)
+op_read_back (WriteSatp value) fits =
+    op_spelled (codes "satp") (hex value ∷ []) _ (Some value ∷ []) refl (name_plain (codes "satp") (λ e. cc) (omega arith)) (omega arith) (omega arith)
+    ((number_read_back last_number value fits (omega arith)).1, tt)
 op_read_back (WriteSie value) fits =
-    op_spelled (codes "sie") (hex value ∷ []) _ (value ∷ []) refl (name_plain (codes "sie") (λ e. cc) (omega arith)) (omega arith) (omega arith)
+    op_spelled (codes "sie") (hex value ∷ []) _ (Some value ∷ []) refl (name_plain (codes "sie") (λ e. cc) (omega arith)) (omega arith) (omega arith)
     ((number_read_back last_number value fits (omega arith)).1, tt)
 op_read_back (WriteSstatusSie false) fits =
-    op_spelled (codes "sstatus") (decimal 0 ∷ []) _ (0 ∷ []) refl (name_plain (codes "sstatus") (λ e. cc) (omega arith)) (omega arith) (omega arith)
+    op_spelled (codes "sstatus") (decimal 0 ∷ []) _ (Some 0 ∷ []) refl (name_plain (codes "sstatus") (λ e. cc) (omega arith)) (omega arith) (omega arith)
     ((number_read_back 1 0 (omega arith) (omega arith)).0, tt)
 op_read_back (WriteSstatusSie true) fits =
-    op_spelled (codes "sstatus") (decimal 1 ∷ []) _ (1 ∷ []) refl (name_plain (codes "sstatus") (λ e. cc) (omega arith)) (omega arith) (omega arith)
+    op_spelled (codes "sstatus") (decimal 1 ∷ []) _ (Some 1 ∷ []) refl (name_plain (codes "sstatus") (λ e. cc) (omega arith)) (omega arith) (omega arith)
     ((number_read_back 1 1 (omega arith) (omega arith)).0, tt)
 op_read_back ReadSip fits =
     op_spelled (codes "sip") [] _ [] refl (name_plain (codes "sip") (λ e. cc) (omega arith)) (omega arith) (omega arith) tt
 op_read_back ClearSsip fits =
     op_spelled (codes "clearssip") [] _ [] refl (name_plain (codes "clearssip") (λ e. cc) (omega arith)) (omega arith) (omega arith) tt
+op_read_back (Sfence va asid) fits =
+    op_spelled (codes "sfence") (hex_or_dash va ∷ hex_or_dash asid ∷ []) _ (va ∷ asid ∷ []) refl (name_plain (codes "sfence") (λ e. cc) (omega arith)) (omega arith) (omega arith)
+    (optional_read_back va fits.0, (optional_read_back asid fits.1, tt))
+op_read_back FenceI fits =
+    op_spelled (codes "fencei") [] _ [] refl (name_plain (codes "fencei") (λ e. cc) (omega arith)) (omega arith) (omega arith) tt
 op_read_back Wfi fits =
     op_spelled (codes "wfi") [] _ [] refl (name_plain (codes "wfi") (λ e. cc) (omega arith)) (omega arith) (omega arith) tt
 op_read_back Advance fits =
     op_spelled (codes "advance") [] _ [] refl (name_plain (codes "advance") (λ e. cc) (omega arith)) (omega arith) (omega arith) tt
 op_read_back (Tick n) fits =
-    op_spelled (codes "tick") (hex n ∷ []) _ (n ∷ []) refl (name_plain (codes "tick") (λ e. cc) (omega arith)) (omega arith) (omega arith)
+    op_spelled (codes "tick") (hex n ∷ []) _ (Some n ∷ []) refl (name_plain (codes "tick") (λ e. cc) (omega arith)) (omega arith) (omega arith)
     ((number_read_back last_number n fits (omega arith)).1, tt)
 
 actor_read_back : (actor : Actor) → FitsActor actor → IsActor (actor_word actor) actor

@@ -1,5 +1,5 @@
 -- Worked tables, computed from the definitions.
-use Rattle.std.proofs.Common.{◌≡◌, [], ◌∷◌, replicate, codes, refl, pos}
+use Rattle.std.proofs.Common.{◌≡◌, [], ◌∷◌, replicate, None, codes, refl, pos}
 use Rattle.std.specs.Fmt.{digits}
 use Rattle.sbi_abi.specs.Calls.{call_of}
 use Rattle.board_core.specs.declared.config.Config.{Config}
@@ -13,8 +13,8 @@ one_hart = record { harts = 1; pages = 1; limit = 10; boot_hart = 0; boot_addr =
 
 -- after the boot hart's entry and one call
 table-version : table one_hart
-    (record { actor = Hart 0; op = Ecall (record { eid = 0x10; fid = 0; a = replicate 6 0 }); reply = Ret (record { error = pos 0; value = 0x1000000 }) }
-    ∷ record { actor = Hart 0; op = Advance; reply = Entry 0x80000000 0 0 }
+    (record { actor = Hart 0; op = Ecall (record { eid = 0x10; fid = 0; a = replicate 6 0 }); reply = Ret (record { error = pos 0; value = 0x1000000 }); translation = None }
+    ∷ record { actor = Hart 0; op = Advance; reply = Entry 0x80000000 0 0; translation = None }
     ∷ [])
     ≡ codes "# time 0000000000000000 events       2 power on reset none\n# starts 1 entries 1 pending 0 asked 0 applied 0 waiting 0\n# hart state           wait out ss st ie se satp             deadline         tlb ic\n#    0 STARTED            0   -  0  0 00  0 0000000000000000 ----------------   0  0\n"
 unfolding digits call_of time_cells totals_cells head_cells hart_cells

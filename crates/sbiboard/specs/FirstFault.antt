@@ -51,21 +51,29 @@ is_hexadecimal word = bytes_eq (take 2 word) (codes "0x")
 unfoldable pub is_number : (limit : ℕ) → List ℕ → Bool
 is_number limit word = if is_hexadecimal word then is_numeral 16 limit (drop 2 word) else is_numeral 10 limit word
 
+-- whether a word is the dash that stands for an absent argument
+abbrev pub is_dash : List ℕ → Bool
+is_dash word = bytes_eq word (codes "-")
+
+-- whether a word is a number, or a dash where an argument may be absent
+abbrev pub is_argument : (may_be_absent : Bool) → (limit : ℕ) → List ℕ → Bool
+is_argument may_be_absent limit word = is_number limit word || (may_be_absent && is_dash word)
+
 -- ---- the tests of a line
 
--- each word in turn is a number
-abbrev pub number_tests : (limit : ℕ) → List (List ℕ) → List (Bool × Fault)
-number_tests limit words = map (λ word. (not (is_number limit word), BadNumber)) words
+-- each word in turn is an argument
+abbrev pub argument_tests : (may_be_absent : Bool) → (limit : ℕ) → List (List ℕ) → List (Bool × Fault)
+argument_tests may_be_absent limit words = map (λ word. (not (is_argument may_be_absent limit word), BadNumber)) words
 
--- so many numbers: their count, and then each from left to right
-abbrev pub numbers_tests : (least most limit : ℕ) → List (List ℕ) → List (Bool × Fault)
-numbers_tests least most limit words =
-    (nat_lt (length words) least || nat_lt most (length words), WordCount) ∷ number_tests limit words
+-- so many arguments: their count, and then each from left to right
+abbrev pub arguments_tests : (least most : ℕ) → (may_be_absent : Bool) → (limit : ℕ) → List (List ℕ) → List (Bool × Fault)
+arguments_tests least most may_be_absent limit words =
+    (nat_lt (length words) least || nat_lt most (length words), WordCount) ∷ argument_tests may_be_absent limit words
 
--- the name is known, and its numbers are as it takes them
+-- the name is known, and its arguments are as it takes them
 abbrev pub form_tests : Option Form → List (List ℕ) → List (Bool × Fault)
 form_tests None words = (true, UnknownWord) ∷ []
-form_tests (Some form) words = numbers_tests form.least form.most form.limit words
+form_tests (Some form) words = arguments_tests form.least form.most form.may_be_absent form.limit words
 
 -- there is a name, and it is that of an operation
 abbrev pub op_tests : List (List ℕ) → List (Bool × Fault)
@@ -100,7 +108,7 @@ step_tests (first ∷ words) =
 abbrev pub board_tests : List (List ℕ) → List (Bool × Fault)
 board_tests [] = []
 board_tests (first ∷ words) =
-    (not (bytes_eq first (codes "board")), NoBoardLine) ∷ numbers_tests 6 6 last_number words
+    (not (bytes_eq first (codes "board")), NoBoardLine) ∷ arguments_tests 6 6 false last_number words
 
 -- each byte is allowed, also in a comment
 abbrev pub byte_test : List ℕ → Bool × Fault

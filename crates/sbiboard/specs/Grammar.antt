@@ -1,5 +1,5 @@
 -- Schedules as text: which bytes are which schedule (profile).
-use Rattle.std.specs.Prelude.{◌≡◌, ◌≢◌, ◌⊎◌, ℕ, ◌-◌, ◌^◌, ◌≤◌, Bool, ◌&&◌, ◌||◌, IsTrue, IsFalse, nat_le, ◌==◌, List, [], ◌∷◌, ◌++◌, length, slice_index, map, codes, Option, Some, None}
+use Rattle.std.specs.Prelude.{◌≡◌, ◌≢◌, ◌⊎◌, ℕ, ◌-◌, ◌^◌, ◌≤◌, Bool, true, false, ◌&&◌, ◌||◌, IsTrue, IsFalse, nat_le, ◌==◌, List, [], ◌∷◌, ◌++◌, length, slice_index_or, map, codes, Option, Some, None, unwrap_or}
 use Rattle.std.specs.List.{AllByRecursion, AllZip, cons_option}
 use Rattle.std.specs.Str.{bytes_eq}
 use Rattle.std.specs.Str.Lines.{lines}
@@ -9,7 +9,7 @@ use Rattle.board_core.specs.declared.config.Config.{Config}
 use Rattle.board_core.specs.declared.event.Actor.{Actor}
 use Rattle.board_core.specs.declared.event.Actor.TheVariants.{Hart, Clock}
 use Rattle.board_core.specs.declared.event.Op.{Op}
-use Rattle.board_core.specs.declared.event.Op.TheVariants.{Ecall, WriteSie, WriteSstatusSie, ReadSip, ClearSsip, Wfi, Advance, Tick}
+use Rattle.board_core.specs.declared.event.Op.TheVariants.{Ecall, Load, Store, Fetch, WriteSatp, WriteSie, WriteSstatusSie, ReadSip, ClearSsip, Sfence, FenceI, Wfi, Advance, Tick}
 use Rattle.board_core.specs.Refusals.{first_that_holds}
 use Rattle.sbiboard.specs.declared.guest_script.schedule.Line.{Line}
 use Rattle.sbiboard.specs.declared.guest_script.schedule.Script.{Script}
@@ -97,50 +97,82 @@ last_hart = 127
 
 -- ---- operations
 
--- What may follow an operation's name: from `least` to `most` numbers, none above `limit`; and the operation that they make.
+-- A word in an argument's place: a number, or where an argument may be absent, a dash in its place.
+abbrev pub IsArgument : (may_be_absent : Bool) → (limit : ℕ) → List ℕ → Option ℕ → Type 0
+IsArgument may_be_absent limit word (Some n) = IsNumber limit word n
+IsArgument may_be_absent limit word None = IsTrue may_be_absent × (word ≡ codes "-")
+
+-- each word is the argument in its place
+abbrev pub AreArguments : (may_be_absent : Bool) → (limit : ℕ) → List (List ℕ) → List (Option ℕ) → Type 0
+AreArguments may_be_absent limit words arguments = AllZip (IsArgument may_be_absent limit) words arguments
+
+-- What may follow an operation's name: from `least` to `most` numbers, none above `limit`, whether a dash may stand in a number's place; and
+-- the operation that they make.
 pub record Form : Type 0 where
   pub least : ℕ
   pub most : ℕ
   pub limit : ℕ
-  pub op : List ℕ → Op
+  pub may_be_absent : Bool
+  pub op : List (Option ℕ) → Op
+
+-- the argument in a place, and its number, which is 0 where there is none
+abbrev pub argument_at : List (Option ℕ) → ℕ → Option ℕ
+argument_at arguments i = slice_index_or arguments i None
+
+abbrev pub number_at : List (Option ℕ) → ℕ → ℕ
+number_at arguments i = unwrap_or (argument_at arguments i) 0
 
 -- the registers of a call, where an argument that isn't written is 0
-abbrev pub regs_of : List ℕ → Regs
+abbrev pub regs_of : List (Option ℕ) → Regs
 regs_of ns = record {
-  eid = slice_index ns 0;
-  fid = slice_index ns 1;
-  a = slice_index ns 2 ∷ slice_index ns 3 ∷ slice_index ns 4 ∷ slice_index ns 5 ∷ slice_index ns 6 ∷ slice_index ns 7 ∷ [];
+  eid = number_at ns 0;
+  fid = number_at ns 1;
+  a = number_at ns 2 ∷ number_at ns 3 ∷ number_at ns 4 ∷ number_at ns 5 ∷ number_at ns 6 ∷ number_at ns 7 ∷ [];
 }
+
+-- numbers of any size, from `least` to `most` of them
+abbrev pub of_numbers : (least most : ℕ) → (List (Option ℕ) → Op) → Form
+of_numbers least most op = record { least = least; most = most; limit = last_number; may_be_absent = false; op = op }
+
+-- a name alone
+abbrev pub alone : Op → Form
+alone op = of_numbers 0 0 (λ ns. op)
 
 -- the operations by their names
 abbrev pub forms : List (List ℕ × Form)
 forms =
-    (codes "ecall", record { least = 2; most = 8; limit = last_number; op = λ ns. Ecall (regs_of ns) })
-    ∷ (codes "sie", record { least = 1; most = 1; limit = last_number; op = λ ns. WriteSie (slice_index ns 0) })
-    ∷ (codes "sstatus", record { least = 1; most = 1; limit = 1; op = λ ns. WriteSstatusSie (slice_index ns 0 == 1) })
-    ∷ (codes "sip", record { least = 0; most = 0; limit = last_number; op = λ ns. ReadSip })
-    ∷ (codes "clearssip", record { least = 0; most = 0; limit = last_number; op = λ ns. ClearSsip })
-    ∷ (codes "wfi", record { least = 0; most = 0; limit = last_number; op = λ ns. Wfi })
-    ∷ (codes "advance", record { least = 0; most = 0; limit = last_number; op = λ ns. Advance })
-    ∷ (codes "tick", record { least = 1; most = 1; limit = last_number; op = λ ns. Tick (slice_index ns 0) })
+    (codes "ecall", of_numbers 2 8 (λ ns. Ecall (regs_of ns)))
+    ∷ (codes "load", of_numbers 1 1 (λ ns. Load (number_at ns 0)))
+    ∷ (codes "store", of_numbers 2 2 (λ ns. Store (number_at ns 0) (number_at ns 1)))
+    ∷ (codes "fetch", of_numbers 1 1 (λ ns. Fetch (number_at ns 0)))
+    ∷ (codes "satp", of_numbers 1 1 (λ ns. WriteSatp (number_at ns 0)))
+    ∷ (codes "sie", of_numbers 1 1 (λ ns. WriteSie (number_at ns 0)))
+    ∷ (codes "sstatus", record { least = 1; most = 1; limit = 1; may_be_absent = false; op = λ ns. WriteSstatusSie (number_at ns 0 == 1) })
+    ∷ (codes "sip", alone ReadSip)
+    ∷ (codes "clearssip", alone ClearSsip)
+    ∷ (codes "sfence", record { least = 2; most = 2; limit = last_number; may_be_absent = true; op = λ ns. Sfence (argument_at ns 0) (argument_at ns 1) })
+    ∷ (codes "fencei", alone FenceI)
+    ∷ (codes "wfi", alone Wfi)
+    ∷ (codes "advance", alone Advance)
+    ∷ (codes "tick", of_numbers 1 1 (λ ns. Tick (number_at ns 0)))
     ∷ []
 
 -- the form of the operation with this name
 unfoldable pub form_of : List ℕ → Option Form
 form_of name = first_that_holds (map (λ row. (bytes_eq name row.0, row.1)) forms)
 
--- An operation's name, and as many numbers as it takes.
+-- An operation's name, and as many arguments as it takes.
 pub record IsOp (words : List (List ℕ)) (op : Op) : Type 0 where
   pub name : List ℕ
-  pub arguments : List (List ℕ)
+  pub others : List (List ℕ)
   pub form : Form
-  pub numbers : List ℕ
-  pub parts : words ≡ name ∷ arguments
+  pub arguments : List (Option ℕ)
+  pub parts : words ≡ name ∷ others
   pub has_form : form_of name ≡ Some form
-  pub enough : form.least ≤ length arguments
-  pub not_more : length arguments ≤ form.most
-  pub are_numbers : AreNumbers form.limit arguments numbers
-  pub makes : op ≡ form.op numbers
+  pub enough : form.least ≤ length others
+  pub not_more : length others ≤ form.most
+  pub are_arguments : AreArguments form.may_be_absent form.limit others arguments
+  pub makes : op ≡ form.op arguments
 
 -- ---- lines
 

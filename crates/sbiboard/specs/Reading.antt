@@ -1,5 +1,5 @@
 -- What is read, where no test holds.
-use Rattle.std.specs.Prelude.{◌≡◌, ℕ, if◌then◌else◌, List, [], ◌∷◌, ◌++◌, drop, slice_index, map, codes, Option, Some, None, Result, Ok, Err, Bool}
+use Rattle.std.specs.Prelude.{◌≡◌, ℕ, if◌then◌else◌, List, [], ◌∷◌, ◌++◌, drop, map, codes, Option, Some, None, Result, Ok, Err, Bool}
 use Rattle.std.specs.List.{filter_map}
 use Rattle.std.specs.Option.{unwrap_or}
 use Rattle.std.specs.Str.Lines.{lines}
@@ -16,7 +16,7 @@ use Rattle.sbiboard.specs.declared.guest_script.schedule.Line.{Line}
 use Rattle.sbiboard.specs.declared.guest_script.op_name.OpName.{OpName}
 use Rattle.sbiboard.specs.declared.guest_script.op_name.OpName.TheVariants as names
 use Rattle.sbiboard.specs.declared.guest_script.op_name.Places.{Places}
-use Rattle.sbiboard.specs.Grammar.{Schedule, Form, form_of, last_number, last_hart}
+use Rattle.sbiboard.specs.Grammar.{Schedule, Form, form_of, number_at, last_number, last_hart}
 use Rattle.sbiboard.specs.FirstFault.{words_in, is_number, is_hexadecimal, is_clock, steps_tests, schedule_tests, script_tests}
 
 -- the value, where there is no fault
@@ -38,10 +38,16 @@ Gives view (Err fault) read = read ≡ Err fault
 -- the word that names it
 abbrev pub spelling : OpName → List ℕ
 spelling names.Ecall = codes "ecall"
+spelling names.Load = codes "load"
+spelling names.Store = codes "store"
+spelling names.Fetch = codes "fetch"
+spelling names.Satp = codes "satp"
 spelling names.Sie = codes "sie"
 spelling names.Sstatus = codes "sstatus"
 spelling names.Sip = codes "sip"
 spelling names.Clearssip = codes "clearssip"
+spelling names.Sfence = codes "sfence"
+spelling names.Fencei = codes "fencei"
 spelling names.Wfi = codes "wfi"
 spelling names.Advance = codes "advance"
 spelling names.Tick = codes "tick"
@@ -49,7 +55,7 @@ spelling names.Tick = codes "tick"
 -- the places are those of this form
 abbrev pub IsFormAt : Places → Option Form → Type 0
 IsFormAt places None = ⊥
-IsFormAt places (Some form) = (form.least ≡ places.least) × (form.most ≡ places.most) × (form.limit ≡ places.limit)
+IsFormAt places (Some form) = (form.least ≡ places.least) × (form.most ≡ places.most) × (form.limit ≡ places.limit) × (form.may_be_absent ≡ places.may_be_absent)
 
 -- the places are those of the form under that name
 abbrev pub HasForm : OpName → Places → Type 0
@@ -65,12 +71,12 @@ word_value word = if is_hexadecimal word then digits_value 16 (drop 2 word) else
 unfoldable pub number_in : (limit : ℕ) → List ℕ → Option ℕ
 number_in limit word = if is_number limit word then Some (word_value word) else None
 
--- the numbers that the words spell, with 0 for a word that spells none
-unfoldable pub numbers_in : (limit : ℕ) → List (List ℕ) → List ℕ
-numbers_in limit words = map (λ word. unwrap_or (number_in limit word) 0) words
+-- the arguments that the words are: their numbers, and none for a word that spells none, as a dash does
+unfoldable pub arguments_in : (limit : ℕ) → List (List ℕ) → List (Option ℕ)
+arguments_in limit words = map (number_in limit) words
 
--- the operation that the form makes of numbers
-abbrev pub op_from : Option Form → List ℕ → Op
+-- the operation that the form makes of arguments
+abbrev pub op_from : Option Form → List (Option ℕ) → Op
 op_from None ns = Advance
 op_from (Some form) ns = form.op ns
 
@@ -82,7 +88,7 @@ limit_from (Some form) = form.limit
 -- the operation that words are, its name first
 abbrev pub op_in : List (List ℕ) → Op
 op_in [] = Advance
-op_in (name ∷ words) = op_from (form_of name) (numbers_in (limit_from (form_of name)) words)
+op_in (name ∷ words) = op_from (form_of name) (arguments_in (limit_from (form_of name)) words)
 
 -- the actor that a word is
 abbrev pub actor_in : List ℕ → Actor
@@ -98,20 +104,20 @@ step_in [] = None
 step_in (first ∷ words) = Some (line_in first words)
 
 -- a board by its numbers
-abbrev pub config_of : List ℕ → Config
+unfoldable pub config_of : List (Option ℕ) → Config
 config_of ns = record {
-  harts = slice_index ns 0;
-  pages = slice_index ns 1;
-  limit = slice_index ns 2;
-  boot_hart = slice_index ns 3;
-  boot_addr = slice_index ns 4;
-  boot_opaque = slice_index ns 5;
+  harts = number_at ns 0;
+  pages = number_at ns 1;
+  limit = number_at ns 2;
+  boot_hart = number_at ns 3;
+  boot_addr = number_at ns 4;
+  boot_opaque = number_at ns 5;
 }
 
 -- the board of a line, if it has words
 abbrev pub board_in : List (List ℕ) → Option Config
 board_in [] = None
-board_in (first ∷ words) = Some (config_of (numbers_in last_number words))
+board_in (first ∷ words) = Some (config_of (arguments_in last_number words))
 
 -- the steps of lines
 abbrev pub steps_in : List (List ℕ) → List Line

@@ -1,10 +1,10 @@
 -- What holds of schedules as text: each has one reading, and what is printed of one is read back (profile).
-use Rattle.std.specs.Prelude.{◌≡◌, ◌↔◌, ℕ, ◌≤◌, List, ◌++◌, length, None, decimal}
+use Rattle.std.specs.Prelude.{◌≡◌, ◌↔◌, ℕ, ◌≤◌, List, ◌++◌, length, None, IfSome, decimal}
 use Rattle.std.specs.List.{AllByRecursion, flat_map, join_with_byte}
 use Rattle.board_core.specs.declared.event.Actor.{Actor}
 use Rattle.board_core.specs.declared.event.Actor.TheVariants.{Hart, Clock}
 use Rattle.board_core.specs.declared.event.Op.{Op}
-use Rattle.board_core.specs.declared.event.Op.TheVariants.{Ecall, WriteSie, Tick}
+use Rattle.board_core.specs.declared.event.Op.TheVariants.{Ecall, Load, Store, Fetch, WriteSatp, WriteSie, Sfence, Tick}
 use Rattle.sbiboard.specs.declared.guest_script.schedule.Line.{Line}
 use Rattle.sbiboard.specs.Words.{board_words, hex, line_of, step_words}
 use Rattle.sbiboard.specs.Grammar.{IsLine, IsNumber, IsStep, last_hart, last_number, most_bytes, numbers_of, Reads, Schedule}
@@ -29,7 +29,12 @@ FitsActor Clock = Unit {0}
 -- an operation whose numbers fit registers, with six arguments to a call
 abbrev pub FitsOp : Op → Type 0
 FitsOp (Ecall regs) = (regs.eid ≤ last_number) × (regs.fid ≤ last_number) × (length regs.a ≡ 6) × AllByRecursion (λ n. n ≤ last_number) regs.a
+FitsOp (Load va) = va ≤ last_number
+FitsOp (Store va value) = (va ≤ last_number) × (value ≤ last_number)
+FitsOp (Fetch va) = va ≤ last_number
+FitsOp (WriteSatp value) = value ≤ last_number
 FitsOp (WriteSie value) = value ≤ last_number
+FitsOp (Sfence va asid) = IfSome va (λ n. n ≤ last_number) × IfSome asid (λ n. n ≤ last_number)
 FitsOp (Tick n) = n ≤ last_number
 FitsOp op = Unit {0}
 

@@ -1,16 +1,23 @@
 -- The printed table of a board (profile).
-use Rattle.std.specs.Prelude.{ℕ, ◌-◌, List, [], ◌∷◌, ◌++◌, length, replicate, codes, decimal, false, Option, Some, None}
+use Rattle.std.specs.Prelude.{ℕ, ◌-◌, List, [], ◌∷◌, ◌++◌, length, map, replicate, reverse, codes, decimal, Bool, false, if◌then◌else◌, Option, Some, None}
 use Rattle.std.specs.Fmt.{digits}
 use Rattle.std.specs.List.{flat_map}
 use Rattle.hsm.specs.declared.hart.HartState.{HartState}
 use Rattle.hsm.specs.declared.hart.HartState.TheVariants.{Started, Stopped, StartPending, StopPending, Suspended, SuspendPending, ResumePending}
 use Rattle.hsm.specs.declared.hart.Kept.{Kept}
+use Rattle.sv39.specs.Pages.{level_number}
+use Rattle.tlb_model.specs.declared.entry.Entry.{Entry}
+use Rattle.tlb_model.specs.declared.word.FetchWord.{FetchWord}
+use Rattle.tlb_model.specs.Acts.{Filling, live}
+use Rattle.tlb_model.specs.Entries.{covers_entry}
+use Rattle.tlb_model.specs.Words.{covers_word}
 use Rattle.board_core.specs.declared.board.Totals.{Totals}
 use Rattle.board_core.specs.declared.config.Config.{Config}
-use Rattle.board_core.specs.declared.event.Event.{Event}
 use Rattle.board_core.specs.Course.{harts_of}
 use Rattle.board_core.specs.Csrs.{bits_of, sie, sstatus_sie}
+use Rattle.board_core.specs.History.{Event}
 use Rattle.board_core.specs.Interrupts.{deadline, ssip, stip, time}
+use Rattle.board_core.specs.Memory.{satp, tlb_acts, word_acts}
 use Rattle.board_core.specs.Starts.{kept}
 use Rattle.board_core.specs.States.{state}
 use Rattle.board_core.specs.Totals.{totals}
@@ -87,7 +94,19 @@ head_cells =
     ∷ codes "ic"
     ∷ []
 
--- The row of a hart. What isn't built yet shows its opening value: no fence, no translation, and empty caches.
+-- the items of fills, newest first, in the order of filling
+abbrev pub in_order : {E : Type 0} → List (Filling E) → List E
+in_order fillings = reverse (map (λ filling. filling.item) fillings)
+
+-- the live entries of a hart's TLB, in the order of filling
+abbrev pub entries : List Event → ℕ → List Entry
+entries past h = in_order (live covers_entry (tlb_acts past h))
+
+-- the live words of a hart's instruction cache, in the order of filling
+abbrev pub words : Config → List Event → ℕ → List FetchWord
+words c past h = in_order (live covers_word (word_acts c past h))
+
+-- The row of a hart. What isn't built yet shows its opening value: no fence.
 unfoldable pub hart_cells : Config → List Event → ℕ → List (List ℕ)
 hart_cells c past h =
     codes "#"
@@ -99,10 +118,10 @@ hart_cells c past h =
     ∷ right 2 (decimal (bit_of (stip c past h)))
     ∷ hex_column 2 (bits_of (sie c past h))
     ∷ right 2 (decimal (bit_of (sstatus_sie past h)))
-    ∷ hex16 0
+    ∷ hex16 (satp past h)
     ∷ deadline_cell (deadline c past h)
-    ∷ right 3 (decimal 0)
-    ∷ right 2 (decimal 0)
+    ∷ right 3 (decimal (length (entries past h)))
+    ∷ right 2 (decimal (length (words c past h)))
     ∷ []
 
 -- what the firmware keeps for a hart's entry
@@ -116,12 +135,44 @@ entry_line h None = []
 abbrev pub row : Config → List Event → ℕ → List ℕ
 row c past h = line_of (hart_cells c past h)
 
--- the lines that follow the rows for a hart
+-- a letter, or a dash where what it stands for is absent
+abbrev pub letter : Bool → (byte : ℕ) → ℕ
+letter present byte = if present then byte else 45
+
+-- the rights of an entry's page: `r`, `w`, `x` and `d`
+abbrev pub rights : Entry → List ℕ
+rights entry = letter entry.leaf.r 114 ∷ letter entry.leaf.w 119 ∷ letter entry.leaf.x 120 ∷ letter entry.leaf.d 100 ∷ []
+
+-- a TLB's entry: its page, level, ASID, whether it is global, the physical page, and the rights
+unfoldable pub tlb_cells : ℕ → Entry → List (List ℕ)
+tlb_cells h entry =
+    codes "#"
+    ∷ codes "tlb"
+    ∷ right 3 (decimal h)
+    ∷ hex16 entry.leaf.page
+    ∷ decimal (level_number entry.leaf.level)
+    ∷ hex_column 4 entry.asid
+    ∷ (letter entry.leaf.global 103 ∷ [])
+    ∷ hex16 entry.leaf.pa
+    ∷ rights entry
+    ∷ []
+
+-- a fetched word after its physical address
+unfoldable pub word_cells : ℕ → FetchWord → List (List ℕ)
+word_cells h fetched = codes "#" ∷ codes "ic" ∷ right 3 (decimal h) ∷ hex16 fetched.pa ∷ hex16 fetched.word ∷ []
+
+abbrev pub tlb_line : ℕ → Entry → List ℕ
+tlb_line h entry = line_of (tlb_cells h entry)
+
+abbrev pub word_line : ℕ → FetchWord → List ℕ
+word_line h fetched = line_of (word_cells h fetched)
+
+-- the lines that follow the rows for a hart: what is kept for it, the entries of its TLB, and its fetched words
 abbrev pub details : Config → List Event → ℕ → List ℕ
-details c past h = entry_line h (kept c past h)
+details c past h = entry_line h (kept c past h) ++ (flat_map (tlb_line h) (entries past h) ++ flat_map (word_line h) (words c past h))
 
 -- The table of the board whose past this is: the time, the totals, the heads of the columns, a row for each hart, and
--- then, hart by hart, what is kept for it.
+-- then, hart by hart, what is kept for it and what its caches have.
 abbrev pub table : Config → List Event → List ℕ
 table c past =
     line_of (time_cells past)

@@ -1,16 +1,17 @@
 -- The printed lines as words, which one blank parts (profile).
-use Rattle.std.specs.Prelude.{ℕ, List, [], ◌∷◌, ◌++◌, map, codes, decimal, Bool, false, if◌then◌else◌, Result, Ok, Err}
+use Rattle.std.specs.Prelude.{ℕ, List, [], ◌∷◌, ◌++◌, map, codes, decimal, Bool, false, if◌then◌else◌, Option, Some, None, Result, Ok, Err}
 use Rattle.std.specs.Fmt.{digits, signed_decimal}
 use Rattle.std.specs.List.{join_with_byte}
+use Rattle.sv39.specs.Causes.{cause_number}
 use Rattle.hsm.specs.States.{state_number}
 use Rattle.board_core.specs.declared.config.Config.{Config}
 use Rattle.board_core.specs.declared.event.Actor.{Actor}
 use Rattle.board_core.specs.declared.event.Actor.TheVariants.{Hart, Clock}
 use Rattle.board_core.specs.declared.event.Op.{Op}
-use Rattle.board_core.specs.declared.event.Op.TheVariants.{Ecall, WriteSie, WriteSstatusSie, ReadSip, ClearSsip, Wfi, Advance, Tick}
+use Rattle.board_core.specs.declared.event.Op.TheVariants.{Ecall, Load, Store, Fetch, WriteSatp, WriteSie, WriteSstatusSie, ReadSip, ClearSsip, Sfence, FenceI, Wfi, Advance, Tick}
 use Rattle.board_core.specs.declared.event.Refusal.{Refusal}
 use Rattle.board_core.specs.declared.event.Reply.{Reply}
-use Rattle.board_core.specs.declared.event.Reply.TheVariants.{Ret, Waiting, Gone, Entry, Value, Moved, Done}
+use Rattle.board_core.specs.declared.event.Reply.TheVariants.{Ret, Waiting, Gone, Entry, Value, Fault, Moved, Done}
 use Rattle.board_core.specs.Refusals.{refusal_number}
 
 -- `0x` and lower case hexadecimal digits with no leading zero
@@ -25,12 +26,23 @@ abbrev pub actor_word : Actor → List ℕ
 actor_word (Hart h) = decimal h
 actor_word Clock = codes "c"
 
+-- a number that may be absent, and then is a dash
+abbrev pub hex_or_dash : Option ℕ → List ℕ
+hex_or_dash (Some n) = hex n
+hex_or_dash None = codes "-"
+
 abbrev pub op_words : Op → List (List ℕ)
 op_words (Ecall regs) = codes "ecall" ∷ hex regs.eid ∷ hex regs.fid ∷ map hex regs.a
+op_words (Load va) = codes "load" ∷ hex va ∷ []
+op_words (Store va value) = codes "store" ∷ hex va ∷ hex value ∷ []
+op_words (Fetch va) = codes "fetch" ∷ hex va ∷ []
+op_words (WriteSatp value) = codes "satp" ∷ hex value ∷ []
 op_words (WriteSie value) = codes "sie" ∷ hex value ∷ []
 op_words (WriteSstatusSie value) = codes "sstatus" ∷ decimal (bit_of value) ∷ []
 op_words ReadSip = codes "sip" ∷ []
 op_words ClearSsip = codes "clearssip" ∷ []
+op_words (Sfence va asid) = codes "sfence" ∷ hex_or_dash va ∷ hex_or_dash asid ∷ []
+op_words FenceI = codes "fencei" ∷ []
 op_words Wfi = codes "wfi" ∷ []
 op_words Advance = codes "advance" ∷ []
 op_words (Tick n) = codes "tick" ∷ hex n ∷ []
@@ -41,6 +53,7 @@ reply_words (Ok Waiting) = codes "waiting" ∷ []
 reply_words (Ok Gone) = codes "gone" ∷ []
 reply_words (Ok (Entry addr hart opaque)) = codes "entry" ∷ hex addr ∷ decimal hart ∷ hex opaque ∷ []
 reply_words (Ok (Value value)) = codes "value" ∷ hex value ∷ []
+reply_words (Ok (Fault cause)) = codes "fault" ∷ decimal (cause_number cause) ∷ []
 reply_words (Ok (Moved s)) = codes "moved" ∷ decimal (state_number s) ∷ []
 reply_words (Ok Done) = codes "done" ∷ []
 reply_words (Err refusal) = codes "refused" ∷ decimal (refusal_number refusal) ∷ []

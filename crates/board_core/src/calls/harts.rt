@@ -7,8 +7,7 @@ ghost use Rattle.sbi_abi.specs.Calls.{call_of};
 ghost use Rattle.hsm.specs.declared.hart.HartState.TheVariants as states;
 ghost use Rattle.hsm.specs.Transitions.{hart_at};
 ghost use Rattle.board_core.specs.declared.config.Config.{Config};
-ghost use Rattle.board_core.specs.declared.event.Actor.TheVariants.{Hart};
-ghost use Rattle.board_core.specs.declared.event.Event.{Event};
+ghost use Rattle.board_core.specs.History.{Event, by_hart};
 ghost use Rattle.board_core.specs.declared.event.Op.TheVariants.{Ecall};
 ghost use Rattle.board_core.specs.Limits.{IsGood};
 ghost use Rattle.board_core.specs.Replies.{call_reply};
@@ -29,7 +28,7 @@ impl Machine {
         ensures answered { (x : ℕ) (past : List Event) → StandsFor config.now past self.old →
             result ≡ call_reply config.now past x (calls.HartStart t addr opaque) }
         ensures after { (x : ℕ) (past : List Event) (regs : Regs) → calls.HartStart t addr opaque ≡ call_of regs → StandsFor config.now past self.old →
-            StandsFor config.now (record { actor = Hart x; op = Ecall regs; reply = result } ∷ past) self.new }
+            StandsFor config.now (by_hart x (Ecall regs) result ∷ past) self.new }
     {
         if t >= config.harts {
             return failure(SbiError::InvalidParam);
@@ -46,20 +45,22 @@ impl Machine {
         }
     }
 
-    /// Stops hart `h`, which calls, and forgets its deadline (SBI 9.2).
+    /// Stops hart `h`, which calls: its deadline is forgotten, and its caches are emptied (SBI 9.2; profile).
     pub fn hart_stop(&mut self, h: u64) -> Reply
         requires in_range { h < length self.old.hsm }
         requires most { length self.old.hsm ≤ 128 }
         requires timers { length self.old.interrupts.timers.deadlines ≡ length self.old.hsm }
+        requires caches { length self.old.memory.caches.items ≡ length self.old.hsm }
         requires running { (hart_at self.old.hsm h).state ≡ states.Started }
         ensures answered { (c : Config) (past : List Event) → StandsFor c past self.old → result ≡ call_reply c past h calls.HartStop }
         ensures after { (c : Config) (past : List Event) (regs : Regs) → calls.HartStop ≡ call_of regs → StandsFor c past self.old →
-            StandsFor c (record { actor = Hart h; op = Ecall regs; reply = result } ∷ past) self.new }
+            StandsFor c (by_hart h (Ecall regs) result ∷ past) self.new }
     {
         if self.interrupts.csrs.sstatus_sie.contains(h) {
             return failure(SbiError::Failed);
         }
         self.interrupts.timers.forget(h);
+        self.memory.empty_caches(h);
         self.hsm.stop(h);
         Reply::Gone
     }
@@ -78,7 +79,7 @@ impl Machine {
         requires running { (hart_at self.old.hsm h).state ≡ states.Started }
         ensures answered { (past : List Event) → result ≡ call_reply config.now past h (calls.HartSuspend kind addr opaque) }
         ensures after { (past : List Event) (regs : Regs) → calls.HartSuspend kind addr opaque ≡ call_of regs → StandsFor config.now past self.old →
-            StandsFor config.now (record { actor = Hart h; op = Ecall regs; reply = result } ∷ past) self.new }
+            StandsFor config.now (by_hart h (Ecall regs) result ∷ past) self.new }
     {
         match kind {
             Err(error) => failure(error),

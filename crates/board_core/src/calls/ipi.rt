@@ -4,8 +4,7 @@ ghost use Rattle.std.specs.Prelude.{◌≡◌, ℕ, ◌≤◌, List, ◌∷◌};
 ghost use Rattle.sbi_abi.specs.declared.call.Call.TheVariants as calls;
 ghost use Rattle.sbi_abi.specs.declared.call.Regs.{Regs};
 ghost use Rattle.sbi_abi.specs.Calls.{call_of};
-ghost use Rattle.board_core.specs.declared.event.Actor.TheVariants.{Hart};
-ghost use Rattle.board_core.specs.declared.event.Event.{Event};
+ghost use Rattle.board_core.specs.History.{Event, by_hart};
 ghost use Rattle.board_core.specs.declared.event.Op.TheVariants.{Ecall};
 ghost use Rattle.board_core.specs.Replies.{call_reply};
 ghost use Rattle.board_core.specs.Stands.{IsSized, StandsFor};
@@ -23,7 +22,7 @@ impl Machine {
         requires most { config.now.harts ≤ 128 }
         ensures answered { (x : ℕ) (past : List Event) → result ≡ call_reply config.now past x (calls.SendIpi mask base) }
         ensures after { (x : ℕ) (past : List Event) (regs : Regs) → calls.SendIpi mask base ≡ call_of regs → StandsFor config.now past self.old →
-            StandsFor config.now (record { actor = Hart x; op = Ecall regs; reply = result } ∷ past) self.new }
+            StandsFor config.now (by_hart x (Ecall regs) result ∷ past) self.new }
     {
         match targets(mask, base, config.harts) {
             Ok(harts) => {

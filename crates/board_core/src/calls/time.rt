@@ -5,8 +5,7 @@ ghost use Rattle.sbi_abi.specs.declared.call.Call.TheVariants as calls;
 ghost use Rattle.sbi_abi.specs.declared.call.Regs.{Regs};
 ghost use Rattle.sbi_abi.specs.Calls.{call_of};
 ghost use Rattle.board_core.specs.declared.config.Config.{Config};
-ghost use Rattle.board_core.specs.declared.event.Actor.TheVariants.{Hart};
-ghost use Rattle.board_core.specs.declared.event.Event.{Event};
+ghost use Rattle.board_core.specs.History.{Event, by_hart};
 ghost use Rattle.board_core.specs.declared.event.Op.TheVariants.{Ecall};
 ghost use Rattle.board_core.specs.Replies.{call_reply};
 ghost use Rattle.board_core.specs.Stands.{StandsFor};
@@ -21,7 +20,7 @@ impl Machine {
         requires { h < length self.old.interrupts.timers.deadlines }
         ensures answered { (c : Config) (past : List Event) → result ≡ call_reply c past h (calls.SetTimer deadline) }
         ensures after { (c : Config) (past : List Event) (regs : Regs) → calls.SetTimer deadline ≡ call_of regs → StandsFor c past self.old →
-            StandsFor c (record { actor = Hart h; op = Ecall regs; reply = result } ∷ past) self.new }
+            StandsFor c (by_hart h (Ecall regs) result ∷ past) self.new }
     {
         self.interrupts.timers.set(h, deadline);
         success(0)

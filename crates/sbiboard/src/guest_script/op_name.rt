@@ -1,8 +1,8 @@
-ghost use Rattle.std.specs.Prelude.{◌≡◌, ◌≤◌, length, slice_index, MatchOption, Some, None};
+ghost use Rattle.std.specs.Prelude.{◌≡◌, ◌≤◌, false, MatchOption, None};
 ghost use Rattle.sbiboard.specs.Grammar.{form_of, last_number, regs_of};
 ghost use Rattle.sbiboard.specs.Reading.{HasForm, op_from, spelling};
 
-use crate::guest_script::numbers::MOST_NUMBERS;
+use crate::guest_script::numbers::{MOST_ARGUMENTS, argument_at, number_at};
 use board_core::Op;
 use sbi_abi::Regs;
 
@@ -11,6 +11,14 @@ use sbi_abi::Regs;
 pub enum OpName {
     /// `ecall`
     Ecall,
+    /// `load`
+    Load,
+    /// `store`
+    Store,
+    /// `fetch`
+    Fetch,
+    /// `satp`
+    Satp,
     /// `sie`
     Sie,
     /// `sstatus`
@@ -19,6 +27,10 @@ pub enum OpName {
     Sip,
     /// `clearssip`
     Clearssip,
+    /// `sfence`
+    Sfence,
+    /// `fencei`
+    Fencei,
     /// `wfi`
     Wfi,
     /// `advance`
@@ -27,12 +39,14 @@ pub enum OpName {
     Tick,
 }
 
-/// What may follow a name: from `least` to `most` numbers, each at most `limit`.
+/// What may follow a name: from `least` to `most` numbers, each at most `limit`, and whether a dash may stand in the
+/// place of each.
 #[derive(Clone, Copy)]
 pub struct Places {
     pub least: usize,
     pub most: usize,
     pub limit: u64,
+    pub may_be_absent: bool,
 }
 
 impl OpName {
@@ -43,10 +57,16 @@ impl OpName {
     {
         match word {
             b"ecall" => Some(OpName::Ecall),
+            b"load" => Some(OpName::Load),
+            b"store" => Some(OpName::Store),
+            b"fetch" => Some(OpName::Fetch),
+            b"satp" => Some(OpName::Satp),
             b"sie" => Some(OpName::Sie),
             b"sstatus" => Some(OpName::Sstatus),
             b"sip" => Some(OpName::Sip),
             b"clearssip" => Some(OpName::Clearssip),
+            b"sfence" => Some(OpName::Sfence),
+            b"fencei" => Some(OpName::Fencei),
             b"wfi" => Some(OpName::Wfi),
             b"advance" => Some(OpName::Advance),
             b"tick" => Some(OpName::Tick),
@@ -58,7 +78,7 @@ impl OpName {
     #[tactic(auto, unfolding(crate::specs::Grammar::form_of))]
     pub fn places(self) -> Places
         ensures form { HasForm self result }
-        ensures fits { result.most ≤ MOST_NUMBERS }
+        ensures fits { result.most ≤ MOST_ARGUMENTS }
     {
         match self {
             OpName::Ecall => any_numbers(2, 8),
@@ -66,61 +86,72 @@ impl OpName {
                 least: 1,
                 most: 1,
                 limit: 1,
+                may_be_absent: false,
             },
+            OpName::Sfence => Places {
+                least: 2,
+                most: 2,
+                limit: u64::MAX,
+                may_be_absent: true,
+            },
+            OpName::Load | OpName::Fetch | OpName::Satp => any_numbers(1, 1),
             OpName::Sie | OpName::Tick => any_numbers(1, 1),
-            OpName::Sip | OpName::Clearssip | OpName::Wfi | OpName::Advance => any_numbers(0, 0),
+            OpName::Store => any_numbers(2, 2),
+            OpName::Sip | OpName::Clearssip | OpName::Fencei => any_numbers(0, 0),
+            OpName::Wfi | OpName::Advance => any_numbers(0, 0),
         }
     }
 
-    /// The operation of this name, with its numbers.
+    /// The operation of this name, with its arguments.
     #[tactic(auto, unfolding(crate::specs::Grammar::form_of))]
-    pub fn op(self, numbers: &[u64]) -> Op
-        ensures { result ≡ op_from (form_of (spelling self)) numbers.now }
+    pub fn op(self, arguments: &[Option<u64>]) -> Op
+        ensures { result ≡ op_from (form_of (spelling self)) arguments.now }
     {
         match self {
-            OpName::Ecall => Op::Ecall(regs(numbers)),
-            OpName::Sie => Op::WriteSie(at(numbers, 0)),
-            OpName::Sstatus => Op::WriteSstatusSie(at(numbers, 0) == 1),
+            OpName::Ecall => Op::Ecall(regs(arguments)),
+            OpName::Load => Op::Load(number_at(arguments, 0)),
+            OpName::Store => Op::Store(number_at(arguments, 0), number_at(arguments, 1)),
+            OpName::Fetch => Op::Fetch(number_at(arguments, 0)),
+            OpName::Satp => Op::WriteSatp(number_at(arguments, 0)),
+            OpName::Sie => Op::WriteSie(number_at(arguments, 0)),
+            OpName::Sstatus => Op::WriteSstatusSie(number_at(arguments, 0) == 1),
             OpName::Sip => Op::ReadSip,
             OpName::Clearssip => Op::ClearSsip,
+            OpName::Sfence => Op::Sfence(argument_at(arguments, 0), argument_at(arguments, 1)),
+            OpName::Fencei => Op::FenceI,
             OpName::Wfi => Op::Wfi,
             OpName::Advance => Op::Advance,
-            OpName::Tick => Op::Tick(at(numbers, 0)),
+            OpName::Tick => Op::Tick(number_at(arguments, 0)),
         }
     }
 }
 
 /// Numbers of any size, from `least` to `most` of them.
-fn any_numbers(least: usize, most: usize) -> Places
-    ensures { result ≡ record { least = least; most = most; limit = last_number } }
+pub fn any_numbers(least: usize, most: usize) -> Places
+    ensures { result ≡ record { least = least; most = most; limit = last_number; may_be_absent = false } }
 {
     Places {
         least,
         most,
         limit: u64::MAX,
+        may_be_absent: false,
     }
 }
 
 /// The registers of a call. An argument that isn't written is 0.
-fn regs(numbers: &[u64]) -> Regs
-    ensures { result ≡ regs_of numbers.now }
+fn regs(arguments: &[Option<u64>]) -> Regs
+    ensures { result ≡ regs_of arguments.now }
 {
     Regs {
-        eid: at(numbers, 0),
-        fid: at(numbers, 1),
+        eid: number_at(arguments, 0),
+        fid: number_at(arguments, 1),
         a: [
-            at(numbers, 2),
-            at(numbers, 3),
-            at(numbers, 4),
-            at(numbers, 5),
-            at(numbers, 6),
-            at(numbers, 7),
+            number_at(arguments, 2),
+            number_at(arguments, 3),
+            number_at(arguments, 4),
+            number_at(arguments, 5),
+            number_at(arguments, 6),
+            number_at(arguments, 7),
         ],
     }
-}
-
-fn at(numbers: &[u64], i: usize) -> u64
-    ensures { result ≡ slice_index numbers.now i }
-{
-    numbers.get(i).copied().unwrap_or(0)
 }

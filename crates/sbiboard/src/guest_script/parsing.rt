@@ -7,7 +7,8 @@ ghost use Rattle.sbiboard.specs.FirstFault.{board_tests, byte_test, first_fault,
 ghost use Rattle.sbiboard.specs.Reading.{Gives, board_in, config_of, located, schedule_from, script_of, step_in, steps_from, tested, with_config, with_front};
 
 use crate::guest_script::fault::{Fault, ScriptFault};
-use crate::guest_script::numbers::numbers_in;
+use crate::guest_script::numbers::{arguments_in, number_at};
+use crate::guest_script::op_name::any_numbers;
 use crate::guest_script::schedule::{Line, Script};
 use crate::guest_script::step::step;
 use crate::guest_script::text::{is_clean, line_limit, next_line};
@@ -89,23 +90,23 @@ fn board_words(text: &[u8]) -> Result<Option<Config>, Fault>
             if first != b"board".as_slice() {
                 return Err(Fault::NoBoardLine);
             }
-            let numbers = numbers_in(rest, 6, 6, u64::MAX)?;
-            Ok(Some(config(&numbers)))
+            let arguments = arguments_in(rest, &any_numbers(6, 6))?;
+            Ok(Some(config(&arguments)))
         }
     }
 }
 
-fn config(numbers: &[u64]) -> Config
-    requires { length numbers.now ≡ 6 }
-    ensures { result ≡ config_of numbers.now }
+#[tactic(auto, unfolding(crate::specs::Reading::config_of))]
+fn config(arguments: &[Option<u64>]) -> Config
+    ensures { result ≡ config_of arguments.now }
 {
     Config {
-        harts: numbers[0],
-        pages: numbers[1],
-        limit: numbers[2],
-        boot_hart: numbers[3],
-        boot_addr: numbers[4],
-        boot_opaque: numbers[5],
+        harts: number_at(arguments, 0),
+        pages: number_at(arguments, 1),
+        limit: number_at(arguments, 2),
+        boot_hart: number_at(arguments, 3),
+        boot_addr: number_at(arguments, 4),
+        boot_opaque: number_at(arguments, 5),
     }
 }
 

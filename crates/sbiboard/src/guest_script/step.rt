@@ -4,7 +4,7 @@ ghost use Rattle.sbiboard.specs.Reading.{actor_in, line_in, op_in, step_in, test
 
 use crate::guest_script::fault::Fault;
 use crate::guest_script::number::number;
-use crate::guest_script::numbers::numbers_in;
+use crate::guest_script::numbers::arguments_in;
 use crate::guest_script::op_name::OpName;
 use crate::guest_script::schedule::Line;
 use crate::guest_script::words::{has_arrow, next_word};
@@ -47,7 +47,7 @@ fn begins_actor_line(first: &[u8]) -> bool
     matches!(first, b"c" | [b'0'..=b'9', ..])
 }
 
-#[tactic(auto, using(crate::proofs::NumbersIn::actor_read, crate::proofs::NumbersIn::actor_unread))]
+#[tactic(auto, using(crate::proofs::ArgumentsIn::actor_read, crate::proofs::ArgumentsIn::actor_unread))]
 fn actor(word: &[u8]) -> Result<Actor, Fault>
     ensures { result ≡ tested (actor_test word.now ∷ []) (actor_in word.now) }
 {
@@ -66,7 +66,6 @@ fn op(text: &[u8]) -> Result<Op, Fault>
 {
     let (word, rest) = next_word(text).ok_or(Fault::WordCount)?;
     let name = OpName::of(word).ok_or(Fault::UnknownWord)?;
-    let places = name.places();
-    let numbers = numbers_in(rest, places.least, places.most, places.limit)?;
-    Ok(name.op(&numbers))
+    let arguments = arguments_in(rest, &name.places())?;
+    Ok(name.op(&arguments))
 }

@@ -1,8 +1,8 @@
 ghost use Rattle.std.specs.Prelude.{◌≡◌, ◌+◌, ◌^◌, ◌<◌, ◌≤◌, ◌∷◌, ◌++◌, length, map, Ok};
 ghost use Rattle.std.specs.List.{join_with_byte};
-ghost use Rattle.sbiboard.specs.LineText.{arguments_room, arrow_room, call_room, decimal_room, reply_room, step_room, with_words};
+ghost use Rattle.sbiboard.specs.LineText.{arguments_room, arrow_room, call_room, decimal_room, hex_room, reply_room, step_room, with_words};
 ghost use Rattle.sbiboard.specs.Sinks.{Puts};
-ghost use Rattle.sbiboard.specs.Words.{bit_of, hex, actor_word, board_words, event_words, line_of, op_words, reply_words};
+ghost use Rattle.sbiboard.specs.Words.{bit_of, hex, hex_or_dash, actor_word, board_words, event_words, line_of, op_words, reply_words};
 
 use super::line_text::LineText;
 use super::sink::{Failed, Sink, write_all};
@@ -49,7 +49,7 @@ pub fn print_event<W: Sink>(event: &Event, sink: &mut W) -> Result<(), Failed>
     ensures { Puts W.written W.failures sink.old sink.new result
         (line_of (event_words event.now.actor event.now.op (Ok event.now.reply))) }
 {
-    print_line(event.actor, event.op, Ok(event.reply), sink)
+    print_line(event.actor(), event.op(), Ok(event.reply()), sink)
 }
 
 /// Prints the words of a reply or a refusal alone, with no line feed.
@@ -86,22 +86,52 @@ fn op_onto(line: &mut LineText, op: Op)
             line.hex(regs.fid);
             numbers_onto(line, &regs.a);
         }
-        Op::WriteSie(value) => {
-            line.word(b"sie");
+        Op::Load(va) => number_onto(line, b"load", va),
+        Op::Store(va, value) => {
+            number_onto(line, b"store", va);
             line.hex(value);
         }
+        Op::Fetch(va) => number_onto(line, b"fetch", va),
+        Op::WriteSatp(value) => number_onto(line, b"satp", value),
+        Op::WriteSie(value) => number_onto(line, b"sie", value),
         Op::WriteSstatusSie(value) => {
             line.word(b"sstatus");
             line.decimal(bit(value));
         }
         Op::ReadSip => line.word(b"sip"),
         Op::ClearSsip => line.word(b"clearssip"),
+        Op::Sfence(va, asid) => {
+            line.word(b"sfence");
+            hex_or_dash_onto(line, va);
+            hex_or_dash_onto(line, asid);
+        }
+        Op::FenceI => line.word(b"fencei"),
         Op::Wfi => line.word(b"wfi"),
         Op::Advance => line.word(b"advance"),
-        Op::Tick(n) => {
-            line.word(b"tick");
-            line.hex(n);
-        }
+        Op::Tick(n) => number_onto(line, b"tick", n),
+    }
+}
+
+/// Appends an operation's name and its number.
+fn number_onto(line: &mut LineText, name: &[u8], n: u64)
+    requires name { length name.now ≤ 8 }
+    requires room { length line.old ≤ decimal_room }
+    ensures text { line.new ≡ (line.old ++ 32 ∷ name.now) ++ 32 ∷ hex n }
+    ensures len { length line.new ≤ length line.old + 9 + hex_room }
+{
+    line.word(name);
+    line.hex(n);
+}
+
+/// Appends a number, or a dash where it is absent.
+fn hex_or_dash_onto(line: &mut LineText, n: Option<u64>)
+    requires { length line.old ≤ call_room }
+    ensures text { line.new ≡ line.old ++ 32 ∷ hex_or_dash n }
+    ensures len { length line.new ≤ length line.old + hex_room }
+{
+    match n {
+        Some(n) => line.hex(n),
+        None => line.word(b"-"),
     }
 }
 
@@ -128,6 +158,10 @@ fn reply_onto(line: &mut LineText, answer: Result<Reply, Refusal>)
         Ok(Reply::Value(value)) => {
             line.word(b"value");
             line.hex(value);
+        }
+        Ok(Reply::Fault(cause)) => {
+            line.word(b"fault");
+            line.decimal(cause.number());
         }
         Ok(Reply::Moved(state)) => {
             line.word(b"moved");

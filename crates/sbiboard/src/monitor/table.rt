@@ -3,13 +3,13 @@ ghost use Rattle.std.specs.List.{flat_map};
 ghost use Rattle.board_core.specs.Course.{harts_of};
 ghost use Rattle.sbiboard.specs.LineText.{hex_column_room, hex_column_work, line_room, with_words};
 ghost use Rattle.sbiboard.specs.Sinks.{Puts};
-ghost use Rattle.sbiboard.specs.Table.{deadline_cell, details, entry_cells, entry_line, hart_cells, head_cells, row, state_name, table, time_cells, totals_cells};
+ghost use Rattle.sbiboard.specs.Table.{deadline_cell, details, entries, entry_cells, entry_line, hart_cells, head_cells, letter, rights, row, state_name, table, time_cells, tlb_cells, tlb_line, totals_cells, word_cells, word_line, words};
 ghost use Rattle.sbiboard.specs.Words.{line_of};
 
 use super::line_text::LineText;
 use super::lines::bit;
 use super::sink::{Failed, Sink};
-use board_core::{Board, HartState, Kept, Totals};
+use board_core::{Board, Entry, FetchWord, HartState, Kept, Totals};
 
 /// Prints the board's table, of lines that are comments in a script.
 pub fn print<W: Sink>(board: &Board, sink: &mut W) -> Result<(), Failed>
@@ -41,7 +41,44 @@ fn print_details<W: Sink>(board: &Board, sink: &mut W) -> Result<(), Failed>
         (flat_map (details board.now.config board.now.past) (harts_of board.now.config)) }
 {
     for h in 0..board.config().harts {
-        print_entry(h, board.kept(h), sink)?;
+        print_hart(board, h, sink)?;
+    }
+    Ok(())
+}
+
+/// Prints the lines that follow the rows for hart `h`.
+fn print_hart<W: Sink>(board: &Board, h: u64, sink: &mut W) -> Result<(), Failed>
+    requires failures { W.failures sink.old < 2 ^ 63 }
+    requires is_hart { h < board.now.config.harts }
+    ensures { Puts W.written W.failures sink.old sink.new result (details board.now.config board.now.past h) }
+{
+    print_entry(h, board.kept(h), sink)?;
+    print_tlb(board, h, sink)?;
+    print_fetched(board, h, sink)
+}
+
+fn print_tlb<W: Sink>(board: &Board, h: u64, sink: &mut W) -> Result<(), Failed>
+    requires failures { W.failures sink.old < 2 ^ 63 }
+    requires is_hart { h < board.now.config.harts }
+    ensures { Puts W.written W.failures sink.old sink.new result
+        (flat_map (tlb_line h) (entries board.now.past h)) }
+{
+    let fills = board.tlb(h);
+    for fill in fills {
+        tlb_line(h, &fill.item).put(sink)?;
+    }
+    Ok(())
+}
+
+fn print_fetched<W: Sink>(board: &Board, h: u64, sink: &mut W) -> Result<(), Failed>
+    requires failures { W.failures sink.old < 2 ^ 63 }
+    requires is_hart { h < board.now.config.harts }
+    ensures { Puts W.written W.failures sink.old sink.new result
+        (flat_map (word_line h) (words board.now.config board.now.past h)) }
+{
+    let fills = board.fetched(h);
+    for fill in fills {
+        word_line(h, &fill.item).put(sink)?;
     }
     Ok(())
 }
@@ -138,11 +175,25 @@ fn hart_line(board: &Board, h: u64) -> LineText
     line.right_decimal(2, bit(board.stip(h)));
     line.hex_column(2, board.sie(h).bits());
     line.right_decimal(2, bit(board.sstatus_sie(h)));
-    line.hex_column(16, 0);
+    line.hex_column(16, board.satp(h));
     deadline_onto(&mut line, board.deadline(h));
-    line.right_decimal(3, 0);
-    line.right_decimal(2, 0);
+    line.right_decimal(3, entry_count(board, h));
+    line.right_decimal(2, word_count(board, h));
     line
+}
+
+fn entry_count(board: &Board, h: u64) -> u64
+    requires { h < board.now.config.harts }
+    ensures { result ≡ length (entries board.now.past h) }
+{
+    board.tlb(h).len() as u64
+}
+
+fn word_count(board: &Board, h: u64) -> u64
+    requires { h < board.now.config.harts }
+    ensures { result ≡ length (words board.now.config board.now.past h) }
+{
+    board.fetched(h).len() as u64
 }
 
 fn deadline_onto(line: &mut LineText, deadline: Option<u64>)
@@ -168,6 +219,61 @@ fn entry_line(h: u64, start: &Kept) -> LineText
     line.right_decimal(3, h);
     line.hex_column(16, start.addr);
     line.hex_column(16, start.opaque);
+    line
+}
+
+#[tactic(auto, unfolding(crate::specs::Table::tlb_cells))]
+fn tlb_line(h: u64, entry: &Entry) -> LineText
+    ensures text { result ≡ with_words [] (tlb_cells h entry.now) }
+    ensures some { 0 < length result }
+    ensures room { length result < line_room }
+{
+    let leaf = &entry.leaf;
+    let mut line = LineText::new();
+    line.word(b"#");
+    line.word(b"tlb");
+    line.right_decimal(3, h);
+    line.hex_column(16, leaf.page);
+    line.decimal(leaf.level.number());
+    line.hex_column(4, u64::from(entry.asid));
+    line.word(&[letter(leaf.global, b'g')]);
+    line.hex_column(16, leaf.pa);
+    line.word(&rights(entry));
+    line
+}
+
+/// The rights of an entry's page, a letter each.
+fn rights(entry: &Entry) -> [u8; 4]
+    ensures { result ≡ rights entry.now }
+{
+    let leaf = &entry.leaf;
+    [
+        letter(leaf.r, b'r'),
+        letter(leaf.w, b'w'),
+        letter(leaf.x, b'x'),
+        letter(leaf.d, b'd'),
+    ]
+}
+
+/// A letter, or a dash where what it stands for is absent.
+fn letter(present: bool, byte: u8) -> u8
+    ensures { result ≡ letter present byte }
+{
+    if present { byte } else { b'-' }
+}
+
+#[tactic(auto, unfolding(crate::specs::Table::word_cells))]
+fn word_line(h: u64, fetched: &FetchWord) -> LineText
+    ensures text { result ≡ with_words [] (word_cells h fetched.now) }
+    ensures some { 0 < length result }
+    ensures room { length result < line_room }
+{
+    let mut line = LineText::new();
+    line.word(b"#");
+    line.word(b"ic");
+    line.right_decimal(3, h);
+    line.hex_column(16, fetched.pa);
+    line.hex_column(16, fetched.word);
     line
 }
 

@@ -40,5 +40,6 @@ returns c = record {
       deadlines = splat_is_map (harts_of c.args.config.now) c.args.config.now.harts None (length-range_with_len 0 c.args.config.now.harts);
     };
   };
+  memory = c.in_ok-memory.ensures;
   counts = record { starts = refl; entries = refl };
 }

@@ -1,8 +1,8 @@
-use Rattle.std.proofs.Common.{◌≡◌, ◌+◌, ap, refl, sym, ◌∙◌, arith, reverse, false, true}
+use Rattle.std.proofs.Common.{◌≡◌, ◌+◌, ◌++◌, ◌∷◌, [], ap, refl, sym, ◌∙◌, arith, reverse, false, true}
 use Rattle.std.specs.Prelude.{is_some, nat_lt, not}
 use Rattle.interrupts.specs.Timing.{last_time, ticked}
 use Rattle.board_core.specs.declared.event.Actor.TheVariants.{Clock}
-use Rattle.board_core.specs.declared.event.Event.{Event}
+use Rattle.board_core.specs.History.{Event, by_clock}
 use Rattle.board_core.specs.declared.event.Op.TheVariants.{Tick}
 use Rattle.board_core.specs.declared.event.Reply.TheVariants.{Done}
 use Rattle.board_core.specs.Course.{Course}
@@ -19,15 +19,15 @@ invariant_of-self-2 c =
     let m = c.self.inside.machine in
     let n = c.in-Tick.n in
     let stands = c.self.invariant.1 in
-    let tick : Event = record { actor = Clock; op = Tick n; reply = Done } in
+    let tick = by_clock (Tick n) Done in
     let d = deed config past tick in
     let timers = m.interrupts.timers in
     let room : is_full config past ≡ false = ap (λ (b : Course). is_full b.config b.past) c.self.view_is ∙ sym c.is_full.ensures ∙ c.if-is_full.false in
     let taken : is_some (ticked timers n) ≡ true = sym c.tick.ensures.answer ∙ c.is_err.ensures.negation ∙ ap not c.if-is_err.false in
     let on = ticked_on timers n taken in
     let answered = clock_answered config past n room (ap (λ t. nat_lt last_time (t + n)) (sym stands.interrupts.timers.time) ∙ on.1) in
-    rw (past-more c.self.inside.events.items _ tick c.push_reserved.ensures.items, c.tick.ensures.after) (
-      kept-more config past tick answered room c.self.invariant.0,
+    rw (past-more c.self.inside.events.items _ tick (c.push_reserved.ensures.items ∙ ap (λ (event : Event). c.self.inside.events.items ++ event ∷ []) c.new.ensures), c.tick.ensures.after) (
+      kept-more config past tick answered refl room c.self.invariant.0,
       stands-interrupts config past tick d refl m _ refl stands (interrupts-timers config past tick d refl m.interrupts _ refl stands.interrupts
           (rw on.0 (timers-ticked config past tick d refl timers n refl refl stands.interrupts.timers))),
       let capacity = c.push_reserved.ensures.capacity in

@@ -7,9 +7,10 @@ use Rattle.board_core.specs.declared.event.Op.TheVariants.{Advance}
 use Rattle.board_core.specs.declared.event.Reply.TheVariants.{Entry, Moved, Ret}
 use Rattle.board_core.specs.Csrs.{none_enabled}
 use Rattle.board_core.specs.Replies.{success}
-use Rattle.board_core.proofs.Events.{by_hart, deed, deed_of_entry, deed_of_resume, does_entry, does_resume}
+use Rattle.board_core.specs.History.{by_hart}
+use Rattle.board_core.proofs.Events.{deed, deed_of_entry, deed_of_resume, does_entry, does_resume}
 use Rattle.board_core.proofs.Rows.{accepted_goes_on, told}
-use Rattle.board_core.proofs.Standing.{counts-entered, harts-own, interrupts-csrs, ipis-cleared, ssie-quiet, ssie-written, sstatus_sie-written, stands-harts, stands-harts-interrupts, stie-quiet, stie-written, timers-set}
+use Rattle.board_core.proofs.Standing.{counts-entered, counts-still, harts-own, interrupts-csrs, ipis-cleared, memory-satps, satps-written, ssie-quiet, ssie-written, sstatus_sie-written, stands-harts, stie-quiet, stie-written, timers-set}
 use Rattle.board_core.proofs.machine.Machine.advance.Goals as goal
 
 pub unreachable-requires : goal.unreachable-requires
@@ -60,6 +61,8 @@ returns-in-Some-Entered-clause-after c = λ config past stands.
         ipis = ipis-cleared config past event d does h refl m.interrupts.ipis refl (λ i. refl) stands.interrupts.ipis;
         timers = timers-set config past event d does h refl m.interrupts.timers None refl refl stands.interrupts.timers;
       };
+      memory = memory-satps config past event d does m.memory _ refl stands.memory c.make_bare.ensures.ram c.make_bare.ensures.caches
+          (c.make_bare.ensures.satps ∙ satps-written config past event d does m.memory.satps.items h 0 refl refl stands.memory.satps);
       counts = counts-entered config past event d does m.counts _ refl stands.counts;
     }
 
@@ -74,13 +77,17 @@ returns-in-Some-Resumed-clause-after c = λ config past stands.
     let d = deed_of_resume config past h in
     let does = does_resume config past h resume.addr resume.opaque t.enters in
     let csrs = stands.interrupts.csrs in
-    stands-harts-interrupts config past event d does m _ _ refl stands
-    (record { each = c.advance.ensures.after ∙ t.after ∙ (harts-own config past event d does m.hsm h Started refl refl refl stands.harts).each })
-    (interrupts-csrs config past event d does m.interrupts _ refl stands.interrupts record {
-      sstatus_sie = c.set.ensures ∙ sstatus_sie-written config past event d does h refl m.interrupts.csrs.sstatus_sie false refl csrs.sstatus_sie;
-      ssie = ssie-quiet config past event d does m.interrupts.csrs.ssie refl csrs.ssie;
-      stie = stie-quiet config past event d does m.interrupts.csrs.stie refl csrs.stie;
-    })
+    record {
+      harts = record { each = c.advance.ensures.after ∙ t.after ∙ (harts-own config past event d does m.hsm h Started refl refl refl stands.harts).each };
+      interrupts = interrupts-csrs config past event d does m.interrupts _ refl stands.interrupts record {
+        sstatus_sie = c.set.ensures ∙ sstatus_sie-written config past event d does h refl m.interrupts.csrs.sstatus_sie false refl csrs.sstatus_sie;
+        ssie = ssie-quiet config past event d does m.interrupts.csrs.ssie refl csrs.ssie;
+        stie = stie-quiet config past event d does m.interrupts.csrs.stie refl csrs.stie;
+      };
+      memory = memory-satps config past event d does m.memory _ refl stands.memory c.make_bare-in-Some-Resumed.ensures.ram c.make_bare-in-Some-Resumed.ensures.caches
+          (c.make_bare-in-Some-Resumed.ensures.satps ∙ satps-written config past event d does m.memory.satps.items h 0 refl refl stands.memory.satps);
+      counts = counts-still config past event d does m.counts refl stands.counts;
+    }
 
 pub returns-in-Some-Returned-clause-after : goal.returns-in-Some-Returned-clause-after
 returns-in-Some-Returned-clause-after c = λ config past stands.

@@ -1,19 +1,44 @@
 use Rattle.std.proofs.Common.{ap, refl, sym, ◌∙◌}
-use Rattle.sbi_abi.specs.declared.call.Call.TheVariants.{ProbeExtension}
-use Rattle.board_core.specs.declared.event.Op.TheVariants.{Ecall}
+use Rattle.sbi_abi.specs.declared.call.Call.TheVariants as calls
 use Rattle.board_core.specs.Replies.{call_reply}
-use Rattle.board_core.proofs.Events.{by_hart, deed_of_call, does_call}
-use Rattle.board_core.proofs.Standing.{stands-quiet}
+use Rattle.board_core.proofs.Standing.{call-quiet}
 use Rattle.board_core.proofs.machine.Machine.call.Goals as goal
+
+pub returns-in-GetSpecVersion-clause-after : goal.returns-in-GetSpecVersion-clause-after
+returns-in-GetSpecVersion-clause-after c = λ past regs is stands.
+    call-quiet c.args.config.now past c.args.h regs calls.GetSpecVersion _ c.args.self.now (sym c.in-GetSpecVersion.is ∙ is) refl stands
+
+pub returns-in-GetImplId-clause-after : goal.returns-in-GetImplId-clause-after
+returns-in-GetImplId-clause-after c = λ past regs is stands.
+    call-quiet c.args.config.now past c.args.h regs calls.GetImplId _ c.args.self.now (sym c.in-GetImplId.is ∙ is) refl stands
+
+pub returns-in-GetImplVersion-clause-after : goal.returns-in-GetImplVersion-clause-after
+returns-in-GetImplVersion-clause-after c = λ past regs is stands.
+    call-quiet c.args.config.now past c.args.h regs calls.GetImplVersion _ c.args.self.now (sym c.in-GetImplVersion.is ∙ is) refl stands
+
+pub returns-in-GetMvendorid-clause-after : goal.returns-in-GetMvendorid-clause-after
+returns-in-GetMvendorid-clause-after c = λ past regs is stands.
+    call-quiet c.args.config.now past c.args.h regs calls.GetMvendorid _ c.args.self.now (sym c.in-GetMvendorid.is ∙ is) refl stands
+
+pub returns-in-GetMarchid-clause-after : goal.returns-in-GetMarchid-clause-after
+returns-in-GetMarchid-clause-after c = λ past regs is stands.
+    call-quiet c.args.config.now past c.args.h regs calls.GetMarchid _ c.args.self.now (sym c.in-GetMarchid.is ∙ is) refl stands
+
+pub returns-in-GetMimpid-clause-after : goal.returns-in-GetMimpid-clause-after
+returns-in-GetMimpid-clause-after c = λ past regs is stands.
+    call-quiet c.args.config.now past c.args.h regs calls.GetMimpid _ c.args.self.now (sym c.in-GetMimpid.is ∙ is) refl stands
 
 pub returns-in-ProbeExtension-clause-after : goal.returns-in-ProbeExtension-clause-after
 returns-in-ProbeExtension-clause-after c = λ past regs is stands.
-    let config = c.args.config.now in
-    let h = c.args.h in
-    let call = ProbeExtension c.in-ProbeExtension.eid in
-    let reply = c.success-in-ProbeExtension.result in
-    stands-quiet config past (by_hart h (Ecall regs) reply) (deed_of_call config past h call reply)
-    (does_call config past h regs call reply (sym c.in-ProbeExtension.is ∙ is)) c.args.self.now refl stands
+    call-quiet c.args.config.now past c.args.h regs (calls.ProbeExtension c.in-ProbeExtension.eid) _ c.args.self.now (sym c.in-ProbeExtension.is ∙ is) refl stands
+
+pub returns-in-HartGetStatus-clause-after : goal.returns-in-HartGetStatus-clause-after
+returns-in-HartGetStatus-clause-after c = λ past regs is stands.
+    call-quiet c.args.config.now past c.args.h regs (calls.HartGetStatus c.in-HartGetStatus.hart) _ c.args.self.now (sym c.in-HartGetStatus.is ∙ is) refl stands
+
+pub returns-in-Unsupported-clause-after : goal.returns-in-Unsupported-clause-after
+returns-in-Unsupported-clause-after c = λ past regs is stands.
+    call-quiet c.args.config.now past c.args.h regs calls.Unsupported _ c.args.self.now (sym c.in-Unsupported.is ∙ is) refl stands
 
 pub returns-in-SetTimer-clause-answered : goal.returns-in-SetTimer-clause-answered
 returns-in-SetTimer-clause-answered c = λ past stands.

@@ -4,15 +4,25 @@ use Rattle.hsm.specs.declared.hart.Kept.{Kept}
 use Rattle.hsm.specs.Harts.{Hart}
 use Rattle.hsm.specs.States.{is_stopped}
 use Rattle.hsm.specs.Transitions.{changed, hart_at, started_from}
-use Rattle.sbi_abi.specs.declared.answer.SbiError.TheVariants.{AlreadyAvailable}
+use Rattle.sbi_abi.specs.declared.answer.SbiError.TheVariants.{AlreadyAvailable, InvalidAddress, InvalidParam}
 use Rattle.sbi_abi.specs.declared.call.Call.TheVariants.{HartStart}
 use Rattle.board_core.specs.declared.event.Op.TheVariants.{Ecall}
 use Rattle.board_core.specs.declared.event.Reply.TheVariants.{Ret}
 use Rattle.board_core.specs.Replies.{failure, success}
-use Rattle.board_core.proofs.Events.{by_hart, deed_of_call, does_call}
+use Rattle.board_core.specs.History.{by_hart}
+use Rattle.board_core.proofs.Events.{deed_of_call, does_call}
 use Rattle.board_core.proofs.Rows.{started_stopped, unstarted_not_stopped, unstarted_same}
-use Rattle.board_core.proofs.Standing.{counts-started, hart_at-stand, harts-started, stands-harts-counts, stands-quiet}
+use Rattle.board_core.proofs.Standing.{call-quiet, counts-started, hart_at-stand, harts-started, stands-harts-counts, stands-quiet}
 use Rattle.board_core.proofs.machine.Machine.hart_start.Goals as goal
+
+pub returns-then-t-config-clause-after : goal.returns-then-t-config-clause-after
+returns-then-t-config-clause-after c = λ x past regs is stands.
+    rw c.failure.ensures (call-quiet c.args.config.now past x regs (HartStart c.args.t c.args.addr c.args.opaque) (Ret (failure InvalidParam)) c.args.self.now is refl stands)
+
+pub returns-then-not-is_start_address-clause-after : goal.returns-then-not-is_start_address-clause-after
+returns-then-not-is_start_address-clause-after c = λ x past regs is stands.
+    rw c.failure-then-not-is_start_address.ensures
+    (call-quiet c.args.config.now past x regs (HartStart c.args.t c.args.addr c.args.opaque) (Ret (failure InvalidAddress)) c.args.self.now is refl stands)
 
 pub returns-in-Ok-clause-answered : goal.returns-in-Ok-clause-answered
 returns-in-Ok-clause-answered c = λ x past stands.

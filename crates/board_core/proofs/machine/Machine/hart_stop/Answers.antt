@@ -1,4 +1,4 @@
-use Rattle.std.proofs.Common.{sym, ◌∙◌, refl, arith, true, false, ◌≡◌}
+use Rattle.std.proofs.Common.{◌<◌, sym, ◌∙◌, refl, arith, true, false, ◌≡◌}
 use Rattle.std.specs.Prelude.{None}
 use Rattle.sbi_abi.specs.declared.answer.SbiError.TheVariants.{Failed}
 use Rattle.sbi_abi.specs.declared.call.Call.TheVariants.{HartStop}
@@ -7,8 +7,12 @@ use Rattle.board_core.specs.declared.event.Op.TheVariants.{Ecall}
 use Rattle.board_core.specs.declared.event.Reply.TheVariants.{Ret, Gone}
 use Rattle.board_core.specs.Csrs.{sstatus_sie}
 use Rattle.board_core.specs.Replies.{failure}
-use Rattle.board_core.proofs.Events.{by_hart, deed_of_call, does_call}
-use Rattle.board_core.proofs.Standing.{bit-read, harts-own, interrupts-timers, stands-harts-interrupts, stands-quiet, timers-set}
+use Rattle.board_core.specs.History.{by_hart}
+use Rattle.tlb_model.specs.Acts.{Clear}
+use Rattle.board_core.proofs.Accessing.{own_act}
+use Rattle.board_core.proofs.Tables.{eqb-same}
+use Rattle.board_core.proofs.Events.{deed_of_call, does_call}
+use Rattle.board_core.proofs.Standing.{bit-read, caches-emptied, caches-read, harts-own, interrupts-timers, length-harts, memory-caches, stands-but-counts, stands-quiet, timers-set}
 use Rattle.board_core.proofs.machine.Machine.hart_stop.Goals as goal
 
 pub returns-then-contains-clause-answered : goal.returns-then-contains-clause-answered
@@ -39,8 +43,13 @@ returns-clause-after c = λ config past regs is stands.
     let event = by_hart h (Ecall regs) Gone in
     let d = deed_of_call config past h HartStop Gone in
     let does = does_call config past h regs HartStop Gone is in
+    let inside : h < config.harts = omega (arith, c.requires.in_range, length-harts config past m.hsm stands.harts) in
     rw c.forget.ensures
-    (stands-harts-interrupts config past event d does m _ _ refl stands
+    (stands-but-counts config past event d does m _ _ _ refl stands
     (record { each = c.stop.ensures ∙ (harts-own config past event d does m.hsm h StopPending refl refl refl stands.harts).each })
     (interrupts-timers config past event d does m.interrupts _ refl stands.interrupts
-    (timers-set config past event d does h refl m.interrupts.timers None refl refl stands.interrupts.timers)))
+    (timers-set config past event d does h refl m.interrupts.timers None refl refl stands.interrupts.timers))
+    (memory-caches config past event d does m.memory _ refl refl stands.memory c.empty_caches.ensures.ram c.empty_caches.ensures.satps
+    (c.empty_caches.ensures.caches
+    ∙ caches-emptied config past event d does m.memory h refl (caches-read config past m.memory h inside stands.memory)
+    (own_act _ (eqb-same h) Clear) (own_act _ (eqb-same h) Clear) stands.memory.caches)))

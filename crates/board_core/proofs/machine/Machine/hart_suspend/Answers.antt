@@ -1,11 +1,14 @@
 use Rattle.std.proofs.Common.{◌∙◌, refl}
 use Rattle.std.specs.Prelude.{Some, None}
+use Rattle.sbi_abi.specs.declared.answer.SbiError.TheVariants.{InvalidAddress}
 use Rattle.sbi_abi.specs.declared.call.Call.TheVariants.{HartSuspend}
+use Rattle.board_core.specs.Replies.{failure}
 use Rattle.hsm.specs.declared.hart.HartState.TheVariants.{SuspendPending}
 use Rattle.board_core.specs.declared.event.Op.TheVariants.{Ecall}
-use Rattle.board_core.specs.declared.event.Reply.TheVariants.{Gone, Waiting}
-use Rattle.board_core.proofs.Events.{by_hart, deed_of_call, does_call}
-use Rattle.board_core.proofs.Standing.{harts-own, stands-harts}
+use Rattle.board_core.specs.declared.event.Reply.TheVariants.{Gone, Ret, Waiting}
+use Rattle.board_core.specs.History.{by_hart}
+use Rattle.board_core.proofs.Events.{deed_of_call, does_call}
+use Rattle.board_core.proofs.Standing.{call-quiet, harts-own, stands-harts}
 use Rattle.board_core.proofs.machine.Machine.hart_suspend.Goals as goal
 
 pub returns-in-Ok-Retentive-clause-after : goal.returns-in-Ok-Retentive-clause-after
@@ -31,3 +34,13 @@ returns-else-not-is_start_address-clause-after c = λ past regs is stands.
     let does = does_call config past h regs call Gone is in
     stands-harts config past event d does m _ refl stands
     (record { each = c.suspend-in-Ok-NonRetentive.ensures ∙ (harts-own config past event d does m.hsm h SuspendPending refl refl refl stands.harts).each })
+
+pub returns-then-not-is_start_address-clause-after : goal.returns-then-not-is_start_address-clause-after
+returns-then-not-is_start_address-clause-after c = λ past regs is stands.
+    rw c.failure-then-not-is_start_address.ensures
+    (call-quiet c.args.config.now past c.args.h regs (HartSuspend c.args.kind c.args.addr c.args.opaque) (Ret (failure InvalidAddress)) c.args.self.now is refl stands)
+
+pub returns-in-Err-clause-after : goal.returns-in-Err-clause-after
+returns-in-Err-clause-after c = λ past regs is stands.
+    rw c.failure.ensures
+    (call-quiet c.args.config.now past c.args.h regs (HartSuspend c.args.kind c.args.addr c.args.opaque) (Ret (failure c.in-Err.error)) c.args.self.now is refl stands)

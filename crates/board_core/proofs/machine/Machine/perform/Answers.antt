@@ -1,13 +1,66 @@
 use Rattle.std.proofs.Common.{ap, refl, ◌∙◌, arith}
-use Rattle.board_core.specs.declared.event.Op.TheVariants.{ClearSsip, ReadSip, Wfi, WriteSie, WriteSstatusSie}
+use Rattle.std.specs.Prelude.{slice_set}
+use Rattle.tlb_model.specs.declared.fence.Flush.TheVariants.{Words, Entries}
+use Rattle.tlb_model.specs.Acts.{Drop}
+use Rattle.tlb_model.specs.Contents.{fenced}
+use Rattle.tlb_model.specs.Entries.{covers_entry}
+use Rattle.tlb_model.specs.Fences.{fence_of_address}
+use Rattle.tlb_model.specs.Words.{covers_word}
+use Rattle.board_core.specs.Stands.{caches_at}
+use Rattle.board_core.proofs.Accessing.{own_act}
+use Rattle.board_core.proofs.Tables.{eqb-same}
+use Rattle.sv39.specs.Satp.{satp_written}
+use Rattle.board_core.specs.declared.event.Op.TheVariants.{ClearSsip, FenceI, ReadSip, Sfence, Wfi, WriteSatp, WriteSie, WriteSstatusSie}
 use Rattle.board_core.specs.declared.event.Reply.TheVariants.{Done, Value}
 use Rattle.board_core.specs.Csrs.{sie_of}
-use Rattle.board_core.proofs.Events.{by_hart, deed}
-use Rattle.board_core.proofs.Standing.{interrupts-csrs, interrupts-ipis, ipis-cleared, sip-read, ssie-quiet, ssie-written, sstatus_sie-quiet, sstatus_sie-written, stands-interrupts, stands-quiet, stie-quiet, stie-written}
+use Rattle.board_core.specs.History.{by_hart}
+use Rattle.board_core.proofs.Events.{deed}
+use Rattle.board_core.proofs.Standing.{caches-fenced, caches-read, interrupts-csrs, interrupts-ipis, ipis-cleared, memory-caches, memory-satps, satp-read, satps-put, sip-read, ssie-quiet, ssie-written, sstatus_sie-quiet, sstatus_sie-written, stands-interrupts, stands-memory, stands-quiet, stie-quiet, stie-written}
 use Rattle.board_core.proofs.machine.Machine.perform.Goals as goal
 
 pub returns-in-Ecall-clause-after : goal.returns-in-Ecall-clause-after
 returns-in-Ecall-clause-after c = λ past stands. rw c.in-Ecall.is (c.call.ensures.after past c.in-Ecall.regs c.decode.ensures stands)
+
+pub returns-in-WriteSatp-clause-after : goal.returns-in-WriteSatp-clause-after
+returns-in-WriteSatp-clause-after c = λ past stands.
+    let config = c.args.config.now in
+    let m = c.args.self.now in
+    let h = c.args.h in
+    let event = by_hart h (WriteSatp c.in-WriteSatp.value) Done in
+    let does = deed config past event in
+    rw c.in-WriteSatp.is
+    (stands-memory config past event does refl m _ refl stands (memory-satps config past event does refl m.memory _ refl stands.memory c.write_satp.ensures.ram c.write_satp.ensures.caches
+    (c.write_satp.ensures.satps
+    ∙ ap (λ satp. slice_set m.memory.satps.items h (satp_written satp c.in-WriteSatp.value)) (satp-read config past m.memory h 0 c.requires.in_range stands.memory)
+    ∙ satps-put config past event does refl m.memory.satps.items h c.in-WriteSatp.value refl refl stands.memory.satps)))
+
+pub returns-in-Sfence-clause-after : goal.returns-in-Sfence-clause-after
+returns-in-Sfence-clause-after c = λ past stands.
+    let config = c.args.config.now in
+    let m = c.args.self.now in
+    let h = c.args.h in
+    let flush = Entries (fence_of_address c.in-Sfence.va c.in-Sfence.asid) in
+    let event = by_hart h (Sfence c.in-Sfence.va c.in-Sfence.asid) Done in
+    let d = deed config past event in
+    rw (c.in-Sfence.is)
+    (stands-memory config past event d refl m _ refl stands (memory-caches config past event d refl m.memory _ refl refl stands.memory c.fence.ensures.ram c.fence.ensures.satps
+    (c.fence.ensures.caches
+    ∙ ap (λ f. slice_set m.memory.caches.items h (record { tlb = fenced covers_entry (caches_at m.memory h).tlb (Entries f); words = fenced covers_word (caches_at m.memory h).words (Entries f) })) c.of_address.ensures
+    ∙ caches-fenced config past event d refl m.memory h flush refl (caches-read config past m.memory h c.requires.in_range stands.memory)
+    (own_act _ (eqb-same h) (Drop flush)) (own_act _ (eqb-same h) (Drop flush)) stands.memory.caches)))
+
+pub returns-in-FenceI-clause-after : goal.returns-in-FenceI-clause-after
+returns-in-FenceI-clause-after c = λ past stands.
+    let config = c.args.config.now in
+    let m = c.args.self.now in
+    let h = c.args.h in
+    let event = by_hart h FenceI Done in
+    let d = deed config past event in
+    rw (c.in-FenceI.is)
+    (stands-memory config past event d refl m _ refl stands (memory-caches config past event d refl m.memory _ refl refl stands.memory c.fence-in-FenceI.ensures.ram c.fence-in-FenceI.ensures.satps
+    (c.fence-in-FenceI.ensures.caches
+    ∙ caches-fenced config past event d refl m.memory h Words refl (caches-read config past m.memory h c.requires.in_range stands.memory)
+    (own_act _ (eqb-same h) (Drop Words)) (own_act _ (eqb-same h) (Drop Words)) stands.memory.caches)))
 
 pub returns-in-WriteSie-clause-after : goal.returns-in-WriteSie-clause-after
 returns-in-WriteSie-clause-after c = λ past stands.

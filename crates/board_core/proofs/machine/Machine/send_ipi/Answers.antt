@@ -1,5 +1,6 @@
 use Rattle.std.proofs.Common.{Bool, true, false, ◌≡◌, ℕ, ◌<◌, refl, sym, ap, ◌∙◌}
 use Rattle.std.specs.Prelude.{◌&&◌}
+use Rattle.sbi_abi.specs.declared.answer.SbiError.TheVariants.{InvalidParam}
 use Rattle.sbi_abi.specs.declared.call.Call.TheVariants.{SendIpi}
 use Rattle.hart_mask.specs.HartList.{targets_of}
 use Rattle.hart_mask.specs.Ids.{has}
@@ -11,9 +12,10 @@ use Rattle.board_core.specs.declared.event.Op.TheVariants.{Ecall}
 use Rattle.board_core.specs.declared.event.Reply.TheVariants.{Ret}
 use Rattle.board_core.specs.Interrupts.{is_target}
 use Rattle.board_core.specs.States.{state}
-use Rattle.board_core.specs.Replies.{success}
-use Rattle.board_core.proofs.Events.{by_hart, deed_of_call, does_call}
-use Rattle.board_core.proofs.Standing.{hart_at-stand, interrupts-ipis, ipis-sent, stands-interrupts}
+use Rattle.board_core.specs.Replies.{failure, success}
+use Rattle.board_core.specs.History.{by_hart}
+use Rattle.board_core.proofs.Events.{deed_of_call, does_call}
+use Rattle.board_core.proofs.Standing.{call-quiet, hart_at-stand, interrupts-ipis, ipis-sent, stands-interrupts}
 use Rattle.board_core.proofs.machine.Machine.send_ipi.Goals as goal
 
 -- what is looked at of targets alone
@@ -39,3 +41,8 @@ returns-in-Ok-clause-after c = λ x past regs is stands.
     rw (c.success.ensures, c.send.ensures)
     (stands-interrupts config past event d does m _ refl stands (interrupts-ipis config past event d does m.interrupts _ refl stands.interrupts
     (ipis-sent config past event d does m.interrupts.ipis c.intersection-reached.result refl reached stands.interrupts.ipis)))
+
+pub returns-in-Err-clause-after : goal.returns-in-Err-clause-after
+returns-in-Err-clause-after c = λ x past regs is stands.
+    rw (c.failure.ensures, c.into.ensures)
+    (call-quiet c.args.config.now past x regs (SendIpi c.args.mask c.args.base) (Ret (failure InvalidParam)) c.args.self.now is refl stands)

@@ -4,7 +4,8 @@ use Rattle.sbi_abi.specs.declared.call.Call.TheVariants.{SetTimer}
 use Rattle.board_core.specs.declared.event.Op.TheVariants.{Ecall}
 use Rattle.board_core.specs.declared.event.Reply.TheVariants.{Ret}
 use Rattle.board_core.specs.Replies.{success}
-use Rattle.board_core.proofs.Events.{by_hart, deed_of_call, does_call}
+use Rattle.board_core.specs.History.{by_hart}
+use Rattle.board_core.proofs.Events.{deed_of_call, does_call}
 use Rattle.board_core.proofs.Standing.{interrupts-timers, stands-interrupts, timers-set}
 use Rattle.board_core.proofs.machine.Machine.set_timer.Goals as goal
 

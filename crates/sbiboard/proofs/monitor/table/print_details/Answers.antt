@@ -6,5 +6,5 @@ use Rattle.sbiboard.proofs.monitor.table.print_details.Goals as goal
 pub loop-h-preserved : goal.loop-h-preserved
 loop-h-preserved g c =
     let b = c.args.board.now in
-    let put = rw c.kept.ensures at c.in_ok-print_entry.ensures in
+    let put = c.in_ok-print_hart.ensures in
     (appends-next _ _ _ (details b.config b.past) c.loop-h.h c.loop-h.invariant.0 put.0, put.1 ∙ c.loop-h.invariant.1)

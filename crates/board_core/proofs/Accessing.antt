@@ -1,0 +1,131 @@
+-- What an access does, by the way that it takes.
+use Rattle.std.proofs.Common.{◌≡◌, ℕ, ◌%◌, Bool, true, false, not, List, refl, sym, ap, ◌∙◌}
+use Rattle.std.specs.Prelude.{Option, Some, None, Result, Ok, Err, unwrap_or, ◌==◌, if◌then◌else◌}
+use Rattle.sv39.specs.declared.cause.Cause.{Cause}
+use Rattle.sv39.specs.declared.cause.Kind.{Kind}
+use Rattle.sv39.specs.declared.page.Leaf.{Leaf}
+use Rattle.sv39.specs.Causes.{misaligned, page_fault}
+use Rattle.sv39.specs.Maps.{maps}
+use Rattle.sv39.specs.Memory.{written}
+use Rattle.sv39.specs.Pages.{is_valid}
+use Rattle.sv39.specs.Satp.{asid_of, is_sv39}
+use Rattle.tlb_model.specs.declared.entry.Address.{Address}
+use Rattle.tlb_model.specs.declared.entry.Entry.{Entry}
+use Rattle.tlb_model.specs.declared.word.FetchWord.{FetchWord}
+use Rattle.tlb_model.specs.declared.fence.Flush.{Flush}
+use Rattle.tlb_model.specs.Acts.{Act, Fill, Drop, Clear, Nothing, acted}
+use Rattle.tlb_model.specs.Contents.{Contents, filled_if}
+use Rattle.tlb_model.specs.Entries.{covers_entry}
+use Rattle.tlb_model.specs.Words.{covers_word}
+use Rattle.hart_access.specs.declared.operation.Access.{Access}
+use Rattle.hart_access.specs.declared.operation.Access.TheVariants.{Load, Store, Fetch}
+use Rattle.hart_access.specs.declared.way.Way.{Way}
+use Rattle.hart_access.specs.declared.way.Way.TheVariants.{Plain, Fault}
+use Rattle.hart_access.specs.Accesses as whole
+use Rattle.hart_access.specs.Operations.{kind_of}
+use Rattle.hart_access.specs.Ways.{fill_by, phys_at, place_by, used_by, way, way_by}
+use Rattle.hart_access.proofs.Used.{place_of_used}
+use Rattle.board_core.specs.Accesses.{access_reply_of}
+use Rattle.board_core.specs.declared.config.Config.{Config}
+use Rattle.board_core.specs.declared.event.Reply.{Reply}
+use Rattle.board_core.specs.History.{Event, access_op, using}
+use Rattle.board_core.specs.Memory.{act_at, act_by, cached_in, effect_by, entry_filling, filling_of, hit_in, nothing, satp_by, storing_by, word_filling, written_by}
+use Rattle.board_core.proofs.Events.{deed, still}
+
+-- an act of the hart's own is what its cache sees
+pub own_act : {E : Type 0} (own : Bool) → own ≡ true → (act : Act E) → act_at own act ≡ act
+own_act own is Nothing = refl
+own_act own is (Fill item) = rw is refl
+own_act own is (Drop flush) = rw is refl
+own_act own is Clear = rw is refl
+
+filled_by_act : {E : Type 0} (covers : Flush → E → Bool) (cache : Contents E) (own : Bool) → own ≡ true → (filling : Option E)
+    → acted covers cache (act_at own (act_by nothing filling)) ≡ filled_if cache filling
+filled_by_act covers cache own is None = refl
+filled_by_act covers cache own is (Some item) = rw is refl
+
+-- what the act of an access makes of the two caches
+pub tlb_by_act : (cache : Contents Entry) (own : Bool) → own ≡ true → (va : ℕ) (what : Access) (reply : Reply) (used : Option Entry) (satp : ℕ) (acts : List (Act Entry))
+    → acted covers_entry cache (act_at own (act_by (effect_by (access_op va what) reply) (entry_filling (access_op va what) used satp acts)))
+    ≡ filled_if cache (filling_of (hit_in acts satp va) used)
+tlb_by_act cache own is va Load reply used satp acts = filled_by_act covers_entry cache own is (filling_of (hit_in acts satp va) used)
+tlb_by_act cache own is va (Store value) reply used satp acts = filled_by_act covers_entry cache own is (filling_of (hit_in acts satp va) used)
+tlb_by_act cache own is va Fetch reply used satp acts = filled_by_act covers_entry cache own is (filling_of (hit_in acts satp va) used)
+
+pub words_by_act : (cache : Contents FetchWord) (own : Bool) → own ≡ true → (va : ℕ) (what : Access) (reply : Reply) (filling : Option FetchWord)
+    → acted covers_word cache (act_at own (act_by (effect_by (access_op va what) reply) filling)) ≡ filled_if cache filling
+words_by_act cache own is va Load reply filling = filled_by_act covers_word cache own is filling
+words_by_act cache own is va (Store value) reply filling = filled_by_act covers_word cache own is filling
+words_by_act cache own is va Fetch reply filling = filled_by_act covers_word cache own is filling
+
+-- an access touches nothing but the memory
+pub memory_alone : (c : Config) (past : List Event) (h va : ℕ) (what : Access) (reply : Reply) (used : Option Entry)
+    → (let d = deed c past (using h (access_op va what) reply used) in d ≡ record still { memory = d.memory })
+memory_alone c past h va Load reply used = refl
+memory_alone c past h va (Store value) reply used = refl
+memory_alone c past h va Fetch reply used = refl
+
+pub no_satp : (va : ℕ) (what : Access) (reply : Reply) → satp_by (access_op va what) reply ≡ None
+no_satp va Load reply = refl
+no_satp va (Store value) reply = refl
+no_satp va Fetch reply = refl
+
+-- an access fills what it used, where it hit nothing
+pub filled_unless_hit : (memory : ℕ → Option ℕ) (satp : ℕ) (tlb : Address → Option Entry) (va : ℕ) (kind : Kind)
+    → filling_of (tlb (record { va = va; asid = asid_of satp })) (used_by (way memory satp tlb va kind)) ≡ fill_by (way memory satp tlb va kind)
+filled_unless_hit memory satp tlb va kind =
+    by_tests (va % 8 == 0) (is_sv39 satp) (is_valid va) (tlb (record { va = va; asid = asid_of satp })) (maps memory satp va kind)
+  where
+    by_tests : (aligned mode valid : Bool) (hit : Option Entry) (walked : Result Leaf Cause)
+        → (let w = (if not aligned then Fault (misaligned kind) else if not mode then Plain else if not valid then Fault (page_fault kind) else way_by hit (asid_of satp) walked) in
+        filling_of hit (used_by w) ≡ fill_by w)
+    by_tests false mode valid None walked = refl
+    by_tests false mode valid (Some entry) walked = refl
+    by_tests true false valid None walked = refl
+    by_tests true false valid (Some entry) walked = refl
+    by_tests true true false None walked = refl
+    by_tests true true false (Some entry) walked = refl
+    by_tests true true true None (Ok leaf) = refl
+    by_tests true true true None (Err cause) = refl
+    by_tests true true true (Some entry) walked = refl
+
+module _ (memory : ℕ → Option ℕ) (w : Way) (va : ℕ) where
+  -- what it stores is told by its reply and by the entry that it used
+  pub stored_as : (words : ℕ → Option FetchWord) (what : Access) → (let place = place_by memory w va (kind_of what) in
+      whole.stored_by memory place what ≡ written_by (storing_by (access_op va what) (access_reply_of what (whole.answer_by memory words place what)) (used_by w)) memory)
+  stored_as words Load = by_place (place_by memory w va (kind_of Load))
+    where
+      by_place : (place : Result ℕ Cause) → whole.stored_by memory place Load ≡ memory
+      by_place (Ok pa) = refl
+      by_place (Err cause) = refl
+  stored_as words (Store value) = by_place (place_by memory w va (kind_of (Store value))) refl
+    where
+      by_place : (place : Result ℕ Cause) → place_by memory w va (kind_of (Store value)) ≡ place
+          → whole.stored_by memory place (Store value) ≡ written_by (storing_by (access_op va (Store value)) (access_reply_of (Store value) (whole.answer_by memory words place (Store value))) (used_by w)) memory
+      by_place (Ok pa) is = ap (λ at. written memory at value) (place_of_used memory w va (kind_of (Store value)) pa is)
+      by_place (Err cause) is = refl
+  stored_as words Fetch = by_place (place_by memory w va (kind_of Fetch))
+    where
+      by_place : (place : Result ℕ Cause) → whole.stored_by memory place Fetch ≡ memory
+      by_place (Ok pa) = refl
+      by_place (Err cause) = refl
+
+  -- and so is the word that it fetches
+  pub fetched_as : (acts : List (Act FetchWord)) (what : Access) → (let place = place_by memory w va (kind_of what) in
+      word_filling (access_op va what) (access_reply_of what (whole.answer_by memory (cached_in acts) place what)) (used_by w) memory acts ≡ whole.word_filling_by memory (cached_in acts) place what)
+  fetched_as acts Load = by_place (place_by memory w va (kind_of Load))
+    where
+      by_place : (place : Result ℕ Cause) → None ≡ whole.word_filling_by memory (cached_in acts) place Load
+      by_place (Ok pa) = refl
+      by_place (Err cause) = refl
+  fetched_as acts (Store value) = by_place (place_by memory w va (kind_of (Store value)))
+    where
+      by_place : (place : Result ℕ Cause) → None ≡ whole.word_filling_by memory (cached_in acts) place (Store value)
+      by_place (Ok pa) = refl
+      by_place (Err cause) = refl
+  fetched_as acts Fetch = by_place (place_by memory w va (kind_of Fetch)) refl
+    where
+      by_place : (place : Result ℕ Cause) → place_by memory w va (kind_of Fetch) ≡ place
+          → word_filling (access_op va Fetch) (access_reply_of Fetch (whole.answer_by memory (cached_in acts) place Fetch)) (used_by w) memory acts ≡ whole.word_filling_by memory (cached_in acts) place Fetch
+      by_place (Ok pa) is = ap (λ at. whole.fetched_from (cached_in acts at) at (unwrap_or (memory at) 0)) (sym (place_of_used memory w va (kind_of Fetch) pa is))
+      by_place (Err cause) is = refl

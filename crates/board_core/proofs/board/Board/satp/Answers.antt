@@ -1,0 +1,14 @@
+use Rattle.std.proofs.Common.{ap, ◌∙◌, arith, reverse}
+use Rattle.board_core.specs.Course.{Course}
+use Rattle.board_core.proofs.Standing.{length-satps, satp-read}
+use Rattle.board_core.proofs.board.Board.satp.Goals as goal
+
+pub satp-requires : goal.satp-requires
+satp-requires c =
+    let same_config = ap (λ (b : Course). b.config.harts) c.self.view_is in
+    omega (arith, length-satps _ _ _ c.self.invariant.1.memory)
+
+pub returns : goal.returns
+returns c =
+    let same_config = ap (λ (b : Course). b.config.harts) c.self.view_is in
+    rw (← c.self.view_is) (c.bits.ensures ∙ c.satp.ensures ∙ satp-read c.self.inside.config (reverse c.self.inside.events.items) c.self.inside.machine.memory c.args.h 0 (omega arith) c.self.invariant.1.memory)

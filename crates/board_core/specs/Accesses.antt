@@ -1,0 +1,51 @@
+-- What accesses answer, and what they use (Privileged 4.1.11, 4.2.1, 4.3.2, 4.4).
+use Rattle.std.specs.Prelude.{ℕ, List, Option, Some, None, Result, Ok, Err}
+use Rattle.sv39.specs.declared.cause.Cause.{Cause}
+use Rattle.tlb_model.specs.declared.entry.Address.{Address}
+use Rattle.tlb_model.specs.declared.entry.Entry.{Entry}
+use Rattle.tlb_model.specs.declared.word.FetchWord.{FetchWord}
+use Rattle.tlb_model.specs.Acts.{last_live}
+use Rattle.tlb_model.specs.Entries.{covers_entry, matches}
+use Rattle.tlb_model.specs.Words.{covers_word, is_at}
+use Rattle.hart_access.specs.declared.operation.Access.{Access}
+use Rattle.hart_access.specs.declared.operation.Access.TheVariants.{Load, Store, Fetch}
+use Rattle.hart_access.specs.Accesses as whole
+use Rattle.board_core.specs.declared.config.Config.{Config}
+use Rattle.board_core.specs.declared.event.Actor.{Actor}
+use Rattle.board_core.specs.declared.event.Actor.TheVariants.{Hart, Clock}
+use Rattle.board_core.specs.declared.event.Op.{Op}
+use Rattle.board_core.specs.declared.event.Reply.{Reply}
+use Rattle.board_core.specs.declared.event.Reply.TheVariants.{Value, Fault, Done}
+use Rattle.board_core.specs.History.{Event, Reach, access_of}
+use Rattle.board_core.specs.Memory.{memory, satp, tlb_acts, word_acts}
+
+-- What an access answers: the word that it read, that it is done, or why it failed.
+abbrev pub access_reply_of : Access → Result ℕ Cause → Reply
+access_reply_of Load (Ok word) = Value word
+access_reply_of (Store value) (Ok word) = Done
+access_reply_of Fetch (Ok word) = Value word
+access_reply_of access (Err cause) = Fault cause
+
+module _ (c : Config) (past : List Event) (x : ℕ) where
+  -- the hit of an address in the TLB of hart x, and the word that its instruction cache has from a physical address
+  abbrev pub hit : Address → Option Entry
+  hit at = last_live covers_entry matches at (tlb_acts past x)
+
+  abbrev pub cached : ℕ → Option FetchWord
+  cached pa = last_live covers_word is_at pa (word_acts c past x)
+
+  -- the entry that an access of hart x uses, found or filled, if any
+  abbrev pub used_by_access : Option Reach → Option Entry
+  used_by_access None = None
+  used_by_access (Some reach) = whole.used (memory c past) (satp past x) hit reach.va reach.access
+
+  abbrev pub used : Op → Option Entry
+  used op = used_by_access (access_of op)
+
+  abbrev pub access_reply : (va : ℕ) → Access → Reply
+  access_reply va access = access_reply_of access (whole.answer (memory c past) (satp past x) hit cached va access)
+
+-- the clock makes no access
+abbrev pub used_by_actor : Config → List Event → Actor → Op → Option Entry
+used_by_actor c past (Hart x) op = used c past x op
+used_by_actor c past Clock op = None

@@ -1,0 +1,119 @@
+ghost use Rattle.std.specs.Prelude.{◌≡◌, ◌<◌, IfOk, [], length, slice_set};
+ghost use Rattle.sv39.specs.Memory.{pages_of, word_in};
+ghost use Rattle.sv39.specs.Satp.{satp_written};
+ghost use Rattle.tlb_model.specs.Contents.{cleared, fenced, filled_if};
+ghost use Rattle.tlb_model.specs.Entries.{covers_entry};
+ghost use Rattle.tlb_model.specs.Words.{covers_word};
+ghost use Rattle.hart_access.specs.Accesses.{answer, filling, stored, used, word_filling};
+ghost use Rattle.board_core.specs.Limits.{IsGood};
+ghost use Rattle.board_core.specs.Stands.{CanFill, MemoryStand, caches_at, satp_at, tlb_hit, word_hit};
+
+use crate::config::Config;
+use hart_access::{Access, Accessed, access};
+use std::alloc::{AllocError, Global};
+use sv39::{Ram, Satp};
+use tlb_model::{Caches, Flush};
+
+/// The RAM, and what each hart translates its addresses by.
+#[derive(Drop)]
+pub struct Memory {
+    pub ram: Ram,
+    pub satps: Vec<Satp>,
+    pub caches: Vec<Caches>,
+}
+
+impl Memory {
+    /// The memory of a board at its opening: every word is 0, no address is translated, and nothing is cached.
+    pub fn new(alloc: Global, config: &Config) -> Result<Memory, AllocError>
+        requires { IsGood config.now }
+        ensures { IfOk result (λ memory. MemoryStand config.now [] memory) }
+    {
+        let ram = Ram::new(alloc, config.pages)?;
+        let mut satps = Vec::with_capacity(alloc, config.harts as usize)?;
+        let mut caches = Vec::with_capacity(alloc, config.harts as usize)?;
+        for h in 0..config.harts {
+            satps.push(Satp::bare())?;
+            caches.push(Caches::new(alloc)?)?;
+        }
+        Ok(Memory { ram, satps, caches })
+    }
+
+    /// satp of hart `h`.
+    pub fn satp(&self, h: u64) -> Satp
+        requires { h < length self.now.satps.items }
+        ensures { result ≡ satp_at self.now h }
+    {
+        self.satps[h as usize]
+    }
+
+    /// Writes satp of hart `h` (Privileged 4.1.11).
+    pub fn write_satp(&mut self, h: u64, value: u64)
+        requires { h < length self.old.satps.items }
+        ensures satps { self.new.satps.items ≡ slice_set self.old.satps.items h (satp_written (satp_at self.old h) value) }
+        ensures ram { self.new.ram ≡ self.old.ram }
+        ensures caches { self.new.caches.items ≡ self.old.caches.items }
+    {
+        self.satps[h as usize] = self.satps[h as usize].write(value);
+    }
+
+    /// The entry of a start or of a resume of hart `h`: its addresses aren't translated any more (SBI 9.1 and 9.4).
+    pub fn make_bare(&mut self, h: u64)
+        requires { h < length self.old.satps.items }
+        ensures satps { self.new.satps.items ≡ slice_set self.old.satps.items h 0 }
+        ensures ram { self.new.ram ≡ self.old.ram }
+        ensures caches { self.new.caches.items ≡ self.old.caches.items }
+    {
+        self.satps[h as usize] = Satp::bare();
+    }
+
+    /// An access of hart `h` at a virtual address.
+    pub fn access(&mut self, h: u64, va: u64, what: Access) -> Accessed
+        requires { CanFill self.old h }
+        ensures result { result.result ≡ answer (word_in self.old.ram) (satp_at self.old h) (tlb_hit (caches_at self.old h)) (word_hit (caches_at self.old h)) va what }
+        ensures used { result.used ≡ used (word_in self.old.ram) (satp_at self.old h) (tlb_hit (caches_at self.old h)) va what }
+        ensures ram { word_in self.new.ram ≡ stored (word_in self.old.ram) (satp_at self.old h) (tlb_hit (caches_at self.old h)) va what }
+        ensures pages { pages_of self.new.ram ≡ pages_of self.old.ram }
+        ensures satps { self.new.satps.items ≡ self.old.satps.items }
+        ensures caches { self.new.caches.items ≡ slice_set self.old.caches.items h (record {
+          tlb = filled_if (caches_at self.old h).tlb (filling (word_in self.old.ram) (satp_at self.old h) (tlb_hit (caches_at self.old h)) va what);
+          words = filled_if (caches_at self.old h).words (word_filling (word_in self.old.ram) (satp_at self.old h) (tlb_hit (caches_at self.old h)) (word_hit (caches_at self.old h)) va what);
+        }) }
+    {
+        let satp = self.satps[h as usize];
+        let caches = &mut self.caches[h as usize];
+        access(
+            &mut self.ram,
+            satp,
+            &mut caches.tlb,
+            &mut caches.words,
+            va,
+            what,
+        )
+    }
+
+    /// A local fence of hart `h` drops what it covers from its caches (Privileged 4.2.1; Zifencei).
+    pub fn fence(&mut self, h: u64, flush: Flush)
+        requires { h < length self.old.caches.items }
+        ensures caches { self.new.caches.items ≡ slice_set self.old.caches.items h (record {
+          tlb = fenced covers_entry (caches_at self.old h).tlb flush;
+          words = fenced covers_word (caches_at self.old h).words flush;
+        }) }
+        ensures ram { self.new.ram ≡ self.old.ram }
+        ensures satps { self.new.satps.items ≡ self.old.satps.items }
+    {
+        self.caches[h as usize].apply(flush);
+    }
+
+    /// Empties the caches of hart `h`, as its stop does (profile).
+    pub fn empty_caches(&mut self, h: u64)
+        requires { h < length self.old.caches.items }
+        ensures caches { self.new.caches.items ≡ slice_set self.old.caches.items h (record {
+          tlb = cleared (caches_at self.old h).tlb;
+          words = cleared (caches_at self.old h).words;
+        }) }
+        ensures ram { self.new.ram ≡ self.old.ram }
+        ensures satps { self.new.satps.items ≡ self.old.satps.items }
+    {
+        self.caches[h as usize].clear();
+    }
+}
