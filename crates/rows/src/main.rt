@@ -15,6 +15,8 @@
 #[cfg(test)]
 mod commands;
 #[cfg(test)]
+mod components;
+#[cfg(test)]
 mod devices;
 #[cfg(test)]
 mod endings;
