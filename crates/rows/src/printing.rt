@@ -25,7 +25,12 @@ fn ret(error: i64, value: u64) -> Reply {
 fn lines(rt: HostRuntime) -> Result<(), Fail> {
     let mut out = Device::new(Vec::new(rt.alloc()));
     print_head(&CONFIG, &mut out)?;
-    let event = Event::new(Actor::Hart(0), ecall(0x10, [0; 6]), ret(0, 0x100_0000), None);
+    let event = Event::new(
+        Actor::Hart(0),
+        ecall(0x10, [0; 6]),
+        ret(0, 0x100_0000),
+        None,
+    );
     print_event(&event, &mut out)?;
     print_line(
         Actor::Clock,
