@@ -6,4 +6,4 @@ use Rattle.sbiboard.proofs.Caches.{count_kept}
 use Rattle.sbiboard.proofs.monitor.table.entry_count.Goals as goal
 
 pub returns : goal.returns
-returns c = count_kept _ (live covers_entry (tlb_acts c.args.board.now.past c.args.h)) c.tlb.ensures
+returns c = count_kept _ (live covers_entry (tlb_acts c.args.board.now.config c.args.board.now.past c.args.h)) c.tlb.ensures
