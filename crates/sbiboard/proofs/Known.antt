@@ -26,11 +26,3 @@ appends-item a b c f xs i d below front next =
     ap (λ n. flat_map f (take n xs)) (add-one i) ∙ ap (flat_map f) (take-suc xs i d below) ∙ flat_map-append f (take i xs) (get_or xs i d ∷ [])
     ∙ ap (λ t. flat_map f (take i xs) ++ t) (append-nil (f (get_or xs i d))) in
     rw more (Appends-trans a b c _ _ front next)
-
--- one text more, of an item behind the others
-pub appends-last : {X : Type 0} (a b c : Option (List ℕ)) (f : X → List ℕ) (xs : List X) (x : X)
-    → Appends a b (flat_map f xs) → Appends b c (f x) → Appends a c (flat_map f (xs ++ x ∷ []))
-appends-last a b c f xs x front next =
-    let more : flat_map f (xs ++ x ∷ []) ≡ flat_map f xs ++ f x =
-    flat_map-append f xs (x ∷ []) ∙ ap (λ t. flat_map f xs ++ t) (append-nil (f x)) in
-    rw more (Appends-trans a b c _ _ front next)
