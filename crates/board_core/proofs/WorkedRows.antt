@@ -9,11 +9,11 @@ use Rattle.hsm.specs.declared.hart.HartState.TheVariants.{Stopped, Suspended}
 use Rattle.board_core.specs.declared.event.Actor.{Actor}
 use Rattle.board_core.specs.declared.event.Actor.TheVariants.{Hart, Clock}
 use Rattle.board_core.specs.declared.event.Op.{Op}
-use Rattle.board_core.specs.declared.event.Op.TheVariants.{Advance, ClearSsip, Ecall, ReadSip, Tick, WriteSie, WriteSstatusSie}
+use Rattle.board_core.specs.declared.event.Op.TheVariants.{Advance, ClearSsip, Ecall, Poll, ReadSip, Serve, Tick, WriteSie, WriteSstatusSie}
 use Rattle.board_core.specs.declared.event.Refusal.{Refusal}
-use Rattle.board_core.specs.declared.event.Refusal.TheVariants.{Nothing, TimeFull}
+use Rattle.board_core.specs.declared.event.Refusal.TheVariants.{Nothing, TimeFull, WrongPhase}
 use Rattle.board_core.specs.declared.event.Reply.{Reply}
-use Rattle.board_core.specs.declared.event.Reply.TheVariants.{Done, Entry, Gone, Moved, Ret, Value}
+use Rattle.board_core.specs.declared.event.Reply.TheVariants.{Done, Entry, Gone, Moved, Ret, Served, Value, Waiting}
 use Rattle.board_core.specs.Course.{Course}
 use Rattle.board_core.specs.Replies.{answer, stepped}
 
@@ -152,3 +152,132 @@ ipi-mask : answers (opened 3)
     ∷ []
 unfolding call_of targets_of names_stray ids_where
 ipi-mask = refl
+
+-- a remote fence of the harts of a mask, with base 0
+abbrev fences : (fid mask start size : ℕ) → Op
+fences fid mask start size = Ecall (record { eid = 0x52464e43; fid = fid; a = mask ∷ 0 ∷ start ∷ size ∷ 0 ∷ 0 ∷ [] })
+
+crossing-fences : answers (opened 2)
+    ((Hart 0, Advance)
+    ∷ (Hart 0, hsm 0 1 0x80000000 0)
+    ∷ (Hart 1, Advance)
+    ∷ (Hart 0, fences 1 0x2 0 0)
+    ∷ (Hart 1, fences 1 0x1 0 0)
+    ∷ (Hart 0, Poll)
+    ∷ (Hart 0, ReadSip)
+    ∷ (Hart 0, Serve)
+    ∷ (Hart 1, Serve)
+    ∷ (Hart 0, Poll)
+    ∷ (Hart 1, Poll)
+    ∷ (Hart 1, Serve)
+    ∷ (Hart 1, Poll)
+    ∷ [])
+    ≡ Ok (Entry 0x80000000 0 0)
+    ∷ returns 0
+    ∷ Ok (Entry 0x80000000 1 0)
+    ∷ Ok Waiting
+    ∷ Ok Waiting
+    ∷ Err Nothing
+    ∷ Err WrongPhase
+    ∷ Ok Served
+    ∷ Ok Served
+    ∷ returns 0
+    ∷ returns 0
+    ∷ Err Nothing
+    ∷ Err WrongPhase
+    ∷ []
+unfolding call_of targets_of names_stray ids_where
+crossing-fences = refl
+
+range-edges : answers (opened 1)
+    ((Hart 0, Advance)
+    ∷ (Hart 0, fences 1 0x1 0xfffffffffffff000 0x1000)
+    ∷ (Hart 0, Poll)
+    ∷ (Hart 0, fences 1 0x1 0xfffffffffffff000 0x1001)
+    ∷ (Hart 0, fences 1 0x1 0xfffffffffffff000 0xffffffffffffffff)
+    ∷ (Hart 0, Poll)
+    ∷ (Hart 0, fences 1 0x8 0xfffffffffffff000 0x1001)
+    ∷ (Hart 0, fences 0 0x1 0xfffffffffffff000 0x1001)
+    ∷ (Hart 0, Poll)
+    ∷ (Hart 0, fences 3 0x1 0 0)
+    ∷ (Hart 0, fences 1 0 0 0)
+    ∷ (Hart 0, Poll)
+    ∷ [])
+    ≡ Ok (Entry 0x80000000 0 0)
+    ∷ Ok Waiting
+    ∷ returns 0
+    ∷ fails 4
+    ∷ Ok Waiting
+    ∷ returns 0
+    ∷ fails 2
+    ∷ Ok Waiting
+    ∷ returns 0
+    ∷ fails 1
+    ∷ Ok Waiting
+    ∷ returns 0
+    ∷ []
+unfolding call_of targets_of names_stray ids_where
+range-edges = refl
+
+stop-discharges : answers (opened 2)
+    ((Hart 0, Advance)
+    ∷ (Hart 0, hsm 0 1 0x80000000 0)
+    ∷ (Hart 1, Advance)
+    ∷ (Hart 0, fences 1 0x2 0 0)
+    ∷ (Hart 1, WriteSstatusSie true)
+    ∷ (Hart 1, hsm 1 0 0 0)
+    ∷ (Hart 0, Poll)
+    ∷ (Hart 1, WriteSstatusSie false)
+    ∷ (Hart 1, hsm 1 0 0 0)
+    ∷ (Hart 1, Serve)
+    ∷ (Hart 0, Poll)
+    ∷ (Hart 1, Advance)
+    ∷ (Hart 0, hsm 0 1 0x80000000 0)
+    ∷ (Hart 1, Advance)
+    ∷ (Hart 1, Serve)
+    ∷ [])
+    ≡ Ok (Entry 0x80000000 0 0)
+    ∷ returns 0
+    ∷ Ok (Entry 0x80000000 1 0)
+    ∷ Ok Waiting
+    ∷ Ok Done
+    ∷ fails 0
+    ∷ Err Nothing
+    ∷ Ok Done
+    ∷ Ok Gone
+    ∷ Err WrongPhase
+    ∷ returns 0
+    ∷ Ok (Moved Stopped)
+    ∷ returns 0
+    ∷ Ok (Entry 0x80000000 1 0)
+    ∷ Err Nothing
+    ∷ []
+unfolding call_of targets_of names_stray ids_where
+stop-discharges = refl
+
+-- hart 2 is START_PENDING, which a fence skips
+start-pending-skipped : answers (opened 3)
+    ((Hart 0, Advance)
+    ∷ (Hart 0, hsm 0 1 0x80000000 0)
+    ∷ (Hart 1, Advance)
+    ∷ (Hart 0, hsm 0 2 0x80000000 0)
+    ∷ (Hart 0, fences 1 0x7 0 0)
+    ∷ (Hart 2, Advance)
+    ∷ (Hart 2, Serve)
+    ∷ (Hart 0, Poll)
+    ∷ (Hart 1, Serve)
+    ∷ (Hart 0, Poll)
+    ∷ [])
+    ≡ Ok (Entry 0x80000000 0 0)
+    ∷ returns 0
+    ∷ Ok (Entry 0x80000000 1 0)
+    ∷ returns 0
+    ∷ Ok Waiting
+    ∷ Ok (Entry 0x80000000 2 0)
+    ∷ Err Nothing
+    ∷ Err Nothing
+    ∷ Ok Served
+    ∷ returns 0
+    ∷ []
+unfolding call_of targets_of names_stray ids_where
+start-pending-skipped = refl

@@ -14,7 +14,7 @@ use Rattle.board_core.specs.declared.config.Config.{Config}
 use Rattle.board_core.specs.declared.event.Actor.{Actor}
 use Rattle.board_core.specs.declared.event.Actor.TheVariants.{Hart, Clock}
 use Rattle.board_core.specs.declared.event.Op.{Op}
-use Rattle.board_core.specs.declared.event.Op.TheVariants.{Ecall, Load, Store, Fetch, WriteSatp, WriteSie, WriteSstatusSie, ReadSip, ClearSsip, Sfence, FenceI, Wfi, Advance, Tick}
+use Rattle.board_core.specs.declared.event.Op.TheVariants.{Ecall, Load, Store, Fetch, WriteSatp, WriteSie, WriteSstatusSie, ReadSip, ClearSsip, Sfence, FenceI, Wfi, Poll, Serve, Advance, Tick}
 use Rattle.sbiboard.specs.declared.guest_script.schedule.Line.{Line}
 use Rattle.sbiboard.specs.Words.{actor_word, board_words, hex, hex_or_dash, line_of, op_words}
 use Rattle.sbiboard.specs.Grammar.{AreArguments, AreNumbers, AreSteps, Form, form_of, IsActor, IsArgument, is_allowed, is_blank, is_hash, IsLine, IsOp, IsWord, last_hart, last_number, number_at, numbers_of, regs_of, Spaces, Spells}
@@ -217,6 +217,10 @@ op_read_back FenceI fits =
     op_spelled (codes "fencei") [] _ [] refl (name_plain (codes "fencei") (λ e. cc) (omega arith)) (omega arith) (omega arith) tt
 op_read_back Wfi fits =
     op_spelled (codes "wfi") [] _ [] refl (name_plain (codes "wfi") (λ e. cc) (omega arith)) (omega arith) (omega arith) tt
+op_read_back Poll fits =
+    op_spelled (codes "poll") [] _ [] refl (name_plain (codes "poll") (λ e. cc) (omega arith)) (omega arith) (omega arith) tt
+op_read_back Serve fits =
+    op_spelled (codes "serve") [] _ [] refl (name_plain (codes "serve") (λ e. cc) (omega arith)) (omega arith) (omega arith) tt
 op_read_back Advance fits =
     op_spelled (codes "advance") [] _ [] refl (name_plain (codes "advance") (λ e. cc) (omega arith)) (omega arith) (omega arith) tt
 op_read_back (Tick n) fits =

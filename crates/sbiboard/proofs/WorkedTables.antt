@@ -5,8 +5,10 @@ use Rattle.sbi_abi.specs.Calls.{call_of}
 use Rattle.board_core.specs.declared.config.Config.{Config}
 use Rattle.board_core.specs.declared.event.Actor.TheVariants.{Hart}
 use Rattle.board_core.specs.declared.event.Op.TheVariants.{Ecall, Advance}
-use Rattle.board_core.specs.declared.event.Reply.TheVariants.{Ret, Entry}
-use Rattle.sbiboard.specs.Table.{entry_cells, hart_cells, head_cells, table, time_cells, totals_cells}
+use Rattle.board_core.specs.declared.event.Reply.TheVariants.{Ret, Entry, Waiting}
+use Rattle.hart_mask.specs.HartList.{names_stray, targets_of}
+use Rattle.hart_mask.specs.Ids.{ids_where}
+use Rattle.sbiboard.specs.Table.{entry_cells, fence_cells, hart_cells, head_cells, table, time_cells, totals_cells}
 
 abbrev one_hart : Config
 one_hart = record { harts = 1; pages = 1; limit = 10; boot_hart = 0; boot_addr = 0x80000000; boot_opaque = 0 }
@@ -25,3 +27,17 @@ table-opening : table one_hart []
     ≡ codes "# time 0000000000000000 events       0 power on reset none\n# starts 1 entries 0 pending 1 asked 0 applied 0 waiting 0\n# hart state           wait out ss st ie se satp             deadline         tlb ic\n#    0 START_PENDING      0   -  0  0 00  0 0000000000000000 ----------------   0  0\n# entry   0 0000000080000000 0000000000000000\n"
 unfolding digits time_cells totals_cells head_cells hart_cells entry_cells
 table-opening = refl
+
+abbrev two_harts : Config
+two_harts = record { harts = 2; pages = 1; limit = 10; boot_hart = 0; boot_addr = 0x80000000; boot_opaque = 0 }
+
+-- inside a call of remote_sfence_vma_asid, whose fence waits at hart 1
+table-waiting : table two_harts
+    (record { actor = Hart 0; op = Ecall (record { eid = 0x52464e43; fid = 2; a = 2 ∷ 0 ∷ 0x1000 ∷ 0x80 ∷ 5 ∷ 0 ∷ [] }); reply = Waiting; translation = None }
+    ∷ record { actor = Hart 1; op = Advance; reply = Entry 0x80000000 1 0; translation = None }
+    ∷ record { actor = Hart 0; op = Ecall (record { eid = 0x48534d; fid = 0; a = 1 ∷ 0x80000000 ∷ 0 ∷ 0 ∷ 0 ∷ 0 ∷ [] }); reply = Ret (record { error = pos 0; value = 0 }); translation = None }
+    ∷ record { actor = Hart 0; op = Advance; reply = Entry 0x80000000 0 0; translation = None }
+    ∷ [])
+    ≡ codes "# time 0000000000000000 events       4 power on reset none\n# starts 2 entries 2 pending 0 asked 1 applied 0 waiting 1\n# hart state           wait out ss st ie se satp             deadline         tlb ic\n#    0 STARTED            0   1  0  0 00  0 0000000000000000 ----------------   0  0\n#    1 STARTED            1   -  0  0 00  0 0000000000000000 ----------------   0  0\n# fence   1 from   0 vma 0000000000001000 0000000000000080 asid 0005\n"
+unfolding digits call_of targets_of names_stray ids_where time_cells totals_cells head_cells hart_cells fence_cells
+table-waiting = refl

@@ -9,7 +9,7 @@ use Rattle.board_core.specs.declared.config.Config.{Config}
 use Rattle.board_core.specs.declared.event.Actor.{Actor}
 use Rattle.board_core.specs.declared.event.Actor.TheVariants.{Hart, Clock}
 use Rattle.board_core.specs.declared.event.Op.{Op}
-use Rattle.board_core.specs.declared.event.Op.TheVariants.{Ecall, Load, Store, Fetch, WriteSatp, WriteSie, WriteSstatusSie, ReadSip, ClearSsip, Sfence, FenceI, Wfi, Advance, Tick}
+use Rattle.board_core.specs.declared.event.Op.TheVariants.{Ecall, Load, Store, Fetch, WriteSatp, WriteSie, WriteSstatusSie, ReadSip, ClearSsip, Sfence, FenceI, Wfi, Poll, Serve, Advance, Tick}
 use Rattle.board_core.specs.Refusals.{first_that_holds}
 use Rattle.sbiboard.specs.declared.guest_script.schedule.Line.{Line}
 use Rattle.sbiboard.specs.declared.guest_script.schedule.Script.{Script}
@@ -153,6 +153,8 @@ forms =
     ∷ (codes "sfence", record { least = 2; most = 2; limit = last_number; may_be_absent = true; op = λ ns. Sfence (argument_at ns 0) (argument_at ns 1) })
     ∷ (codes "fencei", alone FenceI)
     ∷ (codes "wfi", alone Wfi)
+    ∷ (codes "poll", alone Poll)
+    ∷ (codes "serve", alone Serve)
     ∷ (codes "advance", alone Advance)
     ∷ (codes "tick", of_numbers 1 1 (λ ns. Tick (number_at ns 0)))
     ∷ []

@@ -42,6 +42,14 @@ step_room = call_room + arguments_room
 abbrev pub arrow_room : ℕ
 arrow_room = step_room + 3
 
+-- `#`, `fence`, a hart, `from`, and the hart that asked
+abbrev pub fence_room : ℕ
+fence_room = 13 + 2 * decimal_room
+
+-- what a fence drops, of which `vma`, a range and an ASID are the longest
+abbrev pub flush_room : ℕ
+flush_room = 9 + 3 * hex_column_room
+
 -- an answer, of which `entry`, an address, a hart and an opaque value are the longest
 abbrev pub reply_room : ℕ
 reply_room = 6 + hex_room + decimal_room + hex_room

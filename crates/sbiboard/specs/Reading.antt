@@ -49,6 +49,8 @@ spelling names.Clearssip = codes "clearssip"
 spelling names.Sfence = codes "sfence"
 spelling names.Fencei = codes "fencei"
 spelling names.Wfi = codes "wfi"
+spelling names.Poll = codes "poll"
+spelling names.Serve = codes "serve"
 spelling names.Advance = codes "advance"
 spelling names.Tick = codes "tick"
 

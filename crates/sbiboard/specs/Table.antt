@@ -6,7 +6,11 @@ use Rattle.hsm.specs.declared.hart.HartState.{HartState}
 use Rattle.hsm.specs.declared.hart.HartState.TheVariants.{Started, Stopped, StartPending, StopPending, Suspended, SuspendPending, ResumePending}
 use Rattle.hsm.specs.declared.hart.Kept.{Kept}
 use Rattle.sv39.specs.Pages.{level_number}
+use Rattle.fence_queue.specs.declared.request.Request.{Request}
 use Rattle.tlb_model.specs.declared.entry.Entry.{Entry}
+use Rattle.tlb_model.specs.declared.fence.Flush.{Flush}
+use Rattle.tlb_model.specs.declared.fence.Flush.TheVariants.{Words, Entries}
+use Rattle.tlb_model.specs.declared.fence.Range.{Range}
 use Rattle.tlb_model.specs.declared.word.FetchWord.{FetchWord}
 use Rattle.tlb_model.specs.Acts.{Filling, live}
 use Rattle.tlb_model.specs.Entries.{covers_entry}
@@ -15,6 +19,7 @@ use Rattle.board_core.specs.declared.board.Totals.{Totals}
 use Rattle.board_core.specs.declared.config.Config.{Config}
 use Rattle.board_core.specs.Course.{harts_of}
 use Rattle.board_core.specs.Csrs.{bits_of, sie, sstatus_sie}
+use Rattle.board_core.specs.Fences.{outstanding, waiting}
 use Rattle.board_core.specs.History.{Event}
 use Rattle.board_core.specs.Interrupts.{deadline, ssip, stip, time}
 use Rattle.board_core.specs.Memory.{satp, tlb_acts, word_acts}
@@ -54,6 +59,11 @@ state_name ResumePending = codes "RESUME_PENDING"
 abbrev pub deadline_cell : Option ℕ → List ℕ
 deadline_cell (Some deadline) = hex16 deadline
 deadline_cell None = replicate 16 45
+
+-- how many harts a fence call waits for, or a dash outside of a call
+abbrev pub outstanding_cell : Option (List ℕ) → List ℕ
+outstanding_cell (Some harts) = right 3 (decimal (length harts))
+outstanding_cell None = right 3 (codes "-")
 
 -- The time, the count of events, the power and the last reset. Resets aren't built yet.
 unfoldable pub time_cells : List Event → List (List ℕ)
@@ -99,28 +109,28 @@ abbrev pub in_order : {E : Type 0} → List (Filling E) → List E
 in_order fillings = reverse (map (λ filling. filling.item) fillings)
 
 -- the live entries of a hart's TLB, in the order of filling
-abbrev pub entries : List Event → ℕ → List Entry
-entries past h = in_order (live covers_entry (tlb_acts past h))
+abbrev pub entries : Config → List Event → ℕ → List Entry
+entries c past h = in_order (live covers_entry (tlb_acts c past h))
 
 -- the live words of a hart's instruction cache, in the order of filling
 abbrev pub words : Config → List Event → ℕ → List FetchWord
 words c past h = in_order (live covers_word (word_acts c past h))
 
--- The row of a hart. What isn't built yet shows its opening value: no fence.
+-- the row of a hart
 unfoldable pub hart_cells : Config → List Event → ℕ → List (List ℕ)
 hart_cells c past h =
     codes "#"
     ∷ right 4 (decimal h)
     ∷ left 15 (state_name (state c past h))
-    ∷ right 4 (decimal 0)
-    ∷ right 3 (codes "-")
+    ∷ right 4 (decimal (length (waiting c past h)))
+    ∷ outstanding_cell (outstanding c past h)
     ∷ right 2 (decimal (bit_of (ssip c past h)))
     ∷ right 2 (decimal (bit_of (stip c past h)))
     ∷ hex_column 2 (bits_of (sie c past h))
     ∷ right 2 (decimal (bit_of (sstatus_sie past h)))
     ∷ hex16 (satp past h)
     ∷ deadline_cell (deadline c past h)
-    ∷ right 3 (decimal (length (entries past h)))
+    ∷ right 3 (decimal (length (entries c past h)))
     ∷ right 2 (decimal (length (words c past h)))
     ∷ []
 
@@ -167,12 +177,40 @@ tlb_line h entry = line_of (tlb_cells h entry)
 abbrev pub word_line : ℕ → FetchWord → List ℕ
 word_line h fetched = line_of (word_cells h fetched)
 
--- the lines that follow the rows for a hart: what is kept for it, the entries of its TLB, and its fetched words
+-- the addresses that a fence is of: all, or a range by its start and its size
+abbrev pub range_words : Option Range → List (List ℕ)
+range_words None = codes "full" ∷ []
+range_words (Some range) = hex16 range.start ∷ hex16 range.size ∷ []
+
+-- the address space that a fence is of, where it is of one
+abbrev pub asid_words : Option ℕ → List (List ℕ)
+asid_words None = []
+asid_words (Some asid) = codes "asid" ∷ hex_column 4 asid ∷ []
+
+-- what a fence drops: the fetched words, or translations
+abbrev pub flush_words : Flush → List (List ℕ)
+flush_words Words = codes "i" ∷ []
+flush_words (Entries fence) = codes "vma" ∷ (range_words fence.range ++ asid_words fence.asid)
+
+-- a fence that waits at a hart, and the hart that asked it
+unfoldable pub fence_cells : ℕ → Request Flush → List (List ℕ)
+fence_cells h request =
+    codes "#" ∷ codes "fence" ∷ right 3 (decimal h) ∷ codes "from" ∷ right 3 (decimal request.from) ∷ flush_words request.flush
+
+abbrev pub fence_line : ℕ → Request Flush → List ℕ
+fence_line h request = line_of (fence_cells h request)
+
+-- the lines that follow the rows for a hart: what is kept for it, the entries of its TLB, its fetched words, and the
+-- fences that wait at it
 abbrev pub details : Config → List Event → ℕ → List ℕ
-details c past h = entry_line h (kept c past h) ++ (flat_map (tlb_line h) (entries past h) ++ flat_map (word_line h) (words c past h))
+details c past h =
+    entry_line h (kept c past h)
+    ++ (flat_map (tlb_line h) (entries c past h)
+    ++ (flat_map (word_line h) (words c past h)
+    ++ flat_map (fence_line h) (waiting c past h)))
 
 -- The table of the board whose past this is: the time, the totals, the heads of the columns, a row for each hart, and
--- then, hart by hart, what is kept for it and what its caches have.
+-- then, hart by hart, what is kept for it, what its caches have, and the fences that wait at it.
 abbrev pub table : Config → List Event → List ℕ
 table c past =
     line_of (time_cells past)

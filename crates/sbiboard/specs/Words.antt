@@ -8,10 +8,10 @@ use Rattle.board_core.specs.declared.config.Config.{Config}
 use Rattle.board_core.specs.declared.event.Actor.{Actor}
 use Rattle.board_core.specs.declared.event.Actor.TheVariants.{Hart, Clock}
 use Rattle.board_core.specs.declared.event.Op.{Op}
-use Rattle.board_core.specs.declared.event.Op.TheVariants.{Ecall, Load, Store, Fetch, WriteSatp, WriteSie, WriteSstatusSie, ReadSip, ClearSsip, Sfence, FenceI, Wfi, Advance, Tick}
+use Rattle.board_core.specs.declared.event.Op.TheVariants.{Ecall, Load, Store, Fetch, WriteSatp, WriteSie, WriteSstatusSie, ReadSip, ClearSsip, Sfence, FenceI, Wfi, Poll, Serve, Advance, Tick}
 use Rattle.board_core.specs.declared.event.Refusal.{Refusal}
 use Rattle.board_core.specs.declared.event.Reply.{Reply}
-use Rattle.board_core.specs.declared.event.Reply.TheVariants.{Ret, Waiting, Gone, Entry, Value, Fault, Moved, Done}
+use Rattle.board_core.specs.declared.event.Reply.TheVariants.{Ret, Waiting, Gone, Entry, Value, Fault, Served, Moved, Done}
 use Rattle.board_core.specs.Refusals.{refusal_number}
 
 -- `0x` and lower case hexadecimal digits with no leading zero
@@ -44,6 +44,8 @@ op_words ClearSsip = codes "clearssip" ∷ []
 op_words (Sfence va asid) = codes "sfence" ∷ hex_or_dash va ∷ hex_or_dash asid ∷ []
 op_words FenceI = codes "fencei" ∷ []
 op_words Wfi = codes "wfi" ∷ []
+op_words Poll = codes "poll" ∷ []
+op_words Serve = codes "serve" ∷ []
 op_words Advance = codes "advance" ∷ []
 op_words (Tick n) = codes "tick" ∷ hex n ∷ []
 
@@ -54,6 +56,7 @@ reply_words (Ok Gone) = codes "gone" ∷ []
 reply_words (Ok (Entry addr hart opaque)) = codes "entry" ∷ hex addr ∷ decimal hart ∷ hex opaque ∷ []
 reply_words (Ok (Value value)) = codes "value" ∷ hex value ∷ []
 reply_words (Ok (Fault cause)) = codes "fault" ∷ decimal (cause_number cause) ∷ []
+reply_words (Ok Served) = codes "served" ∷ []
 reply_words (Ok (Moved s)) = codes "moved" ∷ decimal (state_number s) ∷ []
 reply_words (Ok Done) = codes "done" ∷ []
 reply_words (Err refusal) = codes "refused" ∷ decimal (refusal_number refusal) ∷ []

@@ -39,8 +39,10 @@ Faults of a schedule, of which the first is said as `line L: fault N` (line 0 is
   8  more than 16,777,216 bytes
 
 Refusals of a step, printed as `refused N`; a refused step changes nothing:
-  2  the hart isn't there, or isn't in a state for this operation, or it is another actor's
-  3  nothing to do: no transition is pending, or no interrupt wakes the hart
+  2  the hart isn't there, or isn't in a state for this operation, or it is another actor's;
+     inside a fence call a hart's guest does nothing
+  3  nothing to do: no transition is pending, no interrupt wakes the hart, no fence waits to
+     be served, or the fence of the call that is polled still waits at a hart
   4  the history is full
   5  the time would pass 2^64-2
 

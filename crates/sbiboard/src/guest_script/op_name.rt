@@ -33,6 +33,10 @@ pub enum OpName {
     Fencei,
     /// `wfi`
     Wfi,
+    /// `poll`
+    Poll,
+    /// `serve`
+    Serve,
     /// `advance`
     Advance,
     /// `tick`
@@ -68,6 +72,8 @@ impl OpName {
             b"sfence" => Some(OpName::Sfence),
             b"fencei" => Some(OpName::Fencei),
             b"wfi" => Some(OpName::Wfi),
+            b"poll" => Some(OpName::Poll),
+            b"serve" => Some(OpName::Serve),
             b"advance" => Some(OpName::Advance),
             b"tick" => Some(OpName::Tick),
             _ => None,
@@ -98,7 +104,8 @@ impl OpName {
             OpName::Sie | OpName::Tick => any_numbers(1, 1),
             OpName::Store => any_numbers(2, 2),
             OpName::Sip | OpName::Clearssip | OpName::Fencei => any_numbers(0, 0),
-            OpName::Wfi | OpName::Advance => any_numbers(0, 0),
+            OpName::Wfi | OpName::Poll => any_numbers(0, 0),
+            OpName::Serve | OpName::Advance => any_numbers(0, 0),
         }
     }
 
@@ -120,6 +127,8 @@ impl OpName {
             OpName::Sfence => Op::Sfence(argument_at(arguments, 0), argument_at(arguments, 1)),
             OpName::Fencei => Op::FenceI,
             OpName::Wfi => Op::Wfi,
+            OpName::Poll => Op::Poll,
+            OpName::Serve => Op::Serve,
             OpName::Advance => Op::Advance,
             OpName::Tick => Op::Tick(number_at(arguments, 0)),
         }

@@ -107,6 +107,8 @@ fn op_onto(line: &mut LineText, op: Op)
         }
         Op::FenceI => line.word(b"fencei"),
         Op::Wfi => line.word(b"wfi"),
+        Op::Poll => line.word(b"poll"),
+        Op::Serve => line.word(b"serve"),
         Op::Advance => line.word(b"advance"),
         Op::Tick(n) => number_onto(line, b"tick", n),
     }
@@ -163,6 +165,7 @@ fn reply_onto(line: &mut LineText, answer: Result<Reply, Refusal>)
             line.word(b"fault");
             line.decimal(cause.number());
         }
+        Ok(Reply::Served) => line.word(b"served"),
         Ok(Reply::Moved(state)) => {
             line.word(b"moved");
             line.decimal(state.number());

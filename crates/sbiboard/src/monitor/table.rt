@@ -1,15 +1,19 @@
-ghost use Rattle.std.specs.Prelude.{◌≡◌, ◌+◌, ◌^◌, ◌<◌, ◌≤◌, [], ◌∷◌, ◌++◌, length};
+ghost use Rattle.std.specs.Prelude.{◌≡◌, ◌+◌, ◌*◌, ◌^◌, ◌<◌, ◌≤◌, [], ◌∷◌, ◌++◌, length};
 ghost use Rattle.std.specs.List.{flat_map};
 ghost use Rattle.board_core.specs.Course.{harts_of};
-ghost use Rattle.sbiboard.specs.LineText.{hex_column_room, hex_column_work, line_room, with_words};
+ghost use Rattle.board_core.specs.Fences.{waiting};
+ghost use Rattle.sbiboard.specs.LineText.{decimal_room, fence_room, flush_room, hex_column_room, hex_column_work, line_room, with_words};
 ghost use Rattle.sbiboard.specs.Sinks.{Puts};
-ghost use Rattle.sbiboard.specs.Table.{deadline_cell, details, entries, entry_cells, entry_line, hart_cells, head_cells, letter, rights, row, state_name, table, time_cells, tlb_cells, tlb_line, totals_cells, word_cells, word_line, words};
+ghost use Rattle.sbiboard.specs.Table.{asid_words, deadline_cell, details, entries, entry_cells, entry_line, fence_cells, fence_line, flush_words, hart_cells, head_cells, letter, outstanding_cell, range_words, rights, row, state_name, table, time_cells, tlb_cells, tlb_line, totals_cells, word_cells, word_line, words};
 ghost use Rattle.sbiboard.specs.Words.{line_of};
 
 use super::line_text::LineText;
 use super::lines::bit;
 use super::sink::{Failed, Sink};
 use board_core::{Board, Entry, FetchWord, HartState, Kept, Totals};
+use fence_queue::Request;
+use hart_mask::HartSet;
+use tlb_model::{Flush, Range};
 
 /// Prints the board's table, of lines that are comments in a script.
 pub fn print<W: Sink>(board: &Board, sink: &mut W) -> Result<(), Failed>
@@ -54,14 +58,15 @@ fn print_hart<W: Sink>(board: &Board, h: u64, sink: &mut W) -> Result<(), Failed
 {
     print_entry(h, board.kept(h), sink)?;
     print_tlb(board, h, sink)?;
-    print_fetched(board, h, sink)
+    print_fetched(board, h, sink)?;
+    print_fences(board, h, sink)
 }
 
 fn print_tlb<W: Sink>(board: &Board, h: u64, sink: &mut W) -> Result<(), Failed>
     requires failures { W.failures sink.old < 2 ^ 63 }
     requires is_hart { h < board.now.config.harts }
     ensures { Puts W.written W.failures sink.old sink.new result
-        (flat_map (tlb_line h) (entries board.now.past h)) }
+        (flat_map (tlb_line h) (entries board.now.config board.now.past h)) }
 {
     let fills = board.tlb(h);
     for fill in fills {
@@ -79,6 +84,18 @@ fn print_fetched<W: Sink>(board: &Board, h: u64, sink: &mut W) -> Result<(), Fai
     let fills = board.fetched(h);
     for fill in fills {
         word_line(h, &fill.item).put(sink)?;
+    }
+    Ok(())
+}
+
+fn print_fences<W: Sink>(board: &Board, h: u64, sink: &mut W) -> Result<(), Failed>
+    requires failures { W.failures sink.old < 2 ^ 63 }
+    requires is_hart { h < board.now.config.harts }
+    ensures { Puts W.written W.failures sink.old sink.new result
+        (flat_map (fence_line h) (waiting board.now.config board.now.past h)) }
+{
+    for request in board.waiting(h) {
+        fence_line(h, &request).put(sink)?;
     }
     Ok(())
 }
@@ -169,8 +186,8 @@ fn hart_line(board: &Board, h: u64) -> LineText
     line.word(b"#");
     line.right_decimal(4, h);
     line.left(15, name(board.state(h)));
-    line.right_decimal(4, 0);
-    line.right(3, b"-");
+    line.right_decimal(4, board.waiting_len(h));
+    outstanding_onto(&mut line, board.outstanding(h));
     line.right_decimal(2, bit(board.ssip(h)));
     line.right_decimal(2, bit(board.stip(h)));
     line.hex_column(2, board.sie(h).bits());
@@ -184,7 +201,7 @@ fn hart_line(board: &Board, h: u64) -> LineText
 
 fn entry_count(board: &Board, h: u64) -> u64
     requires { h < board.now.config.harts }
-    ensures { result ≡ length (entries board.now.past h) }
+    ensures { result ≡ length (entries board.now.config board.now.past h) }
 {
     board.tlb(h).len() as u64
 }
@@ -194,6 +211,17 @@ fn word_count(board: &Board, h: u64) -> u64
     ensures { result ≡ length (words board.now.config board.now.past h) }
 {
     board.fetched(h).len() as u64
+}
+
+fn outstanding_onto(line: &mut LineText, harts: Option<HartSet>)
+    requires { length line.old + decimal_room ≤ line_room }
+    ensures text { line.new ≡ line.old ++ 32 ∷ outstanding_cell harts }
+    ensures len { length line.new ≤ length line.old + decimal_room }
+{
+    match harts {
+        Some(harts) => line.right_decimal(3, harts.len()),
+        None => line.right(3, b"-"),
+    }
 }
 
 fn deadline_onto(line: &mut LineText, deadline: Option<u64>)
@@ -275,6 +303,68 @@ fn word_line(h: u64, fetched: &FetchWord) -> LineText
     line.hex_column(16, fetched.pa);
     line.hex_column(16, fetched.word);
     line
+}
+
+#[tactic(auto, unfolding(crate::specs::Table::fence_cells))]
+fn fence_line(h: u64, request: &Request<Flush>) -> LineText
+    ensures text { result ≡ with_words [] (fence_cells h request.now) }
+    ensures some { 0 < length result }
+    ensures room { length result < line_room }
+{
+    let mut line = LineText::new();
+    line.word(b"#");
+    line.word(b"fence");
+    line.right_decimal(3, h);
+    line.word(b"from");
+    line.right_decimal(3, request.from);
+    flush_onto(&mut line, request.flush);
+    line
+}
+
+/// Appends what a fence drops.
+fn flush_onto(line: &mut LineText, flush: Flush)
+    requires { length line.old ≤ fence_room }
+    ensures text { line.new ≡ with_words line.old (flush_words flush) }
+    ensures len { length line.new ≤ length line.old + flush_room }
+    ensures some { 0 < length line.new }
+{
+    match flush {
+        Flush::Words => line.word(b"i"),
+        Flush::Entries(fence) => {
+            line.word(b"vma");
+            range_onto(line, fence.range);
+            asid_onto(line, fence.asid);
+        }
+    }
+}
+
+/// Appends the addresses that a fence is of.
+fn range_onto(line: &mut LineText, range: Option<Range>)
+    requires { length line.old ≤ fence_room + 4 }
+    ensures text { line.new ≡ with_words line.old (range_words range) }
+    ensures len { length line.new ≤ length line.old + 2 * hex_column_room }
+    ensures some { 0 < length line.new }
+{
+    match range {
+        None => line.word(b"full"),
+        Some(range) => {
+            line.hex_column(16, range.start);
+            line.hex_column(16, range.size);
+        }
+    }
+}
+
+/// Appends the address space that a fence is of, where it is of one.
+fn asid_onto(line: &mut LineText, asid: Option<u16>)
+    requires { length line.old ≤ fence_room + 4 + 2 * hex_column_room }
+    ensures text { line.new ≡ with_words line.old (asid_words asid) }
+    ensures len { length line.new ≤ length line.old + 5 + hex_column_room }
+    ensures some { length line.old ≤ length line.new }
+{
+    if let Some(asid) = asid {
+        line.word(b"asid");
+        line.hex_column(4, u64::from(asid));
+    }
 }
 
 fn name(state: HartState) -> &'static [u8]

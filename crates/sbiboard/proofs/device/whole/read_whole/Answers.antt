@@ -1,4 +1,4 @@
-use Rattle.std.proofs.Common.{arith, ℕ}
+use Rattle.std.proofs.Common.{arith}
 use Rattle.std.proofs.lemmas.List.{length-take}
 use Rattle.sbiboard.proofs.UpTo.{reads-more}
 use Rattle.sbiboard.proofs.device.whole.read_whole.Goals as goal

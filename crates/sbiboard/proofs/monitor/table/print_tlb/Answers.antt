@@ -15,6 +15,6 @@ loop-fill-preserved g c =
 
 pub returns : goal.returns
 returns g c =
-    let lines = lines_kept c.tlb-fills.result.now (live covers_entry (tlb_acts c.args.board.now.past c.args.h)) c.tlb-fills.ensures (tlb_line c.args.h) in
+    let lines = lines_kept c.tlb-fills.result.now (live covers_entry (tlb_acts c.args.board.now.config c.args.board.now.past c.args.h)) c.tlb-fills.ensures (tlb_line c.args.h) in
     let all = rw (take_all c.loop-fill.fill-index c.tlb-fills.result.now (omega arith)) at c.loop-fill.invariant in
     rw (← lines) all

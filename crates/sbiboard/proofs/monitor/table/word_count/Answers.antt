@@ -1,4 +1,3 @@
-use Rattle.std.proofs.Common.{sym, ◌∙◌}
 use Rattle.tlb_model.specs.Acts.{live}
 use Rattle.tlb_model.specs.Words.{covers_word}
 use Rattle.board_core.specs.Memory.{word_acts}
