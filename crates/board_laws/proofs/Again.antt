@@ -1,14 +1,29 @@
 -- A legal history follows from its steps.
-use Rattle.std.proofs.Common.{◌≡◌, List, [], ◌∷◌, refl, sym, ap, ◌∙◌}
+use Rattle.std.proofs.Common.{◌≡◌, ◌↔◌, List, [], ◌∷◌, subst, refl, sym, ap, ◌∙◌, Result, Ok, Err}
 use Rattle.board_core.specs.declared.config.Config.{Config}
 use Rattle.board_core.specs.Course.{Course}
 use Rattle.board_core.specs.History.{Event}
-use Rattle.board_core.specs.Replies.{IsLegal, stepped}
+use Rattle.board_core.specs.declared.event.Refusal.{Refusal}
+use Rattle.board_core.specs.declared.event.Reply.{Reply}
+use Rattle.board_core.specs.Replies.{IsLegal, answer, recorded, stepped}
 use Rattle.board_core.proofs.Steps.{stepped-more}
-use Rattle.board_laws.specs.Again.{again, steps_of}
+use Rattle.board_laws.specs.Again.{Step, again, steps_of}
 
-pub recorded_is_recomputed : (c : Config) (past : List Event) → IsLegal c past → again c (steps_of past) ≡ past
-recorded_is_recomputed c [] legal = refl
-recorded_is_recomputed c (event ∷ past) legal =
-    ap (λ (before : List Event). (stepped (record { config = c; past = before }) event.actor event.op).past) (recorded_is_recomputed c past legal.2)
+same-again : (c : Config) (past : List Event) → IsLegal c past → again c (steps_of past) ≡ past
+same-again c [] legal = refl
+same-again c (event ∷ past) legal =
+    ap (λ (before : List Event). (stepped (record { config = c; past = before }) event.actor event.op).past) (same-again c past legal.2)
     ∙ sym (ap (λ (b : Course). b.past) (stepped-more c past event legal.0 legal.1))
+
+-- what steps make is legal
+pub again-legal : (c : Config) (steps : List Step) → IsLegal c (again c steps)
+again-legal c [] = tt
+again-legal c (step ∷ steps) = by_answer (answer c (again c steps) step.actor step.op) refl (again-legal c steps)
+  where
+    by_answer : (r : Result Reply Refusal) → answer c (again c steps) step.actor step.op ≡ r → IsLegal c (again c steps)
+        → IsLegal c (recorded (record { config = c; past = again c steps }) step.actor step.op r).past
+    by_answer (Ok reply) is legal = (is, refl, legal)
+    by_answer (Err refusal) is legal = legal
+
+pub recorded_is_recomputed : (c : Config) (past : List Event) → IsLegal c past ↔ (again c (steps_of past) ≡ past)
+recorded_is_recomputed c past = (same-again c past, λ same. subst (IsLegal c) same (again-legal c (steps_of past)))

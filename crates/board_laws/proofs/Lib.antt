@@ -6,3 +6,4 @@ pub mod Gone
 pub mod Fresh
 pub mod Steady
 pub mod Again
+pub mod WorkedRows

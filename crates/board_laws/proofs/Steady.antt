@@ -27,11 +27,16 @@ use Rattle.board_core.specs.Memory.{memory, satp}
 use Rattle.board_core.specs.Replies.{IsLegal}
 use Rattle.board_laws.specs.Fresh.{FencedAccess}
 use Rattle.board_laws.specs.Places.{past_at}
-use Rattle.board_laws.specs.Steady.{IsDecidedBy, IsSteady, phys_of}
+use Rattle.board_laws.specs.Steady.{IsDecidedBy, IsSteady, no_tlb}
 use Rattle.board_laws.proofs.Fresh.{after-fence, translations_are_fresh}
 use Rattle.board_laws.proofs.Leaves.{leaf-page, page-bounds}
 use Rattle.board_laws.proofs.Lives.{answered-reach, used-reach}
 use Rattle.board_laws.proofs.Places.{legal-with}
+
+-- the physical address that the result of the page tables gives an address, or the fault
+abbrev phys_of : Result Leaf Cause → (va : ℕ) → Result ℕ Cause
+phys_of (Ok leaf) va = Ok (phys_in leaf va)
+phys_of (Err cause) va = Err cause
 
 -- an access that is translated hits or walks
 translated-way : (memory_now : ℕ → Option ℕ) (satp_now : ℕ) (tlb : Address → Option Entry) (va : ℕ) (kind : Kind) → IsTranslated satp_now va
@@ -60,6 +65,12 @@ way-decided : (found : Option Entry) (asid va : ℕ) (kind : Kind) (walked resul
 way-decided (Some entry) asid va kind walked result same decides = leaf-decides entry.leaf va kind result (decides entry refl)
 way-decided None asid va kind (Ok leaf) result same decides = leaf-decides leaf va kind result (decides (record { leaf = leaf; asid = asid }) refl)
 way-decided None asid va kind (Err cause) result same decides = ap (λ r. phys_of r va) same
+
+-- and that of one without TLBs
+way-walked : (asid va : ℕ) (kind : Kind) (walked result : Result Leaf Cause) → walked ≡ result → ((leaf : Leaf) → walked ≡ Ok leaf → walked ≡ by_right kind leaf)
+    → phys_by (way_by None asid walked) va kind ≡ phys_of result va
+way-walked asid va kind (Ok leaf) result same allowed = leaf-decides leaf va kind result (sym same ∙ allowed leaf refl)
+way-walked asid va kind (Err cause) result same allowed = ap (λ r. phys_of r va) same
 
 right-leaf : (kind : Kind) (entry_leaf leaf : Leaf) (result : Result Leaf Cause) → result ≡ by_right kind entry_leaf → result ≡ Ok leaf → entry_leaf ≡ leaf
 right-leaf kind entry_leaf leaf result is e = by_test (allows kind entry_leaf) (sym is ∙ e)
@@ -97,6 +108,8 @@ steady_tables_decide c past t a p fence reach result legal x is_translated stead
     let decides = λ (entry : Entry) (used_entry : used_by (way_by found (asid_of (satp older t)) walked) ≡ Some entry). decided entry (entry_used ∙ used_entry) in
     let place_is = ap (λ w. in_memory (memory c older) kind (phys_by w reach.va kind)) way_is
     ∙ ap (in_memory (memory c older) kind) (way-decided found (asid_of (satp older t)) reach.va kind walked result walked_is decides) in
+    let alone_is = ap (λ w. in_memory (memory c older) kind (phys_by w reach.va kind)) (translated-way (memory c older) (satp older t) no_tlb reach.va kind is_translated)
+    ∙ ap (in_memory (memory c older) kind) (way-walked (asid_of (satp older t)) reach.va kind walked result walked_is (walked-allows (memory c older) (satp older t) reach.va kind)) in
     let reply_is = answered-reach c older t x.event.actor x.event.op x.event.reply reach x.by_hart x.access with_event.0
     ∙ ap (λ place. access_reply_of reach.access (whole.answer_by (memory c older) (cached c older t) place reach.access)) place_is in
     record {
@@ -104,7 +117,7 @@ steady_tables_decide c past t a p fence reach result legal x is_translated stead
       fault = λ cause is. reply_is
           ∙ ap (λ (r : Result Leaf Cause). access_reply_of reach.access (whole.answer_by (memory c older) (cached c older t) (in_memory (memory c older) kind (phys_of r reach.va)) reach.access)) is
           ∙ failed reach.access cause;
-      reply = reply_is;
+      reply = reply_is ∙ sym (ap (λ place. access_reply_of reach.access (whole.answer_by (memory c older) (cached c older t) place reach.access)) alone_is);
     }
   where
     -- each entry that the access may use is the result's leaf, or doesn't allow the access
