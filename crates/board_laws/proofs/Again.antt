@@ -1,19 +1,24 @@
 -- A legal history follows from its steps.
 use Rattle.std.proofs.Common.{◌≡◌, ◌↔◌, List, [], ◌∷◌, subst, refl, sym, ap, ◌∙◌, Result, Ok, Err}
 use Rattle.board_core.specs.declared.config.Config.{Config}
-use Rattle.board_core.specs.Course.{Course}
 use Rattle.board_core.specs.History.{Event}
 use Rattle.board_core.specs.declared.event.Refusal.{Refusal}
 use Rattle.board_core.specs.declared.event.Reply.{Reply}
 use Rattle.board_core.specs.Replies.{IsLegal, answer, recorded, stepped}
-use Rattle.board_core.proofs.Steps.{stepped-more}
+use Rattle.board_core.specs.Accesses.{used_by_actor}
 use Rattle.board_laws.specs.Again.{Step, again, steps_of}
+
+-- an event that is answered so and used so is the one that its step makes
+stepped-same : (c : Config) (past : List Event) (event : Event) → answer c past event.actor event.op ≡ Ok event.reply → event.translation ≡ used_by_actor c past event.actor event.op
+    → (stepped (record { config = c; past = past }) event.actor event.op).past ≡ event ∷ past
+stepped-same c past event answered translated =
+    rw answered (λ i. record { actor = event.actor; op = event.op; reply = event.reply; translation = sym translated i } ∷ past)
 
 same-again : (c : Config) (past : List Event) → IsLegal c past → again c (steps_of past) ≡ past
 same-again c [] legal = refl
 same-again c (event ∷ past) legal =
     ap (λ (before : List Event). (stepped (record { config = c; past = before }) event.actor event.op).past) (same-again c past legal.2)
-    ∙ sym (ap (λ (b : Course). b.past) (stepped-more c past event legal.0 legal.1))
+    ∙ stepped-same c past event legal.0 legal.1
 
 -- what steps make is legal
 pub again-legal : (c : Config) (steps : List Step) → IsLegal c (again c steps)
