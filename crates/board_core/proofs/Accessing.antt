@@ -1,5 +1,5 @@
 -- What an access does, by the way that it takes.
-use Rattle.std.proofs.Common.{◌≡◌, ℕ, ◌%◌, Bool, true, false, not, List, refl, sym, ap, ◌∙◌}
+use Rattle.std.proofs.Common.{◌≡◌, ◌≢◌, ℕ, ◌%◌, Bool, true, false, not, List, refl, sym, ap, ◌∙◌}
 use Rattle.std.specs.Prelude.{Option, Some, None, Result, Ok, Err, unwrap_or, ◌==◌, if◌then◌else◌}
 use Rattle.sv39.specs.declared.cause.Cause.{Cause}
 use Rattle.sv39.specs.declared.cause.Kind.{Kind}
@@ -13,7 +13,9 @@ use Rattle.tlb_model.specs.declared.entry.Address.{Address}
 use Rattle.tlb_model.specs.declared.entry.Entry.{Entry}
 use Rattle.tlb_model.specs.declared.word.FetchWord.{FetchWord}
 use Rattle.tlb_model.specs.declared.fence.Flush.{Flush}
-use Rattle.tlb_model.specs.Acts.{Act, Fill, Drop, Clear, Nothing, acted}
+use Rattle.rfence.specs.Applied.{Nothing, effect}
+use Rattle.tlb_model.specs.Acts as acts
+use Rattle.tlb_model.specs.Acts.{Act, acted}
 use Rattle.tlb_model.specs.Contents.{Contents, filled_if}
 use Rattle.tlb_model.specs.Entries.{covers_entry}
 use Rattle.tlb_model.specs.Words.{covers_word}
@@ -29,34 +31,38 @@ use Rattle.board_core.specs.Accesses.{access_reply_of}
 use Rattle.board_core.specs.declared.config.Config.{Config}
 use Rattle.board_core.specs.declared.event.Reply.{Reply}
 use Rattle.board_core.specs.History.{Event, access_op, using}
-use Rattle.board_core.specs.Memory.{act_at, act_by, cached_in, effect_by, entry_filling, filling_of, hit_in, nothing, satp_by, storing_by, word_filling, written_by}
+use Rattle.board_core.specs.Fences.{turn_by, turns}
+use Rattle.board_core.specs.Memory.{act_by, address_by, cached_in, entry_filling, filling_of, hit_in, own_filling, satp_by, storing_by, word_filling, written_by}
 use Rattle.board_core.proofs.Events.{deed, still}
-
--- an act of the hart's own is what its cache sees
-pub own_act : {E : Type 0} (own : Bool) → own ≡ true → (act : Act E) → act_at own act ≡ act
-own_act own is Nothing = refl
-own_act own is (Fill item) = rw is refl
-own_act own is (Drop flush) = rw is refl
-own_act own is Clear = rw is refl
+use Rattle.board_core.proofs.Standing.{filled-elsewhere}
+use Rattle.board_core.proofs.Tables.{eqb-other, eqb-same}
 
 filled_by_act : {E : Type 0} (covers : Flush → E → Bool) (cache : Contents E) (own : Bool) → own ≡ true → (filling : Option E)
-    → acted covers cache (act_at own (act_by nothing filling)) ≡ filled_if cache filling
+    → acted covers cache (act_by Nothing (own_filling own filling)) ≡ filled_if cache filling
 filled_by_act covers cache own is None = refl
 filled_by_act covers cache own is (Some item) = rw is refl
 
--- what the act of an access makes of the two caches
-pub tlb_by_act : (cache : Contents Entry) (own : Bool) → own ≡ true → (va : ℕ) (what : Access) (reply : Reply) (used : Option Entry) (satp : ℕ) (acts : List (Act Entry))
-    → acted covers_entry cache (act_at own (act_by (effect_by (access_op va what) reply) (entry_filling (access_op va what) used satp acts)))
-    ≡ filled_if cache (filling_of (hit_in acts satp va) used)
-tlb_by_act cache own is va Load reply used satp acts = filled_by_act covers_entry cache own is (filling_of (hit_in acts satp va) used)
-tlb_by_act cache own is va (Store value) reply used satp acts = filled_by_act covers_entry cache own is (filling_of (hit_in acts satp va) used)
-tlb_by_act cache own is va Fetch reply used satp acts = filled_by_act covers_entry cache own is (filling_of (hit_in acts satp va) used)
+module _ (c : Config) (past : List Event) (h va : ℕ) (reply : Reply) where
+  -- what the act of an access makes of the two caches of its hart
+  pub tlb_by_act : (cache : Contents Entry) (what : Access) (used : Option Entry) (satp : ℕ) (acts : List (Act Entry))
+      → acted covers_entry cache (act_by (effect (turns c past) (turn_by c past h (access_op va what) reply) h) (own_filling (h == h) (entry_filling (access_op va what) used satp acts)))
+      ≡ filled_if cache (filling_of (hit_in acts (address_by satp va)) used)
+  tlb_by_act cache Load used satp acts = filled_by_act covers_entry cache _ (eqb-same h) (filling_of (hit_in acts (address_by satp va)) used)
+  tlb_by_act cache (Store value) used satp acts = filled_by_act covers_entry cache _ (eqb-same h) (filling_of (hit_in acts (address_by satp va)) used)
+  tlb_by_act cache Fetch used satp acts = filled_by_act covers_entry cache _ (eqb-same h) (filling_of (hit_in acts (address_by satp va)) used)
 
-pub words_by_act : (cache : Contents FetchWord) (own : Bool) → own ≡ true → (va : ℕ) (what : Access) (reply : Reply) (filling : Option FetchWord)
-    → acted covers_word cache (act_at own (act_by (effect_by (access_op va what) reply) filling)) ≡ filled_if cache filling
-words_by_act cache own is va Load reply filling = filled_by_act covers_word cache own is filling
-words_by_act cache own is va (Store value) reply filling = filled_by_act covers_word cache own is filling
-words_by_act cache own is va Fetch reply filling = filled_by_act covers_word cache own is filling
+  pub words_by_act : (cache : Contents FetchWord) (what : Access) (filling : Option FetchWord)
+      → acted covers_word cache (act_by (effect (turns c past) (turn_by c past h (access_op va what) reply) h) (own_filling (h == h) filling)) ≡ filled_if cache filling
+  words_by_act cache Load filling = filled_by_act covers_word cache _ (eqb-same h) filling
+  words_by_act cache (Store value) filling = filled_by_act covers_word cache _ (eqb-same h) filling
+  words_by_act cache Fetch filling = filled_by_act covers_word cache _ (eqb-same h) filling
+
+  -- and of those of another hart
+  pub nothing_elsewhere : {E : Type 0} (what : Access) (j : ℕ) (filling : Option E) → h ≢ j
+      → act_by (effect (turns c past) (turn_by c past h (access_op va what) reply) j) (own_filling (j == h) filling) ≡ acts.Nothing
+  nothing_elsewhere Load j filling other = ap (act_by Nothing) (ap (λ own. own_filling own filling) (eqb-other j h (λ e. other (sym e))) ∙ filled-elsewhere filling)
+  nothing_elsewhere (Store value) j filling other = ap (act_by Nothing) (ap (λ own. own_filling own filling) (eqb-other j h (λ e. other (sym e))) ∙ filled-elsewhere filling)
+  nothing_elsewhere Fetch j filling other = ap (act_by Nothing) (ap (λ own. own_filling own filling) (eqb-other j h (λ e. other (sym e))) ∙ filled-elsewhere filling)
 
 -- an access touches nothing but the memory
 pub memory_alone : (c : Config) (past : List Event) (h va : ℕ) (what : Access) (reply : Reply) (used : Option Entry)
@@ -72,9 +78,9 @@ no_satp va Fetch reply = refl
 
 -- an access fills what it used, where it hit nothing
 pub filled_unless_hit : (memory : ℕ → Option ℕ) (satp : ℕ) (tlb : Address → Option Entry) (va : ℕ) (kind : Kind)
-    → filling_of (tlb (record { va = va; asid = asid_of satp })) (used_by (way memory satp tlb va kind)) ≡ fill_by (way memory satp tlb va kind)
+    → filling_of (tlb (address_by satp va)) (used_by (way memory satp tlb va kind)) ≡ fill_by (way memory satp tlb va kind)
 filled_unless_hit memory satp tlb va kind =
-    by_tests (va % 8 == 0) (is_sv39 satp) (is_valid va) (tlb (record { va = va; asid = asid_of satp })) (maps memory satp va kind)
+    by_tests (va % 8 == 0) (is_sv39 satp) (is_valid va) (tlb (address_by satp va)) (maps memory satp va kind)
   where
     by_tests : (aligned mode valid : Bool) (hit : Option Entry) (walked : Result Leaf Cause)
         → (let w = (if not aligned then Fault (misaligned kind) else if not mode then Plain else if not valid then Fault (page_fault kind) else way_by hit (asid_of satp) walked) in

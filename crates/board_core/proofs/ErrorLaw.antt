@@ -1,8 +1,11 @@
 -- In a legal history an error does nothing, and what does nothing changes no look-up.
 use Rattle.std.proofs.Common.{◌≡◌, ℕ, ◌+◌, Bool, true, false, List, [], ◌∷◌, length, refl, sym, ap, ◌∙◌, arith}
-use Rattle.std.specs.Prelude.{Option, Some, None, Result, Ok, Err, nat_le, not, if◌then◌else◌, is_none}
+use Rattle.std.specs.Prelude.{Option, Some, None, Result, Ok, Err, nat_le, not, if◌then◌else◌, is_none, sum_by}
 use Rattle.std.specs.List.{filter_map}
 use Rattle.sbi_abi.specs.declared.answer.SbiError.{SbiError}
+use Rattle.sbi_abi.specs.declared.answer.Sbiret.{Sbiret}
+use Rattle.tlb_model.specs.declared.fence.Flush.{Flush}
+use Rattle.rfence.specs.Turns.{Turn, Quiet}
 use Rattle.sbi_abi.specs.declared.answer.SbiError.TheVariants.{InvalidParam, InvalidAddress, AlreadyAvailable, Failed}
 use Rattle.sbi_abi.specs.declared.call.Call.{Call}
 use Rattle.sbi_abi.specs.declared.call.Call.TheVariants as calls
@@ -19,7 +22,7 @@ use Rattle.board_core.specs.declared.event.Actor.{Actor}
 use Rattle.board_core.specs.declared.event.Actor.TheVariants.{Hart, Clock}
 use Rattle.board_core.specs.History.{Event}
 use Rattle.board_core.specs.declared.event.Op.{Op}
-use Rattle.board_core.specs.declared.event.Op.TheVariants.{Ecall, Load, Store, Fetch, WriteSatp, WriteSie, WriteSstatusSie, ReadSip, ClearSsip, Wfi, Sfence, FenceI, Advance, Tick}
+use Rattle.board_core.specs.declared.event.Op.TheVariants.{Ecall, Load, Store, Fetch, WriteSatp, WriteSie, WriteSstatusSie, ReadSip, ClearSsip, Wfi, Sfence, FenceI, Poll, Serve, Advance, Tick}
 use Rattle.board_core.specs.declared.event.Refusal.{Refusal}
 use Rattle.board_core.specs.declared.event.Reply.{Reply}
 use Rattle.board_core.specs.declared.event.Reply.TheVariants.{Ret, Gone, Done}
@@ -35,10 +38,12 @@ use Rattle.board_core.specs.Csrs.{sstatus_sie}
 use Rattle.board_core.specs.Memory.{memory, satp, written_by}
 use Rattle.board_core.proofs.Standing.{caches-same}
 use Rattle.board_core.specs.ErrorLaw.{LooksSame, is_error}
-use Rattle.board_core.specs.Interrupts.{reaches_by, time, wake}
+use Rattle.rfence.specs.State.{total_applied, total_asked}
+use Rattle.board_core.specs.Fences.{turn_of, turns, waiting}
+use Rattle.board_core.specs.Interrupts.{reaches_by, time}
 use Rattle.board_core.specs.Limits.{is_start_address}
-use Rattle.board_core.specs.Refusals.{clock_refusals, first_that_holds, is_full}
-use Rattle.board_core.specs.Replies.{IsLegal, advance_reply, answer, call_reply, failure, refused_or, reply, suspend_reply, unless}
+use Rattle.board_core.specs.Refusals.{clock_refusals, first_that_holds, is_full, situation}
+use Rattle.board_core.specs.Replies.{IsLegal, advance_reply, answer, call_reply, failure, fence_reply_to, refused_or, reply, suspend_reply, unless}
 use Rattle.board_core.specs.Starts.{Start, entries, last_start, pending, starts}
 use Rattle.board_core.specs.States.{state}
 use Rattle.board_core.specs.Suspends.{resume_point}
@@ -48,6 +53,12 @@ use Rattle.board_core.proofs.Rows.{accepted}
 module _ (c : Config) (past : List Event) where
   -- a call that answers an error does nothing
   module _ (x : ℕ) where
+    fence_failed : (call : Call) → ((answer : Sbiret) → deed_of_call c past x call (Ret answer) ≡ still) → (harts : Option (List ℕ)) (flush : Result Flush SbiError) (r : Reply)
+        → fence_reply_to harts flush ≡ r → is_error r ≡ true → deed_of_call c past x call r ≡ still
+    fence_failed call same None flush r is error = rw (← is) (same (failure InvalidParam))
+    fence_failed call same (Some harts) (Err refused) r is error = rw (← is) (same (failure refused))
+    fence_failed call same (Some harts) (Ok flush) r is error = absurd (let e = rw (← is) at error in cc)
+
     failed_call : (call : Call) (r : Reply) → call_reply c past x call ≡ r → is_error r ≡ true → deed_of_call c past x call r ≡ still
     failed_call calls.GetSpecVersion r is error = refl
     failed_call calls.GetImplId r is error = refl
@@ -63,6 +74,9 @@ module _ (c : Config) (past : List Event) where
             is_error r ≡ true → deed_of_call c past x (calls.SendIpi mask base) r ≡ still)
         by_targets true error = refl
         by_targets false error = cc
+    failed_call (calls.RemoteFenceI mask base) r is error = fence_failed (calls.RemoteFenceI mask base) (λ answer. refl) _ _ r is error
+    failed_call (calls.RemoteSfenceVma mask base start size) r is error = fence_failed (calls.RemoteSfenceVma mask base start size) (λ answer. refl) _ _ r is error
+    failed_call (calls.RemoteSfenceVmaAsid mask base start size asid) r is error = fence_failed (calls.RemoteSfenceVmaAsid mask base start size asid) (λ answer. refl) _ _ r is error
     failed_call (calls.HartStart t addr opaque) r is error =
         rw (← is) (by_errors (nat_le c.harts t) (is_start_address c.pages addr) (is_stopped (state c past t)) (rw (← is) at error))
       where
@@ -132,9 +146,11 @@ module _ (c : Config) (past : List Event) where
   failed Clock Wfi r used e error = cc
   failed Clock (Sfence va asid) r used e error = cc
   failed Clock FenceI r used e error = cc
+  failed Clock Poll r used e error = cc
+  failed Clock Serve r used e error = cc
   failed Clock Advance r used e error = cc
   failed Clock (Tick n) r used e error = absurd (let e = sym (ap is_error (ticked_well (first_that_holds (clock_refusals c past (Tick n))) r e)) ∙ error in cc)
-  failed (Hart x) op r used e error = by_op op (accepted (nat_le c.harts x) (state c past x) (wake c past x) op (is_full c past) (reply c past x op) r e).1
+  failed (Hart x) op r used e error = by_op op (accepted (nat_le c.harts x) (situation c past x) op (is_full c past) (reply c past x op) r e).1
     where
       by_op : (op : Op) → reply c past x op ≡ r → deed c past (record { actor = Hart x; op = op; reply = r; translation = used }) ≡ still
       by_op (Ecall regs) is = failed_call x (call_of regs) r is error
@@ -149,6 +165,8 @@ module _ (c : Config) (past : List Event) where
       by_op Wfi is = absurd (let e = rw (← is) at error in cc)
       by_op (Sfence va asid) is = absurd (let e = rw (← is) at error in cc)
       by_op FenceI is = absurd (let e = rw (← is) at error in cc)
+      by_op Poll is = absurd (let e = rw (← is) at error in cc)
+      by_op Serve is = absurd (let e = rw (← is) at error in cc)
       by_op Advance is = absurd (let e = sym (advanced_well x (state c past x) (last_start c past x) (resume_point past x)) ∙ ap is_error is ∙ error in cc)
       by_op (Tick n) is = absurd (let e = rw (← is) at error in cc)
 
@@ -165,10 +183,14 @@ module _ (c : Config) (past : List Event) where
       let no_satp = ap (λ (d : Deed). d.memory.satp) none in
       let ticks = ap (λ (d : Deed). d.interrupts.ticks) none in
       let entry = ap (λ (d : Deed). d.counts.entry) none in
+      let turned : turn_of c past event.actor event.op event.reply ≡ Quiet = ap (λ (d : Deed). d.turn) none in
       let reach : (h : ℕ) → reaches_by c past event.op event.reply h ≡ false = λ h. ap (λ (d : Deed). d.interrupts.reach h) none in
       let started : length (starts c (event ∷ past)) ≡ length (starts c past) = rw begun refl in
       let entered : length (entries c (event ∷ past)) ≡ length (entries c past) = rw entry refl in
       let still_pending : (h : ℕ) → pending c (event ∷ past) h ≡ pending c past h = λ h. rw (moves, begun) refl in
+      let asked : total_asked (turns c (event ∷ past)) ≡ total_asked (turns c past) = rw turned (omega arith) in
+      let applied : total_applied c.harts (turns c (event ∷ past)) ≡ total_applied c.harts (turns c past) = rw turned (omega arith) in
+      let waits : (h : ℕ) → waiting c (event ∷ past) h ≡ waiting c past h = λ h. rw turned refl in
       let later : time (event ∷ past) ≡ time past = rw ticks (omega arith) in
       record {
         state = λ h. rw moves refl;
@@ -183,14 +205,16 @@ module _ (c : Config) (past : List Event) where
         word = λ at. ap (λ storing. written_by storing (memory c past) at) (ap (λ (d : Deed). d.memory.storing) none);
         tlb = λ h. ap (λ (caches : Caches). caches.tlb.live) (caches-same c past event still none h refl refl);
         fetched = λ h. ap (λ (caches : Caches). caches.words.live) (caches-same c past event still none h refl refl);
+        waiting = waits;
+        outstanding = λ h. rw turned refl;
         time = later;
         totals = λ i. record {
           starts = started i;
           entries = entered i;
           pending = length (filter_map (λ h. still_pending h i) (harts_of c));
-          asked = 0;
-          applied = 0;
-          waiting = 0;
+          asked = asked i;
+          applied = applied i;
+          waiting = sum_by (λ h. length (waits h i)) (harts_of c);
         };
       }
 

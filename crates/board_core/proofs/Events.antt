@@ -1,7 +1,9 @@
 -- What accepted events do, by component: each part of a deed is what the definitions read off the event.
 use Rattle.std.proofs.Common.{◌≡◌, ℕ, Bool, true, false, List, refl, sym, ap}
-use Rattle.std.specs.Prelude.{Option, Some, None, ◌==◌}
+use Rattle.std.specs.Prelude.{Option, Some, None}
+use Rattle.sbi_abi.specs.declared.answer.Sbiret.{Sbiret}
 use Rattle.sbi_abi.specs.declared.call.Call.{Call}
+use Rattle.sbi_abi.specs.declared.call.Call.TheVariants as calls
 use Rattle.sbi_abi.specs.declared.call.Regs.{Regs}
 use Rattle.sbi_abi.specs.Calls.{call_of}
 use Rattle.hsm.specs.declared.hart.HartState.TheVariants as states
@@ -9,6 +11,9 @@ use Rattle.hsm.specs.declared.hart.Kept.{Kept}
 use Rattle.hsm.specs.States.{is_start_pending}
 use Rattle.tlb_model.specs.declared.entry.Entry.{Entry as CacheEntry}
 use Rattle.tlb_model.specs.declared.word.FetchWord.{FetchWord}
+use Rattle.rfence.specs.Applied.{effect}
+use Rattle.rfence.specs.Turns.{Turn, Quiet}
+use Rattle.tlb_model.specs.declared.fence.Flush.{Flush}
 use Rattle.tlb_model.specs.Acts.{Act, Nothing}
 use Rattle.board_core.specs.declared.config.Config.{Config}
 use Rattle.board_core.specs.declared.csrs.Sie.{Sie}
@@ -17,10 +22,11 @@ use Rattle.board_core.specs.History.{Event, by_hart}
 use Rattle.board_core.specs.declared.event.Op.{Op}
 use Rattle.board_core.specs.declared.event.Op.TheVariants.{Ecall, Advance}
 use Rattle.board_core.specs.declared.event.Reply.{Reply}
-use Rattle.board_core.specs.declared.event.Reply.TheVariants.{Entry}
+use Rattle.board_core.specs.declared.event.Reply.TheVariants.{Entry, Ret, Waiting}
 use Rattle.board_core.specs.Csrs.{none_enabled, sie_by, sstatus_sie_by}
+use Rattle.board_core.specs.Fences.{Remote, remote_of, turn_by_call, turn_by_remote, turn_of, turns}
 use Rattle.board_core.specs.Interrupts.{deadline_by, deadline_by_call, reaches_by, reaches_by_call, ssip_by, ticks_by}
-use Rattle.board_core.specs.Memory.{Storing, act_at, act_by, effect_by, effect_by_call, entry_filling, memory, satp, satp_by, storing_by, tlb_acts, word_acts, word_filling}
+use Rattle.board_core.specs.Memory.{Storing, act_by, entry_filling, memory, own_filling, satp, satp_by, storing_by, tlb_acts, word_acts, word_filling}
 use Rattle.board_core.specs.Starts.{Start, entry_by, start_by, start_by_call}
 use Rattle.board_core.specs.States.{Move, is_starting, move_by_call, move_of, state}
 use Rattle.board_core.specs.Suspends.{resume_by, resume_by_call}
@@ -40,7 +46,7 @@ pub record InterruptsDeed : Type 0 where
   pub ticks : ℕ
   pub reach : ℕ → Bool
 
--- of memory: a value for satp of the actor, a word to store, and what happens to the TLB and to the instruction cache of a hart
+-- of memory and caches: a value for satp of the actor, a word to store, and what happens to the TLB and to the instruction cache of a hart
 pub record MemoryDeed : Type 0 where
   pub satp : Option ℕ
   pub storing : Option Storing
@@ -52,10 +58,12 @@ pub record CountsDeed : Type 0 where
   pub start : Option Start
   pub entry : Option Start
 
+-- with its turn, which is what it means for fences
 pub record Deed : Type 0 where
   pub harts : HartsDeed
   pub interrupts : InterruptsDeed
   pub memory : MemoryDeed
+  pub turn : Turn Flush
   pub counts : CountsDeed
 
 -- nothing
@@ -64,6 +72,7 @@ still = record {
   harts = record { move = None; start = None; resume = None };
   interrupts = record { sstatus = None; sie = None; ssip = None; deadline = None; ticks = 0; reach = λ h. false };
   memory = record { satp = None; storing = None; tlb_act = λ h. Nothing; word_act = λ h. Nothing };
+  turn = Quiet;
   counts = record { start = None; entry = None };
 }
 
@@ -87,13 +96,23 @@ module _ (c : Config) (past : List Event) where
     memory = record {
       satp = satp_by event.op event.reply;
       storing = storing_by event.op event.reply event.translation;
-      tlb_act = λ h. act_at (is_hart h event.actor) (act_by (effect_by event.op event.reply) (entry_filling event.op event.translation (satp past h) (tlb_acts past h)));
-      word_act = λ h. act_at (is_hart h event.actor) (act_by (effect_by event.op event.reply) (word_filling event.op event.reply event.translation (memory c past) (word_acts c past h)));
+      tlb_act = λ h. act_by (effect (turns c past) (turn_of c past event.actor event.op event.reply) h) (own_filling (is_hart h event.actor) (entry_filling event.op event.translation (satp past h) (tlb_acts c past h)));
+      word_act = λ h. act_by (effect (turns c past) (turn_of c past event.actor event.op event.reply) h) (own_filling (is_hart h event.actor) (word_filling event.op event.reply event.translation (memory c past) (word_acts c past h)));
     };
+    turn = turn_of c past event.actor event.op event.reply;
     counts = record {
       start = start_by event.op event.reply;
       entry = entry_by event.op event.reply (is_starting c past event.actor);
     };
+  }
+
+  -- ---- turns
+
+  -- what a turn does
+  abbrev pub deed_of_turn : Turn Flush → Deed
+  deed_of_turn turn = record still {
+    memory = record still.memory { tlb_act = λ h. act_by (effect (turns c past) turn h) None; word_act = λ h. act_by (effect (turns c past) turn h) None };
+    turn = turn;
   }
 
   module _ (x : ℕ) where
@@ -111,14 +130,54 @@ module _ (c : Config) (past : List Event) where
         reach = reaches_by_call c past call reply;
       };
       memory = record still.memory {
-        tlb_act = λ h. act_at (h == x) (act_by (effect_by_call call reply) None);
-        word_act = λ h. act_at (h == x) (act_by (effect_by_call call reply) None);
+        tlb_act = λ h. act_by (effect (turns c past) (turn_by_call c past x call reply) h) None;
+        word_act = λ h. act_by (effect (turns c past) (turn_by_call c past x call reply) h) None;
       };
+      turn = turn_by_call c past x call reply;
       counts = record { start = start_by_call call reply; entry = None };
     }
 
     pub does_call : (regs : Regs) (call : Call) (reply : Reply) → call ≡ call_of regs → deed (by_hart x (Ecall regs) reply) ≡ deed_of_call call reply
     does_call regs call reply is = ap (λ it. deed_of_call it reply) (sym is)
+
+    -- a remote fence that waits is a turn, and one that fails is nothing
+    pub does_remote : (call : Call) (remote : Remote) → remote_of call ≡ Some remote → deed_of_call call Waiting ≡ deed_of_turn (turn_by_remote c past x (Some remote) Waiting)
+    does_remote calls.GetSpecVersion remote is = cc
+    does_remote calls.GetImplId remote is = cc
+    does_remote calls.GetImplVersion remote is = cc
+    does_remote (calls.ProbeExtension eid) remote is = cc
+    does_remote calls.GetMvendorid remote is = cc
+    does_remote calls.GetMarchid remote is = cc
+    does_remote calls.GetMimpid remote is = cc
+    does_remote (calls.SetTimer deadline) remote is = cc
+    does_remote (calls.SendIpi mask base) remote is = cc
+    does_remote (calls.RemoteFenceI mask base) remote is = ap (λ o. deed_of_turn (turn_by_remote c past x o Waiting)) is
+    does_remote (calls.RemoteSfenceVma mask base start size) remote is = ap (λ o. deed_of_turn (turn_by_remote c past x o Waiting)) is
+    does_remote (calls.RemoteSfenceVmaAsid mask base start size asid) remote is = ap (λ o. deed_of_turn (turn_by_remote c past x o Waiting)) is
+    does_remote (calls.HartStart t addr opaque) remote is = cc
+    does_remote calls.HartStop remote is = cc
+    does_remote (calls.HartGetStatus t) remote is = cc
+    does_remote (calls.HartSuspend kind addr opaque) remote is = cc
+    does_remote calls.Unsupported remote is = cc
+
+    pub does_no_remote : (call : Call) (remote : Remote) (answer : Sbiret) → remote_of call ≡ Some remote → deed_of_call call (Ret answer) ≡ still
+    does_no_remote calls.GetSpecVersion remote answer is = cc
+    does_no_remote calls.GetImplId remote answer is = cc
+    does_no_remote calls.GetImplVersion remote answer is = cc
+    does_no_remote (calls.ProbeExtension eid) remote answer is = cc
+    does_no_remote calls.GetMvendorid remote answer is = cc
+    does_no_remote calls.GetMarchid remote answer is = cc
+    does_no_remote calls.GetMimpid remote answer is = cc
+    does_no_remote (calls.SetTimer deadline) remote answer is = cc
+    does_no_remote (calls.SendIpi mask base) remote answer is = cc
+    does_no_remote (calls.RemoteFenceI mask base) remote answer is = refl
+    does_no_remote (calls.RemoteSfenceVma mask base start size) remote answer is = refl
+    does_no_remote (calls.RemoteSfenceVmaAsid mask base start size asid) remote answer is = refl
+    does_no_remote (calls.HartStart t addr opaque) remote answer is = cc
+    does_no_remote calls.HartStop remote answer is = cc
+    does_no_remote (calls.HartGetStatus t) remote answer is = cc
+    does_no_remote (calls.HartSuspend kind addr opaque) remote answer is = cc
+    does_no_remote calls.Unsupported remote answer is = cc
 
     -- ---- entries
 
@@ -128,6 +187,7 @@ module _ (c : Config) (past : List Event) where
       harts = record still.harts { move = Some (record { hart = x; state = states.Started }) };
       interrupts = record still.interrupts { sstatus = Some false; sie = Some none_enabled; ssip = Some false; deadline = Some None };
       memory = record still.memory { satp = Some 0 };
+      turn = Quiet;
       counts = record still.counts { entry = Some (record { hart = x; addr = addr; opaque = opaque }) };
     }
 

@@ -1,7 +1,7 @@
 -- What the rows of the table of states say of a hart.
 use Rattle.std.proofs.Common.{◌≡◌, ℕ, ◌<◌, Bool, true, false, List, [], ◌∷◌, length, subst, refl, sym, ap, ◌∙◌}
 use Rattle.std.proofs.lemmas.Option.{same_Some}
-use Rattle.std.specs.Prelude.{Option, Some, None, Result, Ok, not, is_some, option_map, slice_set}
+use Rattle.std.specs.Prelude.{Option, Some, None, Result, Ok, not, ◌&&◌, is_none, is_some, option_map, slice_set}
 use Rattle.hsm.specs.declared.hart.HartState.{HartState}
 use Rattle.hsm.specs.declared.hart.HartState.TheVariants.{Started, Stopped, StartPending, StopPending, Suspended, SuspendPending, ResumePending}
 use Rattle.hsm.specs.declared.hart.Kept.{Kept}
@@ -18,7 +18,7 @@ use Rattle.board_core.specs.declared.event.Refusal.{Refusal}
 use Rattle.board_core.specs.declared.event.Refusal.TheVariants.{WrongPhase, Nothing, HistoryFull}
 use Rattle.board_core.specs.declared.event.Reply.{Reply}
 use Rattle.board_core.specs.declared.event.Reply.TheVariants as replies
-use Rattle.board_core.specs.Refusals.{IsAccepted, first_that_holds, has_nothing_to_do, is_out_of_phase, refusals_in}
+use Rattle.board_core.specs.Refusals.{IsAccepted, Situation, first_that_holds, has_nothing_to_do, is_out_of_phase, is_running, refusals_in}
 use Rattle.board_core.specs.Replies.{advance_reply, refused_or, success}
 use Rattle.board_core.specs.Starts.{Start, kept_in, last_start}
 use Rattle.board_core.specs.Stands.{HartsStand}
@@ -54,43 +54,53 @@ unstarted_same kept Suspended unstarted = refl
 unstarted_same kept SuspendPending unstarted = refl
 unstarted_same kept ResumePending unstarted = refl
 
--- what isn't refused is in its phase, and has something to do
-pub unrefused : (op : Op) (s : HartState) (wake is_full : Bool) → first_that_holds (refusals_in s wake op is_full) ≡ None → IsAccepted op s wake
-unrefused op s wake is_full none = let fails = both_fail (is_out_of_phase op s) (has_nothing_to_do op s wake) none in record { in_phase = fails.0; to_do = fails.1 }
+-- what isn't refused is in its phase, has something to do, and finds room
+pub unrefused : (op : Op) (s : Situation) (is_full : Bool) → first_that_holds (refusals_in s op is_full) ≡ None → IsAccepted op s × (is_full ≡ false)
+unrefused op s is_full none = let fails = all_fail (is_out_of_phase op s) (has_nothing_to_do op s) is_full none in (record { in_phase = fails.0; to_do = fails.1 }, fails.2)
   where
-    both_fail : (first second : Bool) → first_that_holds ((first, WrongPhase) ∷ (second, Nothing) ∷ (is_full, HistoryFull) ∷ []) ≡ None
-        → (first ≡ false) × (second ≡ false)
-    both_fail true second none = cc
-    both_fail false true none = cc
-    both_fail false false none = (refl, refl)
+    all_fail : (first second third : Bool) → first_that_holds ((first, WrongPhase) ∷ (second, Nothing) ∷ (third, HistoryFull) ∷ []) ≡ None
+        → (first ≡ false) × (second ≡ false) × (third ≡ false)
+    all_fail true second third none = cc
+    all_fail false true third none = cc
+    all_fail false false true none = cc
+    all_fail false false false none = (refl, refl, refl)
 
 -- an accepted operation was not refused, and has its reply
-pub accepted : (missing : Bool) (s : HartState) (wake : Bool) (op : Op) (is_full : Bool) (r r' : Reply)
-    → refused_or (first_that_holds ((missing, WrongPhase) ∷ refusals_in s wake op is_full)) r ≡ Ok r' → IsAccepted op s wake × (r ≡ r')
-accepted true s wake op is_full r r' e = cc
-accepted false s wake op is_full r r' e = by_refusal (first_that_holds (refusals_in s wake op is_full)) refl e
+pub accepted : (missing : Bool) (s : Situation) (op : Op) (is_full : Bool) (r r' : Reply)
+    → refused_or (first_that_holds ((missing, WrongPhase) ∷ refusals_in s op is_full)) r ≡ Ok r' → IsAccepted op s × (r ≡ r')
+accepted true s op is_full r r' e = cc
+accepted false s op is_full r r' e = by_refusal (first_that_holds (refusals_in s op is_full)) refl e
   where
-    by_refusal : (o : Option Refusal) → first_that_holds (refusals_in s wake op is_full) ≡ o → refused_or o r ≡ Ok r' → IsAccepted op s wake × (r ≡ r')
-    by_refusal None is same = (unrefused op s wake is_full is, cc)
+    by_refusal : (o : Option Refusal) → first_that_holds (refusals_in s op is_full) ≡ o → refused_or o r ≡ Ok r' → IsAccepted op s × (r ≡ r')
+    by_refusal None is same = ((unrefused op s is_full is).0, cc)
     by_refusal (Some refusal) is same = cc
 
--- a guest runs where its hart is STARTED
-pub calling : (s : HartState) → not (is_started s) ≡ false → s ≡ Started
-calling Started running = refl
-calling Stopped running = cc
-calling StartPending running = cc
-calling StopPending running = cc
-calling Suspended running = cc
-calling SuspendPending running = cc
-calling ResumePending running = cc
-
--- a hart whose Advance is accepted goes on
-pub accepted_goes_on : (wake : Bool) (s : HartState) → IsAccepted Advance s wake → goes_on wake s ≡ true
-accepted_goes_on wake s ready = by_test (goes_on wake s) ready.to_do
+-- a guest runs where its hart is STARTED, and outside of a call
+pub running_parts : (s : Situation) → not (is_running s) ≡ false → (s.state ≡ Started) × (s.call ≡ None)
+running_parts s runs = by_parts s.state s.call runs
   where
-    by_test : (on : Bool) → not on ≡ false → on ≡ true
-    by_test true to_do = refl
-    by_test false to_do = cc
+    by_parts : (state : HartState) (call : Option (List ℕ)) → not (is_started state && is_none call) ≡ false → (state ≡ Started) × (call ≡ None)
+    by_parts Started None runs = (refl, refl)
+    by_parts Started (Some harts) runs = cc
+    by_parts Stopped call runs = cc
+    by_parts StartPending call runs = cc
+    by_parts StopPending call runs = cc
+    by_parts Suspended call runs = cc
+    by_parts SuspendPending call runs = cc
+    by_parts ResumePending call runs = cc
+
+-- a hart whose Advance is accepted goes on, as it does with wake
+pub accepted_goes_on : (s : Situation) → IsAccepted Advance s → goes_on true s.state ≡ true
+accepted_goes_on s ready = by_state s.state s.wake ready.to_do
+  where
+    by_state : (state : HartState) (wake : Bool) → not (goes_on wake state) ≡ false → goes_on true state ≡ true
+    by_state Started wake on = cc
+    by_state Stopped wake on = cc
+    by_state StartPending wake on = refl
+    by_state StopPending wake on = refl
+    by_state Suspended wake on = refl
+    by_state SuspendPending wake on = refl
+    by_state ResumePending wake on = refl
 
 -- ---- the Advance of hart x
 

@@ -1,7 +1,8 @@
 -- What a machine that stands for a past says of each hart, and how it stands for one event more.
-use Rattle.std.proofs.Common.{◌≡◌, ◌≢◌, ℕ, ◌+◌, ◌<◌, ◌≤◌, Bool, true, false, List, [], ◌∷◌, ◌++◌, suc, length, set, map, refl, sym, ap, ◌∙◌, arith}
+use Rattle.std.proofs.Common.{◌≡◌, ◌≢◌, ℕ, ◌+◌, ◌<◌, ◌≤◌, Bool, true, false, List, [], ◌∷◌, ◌++◌, suc, zero, length, set, map, subst, refl, sym, ap, ◌∙◌, arith}
 use Rattle.std.specs.Prelude.{Option, Some, None, count_by, unwrap_or, not, ◌==◌, ◌&&◌, ◌||◌, if◌then◌else◌, slice_index_or, slice_set}
 use Rattle.std.specs.Option.{option_to_list}
+use Rattle.std.specs.List.{range_with_len}
 use Rattle.std.proofs.lemmas.List.FromFn.{get_or-map-range_with_len, length-map-range_with_len}
 use Rattle.hart_mask.specs.Ids.{has, ids_where, union_of, with_bit, without_id}
 use Rattle.hart_mask.proofs.Sets.{has-ids_where, ids_where-agree, with_bit-by, without_id-by}
@@ -11,6 +12,15 @@ use Rattle.hsm.specs.declared.hart.Kept.{Kept}
 use Rattle.hsm.specs.Harts.{Hart, resting, starting}
 use Rattle.hsm.specs.States.{is_start_pending}
 use Rattle.hsm.specs.Transitions.{hart_at}
+use Rattle.rfence.specs.Applied as effects
+use Rattle.rfence.specs.Applied.{Effect, Drops, Empties, effect}
+use Rattle.rfence.specs.Effects.{affected, caches_after, changed_from}
+use Rattle.rfence.specs.HartCaches.{dropped_of, emptied_of}
+use Rattle.rfence.specs.Right.{IsRight, IsRightTurn}
+use Rattle.rfence.specs.State as fences
+use Rattle.rfence.specs.State.{AreAffected, IsTaken, State}
+use Rattle.rfence.specs.Turns.{Turn, Own, Quiet}
+use Rattle.rfence.proofs.Stands as fence_stands
 use Rattle.interrupts.specs.Timing.{Timing, deadline_of, is_timer_pending, with_deadline}
 use Rattle.board_core.specs.declared.config.Config.{Config}
 use Rattle.board_core.specs.declared.csrs.Csrs.{Csrs}
@@ -28,6 +38,7 @@ use Rattle.board_core.specs.declared.machine.Machine.{Machine}
 use Rattle.board_core.specs.declared.memory.Memory.{Memory}
 use Rattle.board_core.specs.Course.{harts_of, is_hart}
 use Rattle.board_core.specs.Csrs.{enables, interrupt_bits, latest, sie, sie_by, sstatus_sie, sstatus_sie_by}
+use Rattle.board_core.specs.Fences.{turn_of, turns}
 use Rattle.board_core.specs.Interrupts.{deadline, deadline_by, reaches_by, ssip, ssip_by, stip, ticks_by, wake}
 use Rattle.sv39.specs.Memory.{pages_of, word_in}
 use Rattle.sv39.specs.Satp.{is_sv39, mode_of, satp_written}
@@ -39,9 +50,9 @@ use Rattle.tlb_model.specs.Entries.{covers_entry, matches}
 use Rattle.tlb_model.specs.Words.{covers_word, is_at}
 use Rattle.tlb_model.proofs.Living.{hit_is_last, keeps_what_lives}
 use Rattle.board_core.specs.Accesses.{cached, hit}
-use Rattle.board_core.specs.Memory.{act_at, act_by, effect_by, entry_filling, memory, satp, satp_by, satp_of_write, storing_by, tlb_acts, word_acts, word_filling, written_by}
+use Rattle.board_core.specs.Memory.{act_by, entry_filling, own_filling, memory, satp, satp_by, satp_of_write, storing_by, tlb_acts, word_acts, word_filling, written_by}
 use Rattle.board_core.specs.Starts.{Start, all_pending, entries, entry_by, hart_of, kept_in, last_start, start_by, starts}
-use Rattle.board_core.specs.Stands.{CanFill, CountsStand, CsrsStand, HartsStand, InterruptsStand, IpisStand, MemoryStand, StandsFor, TimersStand, caches_at, caches_of, no_caches, tlb_hit, word_hit}
+use Rattle.board_core.specs.Stands.{CanFill, CountsStand, CsrsStand, FencesStand, HartsStand, InterruptsStand, IpisStand, MemoryStand, StandsFor, TimersStand, caches_at, caches_of, no_caches, tlb_hit, word_hit}
 use Rattle.board_core.specs.States.{is_starting, move_of, state}
 use Rattle.board_core.specs.Suspends.{resume_by, resume_point}
 use Rattle.board_core.proofs.Events.{CountsDeed, Deed, HartsDeed, InterruptsDeed, MemoryDeed, deed, deed_of_call, does_call, still}
@@ -88,12 +99,29 @@ module _ (c : Config) (past : List Event) (harts : List Hart) (stand : HartsStan
         ∙ tabulate-set (hart_of c past) (hart_of c (event ∷ past)) c.harts t others;
   }
 
--- an event of another hart does nothing to a cache
-act-elsewhere : {E : Type 0} (act : Act E) → act_at false act ≡ Nothing
-act-elsewhere Nothing = refl
-act-elsewhere (Fill item) = refl
-act-elsewhere (Drop flush) = refl
-act-elsewhere Clear = refl
+-- an access of another hart fills nothing in a cache
+pub filled-elsewhere : {E : Type 0} (filling : Option E) → own_filling false filling ≡ None
+filled-elsewhere None = refl
+filled-elsewhere (Some item) = refl
+
+-- what a turn does to the two caches of a hart
+acts-affect : (e : Effect Flush) (k : Caches)
+    → record { tlb = acted covers_entry k.tlb (act_by e None); words = acted covers_word k.words (act_by e None) } ≡ affected dropped_of emptied_of e k
+acts-affect effects.Nothing k = refl
+acts-affect (Drops flush) k = refl
+acts-affect Empties k = refl
+
+-- a fence of a hart by itself alone drops what it covers there, and nothing elsewhere
+pub own-drops : {E : Type 0} (all : List (Turn Flush)) (h : ℕ) (flush : Flush) → (let act : Act E = act_by (effect all (Own h flush) h) None in act) ≡ Drop flush
+own-drops all h flush = rw (eqb-same h) refl
+
+pub own-spares : {E : Type 0} (all : List (Turn Flush)) (h : ℕ) (flush : Flush) (j : ℕ) → h ≢ j → (let act : Act E = act_by (effect all (Own h flush) j) None in act) ≡ Nothing
+own-spares all h flush j other = rw (eqb-other h j other) refl
+
+-- caches that are changed by index
+tabulate-changed : {C : Type 0} (change : ℕ → C → C) (f : ℕ → C) (k n : ℕ) → changed_from change k (map f (range_with_len k n)) ≡ map (λ t. change t (f t)) (range_with_len k n)
+tabulate-changed change f k zero = refl
+tabulate-changed change f k (suc n) = ap (λ rest. change k (f k) ∷ rest) (tabulate-changed change f (k + 1) n)
 
 -- ---- one event more
 
@@ -132,11 +160,14 @@ module _ (c : Config) (past : List Event) (event : Event) (d : Deed) (does : dee
   stores : storing_by event.op event.reply event.translation ≡ d.memory.storing
   stores = ap (λ (e : Deed). e.memory.storing) does
 
-  acts_on_tlb : (h : ℕ) → act_at (is_hart h event.actor) (act_by (effect_by event.op event.reply) (entry_filling event.op event.translation (satp past h) (tlb_acts past h))) ≡ d.memory.tlb_act h
+  acts_on_tlb : (h : ℕ) → act_by (effect (turns c past) (turn_of c past event.actor event.op event.reply) h) (own_filling (is_hart h event.actor) (entry_filling event.op event.translation (satp past h) (tlb_acts c past h))) ≡ d.memory.tlb_act h
   acts_on_tlb h = ap (λ (e : Deed). e.memory.tlb_act h) does
 
-  acts_on_words : (h : ℕ) → act_at (is_hart h event.actor) (act_by (effect_by event.op event.reply) (word_filling event.op event.reply event.translation (memory c past) (word_acts c past h))) ≡ d.memory.word_act h
+  acts_on_words : (h : ℕ) → act_by (effect (turns c past) (turn_of c past event.actor event.op event.reply) h) (own_filling (is_hart h event.actor) (word_filling event.op event.reply event.translation (memory c past) (word_acts c past h))) ≡ d.memory.word_act h
   acts_on_words h = ap (λ (e : Deed). e.memory.word_act h) does
+
+  turned : turn_of c past event.actor event.op event.reply ≡ d.turn
+  turned = ap (λ (e : Deed). e.turn) does
 
   counted_start : start_by event.op event.reply ≡ d.counts.start
   counted_start = ap (λ (e : Deed). e.counts.start) does
@@ -341,7 +372,7 @@ module _ (c : Config) (past : List Event) (event : Event) (d : Deed) (does : dee
   caches-more : (h : ℕ) → caches_of c (event ∷ past) h
       ≡ record { tlb = acted covers_entry (caches_of c past h).tlb (d.memory.tlb_act h); words = acted covers_word (caches_of c past h).words (d.memory.word_act h) }
   caches-more h =
-      let tlb = keeps_what_lives covers_entry _ (tlb_acts past h) ∙ ap (acted covers_entry (caches_of c past h).tlb) (acts_on_tlb h) in
+      let tlb = keeps_what_lives covers_entry _ (tlb_acts c past h) ∙ ap (acted covers_entry (caches_of c past h).tlb) (acts_on_tlb h) in
       let words = keeps_what_lives covers_word _ (word_acts c past h) ∙ ap (acted covers_word (caches_of c past h).words) (acts_on_words h) in
       λ i. record { tlb = tlb i; words = words i }
 
@@ -354,38 +385,37 @@ module _ (c : Config) (past : List Event) (event : Event) (d : Deed) (does : dee
   caches-still caches no_tlb no_words stand =
       stand ∙ tabulate-same (caches_of c past) (caches_of c (event ∷ past)) (λ j. caches-same j (no_tlb j) (no_words j)) (harts_of c)
 
-  -- those of the actor change, and no others
-  pub caches-acted : (caches : List Caches) (h : ℕ) (changed : Caches) → event.actor ≡ actors.Hart h
+  -- those of one hart change, and no others
+  pub caches-acted : (caches : List Caches) (h : ℕ) (changed : Caches) → ((j : ℕ) → h ≢ j → (d.memory.tlb_act j ≡ Nothing) × (d.memory.word_act j ≡ Nothing))
       → changed ≡ record { tlb = acted covers_entry (caches_of c past h).tlb (d.memory.tlb_act h); words = acted covers_word (caches_of c past h).words (d.memory.word_act h) }
       → caches ≡ map (caches_of c past) (harts_of c) → slice_set caches h changed ≡ map (caches_of c (event ∷ past)) (harts_of c)
-  caches-acted caches h changed own is stand =
+  caches-acted caches h changed others is stand =
       ap (slice_set caches h) (is ∙ sym (caches-more h))
       ∙ ap (λ (xs : List Caches). slice_set xs h (caches_of c (event ∷ past) h)) stand
       ∙ tabulate-set (caches_of c past) (caches_of c (event ∷ past)) c.harts h
-      (λ j other.
-      let elsewhere : is_hart j event.actor ≡ false = rw own (eqb-other j h (λ e. other (sym e))) in
-      caches-same j
-      (sym (acts_on_tlb j) ∙ ap (λ b. act_at b (act_by (effect_by event.op event.reply) (entry_filling event.op event.translation (satp past j) (tlb_acts past j)))) elsewhere ∙ act-elsewhere _)
-      (sym (acts_on_words j) ∙ ap (λ b. act_at b (act_by (effect_by event.op event.reply) (word_filling event.op event.reply event.translation (memory c past) (word_acts c past j)))) elsewhere ∙ act-elsewhere _))
+      (λ j other. caches-same j (others j other).0 (others j other).1)
 
-  -- a fence of the actor's drops what it covers there, and its stop empties them
-  pub caches-fenced : (m : Memory) (h : ℕ) (flush : Flush) → event.actor ≡ actors.Hart h → caches_at m h ≡ caches_of c past h
+  -- a fence of a hart by itself alone drops what it covers there
+  pub caches-fenced : (m : Memory) (h : ℕ) (flush : Flush) → ((j : ℕ) → h ≢ j → (d.memory.tlb_act j ≡ Nothing) × (d.memory.word_act j ≡ Nothing)) → caches_at m h ≡ caches_of c past h
       → d.memory.tlb_act h ≡ Drop flush → d.memory.word_act h ≡ Drop flush → m.caches.items ≡ map (caches_of c past) (harts_of c)
       → slice_set m.caches.items h (record { tlb = fenced covers_entry (caches_at m h).tlb flush; words = fenced covers_word (caches_at m h).words flush }) ≡ map (caches_of c (event ∷ past)) (harts_of c)
-  caches-fenced m h flush own was tlb words stand =
-      caches-acted m.caches.items h _ own
+  caches-fenced m h flush others was tlb words stand =
+      caches-acted m.caches.items h _ others
       ((λ i. record { tlb = fenced covers_entry (was i).tlb flush; words = fenced covers_word (was i).words flush })
       ∙ sym (λ i. record { tlb = acted covers_entry (caches_of c past h).tlb (tlb i); words = acted covers_word (caches_of c past h).words (words i) }))
       stand
 
-  pub caches-emptied : (m : Memory) (h : ℕ) → event.actor ≡ actors.Hart h → caches_at m h ≡ caches_of c past h
-      → d.memory.tlb_act h ≡ Clear → d.memory.word_act h ≡ Clear → m.caches.items ≡ map (caches_of c past) (harts_of c)
-      → slice_set m.caches.items h (record { tlb = cleared (caches_at m h).tlb; words = cleared (caches_at m h).words }) ≡ map (caches_of c (event ∷ past)) (harts_of c)
-  caches-emptied m h own was tlb words stand =
-      caches-acted m.caches.items h _ own
-      ((λ i. record { tlb = cleared (was i).tlb; words = cleared (was i).words })
-      ∙ sym (λ i. record { tlb = acted covers_entry (caches_of c past h).tlb (tlb i); words = acted covers_word (caches_of c past h).words (words i) }))
-      stand
+  -- and what a turn makes of all of them
+  pub caches-turned : (f : State Flush) (turn : Turn Flush) (caches changed : List Caches) → ((h : ℕ) → d.memory.tlb_act h ≡ act_by (effect (turns c past) turn h) None)
+      → ((h : ℕ) → d.memory.word_act h ≡ act_by (effect (turns c past) turn h) None) → IsRightTurn c.harts (turns c past) turn → FencesStand c past f
+      → AreAffected dropped_of emptied_of f turn caches changed → caches ≡ map (caches_of c past) (harts_of c) → changed ≡ map (caches_of c (event ∷ past)) (harts_of c)
+  caches-turned f turn caches changed tlb words right stand are stand_for =
+      are c.harts (turns c past) stand.stands (right, stand.right)
+      ∙ ap (caches_after dropped_of emptied_of (turns c past) turn) stand_for
+      ∙ tabulate-changed (λ t k. affected dropped_of emptied_of (effect (turns c past) turn t) k) (caches_of c past) 0 c.harts
+      ∙ tabulate-same (λ t. affected dropped_of emptied_of (effect (turns c past) turn t) (caches_of c past t)) (caches_of c (event ∷ past))
+      (λ t. caches-more t ∙ (λ i. record { tlb = acted covers_entry (caches_of c past t).tlb (tlb t i); words = acted covers_word (caches_of c past t).words (words t i) }) ∙ acts-affect (effect (turns c past) turn t) (caches_of c past t))
+      (harts_of c)
 
   -- what changes satp alone, or caches alone
   pub memory-satps : (m m' : Memory) → d.memory ≡ record still.memory { satp = d.memory.satp } → MemoryStand c past m
@@ -406,7 +436,24 @@ module _ (c : Config) (past : List Event) (event : Event) (d : Deed) (does : dee
     caches = caches;
   }
 
+  -- ---- fences
+
+  -- what a turn makes of them
+  pub fences-turned : (f f' : State Flush) (turn : Turn Flush) → d.turn ≡ turn → IsTaken f turn f' → IsRightTurn c.harts (turns c past) turn → FencesStand c past f → FencesStand c (event ∷ past) f'
+  fences-turned f f' turn is taken right stand =
+      let same = sym (turned ∙ is) in
+      record {
+        stands = subst (λ t. fences.StandsFor c.harts (t ∷ turns c past) f') same (taken c.harts (turns c past) stand.stands (right, stand.right));
+        right = subst (λ t. IsRight c.harts (t ∷ turns c past)) same (right, stand.right);
+      }
+
+  pub fences-own : (f : State Flush) (x : ℕ) (flush : Flush) → x < c.harts → d.turn ≡ Own x flush → FencesStand c past f → FencesStand c (event ∷ past) f
+  fences-own f x flush inside is stand = fences-turned f f (Own x flush) is (λ n turns stands right. fence_stands.stands-own n turns f stands x flush) inside stand
+
   -- ---- components without a deed
+
+  pub fences-still : (f : State Flush) → d.turn ≡ Quiet → FencesStand c past f → FencesStand c (event ∷ past) f
+  fences-still f none stand = fences-turned f f Quiet none (λ n turns stands right. fence_stands.stands-quiet n turns f stands) tt stand
 
   pub memory-still : (m : Memory) → d.memory ≡ still.memory → MemoryStand c past m → MemoryStand c (event ∷ past) m
   memory-still m none stand = record {
@@ -457,6 +504,7 @@ module _ (c : Config) (past : List Event) (event : Event) (d : Deed) (does : dee
     harts = harts-still m.hsm (ap (λ (e : Deed). e.harts) none) stands.harts;
     interrupts = interrupts-still m.interrupts (ap (λ (e : Deed). e.interrupts) none) stands.interrupts;
     memory = memory-still m.memory (ap (λ (e : Deed). e.memory) none) stands.memory;
+    fences = fences-still m.fences (ap (λ (e : Deed). e.turn) none) stands.fences;
     counts = counts-still m.counts (ap (λ (e : Deed). e.counts) none) stands.counts;
   }
 
@@ -466,6 +514,7 @@ module _ (c : Config) (past : List Event) (event : Event) (d : Deed) (does : dee
     harts = harts-still m.hsm (ap (λ (e : Deed). e.harts) alone) stands.harts;
     interrupts = changed;
     memory = memory-still m.memory (ap (λ (e : Deed). e.memory) alone) stands.memory;
+    fences = fences-still m.fences (ap (λ (e : Deed). e.turn) alone) stands.fences;
     counts = counts-still m.counts (ap (λ (e : Deed). e.counts) alone) stands.counts;
   }
 
@@ -475,6 +524,7 @@ module _ (c : Config) (past : List Event) (event : Event) (d : Deed) (does : dee
     harts = changed;
     interrupts = interrupts-still m.interrupts (ap (λ (e : Deed). e.interrupts) alone) stands.interrupts;
     memory = memory-still m.memory (ap (λ (e : Deed). e.memory) alone) stands.memory;
+    fences = fences-still m.fences (ap (λ (e : Deed). e.turn) alone) stands.fences;
     counts = counts-still m.counts (ap (λ (e : Deed). e.counts) alone) stands.counts;
   }
 
@@ -484,17 +534,30 @@ module _ (c : Config) (past : List Event) (event : Event) (d : Deed) (does : dee
     harts = harts-still m.hsm (ap (λ (e : Deed). e.harts) alone) stands.harts;
     interrupts = interrupts-still m.interrupts (ap (λ (e : Deed). e.interrupts) alone) stands.interrupts;
     memory = changed;
+    fences = fences-still m.fences (ap (λ (e : Deed). e.turn) alone) stands.fences;
+    counts = counts-still m.counts (ap (λ (e : Deed). e.counts) alone) stands.counts;
+  }
+
+  -- a turn touches the fences, and the caches of the memory
+  pub stands-fences : (m : Machine) (memory : Memory) (f : State Flush) → d ≡ record still { memory = d.memory; turn = d.turn } → StandsFor c past m
+      → MemoryStand c (event ∷ past) memory → FencesStand c (event ∷ past) f → StandsFor c (event ∷ past) (record m { memory = memory; fences = f })
+  stands-fences m memory f alone stands changed turned = record {
+    harts = harts-still m.hsm (ap (λ (e : Deed). e.harts) alone) stands.harts;
+    interrupts = interrupts-still m.interrupts (ap (λ (e : Deed). e.interrupts) alone) stands.interrupts;
+    memory = changed;
+    fences = turned;
     counts = counts-still m.counts (ap (λ (e : Deed). e.counts) alone) stands.counts;
   }
 
   -- all but the counts
-  pub stands-but-counts : (m : Machine) (hsm : List Hart) (i : Interrupts) (memory : Memory) → d.counts ≡ still.counts → StandsFor c past m
-      → HartsStand c (event ∷ past) hsm → InterruptsStand c (event ∷ past) i → MemoryStand c (event ∷ past) memory
-      → StandsFor c (event ∷ past) (record m { hsm = hsm; interrupts = i; memory = memory })
-  stands-but-counts m hsm i memory alone stands harts interrupts changed = record {
+  pub stands-but-counts : (m : Machine) (hsm : List Hart) (i : Interrupts) (memory : Memory) (f : State Flush) → d.counts ≡ still.counts → StandsFor c past m
+      → HartsStand c (event ∷ past) hsm → InterruptsStand c (event ∷ past) i → MemoryStand c (event ∷ past) memory → FencesStand c (event ∷ past) f
+      → StandsFor c (event ∷ past) (record m { hsm = hsm; interrupts = i; memory = memory; fences = f })
+  stands-but-counts m hsm i memory f alone stands harts interrupts changed turned = record {
     harts = harts;
     interrupts = interrupts;
     memory = changed;
+    fences = turned;
     counts = counts-still m.counts alone stands.counts;
   }
 
@@ -505,6 +568,7 @@ module _ (c : Config) (past : List Event) (event : Event) (d : Deed) (does : dee
     harts = harts;
     interrupts = interrupts-still m.interrupts (ap (λ (e : Deed). e.interrupts) alone) stands.interrupts;
     memory = memory-still m.memory (ap (λ (e : Deed). e.memory) alone) stands.memory;
+    fences = fences-still m.fences (ap (λ (e : Deed). e.turn) alone) stands.fences;
     counts = counted;
   }
 
@@ -533,7 +597,7 @@ module _ (c : Config) (past : List Event) where
 
   -- what is hit in them
   pub tlb_hit-read : (m : Memory) (h : ℕ) → h < c.harts → MemoryStand c past m → tlb_hit (caches_at m h) ≡ hit c past h
-  tlb_hit-read m h inside stand = ap tlb_hit (caches-read m h inside stand) ∙ (λ i at. hit_is_last covers_entry matches at (tlb_acts past h) i)
+  tlb_hit-read m h inside stand = ap tlb_hit (caches-read m h inside stand) ∙ (λ i at. hit_is_last covers_entry matches at (tlb_acts c past h) i)
 
   pub word_hit-read : (m : Memory) (h : ℕ) → h < c.harts → MemoryStand c past m → word_hit (caches_at m h) ≡ cached c past h
   word_hit-read m h inside stand = ap word_hit (caches-read m h inside stand) ∙ (λ i pa. hit_is_last covers_word is_at pa (word_acts c past h) i)
@@ -586,9 +650,9 @@ length-fillings-le (Drop flush ∷ acts) = let before = length-fillings-le acts 
 length-fillings-le (Clear ∷ acts) = let before = length-fillings-le acts in omega arith
 length-fillings-le (Nothing ∷ acts) = let before = length-fillings-le acts in omega arith
 
-length-tlb_acts : (past : List Event) (h : ℕ) → length (tlb_acts past h) ≡ length past
-length-tlb_acts [] h = refl
-length-tlb_acts (event ∷ past) h = ap suc (length-tlb_acts past h)
+length-tlb_acts : (c : Config) (past : List Event) (h : ℕ) → length (tlb_acts c past h) ≡ length past
+length-tlb_acts c [] h = refl
+length-tlb_acts c (event ∷ past) h = ap suc (length-tlb_acts c past h)
 
 length-word_acts : (c : Config) (past : List Event) (h : ℕ) → length (word_acts c past h) ≡ length past
 length-word_acts c [] h = refl
@@ -603,8 +667,8 @@ can-fill c past m h inside few stand =
       caches = omega (arith, length-caches c past m stand);
       tlb =
           let next = ap (λ (caches : Caches). caches.tlb.next) own in
-          let fills = length-fillings-le (tlb_acts past h) in
-          let acts = length-tlb_acts past h in
+          let fills = length-fillings-le (tlb_acts c past h) in
+          let acts = length-tlb_acts c past h in
           omega arith;
       words =
           let next = ap (λ (caches : Caches). caches.words.next) own in

@@ -13,13 +13,13 @@ use Rattle.sbi_abi.specs.Calls.{call_of}
 use Rattle.hsm.specs.declared.hart.HartState.{HartState}
 use Rattle.hsm.specs.declared.hart.HartState.TheVariants.{Started, Stopped, StartPending, StopPending, Suspended, SuspendPending, ResumePending}
 use Rattle.hsm.specs.declared.hart.Kept.{Kept}
-use Rattle.hsm.specs.States.{is_start_pending, is_started, is_stopped}
+use Rattle.hsm.specs.States.{goes_on, is_start_pending, is_started, is_stopped}
 use Rattle.board_core.specs.declared.config.Config.{Config}
 use Rattle.board_core.specs.declared.event.Actor.{Actor}
 use Rattle.board_core.specs.declared.event.Actor.TheVariants.{Hart, Clock}
 use Rattle.board_core.specs.History.{Event}
 use Rattle.board_core.specs.declared.event.Op.{Op}
-use Rattle.board_core.specs.declared.event.Op.TheVariants.{Ecall, Load, Store, Fetch, WriteSatp, WriteSie, WriteSstatusSie, ReadSip, ClearSsip, Wfi, Sfence, FenceI, Advance, Tick}
+use Rattle.board_core.specs.declared.event.Op.TheVariants.{Ecall, Load, Store, Fetch, WriteSatp, WriteSie, WriteSstatusSie, ReadSip, ClearSsip, Wfi, Sfence, FenceI, Poll, Serve, Advance, Tick}
 use Rattle.board_core.specs.declared.event.Refusal.{Refusal}
 use Rattle.board_core.specs.declared.event.Refusal.TheVariants.{WrongPhase}
 use Rattle.board_core.specs.declared.event.Reply.{Reply}
@@ -27,13 +27,13 @@ use Rattle.board_core.specs.declared.event.Reply.TheVariants.{Ret, Gone, Entry}
 use Rattle.tlb_model.specs.declared.entry.Entry.{Entry as CacheEntry}
 use Rattle.board_core.specs.Csrs.{sstatus_sie}
 use Rattle.board_core.specs.Limits.{is_start_address}
-use Rattle.board_core.specs.Refusals.{IsAccepted, first_that_holds, is_full, refusals_in}
+use Rattle.board_core.specs.Refusals.{first_that_holds, is_full, situation}
 use Rattle.board_core.specs.Interrupts.{wake}
 use Rattle.board_core.specs.Suspends.{resume_point}
 use Rattle.board_core.specs.Replies.{IsLegal, advance_reply, answer, call_reply, failure, refused_or, reply, resume_reply, suspend_reply, unless}
 use Rattle.board_core.specs.Starts.{Start, StartsAreEntered, boot_start, entries, entry_by, is_of, last_start, pending, start_by_call, starts}
 use Rattle.board_core.specs.States.{Move, move_by, move_by_call, moved_to, state}
-use Rattle.board_core.proofs.Rows.{accepted, calling}
+use Rattle.board_core.proofs.Rows.{accepted, running_parts}
 
 -- what passes a filter first passes the test
 filter-first : {A : Type 0} (p : A → Bool) (xs : List A) (y : A) (ys : List A) → filter p xs ≡ y ∷ ys → p y ≡ true
@@ -180,19 +180,22 @@ module _ (c : Config) where
               IsEnteredBy past before h (move_by_call x (calls.HartSuspend kind addr opaque) r) (start_by_call (calls.HartSuspend kind addr opaque) r) None)
           by_address true = settled past before h x SuspendPending refl (ap is_start_pending running)
           by_address false = quiet past before h
+  after_call past before h x (calls.RemoteFenceI mask base) r running is = quiet past before h
+  after_call past before h x (calls.RemoteSfenceVma mask base start size) r running is = quiet past before h
+  after_call past before h x (calls.RemoteSfenceVmaAsid mask base start size asid) r running is = quiet past before h
   after_call past before h x calls.Unsupported r running is = quiet past before h
 
   -- the law after an Advance
   after_advance : (past : List Event) (before : (h : ℕ) → IsEntered past h) (h x : ℕ) (s : HartState) (wake : Bool) (r : Reply)
-      → IsAccepted Advance s wake → state c past x ≡ s → advance_reply x s (last_start c past x) (resume_point past x) ≡ r
+      → is_started s ≡ false → not (goes_on wake s) ≡ false → state c past x ≡ s → advance_reply x s (last_start c past x) (resume_point past x) ≡ r
       → IsEnteredBy past before h (move_by x Advance r) None (entry_by Advance r (is_start_pending s))
-  after_advance past before h x Started wake r ready at is = absurd (let e = ready.in_phase in cc)
-  after_advance past before h x Stopped wake r ready at is = absurd (let e = ready.to_do in cc)
-  after_advance past before h x StartPending wake r ready at is = rw (← is) (entered past before h x _ _ _ at refl)
-  after_advance past before h x StopPending wake r ready at is = rw (← is) (settled past before h x Stopped refl (ap is_start_pending at))
-  after_advance past before h x SuspendPending wake r ready at is = rw (← is) (settled past before h x Suspended refl (ap is_start_pending at))
-  after_advance past before h x Suspended wake r ready at is = rw (← is) (settled past before h x ResumePending refl (ap is_start_pending at))
-  after_advance past before h x ResumePending wake r ready at is = rw (← is) (by_resume (resume_point past x))
+  after_advance past before h x Started wake r in_phase to_do at is = absurd cc
+  after_advance past before h x Stopped wake r in_phase to_do at is = absurd cc
+  after_advance past before h x StartPending wake r in_phase to_do at is = rw (← is) (entered past before h x _ _ _ at refl)
+  after_advance past before h x StopPending wake r in_phase to_do at is = rw (← is) (settled past before h x Stopped refl (ap is_start_pending at))
+  after_advance past before h x SuspendPending wake r in_phase to_do at is = rw (← is) (settled past before h x Suspended refl (ap is_start_pending at))
+  after_advance past before h x Suspended wake r in_phase to_do at is = rw (← is) (settled past before h x ResumePending refl (ap is_start_pending at))
+  after_advance past before h x ResumePending wake r in_phase to_do at is = rw (← is) (by_resume (resume_point past x))
     where
       by_resume : (resume : Option Kept) → (let r = resume_reply x resume in
           IsEnteredBy past before h (move_by x Advance r) None (entry_by Advance r false))
@@ -214,11 +217,13 @@ module _ (c : Config) where
   after_event past Clock Wfi r used e before h = cc
   after_event past Clock (Sfence va asid) r used e before h = cc
   after_event past Clock FenceI r used e before h = cc
+  after_event past Clock Poll r used e before h = cc
+  after_event past Clock Serve r used e before h = cc
   after_event past Clock Advance r used e before h = cc
   after_event past Clock (Tick n) r used e before h = before h
   after_event past (Hart x) (Ecall regs) r used e before h =
-      let facts = accepted (nat_le c.harts x) (state c past x) (wake c past x) (Ecall regs) (is_full c past) (reply c past x (Ecall regs)) r e in
-      after_call past before h x (call_of regs) r (calling (state c past x) facts.0.in_phase) facts.1
+      let facts = accepted (nat_le c.harts x) (situation c past x) (Ecall regs) (is_full c past) (reply c past x (Ecall regs)) r e in
+      after_call past before h x (call_of regs) r (running_parts (situation c past x) facts.0.in_phase).0 facts.1
   after_event past (Hart x) (Load va) r used e before h = before h
   after_event past (Hart x) (Store va value) r used e before h = before h
   after_event past (Hart x) (Fetch va) r used e before h = before h
@@ -230,9 +235,11 @@ module _ (c : Config) where
   after_event past (Hart x) Wfi r used e before h = before h
   after_event past (Hart x) (Sfence va asid) r used e before h = before h
   after_event past (Hart x) FenceI r used e before h = before h
+  after_event past (Hart x) Poll r used e before h = before h
+  after_event past (Hart x) Serve r used e before h = before h
   after_event past (Hart x) Advance r used e before h =
-      let facts = accepted (nat_le c.harts x) (state c past x) (wake c past x) Advance (is_full c past) (reply c past x Advance) r e in
-      after_advance past before h x (state c past x) (wake c past x) r facts.0 refl facts.1
+      let facts = accepted (nat_le c.harts x) (situation c past x) Advance (is_full c past) (reply c past x Advance) r e in
+      after_advance past before h x (state c past x) (wake c past x) r facts.0.in_phase facts.0.to_do refl facts.1
   after_event past (Hart x) (Tick n) r used e before h = before h
 
 pub starts_are_entered : (c : Config) (past : List Event) → IsLegal c past → StartsAreEntered c past

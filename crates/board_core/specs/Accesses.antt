@@ -4,9 +4,6 @@ use Rattle.sv39.specs.declared.cause.Cause.{Cause}
 use Rattle.tlb_model.specs.declared.entry.Address.{Address}
 use Rattle.tlb_model.specs.declared.entry.Entry.{Entry}
 use Rattle.tlb_model.specs.declared.word.FetchWord.{FetchWord}
-use Rattle.tlb_model.specs.Acts.{last_live}
-use Rattle.tlb_model.specs.Entries.{covers_entry, matches}
-use Rattle.tlb_model.specs.Words.{covers_word, is_at}
 use Rattle.hart_access.specs.declared.operation.Access.{Access}
 use Rattle.hart_access.specs.declared.operation.Access.TheVariants.{Load, Store, Fetch}
 use Rattle.hart_access.specs.Accesses as whole
@@ -17,7 +14,7 @@ use Rattle.board_core.specs.declared.event.Op.{Op}
 use Rattle.board_core.specs.declared.event.Reply.{Reply}
 use Rattle.board_core.specs.declared.event.Reply.TheVariants.{Value, Fault, Done}
 use Rattle.board_core.specs.History.{Event, Reach, access_of}
-use Rattle.board_core.specs.Memory.{memory, satp, tlb_acts, word_acts}
+use Rattle.board_core.specs.Memory.{cached_in, hit_in, memory, satp, tlb_acts, word_acts}
 
 -- What an access answers: the word that it read, that it is done, or why it failed.
 abbrev pub access_reply_of : Access → Result ℕ Cause → Reply
@@ -29,10 +26,10 @@ access_reply_of access (Err cause) = Fault cause
 module _ (c : Config) (past : List Event) (x : ℕ) where
   -- the hit of an address in the TLB of hart x, and the word that its instruction cache has from a physical address
   abbrev pub hit : Address → Option Entry
-  hit at = last_live covers_entry matches at (tlb_acts past x)
+  hit = hit_in (tlb_acts c past x)
 
   abbrev pub cached : ℕ → Option FetchWord
-  cached pa = last_live covers_word is_at pa (word_acts c past x)
+  cached = cached_in (word_acts c past x)
 
   -- the entry that an access of hart x uses, found or filled, if any
   abbrev pub used_by_access : Option Reach → Option Entry

@@ -9,6 +9,7 @@ use Rattle.board_core.specs.History.{Event}
 use Rattle.board_core.specs.declared.event.Reply.{Reply}
 use Rattle.board_core.specs.declared.event.Reply.TheVariants.{Ret}
 use Rattle.board_core.specs.Csrs as csrs
+use Rattle.board_core.specs.Fences as fences
 use Rattle.board_core.specs.Interrupts as interrupts
 use Rattle.board_core.specs.Memory as memory
 use Rattle.board_core.specs.Starts as starts
@@ -32,7 +33,9 @@ pub record LooksSame (c : Config) (past later : List Event) : Type 0 where
   pub deadline : (h : ℕ) → interrupts.deadline c later h ≡ interrupts.deadline c past h
   pub satp : (h : ℕ) → memory.satp later h ≡ memory.satp past h
   pub word : (at : ℕ) → memory.memory c later at ≡ memory.memory c past at
-  pub tlb : (h : ℕ) → (cache_after covers_entry (memory.tlb_acts later h)).live ≡ (cache_after covers_entry (memory.tlb_acts past h)).live
+  pub tlb : (h : ℕ) → (cache_after covers_entry (memory.tlb_acts c later h)).live ≡ (cache_after covers_entry (memory.tlb_acts c past h)).live
   pub fetched : (h : ℕ) → (cache_after covers_word (memory.word_acts c later h)).live ≡ (cache_after covers_word (memory.word_acts c past h)).live
+  pub waiting : (h : ℕ) → fences.waiting c later h ≡ fences.waiting c past h
+  pub outstanding : (h : ℕ) → fences.outstanding c later h ≡ fences.outstanding c past h
   pub time : interrupts.time later ≡ interrupts.time past
   pub totals : counts.totals c later ≡ counts.totals c past

@@ -42,6 +42,11 @@ access_of (Store va value) = Some (record { va = va; access = accesses.Store val
 access_of (Fetch va) = Some (record { va = va; access = accesses.Fetch })
 access_of op = None
 
+-- the entry that an operation used, where it is an access
+abbrev pub entry_of : Option Reach → Option Entry → Option Entry
+entry_of None used = None
+entry_of (Some reach) used = used
+
 -- the operation that an access of an address is
 abbrev pub access_op : (va : ℕ) → Access → Op
 access_op va accesses.Load = Load va

@@ -3,6 +3,7 @@ pub mod Course
 pub mod States
 pub mod Csrs
 pub mod History
+pub mod Fences
 pub mod Memory
 pub mod Accesses
 pub mod Suspends

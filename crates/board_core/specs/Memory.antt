@@ -1,17 +1,15 @@
 -- Memory, its translation, and the harts' caches (Privileged 4.1.11, 4.2, 4.3; Zifencei).
 use Rattle.std.specs.Prelude.{ℕ, List, [], ◌∷◌, Bool, ◌==◌, if◌then◌else◌, Option, Some, None, unwrap_or}
-use Rattle.sbi_abi.specs.declared.call.Call.{Call}
-use Rattle.sbi_abi.specs.declared.call.Call.TheVariants.{HartStop}
-use Rattle.sbi_abi.specs.Calls.{call_of}
+use Rattle.rfence.specs.Applied.{Effect, Nothing, Drops, Empties, effect}
 use Rattle.sv39.specs.Memory.{written, zero_memory}
 use Rattle.sv39.specs.Satp.{asid_of, is_sv39, mode_of}
+use Rattle.tlb_model.specs.declared.entry.Address.{Address}
 use Rattle.tlb_model.specs.declared.entry.Entry.{Entry}
 use Rattle.tlb_model.specs.declared.fence.Flush.{Flush}
-use Rattle.tlb_model.specs.declared.fence.Flush.TheVariants.{Words, Entries}
 use Rattle.tlb_model.specs.declared.word.FetchWord.{FetchWord}
-use Rattle.tlb_model.specs.Acts.{Act, Fill, Drop, Clear, Nothing, last_live}
+use Rattle.tlb_model.specs.Acts as acts
+use Rattle.tlb_model.specs.Acts.{Act, last_live}
 use Rattle.tlb_model.specs.Entries.{covers_entry, matches}
-use Rattle.tlb_model.specs.Fences.{fence_of_address}
 use Rattle.tlb_model.specs.Words.{covers_word, is_at}
 use Rattle.hart_access.specs.Accesses.{fetched_from}
 use Rattle.hart_access.specs.Ways.{phys_at}
@@ -22,6 +20,7 @@ use Rattle.board_core.specs.declared.event.Reply.{Reply}
 use Rattle.board_core.specs.declared.event.Reply.TheVariants as replies
 use Rattle.board_core.specs.Course.{is_hart}
 use Rattle.board_core.specs.Csrs.{latest}
+use Rattle.board_core.specs.Fences.{turn_of, turns}
 use Rattle.board_core.specs.History.{Event}
 
 -- ---- satp
@@ -41,6 +40,10 @@ satp_by op reply = None
 abbrev pub satp : List Event → ℕ → ℕ
 satp [] h = 0
 satp (event ∷ past) h = latest (satp_by event.op event.reply) (is_hart h event.actor) (satp past h)
+
+-- an address in the space that satp names
+abbrev pub address_by : (satp va : ℕ) → Address
+address_by satp va = record { va = va; asid = asid_of satp }
 
 -- ---- memory
 
@@ -65,60 +68,42 @@ memory c (event ∷ past) = written_by (storing_by event.op event.reply event.tr
 
 -- ---- caches
 
--- what an event does to the caches of its hart besides filling them
-pub data Effect : Type 0 where
-  nothing : Effect
-  drops : Flush → Effect
-  empties : Effect
+-- what an event does to a cache of a hart, by what it does to the hart's caches and what it fills there
+abbrev pub act_by : {E : Type 0} → Effect Flush → Option E → Act E
+act_by Nothing None = acts.Nothing
+act_by Nothing (Some item) = acts.Fill item
+act_by (Drops flush) filling = acts.Drop flush
+act_by Empties filling = acts.Clear
 
--- A stop empties the caches of its hart (profile).
-abbrev pub effect_by_call : Call → Reply → Effect
-effect_by_call HartStop replies.Gone = empties
-effect_by_call call reply = nothing
-
--- A local fence drops what it covers (Privileged 4.2.1; Zifencei).
-abbrev pub effect_by : Op → Reply → Effect
-effect_by (ops.Ecall regs) reply = effect_by_call (call_of regs) reply
-effect_by (ops.Sfence va asid) reply = drops (Entries (fence_of_address va asid))
-effect_by ops.FenceI reply = drops Words
-effect_by op reply = nothing
-
--- what it does to a cache, with what it fills there
-abbrev pub act_by : {E : Type 0} → Effect → Option E → Act E
-act_by nothing None = Nothing
-act_by nothing (Some item) = Fill item
-act_by (drops flush) filling = Drop flush
-act_by empties filling = Clear
-
--- of the events of other harts, nothing
-abbrev pub act_at : {E : Type 0} → (own : Bool) → Act E → Act E
-act_at own Nothing = Nothing
-act_at own act = if own then act else Nothing
+-- a hart fills its own caches alone
+abbrev pub own_filling : {E : Type 0} → (own : Bool) → Option E → Option E
+own_filling own None = None
+own_filling own (Some item) = if own then Some item else None
 
 -- what an access fills that used an entry: that entry, where none was hit
 abbrev pub filling_of : (hit used : Option Entry) → Option Entry
 filling_of None used = used
 filling_of (Some entry) used = None
 
--- The entry that an access of this address hits: of those that live, match the address and are global or of satp's
--- address space, the one that was filled last (profile).
-abbrev pub hit_in : List (Act Entry) → (satp va : ℕ) → Option Entry
-hit_in acts satp va = last_live covers_entry matches (record { va = va; asid = asid_of satp }) acts
+-- The entry that an address hits: of those that live, match the address and are global or of its address space, the one
+-- that was filled last (profile).
+abbrev pub hit_in : List (Act Entry) → Address → Option Entry
+hit_in acts at = last_live covers_entry matches at acts
 
 -- An access that used an entry without hitting one filled it.
 abbrev pub entry_filling : Op → (used : Option Entry) → (satp : ℕ) → List (Act Entry) → Option Entry
-entry_filling (ops.Load va) used satp acts = filling_of (hit_in acts satp va) used
-entry_filling (ops.Store va value) used satp acts = filling_of (hit_in acts satp va) used
-entry_filling (ops.Fetch va) used satp acts = filling_of (hit_in acts satp va) used
+entry_filling (ops.Load va) used satp acts = filling_of (hit_in acts (address_by satp va)) used
+entry_filling (ops.Store va value) used satp acts = filling_of (hit_in acts (address_by satp va)) used
+entry_filling (ops.Fetch va) used satp acts = filling_of (hit_in acts (address_by satp va)) used
 entry_filling op used satp acts = None
 
 -- What happened to the TLB of a hart, newest first: an act for each event.
-abbrev pub tlb_acts : List Event → ℕ → List (Act Entry)
-tlb_acts [] h = []
-tlb_acts (event ∷ past) h =
-    act_at (is_hart h event.actor)
-    (act_by (effect_by event.op event.reply) (entry_filling event.op event.translation (satp past h) (tlb_acts past h)))
-    ∷ tlb_acts past h
+abbrev pub tlb_acts : Config → List Event → ℕ → List (Act Entry)
+tlb_acts c [] h = []
+tlb_acts c (event ∷ past) h =
+    act_by (effect (turns c past) (turn_of c past event.actor event.op event.reply) h)
+    (own_filling (is_hart h event.actor) (entry_filling event.op event.translation (satp past h) (tlb_acts c past h)))
+    ∷ tlb_acts c past h
 
 -- the word that was fetched last from a physical address, of those that live
 abbrev pub cached_in : List (Act FetchWord) → (pa : ℕ) → Option FetchWord
@@ -134,6 +119,6 @@ word_filling op reply used memory acts = None
 abbrev pub word_acts : Config → List Event → ℕ → List (Act FetchWord)
 word_acts c [] h = []
 word_acts c (event ∷ past) h =
-    act_at (is_hart h event.actor)
-    (act_by (effect_by event.op event.reply) (word_filling event.op event.reply event.translation (memory c past) (word_acts c past h)))
+    act_by (effect (turns c past) (turn_of c past event.actor event.op event.reply) h)
+    (own_filling (is_hart h event.actor) (word_filling event.op event.reply event.translation (memory c past) (word_acts c past h)))
     ∷ word_acts c past h

@@ -1,14 +1,17 @@
 -- When a step is refused (profile).
-use Rattle.std.specs.Prelude.{◌≡◌, ℕ, ◌+◌, Bool, true, false, not, List, [], ◌∷◌, ◌==◌, nat_le, nat_lt, length, if◌then◌else◌, Option, Some, None}
+use Rattle.std.specs.Prelude.{◌≡◌, ℕ, ◌+◌, Bool, true, false, not, List, [], ◌∷◌, ◌==◌, ◌&&◌, nat_le, nat_lt, length, if◌then◌else◌, Option, Some, None, is_none}
 use Rattle.hsm.specs.declared.hart.HartState.{HartState}
-use Rattle.hsm.specs.States.{goes_on, is_started}
+use Rattle.fence_queue.specs.declared.request.Request.{Request}
+use Rattle.hsm.specs.States.{goes_on, is_interruptible, is_started}
 use Rattle.interrupts.specs.Timing.{last_time}
+use Rattle.tlb_model.specs.declared.fence.Flush.{Flush}
 use Rattle.board_core.specs.declared.config.Config.{Config}
 use Rattle.board_core.specs.History.{Event}
 use Rattle.board_core.specs.declared.event.Op.{Op}
-use Rattle.board_core.specs.declared.event.Op.TheVariants.{Ecall, Load, Store, Fetch, WriteSatp, WriteSie, WriteSstatusSie, ReadSip, ClearSsip, Wfi, Sfence, FenceI, Advance, Tick}
+use Rattle.board_core.specs.declared.event.Op.TheVariants.{Ecall, Load, Store, Fetch, WriteSatp, WriteSie, WriteSstatusSie, ReadSip, ClearSsip, Wfi, Sfence, FenceI, Poll, Serve, Advance, Tick}
 use Rattle.board_core.specs.declared.event.Refusal.{Refusal}
 use Rattle.board_core.specs.declared.event.Refusal.TheVariants.{WrongPhase, Nothing, HistoryFull, TimeFull}
+use Rattle.board_core.specs.Fences.{outstanding, waiting}
 use Rattle.board_core.specs.Interrupts.{ticks_by, time, wake}
 use Rattle.board_core.specs.States.{state}
 
@@ -18,44 +21,72 @@ refusal_number Nothing = 3
 refusal_number HistoryFull = 4
 refusal_number TimeFull = 5
 
--- a guest's operation wants a STARTED hart, the firmware's Advance one that isn't, and a tick is no hart's
-abbrev pub is_out_of_phase : Op → HartState → Bool
-is_out_of_phase (Ecall regs) s = not (is_started s)
-is_out_of_phase (Load va) s = not (is_started s)
-is_out_of_phase (Store va value) s = not (is_started s)
-is_out_of_phase (Fetch va) s = not (is_started s)
-is_out_of_phase (WriteSatp value) s = not (is_started s)
-is_out_of_phase (WriteSie value) s = not (is_started s)
-is_out_of_phase (WriteSstatusSie value) s = not (is_started s)
-is_out_of_phase ReadSip s = not (is_started s)
-is_out_of_phase ClearSsip s = not (is_started s)
-is_out_of_phase Wfi s = not (is_started s)
-is_out_of_phase (Sfence va asid) s = not (is_started s)
-is_out_of_phase FenceI s = not (is_started s)
-is_out_of_phase Advance s = is_started s
+-- what decides whether an operation of a hart happens: its state, its wake, the harts that its fence call waits for,
+-- while it is inside one, and the fences that wait at it
+pub record Situation : Type 0 where
+  pub state : HartState
+  pub wake : Bool
+  pub call : Option (List ℕ)
+  pub fences : List (Request Flush)
+
+-- a guest runs where its hart is STARTED, and outside of a fence call
+abbrev pub is_running : Situation → Bool
+is_running s = is_started s.state && is_none s.call
+
+-- A guest's operation wants its guest to run. Of the firmware's own, Poll ends a fence call, Serve wants a hart in an
+-- interruptible state, and Advance one that isn't STARTED. A tick is no hart's.
+abbrev pub is_out_of_phase : Op → Situation → Bool
+is_out_of_phase (Ecall regs) s = not (is_running s)
+is_out_of_phase (Load va) s = not (is_running s)
+is_out_of_phase (Store va value) s = not (is_running s)
+is_out_of_phase (Fetch va) s = not (is_running s)
+is_out_of_phase (WriteSatp value) s = not (is_running s)
+is_out_of_phase (WriteSie value) s = not (is_running s)
+is_out_of_phase (WriteSstatusSie value) s = not (is_running s)
+is_out_of_phase ReadSip s = not (is_running s)
+is_out_of_phase ClearSsip s = not (is_running s)
+is_out_of_phase Wfi s = not (is_running s)
+is_out_of_phase (Sfence va asid) s = not (is_running s)
+is_out_of_phase FenceI s = not (is_running s)
+is_out_of_phase Poll s = is_none s.call
+is_out_of_phase Serve s = not (is_interruptible s.state)
+is_out_of_phase Advance s = is_started s.state
 is_out_of_phase (Tick n) s = true
 
--- an Advance wants a hart that goes on, and Wfi waits for wake
-abbrev pub has_nothing_to_do : Op → HartState → (wake : Bool) → Bool
-has_nothing_to_do Advance s wake = not (goes_on wake s)
-has_nothing_to_do Wfi s wake = not wake
-has_nothing_to_do op s wake = false
+-- whether a fence call waits for a hart
+abbrev pub waits_for_some : Option (List ℕ) → Bool
+waits_for_some None = false
+waits_for_some (Some []) = false
+waits_for_some (Some (h ∷ harts)) = true
 
--- the state of its hart, and its wake, let an operation happen
-pub record IsAccepted (op : Op) (s : HartState) (wake : Bool) : Type 0 where
+abbrev pub is_empty : {A : Type 0} → List A → Bool
+is_empty [] = true
+is_empty (x ∷ xs) = false
+
+-- Poll waits until its call waits for no hart, Serve wants a fence that waits, an Advance a hart that goes on, and Wfi
+-- waits for wake.
+abbrev pub has_nothing_to_do : Op → Situation → Bool
+has_nothing_to_do Poll s = waits_for_some s.call
+has_nothing_to_do Serve s = is_empty s.fences
+has_nothing_to_do Advance s = not (goes_on s.wake s.state)
+has_nothing_to_do Wfi s = not s.wake
+has_nothing_to_do op s = false
+
+-- the situation of its hart lets an operation happen
+pub record IsAccepted (op : Op) (s : Situation) : Type 0 where
   pub in_phase : is_out_of_phase op s ≡ false
-  pub to_do : has_nothing_to_do op s wake ≡ false
+  pub to_do : has_nothing_to_do op s ≡ false
 
 -- the second part of the first row whose test holds
 abbrev pub first_that_holds : {A : Type 0} → List (Bool × A) → Option A
 first_that_holds [] = None
 first_that_holds (row ∷ rows) = if row.0 then Some row.1 else first_that_holds rows
 
--- the refusals of an operation of a hart in state s, with or without wake, in their order
-abbrev pub refusals_in : HartState → (wake : Bool) → Op → (is_full : Bool) → List (Bool × Refusal)
-refusals_in s wake op is_full =
+-- the refusals of an operation of a hart in this situation, in their order
+abbrev pub refusals_in : Situation → Op → (is_full : Bool) → List (Bool × Refusal)
+refusals_in s op is_full =
     (is_out_of_phase op s, WrongPhase)
-    ∷ (has_nothing_to_do op s wake, Nothing)
+    ∷ (has_nothing_to_do op s, Nothing)
     ∷ (is_full, HistoryFull)
     ∷ []
 
@@ -63,10 +94,14 @@ refusals_in s wake op is_full =
 abbrev pub is_full : Config → List Event → Bool
 is_full c past = length past == c.limit
 
+-- The situation of hart h.
+abbrev pub situation : Config → List Event → ℕ → Situation
+situation c past h =
+    record { state = state c past h; wake = wake c past h; call = outstanding c past h; fences = waiting c past h }
+
 -- The refusals of an operation of hart h: first of all, there has to be such a hart.
 abbrev pub refusals : Config → List Event → ℕ → Op → List (Bool × Refusal)
-refusals c past h op =
-    (nat_le c.harts h, WrongPhase) ∷ refusals_in (state c past h) (wake c past h) op (is_full c past)
+refusals c past h op = (nat_le c.harts h, WrongPhase) ∷ refusals_in (situation c past h) op (is_full c past)
 
 abbrev pub is_tick : Op → Bool
 is_tick (Tick n) = true

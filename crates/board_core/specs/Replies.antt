@@ -4,12 +4,14 @@ use Rattle.sbi_abi.specs.declared.answer.Sbiret.{Sbiret}
 use Rattle.sbi_abi.specs.declared.answer.SbiError.{SbiError}
 use Rattle.sbi_abi.specs.declared.answer.SbiError.TheVariants.{Failed, NotSupported, InvalidParam, InvalidAddress, AlreadyAvailable}
 use Rattle.sbi_abi.specs.declared.call.Call.{Call}
-use Rattle.sbi_abi.specs.declared.call.Call.TheVariants.{GetSpecVersion, GetImplId, GetImplVersion, ProbeExtension, GetMvendorid, GetMarchid, GetMimpid, SetTimer, SendIpi, HartStart, HartStop, HartGetStatus, HartSuspend, Unsupported}
+use Rattle.sbi_abi.specs.declared.call.Call.TheVariants.{GetSpecVersion, GetImplId, GetImplVersion, ProbeExtension, GetMvendorid, GetMarchid, GetMimpid, SetTimer, SendIpi, RemoteFenceI, RemoteSfenceVma, RemoteSfenceVmaAsid, HartStart, HartStop, HartGetStatus, HartSuspend, Unsupported}
 use Rattle.sbi_abi.specs.Calls.{call_of, is_extension_id}
 use Rattle.sbi_abi.specs.Errors.{error_number}
 use Rattle.sbi_abi.specs.declared.suspend.SuspendKind.{SuspendKind}
 use Rattle.sbi_abi.specs.declared.suspend.SuspendKind.TheVariants.{Retentive, NonRetentive}
 use Rattle.hart_mask.specs.HartList.{targets_of}
+use Rattle.tlb_model.specs.declared.fence.Flush.{Flush}
+use Rattle.tlb_model.specs.declared.fence.Flush.TheVariants.{Words}
 use Rattle.hart_access.specs.declared.operation.Access.TheVariants as accesses
 use Rattle.hsm.specs.declared.hart.HartState.{HartState}
 use Rattle.hsm.specs.declared.hart.HartState.TheVariants as states
@@ -20,13 +22,14 @@ use Rattle.board_core.specs.declared.event.Actor.{Actor}
 use Rattle.board_core.specs.declared.event.Actor.TheVariants.{Hart, Clock}
 use Rattle.board_core.specs.History.{Event}
 use Rattle.board_core.specs.declared.event.Op.{Op}
-use Rattle.board_core.specs.declared.event.Op.TheVariants.{Ecall, Load, Store, Fetch, WriteSatp, WriteSie, WriteSstatusSie, ReadSip, ClearSsip, Wfi, Sfence, FenceI, Advance, Tick}
+use Rattle.board_core.specs.declared.event.Op.TheVariants.{Ecall, Load, Store, Fetch, WriteSatp, WriteSie, WriteSstatusSie, ReadSip, ClearSsip, Wfi, Sfence, FenceI, Poll, Serve, Advance, Tick}
 use Rattle.board_core.specs.declared.event.Refusal.{Refusal}
 use Rattle.board_core.specs.declared.event.Reply.{Reply}
-use Rattle.board_core.specs.declared.event.Reply.TheVariants.{Ret, Waiting, Gone, Entry, Value, Moved, Done}
+use Rattle.board_core.specs.declared.event.Reply.TheVariants.{Ret, Waiting, Gone, Entry, Value, Served, Moved, Done}
 use Rattle.board_core.specs.Accesses.{access_reply, used_by_actor}
 use Rattle.board_core.specs.Course.{Course}
 use Rattle.board_core.specs.Csrs.{interrupt_bits, sstatus_sie}
+use Rattle.board_core.specs.Fences.{flush_of_range}
 use Rattle.board_core.specs.Limits.{is_start_address}
 use Rattle.board_core.specs.Interrupts.{ssip, stip}
 use Rattle.board_core.specs.Refusals.{clock_refusals, first_that_holds, refusals}
@@ -62,6 +65,16 @@ status_errors c t = (nat_le c.harts t, InvalidParam) ∷ []
 abbrev pub ipi_errors : Config → (mask base : ℕ) → List (Bool × SbiError)
 ipi_errors c mask base = (is_none (targets_of mask base c.harts), InvalidParam) ∷ []
 
+-- The reply to a remote fence of the harts of a hart list: it waits inside the call, until it is polled. The list is
+-- looked at first, and then the range (SBI 8; that it waits, and the order: profile).
+abbrev pub fence_reply_to : Option (List ℕ) → Result Flush SbiError → Reply
+fence_reply_to None flush = Ret (failure InvalidParam)
+fence_reply_to (Some harts) (Err error) = Ret (failure error)
+fence_reply_to (Some harts) (Ok flush) = Waiting
+
+abbrev pub fence_reply : Config → (mask base : ℕ) → Result Flush SbiError → Reply
+fence_reply c mask base flush = fence_reply_to (targets_of mask base c.harts) flush
+
 -- The reply to a suspend, by the kind that its type names, or the error that it brings: a retentive one waits inside
 -- the call, and a non-retentive one doesn't return, and wants an address where a hart may begin (SBI 9.4).
 abbrev pub suspend_reply : Config → Result SuspendKind SbiError → (addr : ℕ) → Reply
@@ -81,6 +94,9 @@ call_reply c past x GetMarchid = Ret (success 0)
 call_reply c past x GetMimpid = Ret (success 0)
 call_reply c past x (SetTimer deadline) = Ret (success 0)
 call_reply c past x (SendIpi mask base) = Ret (unless (first_that_holds (ipi_errors c mask base)) 0)
+call_reply c past x (RemoteFenceI mask base) = fence_reply c mask base (Ok Words)
+call_reply c past x (RemoteSfenceVma mask base start size) = fence_reply c mask base (flush_of_range start size None)
+call_reply c past x (RemoteSfenceVmaAsid mask base start size asid) = fence_reply c mask base (flush_of_range start size (Some asid))
 call_reply c past x (HartStart t addr opaque) = Ret (unless (first_that_holds (start_errors c past t addr)) 0)
 call_reply c past x HartStop = if sstatus_sie past x then Ret (failure Failed) else Gone
 call_reply c past x (HartGetStatus t) = Ret (unless (first_that_holds (status_errors c t)) (state_number (state c past t)))
@@ -117,6 +133,8 @@ reply c past x ClearSsip = Done
 reply c past x Wfi = Done
 reply c past x (Sfence va asid) = Done
 reply c past x FenceI = Done
+reply c past x Poll = Ret (success 0)
+reply c past x Serve = Served
 reply c past x Advance = advance_reply x (state c past x) (last_start c past x) (resume_point past x)
 reply c past x (Tick n) = Done
 

@@ -1,12 +1,18 @@
 -- What a board keeps, and how each part of it stands for the history.
 use Rattle.std.specs.Prelude.{Option, slice_index_or, ◌≡◌, ◌<◌, ◌≤◌, ◌^◌, List, map, length, ℕ}
-use Rattle.hart_mask.specs.Ids.{ids_where}
+use Rattle.hart_mask.specs.Ids.{has, ids_where}
 use Rattle.hsm.specs.Harts.{Hart}
-use Rattle.interrupts.specs.Timing.{Timing}
+use Rattle.hsm.specs.Transitions.{hart_at}
+use Rattle.interrupts.specs.Timing.{Timing, is_timer_pending}
+use Rattle.fence_queue.specs.Queues.{queue_at}
+use Rattle.rfence.specs.Right.{IsRight}
+use Rattle.rfence.specs.State as fences
+use Rattle.rfence.specs.State.{State, call_at}
 use Rattle.sv39.specs.Memory.{pages_of, word_in}
 use Rattle.tlb_model.specs.declared.caches.Caches.{Caches}
 use Rattle.tlb_model.specs.declared.entry.Address.{Address}
 use Rattle.tlb_model.specs.declared.entry.Entry.{Entry}
+use Rattle.tlb_model.specs.declared.fence.Flush.{Flush}
 use Rattle.tlb_model.specs.declared.word.FetchWord.{FetchWord}
 use Rattle.tlb_model.specs.Acts.{cache_after}
 use Rattle.tlb_model.specs.Contents.{empty, hit}
@@ -20,10 +26,12 @@ use Rattle.board_core.specs.declared.interrupt_state.Interrupts.{Interrupts}
 use Rattle.board_core.specs.declared.machine.Machine.{Machine}
 use Rattle.board_core.specs.declared.memory.Memory.{Memory}
 use Rattle.board_core.specs.Course.{harts_of}
-use Rattle.board_core.specs.Csrs.{sie, sstatus_sie}
+use Rattle.board_core.specs.Csrs.{enables, sie, sstatus_sie}
+use Rattle.board_core.specs.Fences.{turns}
 use Rattle.board_core.specs.Interrupts.{deadline, ssip, time}
 use Rattle.board_core.specs.Limits.{IsGood}
 use Rattle.board_core.specs.Memory.{memory, satp, tlb_acts, word_acts}
+use Rattle.board_core.specs.Refusals.{Situation}
 use Rattle.board_core.specs.Replies.{IsLegal}
 use Rattle.board_core.specs.Starts.{entries, hart_of, starts}
 
@@ -71,7 +79,7 @@ word_hit caches pa = hit is_at pa caches.words
 
 -- the caches of a hart as the past makes them
 abbrev pub caches_of : Config → List Event → ℕ → Caches
-caches_of c past h = record { tlb = cache_after covers_entry (tlb_acts past h); words = cache_after covers_word (word_acts c past h) }
+caches_of c past h = record { tlb = cache_after covers_entry (tlb_acts c past h); words = cache_after covers_word (word_acts c past h) }
 
 -- the RAM has the past's words, satp of each hart is what was last written, and its caches have what lives
 pub record MemoryStand (c : Config) (past : List Event) (m : Memory) : Type 0 where
@@ -79,6 +87,11 @@ pub record MemoryStand (c : Config) (past : List Event) (m : Memory) : Type 0 wh
   pub ram : word_in m.ram ≡ memory c past
   pub satps : m.satps.items ≡ map (satp past) (harts_of c)
   pub caches : m.caches.items ≡ map (caches_of c past) (harts_of c)
+
+-- the fences stand for the turns of the past, each of which could be made
+pub record FencesStand (c : Config) (past : List Event) (f : State Flush) : Type 0 where
+  pub stands : fences.StandsFor c.harts (turns c past) f
+  pub right : IsRight c.harts (turns c past)
 
 -- the counts are those of the past
 pub record CountsStand (c : Config) (past : List Event) (counts : Counts) : Type 0 where
@@ -90,14 +103,33 @@ pub record StandsFor (c : Config) (past : List Event) (m : Machine) : Type 0 whe
   pub harts : HartsStand c past m.hsm
   pub interrupts : InterruptsStand c past m.interrupts
   pub memory : MemoryStand c past m.memory
+  pub fences : FencesStand c past m.fences
   pub counts : CountsStand c past m.counts
 
--- there is a hart, a deadline, a satp and a pair of caches for each id
+-- there is a hart, a deadline, a satp, a pair of caches, a call and a queue for each id
 pub record IsSized (c : Config) (m : Machine) : Type 0 where
   pub harts : length m.hsm ≡ c.harts
   pub deadlines : length m.interrupts.timers.deadlines ≡ c.harts
   pub satps : length m.memory.satps.items ≡ c.harts
   pub caches : length m.memory.caches.items ≡ c.harts
+  pub calls : length m.fences.calls ≡ c.harts
+  pub queues : length m.fences.queues ≡ c.harts
+
+-- what the machine says of whether an operation of hart h happens
+abbrev pub situation_in : Machine → ℕ → Situation
+situation_in m h = record {
+  state = (hart_at m.hsm h).state;
+  wake = enables (record { ssie = has m.interrupts.csrs.ssie h; stie = has m.interrupts.csrs.stie h })
+      (has m.interrupts.ipis h) (is_timer_pending m.interrupts.timers h);
+  call = call_at m.fences h;
+  fences = queue_at m.fences.queues h;
+}
+
+-- There is a past of few events that the machine stands for.
+pub record IsStanding (c : Config) (m : Machine) : Type 0 where
+  pub past : List Event
+  pub stands : StandsFor c past m
+  pub few : length past ≤ 1000000
 
 -- the caches of hart h can be filled once more
 pub record CanFill (memory : Memory) (h : ℕ) : Type 0 where

@@ -13,7 +13,8 @@ ghost use Rattle.board_core.specs.ErrorLaw.{LooksSame, is_error};
 ghost use Rattle.board_core.specs.Interrupts.{deadline, ssip, stip, time, wake};
 ghost use Rattle.board_core.specs.Limits.{IsGood};
 ghost use Rattle.board_core.specs.Memory.{memory, satp, tlb_acts, word_acts};
-ghost use Rattle.board_core.specs.Refusals.{first_that_holds, has_nothing_to_do, is_full, refusals_in};
+ghost use Rattle.board_core.specs.Fences.{outstanding, waiting};
+ghost use Rattle.board_core.specs.Refusals.{first_that_holds, is_full, refusals_in, situation};
 ghost use Rattle.board_core.specs.States.{state};
 ghost use Rattle.board_core.specs.Starts.{kept, StartsAreEntered};
 ghost use Rattle.board_core.specs.Replies.{answer, stepped, IsLegal};
@@ -27,12 +28,14 @@ use crate::event::{Actor, Event, Op, Refusal, Reply};
 use crate::interrupt_state::Interrupts;
 use crate::machine::Machine;
 use crate::memory::Memory;
+use fence_queue::Waiting;
 use hart_mask::HartSet;
 use hsm::{HartState, Hsm, Kept};
 use interrupts::{Ipis, Timers};
+use rfence::Fences;
 use std::alloc::{AllocError, Global};
 use std::marker::Model;
-use tlb_model::{Entry, FetchWord, Numbered};
+use tlb_model::{Entry, FetchWord, Flush, Numbered};
 
 /// The counts of the board's table, since the opening.
 #[derive(Clone, Copy, Debug, PartialEq, Eq)]
@@ -115,24 +118,28 @@ impl Board {
         if h >= self.config.harts {
             return Err(Refusal::WrongPhase);
         }
-        let wake = self.wake_for(h, op);
-        if let Some(refusal) = refusal(self.state(h), wake, op, self.is_full()) {
+        if let Some(refusal) = self.refusal(h, op) {
             return Err(refusal);
         }
-        let (reply, used) = self.machine.perform(&self.config, h, wake, op);
+        let (reply, used) = self.machine.perform(&self.config, h, op);
         self.events
             .push_reserved(Event::new(Actor::Hart(h), op, reply, used));
         Ok(reply)
     }
 
-    /// Whether hart `h` has wake, where the operation asks for it.
-    fn wake_for(&self, h: u64, op: Op) -> bool
+    /// The first refusal that holds of an operation of hart `h`, which is there.
+    fn refusal(&self, h: u64, op: Op) -> Option<Refusal>
         requires { h < self.now.config.harts }
-        ensures { (s : HartState) → has_nothing_to_do op s result ≡ has_nothing_to_do op s (wake self.now.config self.now.past h) }
+        ensures { result ≡ first_that_holds (refusals_in (situation self.now.config self.now.past h) op (is_full self.now.config self.now.past)) }
     {
-        match op {
-            Op::Advance | Op::Wfi => self.wake(h),
-            _ => false,
+        if self.machine.is_out_of_phase(h, op) {
+            Some(Refusal::WrongPhase)
+        } else if self.machine.has_nothing_to_do(h, op) {
+            Some(Refusal::Nothing)
+        } else if self.is_full() {
+            Some(Refusal::HistoryFull)
+        } else {
+            None
         }
     }
 
@@ -258,7 +265,7 @@ impl Board {
     /// The live entries of the TLB of hart `h`, in the order of filling.
     pub fn tlb(&self, h: u64) -> &[Numbered<Entry>]
         requires { h < self.now.config.harts }
-        ensures { reverse result.now ≡ (cache_after covers_entry (tlb_acts self.now.past h)).live }
+        ensures { reverse result.now ≡ (cache_after covers_entry (tlb_acts self.now.config self.now.past h)).live }
     {
         self.machine.memory.caches[h as usize].tlb.live()
     }
@@ -269,6 +276,30 @@ impl Board {
         ensures { reverse result.now ≡ (cache_after covers_word (word_acts self.now.config self.now.past h)).live }
     {
         self.machine.memory.caches[h as usize].words.live()
+    }
+
+    /// The fences that wait at hart `h`, the one first that it serves first.
+    pub fn waiting(&self, h: u64) -> Waiting<'_, Flush>
+        requires { h < self.now.config.harts }
+        ensures { result ≡ waiting self.now.config self.now.past h }
+    {
+        self.machine.fences.iter(h)
+    }
+
+    /// How many fences wait at hart `h`: fewer than there are harts.
+    pub fn waiting_len(&self, h: u64) -> u64
+        requires { h < self.now.config.harts }
+        ensures { result ≡ length (waiting self.now.config self.now.past h) }
+    {
+        self.machine.fences.len(h)
+    }
+
+    /// The harts that the fence call of hart `h` waits for; None outside of a fence call.
+    pub fn outstanding(&self, h: u64) -> Option<HartSet>
+        requires { h < self.now.config.harts }
+        ensures { result ≡ outstanding self.now.config self.now.past h }
+    {
+        self.machine.fences.outstanding(h)
     }
 
     /// The deadline of hart `h`, in ticks, if it has one (SBI 6.1).
@@ -297,9 +328,9 @@ impl Board {
             starts: self.machine.counts.starts,
             entries: self.machine.counts.entries,
             pending: self.machine.hsm.pending_starts(),
-            asked: 0,
-            applied: 0,
-            waiting: 0,
+            asked: self.machine.fences.asked(),
+            applied: self.machine.fences.applied(),
+            waiting: self.machine.fences.waiting(),
         }
     }
 }
@@ -342,33 +373,12 @@ fn opening(alloc: Global, config: &Config) -> Result<Machine, AllocError>
         timers,
     };
     let memory = Memory::new(alloc, config)?;
+    let fences = Fences::new(alloc, config.harts)?;
     Ok(Machine {
         hsm,
         interrupts,
         memory,
+        fences,
         counts,
     })
-}
-
-/// The first refusal of an operation of a hart in this state, with or without wake.
-fn refusal(state: HartState, wake: bool, op: Op, is_full: bool) -> Option<Refusal>
-    ensures { result ≡ first_that_holds (refusals_in state wake op is_full) }
-{
-    let (in_phase, has_work) = match op {
-        Op::Ecall(_) | Op::Load(_) | Op::Store(..) | Op::Fetch(_) => (state.is_started(), true),
-        Op::WriteSatp(_) | Op::WriteSie(_) | Op::WriteSstatusSie(_) => (state.is_started(), true),
-        Op::ReadSip | Op::ClearSsip | Op::Sfence(..) | Op::FenceI => (state.is_started(), true),
-        Op::Wfi => (state.is_started(), wake),
-        Op::Advance => (!state.is_started(), state.goes_on(wake)),
-        Op::Tick(_) => (false, true),
-    };
-    if !in_phase {
-        Some(Refusal::WrongPhase)
-    } else if !has_work {
-        Some(Refusal::Nothing)
-    } else if is_full {
-        Some(Refusal::HistoryFull)
-    } else {
-        None
-    }
 }

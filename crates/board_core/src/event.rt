@@ -1,5 +1,5 @@
 ghost use Rattle.std.specs.Prelude.{◌≡◌};
-ghost use Rattle.board_core.specs.History.{translation_of, what_of};
+ghost use Rattle.board_core.specs.History.{access_of, entry_of};
 ghost use Rattle.board_core.specs.Refusals.{refusal_number};
 
 use hsm::HartState;
@@ -46,6 +46,10 @@ pub enum Op {
     Sfence(Option<u64>, Option<u64>),
     /// A guest's local fence of fetched words, FENCE.I (Zifencei).
     FenceI,
+    /// The firmware ends its hart's fence call, which waits for no hart any more: the call returns (profile).
+    Poll,
+    /// The firmware applies the first remote fence that waits at its hart (profile).
+    Serve,
     /// The firmware brings its hart one state further (profile).
     Advance,
     /// The time goes on by so many ticks (profile).
@@ -74,6 +78,8 @@ pub enum Reply {
     Value(u64),
     /// The access failed, for this cause (Privileged 4.1.8).
     Fault(Cause),
+    /// A remote fence was applied (profile).
+    Served,
     /// The hart's state is this one now (SBI 9).
     Moved(HartState),
     /// It is done.
@@ -145,7 +151,7 @@ impl Model for Event {
 impl Event {
     /// An accepted step; of accesses alone the entry is kept.
     pub fn new(actor: Actor, op: Op, reply: Reply, used: Option<Entry>) -> Event
-        ensures { result ≡ record { actor = actor; op = op; reply = reply; translation = translation_of (what_of op used) } }
+        ensures { result ≡ record { actor = actor; op = op; reply = reply; translation = entry_of (access_of op) used } }
     {
         let what = match op {
             Op::Load(va) => What::Load(va, used),

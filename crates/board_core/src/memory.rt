@@ -1,7 +1,7 @@
 ghost use Rattle.std.specs.Prelude.{◌≡◌, ◌<◌, IfOk, [], length, slice_set};
 ghost use Rattle.sv39.specs.Memory.{pages_of, word_in};
 ghost use Rattle.sv39.specs.Satp.{satp_written};
-ghost use Rattle.tlb_model.specs.Contents.{cleared, fenced, filled_if};
+ghost use Rattle.tlb_model.specs.Contents.{fenced, filled_if};
 ghost use Rattle.tlb_model.specs.Entries.{covers_entry};
 ghost use Rattle.tlb_model.specs.Words.{covers_word};
 ghost use Rattle.hart_access.specs.Accesses.{answer, filling, stored, used, word_filling};
@@ -102,18 +102,5 @@ impl Memory {
         ensures satps { self.new.satps.items ≡ self.old.satps.items }
     {
         self.caches[h as usize].apply(flush);
-    }
-
-    /// Empties the caches of hart `h`, as its stop does (profile).
-    pub fn empty_caches(&mut self, h: u64)
-        requires { h < length self.old.caches.items }
-        ensures caches { self.new.caches.items ≡ slice_set self.old.caches.items h (record {
-          tlb = cleared (caches_at self.old h).tlb;
-          words = cleared (caches_at self.old h).words;
-        }) }
-        ensures ram { self.new.ram ≡ self.old.ram }
-        ensures satps { self.new.satps.items ≡ self.old.satps.items }
-    {
-        self.caches[h as usize].clear();
     }
 }

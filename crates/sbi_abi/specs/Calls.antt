@@ -3,7 +3,7 @@ use Rattle.std.specs.Prelude.{ℕ, Bool, List, [], ◌∷◌, ◌==◌, if◌the
 use Rattle.std.specs.List.{list_any}
 use Rattle.sbi_abi.specs.declared.call.Regs.{Regs}
 use Rattle.sbi_abi.specs.declared.call.Call.{Call}
-use Rattle.sbi_abi.specs.declared.call.Call.TheVariants.{GetSpecVersion, GetImplId, GetImplVersion, ProbeExtension, GetMvendorid, GetMarchid, GetMimpid, SetTimer, SendIpi, HartStart, HartStop, HartGetStatus, HartSuspend, Unsupported}
+use Rattle.sbi_abi.specs.declared.call.Call.TheVariants.{GetSpecVersion, GetImplId, GetImplVersion, ProbeExtension, GetMvendorid, GetMarchid, GetMimpid, SetTimer, SendIpi, RemoteFenceI, RemoteSfenceVma, RemoteSfenceVmaAsid, HartStart, HartStop, HartGetStatus, HartSuspend, Unsupported}
 use Rattle.sbi_abi.specs.SuspendTypes.{suspend_kind_of}
 
 -- what a listing names by the number n, or else `other`
@@ -31,6 +31,15 @@ time_listing regs = (0, SetTimer (slice_index regs.a 0)) ∷ []
 abbrev pub ipi_listing : Regs → List (ℕ × Call)
 ipi_listing regs = (0, SendIpi (slice_index regs.a 0) (slice_index regs.a 1)) ∷ []
 
+-- The function listing of the RFENCE Extension (SBI 8). Its functions 3 to 6 are the hypervisor's, and aren't
+-- implemented here (profile).
+abbrev pub rfence_listing : Regs → List (ℕ × Call)
+rfence_listing regs =
+    (0, RemoteFenceI (slice_index regs.a 0) (slice_index regs.a 1))
+    ∷ (1, RemoteSfenceVma (slice_index regs.a 0) (slice_index regs.a 1) (slice_index regs.a 2) (slice_index regs.a 3))
+    ∷ (2, RemoteSfenceVmaAsid (slice_index regs.a 0) (slice_index regs.a 1) (slice_index regs.a 2) (slice_index regs.a 3) (slice_index regs.a 4))
+    ∷ []
+
 -- The function listing of the Hart State Management Extension (SBI 9).
 abbrev pub hsm_listing : Regs → List (ℕ × Call)
 hsm_listing regs =
@@ -46,6 +55,7 @@ extensions regs =
     (0x10, base_listing regs)
     ∷ (0x54494D45, time_listing regs)
     ∷ (0x735049, ipi_listing regs)
+    ∷ (0x52464E43, rfence_listing regs)
     ∷ (0x48534D, hsm_listing regs)
     ∷ []
 
@@ -55,4 +65,4 @@ call_of regs = named regs.fid Unsupported (named regs.eid [] (extensions regs))
 
 -- The ids that probing answers 1 for (SBI 4.4).
 abbrev pub is_extension_id : ℕ → Bool
-is_extension_id eid = list_any (λ n. n == eid) (0x10 ∷ 0x54494D45 ∷ 0x735049 ∷ 0x48534D ∷ [])
+is_extension_id eid = list_any (λ n. n == eid) (0x10 ∷ 0x54494D45 ∷ 0x735049 ∷ 0x52464E43 ∷ 0x48534D ∷ [])

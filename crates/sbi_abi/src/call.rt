@@ -1,6 +1,6 @@
 ghost use Rattle.std.specs.Prelude.{◌≡◌};
 ghost use Rattle.sbi_abi.specs.declared.call.Call.TheVariants.{Unsupported};
-ghost use Rattle.sbi_abi.specs.Calls.{base_listing, call_of, hsm_listing, ipi_listing, is_extension_id, named, time_listing};
+ghost use Rattle.sbi_abi.specs.Calls.{base_listing, call_of, hsm_listing, ipi_listing, is_extension_id, named, rfence_listing, time_listing};
 
 use crate::answer::SbiError;
 use crate::suspend::{SuspendKind, suspend_kind};
@@ -42,6 +42,38 @@ pub enum Call {
         /// The id that bit 0 names; 2^64-1 names all harts, whatever the mask (SBI 3).
         base: u64,
     },
+    /// Has the harts of a list drop their fetched words, by a FENCE.I (SBI 8.1).
+    RemoteFenceI {
+        /// Bit i names hart `base + i`.
+        mask: u64,
+        /// The id that bit 0 names; 2^64-1 names all harts, whatever the mask (SBI 3).
+        base: u64,
+    },
+    /// Has the harts of a list drop the translations of a range of addresses, by an SFENCE.VMA (SBI 8.2).
+    RemoteSfenceVma {
+        /// Bit i names hart `base + i`.
+        mask: u64,
+        /// The id that bit 0 names; 2^64-1 names all harts, whatever the mask (SBI 3).
+        base: u64,
+        /// The first address, in bytes.
+        start: u64,
+        /// How many bytes; all addresses where this and `start` are 0, or where it is 2^64-1.
+        size: u64,
+    },
+    /// Has the harts of a list drop the translations of a range of addresses in one address space, by an SFENCE.VMA with
+    /// an ASID (SBI 8.3).
+    RemoteSfenceVmaAsid {
+        /// Bit i names hart `base + i`.
+        mask: u64,
+        /// The id that bit 0 names; 2^64-1 names all harts, whatever the mask (SBI 3).
+        base: u64,
+        /// The first address, in bytes.
+        start: u64,
+        /// How many bytes; all addresses where this and `start` are 0, or where it is 2^64-1.
+        size: u64,
+        /// The address space, in the low 16 bits (profile).
+        asid: u64,
+    },
     /// Starts a hart (SBI 9.1).
     HartStart {
         /// The hart's id.
@@ -74,6 +106,8 @@ const TIME: u64 = 0x5449_4D45;
 
 const IPI: u64 = 0x73_5049;
 
+const RFENCE: u64 = 0x5246_4E43;
+
 const HSM: u64 = 0x48_534D;
 
 /// The call that the registers ask for.
@@ -85,6 +119,7 @@ pub fn decode(regs: &Regs) -> Call
         BASE => base_call(regs),
         TIME => time_call(regs),
         IPI => ipi_call(regs),
+        RFENCE => rfence_call(regs),
         HSM => hsm_call(regs),
         _ => Call::Unsupported,
     }
@@ -94,7 +129,7 @@ pub fn decode(regs: &Regs) -> Call
 pub fn is_extension(eid: u64) -> bool
     ensures { result ≡ is_extension_id eid }
 {
-    matches!(eid, BASE | TIME | IPI | HSM)
+    matches!(eid, BASE | TIME | IPI | RFENCE | HSM)
 }
 
 fn base_call(regs: &Regs) -> Call
@@ -127,6 +162,29 @@ fn ipi_call(regs: &Regs) -> Call
     let [mask, base, ..] = regs.a;
     match regs.fid {
         0 => Call::SendIpi { mask, base },
+        _ => Call::Unsupported,
+    }
+}
+
+fn rfence_call(regs: &Regs) -> Call
+    ensures { result ≡ named regs.now.fid Unsupported (rfence_listing regs.now) }
+{
+    let [mask, base, start, size, asid, _] = regs.a;
+    match regs.fid {
+        0 => Call::RemoteFenceI { mask, base },
+        1 => Call::RemoteSfenceVma {
+            mask,
+            base,
+            start,
+            size,
+        },
+        2 => Call::RemoteSfenceVmaAsid {
+            mask,
+            base,
+            start,
+            size,
+            asid,
+        },
         _ => Call::Unsupported,
     }
 }

@@ -8,7 +8,7 @@ use Rattle.tlb_model.specs.declared.entry.Entry.{Entry}
 use Rattle.tlb_model.specs.declared.fence.Flush.TheVariants.{Words, Entries}
 use Rattle.tlb_model.specs.Acts.{Act, Fill, Drop, live}
 use Rattle.tlb_model.specs.Entries.{covers_entry}
-use Rattle.tlb_model.specs.Fences.{fence_of_address, fence_of_range}
+use Rattle.tlb_model.specs.Fences.{fence_of_address, fence_of_range, is_wrong_range}
 
 abbrev mapped : (page : ℕ) → Level → (global : Bool) → (asid : ℕ) → Entry
 mapped page level global asid = record {
@@ -35,6 +35,28 @@ whole_space = refl
 
 nothing_from_one_on : covers_entry (Entries (fence_of_range 0x1000 0 None)) (mapped 0x1000 Kilo false 5) ≡ false
 nothing_from_one_on = refl
+
+-- a range may end at 2^64 and not past it, unless it is full
+up_to_the_end : is_wrong_range 0xFFFFFFFFFFFFF000 0x1000 ≡ false
+up_to_the_end = refl
+
+past_the_end : is_wrong_range 0xFFFFFFFFFFFFF000 0x1001 ≡ true
+past_the_end = refl
+
+last_address : is_wrong_range 0xFFFFFFFFFFFFFFFF 1 ≡ false
+last_address = refl
+
+after_the_last_address : is_wrong_range 0xFFFFFFFFFFFFFFFF 2 ≡ true
+after_the_last_address = refl
+
+full_and_past_the_end : is_wrong_range 0xFFFFFFFFFFFFF000 0xFFFFFFFFFFFFFFFF ≡ false
+full_and_past_the_end = refl
+
+not_quite_full : is_wrong_range 2 0xFFFFFFFFFFFFFFFE ≡ false
+not_quite_full = refl
+
+not_quite_full_and_past_the_end : is_wrong_range 3 0xFFFFFFFFFFFFFFFE ≡ true
+not_quite_full_and_past_the_end = refl
 
 -- a fence of an address space spares the global entries and the other spaces, and one of none doesn't
 own_space : covers_entry (Entries (fence_of_range 0 0 (Some 0x30005))) (mapped 0x1000 Kilo false 5) ≡ true

@@ -1,5 +1,5 @@
 -- Fences of translations, local and remote (Privileged 4.2.1; SBI 8).
-use Rattle.std.specs.Prelude.{ℕ, ◌+◌, ◌-◌, ◌%◌, ◌^◌, ◌<◌, ◌≤◌, nat_lt, max, min, Bool, ◌==◌, ◌&&◌, ◌||◌, if◌then◌else◌, Option, Some, None, option_map}
+use Rattle.std.specs.Prelude.{ℕ, ◌+◌, ◌-◌, ◌%◌, ◌^◌, ◌<◌, ◌≤◌, nat_lt, max, min, Bool, ◌==◌, ◌&&◌, ◌||◌, not, if◌then◌else◌, Option, Some, None, option_map}
 use Rattle.sv39.specs.Pages.{is_valid}
 use Rattle.tlb_model.specs.declared.fence.Fence.{Fence}
 use Rattle.tlb_model.specs.declared.fence.Range.{Range}
@@ -31,6 +31,11 @@ fence_of_address va asid = record { asid = low_asid asid; range = range_of_addre
 -- A remote fence is of all addresses where start and size are 0, or size is 2^64-1 (SBI 8).
 abbrev pub is_full : (start size : ℕ) → Bool
 is_full start size = ((start == 0) && (size == 0)) || (size == 2 ^ 64 - 1)
+
+-- A range that isn't full and that ends past the last address, 2^64-1, is none that can be asked for (SBI 8 answers that
+-- an address isn't valid; that no other range is wrong: profile).
+abbrev pub is_wrong_range : (start size : ℕ) → Bool
+is_wrong_range start size = not (is_full start size) && nat_lt (2 ^ 64) (start + size)
 
 abbrev pub fence_of_range : (start size : ℕ) (asid : Option ℕ) → Fence
 fence_of_range start size asid =

@@ -1,5 +1,5 @@
 ghost use Rattle.std.specs.Prelude.{◌≡◌, ◌<◌, ◌+◌, None};
-ghost use Rattle.tlb_model.specs.Fences.{fence_of_address, fence_of_range, low_asid, meets};
+ghost use Rattle.tlb_model.specs.Fences.{fence_of_address, fence_of_range, is_full, is_wrong_range, low_asid, meets};
 
 use sv39::is_valid;
 
@@ -68,16 +68,30 @@ impl Fence {
     pub fn of_range(start: u64, size: u64, asid: Option<u64>) -> Fence
         ensures { result ≡ fence_of_range start size asid }
     {
-        let is_full = start == 0 && size == 0 || size == u64::MAX;
         Fence {
             asid: low_asid(asid),
-            range: if is_full {
+            range: if is_full(start, size) {
                 None
             } else {
                 Some(Range { start, size })
             },
         }
     }
+}
+
+/// Whether a remote SFENCE.VMA can't be asked for this range: it isn't full, and it ends past the last address, 2^64-1, as
+/// whole numbers (SBI 8, where it answers SBI_ERR_INVALID_ADDRESS; that no other range is wrong: profile).
+pub fn is_wrong_range(start: u64, size: u64) -> bool
+    ensures { result ≡ is_wrong_range start size }
+{
+    !is_full(start, size) && start as u128 + size as u128 > 1 << 64
+}
+
+/// Whether a remote SFENCE.VMA of this range is of all addresses (SBI 8).
+fn is_full(start: u64, size: u64) -> bool
+    ensures { result ≡ is_full start size }
+{
+    start == 0 && size == 0 || size == u64::MAX
 }
 
 /// The address space that the low 16 bits of a register name, which are ASIDMAX bits (Privileged 4.2.1).

@@ -11,7 +11,7 @@ ghost use Rattle.board_core.specs.History.{Event, by_hart};
 ghost use Rattle.board_core.specs.declared.event.Op.TheVariants.{Ecall};
 ghost use Rattle.board_core.specs.Limits.{IsGood};
 ghost use Rattle.board_core.specs.Replies.{call_reply};
-ghost use Rattle.board_core.specs.Stands.{HasRoom, IsSized, StandsFor};
+ghost use Rattle.board_core.specs.Stands.{HasRoom, IsSized, IsStanding, StandsFor};
 
 use super::{failure, success};
 use crate::config::{Config, is_start_address};
@@ -45,22 +45,23 @@ impl Machine {
         }
     }
 
-    /// Stops hart `h`, which calls: its deadline is forgotten, and its caches are emptied (SBI 9.2; profile).
-    pub fn hart_stop(&mut self, h: u64) -> Reply
-        requires in_range { h < length self.old.hsm }
-        requires most { length self.old.hsm ≤ 128 }
-        requires timers { length self.old.interrupts.timers.deadlines ≡ length self.old.hsm }
-        requires caches { length self.old.memory.caches.items ≡ length self.old.hsm }
+    /// Stops hart `h`, which calls: its deadline is forgotten, the fences that wait at it count as applied, and its caches
+    /// are emptied (SBI 9.2; profile).
+    pub fn hart_stop(&mut self, config: &Config, h: u64) -> Reply
+        requires good { IsGood config.now }
+        requires sized { IsSized config.now self.old }
+        requires in_range { h < config.now.harts }
+        requires standing { IsStanding config.now self.old }
         requires running { (hart_at self.old.hsm h).state ≡ states.Started }
-        ensures answered { (c : Config) (past : List Event) → StandsFor c past self.old → result ≡ call_reply c past h calls.HartStop }
-        ensures after { (c : Config) (past : List Event) (regs : Regs) → calls.HartStop ≡ call_of regs → StandsFor c past self.old →
-            StandsFor c (by_hart h (Ecall regs) result ∷ past) self.new }
+        ensures answered { (past : List Event) → StandsFor config.now past self.old → result ≡ call_reply config.now past h calls.HartStop }
+        ensures after { (past : List Event) (regs : Regs) → calls.HartStop ≡ call_of regs → StandsFor config.now past self.old →
+            StandsFor config.now (by_hart h (Ecall regs) result ∷ past) self.new }
     {
         if self.interrupts.csrs.sstatus_sie.contains(h) {
             return failure(SbiError::Failed);
         }
         self.interrupts.timers.forget(h);
-        self.memory.empty_caches(h);
+        self.fences.discharge_all(&mut self.memory.caches, h);
         self.hsm.stop(h);
         Reply::Gone
     }

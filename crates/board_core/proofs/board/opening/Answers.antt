@@ -41,5 +41,6 @@ returns c = record {
     };
   };
   memory = c.in_ok-memory.ensures;
+  fences = record { stands = c.in_ok-fences.ensures; right = tt };
   counts = record { starts = refl; entries = refl };
 }

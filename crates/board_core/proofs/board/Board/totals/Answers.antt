@@ -1,4 +1,8 @@
-use Rattle.std.proofs.Common.{◌∙◌}
+use Rattle.std.proofs.Common.{ap, length, reverse, ◌∙◌}
+use Rattle.std.specs.Prelude.{sum_by}
+use Rattle.board_core.specs.Course.{harts_of}
+use Rattle.board_core.specs.Fences.{waiting}
+use Rattle.board_core.proofs.Tables.{sum_by-map}
 use Rattle.board_core.proofs.Standing.{count_by-pending}
 use Rattle.board_core.proofs.StartsLaw.{starts_are_entered}
 use Rattle.board_core.proofs.board.Board.totals.Goals as goal
@@ -9,6 +13,10 @@ returns-clause-counts c =
     let starts_are = stands.counts.starts in
     let entries_are = stands.counts.entries in
     let pending_are = c.pending_starts.ensures ∙ count_by-pending _ _ _ stands.harts in
+    let fences = stands.fences.stands in
+    let asked_are = c.asked.ensures ∙ fences.asked in
+    let applied_are = c.applied.ensures ∙ fences.applied in
+    let waiting_are = c.waiting.ensures ∙ ap (sum_by length) fences.queues ∙ sum_by-map (waiting c.self.inside.config (reverse c.self.inside.events.items)) length (harts_of c.self.inside.config) in
     rw (← c.self.view_is) cc
 
 pub returns-clause-starts : goal.returns-clause-starts

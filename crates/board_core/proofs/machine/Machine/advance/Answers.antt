@@ -2,41 +2,39 @@ use Rattle.std.proofs.Common.{◌≡◌, ap, sym, refl, ◌∙◌, arith, false,
 use Rattle.std.specs.Prelude.{None, Some, is_some}
 use Rattle.hsm.specs.declared.hart.HartState.TheVariants.{Started}
 use Rattle.hsm.specs.declared.hart.Moved.TheVariants as moves
-use Rattle.hsm.specs.Transitions.{hart_at}
 use Rattle.board_core.specs.declared.event.Op.TheVariants.{Advance}
 use Rattle.board_core.specs.declared.event.Reply.TheVariants.{Entry, Moved, Ret}
 use Rattle.board_core.specs.Csrs.{none_enabled}
 use Rattle.board_core.specs.Replies.{success}
 use Rattle.board_core.specs.History.{by_hart}
 use Rattle.board_core.proofs.Events.{deed, deed_of_entry, deed_of_resume, does_entry, does_resume}
-use Rattle.board_core.proofs.Rows.{accepted_goes_on, told}
-use Rattle.board_core.proofs.Standing.{counts-entered, counts-still, harts-own, interrupts-csrs, ipis-cleared, memory-satps, satps-written, ssie-quiet, ssie-written, sstatus_sie-written, stands-harts, stie-quiet, stie-written, timers-set}
+use Rattle.board_core.proofs.Rows.{told}
+use Rattle.board_core.proofs.Standing.{counts-entered, counts-still, fences-still, harts-own, interrupts-csrs, ipis-cleared, memory-satps, satps-written, ssie-quiet, ssie-written, sstatus_sie-written, stands-harts, stie-quiet, stie-written, timers-set}
 use Rattle.board_core.proofs.machine.Machine.advance.Goals as goal
 
 pub unreachable-requires : goal.unreachable-requires
 unreachable-requires c =
-    let on = accepted_goes_on c.args.wake (hart_at c.args.self.now.hsm c.args.h).state c.requires.accepted in
     let none : is_some c.advance.result ≡ false = ap is_some c.in-None.is in
-    absurd (let apart : true ≡ false = sym on ∙ sym c.advance.ensures.some ∙ none in cc)
+    absurd (let apart : true ≡ false = sym c.requires.accepted ∙ sym c.advance.ensures.some ∙ none in cc)
 
 pub returns-in-Some-Entered-clause-answered : goal.returns-in-Some-Entered-clause-answered
 returns-in-Some-Entered-clause-answered c = λ config past stands.
-    (told config past c.args.self.now.hsm c.args.h c.args.wake (moves.Entered c.in-Some-Entered.start) stands.harts c.requires.in_range
+    (told config past c.args.self.now.hsm c.args.h true (moves.Entered c.in-Some-Entered.start) stands.harts c.requires.in_range
     (sym c.advance.ensures.answer ∙ c.in-Some-Entered.is ∙ ap Some c.in-Some-Entered.field-0-is)).reply
 
 pub returns-in-Some-Resumed-clause-answered : goal.returns-in-Some-Resumed-clause-answered
 returns-in-Some-Resumed-clause-answered c = λ config past stands.
-    (told config past c.args.self.now.hsm c.args.h c.args.wake (moves.Resumed c.in-Some-Resumed.resume) stands.harts c.requires.in_range
+    (told config past c.args.self.now.hsm c.args.h true (moves.Resumed c.in-Some-Resumed.resume) stands.harts c.requires.in_range
     (sym c.advance.ensures.answer ∙ c.in-Some-Resumed.is ∙ ap Some c.in-Some-Resumed.field-0-is)).reply
 
 pub returns-in-Some-Returned-clause-answered : goal.returns-in-Some-Returned-clause-answered
 returns-in-Some-Returned-clause-answered c = λ config past stands.
-    (told config past c.args.self.now.hsm c.args.h c.args.wake moves.Returned stands.harts c.requires.in_range
+    (told config past c.args.self.now.hsm c.args.h true moves.Returned stands.harts c.requires.in_range
     (sym c.advance.ensures.answer ∙ c.in-Some-Returned.is ∙ ap Some c.in-Some-Returned.field-0-is)).reply
 
 pub returns-in-Some-To-clause-answered : goal.returns-in-Some-To-clause-answered
 returns-in-Some-To-clause-answered c = λ config past stands.
-    (told config past c.args.self.now.hsm c.args.h c.args.wake (moves.To c.in-Some-To.state) stands.harts c.requires.in_range
+    (told config past c.args.self.now.hsm c.args.h true (moves.To c.in-Some-To.state) stands.harts c.requires.in_range
     (sym c.advance.ensures.answer ∙ c.in-Some-To.is ∙ ap Some c.in-Some-To.field-0-is)).reply
 
 pub returns-in-Some-Entered-clause-after : goal.returns-in-Some-Entered-clause-after
@@ -44,7 +42,7 @@ returns-in-Some-Entered-clause-after c = λ config past stands.
     let m = c.args.self.now in
     let h = c.args.h in
     let start = c.in-Some-Entered.start in
-    let t = told config past m.hsm h c.args.wake (moves.Entered start) stands.harts c.requires.in_range
+    let t = told config past m.hsm h true (moves.Entered start) stands.harts c.requires.in_range
     (sym c.advance.ensures.answer ∙ c.in-Some-Entered.is ∙ ap Some c.in-Some-Entered.field-0-is) in
     let event = by_hart h Advance (Entry start.addr h start.opaque) in
     let d = deed_of_entry config past h start.addr start.opaque in
@@ -63,6 +61,7 @@ returns-in-Some-Entered-clause-after c = λ config past stands.
       };
       memory = memory-satps config past event d does m.memory _ refl stands.memory c.make_bare.ensures.ram c.make_bare.ensures.caches
           (c.make_bare.ensures.satps ∙ satps-written config past event d does m.memory.satps.items h 0 refl refl stands.memory.satps);
+      fences = fences-still config past event d does m.fences refl stands.fences;
       counts = counts-entered config past event d does m.counts _ refl stands.counts;
     }
 
@@ -71,7 +70,7 @@ returns-in-Some-Resumed-clause-after c = λ config past stands.
     let m = c.args.self.now in
     let h = c.args.h in
     let resume = c.in-Some-Resumed.resume in
-    let t = told config past m.hsm h c.args.wake (moves.Resumed resume) stands.harts c.requires.in_range
+    let t = told config past m.hsm h true (moves.Resumed resume) stands.harts c.requires.in_range
     (sym c.advance.ensures.answer ∙ c.in-Some-Resumed.is ∙ ap Some c.in-Some-Resumed.field-0-is) in
     let event = by_hart h Advance (Entry resume.addr h resume.opaque) in
     let d = deed_of_resume config past h in
@@ -86,13 +85,14 @@ returns-in-Some-Resumed-clause-after c = λ config past stands.
       };
       memory = memory-satps config past event d does m.memory _ refl stands.memory c.make_bare-in-Some-Resumed.ensures.ram c.make_bare-in-Some-Resumed.ensures.caches
           (c.make_bare-in-Some-Resumed.ensures.satps ∙ satps-written config past event d does m.memory.satps.items h 0 refl refl stands.memory.satps);
+      fences = fences-still config past event d does m.fences refl stands.fences;
       counts = counts-still config past event d does m.counts refl stands.counts;
     }
 
 pub returns-in-Some-Returned-clause-after : goal.returns-in-Some-Returned-clause-after
 returns-in-Some-Returned-clause-after c = λ config past stands.
     let m = c.args.self.now in
-    let t = told config past m.hsm c.args.h c.args.wake moves.Returned stands.harts c.requires.in_range
+    let t = told config past m.hsm c.args.h true moves.Returned stands.harts c.requires.in_range
     (sym c.advance.ensures.answer ∙ c.in-Some-Returned.is ∙ ap Some c.in-Some-Returned.field-0-is) in
     let event = by_hart c.args.h Advance (Ret (success 0)) in
     let d = deed config past event in
@@ -103,7 +103,7 @@ pub returns-in-Some-To-clause-after : goal.returns-in-Some-To-clause-after
 returns-in-Some-To-clause-after c = λ config past stands.
     let m = c.args.self.now in
     let s = c.in-Some-To.state in
-    let t = told config past m.hsm c.args.h c.args.wake (moves.To s) stands.harts c.requires.in_range
+    let t = told config past m.hsm c.args.h true (moves.To s) stands.harts c.requires.in_range
     (sym c.advance.ensures.answer ∙ c.in-Some-To.is ∙ ap Some c.in-Some-To.field-0-is) in
     let event = by_hart c.args.h Advance (Moved s) in
     let d = deed config past event in

@@ -1,6 +1,8 @@
 use Rattle.std.proofs.Common.{ap, refl, sym, ◌∙◌}
 use Rattle.sbi_abi.specs.declared.call.Call.TheVariants as calls
-use Rattle.board_core.specs.Replies.{call_reply}
+use Rattle.std.specs.Prelude.{Some}
+use Rattle.board_core.specs.Replies.{call_reply, fence_reply}
+use Rattle.board_core.proofs.Situations.{counts-room}
 use Rattle.board_core.proofs.Standing.{call-quiet}
 use Rattle.board_core.proofs.machine.Machine.call.Goals as goal
 
@@ -66,7 +68,7 @@ returns-in-HartStart-clause-after c = λ past regs is stands.
 
 pub returns-in-HartStop-clause-after : goal.returns-in-HartStop-clause-after
 returns-in-HartStop-clause-after c = λ past regs is stands.
-    c.hart_stop.ensures.after c.args.config.now past regs (sym c.in-HartStop.is ∙ is) stands
+    c.hart_stop.ensures.after past regs (sym c.in-HartStop.is ∙ is) stands
 
 pub returns-in-HartGetStatus-clause-answered : goal.returns-in-HartGetStatus-clause-answered
 returns-in-HartGetStatus-clause-answered c = λ past stands.
@@ -79,3 +81,30 @@ returns-in-HartSuspend-clause-answered c = λ past stands.
 pub returns-in-HartSuspend-clause-after : goal.returns-in-HartSuspend-clause-after
 returns-in-HartSuspend-clause-after c = λ past regs is stands.
     c.hart_suspend.ensures.after past regs (sym c.in-HartSuspend.is ∙ is) stands
+
+pub returns-in-RemoteFenceI-clause-answered : goal.returns-in-RemoteFenceI-clause-answered
+returns-in-RemoteFenceI-clause-answered c = λ past stands.
+    c.remote_fence.ensures.answered ∙ ap (call_reply c.args.config.now past c.args.h) (sym c.in-RemoteFenceI.is)
+
+pub returns-in-RemoteFenceI-clause-after : goal.returns-in-RemoteFenceI-clause-after
+returns-in-RemoteFenceI-clause-after c = λ past regs is stands.
+    c.remote_fence.ensures.after past regs (calls.RemoteFenceI c.in-RemoteFenceI.mask c.in-RemoteFenceI.base) refl (sym c.in-RemoteFenceI.is ∙ is) stands
+
+pub returns-in-RemoteSfenceVma-clause-answered : goal.returns-in-RemoteSfenceVma-clause-answered
+returns-in-RemoteSfenceVma-clause-answered c = λ past stands.
+    c.remote_fence-in-RemoteSfenceVma.ensures.answered ∙ ap (fence_reply c.args.config.now c.in-RemoteSfenceVma.mask c.in-RemoteSfenceVma.base) c.flush_of_range.ensures ∙ ap (call_reply c.args.config.now past c.args.h) (sym c.in-RemoteSfenceVma.is)
+
+pub returns-in-RemoteSfenceVma-clause-after : goal.returns-in-RemoteSfenceVma-clause-after
+returns-in-RemoteSfenceVma-clause-after c = λ past regs is stands.
+    c.remote_fence-in-RemoteSfenceVma.ensures.after past regs (calls.RemoteSfenceVma c.in-RemoteSfenceVma.mask c.in-RemoteSfenceVma.base c.in-RemoteSfenceVma.start c.in-RemoteSfenceVma.size) (ap (λ f. Some (record { mask = c.in-RemoteSfenceVma.mask; base = c.in-RemoteSfenceVma.base; flush = f })) (sym c.flush_of_range.ensures)) (sym c.in-RemoteSfenceVma.is ∙ is) stands
+
+pub returns-in-RemoteSfenceVmaAsid-clause-answered : goal.returns-in-RemoteSfenceVmaAsid-clause-answered
+returns-in-RemoteSfenceVmaAsid-clause-answered c = λ past stands.
+    c.remote_fence-in-RemoteSfenceVmaAsid.ensures.answered ∙ ap (fence_reply c.args.config.now c.in-RemoteSfenceVmaAsid.mask c.in-RemoteSfenceVmaAsid.base) c.flush_of_range-flush.ensures ∙ ap (call_reply c.args.config.now past c.args.h) (sym c.in-RemoteSfenceVmaAsid.is)
+
+pub returns-in-RemoteSfenceVmaAsid-clause-after : goal.returns-in-RemoteSfenceVmaAsid-clause-after
+returns-in-RemoteSfenceVmaAsid-clause-after c = λ past regs is stands.
+    c.remote_fence-in-RemoteSfenceVmaAsid.ensures.after past regs (calls.RemoteSfenceVmaAsid c.in-RemoteSfenceVmaAsid.mask c.in-RemoteSfenceVmaAsid.base c.in-RemoteSfenceVmaAsid.start c.in-RemoteSfenceVmaAsid.size c.in-RemoteSfenceVmaAsid.asid) (ap (λ f. Some (record { mask = c.in-RemoteSfenceVmaAsid.mask; base = c.in-RemoteSfenceVmaAsid.base; flush = f })) (sym c.flush_of_range-flush.ensures)) (sym c.in-RemoteSfenceVmaAsid.is ∙ is) stands
+
+pub hart_start-requires-clause-room : goal.hart_start-requires-clause-room
+hart_start-requires-clause-room c = counts-room c.args.config.now c.args.self.now c.requires.good c.requires.standing

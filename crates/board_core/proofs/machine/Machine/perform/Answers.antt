@@ -1,21 +1,25 @@
 use Rattle.std.proofs.Common.{ap, refl, ◌∙◌, arith}
 use Rattle.std.specs.Prelude.{slice_set}
 use Rattle.tlb_model.specs.declared.fence.Flush.TheVariants.{Words, Entries}
-use Rattle.tlb_model.specs.Acts.{Drop}
 use Rattle.tlb_model.specs.Contents.{fenced}
 use Rattle.tlb_model.specs.Entries.{covers_entry}
 use Rattle.tlb_model.specs.Fences.{fence_of_address}
 use Rattle.tlb_model.specs.Words.{covers_word}
-use Rattle.board_core.specs.Stands.{caches_at}
-use Rattle.board_core.proofs.Accessing.{own_act}
-use Rattle.board_core.proofs.Tables.{eqb-same}
+use Rattle.board_core.specs.Stands.{caches_at, situation_in}
+use Rattle.std.specs.Vec.{with_items}
+use Rattle.rfence.specs.Turns as fence_turns
+use Rattle.board_core.specs.Fences.{turns}
+use Rattle.board_core.proofs.Rows.{accepted_goes_on, running_parts}
+use Rattle.board_core.proofs.Situations.{counts-room, fences-room, fills-room, poll-right, serve-right, takes}
+use Rattle.board_core.proofs.Tables.{tabulated-items}
 use Rattle.sv39.specs.Satp.{satp_written}
-use Rattle.board_core.specs.declared.event.Op.TheVariants.{ClearSsip, FenceI, ReadSip, Sfence, Wfi, WriteSatp, WriteSie, WriteSstatusSie}
-use Rattle.board_core.specs.declared.event.Reply.TheVariants.{Done, Value}
+use Rattle.board_core.specs.declared.event.Op.TheVariants.{ClearSsip, FenceI, Poll, ReadSip, Serve, Sfence, Wfi, WriteSatp, WriteSie, WriteSstatusSie}
+use Rattle.board_core.specs.declared.event.Reply.TheVariants.{Done, Ret, Served, Value}
 use Rattle.board_core.specs.Csrs.{sie_of}
 use Rattle.board_core.specs.History.{by_hart}
+use Rattle.board_core.specs.Replies.{success}
 use Rattle.board_core.proofs.Events.{deed}
-use Rattle.board_core.proofs.Standing.{caches-fenced, caches-read, interrupts-csrs, interrupts-ipis, ipis-cleared, memory-caches, memory-satps, satp-read, satps-put, sip-read, ssie-quiet, ssie-written, sstatus_sie-quiet, sstatus_sie-written, stands-interrupts, stands-memory, stands-quiet, stie-quiet, stie-written}
+use Rattle.board_core.proofs.Standing.{caches-fenced, caches-read, caches-turned, fences-own, fences-turned, interrupts-csrs, interrupts-ipis, ipis-cleared, length-caches, memory-caches, memory-satps, memory-still, own-drops, own-spares, satp-read, satps-put, sip-read, ssie-quiet, ssie-written, sstatus_sie-quiet, sstatus_sie-written, stands-fences, stands-interrupts, stands-memory, stands-quiet, stie-quiet, stie-written}
 use Rattle.board_core.proofs.machine.Machine.perform.Goals as goal
 
 pub returns-in-Ecall-clause-after : goal.returns-in-Ecall-clause-after
@@ -43,11 +47,12 @@ returns-in-Sfence-clause-after c = λ past stands.
     let event = by_hart h (Sfence c.in-Sfence.va c.in-Sfence.asid) Done in
     let d = deed config past event in
     rw (c.in-Sfence.is)
-    (stands-memory config past event d refl m _ refl stands (memory-caches config past event d refl m.memory _ refl refl stands.memory c.fence.ensures.ram c.fence.ensures.satps
+    (stands-fences config past event d refl m _ m.fences refl stands (memory-caches config past event d refl m.memory _ refl refl stands.memory c.fence.ensures.ram c.fence.ensures.satps
     (c.fence.ensures.caches
     ∙ ap (λ f. slice_set m.memory.caches.items h (record { tlb = fenced covers_entry (caches_at m.memory h).tlb (Entries f); words = fenced covers_word (caches_at m.memory h).words (Entries f) })) c.of_address.ensures
-    ∙ caches-fenced config past event d refl m.memory h flush refl (caches-read config past m.memory h c.requires.in_range stands.memory)
-    (own_act _ (eqb-same h) (Drop flush)) (own_act _ (eqb-same h) (Drop flush)) stands.memory.caches)))
+    ∙ caches-fenced config past event d refl m.memory h flush (λ j other. (own-spares (turns config past) h flush j other, own-spares (turns config past) h flush j other))
+    (caches-read config past m.memory h c.requires.in_range stands.memory) (own-drops (turns config past) h flush) (own-drops (turns config past) h flush) stands.memory.caches))
+    (fences-own config past event d refl m.fences h flush c.requires.in_range refl stands.fences))
 
 pub returns-in-FenceI-clause-after : goal.returns-in-FenceI-clause-after
 returns-in-FenceI-clause-after c = λ past stands.
@@ -57,10 +62,84 @@ returns-in-FenceI-clause-after c = λ past stands.
     let event = by_hart h FenceI Done in
     let d = deed config past event in
     rw (c.in-FenceI.is)
-    (stands-memory config past event d refl m _ refl stands (memory-caches config past event d refl m.memory _ refl refl stands.memory c.fence-in-FenceI.ensures.ram c.fence-in-FenceI.ensures.satps
+    (stands-fences config past event d refl m _ m.fences refl stands (memory-caches config past event d refl m.memory _ refl refl stands.memory c.fence-in-FenceI.ensures.ram c.fence-in-FenceI.ensures.satps
     (c.fence-in-FenceI.ensures.caches
-    ∙ caches-fenced config past event d refl m.memory h Words refl (caches-read config past m.memory h c.requires.in_range stands.memory)
-    (own_act _ (eqb-same h) (Drop Words)) (own_act _ (eqb-same h) (Drop Words)) stands.memory.caches)))
+    ∙ caches-fenced config past event d refl m.memory h Words (λ j other. (own-spares (turns config past) h Words j other, own-spares (turns config past) h Words j other))
+    (caches-read config past m.memory h c.requires.in_range stands.memory) (own-drops (turns config past) h Words) (own-drops (turns config past) h Words) stands.memory.caches))
+    (fences-own config past event d refl m.fences h Words c.requires.in_range refl stands.fences))
+
+pub poll-requires : goal.poll-requires
+poll-requires c =
+    let config = c.args.config.now in
+    let m = c.args.self.now in
+    let h = c.args.h in
+    let standing = c.requires.standing in
+    let ready = rw c.in-Poll.is at c.requires.accepted in
+    takes config m c.requires.good standing (fence_turns.Poll h) (poll-right config standing.past m.fences standing.stands.fences h c.requires.in_range ready.in_phase ready.to_do)
+
+pub returns-in-Poll-clause-after : goal.returns-in-Poll-clause-after
+returns-in-Poll-clause-after c = λ past stands.
+    let config = c.args.config.now in
+    let m = c.args.self.now in
+    let h = c.args.h in
+    let event = by_hart h Poll (Ret (success 0)) in
+    let d = deed config past event in
+    let ready = rw c.in-Poll.is at c.requires.accepted in
+    rw c.in-Poll.is
+    (stands-fences config past event d refl m m.memory c.poll.new.self refl stands (memory-still config past event d refl m.memory refl stands.memory)
+    (fences-turned config past event d refl m.fences _ (fence_turns.Poll h) refl c.poll.ensures (poll-right config past m.fences stands.fences h c.requires.in_range ready.in_phase ready.to_do) stands.fences))
+
+pub serve-requires-clause-takes : goal.serve-requires-clause-takes
+serve-requires-clause-takes c =
+    let config = c.args.config.now in
+    let m = c.args.self.now in
+    let h = c.args.h in
+    let standing = c.requires.standing in
+    let ready = rw c.in-Serve.is at c.requires.accepted in
+    takes config m c.requires.good standing (fence_turns.Serve h) (serve-right config standing.past m.fences standing.stands.fences h c.requires.in_range ready.to_do)
+
+pub serve-requires-clause-room : goal.serve-requires-clause-room
+serve-requires-clause-room c = fences-room c.args.config.now c.args.self.now c.requires.good c.requires.standing
+
+pub returns-in-Serve-clause-after : goal.returns-in-Serve-clause-after
+returns-in-Serve-clause-after c = λ past stands.
+    let config = c.args.config.now in
+    let m = c.args.self.now in
+    let h = c.args.h in
+    let event = by_hart h Serve Served in
+    let d = deed config past event in
+    let ready = rw c.in-Serve.is at c.requires.accepted in
+    let turn = fence_turns.Serve h in
+    let right = serve-right config past m.fences stands.fences h c.requires.in_range ready.to_do in
+    let memory = record m.memory { caches = with_items m.memory.caches c.serve.new.caches } in
+    rw c.in-Serve.is
+    (stands-fences config past event d refl m memory c.serve.new.self refl stands
+    (memory-caches config past event d refl m.memory memory refl refl stands.memory refl refl
+    (tabulated-items m.memory.caches _ _ config.harts (length-caches config past m.memory stands.memory)
+    (caches-turned config past event d refl m.fences turn c.deref_mut.result.now c.serve.new.caches (λ j. refl) (λ j. refl) right stands.fences c.serve.ensures.affected
+    (c.deref_mut.ensures.value ∙ stands.memory.caches))))
+    (fences-turned config past event d refl m.fences c.serve.new.self turn refl c.serve.ensures.taken right stands.fences))
+
+pub call-requires-clause-started : goal.call-requires-clause-started
+call-requires-clause-started c = (running_parts (situation_in c.args.self.now c.args.h) (rw c.in-Ecall.is at c.requires.accepted).in_phase).0
+
+pub call-requires-clause-outside : goal.call-requires-clause-outside
+call-requires-clause-outside c = (running_parts (situation_in c.args.self.now c.args.h) (rw c.in-Ecall.is at c.requires.accepted).in_phase).1
+
+pub access-requires : goal.access-requires
+access-requires c = fills-room c.args.config.now c.args.self.now c.requires.good c.requires.standing c.args.h c.requires.in_range
+
+pub access-requires-in-Store : goal.access-requires-in-Store
+access-requires-in-Store c = fills-room c.args.config.now c.args.self.now c.requires.good c.requires.standing c.args.h c.requires.in_range
+
+pub access-requires-in-Fetch : goal.access-requires-in-Fetch
+access-requires-in-Fetch c = fills-room c.args.config.now c.args.self.now c.requires.good c.requires.standing c.args.h c.requires.in_range
+
+pub advance-requires-clause-accepted : goal.advance-requires-clause-accepted
+advance-requires-clause-accepted c = accepted_goes_on (situation_in c.args.self.now c.args.h) (rw c.in-Advance.is at c.requires.accepted)
+
+pub advance-requires-clause-room : goal.advance-requires-clause-room
+advance-requires-clause-room c = counts-room c.args.config.now c.args.self.now c.requires.good c.requires.standing
 
 pub returns-in-WriteSie-clause-after : goal.returns-in-WriteSie-clause-after
 returns-in-WriteSie-clause-after c = λ past stands.
@@ -120,3 +199,12 @@ returns-in-Wfi-clause-after c = λ past stands.
     let config = c.args.config.now in
     let event = by_hart c.args.h Wfi Done in
     rw c.in-Wfi.is (stands-quiet config past event (deed config past event) refl c.args.self.now refl stands)
+
+pub returns-in-Load-clause-after : goal.returns-in-Load-clause-after
+returns-in-Load-clause-after c = λ past stands. rw c.in-Load.is (c.access.ensures.after c.args.config.now past c.requires.in_range stands)
+
+pub returns-in-Store-clause-after : goal.returns-in-Store-clause-after
+returns-in-Store-clause-after c = λ past stands. rw c.in-Store.is (c.access-in-Store.ensures.after c.args.config.now past c.requires.in_range stands)
+
+pub returns-in-Fetch-clause-after : goal.returns-in-Fetch-clause-after
+returns-in-Fetch-clause-after c = λ past stands. rw c.in-Fetch.is (c.access-in-Fetch.ensures.after c.args.config.now past c.requires.in_range stands)

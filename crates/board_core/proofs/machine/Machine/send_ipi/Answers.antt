@@ -16,12 +16,8 @@ use Rattle.board_core.specs.Replies.{failure, success}
 use Rattle.board_core.specs.History.{by_hart}
 use Rattle.board_core.proofs.Events.{deed_of_call, does_call}
 use Rattle.board_core.proofs.Standing.{call-quiet, hart_at-stand, interrupts-ipis, ipis-sent, stands-interrupts}
+use Rattle.board_core.proofs.Targets.{is_reached}
 use Rattle.board_core.proofs.machine.Machine.send_ipi.Goals as goal
-
--- what is looked at of targets alone
-of_targets : (is_target p q : Bool) → (is_target ≡ true → p ≡ q) → (is_target && p) ≡ (is_target && q)
-of_targets true p q same = same refl
-of_targets false p q same = refl
 
 pub returns-in-Ok-clause-after : goal.returns-in-Ok-clause-after
 returns-in-Ok-clause-after c = λ x past regs is stands.
@@ -31,16 +27,11 @@ returns-in-Ok-clause-after c = λ x past regs is stands.
     let event = by_hart x (Ecall regs) (Ret (success 0)) in
     let d = deed_of_call config past x call (Ret (success 0)) in
     let does = does_call config past x regs call (Ret (success 0)) is in
-    let reached : (i : ℕ) → i < 128 → has c.intersection-reached.result i ≡ is_target (targets_of c.args.mask c.args.base config.harts) i && is_interruptible (state config past i) = λ i below.
-    ap (λ ids. has ids i) c.intersection-reached.ensures
-    ∙ has-ids_where (λ h. has c.in-Ok.harts h && has c.interruptible.result h) i below
-    ∙ ap (λ ids. has c.in-Ok.harts i && has ids i) c.interruptible.ensures
-    ∙ ap (λ b. has c.in-Ok.harts i && b) (has-ids_where (λ h. is_interruptible (hart_at m.hsm h).state) i below)
-    ∙ of_targets (has c.in-Ok.harts i) _ _ (λ named. ap (λ (hart : Hart). is_interruptible hart.state) (hart_at-stand config past m.hsm stands.harts i (c.in-Ok.ensures.below i named)))
-    ∙ ap (λ targets. is_target targets i && is_interruptible (state config past i)) (sym c.in-Ok.ensures.answer) in
+    let reached = is_reached config past m.hsm c.requires.most stands.harts c.args.mask c.args.base c.in-Ok.harts c.interruptible.result c.intersection-reached.result
+    c.in-Ok.ensures.answer c.in-Ok.ensures.below c.interruptible.ensures c.intersection-reached.ensures in
     rw (c.success.ensures, c.send.ensures)
     (stands-interrupts config past event d does m _ refl stands (interrupts-ipis config past event d does m.interrupts _ refl stands.interrupts
-    (ipis-sent config past event d does m.interrupts.ipis c.intersection-reached.result refl reached stands.interrupts.ipis)))
+    (ipis-sent config past event d does m.interrupts.ipis c.intersection-reached.result refl (λ i below. reached i) stands.interrupts.ipis)))
 
 pub returns-in-Err-clause-after : goal.returns-in-Err-clause-after
 returns-in-Err-clause-after c = λ x past regs is stands.

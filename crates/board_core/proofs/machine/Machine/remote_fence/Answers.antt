@@ -1,0 +1,86 @@
+use Rattle.std.proofs.Common.{◌≡◌, ◌∙◌, ap, refl, subst, sym}
+use Rattle.std.specs.Prelude.{Ok, Some}
+use Rattle.sbi_abi.specs.declared.answer.SbiError.TheVariants.{InvalidParam}
+use Rattle.rfence.specs.HartCaches.{dropped_of, emptied_of}
+use Rattle.rfence.specs.Right.{IsRightTurn}
+use Rattle.rfence.specs.State.{AreAffected, IsTaken}
+use Rattle.rfence.specs.Turns.{Ask}
+use Rattle.board_core.specs.declared.event.Op.TheVariants.{Ecall}
+use Rattle.board_core.specs.declared.event.Reply.TheVariants.{Ret, Waiting}
+use Rattle.board_core.specs.Fences.{Remote, is_asked_by, turns}
+use Rattle.board_core.specs.History.{by_hart}
+use Rattle.board_core.specs.Replies.{failure}
+use Rattle.board_core.proofs.Events.{deed, deed_of_turn, does_call, does_no_remote, does_remote, still}
+use Rattle.board_core.proofs.Situations.{fences-room, outside-read, takes}
+use Rattle.board_core.proofs.Standing.{caches-turned, fences-turned, length-caches, memory-caches, stands-fences, stands-quiet}
+use Rattle.board_core.proofs.Targets.{asked-as, is_reached, reached-below}
+use Rattle.std.specs.Vec.{with_items}
+use Rattle.board_core.proofs.Tables.{tabulated-items}
+use Rattle.board_core.proofs.machine.Machine.remote_fence.Goals as goal
+
+pub returns-in-Err-clause-after : goal.returns-in-Err-clause-after
+returns-in-Err-clause-after c = λ past regs call remote is stands.
+    let config = c.args.config.now in
+    let h = c.args.h in
+    let reply = Ret (failure InvalidParam) in
+    rw (c.failure.ensures, c.into.ensures)
+    (stands-quiet config past (by_hart h (Ecall regs) reply) still (does_call config past h regs call reply is ∙ does_no_remote config past h call _ (failure InvalidParam) remote)
+    c.args.self.now refl stands)
+
+pub returns-in-Err-flush-clause-after : goal.returns-in-Err-flush-clause-after
+returns-in-Err-flush-clause-after c = λ past regs call remote is stands.
+    let config = c.args.config.now in
+    let h = c.args.h in
+    let error = c.in-Err-flush.error in
+    let reply = Ret (failure error) in
+    rw c.failure-in-Err-flush.ensures
+    (stands-quiet config past (by_hart h (Ecall regs) reply) still (does_call config past h regs call reply is ∙ does_no_remote config past h call _ (failure error) remote)
+    c.args.self.now refl stands)
+
+pub ask-requires-clause-takes : goal.ask-requires-clause-takes
+ask-requires-clause-takes c =
+    let config = c.args.config.now in
+    let m = c.args.self.now in
+    let standing = c.requires.standing in
+    let past = standing.past in
+    takes config m c.requires.good standing _ (
+      c.requires.in_range,
+      reached-below config past m.hsm c.requires.good.at_most_128_harts standing.stands.harts c.args.mask c.args.base c.in-Ok.harts c.interruptible.result c.intersection-asked.result
+          c.in-Ok.ensures.answer c.in-Ok.ensures.below c.interruptible.ensures c.intersection-asked.ensures,
+      outside-read config past m.fences standing.stands.fences c.args.h c.requires.in_range c.requires.outside,
+    )
+
+pub ask-requires-clause-room : goal.ask-requires-clause-room
+ask-requires-clause-room c = fences-room c.args.config.now c.args.self.now c.requires.good c.requires.standing
+
+pub returns-in-Ok-flush-clause-after : goal.returns-in-Ok-flush-clause-after
+returns-in-Ok-flush-clause-after c = λ past regs call remote is stands.
+    let config = c.args.config.now in
+    let m = c.args.self.now in
+    let h = c.args.h in
+    let flush = c.in-Ok-flush.flush in
+    let event = by_hart h (Ecall regs) Waiting in
+    let turn = Ask h (is_asked_by config past c.args.mask c.args.base) flush in
+    let asks : Remote = record { mask = c.args.mask; base = c.args.base; flush = c.args.flush } in
+    let d = deed_of_turn config past turn in
+    let does : deed config past event ≡ d =
+    does_call config past h regs call Waiting is
+    ∙ does_remote config past h call (record asks { flush = Ok flush }) (remote ∙ ap (λ f. Some (record asks { flush = f })) c.in-Ok-flush.is) in
+    let same = asked-as config past m.hsm c.requires.good.at_most_128_harts stands.harts c.args.mask c.args.base c.in-Ok.harts c.interruptible.result c.intersection-asked.result
+    c.in-Ok.ensures.answer c.in-Ok.ensures.below c.interruptible.ensures c.intersection-asked.ensures h flush in
+    let taken = subst (λ t. IsTaken m.fences t c.ask.new.self) same c.ask.ensures.taken in
+    let affected = subst (λ t. AreAffected dropped_of emptied_of m.fences t c.deref_mut.result.now c.ask.new.caches) same c.ask.ensures.affected in
+    let right : IsRightTurn config.harts (turns config past) turn = (
+      c.requires.in_range,
+      λ t asked. reached-below config past m.hsm c.requires.good.at_most_128_harts stands.harts c.args.mask c.args.base c.in-Ok.harts c.interruptible.result c.intersection-asked.result
+      c.in-Ok.ensures.answer c.in-Ok.ensures.below c.interruptible.ensures c.intersection-asked.ensures t
+      (is_reached config past m.hsm c.requires.good.at_most_128_harts stands.harts c.args.mask c.args.base c.in-Ok.harts c.interruptible.result c.intersection-asked.result
+      c.in-Ok.ensures.answer c.in-Ok.ensures.below c.interruptible.ensures c.intersection-asked.ensures t ∙ asked),
+      outside-read config past m.fences stands.fences h c.requires.in_range c.requires.outside,
+    ) in
+    let memory = record m.memory { caches = with_items m.memory.caches c.ask.new.caches } in
+    stands-fences config past event d does m memory _ refl stands
+    (memory-caches config past event d does m.memory memory refl refl stands.memory refl refl
+    (tabulated-items m.memory.caches _ _ config.harts (length-caches config past m.memory stands.memory)
+    (caches-turned config past event d does m.fences turn c.deref_mut.result.now c.ask.new.caches (λ j. refl) (λ j. refl) right stands.fences affected (c.deref_mut.ensures.value ∙ stands.memory.caches))))
+    (fences-turned config past event d does m.fences c.ask.new.self turn refl taken right stands.fences)
