@@ -23,11 +23,13 @@ use Rattle.board_core.specs.declared.config.Config.{Config}
 use Rattle.board_core.specs.Accesses.{cached, hit}
 use Rattle.board_core.specs.History.{Event, Reach}
 use Rattle.board_core.specs.Memory.{memory, satp}
+use Rattle.board_core.specs.Limits.{IsGood}
 use Rattle.board_core.specs.Replies.{IsLegal}
 use Rattle.board_laws.specs.Fresh.{FencedAccess, FencedFetch, GivenAfter, StoodAfter}
 use Rattle.board_laws.specs.Lives.{EntryWasFilled, WordWasFilled, live_entries, live_words}
 use Rattle.board_laws.specs.Places.{past_at}
-use Rattle.board_laws.proofs.Gone.{fenced_is_gone, fences_strike, struck-within}
+use Rattle.board_laws.proofs.Gone.{struck-within}
+use Rattle.board_laws.proofs.Reached.{fenced_is_gone, fences_strike}
 use Rattle.board_laws.proofs.Leaves.{covers-matched, leaf-page, matched, same-leaf}
 use Rattle.board_laws.proofs.Lives.{Fetched, fetched, lives_from_its_date, used-reach}
 use Rattle.board_laws.proofs.Places.{accesses-later, length-past_at, legal-with, past_at-again, within}
@@ -48,7 +50,7 @@ found {A} {B} P Q p f y (x ∷ xs) all both e = by_test (p x) refl e (found P Q 
     by_test true is e later = record { x = x; first_holds = All-head P x xs all; second_holds = All-head Q x xs both; passes = is; gives = cc }
     by_test false is e later = later e
 
-module _ (c : Config) (past : List Event) (t a p : ℕ) (legal : IsLegal c past) where
+module _ (c : Config) (past : List Event) (t a p : ℕ) (good : IsGood c) (legal : IsLegal c past) where
   -- the entry that an access hits was given at its date, if the fence covers it
   given-hit : (fence : Fence) (reach : Reach) (entry : Entry) (x : FencedAccess c past t a p fence reach) → x.event.translation ≡ Some entry
       → Hits (satp (past_at past p) t) (hit c (past_at past p) t) reach.va entry → GivenAfter c past t a p reach.va entry.leaf
@@ -58,7 +60,7 @@ module _ (c : Config) (past : List Event) (t a p : ℕ) (legal : IsLegal c past)
       let size = length-past_at past p (omega arith) in
       let older_legal = (legal-with c past p x.event legal x.happened).2 in
       let alive = lives_from_its_date c older t older_legal in
-      let gone = fenced_is_gone c older t a (Entries fence) older_legal x.reached in
+      let gone = fenced_is_gone c older t a (Entries fence) good older_legal x.reached in
       let here = found (EntryWasFilled c older t) (λ (y : Filling Entry). y.date ≤ a → covers_entry (Entries fence) y.item ≡ false)
       (λ y. matches (record { va = reach.va; asid = asid_of (satp older t) }) y.item) (λ y. y.item) entry (live_entries c older t) alive.entries gone.entries hits.hit in
       let filled = subst (λ (e : Entry). Fills (memory c (past_at older here.x.date)) (satp (past_at older here.x.date) t) (hit c (past_at older here.x.date) t) here.first_holds.reach.va here.first_holds.reach.access e) here.gives here.first_holds.fills in
@@ -88,7 +90,7 @@ module _ (c : Config) (past : List Event) (t a p : ℕ) (legal : IsLegal c past)
       let inside : p < length past = within past p x.event x.happened in
       let size = length-past_at past p (omega arith) in
       let older_legal = (legal-with c past p x.event legal x.happened).2 in
-      let later = struck-within c (past_at past p) t a (Entries fence) (fences_strike c (past_at past p) t a (Entries fence) older_legal x.reached) in
+      let later = struck-within c (past_at past p) t a (Entries fence) (fences_strike c (past_at past p) t a (Entries fence) good older_legal x.reached) in
       record {
         place = p;
         after = omega arith;
@@ -99,28 +101,28 @@ module _ (c : Config) (past : List Event) (t a p : ℕ) (legal : IsLegal c past)
       }
 
 -- the fence was asked before the access
-pub after-fence : (c : Config) (past : List Event) (t a p : ℕ) (fence : Fence) (reach : Reach) → IsLegal c past → FencedAccess c past t a p fence reach → a < p
-after-fence c past t a p fence reach legal x =
+pub after-fence : (c : Config) (past : List Event) (t a p : ℕ) (fence : Fence) (reach : Reach) → IsGood c → IsLegal c past → FencedAccess c past t a p fence reach → a < p
+after-fence c past t a p fence reach good legal x =
     let older_legal = (legal-with c past p x.event legal x.happened).2 in
     let inside = within past p x.event x.happened in
     let size = length-past_at past p (omega arith) in
-    let later = struck-within c (past_at past p) t a (Entries fence) (fences_strike c (past_at past p) t a (Entries fence) older_legal x.reached) in
+    let later = struck-within c (past_at past p) t a (Entries fence) (fences_strike c (past_at past p) t a (Entries fence) good older_legal x.reached) in
     omega arith
 
 pub translations_are_fresh : (c : Config) (past : List Event) (t a p : ℕ) (fence : Fence) (reach : Reach) (entry : Entry)
-    → IsLegal c past → (x : FencedAccess c past t a p fence reach) → x.event.translation ≡ Some entry → GivenAfter c past t a p reach.va entry.leaf
-translations_are_fresh c past t a p fence reach entry legal x translation =
+    → IsGood c → IsLegal c past → (x : FencedAccess c past t a p fence reach) → x.event.translation ≡ Some entry → GivenAfter c past t a p reach.va entry.leaf
+translations_are_fresh c past t a p fence reach entry good legal x translation =
     let older = past_at past p in
     let with_event = legal-with c past p x.event legal x.happened in
     let used_entry = sym (used-reach c older t x.event.actor x.event.op reach x.by_hart x.access) ∙ sym with_event.1 ∙ translation in
     elim ((is_used (memory c older) (satp older t) (hit c older t) reach.va reach.access entry).0 used_entry) [
-      | inl hits ↦ given-hit c past t a p legal fence reach entry x translation hits
-      | inr fills ↦ given-filled c past t a p legal fence reach entry x fills
+      | inl hits ↦ given-hit c past t a p good legal fence reach entry x translation hits
+      | inr fills ↦ given-filled c past t a p good legal fence reach entry x fills
     ]
 
 -- ---- fetched words
 
-module _ (c : Config) (past : List Event) (t a p va value : ℕ) (legal : IsLegal c past) (x : FencedFetch c past t a p va value) where
+module _ (c : Config) (past : List Event) (t a p va value : ℕ) (good : IsGood c) (legal : IsLegal c past) (x : FencedFetch c past t a p va value) where
   -- a cached word stood in the memory at its date
   stood-cached : (pa : ℕ) (word : FetchWord) → cached c (past_at past p) t pa ≡ Some word → StoodAfter c past a p pa word.word
   stood-cached pa word hit_word =
@@ -129,7 +131,7 @@ module _ (c : Config) (past : List Event) (t a p va value : ℕ) (legal : IsLega
       let size = length-past_at past p (omega arith) in
       let older_legal = (legal-with c past p x.event legal x.happened).2 in
       let alive = lives_from_its_date c older t older_legal in
-      let gone = fenced_is_gone c older t a Words older_legal x.reached in
+      let gone = fenced_is_gone c older t a Words good older_legal x.reached in
       let here = found (WordWasFilled c older t) (λ (y : Filling FetchWord). y.date ≤ a → covers_word Words y.item ≡ false)
       (λ y. is_at pa y.item) (λ y. y.item) word (live_words c older t) alive.words gone.words hit_word in
       let later : a < here.x.date = elim (cases_lt a here.x.date) [
@@ -155,7 +157,7 @@ module _ (c : Config) (past : List Event) (t a p va value : ℕ) (legal : IsLega
       let inside : p < length past = within past p x.event x.happened in
       let size = length-past_at past p (omega arith) in
       let older_legal = (legal-with c past p x.event legal x.happened).2 in
-      let later = struck-within c older t a Words (fences_strike c older t a Words older_legal x.reached) in
+      let later = struck-within c older t a Words (fences_strike c older t a Words good older_legal x.reached) in
       let fills = (word_filled (memory c older) (satp older t) (hit c older t) (cached c older t) va accesses.Fetch (record { pa = pa; word = unwrap_or (memory c older pa) 0 })).0
       (ap (λ place. whole.word_filling_by (memory c older) (cached c older t) place accesses.Fetch) got.place
       ∙ ap (λ found. whole.fetched_from found pa (unwrap_or (memory c older pa) 0)) missed) in
@@ -167,9 +169,9 @@ module _ (c : Config) (past : List Event) (t a p va value : ℕ) (legal : IsLega
         stood = fills.word ∙ ap (λ n. let o : Option ℕ = Some n in o) read;
       }
 
-pub fetches_are_fresh : (c : Config) (past : List Event) (t a p va value : ℕ) → IsLegal c past → (x : FencedFetch c past t a p va value)
+pub fetches_are_fresh : (c : Config) (past : List Event) (t a p va value : ℕ) → IsGood c → IsLegal c past → (x : FencedFetch c past t a p va value)
     → StoodAfter c past a p (phys_at x.event.translation va) value
-fetches_are_fresh c past t a p va value legal x =
+fetches_are_fresh c past t a p va value good legal x =
     let older = past_at past p in
     let with_event = legal-with c past p x.event legal x.happened in
     let got = fetched c older t va value x.event.actor x.event.op x.event.reply x.event.translation x.by_hart x.fetch x.answer with_event.0 with_event.1 in
@@ -177,7 +179,7 @@ fetches_are_fresh c past t a p va value legal x =
   where
     by_cached : (found : Option FetchWord) → cached c (past_at past p) t (phys_at x.event.translation va) ≡ found
         → Fetched c (past_at past p) t va value x.event.translation → StoodAfter c past a p (phys_at x.event.translation va) value
-    by_cached None missed got = stands-now c past t a p va value legal x got missed
+    by_cached None missed got = stands-now c past t a p va value good legal x got missed
     by_cached (Some word) hit_word got =
         let read : word.word ≡ value = ap (λ found. whole.fetched_or found (unwrap_or (memory c (past_at past p) (phys_at x.event.translation va)) 0)) (sym hit_word) ∙ got.read in
-        subst (StoodAfter c past a p (phys_at x.event.translation va)) read (stood-cached c past t a p va value legal x (phys_at x.event.translation va) word hit_word)
+        subst (StoodAfter c past a p (phys_at x.event.translation va)) read (stood-cached c past t a p va value good legal x (phys_at x.event.translation va) word hit_word)

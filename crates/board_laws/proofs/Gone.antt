@@ -9,12 +9,8 @@ use Rattle.tlb_model.specs.Words.{covers_word}
 use Rattle.tlb_model.proofs.Living.{cleared_is_gone, covered_is_gone}
 use Rattle.board_core.specs.declared.config.Config.{Config}
 use Rattle.board_core.specs.History.{Event}
-use Rattle.board_core.specs.Replies.{IsLegal}
-use Rattle.board_laws.specs.Fences.{FencesItself, Reached, Itself}
 use Rattle.board_laws.specs.Lives.{NoneLives, Strikes, Struck, entry_acts, fetch_acts}
-use Rattle.board_laws.specs.Places.{past_at}
-use Rattle.board_laws.proofs.Acts.{AreActs, are_entry_acts, are_fetch_acts, length-acts, own-strikes, split-at}
-use Rattle.board_laws.proofs.Places.{length-past_at, within}
+use Rattle.board_laws.proofs.Acts.{OneForEach, one_entry_act, one_fetch_act, length-seen, split-at}
 
 module _ {E : Type 0} (covers : Flush → E → Bool) where
   by-act : (place : ℕ) (flush : Flush) (newer : List (Act E)) (act : Act E) (older : List (Act E)) → place ≤ length older → Strikes flush act
@@ -28,43 +24,21 @@ module _ {E : Type 0} (covers : Flush → E → Bool) where
       (λ x later early. absurd (omega arith)) (live covers (newer ++ Clear ∷ older)) (cleared_is_gone covers newer older)
   by-act place flush newer Nothing older since strikes = absurd strikes
 
-  by-event : (acts : List Event → List (Act E)) (are : AreActs acts) (place : ℕ) (flush : Flush) (past newer : List Event) (event : Event) (older : List Event)
-      → past ≡ newer ++ event ∷ older → place ≤ length older → Strikes flush (are.act event older)
+  by-event : (acts : List Event → List (Act E)) (are : OneForEach acts) (place : ℕ) (flush : Flush) (past newer : List Event) (event : Event) (older : List Event)
+      → past ≡ newer ++ event ∷ older → place ≤ length older → Strikes flush (are.of event older)
       → All (λ (x : Filling E). x.date ≤ place → covers flush x.item ≡ false) (live covers (acts past))
   by-event acts are place flush past newer event older made since strikes =
       let split = split-at acts are newer event older in
-      let size = length-acts acts are older in
-      All-same (λ (x : Filling E). x.date ≤ place → covers flush x.item ≡ false) (live covers (acts past)) (live covers (split.later ++ are.act event older ∷ acts older))
+      let size = length-seen acts are older in
+      All-same (λ (x : Filling E). x.date ≤ place → covers flush x.item ≡ false) (live covers (acts past)) (live covers (split.later ++ are.of event older ∷ acts older))
       (ap (λ xs. live covers (acts xs)) made ∙ ap (live covers) split.made)
-      (by-act place flush split.later (are.act event older) (acts older) (omega arith) strikes)
+      (by-act place flush split.later (are.of event older) (acts older) (omega arith) strikes)
 
 pub struck_is_gone : (c : Config) (past : List Event) (t place : ℕ) (flush : Flush) → Struck c past t place flush → NoneLives c past t place flush
 struck_is_gone c past t place flush struck = record {
-  entries = by-event covers_entry (λ past. entry_acts c past t) (are_entry_acts c t) place flush past struck.newer struck.event struck.older struck.made struck.since struck.entries;
-  words = by-event covers_word (λ past. fetch_acts c past t) (are_fetch_acts c t) place flush past struck.newer struck.event struck.older struck.made struck.since struck.words;
+  entries = by-event covers_entry (λ past. entry_acts c past t) (one_entry_act c t) place flush past struck.newer struck.event struck.older struck.made struck.since struck.entries;
+  words = by-event covers_word (λ past. fetch_acts c past t) (one_fetch_act c t) place flush past struck.newer struck.event struck.older struck.made struck.since struck.words;
 }
-
--- a local fence strikes at its place
-itself-strikes : (c : Config) (past : List Event) (t place : ℕ) (flush : Flush) → FencesItself past t place flush → Struck c past t place flush
-itself-strikes c past t place flush x =
-    let inside = within past place x.event x.happened in
-    let size = length-past_at past place (omega arith) in
-    let strikes = own-strikes c t x.event (past_at past place) flush x.by_hart x.fences in
-    record {
-      newer = x.happened.newer;
-      event = x.event;
-      older = past_at past place;
-      made = x.happened.made;
-      since = omega arith;
-      entries = strikes.0;
-      words = strikes.1;
-    }
-
-pub fences_strike : (c : Config) (past : List Event) (t place : ℕ) (flush : Flush) → IsLegal c past → Reached c past t place flush → Struck c past t place flush
-fences_strike c past t place flush legal (Itself x) = itself-strikes c past t place flush x
-
-pub fenced_is_gone : (c : Config) (past : List Event) (t place : ℕ) (flush : Flush) → IsLegal c past → Reached c past t place flush → NoneLives c past t place flush
-fenced_is_gone c past t place flush legal reached = struck_is_gone c past t place flush (fences_strike c past t place flush legal reached)
 
 -- and the place of the strike, like any event's, is before the end
 pub struck-within : (c : Config) (past : List Event) (t place : ℕ) (flush : Flush) → Struck c past t place flush → place < length past

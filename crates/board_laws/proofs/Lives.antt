@@ -26,11 +26,11 @@ use Rattle.board_core.specs.declared.event.Reply.{Reply}
 use Rattle.board_core.specs.declared.event.Reply.TheVariants.{Value}
 use Rattle.board_core.specs.Accesses.{access_reply, access_reply_of, cached, hit, used_by_access, used_by_actor}
 use Rattle.board_core.specs.History.{Event, Reach, access_of}
-use Rattle.board_core.specs.Memory.{cached_in, entry_filling, filling_of, hit_in, memory, satp, word_filling}
+use Rattle.board_core.specs.Memory.{address_by, cached_in, entry_filling, filling_of, hit_in, memory, satp, word_filling}
 use Rattle.board_core.specs.Refusals.{first_that_holds, refusals}
 use Rattle.board_core.specs.Replies.{IsLegal, answer, refused_or, reply}
 use Rattle.board_laws.specs.Lives.{EntryWasFilled, LivesFromItsDate, WordWasFilled, entry_acts, fetch_acts}
-use Rattle.board_laws.proofs.Acts.{acted-by, are_entry_acts, are_fetch_acts, entry-filled, length-acts, word-filled}
+use Rattle.board_laws.proofs.Acts.{seen-of, one_entry_act, one_fetch_act, entry-filled, length-seen, word-filled}
 use Rattle.board_laws.proofs.Places.{at-split, legal-older, past_at-split}
 
 -- ---- what an event's translation and reply say, in a legal history
@@ -69,23 +69,23 @@ answered-reach c older t actor op r reach own access answered =
 record FilledBy (op : Op) (used_entry : Option Entry) (satp_now : ℕ) (acts : List (Act Entry)) (item : Entry) : Type 0 where
   reach : Reach
   access : access_of op ≡ Some reach
-  missed : hit_in acts satp_now reach.va ≡ None
+  missed : hit_in acts (address_by satp_now reach.va) ≡ None
   is_used : used_entry ≡ Some item
 
 filled-by : (op : Op) (used_entry : Option Entry) (satp_now : ℕ) (acts : List (Act Entry)) (item : Entry) → entry_filling op used_entry satp_now acts ≡ Some item → FilledBy op used_entry satp_now acts item
-filled-by (Load va) used_entry satp_now acts item e = by_hit (hit_in acts satp_now va) refl e
+filled-by (Load va) used_entry satp_now acts item e = by_hit (hit_in acts (address_by satp_now va)) refl e
   where
-    by_hit : (found : Option Entry) → hit_in acts satp_now va ≡ found → filling_of found used_entry ≡ Some item → FilledBy (Load va) used_entry satp_now acts item
+    by_hit : (found : Option Entry) → hit_in acts (address_by satp_now va) ≡ found → filling_of found used_entry ≡ Some item → FilledBy (Load va) used_entry satp_now acts item
     by_hit (Some other) is e = cc
     by_hit None is e = record { reach = record { va = va; access = accesses.Load }; access = refl; missed = is; is_used = e }
-filled-by (Store va value) used_entry satp_now acts item e = by_hit (hit_in acts satp_now va) refl e
+filled-by (Store va value) used_entry satp_now acts item e = by_hit (hit_in acts (address_by satp_now va)) refl e
   where
-    by_hit : (found : Option Entry) → hit_in acts satp_now va ≡ found → filling_of found used_entry ≡ Some item → FilledBy (Store va value) used_entry satp_now acts item
+    by_hit : (found : Option Entry) → hit_in acts (address_by satp_now va) ≡ found → filling_of found used_entry ≡ Some item → FilledBy (Store va value) used_entry satp_now acts item
     by_hit (Some other) is e = cc
     by_hit None is e = record { reach = record { va = va; access = accesses.Store value }; access = refl; missed = is; is_used = e }
-filled-by (Fetch va) used_entry satp_now acts item e = by_hit (hit_in acts satp_now va) refl e
+filled-by (Fetch va) used_entry satp_now acts item e = by_hit (hit_in acts (address_by satp_now va)) refl e
   where
-    by_hit : (found : Option Entry) → hit_in acts satp_now va ≡ found → filling_of found used_entry ≡ Some item → FilledBy (Fetch va) used_entry satp_now acts item
+    by_hit : (found : Option Entry) → hit_in acts (address_by satp_now va) ≡ found → filling_of found used_entry ≡ Some item → FilledBy (Fetch va) used_entry satp_now acts item
     by_hit (Some other) is e = cc
     by_hit None is e = record { reach = record { va = va; access = accesses.Fetch }; access = refl; missed = is; is_used = e }
 filled-by op used_entry satp_now acts item e = cc
@@ -100,10 +100,10 @@ fills-used memory_now satp_now tlb va access item e missed = elim ((is_used memo
 
 entry-was-filled : (c : Config) (past : List Event) (t : ℕ) → IsLegal c past → (x : Filling Entry) → WasFilled (entry_acts c past t) x → EntryWasFilled c past t x
 entry-was-filled c past t legal x was =
-    let found = acted-by (λ past. entry_acts c past t) (are_entry_acts c t) past was.newer (Fill x.item) was.older was.acted in
-    let facts = entry-filled c t found.event found.older x.item found.acted in
+    let found = seen-of (λ past. entry_acts c past t) (one_entry_act c t) past was.newer (Fill x.item) was.older was.acted in
+    let facts = entry-filled c t found.event found.older x.item found.same in
     let filled = filled-by found.event.op found.event.translation (satp found.older t) (entry_acts c found.older t) x.item facts.1 in
-    let placed : length found.older ≡ x.date = sym (length-acts (λ past. entry_acts c past t) (are_entry_acts c t) found.older) ∙ ap length found.rest ∙ was.dated in
+    let placed : length found.older ≡ x.date = sym (length-seen (λ past. entry_acts c past t) (one_entry_act c t) found.older) ∙ ap length found.rest ∙ was.dated in
     let was_legal : IsLegal c (found.event ∷ found.older) = legal-older c found.newer (found.event ∷ found.older) (subst (IsLegal c) found.made legal) in
     let entry_used = sym (used-reach c found.older t found.event.actor found.event.op filled.reach facts.0 filled.access) ∙ sym was_legal.1 ∙ filled.is_used in
     let fills = fills-used (memory c found.older) (satp found.older t) (hit c found.older t) filled.reach.va filled.reach.access x.item entry_used filled.missed in
@@ -167,10 +167,10 @@ fetched c older t va value actor op r translation own fetch answered legal used_
 
 word-was-filled : (c : Config) (past : List Event) (t : ℕ) → IsLegal c past → (x : Filling FetchWord) → WasFilled (fetch_acts c past t) x → WordWasFilled c past t x
 word-was-filled c past t legal x was =
-    let found = acted-by (λ past. fetch_acts c past t) (are_fetch_acts c t) past was.newer (Fill x.item) was.older was.acted in
-    let facts = word-filled c t found.event found.older x.item found.acted in
+    let found = seen-of (λ past. fetch_acts c past t) (one_fetch_act c t) past was.newer (Fill x.item) was.older was.acted in
+    let facts = word-filled c t found.event found.older x.item found.same in
     let filled = word-filled-by found.event.op found.event.reply found.event.translation (memory c found.older) (fetch_acts c found.older t) x.item facts.1 in
-    let placed : length found.older ≡ x.date = sym (length-acts (λ past. fetch_acts c past t) (are_fetch_acts c t) found.older) ∙ ap length found.rest ∙ was.dated in
+    let placed : length found.older ≡ x.date = sym (length-seen (λ past. fetch_acts c past t) (one_fetch_act c t) found.older) ∙ ap length found.rest ∙ was.dated in
     let was_legal : IsLegal c (found.event ∷ found.older) = legal-older c found.newer (found.event ∷ found.older) (subst (IsLegal c) found.made legal) in
     let got = fetched c found.older t filled.va filled.value found.event.actor found.event.op found.event.reply found.event.translation facts.0 filled.fetch filled.answered was_legal.0 was_legal.1 in
     let fetches = (word_filled (memory c found.older) (satp found.older t) (hit c found.older t) (cached c found.older t) filled.va accesses.Fetch x.item).0

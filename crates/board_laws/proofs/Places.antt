@@ -1,7 +1,7 @@
 -- Histories as they were at their places.
 use Rattle.std.proofs.Common.{◌≡◌, ℕ, zero, suc, ◌+◌, ◌-◌, ◌<◌, ◌≤◌, List, [], ◌∷◌, ◌++◌, length, take, drop, subst, refl, sym, ap, ◌∙◌, append_assoc, arith, length-append, length-drop}
 use Rattle.std.proofs.Math.Seq.{drop-append-add}
-use Rattle.std.proofs.lemmas.List.{take-append-drop}
+use Rattle.std.proofs.lemmas.List.{drop-append-le, take-append-drop}
 use Rattle.board_core.specs.declared.config.Config.{Config}
 use Rattle.board_core.specs.History.{Event, Reach}
 use Rattle.board_core.specs.Replies.{IsLegal}
@@ -46,6 +46,18 @@ pub past_at-again : (past : List Event) (p m : ℕ) → m ≤ p → p ≤ length
 past_at-again past p m early inside =
     drop-again (length (past_at past p) - m) (length past - p) past
     ∙ ap (λ n. drop n past) (let size = length-past_at past p inside in omega arith)
+
+-- an event of an earlier place was there at a later one
+pub at-earlier : (past : List Event) (p m : ℕ) (event : Event) → m < p → p ≤ length past → IsAt past m event → IsAt (past_at past p) m event
+at-earlier past p m event early inside at =
+    let sizes : length past ≡ length at.newer + length (event ∷ past_at past m) = ap length at.made ∙ length-append at.newer (event ∷ past_at past m) in
+    let before = length-past_at past m (omega arith) in
+    let near : length past - p ≤ length at.newer = omega arith in
+    record {
+      newer = drop (length past - p) at.newer;
+      made = ap (λ xs. drop (length past - p) xs) at.made ∙ drop-append-le (length past - p) at.newer (event ∷ past_at past m) near
+          ∙ ap (λ older. drop (length past - p) at.newer ++ event ∷ older) (sym (past_at-again past p m (omega arith) inside));
+    }
 
 pub at-later : (past : List Event) (p m : ℕ) (event : Event) → p ≤ length past → IsAt (past_at past p) m event → IsAt past m event
 at-later past p m event inside at =

@@ -24,6 +24,7 @@ use Rattle.board_core.specs.declared.event.Reply.TheVariants as replies
 use Rattle.board_core.specs.Accesses.{access_reply_of, cached, hit}
 use Rattle.board_core.specs.History.{Event, Reach}
 use Rattle.board_core.specs.Memory.{memory, satp}
+use Rattle.board_core.specs.Limits.{IsGood}
 use Rattle.board_core.specs.Replies.{IsLegal}
 use Rattle.board_laws.specs.Fresh.{FencedAccess}
 use Rattle.board_laws.specs.Places.{past_at}
@@ -93,9 +94,9 @@ failed (Store value) cause = refl
 failed Fetch cause = refl
 
 pub steady_tables_decide : (c : Config) (past : List Event) (t a p : ℕ) (fence : Fence) (reach : Reach) (result : Result Leaf Cause)
-    → IsLegal c past → (x : FencedAccess c past t a p fence reach) → IsTranslated (satp (past_at past p) t) reach.va → IsSteady c past t a p reach result
+    → IsGood c → IsLegal c past → (x : FencedAccess c past t a p fence reach) → IsTranslated (satp (past_at past p) t) reach.va → IsSteady c past t a p reach result
     → IsDecidedBy c (past_at past p) t x.event reach result
-steady_tables_decide c past t a p fence reach result legal x is_translated steady =
+steady_tables_decide c past t a p fence reach result good legal x is_translated steady =
     let older = past_at past p in
     let kind = kind_of reach.access in
     let found = hit_at (satp older t) (hit c older t) reach.va in
@@ -104,7 +105,7 @@ steady_tables_decide c past t a p fence reach result legal x is_translated stead
     let way_is = translated-way (memory c older) (satp older t) (hit c older t) reach.va kind is_translated in
     let entry_used : x.event.translation ≡ used_by (way_by found (asid_of (satp older t)) walked) =
     with_event.1 ∙ used-reach c older t x.event.actor x.event.op reach x.by_hart x.access ∙ ap used_by way_is in
-    let walked_is : walked ≡ result = steady.one_result p (after-fence c past t a p fence reach legal x) (omega arith) in
+    let walked_is : walked ≡ result = steady.one_result p (after-fence c past t a p fence reach good legal x) (omega arith) in
     let decides = λ (entry : Entry) (used_entry : used_by (way_by found (asid_of (satp older t)) walked) ≡ Some entry). decided entry (entry_used ∙ used_entry) in
     let place_is = ap (λ w. in_memory (memory c older) kind (phys_by w reach.va kind)) way_is
     ∙ ap (in_memory (memory c older) kind) (way-decided found (asid_of (satp older t)) reach.va kind walked result walked_is decides) in
@@ -123,7 +124,7 @@ steady_tables_decide c past t a p fence reach result legal x is_translated stead
     -- each entry that the access may use is the result's leaf, or doesn't allow the access
     decided : (entry : Entry) → x.event.translation ≡ Some entry → result ≡ by_right (kind_of reach.access) entry.leaf
     decided entry translation =
-        let given = translations_are_fresh c past t a p fence reach entry legal x translation in
+        let given = translations_are_fresh c past t a p fence reach entry good legal x translation in
         let before = past_at past given.place in
         let kind = kind_of given.there.access in
         let page = leaf-page (memory c before) (satp before t) reach.va kind entry.leaf given.gives in

@@ -16,7 +16,7 @@ use Rattle.board_laws.specs.Places.{Accesses, past_at}
 
 -- what happened to the TLB of hart t, and to its instruction cache: an act for each event
 abbrev pub entry_acts : Config → List Event → (t : ℕ) → List (Act Entry)
-entry_acts c past t = tlb_acts past t
+entry_acts c past t = tlb_acts c past t
 
 abbrev pub fetch_acts : Config → List Event → (t : ℕ) → List (Act FetchWord)
 fetch_acts c past t = word_acts c past t

@@ -9,6 +9,7 @@ ghost use Rattle.hart_access.specs.Ways.{phys_at};
 ghost use Rattle.board_core.specs.declared.config.Config.{Config};
 ghost use Rattle.board_core.specs.History.{Event, Reach};
 ghost use Rattle.board_core.specs.Memory.{satp};
+ghost use Rattle.board_core.specs.Limits.{IsGood};
 ghost use Rattle.board_core.specs.Replies.{IsLegal};
 ghost use Rattle.board_laws.specs.Fresh.{FencedAccess, FencedFetch, GivenAfter, StoodAfter};
 ghost use Rattle.board_laws.specs.Places.{past_at};
@@ -18,6 +19,7 @@ ghost use Rattle.board_laws.specs.Steady.{IsDecidedBy, IsSteady};
 /// not later than the access (Privileged 4.2.1; SBI 8).
 pub fn translations_are_fresh()
     ensures { (c : Config) (past : List Event) (t a p : ℕ) (fence : Fence) (reach : Reach) (entry : Entry)
+        → IsGood c
         → IsLegal c past
         → (x : FencedAccess c past t a p fence reach)
         → x.event.translation ≡ Some entry
@@ -28,6 +30,7 @@ pub fn translations_are_fresh()
 /// the fetch (Zifencei; SBI 8).
 pub fn fetches_are_fresh()
     ensures { (c : Config) (past : List Event) (t a p va value : ℕ)
+        → IsGood c
         → IsLegal c past
         → (x : FencedFetch c past t a p va value)
         → StoodAfter c past a p (phys_at x.event.translation va) value }
@@ -37,6 +40,7 @@ pub fn fetches_are_fresh()
 /// a board without TLBs (Privileged 4.2.1; SBI 8).
 pub fn steady_tables_decide()
     ensures { (c : Config) (past : List Event) (t a p : ℕ) (fence : Fence) (reach : Reach) (result : Result Leaf Cause)
+        → IsGood c
         → IsLegal c past
         → (x : FencedAccess c past t a p fence reach)
         → IsTranslated (satp (past_at past p) t) reach.va

@@ -3,6 +3,7 @@ ghost use Rattle.std.specs.Prelude.{ℕ, List};
 ghost use Rattle.tlb_model.specs.declared.fence.Flush.{Flush};
 ghost use Rattle.board_core.specs.declared.config.Config.{Config};
 ghost use Rattle.board_core.specs.History.{Event};
+ghost use Rattle.board_core.specs.Limits.{IsGood};
 ghost use Rattle.board_core.specs.Replies.{IsLegal};
 ghost use Rattle.board_laws.specs.Fences.{Reached};
 ghost use Rattle.board_laws.specs.Lives.{LivesFromItsDate, NoneLives, Struck};
@@ -22,11 +23,11 @@ pub fn struck_is_gone()
 
 /// A fence that has reached a hart was applied to its caches, or they were emptied, when it was asked or later.
 pub fn fences_strike()
-    ensures { (c : Config) (past : List Event) (t place : ℕ) (flush : Flush) → IsLegal c past → Reached c past t place flush → Struck c past t place flush }
+    ensures { (c : Config) (past : List Event) (t place : ℕ) (flush : Flush) → IsGood c → IsLegal c past → Reached c past t place flush → Struck c past t place flush }
 {}
 
 /// After a fence has reached a hart nothing lives in the hart's caches that the fence covers and that was filled before
 /// it was asked (Privileged 4.2.1; SBI 8; Zifencei).
 pub fn fenced_is_gone()
-    ensures { (c : Config) (past : List Event) (t place : ℕ) (flush : Flush) → IsLegal c past → Reached c past t place flush → NoneLives c past t place flush }
+    ensures { (c : Config) (past : List Event) (t place : ℕ) (flush : Flush) → IsGood c → IsLegal c past → Reached c past t place flush → NoneLives c past t place flush }
 {}

@@ -1,4 +1,4 @@
-use Rattle.board_laws.proofs.Gone.{fences_strike}
+use Rattle.board_laws.proofs.Reached.{fences_strike}
 use Rattle.board_laws.proofs.caches.fences_strike.Goals as goal
 
 pub returns : goal.returns
