@@ -25,7 +25,7 @@ use Rattle.hart_access.specs.declared.way.Way.{Way}
 use Rattle.hart_access.specs.declared.way.Way.TheVariants.{Plain, Fault}
 use Rattle.hart_access.specs.Accesses as whole
 use Rattle.hart_access.specs.Operations.{kind_of}
-use Rattle.hart_access.specs.Ways.{fill_by, phys_at, place_by, used_by, way, way_by}
+use Rattle.hart_access.specs.Ways.{fill_by, place_by, used_by, way, way_by}
 use Rattle.hart_access.proofs.Used.{place_of_used}
 use Rattle.board_core.specs.Accesses.{access_reply_of}
 use Rattle.board_core.specs.declared.config.Config.{Config}

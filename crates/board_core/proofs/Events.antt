@@ -19,7 +19,6 @@ use Rattle.board_core.specs.declared.config.Config.{Config}
 use Rattle.board_core.specs.declared.csrs.Sie.{Sie}
 use Rattle.board_core.specs.Course.{is_hart}
 use Rattle.board_core.specs.History.{Event, by_hart}
-use Rattle.board_core.specs.declared.event.Op.{Op}
 use Rattle.board_core.specs.declared.event.Op.TheVariants.{Ecall, Advance}
 use Rattle.board_core.specs.declared.event.Reply.{Reply}
 use Rattle.board_core.specs.declared.event.Reply.TheVariants.{Entry, Ret, Waiting}

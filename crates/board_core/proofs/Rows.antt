@@ -1,7 +1,7 @@
 -- What the rows of the table of states say of a hart.
 use Rattle.std.proofs.Common.{◌≡◌, ℕ, ◌<◌, Bool, true, false, List, [], ◌∷◌, length, subst, refl, sym, ap, ◌∙◌}
 use Rattle.std.proofs.lemmas.Option.{same_Some}
-use Rattle.std.specs.Prelude.{Option, Some, None, Result, Ok, not, ◌&&◌, is_none, is_some, option_map, slice_set}
+use Rattle.std.specs.Prelude.{Option, Some, None, Ok, not, ◌&&◌, is_none, is_some, option_map, slice_set}
 use Rattle.hsm.specs.declared.hart.HartState.{HartState}
 use Rattle.hsm.specs.declared.hart.HartState.TheVariants.{Started, Stopped, StartPending, StopPending, Suspended, SuspendPending, ResumePending}
 use Rattle.hsm.specs.declared.hart.Kept.{Kept}

@@ -1,11 +1,9 @@
 -- What a machine that stands for a past says of whether an operation happens, and what it has room for.
-use Rattle.std.proofs.Common.{◌≡◌, ℕ, ◌+◌, ◌<◌, ◌≤◌, true, false, List, [], ◌∷◌, length, map, suc, refl, sym, ap, ◌∙◌, arith}
+use Rattle.std.proofs.Common.{◌≡◌, ℕ, ◌<◌, ◌≤◌, true, false, List, [], ◌∷◌, length, map, suc, refl, sym, ap, ◌∙◌, arith}
 use Rattle.std.specs.Prelude.{Option, Some, None, is_none, is_some}
-use Rattle.hsm.specs.Harts.{Hart}
-use Rattle.fence_queue.specs.declared.request.Request.{Request}
 use Rattle.fence_queue.specs.Queues.{queue_at}
 use Rattle.rfence.specs.Calls as calls
-use Rattle.rfence.specs.Right.{IsRight, IsRightTurn}
+use Rattle.rfence.specs.Right.{IsRightTurn}
 use Rattle.rfence.specs.State as fences
 use Rattle.rfence.specs.State.{State, Takes, call_at, in_call}
 use Rattle.rfence.specs.Turns.{Turn, Serve, Poll}
@@ -18,7 +16,7 @@ use Rattle.board_core.specs.declared.machine.Machine.{Machine}
 use Rattle.board_core.specs.Fences.{outstanding, turns, waiting}
 use Rattle.board_core.specs.History.{Event}
 use Rattle.board_core.specs.Limits.{IsGood}
-use Rattle.board_core.specs.Refusals.{Situation, is_empty, situation, waits_for_some}
+use Rattle.board_core.specs.Refusals.{is_empty, situation, waits_for_some}
 use Rattle.board_core.specs.Stands.{CanFill, FencesStand, HasRoom, IsSized, IsStanding, StandsFor, situation_in}
 use Rattle.board_core.proofs.Standing.{can-fill, hart_at-stand, length-caches, length-deadlines, length-entries-le, length-harts, length-satps, length-starts-le, wake-read}
 

@@ -8,7 +8,6 @@ use Rattle.hart_mask.specs.Ids.{has, ids_where, union_of, with_bit, without_id}
 use Rattle.hart_mask.proofs.Sets.{has-ids_where, ids_where-agree, with_bit-by, without_id-by}
 use Rattle.hsm.specs.declared.hart.HartState.{HartState}
 use Rattle.hsm.specs.declared.hart.HartState.TheVariants.{StartPending}
-use Rattle.hsm.specs.declared.hart.Kept.{Kept}
 use Rattle.hsm.specs.Harts.{Hart, resting, starting}
 use Rattle.hsm.specs.States.{is_start_pending}
 use Rattle.hsm.specs.Transitions.{hart_at}

@@ -20,8 +20,6 @@ use Rattle.board_core.specs.declared.event.Actor.TheVariants.{Hart, Clock}
 use Rattle.board_core.specs.History.{Event}
 use Rattle.board_core.specs.declared.event.Op.{Op}
 use Rattle.board_core.specs.declared.event.Op.TheVariants.{Ecall, Load, Store, Fetch, WriteSatp, WriteSie, WriteSstatusSie, ReadSip, ClearSsip, Wfi, Sfence, FenceI, Poll, Serve, Advance, Tick}
-use Rattle.board_core.specs.declared.event.Refusal.{Refusal}
-use Rattle.board_core.specs.declared.event.Refusal.TheVariants.{WrongPhase}
 use Rattle.board_core.specs.declared.event.Reply.{Reply}
 use Rattle.board_core.specs.declared.event.Reply.TheVariants.{Ret, Gone, Entry}
 use Rattle.tlb_model.specs.declared.entry.Entry.{Entry as CacheEntry}
@@ -30,7 +28,7 @@ use Rattle.board_core.specs.Limits.{is_start_address}
 use Rattle.board_core.specs.Refusals.{first_that_holds, is_full, situation}
 use Rattle.board_core.specs.Interrupts.{wake}
 use Rattle.board_core.specs.Suspends.{resume_point}
-use Rattle.board_core.specs.Replies.{IsLegal, advance_reply, answer, call_reply, failure, refused_or, reply, resume_reply, suspend_reply, unless}
+use Rattle.board_core.specs.Replies.{IsLegal, advance_reply, answer, call_reply, failure, reply, resume_reply, suspend_reply, unless}
 use Rattle.board_core.specs.Starts.{Start, StartsAreEntered, boot_start, entries, entry_by, is_of, last_start, pending, start_by_call, starts}
 use Rattle.board_core.specs.States.{Move, move_by, move_by_call, moved_to, state}
 use Rattle.board_core.proofs.Rows.{accepted, running_parts}

@@ -1,6 +1,6 @@
 -- The harts that a hart list reaches: those that it names and that are in an interruptible state.
 use Rattle.std.proofs.Common.{◌≡◌, ℕ, ◌<◌, ◌≤◌, Bool, true, false, List, refl, sym, ap, ◌∙◌, arith, inl, inr}
-use Rattle.std.specs.Prelude.{◌&&◌, Option, Some}
+use Rattle.std.specs.Prelude.{◌&&◌, Some}
 use Rattle.std.proofs.lemmas.Bool.{cases_Bool}
 use Rattle.hart_mask.specs.HartList.{targets_of}
 use Rattle.hart_mask.specs.Ids.{has, ids_where, intersection_of}

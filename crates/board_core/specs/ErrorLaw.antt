@@ -1,5 +1,5 @@
 -- A call that answers an error changes nothing but the history (profile).
-use Rattle.std.specs.Prelude.{◌≡◌, ℕ, List, Bool, true, false, not}
+use Rattle.std.specs.Prelude.{◌≡◌, ℕ, List, Bool, false, not}
 use Rattle.sbi_abi.specs.Errors.{is_success}
 use Rattle.tlb_model.specs.Acts.{cache_after}
 use Rattle.tlb_model.specs.Entries.{covers_entry}

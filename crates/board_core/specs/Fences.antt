@@ -1,5 +1,5 @@
 -- Remote fences: what each event means for them, what waits at harts, and what calls wait for (SBI 8).
-use Rattle.std.specs.Prelude.{ℕ, List, [], ◌∷◌, Bool, map, ◌&&◌, if◌then◌else◌, Option, Some, None, Result, Ok, Err, is_some}
+use Rattle.std.specs.Prelude.{ℕ, List, [], ◌∷◌, Bool, map, ◌&&◌, if◌then◌else◌, Option, Some, None, Result, Ok, Err}
 use Rattle.sbi_abi.specs.declared.answer.SbiError.{SbiError}
 use Rattle.sbi_abi.specs.declared.answer.SbiError.TheVariants.{InvalidAddress}
 use Rattle.sbi_abi.specs.declared.call.Call.{Call}

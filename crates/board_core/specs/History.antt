@@ -1,5 +1,5 @@
 -- What a board records of an accepted step.
-use Rattle.std.specs.Prelude.{◌≡◌, ℕ, Bool, true, false, Option, Some, None}
+use Rattle.std.specs.Prelude.{◌≡◌, ℕ, Option, Some, None}
 use Rattle.tlb_model.specs.declared.entry.Entry.{Entry}
 use Rattle.hart_access.specs.declared.operation.Access.{Access}
 use Rattle.hart_access.specs.declared.operation.Access.TheVariants as accesses

@@ -1,5 +1,5 @@
 -- The counts that the board's table shows.
-use Rattle.std.specs.Prelude.{ℕ, List, length, sum_by}
+use Rattle.std.specs.Prelude.{List, length, sum_by}
 use Rattle.rfence.specs.State.{total_applied, total_asked}
 use Rattle.board_core.specs.declared.config.Config.{Config}
 use Rattle.board_core.specs.History.{Event}

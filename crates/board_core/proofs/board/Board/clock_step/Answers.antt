@@ -1,7 +1,6 @@
 use Rattle.std.proofs.Common.{◌≡◌, ◌+◌, ◌++◌, ◌∷◌, [], ap, refl, sym, ◌∙◌, arith, reverse, false, true}
 use Rattle.std.specs.Prelude.{is_some, nat_lt, not}
 use Rattle.interrupts.specs.Timing.{last_time, ticked}
-use Rattle.board_core.specs.declared.event.Actor.TheVariants.{Clock}
 use Rattle.board_core.specs.History.{Event, by_clock}
 use Rattle.board_core.specs.declared.event.Op.TheVariants.{Tick}
 use Rattle.board_core.specs.declared.event.Reply.TheVariants.{Done}

@@ -1,7 +1,7 @@
-use Rattle.std.proofs.Common.{length, ap, ◌∙◌, arith}
-use Rattle.rfence.proofs.Stands.{length-calls, length-queues}
+use Rattle.std.proofs.Common.{ap, ◌∙◌, arith}
+use Rattle.rfence.proofs.Stands.{length-calls}
 use Rattle.board_core.specs.Course.{Course}
-use Rattle.board_core.proofs.Situations.{call-read, queue-read}
+use Rattle.board_core.proofs.Situations.{call-read}
 use Rattle.board_core.proofs.board.Board.outstanding.Goals as goal
 
 pub outstanding-requires : goal.outstanding-requires

@@ -1,13 +1,7 @@
-use Rattle.std.proofs.Common.{◌≡◌, ℕ, Bool, true, false, List, [], ◌∷◌, ap, sym, ◌∙◌, arith, reverse}
-use Rattle.std.specs.Prelude.{Option, Some, None}
-use Rattle.board_core.specs.declared.config.Config.{Config}
-use Rattle.board_core.specs.declared.event.Op.{Op}
-use Rattle.board_core.specs.declared.event.Refusal.{Refusal}
+use Rattle.std.proofs.Common.{◌≡◌, true, false, [], ◌∷◌, ap, sym, ◌∙◌, arith, reverse}
 use Rattle.board_core.specs.declared.event.Refusal.TheVariants.{WrongPhase, Nothing, HistoryFull}
-use Rattle.board_core.specs.declared.machine.Machine.{Machine}
 use Rattle.board_core.specs.Course.{Course}
-use Rattle.board_core.specs.Refusals.{first_that_holds, has_nothing_to_do, is_full, is_out_of_phase, refusals_in, situation}
-use Rattle.board_core.specs.Stands.{situation_in}
+use Rattle.board_core.specs.Refusals.{first_that_holds, has_nothing_to_do, is_full, is_out_of_phase, situation}
 use Rattle.board_core.proofs.Situations.{situation-read, sized}
 use Rattle.board_core.proofs.board.Board.refusal.Goals as goal
 

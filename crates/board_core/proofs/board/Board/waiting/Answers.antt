@@ -1,7 +1,7 @@
-use Rattle.std.proofs.Common.{length, ap, ◌∙◌, arith}
-use Rattle.rfence.proofs.Stands.{length-calls, length-queues}
+use Rattle.std.proofs.Common.{ap, ◌∙◌, arith}
+use Rattle.rfence.proofs.Stands.{length-queues}
 use Rattle.board_core.specs.Course.{Course}
-use Rattle.board_core.proofs.Situations.{call-read, queue-read}
+use Rattle.board_core.proofs.Situations.{queue-read}
 use Rattle.board_core.proofs.board.Board.waiting.Goals as goal
 
 pub iter-requires : goal.iter-requires

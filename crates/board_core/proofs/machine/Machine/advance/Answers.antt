@@ -1,4 +1,4 @@
-use Rattle.std.proofs.Common.{◌≡◌, ap, sym, refl, ◌∙◌, arith, false, true}
+use Rattle.std.proofs.Common.{◌≡◌, ap, sym, refl, ◌∙◌, false, true}
 use Rattle.std.specs.Prelude.{None, Some, is_some}
 use Rattle.hsm.specs.declared.hart.HartState.TheVariants.{Started}
 use Rattle.hsm.specs.declared.hart.Moved.TheVariants as moves

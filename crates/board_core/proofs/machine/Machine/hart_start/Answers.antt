@@ -1,4 +1,4 @@
-use Rattle.std.proofs.Common.{sym, ◌∙◌, refl, ap, arith}
+use Rattle.std.proofs.Common.{sym, ◌∙◌, refl, ap}
 use Rattle.std.proofs.lemmas.Bool.{lt-leb}
 use Rattle.hsm.specs.declared.hart.Kept.{Kept}
 use Rattle.hsm.specs.Harts.{Hart}

@@ -1,4 +1,4 @@
-use Rattle.std.proofs.Common.{◌<◌, sym, ◌∙◌, refl, arith, true, false, ◌≡◌}
+use Rattle.std.proofs.Common.{sym, ◌∙◌, refl, arith, true, false, ◌≡◌}
 use Rattle.std.specs.Prelude.{None}
 use Rattle.sbi_abi.specs.declared.answer.SbiError.TheVariants.{Failed}
 use Rattle.sbi_abi.specs.declared.call.Call.TheVariants.{HartStop}

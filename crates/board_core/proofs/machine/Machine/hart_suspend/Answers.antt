@@ -1,5 +1,4 @@
 use Rattle.std.proofs.Common.{◌∙◌, refl}
-use Rattle.std.specs.Prelude.{Some, None}
 use Rattle.sbi_abi.specs.declared.answer.SbiError.TheVariants.{InvalidAddress}
 use Rattle.sbi_abi.specs.declared.call.Call.TheVariants.{HartSuspend}
 use Rattle.board_core.specs.Replies.{failure}

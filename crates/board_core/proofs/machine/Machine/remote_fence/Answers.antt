@@ -1,4 +1,4 @@
-use Rattle.std.proofs.Common.{◌≡◌, ◌∙◌, ap, refl, subst, sym}
+use Rattle.std.proofs.Common.{◌≡◌, ◌∙◌, ap, refl, subst}
 use Rattle.std.specs.Prelude.{Ok, Some}
 use Rattle.sbi_abi.specs.declared.answer.SbiError.TheVariants.{InvalidParam}
 use Rattle.rfence.specs.HartCaches.{dropped_of, emptied_of}
@@ -73,9 +73,9 @@ returns-in-Ok-flush-clause-after c = λ past regs call remote is stands.
     let right : IsRightTurn config.harts (turns config past) turn = (
       c.requires.in_range,
       λ t asked. reached-below config past m.hsm c.requires.good.at_most_128_harts stands.harts c.args.mask c.args.base c.in-Ok.harts c.interruptible.result c.intersection-asked.result
-      c.in-Ok.ensures.answer c.in-Ok.ensures.below c.interruptible.ensures c.intersection-asked.ensures t
-      (is_reached config past m.hsm c.requires.good.at_most_128_harts stands.harts c.args.mask c.args.base c.in-Ok.harts c.interruptible.result c.intersection-asked.result
-      c.in-Ok.ensures.answer c.in-Ok.ensures.below c.interruptible.ensures c.intersection-asked.ensures t ∙ asked),
+          c.in-Ok.ensures.answer c.in-Ok.ensures.below c.interruptible.ensures c.intersection-asked.ensures t
+          (is_reached config past m.hsm c.requires.good.at_most_128_harts stands.harts c.args.mask c.args.base c.in-Ok.harts c.interruptible.result c.intersection-asked.result
+          c.in-Ok.ensures.answer c.in-Ok.ensures.below c.interruptible.ensures c.intersection-asked.ensures t ∙ asked),
       outside-read config past m.fences stands.fences h c.requires.in_range c.requires.outside,
     ) in
     let memory = record m.memory { caches = with_items m.memory.caches c.ask.new.caches } in

@@ -1,21 +1,12 @@
-use Rattle.std.proofs.Common.{Bool, true, false, ◌≡◌, ℕ, ◌<◌, refl, sym, ap, ◌∙◌}
-use Rattle.std.specs.Prelude.{◌&&◌}
+use Rattle.std.proofs.Common.{refl}
 use Rattle.sbi_abi.specs.declared.answer.SbiError.TheVariants.{InvalidParam}
 use Rattle.sbi_abi.specs.declared.call.Call.TheVariants.{SendIpi}
-use Rattle.hart_mask.specs.HartList.{targets_of}
-use Rattle.hart_mask.specs.Ids.{has}
-use Rattle.hart_mask.proofs.Sets.{has-ids_where}
-use Rattle.hsm.specs.Harts.{Hart}
-use Rattle.hsm.specs.States.{is_interruptible}
-use Rattle.hsm.specs.Transitions.{hart_at}
 use Rattle.board_core.specs.declared.event.Op.TheVariants.{Ecall}
 use Rattle.board_core.specs.declared.event.Reply.TheVariants.{Ret}
-use Rattle.board_core.specs.Interrupts.{is_target}
-use Rattle.board_core.specs.States.{state}
 use Rattle.board_core.specs.Replies.{failure, success}
 use Rattle.board_core.specs.History.{by_hart}
 use Rattle.board_core.proofs.Events.{deed_of_call, does_call}
-use Rattle.board_core.proofs.Standing.{call-quiet, hart_at-stand, interrupts-ipis, ipis-sent, stands-interrupts}
+use Rattle.board_core.proofs.Standing.{call-quiet, interrupts-ipis, ipis-sent, stands-interrupts}
 use Rattle.board_core.proofs.Targets.{is_reached}
 use Rattle.board_core.proofs.machine.Machine.send_ipi.Goals as goal
 
