@@ -18,9 +18,9 @@ use Rattle.board_core.specs.declared.event.Reply.{Reply}
 use Rattle.board_core.specs.Course.{is_hart}
 use Rattle.board_core.specs.Fences.{turn_by, turn_of, turns}
 use Rattle.board_core.specs.History.{Event}
-use Rattle.board_core.specs.Memory.{act_by, entry_filling, memory, own_filling, satp, word_filling}
+use Rattle.board_core.specs.Memory.{act_by, entry_filling, memory, own_filling, satp, tlb_acts, word_acts, word_filling}
 use Rattle.board_laws.specs.Fences.{own_fence}
-use Rattle.board_laws.specs.Lives.{Strikes, entry_acts, fetch_acts, last_act}
+use Rattle.board_laws.specs.Lives.{Strikes, last_act}
 
 module _ {A : Type 0} where
   -- there is one for each event, and they are newest first as the events are
@@ -57,6 +57,16 @@ module _ {A : Type 0} where
       pub same : are.of event older ≡ x
       pub rest : seen older ≡ before
 
+    seen-more : (event : Event) (past : List Event) (x : A) (before : List A) → SeenOf past x before → SeenOf (event ∷ past) x before
+    seen-more event past x before found = record {
+      newer = event ∷ found.newer;
+      event = found.event;
+      older = found.older;
+      made = ap (λ ys. event ∷ ys) found.made;
+      same = found.same;
+      rest = found.rest;
+    }
+
     pub seen-of : (past : List Event) (later : List A) (x : A) (before : List A) → seen past ≡ later ++ x ∷ before → SeenOf past x before
     seen-of [] [] x before e = let none = are.none in cc
     seen-of [] (first ∷ later) x before e = let none = are.none in cc
@@ -65,23 +75,15 @@ module _ {A : Type 0} where
         record { newer = []; event = event; older = past; made = refl; same = cc; rest = cc }
     seen-of (event ∷ past) (first ∷ later) x before e =
         let same : are.of event past ∷ seen past ≡ first ∷ (later ++ x ∷ before) = sym (are.more event past) ∙ e in
-        let found = seen-of past later x before (cc) in
-        record {
-          newer = event ∷ found.newer;
-          event = found.event;
-          older = found.older;
-          made = ap (λ ys. event ∷ ys) found.made;
-          same = found.same;
-          rest = found.rest;
-        }
+        seen-more event past x before (seen-of past later x before (cc))
 
 -- ---- the acts of a board
 
-abbrev pub one_entry_act : (c : Config) (t : ℕ) → OneForEach (λ past. entry_acts c past t)
-one_entry_act c t = record { of = λ event past. last_act (entry_acts c (event ∷ past) t); none = refl; more = λ event past. refl }
+abbrev pub one_tlb_act : (c : Config) (t : ℕ) → OneForEach (λ past. tlb_acts c past t)
+one_tlb_act c t = record { of = λ event past. last_act (tlb_acts c (event ∷ past) t); none = refl; more = λ event past. refl }
 
-abbrev pub one_fetch_act : (c : Config) (t : ℕ) → OneForEach (λ past. fetch_acts c past t)
-one_fetch_act c t = record { of = λ event past. last_act (fetch_acts c (event ∷ past) t); none = refl; more = λ event past. refl }
+abbrev pub one_word_act : (c : Config) (t : ℕ) → OneForEach (λ past. word_acts c past t)
+one_word_act c t = record { of = λ event past. last_act (word_acts c (event ∷ past) t); none = refl; more = λ event past. refl }
 
 abbrev pub one_turn : (c : Config) → OneForEach (turns c)
 one_turn c = record { of = λ event past. turn_of c past event.actor event.op event.reply; none = refl; more = λ event past. refl }
@@ -104,17 +106,17 @@ fill-acted own Empties None item e = cc
 
 module _ (c : Config) (t : ℕ) (event : Event) (older : List Event) where
   -- an entry is filled by an access of its hart
-  pub entry-filled : (item : Entry) → last_act (entry_acts c (event ∷ older) t) ≡ Fill item
-      → (event.actor ≡ Hart t) × (entry_filling event.op event.translation (satp older t) (entry_acts c older t) ≡ Some item)
+  pub entry-filled : (item : Entry) → last_act (tlb_acts c (event ∷ older) t) ≡ Fill item
+      → (event.actor ≡ Hart t) × (entry_filling event.op event.translation (satp older t) (tlb_acts c older t) ≡ Some item)
   entry-filled item e =
-      let facts = fill-acted (is_hart t event.actor) (effect (turns c older) (turn_of c older event.actor event.op event.reply) t) (entry_filling event.op event.translation (satp older t) (entry_acts c older t)) item e in
+      let facts = fill-acted (is_hart t event.actor) (effect (turns c older) (turn_of c older event.actor event.op event.reply) t) (entry_filling event.op event.translation (satp older t) (tlb_acts c older t)) item e in
       (own-actor event.actor t facts.0, facts.1)
 
   -- and so is a word
-  pub word-filled : (item : FetchWord) → last_act (fetch_acts c (event ∷ older) t) ≡ Fill item
-      → (event.actor ≡ Hart t) × (word_filling event.op event.reply event.translation (memory c older) (fetch_acts c older t) ≡ Some item)
+  pub word-filled : (item : FetchWord) → last_act (word_acts c (event ∷ older) t) ≡ Fill item
+      → (event.actor ≡ Hart t) × (word_filling event.op event.reply event.translation (memory c older) (word_acts c older t) ≡ Some item)
   word-filled item e =
-      let facts = fill-acted (is_hart t event.actor) (effect (turns c older) (turn_of c older event.actor event.op event.reply) t) (word_filling event.op event.reply event.translation (memory c older) (fetch_acts c older t)) item e in
+      let facts = fill-acted (is_hart t event.actor) (effect (turns c older) (turn_of c older event.actor event.op event.reply) t) (word_filling event.op event.reply event.translation (memory c older) (word_acts c older t)) item e in
       (own-actor event.actor t facts.0, facts.1)
 
 -- what strikes the caches of a hart strikes each of them
@@ -125,11 +127,11 @@ effect-strikes Empties filling flush strikes = strikes
 
 pub turn-strikes : (c : Config) (t : ℕ) (event : Event) (older : List Event) (flush : Flush)
     → turns_laws.Strikes flush (effect (turns c older) (turn_of c older event.actor event.op event.reply) t)
-    → Strikes flush (last_act (entry_acts c (event ∷ older) t)) × Strikes flush (last_act (fetch_acts c (event ∷ older) t))
+    → Strikes flush (last_act (tlb_acts c (event ∷ older) t)) × Strikes flush (last_act (word_acts c (event ∷ older) t))
 turn-strikes c t event older flush strikes =
     let done = effect (turns c older) (turn_of c older event.actor event.op event.reply) t in (
-      effect-strikes done (own_filling (is_hart t event.actor) (entry_filling event.op event.translation (satp older t) (entry_acts c older t))) flush strikes,
-      effect-strikes done (own_filling (is_hart t event.actor) (word_filling event.op event.reply event.translation (memory c older) (fetch_acts c older t))) flush strikes,
+      effect-strikes done (own_filling (is_hart t event.actor) (entry_filling event.op event.translation (satp older t) (tlb_acts c older t))) flush strikes,
+      effect-strikes done (own_filling (is_hart t event.actor) (word_filling event.op event.reply event.translation (memory c older) (word_acts c older t))) flush strikes,
     )
 
 -- a local fence is a turn of the hart alone

@@ -8,9 +8,10 @@ use Rattle.tlb_model.specs.Entries.{covers_entry}
 use Rattle.tlb_model.specs.Words.{covers_word}
 use Rattle.tlb_model.proofs.Living.{cleared_is_gone, covered_is_gone}
 use Rattle.board_core.specs.declared.config.Config.{Config}
+use Rattle.board_core.specs.Memory.{tlb_acts, word_acts}
 use Rattle.board_core.specs.History.{Event}
-use Rattle.board_laws.specs.Lives.{NoneLives, Strikes, Struck, entry_acts, fetch_acts}
-use Rattle.board_laws.proofs.Acts.{OneForEach, one_entry_act, one_fetch_act, length-seen, split-at}
+use Rattle.board_laws.specs.Lives.{NoneLives, Strikes, Struck}
+use Rattle.board_laws.proofs.Acts.{OneForEach, one_tlb_act, one_word_act, length-seen, split-at}
 
 module _ {E : Type 0} (covers : Flush → E → Bool) where
   by-act : (place : ℕ) (flush : Flush) (newer : List (Act E)) (act : Act E) (older : List (Act E)) → place ≤ length older → Strikes flush act
@@ -36,8 +37,8 @@ module _ {E : Type 0} (covers : Flush → E → Bool) where
 
 pub struck_is_gone : (c : Config) (past : List Event) (t place : ℕ) (flush : Flush) → Struck c past t place flush → NoneLives c past t place flush
 struck_is_gone c past t place flush struck = record {
-  entries = by-event covers_entry (λ past. entry_acts c past t) (one_entry_act c t) place flush past struck.newer struck.event struck.older struck.made struck.since struck.entries;
-  words = by-event covers_word (λ past. fetch_acts c past t) (one_fetch_act c t) place flush past struck.newer struck.event struck.older struck.made struck.since struck.words;
+  entries = by-event covers_entry (λ past. tlb_acts c past t) (one_tlb_act c t) place flush past struck.newer struck.event struck.older struck.made struck.since struck.entries;
+  words = by-event covers_word (λ past. word_acts c past t) (one_word_act c t) place flush past struck.newer struck.event struck.older struck.made struck.since struck.words;
 }
 
 -- and the place of the strike, like any event's, is before the end

@@ -26,11 +26,11 @@ use Rattle.board_core.specs.declared.event.Reply.{Reply}
 use Rattle.board_core.specs.declared.event.Reply.TheVariants.{Value}
 use Rattle.board_core.specs.Accesses.{access_reply, access_reply_of, cached, hit, used_by_access, used_by_actor}
 use Rattle.board_core.specs.History.{Event, Reach, access_of}
-use Rattle.board_core.specs.Memory.{address_by, cached_in, entry_filling, filling_of, hit_in, memory, satp, word_filling}
+use Rattle.board_core.specs.Memory.{address_by, cached_in, entry_filling, filling_of, hit_in, memory, satp, tlb_acts, word_acts, word_filling}
 use Rattle.board_core.specs.Refusals.{first_that_holds, refusals}
 use Rattle.board_core.specs.Replies.{IsLegal, answer, refused_or, reply}
-use Rattle.board_laws.specs.Lives.{EntryWasFilled, LivesFromItsDate, WordWasFilled, entry_acts, fetch_acts}
-use Rattle.board_laws.proofs.Acts.{seen-of, one_entry_act, one_fetch_act, entry-filled, length-seen, word-filled}
+use Rattle.board_laws.specs.Lives.{EntryWasFilled, LivesFromItsDate, WordWasFilled}
+use Rattle.board_laws.proofs.Acts.{seen-of, one_tlb_act, one_word_act, entry-filled, length-seen, word-filled}
 use Rattle.board_laws.proofs.Places.{at-split, legal-older, past_at-split}
 
 -- ---- what an event's translation and reply say, in a legal history
@@ -98,12 +98,12 @@ fills-used memory_now satp_now tlb va access item e missed = elim ((is_used memo
   | inr fills ↦ fills
 ]
 
-entry-was-filled : (c : Config) (past : List Event) (t : ℕ) → IsLegal c past → (x : Filling Entry) → WasFilled (entry_acts c past t) x → EntryWasFilled c past t x
+entry-was-filled : (c : Config) (past : List Event) (t : ℕ) → IsLegal c past → (x : Filling Entry) → WasFilled (tlb_acts c past t) x → EntryWasFilled c past t x
 entry-was-filled c past t legal x was =
-    let found = seen-of (λ past. entry_acts c past t) (one_entry_act c t) past was.newer (Fill x.item) was.older was.acted in
+    let found = seen-of (λ past. tlb_acts c past t) (one_tlb_act c t) past was.newer (Fill x.item) was.older was.acted in
     let facts = entry-filled c t found.event found.older x.item found.same in
-    let filled = filled-by found.event.op found.event.translation (satp found.older t) (entry_acts c found.older t) x.item facts.1 in
-    let placed : length found.older ≡ x.date = sym (length-seen (λ past. entry_acts c past t) (one_entry_act c t) found.older) ∙ ap length found.rest ∙ was.dated in
+    let filled = filled-by found.event.op found.event.translation (satp found.older t) (tlb_acts c found.older t) x.item facts.1 in
+    let placed : length found.older ≡ x.date = sym (length-seen (λ past. tlb_acts c past t) (one_tlb_act c t) found.older) ∙ ap length found.rest ∙ was.dated in
     let was_legal : IsLegal c (found.event ∷ found.older) = legal-older c found.newer (found.event ∷ found.older) (subst (IsLegal c) found.made legal) in
     let entry_used = sym (used-reach c found.older t found.event.actor found.event.op filled.reach facts.0 filled.access) ∙ sym was_legal.1 ∙ filled.is_used in
     let fills = fills-used (memory c found.older) (satp found.older t) (hit c found.older t) filled.reach.va filled.reach.access x.item entry_used filled.missed in
@@ -165,12 +165,12 @@ fetched c older t va value actor op r translation own fetch answered legal used_
       read = subst (λ pa. whole.fetched_or (cached c older t pa) (unwrap_or (memory c older pa) 0) ≡ value) pa_is found.read;
     }
 
-word-was-filled : (c : Config) (past : List Event) (t : ℕ) → IsLegal c past → (x : Filling FetchWord) → WasFilled (fetch_acts c past t) x → WordWasFilled c past t x
+word-was-filled : (c : Config) (past : List Event) (t : ℕ) → IsLegal c past → (x : Filling FetchWord) → WasFilled (word_acts c past t) x → WordWasFilled c past t x
 word-was-filled c past t legal x was =
-    let found = seen-of (λ past. fetch_acts c past t) (one_fetch_act c t) past was.newer (Fill x.item) was.older was.acted in
+    let found = seen-of (λ past. word_acts c past t) (one_word_act c t) past was.newer (Fill x.item) was.older was.acted in
     let facts = word-filled c t found.event found.older x.item found.same in
-    let filled = word-filled-by found.event.op found.event.reply found.event.translation (memory c found.older) (fetch_acts c found.older t) x.item facts.1 in
-    let placed : length found.older ≡ x.date = sym (length-seen (λ past. fetch_acts c past t) (one_fetch_act c t) found.older) ∙ ap length found.rest ∙ was.dated in
+    let filled = word-filled-by found.event.op found.event.reply found.event.translation (memory c found.older) (word_acts c found.older t) x.item facts.1 in
+    let placed : length found.older ≡ x.date = sym (length-seen (λ past. word_acts c past t) (one_word_act c t) found.older) ∙ ap length found.rest ∙ was.dated in
     let was_legal : IsLegal c (found.event ∷ found.older) = legal-older c found.newer (found.event ∷ found.older) (subst (IsLegal c) found.made legal) in
     let got = fetched c found.older t filled.va filled.value found.event.actor found.event.op found.event.reply found.event.translation facts.0 filled.fetch filled.answered was_legal.0 was_legal.1 in
     let fetches = (word_filled (memory c found.older) (satp found.older t) (hit c found.older t) (cached c found.older t) filled.va accesses.Fetch x.item).0
@@ -189,6 +189,6 @@ word-was-filled c past t legal x was =
 
 pub lives_from_its_date : (c : Config) (past : List Event) (t : ℕ) → IsLegal c past → LivesFromItsDate c past t
 lives_from_its_date c past t legal = record {
-  entries = All-weaker (WasFilled (entry_acts c past t)) (EntryWasFilled c past t) (entry-was-filled c past t legal) _ (live_was_filled covers_entry (entry_acts c past t));
-  words = All-weaker (WasFilled (fetch_acts c past t)) (WordWasFilled c past t) (word-was-filled c past t legal) _ (live_was_filled covers_word (fetch_acts c past t));
+  entries = All-weaker (WasFilled (tlb_acts c past t)) (EntryWasFilled c past t) (entry-was-filled c past t legal) _ (live_was_filled covers_entry (tlb_acts c past t));
+  words = All-weaker (WasFilled (word_acts c past t)) (WordWasFilled c past t) (word-was-filled c past t legal) _ (live_was_filled covers_word (word_acts c past t));
 }

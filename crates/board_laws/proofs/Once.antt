@@ -14,14 +14,15 @@ use Rattle.rfence.specs.Turns.{Turn, Stop, is_asked}
 use Rattle.rfence.proofs.Once.{all-asked, asked-once}
 use Rattle.board_core.specs.declared.config.Config.{Config}
 use Rattle.board_core.specs.Fences.{turn_of, turns}
+use Rattle.board_core.specs.Memory.{tlb_acts, word_acts}
 use Rattle.board_core.specs.History.{Event}
 use Rattle.board_core.specs.Limits.{IsGood}
 use Rattle.board_core.specs.Replies.{IsLegal}
-use Rattle.board_laws.specs.Fences.{AppliedOnce, LeavesNothing, Stops}
-use Rattle.board_laws.specs.Lives.{entry_acts, fetch_acts}
+use Rattle.board_laws.specs.Fences.{AppliedOnce, Asks, LeavesNothing, Stops}
 use Rattle.board_laws.specs.Places.{IsAt, past_at}
 use Rattle.board_laws.proofs.Acts.{length-seen, one_turn, split-at}
 use Rattle.board_laws.proofs.Places.{length-past_at, within}
+use Rattle.board_laws.proofs.Reached.{ask-turn}
 use Rattle.board_laws.proofs.Right.{turns_are_right}
 
 pub applied_once : (c : Config) (past : List Event) (t place : ℕ) (event : Event) → IsGood c → IsLegal c past → IsAt past place event → AppliedOnce c past t place event
@@ -36,6 +37,12 @@ applied_once c past t place event good legal at =
     ∙ asked-once split.later turn (turns c (past_at past place)) t in
     subst (λ (n : ℕ). times n (applied_places (turns c past) t) + times n (waiting_places (turns c past) t) ≡ (if is_asked turn t then 1 else 0)) placed
     (subst (λ (all_turns : List (Turn Flush)). times (length (turns c (past_at past place))) (applied_places all_turns t) + times (length (turns c (past_at past place))) (waiting_places all_turns t) ≡ (if is_asked turn t then 1 else 0)) (sym all) once)
+
+-- and a remote fence is asked of each hart that it names and that is in an interruptible state
+pub asked_once : (c : Config) (past : List Event) (x t place : ℕ) (flush : Flush) → IsGood c → IsLegal c past → Asks c past x t place flush
+    → times place (applied_places (turns c past) t) + times place (waiting_places (turns c past) t) ≡ 1
+asked_once c past x t place flush good legal asks =
+    applied_once c past t place asks.event good legal asks.happened ∙ (rw (ask-turn c past x t place flush asks, asks.asked) refl)
 
 -- ---- stops
 
@@ -55,7 +62,7 @@ stops_leave_nothing c event past t stops =
     let turn = stop-turn c past event t stops in
     let here = eq-eqb t t refl in
     record {
-      entries = rw (turn, here) (none-lives covers_entry (entry_acts c past t));
-      words = rw (turn, here) (none-lives covers_word (fetch_acts c past t));
+      entries = rw (turn, here) (none-lives covers_entry (tlb_acts c past t));
+      words = rw (turn, here) (none-lives covers_word (word_acts c past t));
       waiting = rw (turn, here) refl;
     }

@@ -66,7 +66,7 @@ call-turn : (c : Config) (past : List Event) (x : ℕ) (call : Call) (remote : R
 call-turn c past x calls.HartStop remote e = cc
 call-turn c past x call remote e = ap (λ r. turn_by_remote c past x r replies.Waiting) e
 
-ask-turn : (c : Config) (past : List Event) (x t place : ℕ) (flush : Flush) (a : Asks c past x t place flush)
+pub ask-turn : (c : Config) (past : List Event) (x t place : ℕ) (flush : Flush) (a : Asks c past x t place flush)
     → turn_of c (past_at past place) a.event.actor a.event.op a.event.reply ≡ Ask x (is_asked_by c (past_at past place) a.remote.mask a.remote.base) flush
 ask-turn c past x t place flush a =
     rw (a.by_hart, a.call, a.accepted) (call-turn c (past_at past place) x (call_of a.regs) a.remote a.fences ∙ rw a.drops refl)

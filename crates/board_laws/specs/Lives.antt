@@ -14,20 +14,13 @@ use Rattle.board_core.specs.History.{Event, Reach}
 use Rattle.board_core.specs.Memory.{memory, satp, tlb_acts, word_acts}
 use Rattle.board_laws.specs.Places.{Accesses, past_at}
 
--- what happened to the TLB of hart t, and to its instruction cache: an act for each event
-abbrev pub entry_acts : Config → List Event → (t : ℕ) → List (Act Entry)
-entry_acts c past t = tlb_acts c past t
-
-abbrev pub fetch_acts : Config → List Event → (t : ℕ) → List (Act FetchWord)
-fetch_acts c past t = word_acts c past t
-
 -- The entries that live in the TLB of hart t, and the words that live in its instruction cache. The date of each is the
 -- place of the event that filled it.
 abbrev pub live_entries : Config → List Event → (t : ℕ) → List (Filling Entry)
-live_entries c past t = live covers_entry (entry_acts c past t)
+live_entries c past t = live covers_entry (tlb_acts c past t)
 
 abbrev pub live_words : Config → List Event → (t : ℕ) → List (Filling FetchWord)
-live_words c past t = live covers_word (fetch_acts c past t)
+live_words c past t = live covers_word (word_acts c past t)
 
 -- ---- where it comes from
 
@@ -70,8 +63,8 @@ pub record Struck (c : Config) (past : List Event) (t place : ℕ) (flush : Flus
   pub older : List Event
   pub made : past ≡ newer ++ event ∷ older
   pub since : place ≤ length older
-  pub entries : Strikes flush (last_act (entry_acts c (event ∷ older) t))
-  pub words : Strikes flush (last_act (fetch_acts c (event ∷ older) t))
+  pub entries : Strikes flush (last_act (tlb_acts c (event ∷ older) t))
+  pub words : Strikes flush (last_act (word_acts c (event ∷ older) t))
 
 -- Nothing lives in the caches of hart t that the fence covers and that was filled at this place or before.
 pub record NoneLives (c : Config) (past : List Event) (t place : ℕ) (flush : Flush) : Type 0 where
