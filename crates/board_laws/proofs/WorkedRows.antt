@@ -1,5 +1,5 @@
 -- Worked rows, computed from the definitions: what lives before a fence and after it.
-use Rattle.std.proofs.Common.{◌≡◌, ℕ, ◌+◌, ◌*◌, ◌^◌, List, [], ◌∷◌, true, false, pos, refl, arith}
+use Rattle.std.proofs.Common.{◌≡◌, ℕ, ◌+◌, ◌*◌, ◌^◌, List, [], ◌∷◌, true, false, pos, refl, arith, ◌<◌, ◌≤◌, inl, inr, Err}
 use Rattle.std.specs.Prelude.{Some, None, map, take}
 use Rattle.tlb_model.specs.declared.entry.Entry.{Entry as CacheEntry}
 use Rattle.tlb_model.specs.declared.fence.Flush.TheVariants.{Entries}
@@ -18,7 +18,14 @@ use Rattle.board_core.specs.declared.event.Op.TheVariants.{Advance, Ecall, Fetch
 use Rattle.board_core.specs.declared.event.Reply.{Reply}
 use Rattle.board_core.specs.declared.event.Reply.TheVariants.{Done, Entry, Fault, Ret, Served, Value, Waiting}
 use Rattle.board_core.specs.Fences.{flush_of_range}
-use Rattle.board_core.specs.History.{Event}
+use Rattle.sv39.specs.declared.cause.Kind.TheVariants as kinds
+use Rattle.hart_access.specs.declared.operation.Access.TheVariants as accesses
+use Rattle.std.proofs.lemmas.Bool.{cases_eq}
+use Rattle.board_core.specs.Memory.{memory, satp}
+use Rattle.board_laws.specs.Fresh.{FencedAccess}
+use Rattle.board_laws.specs.Places.{past_at}
+use Rattle.board_laws.specs.Steady.{IsSteady}
+use Rattle.board_core.specs.History.{Event, Reach}
 use Rattle.board_laws.specs.Again.{Step, again}
 use Rattle.board_laws.specs.Fences.{ByCall, Reached}
 use Rattle.board_laws.specs.Lives.{live_entries, live_words}
@@ -164,3 +171,37 @@ has-reached = ByCall 0
       asked = refl;
     })
     (record { end = 9; later = omega arith; event = poll; happened = record { newer = []; made = refl }; by_hart = refl; poll = refl })
+
+-- So the load after it is one that the fence is of, and from the fence on the page tables say one thing of it.
+abbrev load : Event
+load = event_of 1 (Load 0x80002000) (Fault LoadPageFault)
+
+abbrev reach : Reach
+reach = record { va = 0x80002000; access = accesses.Load }
+
+is-fenced : FencedAccess pair (load ∷ written) 1 7 10 (record { asid = None; range = None }) reach
+is-fenced = record {
+  event = load;
+  happened = record { newer = []; made = refl };
+  by_hart = refl;
+  access = refl;
+  reached = has-reached;
+  page = refl;
+  space = λ entry e. cc;
+}
+
+after-seven : (P : ℕ → Type 0) → P 8 → P 9 → P 10 → (m : ℕ) → 7 < m → m ≤ 10 → P m
+after-seven P eight nine ten m after upto = elim (cases_eq m 8) [
+  | inl e ↦ rw e eight
+  | inr not_eight ↦ elim (cases_eq m 9) [
+    | inl e ↦ rw e nine
+    | inr not_nine ↦ let e : m ≡ 10 = omega arith in rw e ten
+  ]
+]
+
+is-steady : IsSteady pair (load ∷ written) 1 7 10 reach (Err LoadPageFault)
+unfolding maps is_valid zero_memory is_in_ram
+is-steady = record {
+  same_satp = after-seven (λ m. satp (past_at (load ∷ written) m) 1 ≡ satp (past_at (load ∷ written) 10) 1) refl refl refl;
+  one_result = after-seven (λ m. maps (memory pair (past_at (load ∷ written) m)) (satp (past_at (load ∷ written) 10) 1) 0x80002000 kinds.Load ≡ Err LoadPageFault) refl refl refl;
+}
