@@ -18,7 +18,8 @@ use Rattle.board_core.specs.History.{Event}
 use Rattle.board_core.specs.Limits.{IsGood}
 use Rattle.board_core.specs.Refusals.{is_empty, situation, waits_for_some}
 use Rattle.board_core.specs.Stands.{CanFill, FencesStand, HasRoom, IsSized, IsStanding, StandsFor, situation_in}
-use Rattle.board_core.proofs.Standing.{can-fill, hart_at-stand, length-caches, length-deadlines, length-entries-le, length-harts, length-satps, length-starts-le, wake-read}
+use Rattle.board_core.proofs.HartsStanding.{hart_at-stand, length-harts}
+use Rattle.board_core.proofs.Reading.{can-fill, length-caches, length-deadlines, length-entries-le, length-satps, length-starts-le, wake-read}
 
 pub length-turns : (c : Config) (past : List Event) → length (turns c past) ≡ length past
 length-turns c [] = refl
