@@ -1,5 +1,6 @@
 /* Loaded before the program's libraries: writes the size of each allocation, a line each, to the descriptor
-   SIZES, and refuses the one whose number, from 1, is REFUSED. */
+   SIZES, and refuses the one whose number, from 1, is REFUSED. Of the calls that open, read and write, the one whose
+   number is FAILED fails with the error ERROR, and none moves more than MOST bytes, if that is given. */
 typedef __SIZE_TYPE__ size_t;
 
 /* (no headers, which the toolchain's own compiler lacks) */
@@ -7,7 +8,9 @@ int *__errno_location(void);
 char *getenv(const char *name);
 int atoi(const char *text);
 int snprintf(char *to, size_t room, const char *form, ...);
-long write(int to, const void *from, size_t size);
+long __write(int to, const void *from, size_t size);
+long __read(int from, void *to, size_t size);
+int __open(const char *name, int flags, ...);
 void abort(void);
 void *__libc_malloc(size_t size);
 void *__libc_calloc(size_t count, size_t size);
@@ -28,7 +31,7 @@ static int is_refused(size_t size)
     static int allocations;
     char line[32];
     int length = snprintf(line, sizeof line, "%zu\n", size);
-    if (write(number_in("SIZES"), line, length) != length)
+    if (__write(number_in("SIZES"), line, length) != length)
         abort();
     *__errno_location() = NO_MEMORY;
     return ++allocations == number_in("REFUSED");
@@ -60,4 +63,34 @@ int posix_memalign(void **made, size_t alignment, size_t size)
         return NO_MEMORY;
     *made = __libc_memalign(alignment, size);
     return *made ? 0 : NO_MEMORY;
+}
+
+static int fails(void)
+{
+    static int calls;
+    if (++calls != number_in("FAILED"))
+        return 0;
+    *__errno_location() = number_in("ERROR");
+    return 1;
+}
+
+static size_t moved(size_t size)
+{
+    size_t most = number_in("MOST");
+    return most && most < size ? most : size;
+}
+
+int open(const char *name, int flags, ...)
+{
+    return fails() ? -1 : __open(name, flags, 0);
+}
+
+long read(int from, void *to, size_t size)
+{
+    return fails() ? -1 : __read(from, to, moved(size));
+}
+
+long write(int to, const void *from, size_t size)
+{
+    return fails() ? -1 : __write(to, from, moved(size));
 }

@@ -32,7 +32,7 @@ use Rattle.board_core.specs.declared.config.Config.{Config}
 use Rattle.board_core.specs.declared.event.Reply.{Reply}
 use Rattle.board_core.specs.History.{Event, access_op, using}
 use Rattle.board_core.specs.Fences.{turn_by, turns}
-use Rattle.board_core.specs.Memory.{act_by, address_by, cached_in, entry_filling, filling_of, hit_in, own_filling, satp_by, storing_by, word_filling, written_by}
+use Rattle.board_core.specs.Memory.{act_by, address_by, cached_in, entry_filling, filling_of, hit_in, own_filling, satp_by, word_filling, writing_by, written_by}
 use Rattle.board_core.proofs.Events.{deed, still}
 use Rattle.board_core.proofs.Standing.{filled-elsewhere}
 use Rattle.board_core.proofs.Tables.{eqb-other, eqb-same}
@@ -95,10 +95,10 @@ filled_unless_hit memory satp tlb va kind =
     by_tests true true true None (Err cause) = refl
     by_tests true true true (Some entry) walked = refl
 
-module _ (memory : ℕ → Option ℕ) (w : Way) (va : ℕ) where
+module _ (c : Config) (memory : ℕ → Option ℕ) (w : Way) (va : ℕ) where
   -- what it stores is told by its reply and by the entry that it used
   pub stored_as : (words : ℕ → Option FetchWord) (what : Access) → (let place = place_by memory w va (kind_of what) in
-      whole.stored_by memory place what ≡ written_by (storing_by (access_op va what) (access_reply_of what (whole.answer_by memory words place what)) (used_by w)) memory)
+      whole.stored_by memory place what ≡ written_by c (writing_by (access_op va what) (access_reply_of what (whole.answer_by memory words place what)) (used_by w)) memory)
   stored_as words Load = by_place (place_by memory w va (kind_of Load))
     where
       by_place : (place : Result ℕ Cause) → whole.stored_by memory place Load ≡ memory
@@ -107,7 +107,7 @@ module _ (memory : ℕ → Option ℕ) (w : Way) (va : ℕ) where
   stored_as words (Store value) = by_place (place_by memory w va (kind_of (Store value))) refl
     where
       by_place : (place : Result ℕ Cause) → place_by memory w va (kind_of (Store value)) ≡ place
-          → whole.stored_by memory place (Store value) ≡ written_by (storing_by (access_op va (Store value)) (access_reply_of (Store value) (whole.answer_by memory words place (Store value))) (used_by w)) memory
+          → whole.stored_by memory place (Store value) ≡ written_by c (writing_by (access_op va (Store value)) (access_reply_of (Store value) (whole.answer_by memory words place (Store value))) (used_by w)) memory
       by_place (Ok pa) is = ap (λ at. written memory at value) (place_of_used memory w va (kind_of (Store value)) pa is)
       by_place (Err cause) is = refl
   stored_as words Fetch = by_place (place_by memory w va (kind_of Fetch))

@@ -44,11 +44,12 @@ use Rattle.board_core.specs.Interrupts.{reaches_by, time}
 use Rattle.board_core.specs.Limits.{is_start_address}
 use Rattle.board_core.specs.Refusals.{clock_refusals, first_that_holds, is_full, situation}
 use Rattle.board_core.specs.Replies.{IsLegal, advance_reply, answer, call_reply, failure, fence_reply_to, refused_or, reply, suspend_reply, unless}
+use Rattle.board_core.specs.Resets.{is_off, last_reset, newer_or}
 use Rattle.board_core.specs.Starts.{Start, entries, last_start, pending, starts}
 use Rattle.board_core.specs.States.{state}
 use Rattle.board_core.specs.Suspends.{resume_point}
 use Rattle.board_core.proofs.Events.{Deed, deed, deed_of_call, still}
-use Rattle.board_core.proofs.Rows.{accepted}
+use Rattle.board_core.proofs.Rows.{accepted, clock_ticks}
 
 module _ (c : Config) (past : List Event) where
   -- a call that answers an error does nothing
@@ -105,6 +106,8 @@ module _ (c : Config) (past : List Event) where
         by_kind (Err error') error = refl
         by_kind (Ok Retentive) error = cc
         by_kind (Ok NonRetentive) error = by_address (is_start_address c.pages addr) error
+    failed_call (calls.SystemReset (Ok reset)) r is error = absurd (let e = rw (← is) at error in cc)
+    failed_call (calls.SystemReset (Err refused)) r is error = rw (← is) refl
     failed_call calls.Unsupported r is error = refl
 
     -- an Advance answers no error
@@ -134,23 +137,23 @@ module _ (c : Config) (past : List Event) where
 
   failed : (actor : Actor) (op : Op) (r : Reply) (used : Option Entry) → answer c past actor op ≡ Ok r → is_error r ≡ true
       → deed c past (record { actor = actor; op = op; reply = r; translation = used }) ≡ still
-  failed Clock (Ecall regs) r used e error = cc
-  failed Clock (Load va) r used e error = cc
-  failed Clock (Store va value) r used e error = cc
-  failed Clock (Fetch va) r used e error = cc
-  failed Clock (WriteSatp value) r used e error = cc
-  failed Clock (WriteSie value) r used e error = cc
-  failed Clock (WriteSstatusSie value) r used e error = cc
-  failed Clock ReadSip r used e error = cc
-  failed Clock ClearSsip r used e error = cc
-  failed Clock Wfi r used e error = cc
-  failed Clock (Sfence va asid) r used e error = cc
-  failed Clock FenceI r used e error = cc
-  failed Clock Poll r used e error = cc
-  failed Clock Serve r used e error = cc
-  failed Clock Advance r used e error = cc
+  failed Clock (Ecall regs) r used e error = absurd (clock_ticks c past (Ecall regs) r refl e)
+  failed Clock (Load va) r used e error = absurd (clock_ticks c past (Load va) r refl e)
+  failed Clock (Store va value) r used e error = absurd (clock_ticks c past (Store va value) r refl e)
+  failed Clock (Fetch va) r used e error = absurd (clock_ticks c past (Fetch va) r refl e)
+  failed Clock (WriteSatp value) r used e error = absurd (clock_ticks c past (WriteSatp value) r refl e)
+  failed Clock (WriteSie value) r used e error = absurd (clock_ticks c past (WriteSie value) r refl e)
+  failed Clock (WriteSstatusSie value) r used e error = absurd (clock_ticks c past (WriteSstatusSie value) r refl e)
+  failed Clock ReadSip r used e error = absurd (clock_ticks c past ReadSip r refl e)
+  failed Clock ClearSsip r used e error = absurd (clock_ticks c past ClearSsip r refl e)
+  failed Clock Wfi r used e error = absurd (clock_ticks c past Wfi r refl e)
+  failed Clock (Sfence va asid) r used e error = absurd (clock_ticks c past (Sfence va asid) r refl e)
+  failed Clock FenceI r used e error = absurd (clock_ticks c past FenceI r refl e)
+  failed Clock Poll r used e error = absurd (clock_ticks c past Poll r refl e)
+  failed Clock Serve r used e error = absurd (clock_ticks c past Serve r refl e)
+  failed Clock Advance r used e error = absurd (clock_ticks c past Advance r refl e)
   failed Clock (Tick n) r used e error = absurd (let e = sym (ap is_error (ticked_well (first_that_holds (clock_refusals c past (Tick n))) r e)) ∙ error in cc)
-  failed (Hart x) op r used e error = by_op op (accepted (nat_le c.harts x) (situation c past x) op (is_full c past) (reply c past x op) r e).1
+  failed (Hart x) op r used e error = by_op op (accepted (is_off past) (nat_le c.harts x) (situation c past x) op (is_full c past) (reply c past x op) r e).1
     where
       by_op : (op : Op) → reply c past x op ≡ r → deed c past (record { actor = Hart x; op = op; reply = r; translation = used }) ≡ still
       by_op (Ecall regs) is = failed_call x (call_of regs) r is error
@@ -202,11 +205,12 @@ module _ (c : Config) (past : List Event) where
         wake = λ h. rw (sie, reach h, ssip, deadline, later) refl;
         deadline = λ h. rw deadline refl;
         satp = λ h. rw no_satp refl;
-        word = λ at. ap (λ storing. written_by storing (memory c past) at) (ap (λ (d : Deed). d.memory.storing) none);
+        word = λ at. ap (λ writing. written_by c writing (memory c past) at) (ap (λ (d : Deed). d.memory.writing) none);
         tlb = λ h. ap (λ (caches : Caches). caches.tlb.live) (caches-same c past event still none h refl refl);
         fetched = λ h. ap (λ (caches : Caches). caches.words.live) (caches-same c past event still none h refl refl);
         waiting = waits;
         outstanding = λ h. rw turned refl;
+        last_reset = ap (λ reset. newer_or reset (last_reset past)) (ap (λ (d : Deed). d.reset) none);
         time = later;
         totals = λ i. record {
           starts = started i;

@@ -1,10 +1,11 @@
 -- What accepted events do, by component: each part of a deed is what the definitions read off the event.
-use Rattle.std.proofs.Common.{◌≡◌, ℕ, Bool, true, false, List, refl, sym, ap}
+use Rattle.std.proofs.Common.{◌≡◌, ℕ, Bool, true, false, List, [], refl, sym, ap}
 use Rattle.std.specs.Prelude.{Option, Some, None}
 use Rattle.sbi_abi.specs.declared.answer.Sbiret.{Sbiret}
 use Rattle.sbi_abi.specs.declared.call.Call.{Call}
 use Rattle.sbi_abi.specs.declared.call.Call.TheVariants as calls
 use Rattle.sbi_abi.specs.declared.call.Regs.{Regs}
+use Rattle.sbi_abi.specs.declared.reset.Reset.{Reset}
 use Rattle.sbi_abi.specs.Calls.{call_of}
 use Rattle.hsm.specs.declared.hart.HartState.TheVariants as states
 use Rattle.hsm.specs.declared.hart.Kept.{Kept}
@@ -25,37 +26,39 @@ use Rattle.board_core.specs.declared.event.Reply.TheVariants.{Entry, Ret, Waitin
 use Rattle.board_core.specs.Csrs.{none_enabled, sie_by, sstatus_sie_by}
 use Rattle.board_core.specs.Fences.{Remote, remote_of, turn_by_call, turn_by_remote, turn_of, turns}
 use Rattle.board_core.specs.Interrupts.{deadline_by, deadline_by_call, reaches_by, reaches_by_call, ssip_by, ticks_by}
-use Rattle.board_core.specs.Memory.{Storing, act_by, entry_filling, memory, own_filling, satp, satp_by, storing_by, tlb_acts, word_acts, word_filling}
-use Rattle.board_core.specs.Starts.{Start, entry_by, start_by, start_by_call}
-use Rattle.board_core.specs.States.{Move, is_starting, move_by_call, move_of, state}
+use Rattle.board_core.specs.Memory.{Writing, act_by, entry_filling, memory, own_filling, satp, satp_by, tlb_acts, word_acts, word_filling, writing_by, zeroed_by}
+use Rattle.board_core.specs.Starts.{Growth, More, entry_by, growth, start_by, start_by_call}
+use Rattle.board_core.specs.States.{Move, One, is_starting, move_by_call, move_of, state}
+use Rattle.board_core.specs.Resets.{reset_by, reset_by_call}
 use Rattle.board_core.specs.Suspends.{resume_by, resume_by_call}
+use Rattle.board_core.specs.Writes.{Write, Here, at_reset}
 
 -- of the harts: one to move, a start to keep, and what a suspend says of its end
 pub record HartsDeed : Type 0 where
   pub move : Option Move
-  pub start : Option Start
-  pub resume : Option (Option Kept)
+  pub start : Option Growth
+  pub resume : Option (Write (Option Kept))
 
--- of interrupts: values for sstatus.SIE, sie, SSIP and the deadline of the actor; ticks; and the harts that an IPI reaches
+-- of interrupts: values for sstatus.SIE, sie, SSIP and the deadline; ticks; and the harts that an IPI reaches
 pub record InterruptsDeed : Type 0 where
-  pub sstatus : Option Bool
-  pub sie : Option Sie
-  pub ssip : Option Bool
-  pub deadline : Option (Option ℕ)
+  pub sstatus : Option (Write Bool)
+  pub sie : Option (Write Sie)
+  pub ssip : Option (Write Bool)
+  pub deadline : Option (Write (Option ℕ))
   pub ticks : ℕ
   pub reach : ℕ → Bool
 
--- of memory and caches: a value for satp of the actor, a word to store, and what happens to the TLB and to the instruction cache of a hart
+-- of memory and caches: a value for satp, what is written into memory, and what happens to the TLB and to the instruction cache of a hart
 pub record MemoryDeed : Type 0 where
-  pub satp : Option ℕ
-  pub storing : Option Storing
+  pub satp : Option (Write ℕ)
+  pub writing : Option Writing
   pub tlb_act : ℕ → Act CacheEntry
   pub word_act : ℕ → Act FetchWord
 
--- of the counts: a start, and an entry of a start
+-- of the counts: how the starts go on, and their entries
 pub record CountsDeed : Type 0 where
-  pub start : Option Start
-  pub entry : Option Start
+  pub start : Option Growth
+  pub entry : Option Growth
 
 -- with its turn, which is what it means for fences
 pub record Deed : Type 0 where
@@ -64,15 +67,17 @@ pub record Deed : Type 0 where
   pub memory : MemoryDeed
   pub turn : Turn Flush
   pub counts : CountsDeed
+  pub reset : Option Reset
 
 -- nothing
 abbrev pub still : Deed
 still = record {
   harts = record { move = None; start = None; resume = None };
   interrupts = record { sstatus = None; sie = None; ssip = None; deadline = None; ticks = 0; reach = λ h. false };
-  memory = record { satp = None; storing = None; tlb_act = λ h. Nothing; word_act = λ h. Nothing };
+  memory = record { satp = None; writing = None; tlb_act = λ h. Nothing; word_act = λ h. Nothing };
   turn = Quiet;
   counts = record { start = None; entry = None };
+  reset = None;
 }
 
 module _ (c : Config) (past : List Event) where
@@ -80,8 +85,8 @@ module _ (c : Config) (past : List Event) where
   abbrev pub deed : Event → Deed
   deed event = record {
     harts = record {
-      move = move_of event.actor event.op event.reply;
-      start = start_by event.op event.reply;
+      move = move_of c event.actor event.op event.reply;
+      start = start_by c event.op event.reply;
       resume = resume_by event.op event.reply;
     };
     interrupts = record {
@@ -94,15 +99,16 @@ module _ (c : Config) (past : List Event) where
     };
     memory = record {
       satp = satp_by event.op event.reply;
-      storing = storing_by event.op event.reply event.translation;
+      writing = writing_by event.op event.reply event.translation;
       tlb_act = λ h. act_by (effect (turns c past) (turn_of c past event.actor event.op event.reply) h) (own_filling (is_hart h event.actor) (entry_filling event.op event.translation (satp past h) (tlb_acts c past h)));
       word_act = λ h. act_by (effect (turns c past) (turn_of c past event.actor event.op event.reply) h) (own_filling (is_hart h event.actor) (word_filling event.op event.reply event.translation (memory c past) (word_acts c past h)));
     };
     turn = turn_of c past event.actor event.op event.reply;
     counts = record {
-      start = start_by event.op event.reply;
+      start = start_by c event.op event.reply;
       entry = entry_by event.op event.reply (is_starting c past event.actor);
     };
+    reset = reset_by event.op event.reply;
   }
 
   -- ---- turns
@@ -120,20 +126,26 @@ module _ (c : Config) (past : List Event) where
     abbrev pub deed_of_call : Call → Reply → Deed
     deed_of_call call reply = record {
       harts = record {
-        move = move_by_call x call reply;
-        start = start_by_call call reply;
+        move = move_by_call c x call reply;
+        start = start_by_call c call reply;
         resume = resume_by_call call reply;
       };
       interrupts = record still.interrupts {
+        sstatus = at_reset (reset_by_call call reply) false;
+        sie = at_reset (reset_by_call call reply) none_enabled;
+        ssip = at_reset (reset_by_call call reply) false;
         deadline = deadline_by_call call reply;
         reach = reaches_by_call c past call reply;
       };
-      memory = record still.memory {
+      memory = record {
+        satp = at_reset (reset_by_call call reply) 0;
+        writing = zeroed_by (reset_by_call call reply);
         tlb_act = λ h. act_by (effect (turns c past) (turn_by_call c past x call reply) h) None;
         word_act = λ h. act_by (effect (turns c past) (turn_by_call c past x call reply) h) None;
       };
       turn = turn_by_call c past x call reply;
-      counts = record { start = start_by_call call reply; entry = None };
+      counts = record { start = start_by_call c call reply; entry = growth None (reset_by_call call reply) (λ reset. []) };
+      reset = reset_by_call call reply;
     }
 
     pub does_call : (regs : Regs) (call : Call) (reply : Reply) → call ≡ call_of regs → deed (by_hart x (Ecall regs) reply) ≡ deed_of_call call reply
@@ -157,6 +169,7 @@ module _ (c : Config) (past : List Event) where
     does_remote calls.HartStop remote is = cc
     does_remote (calls.HartGetStatus t) remote is = cc
     does_remote (calls.HartSuspend kind addr opaque) remote is = cc
+    does_remote (calls.SystemReset reset) remote is = cc
     does_remote calls.Unsupported remote is = cc
 
     pub does_no_remote : (call : Call) (remote : Remote) (answer : Sbiret) → remote_of call ≡ Some remote → deed_of_call call (Ret answer) ≡ still
@@ -176,6 +189,7 @@ module _ (c : Config) (past : List Event) where
     does_no_remote calls.HartStop remote answer is = cc
     does_no_remote (calls.HartGetStatus t) remote answer is = cc
     does_no_remote (calls.HartSuspend kind addr opaque) remote answer is = cc
+    does_no_remote (calls.SystemReset reset) remote answer is = cc
     does_no_remote calls.Unsupported remote answer is = cc
 
     -- ---- entries
@@ -183,18 +197,19 @@ module _ (c : Config) (past : List Event) where
     -- what the entry of a start does, and what the end of a non-retentive suspend does
     abbrev pub deed_of_entry : (addr opaque : ℕ) → Deed
     deed_of_entry addr opaque = record {
-      harts = record still.harts { move = Some (record { hart = x; state = states.Started }) };
-      interrupts = record still.interrupts { sstatus = Some false; sie = Some none_enabled; ssip = Some false; deadline = Some None };
-      memory = record still.memory { satp = Some 0 };
+      harts = record still.harts { move = Some (One x states.Started) };
+      interrupts = record still.interrupts { sstatus = Some (Here false); sie = Some (Here none_enabled); ssip = Some (Here false); deadline = Some (Here None) };
+      memory = record still.memory { satp = Some (Here 0) };
       turn = Quiet;
-      counts = record still.counts { entry = Some (record { hart = x; addr = addr; opaque = opaque }) };
+      counts = record still.counts { entry = Some (More (record { hart = x; addr = addr; opaque = opaque })) };
+      reset = None;
     }
 
     abbrev pub deed_of_resume : Deed
     deed_of_resume = record still {
-      harts = record still.harts { move = Some (record { hart = x; state = states.Started }) };
-      interrupts = record still.interrupts { sstatus = Some false };
-      memory = record still.memory { satp = Some 0 };
+      harts = record still.harts { move = Some (One x states.Started) };
+      interrupts = record still.interrupts { sstatus = Some (Here false) };
+      memory = record still.memory { satp = Some (Here 0) };
     }
 
     pub does_entry : (addr opaque : ℕ) → is_start_pending (state c past x) ≡ true → deed (by_hart x Advance (Entry addr x opaque)) ≡ deed_of_entry addr opaque

@@ -3,6 +3,7 @@ pub mod Events
 pub mod Accessing
 pub mod Standing
 pub mod Situations
+pub mod Resetting
 pub mod Targets
 pub mod Rows
 pub mod Steps

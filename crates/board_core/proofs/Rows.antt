@@ -1,7 +1,7 @@
 -- What the rows of the table of states say of a hart.
-use Rattle.std.proofs.Common.{◌≡◌, ℕ, ◌<◌, Bool, true, false, List, [], ◌∷◌, length, subst, refl, sym, ap, ◌∙◌}
+use Rattle.std.proofs.Common.{◌≡◌, ℕ, ◌+◌, ◌<◌, Bool, true, false, List, [], ◌∷◌, length, subst, refl, sym, ap, ◌∙◌}
 use Rattle.std.proofs.lemmas.Option.{same_Some}
-use Rattle.std.specs.Prelude.{Option, Some, None, Ok, not, ◌&&◌, is_none, is_some, option_map, slice_set}
+use Rattle.std.specs.Prelude.{Option, Some, None, Ok, not, nat_lt, ◌&&◌, is_none, is_some, option_map, slice_set}
 use Rattle.hsm.specs.declared.hart.HartState.{HartState}
 use Rattle.hsm.specs.declared.hart.HartState.TheVariants.{Started, Stopped, StartPending, StopPending, Suspended, SuspendPending, ResumePending}
 use Rattle.hsm.specs.declared.hart.Kept.{Kept}
@@ -12,14 +12,18 @@ use Rattle.hsm.specs.States.{goes_on, is_start_pending, is_started, is_stopped}
 use Rattle.hsm.specs.Transitions.{Step, advanced, advanced_from, changed, hart_at, resumed, started_from}
 use Rattle.board_core.specs.declared.config.Config.{Config}
 use Rattle.board_core.specs.History.{Event}
+use Rattle.interrupts.specs.Timing.{last_time}
+use Rattle.board_core.specs.declared.event.Actor.TheVariants.{Clock}
 use Rattle.board_core.specs.declared.event.Op.{Op}
 use Rattle.board_core.specs.declared.event.Op.TheVariants.{Advance}
 use Rattle.board_core.specs.declared.event.Refusal.{Refusal}
-use Rattle.board_core.specs.declared.event.Refusal.TheVariants.{WrongPhase, Nothing, HistoryFull}
+use Rattle.board_core.specs.declared.event.Refusal.TheVariants.{Off, WrongPhase, Nothing, HistoryFull, TimeFull}
 use Rattle.board_core.specs.declared.event.Reply.{Reply}
 use Rattle.board_core.specs.declared.event.Reply.TheVariants as replies
-use Rattle.board_core.specs.Refusals.{IsAccepted, Situation, first_that_holds, has_nothing_to_do, is_out_of_phase, is_running, refusals_in}
-use Rattle.board_core.specs.Replies.{advance_reply, refused_or, success}
+use Rattle.board_core.specs.Refusals.{IsAccepted, Situation, first_that_holds, has_nothing_to_do, is_full, is_out_of_phase, is_running, is_tick, refusals_in}
+use Rattle.board_core.specs.Replies.{answer, advance_reply, refused_or, success}
+use Rattle.board_core.specs.Interrupts.{ticks_by, time}
+use Rattle.board_core.specs.Resets.{is_off}
 use Rattle.board_core.specs.Starts.{Start, kept_in, last_start}
 use Rattle.board_core.specs.Stands.{HartsStand}
 use Rattle.board_core.specs.States.{state}
@@ -66,14 +70,25 @@ unrefused op s is_full none = let fails = all_fail (is_out_of_phase op s) (has_n
     all_fail false false false none = (refl, refl, refl)
 
 -- an accepted operation was not refused, and has its reply
-pub accepted : (missing : Bool) (s : Situation) (op : Op) (is_full : Bool) (r r' : Reply)
-    → refused_or (first_that_holds ((missing, WrongPhase) ∷ refusals_in s op is_full)) r ≡ Ok r' → IsAccepted op s × (r ≡ r')
-accepted true s op is_full r r' e = cc
-accepted false s op is_full r r' e = by_refusal (first_that_holds (refusals_in s op is_full)) refl e
+pub accepted : (off missing : Bool) (s : Situation) (op : Op) (is_full : Bool) (r r' : Reply)
+    → refused_or (first_that_holds ((off, Off) ∷ (missing, WrongPhase) ∷ refusals_in s op is_full)) r ≡ Ok r' → IsAccepted op s × (r ≡ r')
+accepted true missing s op is_full r r' e = cc
+accepted false true s op is_full r r' e = cc
+accepted false false s op is_full r r' e = by_refusal (first_that_holds (refusals_in s op is_full)) refl e
   where
     by_refusal : (o : Option Refusal) → first_that_holds (refusals_in s op is_full) ≡ o → refused_or o r ≡ Ok r' → IsAccepted op s × (r ≡ r')
     by_refusal None is same = ((unrefused op s is_full is).0, cc)
     by_refusal (Some refusal) is same = cc
+
+-- the clock makes no other step than a tick
+pub clock_ticks : (c : Config) (past : List Event) (op : Op) (r : Reply) → is_tick op ≡ false → answer c past Clock op ≡ Ok r → ⊥
+clock_ticks c past op r other e = refuses (is_off past) (is_tick op) (is_full c past) (nat_lt last_time (time past + ticks_by op)) other e
+  where
+    refuses : (off tick full late : Bool) → tick ≡ false
+        → refused_or (first_that_holds ((off, Off) ∷ (not tick, WrongPhase) ∷ (full, HistoryFull) ∷ (late, TimeFull) ∷ [])) replies.Done ≡ Ok r → ⊥
+    refuses true tick full late other e = absurd cc
+    refuses false true full late other e = absurd cc
+    refuses false false full late other e = absurd cc
 
 -- a guest runs where its hart is STARTED, and outside of a call
 pub running_parts : (s : Situation) → not (is_running s) ≡ false → (s.state ≡ Started) × (s.call ≡ None)

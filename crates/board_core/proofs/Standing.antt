@@ -1,16 +1,17 @@
 -- What a machine that stands for a past says of each hart, and how it stands for one event more.
-use Rattle.std.proofs.Common.{◌≡◌, ◌≢◌, ℕ, ◌+◌, ◌<◌, ◌≤◌, Bool, true, false, List, [], ◌∷◌, ◌++◌, suc, zero, length, set, map, subst, refl, sym, ap, ◌∙◌, arith}
-use Rattle.std.specs.Prelude.{Option, Some, None, count_by, unwrap_or, not, ◌==◌, ◌&&◌, ◌||◌, if◌then◌else◌, slice_index_or, slice_set}
-use Rattle.std.specs.Option.{option_to_list}
+use Rattle.std.proofs.Common.{◌≡◌, ◌≢◌, ℕ, ◌+◌, ◌<◌, ◌≤◌, Bool, true, false, List, [], ◌∷◌, suc, zero, length, set, map, replicate, subst, refl, sym, ap, ◌∙◌, arith}
+use Rattle.std.specs.Prelude.{Option, Some, None, count_by, find, unwrap_or, not, ◌==◌, ◌&&◌, ◌||◌, if◌then◌else◌, slice_index_or, slice_set}
 use Rattle.std.specs.List.{range_with_len}
-use Rattle.std.proofs.lemmas.List.FromFn.{get_or-map-range_with_len, length-map-range_with_len}
+use Rattle.std.proofs.lemmas.List.FromFn.{get_or-map-range_with_len, length-map-range_with_len, length-range_with_len}
+use Rattle.std.proofs.lemmas.Simd.{splat_is_map}
 use Rattle.hart_mask.specs.Ids.{has, ids_where, union_of, with_bit, without_id}
-use Rattle.hart_mask.proofs.Sets.{has-ids_where, ids_where-agree, with_bit-by, without_id-by}
+use Rattle.hart_mask.proofs.Sets.{has-ids_where, ids_where-agree, ids_where-none, with_bit-by, without_id-by}
 use Rattle.hsm.specs.declared.hart.HartState.{HartState}
-use Rattle.hsm.specs.declared.hart.HartState.TheVariants.{StartPending}
+use Rattle.hsm.specs.declared.hart.HartState.TheVariants.{StartPending, Stopped}
+use Rattle.hsm.specs.declared.hart.Kept.{Kept}
 use Rattle.hsm.specs.Harts.{Hart, resting, starting}
 use Rattle.hsm.specs.States.{is_start_pending}
-use Rattle.hsm.specs.Transitions.{hart_at}
+use Rattle.hsm.specs.Transitions.{hart_at, hart_at_opening}
 use Rattle.rfence.specs.Applied as effects
 use Rattle.rfence.specs.Applied.{Effect, Drops, Empties, effect}
 use Rattle.rfence.specs.Effects.{affected, caches_after, changed_from}
@@ -20,7 +21,7 @@ use Rattle.rfence.specs.State as fences
 use Rattle.rfence.specs.State.{AreAffected, IsTaken, State}
 use Rattle.rfence.specs.Turns.{Turn, Own, Quiet}
 use Rattle.rfence.proofs.Stands as fence_stands
-use Rattle.interrupts.specs.Timing.{Timing, deadline_of, is_timer_pending, with_deadline}
+use Rattle.interrupts.specs.Timing.{Timing, deadline_of, is_timer_pending, with_deadline, without_deadlines}
 use Rattle.board_core.specs.declared.config.Config.{Config}
 use Rattle.board_core.specs.declared.csrs.Csrs.{Csrs}
 use Rattle.board_core.specs.declared.csrs.Sie.{Sie}
@@ -28,18 +29,20 @@ use Rattle.board_core.specs.declared.event.Actor.TheVariants as actors
 use Rattle.board_core.specs.History.{Event, by_hart}
 use Rattle.sbi_abi.specs.declared.call.Call.{Call}
 use Rattle.sbi_abi.specs.declared.call.Regs.{Regs}
+use Rattle.sbi_abi.specs.declared.reset.Reset.{Reset}
 use Rattle.sbi_abi.specs.Calls.{call_of}
-use Rattle.board_core.specs.declared.event.Op.TheVariants.{Ecall}
+use Rattle.board_core.specs.declared.event.Op.{Op}
+use Rattle.board_core.specs.declared.event.Op.TheVariants.{Ecall, Load, Store, Fetch, WriteSatp, WriteSie, WriteSstatusSie, ReadSip, ClearSsip, Wfi, Sfence, FenceI, Poll, Serve, Advance, Tick}
 use Rattle.board_core.specs.declared.event.Reply.{Reply}
 use Rattle.board_core.specs.declared.counts.Counts.{Counts}
 use Rattle.board_core.specs.declared.interrupt_state.Interrupts.{Interrupts}
 use Rattle.board_core.specs.declared.machine.Machine.{Machine}
 use Rattle.board_core.specs.declared.memory.Memory.{Memory}
 use Rattle.board_core.specs.Course.{harts_of, is_hart}
-use Rattle.board_core.specs.Csrs.{enables, interrupt_bits, latest, sie, sie_by, sstatus_sie, sstatus_sie_by}
+use Rattle.board_core.specs.Csrs.{enables, interrupt_bits, none_enabled, sie, sie_by, sstatus_sie, sstatus_sie_by}
 use Rattle.board_core.specs.Fences.{turn_of, turns}
 use Rattle.board_core.specs.Interrupts.{deadline, deadline_by, reaches_by, ssip, ssip_by, stip, ticks_by, wake}
-use Rattle.sv39.specs.Memory.{pages_of, word_in}
+use Rattle.sv39.specs.Memory.{pages_of, word_in, zero_memory}
 use Rattle.sv39.specs.Satp.{is_sv39, mode_of, satp_written}
 use Rattle.tlb_model.specs.declared.caches.Caches.{Caches}
 use Rattle.tlb_model.specs.declared.fence.Flush.{Flush}
@@ -49,22 +52,15 @@ use Rattle.tlb_model.specs.Entries.{covers_entry, matches}
 use Rattle.tlb_model.specs.Words.{covers_word, is_at}
 use Rattle.tlb_model.proofs.Living.{hit_is_last, keeps_what_lives}
 use Rattle.board_core.specs.Accesses.{cached, hit}
-use Rattle.board_core.specs.Memory.{act_by, entry_filling, own_filling, memory, satp, satp_by, satp_of_write, storing_by, tlb_acts, word_acts, word_filling, written_by}
-use Rattle.board_core.specs.Starts.{Start, all_pending, entries, entry_by, hart_of, kept_in, last_start, start_by, starts}
+use Rattle.board_core.specs.Memory.{act_by, entry_filling, own_filling, memory, satp, satp_by, satp_of_write, tlb_acts, word_acts, word_filling, writing_by, written_by, Zeroed, zeroed_by}
+use Rattle.board_core.specs.Starts.{Anew, More, Start, all_pending, boot_start, entered_by, entries, entry_by, grown, growth, hart_of, is_of, kept_in, last_start, start_by, start_by_call, started_by_call, starts, starts_at}
 use Rattle.board_core.specs.Stands.{CanFill, CountsStand, CsrsStand, FencesStand, HartsStand, InterruptsStand, IpisStand, MemoryStand, StandsFor, TimersStand, caches_at, caches_of, no_caches, tlb_hit, word_hit}
-use Rattle.board_core.specs.States.{is_starting, move_of, state}
+use Rattle.board_core.specs.States.{Each, One, is_starting, move_of, state, state_at_opening, state_at_reset}
+use Rattle.board_core.specs.Resets.{begins_anew, is_cold, last_reset, newer_or, reset_by, reset_by_call}
+use Rattle.board_core.specs.Writes.{Everywhere, Here, latest}
 use Rattle.board_core.specs.Suspends.{resume_by, resume_point}
 use Rattle.board_core.proofs.Events.{CountsDeed, Deed, HartsDeed, InterruptsDeed, MemoryDeed, deed, deed_of_call, does_call, still}
 use Rattle.board_core.proofs.Tables.{count_by-map, eqb-other, eqb-same, length-filter_map, tabulate-same, tabulate-set}
-
--- what was written last, at the hart that wrote and at another
-latest-own : {A : Type 0} (o : Option A) (before : A) → latest o true before ≡ unwrap_or o before
-latest-own None before = refl
-latest-own (Some value) before = refl
-
-latest-other : {A : Type 0} (o : Option A) (before : A) → latest o false before ≡ before
-latest-other None before = refl
-latest-other (Some value) before = refl
 
 -- ---- harts
 
@@ -122,14 +118,31 @@ tabulate-changed : {C : Type 0} (change : ℕ → C → C) (f : ℕ → C) (k n 
 tabulate-changed change f k zero = refl
 tabulate-changed change f k (suc n) = ap (λ rest. change k (f k) ∷ rest) (tabulate-changed change f (k + 1) n)
 
+-- a hart as a reset makes it
+abbrev pub hart_at_reset : Config → Reset → ℕ → Hart
+hart_at_reset c reset h = if begins_anew reset.kind then hart_at_opening c.boot_hart (record { addr = c.boot_addr; opaque = c.boot_opaque }) h else resting
+
+as_reset : (c : Config) (reset : Reset) (h : ℕ) (resume : Option Kept) → (let s = state_at_reset c reset h in let hart : Hart = record { state = s; kept = kept_in s (unwrap_or (find (is_of h) (starts_at c reset)) (boot_start c)) resume } in hart) ≡ hart_at_reset c reset h
+as_reset c reset h resume = by_kind (begins_anew reset.kind)
+  where
+    by_own : (own : Bool) → (let s = (if own then StartPending else Stopped) in let hart : Hart = record { state = s; kept = kept_in s (unwrap_or (if own then Some (boot_start c) else None) (boot_start c)) resume } in hart)
+        ≡ (if own then starting (record { addr = c.boot_addr; opaque = c.boot_opaque }) else resting)
+    by_own true = refl
+    by_own false = refl
+
+    by_kind : (anew : Bool) → (let s = (if anew then state_at_opening c h else Stopped) in let hart : Hart = record { state = s; kept = kept_in s (unwrap_or (find (is_of h) (if anew then boot_start c ∷ [] else [])) (boot_start c)) resume } in hart)
+        ≡ (if anew then hart_at_opening c.boot_hart (record { addr = c.boot_addr; opaque = c.boot_opaque }) h else resting)
+    by_kind true = by_own (h == c.boot_hart)
+    by_kind false = refl
+
 -- ---- one event more
 
 module _ (c : Config) (past : List Event) (event : Event) (d : Deed) (does : deed c past event ≡ d) where
   -- what it does, part by part
-  moves : move_of event.actor event.op event.reply ≡ d.harts.move
+  moves : move_of c event.actor event.op event.reply ≡ d.harts.move
   moves = ap (λ (e : Deed). e.harts.move) does
 
-  is_start : start_by event.op event.reply ≡ d.harts.start
+  is_start : start_by c event.op event.reply ≡ d.harts.start
   is_start = ap (λ (e : Deed). e.harts.start) does
 
   resumes : resume_by event.op event.reply ≡ d.harts.resume
@@ -156,8 +169,8 @@ module _ (c : Config) (past : List Event) (event : Event) (d : Deed) (does : dee
   writes_satp : satp_by event.op event.reply ≡ d.memory.satp
   writes_satp = ap (λ (e : Deed). e.memory.satp) does
 
-  stores : storing_by event.op event.reply event.translation ≡ d.memory.storing
-  stores = ap (λ (e : Deed). e.memory.storing) does
+  writes : writing_by event.op event.reply event.translation ≡ d.memory.writing
+  writes = ap (λ (e : Deed). e.memory.writing) does
 
   acts_on_tlb : (h : ℕ) → act_by (effect (turns c past) (turn_of c past event.actor event.op event.reply) h) (own_filling (is_hart h event.actor) (entry_filling event.op event.translation (satp past h) (tlb_acts c past h))) ≡ d.memory.tlb_act h
   acts_on_tlb h = ap (λ (e : Deed). e.memory.tlb_act h) does
@@ -165,10 +178,13 @@ module _ (c : Config) (past : List Event) (event : Event) (d : Deed) (does : dee
   acts_on_words : (h : ℕ) → act_by (effect (turns c past) (turn_of c past event.actor event.op event.reply) h) (own_filling (is_hart h event.actor) (word_filling event.op event.reply event.translation (memory c past) (word_acts c past h))) ≡ d.memory.word_act h
   acts_on_words h = ap (λ (e : Deed). e.memory.word_act h) does
 
+  resets : reset_by event.op event.reply ≡ d.reset
+  resets = ap (λ (e : Deed). e.reset) does
+
   turned : turn_of c past event.actor event.op event.reply ≡ d.turn
   turned = ap (λ (e : Deed). e.turn) does
 
-  counted_start : start_by event.op event.reply ≡ d.counts.start
+  counted_start : start_by c event.op event.reply ≡ d.counts.start
   counted_start = ap (λ (e : Deed). e.counts.start) does
 
   counted_entry : entry_by event.op event.reply (is_starting c past event.actor) ≡ d.counts.entry
@@ -184,8 +200,8 @@ module _ (c : Config) (past : List Event) (event : Event) (d : Deed) (does : dee
   }
 
   -- a start makes its hart START_PENDING, and is kept
-  pub harts-started : (harts : List Hart) (t addr opaque : ℕ) → d.harts.move ≡ Some (record { hart = t; state = StartPending })
-      → d.harts.start ≡ Some (record { hart = t; addr = addr; opaque = opaque }) → d.harts.resume ≡ None
+  pub harts-started : (harts : List Hart) (t addr opaque : ℕ) → d.harts.move ≡ Some (One t StartPending)
+      → d.harts.start ≡ Some (More (record { hart = t; addr = addr; opaque = opaque })) → d.harts.resume ≡ None
       → HartsStand c past harts → HartsStand c (event ∷ past) (slice_set harts t (starting (record { addr = addr; opaque = opaque })))
   harts-started harts t addr opaque move start resume stand =
       harts-moved c past harts stand event t _
@@ -194,23 +210,23 @@ module _ (c : Config) (past : List Event) (event : Event) (d : Deed) (does : dee
 
   -- a hart's own move, which may say where it is to go on
   pub harts-own : (harts : List Hart) (x : ℕ) (s : HartState) → event.actor ≡ actors.Hart x
-      → d.harts.move ≡ Some (record { hart = x; state = s }) → d.harts.start ≡ None → HartsStand c past harts
-      → HartsStand c (event ∷ past) (slice_set harts x (record { state = s; kept = kept_in s (last_start c past x) (unwrap_or d.harts.resume (resume_point past x)) }))
-  harts-own harts x s own move start stand =
+      → d.harts.move ≡ Some (One x s) → d.harts.start ≡ None → ((j : ℕ) → latest d.harts.resume false (resume_point past j) ≡ resume_point past j) → HartsStand c past harts
+      → HartsStand c (event ∷ past) (slice_set harts x (record { state = s; kept = kept_in s (last_start c past x) (latest d.harts.resume true (resume_point past x)) }))
+  harts-own harts x s own move start spared stand =
       harts-moved c past harts stand event x _
-      (rw (moves, is_start, resumes, own, move, start, eqb-same x, latest-own d.harts.resume (resume_point past x)) refl)
-      (λ j other. rw (moves, is_start, resumes, own, move, start, eqb-other j x (λ e. other (sym e)), latest-other d.harts.resume (resume_point past j)) refl)
+      (rw (moves, is_start, resumes, own, move, start, eqb-same x) refl)
+      (λ j other. rw (moves, is_start, resumes, own, move, start, eqb-other j x (λ e. other (sym e)), spared j) refl)
 
   -- ---- registers
 
   module _ (h : ℕ) (own : event.actor ≡ actors.Hart h) where
-    pub sstatus_sie-written : (set : List ℕ) (value : Bool) → d.interrupts.sstatus ≡ Some value → set ≡ ids_where (sstatus_sie past)
+    pub sstatus_sie-written : (set : List ℕ) (value : Bool) → d.interrupts.sstatus ≡ Some (Here value) → set ≡ ids_where (sstatus_sie past)
         → with_bit set h value ≡ ids_where (sstatus_sie (event ∷ past))
     sstatus_sie-written set value written stand =
         ap (λ ids. with_bit ids h value) stand
         ∙ with_bit-by (sstatus_sie past) (sstatus_sie (event ∷ past)) h value (λ i below. rw (writes_sstatus, written, own) refl)
 
-    pub ssie-written : (set : List ℕ) (value : Sie) → d.interrupts.sie ≡ Some value → set ≡ ids_where (λ i. (sie c past i).ssie)
+    pub ssie-written : (set : List ℕ) (value : Sie) → d.interrupts.sie ≡ Some (Here value) → set ≡ ids_where (λ i. (sie c past i).ssie)
         → with_bit set h value.ssie ≡ ids_where (λ i. (sie c (event ∷ past) i).ssie)
     ssie-written set value written stand =
         ap (λ ids. with_bit ids h value.ssie) stand
@@ -221,7 +237,7 @@ module _ (c : Config) (past : List Event) (event : Event) (d : Deed) (does : dee
         ssie-of true s t = refl
         ssie-of false s t = refl
 
-    pub stie-written : (set : List ℕ) (value : Sie) → d.interrupts.sie ≡ Some value → set ≡ ids_where (λ i. (sie c past i).stie)
+    pub stie-written : (set : List ℕ) (value : Sie) → d.interrupts.sie ≡ Some (Here value) → set ≡ ids_where (λ i. (sie c past i).stie)
         → with_bit set h value.stie ≡ ids_where (λ i. (sie c (event ∷ past) i).stie)
     stie-written set value written stand =
         ap (λ ids. with_bit ids h value.stie) stand
@@ -233,7 +249,7 @@ module _ (c : Config) (past : List Event) (event : Event) (d : Deed) (does : dee
         stie-of false s t = refl
 
     -- SSIP is cleared
-    pub ipis-cleared : (ipis : List ℕ) → d.interrupts.ssip ≡ Some false → ((i : ℕ) → d.interrupts.reach i ≡ false) → IpisStand c past ipis → IpisStand c (event ∷ past) (without_id ipis h)
+    pub ipis-cleared : (ipis : List ℕ) → d.interrupts.ssip ≡ Some (Here false) → ((i : ℕ) → d.interrupts.reach i ≡ false) → IpisStand c past ipis → IpisStand c (event ∷ past) (without_id ipis h)
     ipis-cleared ipis cleared none stand = record {
       ssip =
           ap (λ ids. without_id ids h) stand.ssip
@@ -246,7 +262,7 @@ module _ (c : Config) (past : List Event) (event : Event) (d : Deed) (does : dee
         out_or false before = refl
 
     -- the deadline is set, or forgotten
-    pub timers-set : (timers : Timing) (value : Option ℕ) → d.interrupts.deadline ≡ Some value → d.interrupts.ticks ≡ 0 → TimersStand c past timers
+    pub timers-set : (timers : Timing) (value : Option ℕ) → d.interrupts.deadline ≡ Some (Here value) → d.interrupts.ticks ≡ 0 → TimersStand c past timers
         → TimersStand c (event ∷ past) (with_deadline timers h value)
     timers-set timers value set no_ticks stand = record {
       time = stand.time ∙ rw (ticks, no_ticks) (omega arith);
@@ -338,7 +354,7 @@ module _ (c : Config) (past : List Event) (event : Event) (d : Deed) (does : dee
   -- ---- memory
 
   -- satp is written by its hart
-  pub satps-written : (satps : List ℕ) (h value : ℕ) → event.actor ≡ actors.Hart h → d.memory.satp ≡ Some value → satps ≡ map (satp past) (harts_of c)
+  pub satps-written : (satps : List ℕ) (h value : ℕ) → event.actor ≡ actors.Hart h → d.memory.satp ≡ Some (Here value) → satps ≡ map (satp past) (harts_of c)
       → slice_set satps h value ≡ map (satp (event ∷ past)) (harts_of c)
   satps-written satps h value own written stand =
       ap (λ (xs : List ℕ). slice_set xs h value) stand
@@ -353,19 +369,24 @@ module _ (c : Config) (past : List Event) (event : Event) (d : Deed) (does : dee
       ap (λ (xs : List ℕ). slice_set xs h (satp_written (satp past h) value)) stand
       ∙ ap (slice_set (map (satp past) (harts_of c)) h) (sym (rw (writes_satp, written, own, eqb-same h) (put (mode_of value == 0) (is_sv39 value) value (satp past h))))
       ∙ tabulate-set (satp past) (satp (event ∷ past)) c.harts h
-      (λ j other. rw (writes_satp, written, own, eqb-other j h (λ e. other (sym e))) (latest-other (satp_of_write value) (satp past j)))
+      (λ j other. rw (writes_satp, written, own, eqb-other j h (λ e. other (sym e))) (spared (mode_of value == 0) (is_sv39 value) value (satp past j)))
     where
       put : (bare sv39 : Bool) (value before : ℕ)
-          → latest (if bare then Some 0 else if sv39 then Some value else None) true before ≡ (if bare then 0 else if sv39 then value else before)
+          → latest (if bare then Some (Here 0) else if sv39 then Some (Here value) else None) true before ≡ (if bare then 0 else if sv39 then value else before)
       put true sv39 value before = refl
       put false true value before = refl
       put false false value before = refl
 
+      spared : (bare sv39 : Bool) (value before : ℕ) → latest (if bare then Some (Here 0) else if sv39 then Some (Here value) else None) false before ≡ before
+      spared true sv39 value before = refl
+      spared false true value before = refl
+      spared false false value before = refl
+
   pub satps-quiet : (satps : List ℕ) → d.memory.satp ≡ None → satps ≡ map (satp past) (harts_of c) → satps ≡ map (satp (event ∷ past)) (harts_of c)
   satps-quiet satps none stand = stand ∙ tabulate-same (satp past) (satp (event ∷ past)) (λ j. rw (writes_satp, none) refl) (harts_of c)
 
-  pub ram-still : (ram : List ℕ) → d.memory.storing ≡ None → word_in ram ≡ memory c past → word_in ram ≡ memory c (event ∷ past)
-  ram-still ram none stand = stand ∙ sym (ap (λ storing. written_by storing (memory c past)) (stores ∙ none))
+  pub ram-still : (ram : List ℕ) → d.memory.writing ≡ None → word_in ram ≡ memory c past → word_in ram ≡ memory c (event ∷ past)
+  ram-still ram none stand = stand ∙ sym (ap (λ writing. written_by c writing (memory c past)) (writes ∙ none))
 
   -- the caches of a hart after the event
   caches-more : (h : ℕ) → caches_of c (event ∷ past) h
@@ -421,12 +442,12 @@ module _ (c : Config) (past : List Event) (event : Event) (d : Deed) (does : dee
       → m'.ram ≡ m.ram → m'.caches.items ≡ m.caches.items → m'.satps.items ≡ map (satp (event ∷ past)) (harts_of c) → MemoryStand c (event ∷ past) m'
   memory-satps m m' alone stand ram caches satps = record {
     pages = ap pages_of ram ∙ stand.pages;
-    ram = ap word_in ram ∙ ram-still m.ram (ap (λ (e : MemoryDeed). e.storing) alone) stand.ram;
+    ram = ap word_in ram ∙ ram-still m.ram (ap (λ (e : MemoryDeed). e.writing) alone) stand.ram;
     satps = satps;
     caches = caches ∙ caches-still m.caches.items (λ h. ap (λ (e : MemoryDeed). e.tlb_act h) alone) (λ h. ap (λ (e : MemoryDeed). e.word_act h) alone) stand.caches;
   }
 
-  pub memory-caches : (m m' : Memory) → d.memory.storing ≡ None → d.memory.satp ≡ None → MemoryStand c past m
+  pub memory-caches : (m m' : Memory) → d.memory.writing ≡ None → d.memory.satp ≡ None → MemoryStand c past m
       → m'.ram ≡ m.ram → m'.satps.items ≡ m.satps.items → m'.caches.items ≡ map (caches_of c (event ∷ past)) (harts_of c) → MemoryStand c (event ∷ past) m'
   memory-caches m m' no_storing no_satp stand ram satps caches = record {
     pages = ap pages_of ram ∙ stand.pages;
@@ -457,7 +478,7 @@ module _ (c : Config) (past : List Event) (event : Event) (d : Deed) (does : dee
   pub memory-still : (m : Memory) → d.memory ≡ still.memory → MemoryStand c past m → MemoryStand c (event ∷ past) m
   memory-still m none stand = record {
     pages = stand.pages;
-    ram = ram-still m.ram (ap (λ (e : MemoryDeed). e.storing) none) stand.ram;
+    ram = ram-still m.ram (ap (λ (e : MemoryDeed). e.writing) none) stand.ram;
     satps = satps-quiet m.satps.items (ap (λ (e : MemoryDeed). e.satp) none) stand.satps;
     caches = caches-still m.caches.items (λ h. ap (λ (e : MemoryDeed). e.tlb_act h) none) (λ h. ap (λ (e : MemoryDeed). e.word_act h) none) stand.caches;
   }
@@ -482,19 +503,99 @@ module _ (c : Config) (past : List Event) (event : Event) (d : Deed) (does : dee
   }
 
   -- one start more, and one entry more
-  pub counts-started : (counts : Counts) (start : Start) → d.counts ≡ record still.counts { start = Some start } → CountsStand c past counts
+  pub counts-started : (counts : Counts) (start : Start) → d.counts ≡ record still.counts { start = Some (More start) } → CountsStand c past counts
       → CountsStand c (event ∷ past) (record counts { starts = counts.starts + 1 })
   counts-started counts start is stand = record {
     starts = let before = stand.starts in rw (counted_start, ap (λ (e : CountsDeed). e.start) is) (omega arith);
     entries = rw (counted_entry, ap (λ (e : CountsDeed). e.entry) is) stand.entries;
   }
 
-  pub counts-entered : (counts : Counts) (start : Start) → d.counts ≡ record still.counts { entry = Some start } → CountsStand c past counts
+  pub counts-entered : (counts : Counts) (start : Start) → d.counts ≡ record still.counts { entry = Some (More start) } → CountsStand c past counts
       → CountsStand c (event ∷ past) (record counts { entries = counts.entries + 1 })
   counts-entered counts start is stand = record {
     starts = rw (counted_start, ap (λ (e : CountsDeed). e.start) is) stand.starts;
     entries = let before = stand.entries in rw (counted_entry, ap (λ (e : CountsDeed). e.entry) is) (omega arith);
   }
+
+  -- ---- resets
+
+  pub last-still : (last : Option Reset) → d.reset ≡ None → last ≡ last_reset past → last ≡ last_reset (event ∷ past)
+  last-still last none stand = stand ∙ sym (ap (λ reset. newer_or reset (last_reset past)) (resets ∙ none))
+
+  pub last-reset : (reset : Reset) → d.reset ≡ Some reset → Some reset ≡ last_reset (event ∷ past)
+  last-reset reset is = sym (ap (λ reset. newer_or reset (last_reset past)) (resets ∙ is))
+
+  -- each hart is as the reset makes it
+  pub harts-reset : (harts : List Hart) (reset : Reset) → d.harts.move ≡ Some (Each (state_at_reset c reset)) → d.harts.start ≡ Some (Anew (starts_at c reset))
+      → harts ≡ map (hart_at_reset c reset) (harts_of c) → HartsStand c (event ∷ past) harts
+  harts-reset harts reset move start are = record {
+    each = are ∙ tabulate-same (hart_at_reset c reset) (hart_of c (event ∷ past)) (λ j. rw (moves, is_start, move, start) (as_reset c reset j (resume_point (event ∷ past) j))) (harts_of c);
+  }
+
+  -- nothing is enabled, nothing is pending, no hart has a deadline, and the time goes on
+  pub interrupts-reset : (i : Interrupts) → d.interrupts ≡ record still.interrupts {
+    sstatus = Some (Everywhere false);
+    sie = Some (Everywhere none_enabled);
+    ssip = Some (Everywhere false);
+    deadline = Some (Everywhere None);
+  } → InterruptsStand c past i
+      → InterruptsStand c (event ∷ past) (record { csrs = record { sstatus_sie = []; ssie = []; stie = [] }; ipis = []; timers = without_deadlines i.timers })
+  interrupts-reset i is stands =
+      let sstatus = ap (λ (e : InterruptsDeed). e.sstatus) is in
+      let enabled = ap (λ (e : InterruptsDeed). e.sie) is in
+      let pending = ap (λ (e : InterruptsDeed). e.ssip) is in
+      let deadlines = ap (λ (e : InterruptsDeed). e.deadline) is in
+      let no_ticks = ap (λ (e : InterruptsDeed). e.ticks) is in
+      let long = length-map-range_with_len (deadline c past) 0 c.harts in
+      record {
+        csrs = record {
+          sstatus_sie = sym (ids_where-none (sstatus_sie (event ∷ past)) (λ j below. rw (writes_sstatus, sstatus) refl));
+          ssie = sym (ids_where-none (λ h. (sie c (event ∷ past) h).ssie) (λ j below. rw (writes_sie, enabled) refl));
+          stie = sym (ids_where-none (λ h. (sie c (event ∷ past) h).stie) (λ j below. rw (writes_sie, enabled) refl));
+        };
+        ipis = record { ssip = sym (ids_where-none (ssip c (event ∷ past)) (λ j below. rw (reaches j, ap (λ (e : InterruptsDeed). e.reach j) is, writes_ssip, pending) refl)) };
+        timers = record {
+          time = stands.timers.time ∙ rw (ticks, no_ticks) (omega arith);
+          deadlines =
+              ap (λ n. replicate n None) (ap length stands.timers.deadlines ∙ long)
+              ∙ splat_is_map (harts_of c) c.harts None (length-range_with_len 0 c.harts)
+              ∙ tabulate-same (λ j. None) (deadline c (event ∷ past)) (λ j. rw (sets, deadlines) refl) (harts_of c);
+        };
+      }
+
+  -- no hart has a satp, the RAM is cleared or stays, and the caches are as the turn leaves them
+  pub memory-reset : (m m' : Memory) (reset : Reset) → d.memory.satp ≡ Some (Everywhere 0) → d.memory.writing ≡ zeroed_by (Some reset) → MemoryStand c past m
+      → m'.satps.items ≡ replicate (length m.satps.items) 0 → word_in m'.ram ≡ (if is_cold reset.kind then zero_memory (pages_of m.ram) else word_in m.ram)
+      → pages_of m'.ram ≡ pages_of m.ram → m'.caches.items ≡ map (caches_of c (event ∷ past)) (harts_of c) → MemoryStand c (event ∷ past) m'
+  memory-reset m m' reset is writing stand satps ram pages caches =
+      let long = length-map-range_with_len (satp past) 0 c.harts in
+      record {
+        pages = pages ∙ stand.pages;
+        ram =
+            ram ∙ (λ i. if is_cold reset.kind then zero_memory (stand.pages i) else stand.ram i) ∙ zeroed (is_cold reset.kind)
+            ∙ sym (ap (λ w. written_by c w (memory c past)) (writes ∙ writing));
+        satps =
+            satps ∙ ap (λ n. replicate n 0) (ap length stand.satps ∙ long)
+            ∙ splat_is_map (harts_of c) c.harts 0 (length-range_with_len 0 c.harts)
+            ∙ tabulate-same (λ j. 0) (satp (event ∷ past)) (λ j. rw (writes_satp, is) refl) (harts_of c);
+        caches = caches;
+      }
+    where
+      zeroed : (cold : Bool) → (if cold then zero_memory c.pages else memory c past) ≡ written_by c (if cold then Some Zeroed else None) (memory c past)
+      zeroed true = refl
+      zeroed false = refl
+
+  -- the counts begin anew
+  pub counts-reset : (reset : Reset) → d.counts ≡ record { start = Some (Anew (starts_at c reset)); entry = Some (Anew []) }
+      → CountsStand c (event ∷ past) (record { starts = if begins_anew reset.kind then 1 else 0; entries = 0 })
+  counts-reset reset is = record {
+    starts = rw (counted_start, ap (λ (e : CountsDeed). e.start) is) (by_kind (begins_anew reset.kind));
+    entries = rw (counted_entry, ap (λ (e : CountsDeed). e.entry) is) refl;
+  }
+    where
+      by_kind : (anew : Bool) → (if anew then 1 else 0) ≡ length (if anew then boot_start c ∷ [] else [])
+      by_kind true = refl
+      by_kind false = refl
 
   -- ---- the machine, by the components that an event touches; the others have no deed
 
@@ -505,6 +606,7 @@ module _ (c : Config) (past : List Event) (event : Event) (d : Deed) (does : dee
     memory = memory-still m.memory (ap (λ (e : Deed). e.memory) none) stands.memory;
     fences = fences-still m.fences (ap (λ (e : Deed). e.turn) none) stands.fences;
     counts = counts-still m.counts (ap (λ (e : Deed). e.counts) none) stands.counts;
+    last_reset = last-still m.last_reset (ap (λ (e : Deed). e.reset) none) stands.last_reset;
   }
 
   pub stands-interrupts : (m : Machine) (i : Interrupts) → d ≡ record still { interrupts = d.interrupts } → StandsFor c past m
@@ -515,6 +617,7 @@ module _ (c : Config) (past : List Event) (event : Event) (d : Deed) (does : dee
     memory = memory-still m.memory (ap (λ (e : Deed). e.memory) alone) stands.memory;
     fences = fences-still m.fences (ap (λ (e : Deed). e.turn) alone) stands.fences;
     counts = counts-still m.counts (ap (λ (e : Deed). e.counts) alone) stands.counts;
+    last_reset = last-still m.last_reset (ap (λ (e : Deed). e.reset) alone) stands.last_reset;
   }
 
   pub stands-harts : (m : Machine) (hsm : List Hart) → d ≡ record still { harts = d.harts } → StandsFor c past m
@@ -525,6 +628,7 @@ module _ (c : Config) (past : List Event) (event : Event) (d : Deed) (does : dee
     memory = memory-still m.memory (ap (λ (e : Deed). e.memory) alone) stands.memory;
     fences = fences-still m.fences (ap (λ (e : Deed). e.turn) alone) stands.fences;
     counts = counts-still m.counts (ap (λ (e : Deed). e.counts) alone) stands.counts;
+    last_reset = last-still m.last_reset (ap (λ (e : Deed). e.reset) alone) stands.last_reset;
   }
 
   pub stands-memory : (m : Machine) (memory : Memory) → d ≡ record still { memory = d.memory } → StandsFor c past m
@@ -535,6 +639,7 @@ module _ (c : Config) (past : List Event) (event : Event) (d : Deed) (does : dee
     memory = changed;
     fences = fences-still m.fences (ap (λ (e : Deed). e.turn) alone) stands.fences;
     counts = counts-still m.counts (ap (λ (e : Deed). e.counts) alone) stands.counts;
+    last_reset = last-still m.last_reset (ap (λ (e : Deed). e.reset) alone) stands.last_reset;
   }
 
   -- a turn touches the fences, and the caches of the memory
@@ -546,18 +651,20 @@ module _ (c : Config) (past : List Event) (event : Event) (d : Deed) (does : dee
     memory = changed;
     fences = turned;
     counts = counts-still m.counts (ap (λ (e : Deed). e.counts) alone) stands.counts;
+    last_reset = last-still m.last_reset (ap (λ (e : Deed). e.reset) alone) stands.last_reset;
   }
 
   -- all but the counts
-  pub stands-but-counts : (m : Machine) (hsm : List Hart) (i : Interrupts) (memory : Memory) (f : State Flush) → d.counts ≡ still.counts → StandsFor c past m
+  pub stands-but-counts : (m : Machine) (hsm : List Hart) (i : Interrupts) (memory : Memory) (f : State Flush) → d.counts ≡ still.counts → d.reset ≡ None → StandsFor c past m
       → HartsStand c (event ∷ past) hsm → InterruptsStand c (event ∷ past) i → MemoryStand c (event ∷ past) memory → FencesStand c (event ∷ past) f
       → StandsFor c (event ∷ past) (record m { hsm = hsm; interrupts = i; memory = memory; fences = f })
-  stands-but-counts m hsm i memory f alone stands harts interrupts changed turned = record {
+  stands-but-counts m hsm i memory f alone unreset stands harts interrupts changed turned = record {
     harts = harts;
     interrupts = interrupts;
     memory = changed;
     fences = turned;
     counts = counts-still m.counts alone stands.counts;
+    last_reset = last-still m.last_reset unreset stands.last_reset;
   }
 
   pub stands-harts-counts : (m : Machine) (hsm : List Hart) (counts : Counts) → d ≡ record still { harts = d.harts; counts = d.counts }
@@ -569,6 +676,7 @@ module _ (c : Config) (past : List Event) (event : Event) (d : Deed) (does : dee
     memory = memory-still m.memory (ap (λ (e : Deed). e.memory) alone) stands.memory;
     fences = fences-still m.fences (ap (λ (e : Deed). e.turn) alone) stands.fences;
     counts = counted;
+    last_reset = last-still m.last_reset (ap (λ (e : Deed). e.reset) alone) stands.last_reset;
   }
 
 -- a call that does nothing
@@ -677,15 +785,45 @@ can-fill c past m h inside few stand =
     }
 
 -- starts and entries are at most as many as the events, and the boot start
-one_or_none : (o : Option Start) (xs : List Start) (n : ℕ) → length xs ≤ n → length (option_to_list o ++ xs) ≤ suc n
-one_or_none None xs n shorter = omega arith
-one_or_none (Some start) xs n shorter = omega arith
+grown-le : (one : Option Start) (reset : Option Reset) (anew : Reset → List Start) (xs : List Start) (n : ℕ) → ((r : Reset) → length (anew r) ≤ suc n) → length xs ≤ n
+    → length (grown (growth one reset anew) xs) ≤ suc n
+grown-le None None anew xs n small shorter = omega arith
+grown-le None (Some reset) anew xs n small shorter = small reset
+grown-le (Some start) reset anew xs n small shorter = omega arith
 
 pub length-entries-le : (c : Config) (past : List Event) → length (entries c past) ≤ length past
 length-entries-le c [] = omega arith
 length-entries-le c (event ∷ past) =
-    one_or_none (entry_by event.op event.reply (is_starting c past event.actor)) (entries c past) (length past) (length-entries-le c past)
+    grown-le (entered_by event.op event.reply (is_starting c past event.actor)) (reset_by event.op event.reply) _ (entries c past) (length past) (λ reset. omega arith) (length-entries-le c past)
+
+few_at : (c : Config) (n : ℕ) (reset : Reset) → length (starts_at c reset) ≤ suc n
+few_at c n reset = by_kind (begins_anew reset.kind)
+  where
+    by_kind : (anew : Bool) → length (if anew then boot_start c ∷ [] else []) ≤ suc n
+    by_kind true = omega arith
+    by_kind false = omega arith
 
 pub length-starts-le : (c : Config) (past : List Event) → length (starts c past) ≤ suc (length past)
 length-starts-le c [] = omega arith
-length-starts-le c (event ∷ past) = one_or_none (start_by event.op event.reply) (starts c past) (suc (length past)) (length-starts-le c past)
+length-starts-le c (event ∷ past) = by_op event.op (length-starts-le c past)
+  where
+    by_call : (call : Call) → length (starts c past) ≤ suc (length past) → length (grown (start_by_call c call event.reply) (starts c past)) ≤ suc (suc (length past))
+    by_call call before = grown-le (started_by_call call event.reply) (reset_by_call call event.reply) (starts_at c) (starts c past) (suc (length past)) (few_at c (suc (length past))) before
+
+    by_op : (op : Op) → length (starts c past) ≤ suc (length past) → length (grown (start_by c op event.reply) (starts c past)) ≤ suc (suc (length past))
+    by_op (Ecall regs) before = by_call (call_of regs) before
+    by_op (Load va) before = omega arith
+    by_op (Store va value) before = omega arith
+    by_op (Fetch va) before = omega arith
+    by_op (WriteSatp value) before = omega arith
+    by_op (WriteSie value) before = omega arith
+    by_op (WriteSstatusSie value) before = omega arith
+    by_op ReadSip before = omega arith
+    by_op ClearSsip before = omega arith
+    by_op Wfi before = omega arith
+    by_op (Sfence va asid) before = omega arith
+    by_op FenceI before = omega arith
+    by_op Poll before = omega arith
+    by_op Serve before = omega arith
+    by_op Advance before = omega arith
+    by_op (Tick n) before = omega arith

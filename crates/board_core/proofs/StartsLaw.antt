@@ -4,6 +4,7 @@ use Rattle.std.specs.Prelude.{Option, Some, None, Result, Ok, Err, filter, find,
 use Rattle.std.specs.Option.{option_to_list}
 use Rattle.std.proofs.lemmas.Bool.{eqb-true}
 use Rattle.sbi_abi.specs.declared.answer.SbiError.{SbiError}
+use Rattle.sbi_abi.specs.declared.reset.Reset.{Reset}
 use Rattle.sbi_abi.specs.declared.answer.SbiError.TheVariants.{InvalidParam, InvalidAddress, AlreadyAvailable, Failed}
 use Rattle.sbi_abi.specs.declared.call.Call.{Call}
 use Rattle.sbi_abi.specs.declared.call.Call.TheVariants as calls
@@ -29,9 +30,10 @@ use Rattle.board_core.specs.Refusals.{first_that_holds, is_full, situation}
 use Rattle.board_core.specs.Interrupts.{wake}
 use Rattle.board_core.specs.Suspends.{resume_point}
 use Rattle.board_core.specs.Replies.{IsLegal, advance_reply, answer, call_reply, failure, reply, resume_reply, suspend_reply, unless}
-use Rattle.board_core.specs.Starts.{Start, StartsAreEntered, boot_start, entries, entry_by, is_of, last_start, pending, start_by_call, starts}
-use Rattle.board_core.specs.States.{Move, move_by, move_by_call, moved_to, state}
-use Rattle.board_core.proofs.Rows.{accepted, running_parts}
+use Rattle.board_core.specs.Starts.{Anew, Growth, More, Start, grown, growth, starts_at, StartsAreEntered, boot_start, entries, entry_by, is_of, last_start, pending, start_by_call, starts}
+use Rattle.board_core.specs.Resets.{begins_anew, is_off, reset_by_call}
+use Rattle.board_core.specs.States.{Each, Move, One, state_at_opening, state_at_reset, move_by, move_by_call, moved_to, state}
+use Rattle.board_core.proofs.Rows.{accepted, clock_ticks, running_parts}
 
 -- what passes a filter first passes the test
 filter-first : {A : Type 0} (p : A → Bool) (xs : List A) (y : A) (ys : List A) → filter p xs ≡ y ∷ ys → p y ≡ true
@@ -81,36 +83,36 @@ module _ (c : Config) where
   IsEntered : List Event → ℕ → Type 0
   IsEntered past h = filter (is_of h) (starts c past) ≡ option_to_list (pending c past h) ++ filter (is_of h) (entries c past)
 
+  by_test : (own : Bool) → (if own then boot_start c ∷ [] else [])
+      ≡ option_to_list (if is_start_pending (if own then StartPending else Stopped) then Some (unwrap_or (if own then Some (boot_start c) else None) (boot_start c)) else None) ++ []
+  by_test true = refl
+  by_test false = refl
+
   at_opening : (h : ℕ) → IsEntered [] h
   unfolding IsEntered
   at_opening h = by_test (eqb h c.boot_hart)
-    where
-      by_test : (own : Bool) → (if own then boot_start c ∷ [] else [])
-          ≡ option_to_list (if is_start_pending (if own then StartPending else Stopped) then Some (unwrap_or (if own then Some (boot_start c) else None) (boot_start c)) else None) ++ []
-      by_test true = refl
-      by_test false = refl
 
   module _ (past : List Event) (before : (h : ℕ) → IsEntered past h) (h : ℕ) where
     -- the law for one hart, after an event that does this
-    IsEnteredBy : Option Move → Option Start → Option Start → Type 0
+    IsEnteredBy : Option Move → Option Growth → Option Growth → Type 0
     IsEnteredBy move start entry =
-        filter (is_of h) (option_to_list start ++ starts c past)
-        ≡ option_to_list (if is_start_pending (moved_to move h (state c past h)) then Some (unwrap_or (find (is_of h) (option_to_list start ++ starts c past)) (boot_start c)) else None)
-        ++ filter (is_of h) (option_to_list entry ++ entries c past)
+        filter (is_of h) (grown start (starts c past))
+        ≡ option_to_list (if is_start_pending (moved_to move h (state c past h)) then Some (unwrap_or (find (is_of h) (grown start (starts c past))) (boot_start c)) else None)
+        ++ filter (is_of h) (grown entry (entries c past))
 
     quiet : IsEnteredBy None None None
     unfolding IsEntered IsEnteredBy
     quiet = before h
 
     started : (t addr opaque : ℕ) → state c past t ≡ Stopped
-        → IsEnteredBy (Some (record { hart = t; state = StartPending })) (Some (record { hart = t; addr = addr; opaque = opaque })) None
+        → IsEnteredBy (Some (One t StartPending)) (Some (More (record { hart = t; addr = addr; opaque = opaque }))) None
     unfolding IsEntered IsEnteredBy pending_of
     started t addr opaque stopped =
         by_start (state c past h) (filter (is_of h) (starts c past)) (filter (is_of h) (entries c past)) (find (is_of h) (starts c past)) (boot_start c)
         (record { hart = t; addr = addr; opaque = opaque }) (eqb h t) (λ own. ap (state c past) (eqb-true h t own) ∙ stopped) (before h)
 
     settled : (x : ℕ) (to : HartState) → is_start_pending to ≡ false → is_start_pending (state c past x) ≡ false
-        → IsEnteredBy (Some (record { hart = x; state = to })) None None
+        → IsEnteredBy (Some (One x to)) None None
     unfolding IsEntered IsEnteredBy pending_of
     settled x to at_end was =
         by_move (state c past h) (filter (is_of h) (starts c past)) (filter (is_of h) (entries c past)) (find (is_of h) (starts c past)) (boot_start c)
@@ -118,7 +120,7 @@ module _ (c : Config) where
 
     entered : (x addr hart opaque : ℕ) → state c past x ≡ StartPending
         → Entry (last_start c past x).addr x (last_start c past x).opaque ≡ Entry addr hart opaque
-        → IsEnteredBy (Some (record { hart = x; state = Started })) None (Some (record { hart = hart; addr = addr; opaque = opaque }))
+        → IsEnteredBy (Some (One x Started)) None (Some (More (record { hart = hart; addr = addr; opaque = opaque })))
     unfolding IsEntered IsEnteredBy pending_of
     entered x addr hart opaque ready told =
         let start = last_start c past x in
@@ -133,9 +135,20 @@ module _ (c : Config) where
         let same : h ≡ x = eqb-true h hart mine ∙ sym hart_is in
         rw same (theirs ∙ ap (λ (first : Start). first ∷ filter (is_of x) (entries c past)) (sym is))) (before h))
 
+  -- a reset begins anew
+  anew : (past : List Event) (before : (h : ℕ) → IsEntered past h) (h : ℕ) (reset : Reset)
+      → IsEnteredBy past before h (Some (Each (state_at_reset c reset))) (Some (Anew (starts_at c reset))) (Some (Anew []))
+  unfolding IsEnteredBy
+  anew past before h reset = by_kind (begins_anew reset.kind)
+    where
+      by_kind : (begins : Bool) → filter (is_of h) (if begins then boot_start c ∷ [] else [])
+          ≡ option_to_list (if is_start_pending (if begins then state_at_opening c h else Stopped) then Some (unwrap_or (find (is_of h) (if begins then boot_start c ∷ [] else [])) (boot_start c)) else None) ++ []
+      by_kind true = by_test (eqb h c.boot_hart)
+      by_kind false = refl
+
   -- the law after a call
   after_call : (past : List Event) (before : (h : ℕ) → IsEntered past h) (h x : ℕ) (call : Call) (r : Reply)
-      → state c past x ≡ Started → call_reply c past x call ≡ r → IsEnteredBy past before h (move_by_call x call r) (start_by_call call r) None
+      → state c past x ≡ Started → call_reply c past x call ≡ r → IsEnteredBy past before h (move_by_call c x call r) (start_by_call c call r) (growth None (reset_by_call call r) (λ reset. []))
   after_call past before h x calls.GetSpecVersion r running is = quiet past before h
   after_call past before h x calls.GetImplId r running is = quiet past before h
   after_call past before h x calls.GetImplVersion r running is = quiet past before h
@@ -147,7 +160,7 @@ module _ (c : Config) where
     where
       by_errors : (missing right : Bool) (s : HartState) → state c past t ≡ s
           → (let r = Ret (unless (first_that_holds ((missing, InvalidParam) ∷ (not right, InvalidAddress) ∷ (not (is_stopped s), AlreadyAvailable) ∷ [])) 0) in
-          IsEnteredBy past before h (move_by_call x (calls.HartStart t addr opaque) r) (start_by_call (calls.HartStart t addr opaque) r) None)
+          IsEnteredBy past before h (move_by_call c x (calls.HartStart t addr opaque) r) (start_by_call c (calls.HartStart t addr opaque) r) None)
       by_errors true right s at = quiet past before h
       by_errors false false s at = quiet past before h
       by_errors false true Stopped at = started past before h t addr opaque at
@@ -160,7 +173,7 @@ module _ (c : Config) where
   after_call past before h x calls.HartStop r running is = rw (← is) (by_enabled (sstatus_sie past x))
     where
       by_enabled : (enabled : Bool) → (let r = (if enabled then Ret (failure Failed) else Gone) in
-          IsEnteredBy past before h (move_by_call x calls.HartStop r) (start_by_call calls.HartStop r) None)
+          IsEnteredBy past before h (move_by_call c x calls.HartStop r) (start_by_call c calls.HartStop r) None)
       by_enabled true = quiet past before h
       by_enabled false = settled past before h x StopPending refl (ap is_start_pending running)
   after_call past before h x (calls.HartGetStatus t) r running is = quiet past before h
@@ -169,24 +182,26 @@ module _ (c : Config) where
   after_call past before h x (calls.HartSuspend kind addr opaque) r running is = rw (← is) (by_kind kind)
     where
       by_kind : (kind : Result SuspendKind SbiError) → (let r = suspend_reply c kind addr in
-          IsEnteredBy past before h (move_by_call x (calls.HartSuspend kind addr opaque) r) (start_by_call (calls.HartSuspend kind addr opaque) r) None)
+          IsEnteredBy past before h (move_by_call c x (calls.HartSuspend kind addr opaque) r) (start_by_call c (calls.HartSuspend kind addr opaque) r) None)
       by_kind (Err error) = quiet past before h
       by_kind (Ok Retentive) = settled past before h x SuspendPending refl (ap is_start_pending running)
       by_kind (Ok NonRetentive) = by_address (is_start_address c.pages addr)
         where
           by_address : (right : Bool) → (let r = (if right then Gone else Ret (failure InvalidAddress)) in
-              IsEnteredBy past before h (move_by_call x (calls.HartSuspend kind addr opaque) r) (start_by_call (calls.HartSuspend kind addr opaque) r) None)
+              IsEnteredBy past before h (move_by_call c x (calls.HartSuspend kind addr opaque) r) (start_by_call c (calls.HartSuspend kind addr opaque) r) None)
           by_address true = settled past before h x SuspendPending refl (ap is_start_pending running)
           by_address false = quiet past before h
   after_call past before h x (calls.RemoteFenceI mask base) r running is = quiet past before h
   after_call past before h x (calls.RemoteSfenceVma mask base start size) r running is = quiet past before h
   after_call past before h x (calls.RemoteSfenceVmaAsid mask base start size asid) r running is = quiet past before h
+  after_call past before h x (calls.SystemReset (Err error)) r running is = quiet past before h
+  after_call past before h x (calls.SystemReset (Ok reset)) r running is = rw (← is) (anew past before h reset)
   after_call past before h x calls.Unsupported r running is = quiet past before h
 
   -- the law after an Advance
   after_advance : (past : List Event) (before : (h : ℕ) → IsEntered past h) (h x : ℕ) (s : HartState) (wake : Bool) (r : Reply)
       → is_started s ≡ false → not (goes_on wake s) ≡ false → state c past x ≡ s → advance_reply x s (last_start c past x) (resume_point past x) ≡ r
-      → IsEnteredBy past before h (move_by x Advance r) None (entry_by Advance r (is_start_pending s))
+      → IsEnteredBy past before h (move_by c x Advance r) None (entry_by Advance r (is_start_pending s))
   after_advance past before h x Started wake r in_phase to_do at is = absurd cc
   after_advance past before h x Stopped wake r in_phase to_do at is = absurd cc
   after_advance past before h x StartPending wake r in_phase to_do at is = rw (← is) (entered past before h x _ _ _ at refl)
@@ -196,31 +211,31 @@ module _ (c : Config) where
   after_advance past before h x ResumePending wake r in_phase to_do at is = rw (← is) (by_resume (resume_point past x))
     where
       by_resume : (resume : Option Kept) → (let r = resume_reply x resume in
-          IsEnteredBy past before h (move_by x Advance r) None (entry_by Advance r false))
+          IsEnteredBy past before h (move_by c x Advance r) None (entry_by Advance r false))
       by_resume None = settled past before h x Started refl (ap is_start_pending at)
       by_resume (Some kept) = settled past before h x Started refl (ap is_start_pending at)
 
   after_event : (past : List Event) (actor : Actor) (op : Op) (r : Reply) (used : Option CacheEntry) → answer c past actor op ≡ Ok r
       → ((h : ℕ) → IsEntered past h) → (h : ℕ) → IsEntered (record { actor = actor; op = op; reply = r; translation = used } ∷ past) h
   unfolding IsEntered IsEnteredBy
-  after_event past Clock (Ecall regs) r used e before h = cc
-  after_event past Clock (Load va) r used e before h = cc
-  after_event past Clock (Store va value) r used e before h = cc
-  after_event past Clock (Fetch va) r used e before h = cc
-  after_event past Clock (WriteSatp value) r used e before h = cc
-  after_event past Clock (WriteSie value) r used e before h = cc
-  after_event past Clock (WriteSstatusSie value) r used e before h = cc
-  after_event past Clock ReadSip r used e before h = cc
-  after_event past Clock ClearSsip r used e before h = cc
-  after_event past Clock Wfi r used e before h = cc
-  after_event past Clock (Sfence va asid) r used e before h = cc
-  after_event past Clock FenceI r used e before h = cc
-  after_event past Clock Poll r used e before h = cc
-  after_event past Clock Serve r used e before h = cc
-  after_event past Clock Advance r used e before h = cc
+  after_event past Clock (Ecall regs) r used e before h = absurd (clock_ticks c past (Ecall regs) r refl e)
+  after_event past Clock (Load va) r used e before h = absurd (clock_ticks c past (Load va) r refl e)
+  after_event past Clock (Store va value) r used e before h = absurd (clock_ticks c past (Store va value) r refl e)
+  after_event past Clock (Fetch va) r used e before h = absurd (clock_ticks c past (Fetch va) r refl e)
+  after_event past Clock (WriteSatp value) r used e before h = absurd (clock_ticks c past (WriteSatp value) r refl e)
+  after_event past Clock (WriteSie value) r used e before h = absurd (clock_ticks c past (WriteSie value) r refl e)
+  after_event past Clock (WriteSstatusSie value) r used e before h = absurd (clock_ticks c past (WriteSstatusSie value) r refl e)
+  after_event past Clock ReadSip r used e before h = absurd (clock_ticks c past ReadSip r refl e)
+  after_event past Clock ClearSsip r used e before h = absurd (clock_ticks c past ClearSsip r refl e)
+  after_event past Clock Wfi r used e before h = absurd (clock_ticks c past Wfi r refl e)
+  after_event past Clock (Sfence va asid) r used e before h = absurd (clock_ticks c past (Sfence va asid) r refl e)
+  after_event past Clock FenceI r used e before h = absurd (clock_ticks c past FenceI r refl e)
+  after_event past Clock Poll r used e before h = absurd (clock_ticks c past Poll r refl e)
+  after_event past Clock Serve r used e before h = absurd (clock_ticks c past Serve r refl e)
+  after_event past Clock Advance r used e before h = absurd (clock_ticks c past Advance r refl e)
   after_event past Clock (Tick n) r used e before h = before h
   after_event past (Hart x) (Ecall regs) r used e before h =
-      let facts = accepted (nat_le c.harts x) (situation c past x) (Ecall regs) (is_full c past) (reply c past x (Ecall regs)) r e in
+      let facts = accepted (is_off past) (nat_le c.harts x) (situation c past x) (Ecall regs) (is_full c past) (reply c past x (Ecall regs)) r e in
       after_call past before h x (call_of regs) r (running_parts (situation c past x) facts.0.in_phase).0 facts.1
   after_event past (Hart x) (Load va) r used e before h = before h
   after_event past (Hart x) (Store va value) r used e before h = before h
@@ -236,7 +251,7 @@ module _ (c : Config) where
   after_event past (Hart x) Poll r used e before h = before h
   after_event past (Hart x) Serve r used e before h = before h
   after_event past (Hart x) Advance r used e before h =
-      let facts = accepted (nat_le c.harts x) (situation c past x) Advance (is_full c past) (reply c past x Advance) r e in
+      let facts = accepted (is_off past) (nat_le c.harts x) (situation c past x) Advance (is_full c past) (reply c past x Advance) r e in
       after_advance past before h x (state c past x) (wake c past x) r facts.0.in_phase facts.0.to_do refl facts.1
   after_event past (Hart x) (Tick n) r used e before h = before h
 

@@ -11,31 +11,33 @@ use Rattle.board_core.specs.History.{Event, Reach, access_of, entry_of, using}
 use Rattle.board_core.specs.declared.event.Op.{Op}
 use Rattle.board_core.specs.declared.event.Op.TheVariants.{Tick}
 use Rattle.board_core.specs.declared.event.Refusal.{Refusal}
-use Rattle.board_core.specs.declared.event.Refusal.TheVariants.{WrongPhase}
+use Rattle.board_core.specs.declared.event.Refusal.TheVariants.{Off, WrongPhase}
 use Rattle.board_core.specs.declared.event.Reply.{Reply}
 use Rattle.board_core.specs.declared.event.Reply.TheVariants.{Done}
 use Rattle.board_core.specs.Accesses.{used, used_by_access, used_by_actor}
 use Rattle.board_core.specs.Interrupts.{time}
 use Rattle.board_core.specs.Refusals.{first_that_holds, is_full, refusals_in, situation}
 use Rattle.board_core.specs.Replies.{answer, refused_or, reply, stepped}
+use Rattle.board_core.specs.Resets.{is_off}
 use Rattle.board_core.specs.Stands.{IsKept}
 use Rattle.board_core.proofs.Tables.{eqb-same}
 
 -- the answer to a hart that is there and isn't refused is the reply
-pub hart_answered : (c : Config) (past : List Event) (h : ℕ) (op : Op) (r : Reply) → h < c.harts
+pub hart_answered : (c : Config) (past : List Event) (h : ℕ) (op : Op) (r : Reply) → is_off past ≡ false → h < c.harts
     → first_that_holds (refusals_in (situation c past h) op (is_full c past)) ≡ None → r ≡ reply c past h op → answer c past (Hart h) op ≡ Ok r
-hart_answered c past h op r inside none is =
+hart_answered c past h op r on inside none is =
     let present = lt-leb c.harts h inside in
-    unrefused_answer (nat_le c.harts h) (refusals_in (situation c past h) op (is_full c past)) present none ∙ ap Ok (sym is)
+    unrefused_answer (is_off past) (nat_le c.harts h) (refusals_in (situation c past h) op (is_full c past)) on present none ∙ ap Ok (sym is)
   where
-    unrefused_answer : (missing : Bool) (rows : List (Bool × Refusal)) → missing ≡ false → first_that_holds rows ≡ None
-        → refused_or (first_that_holds ((missing, WrongPhase) ∷ rows)) (reply c past h op) ≡ Ok (reply c past h op)
-    unrefused_answer true rows m none = cc
-    unrefused_answer false rows m none = rw none refl
+    unrefused_answer : (off missing : Bool) (rows : List (Bool × Refusal)) → off ≡ false → missing ≡ false → first_that_holds rows ≡ None
+        → refused_or (first_that_holds ((off, Off) ∷ (missing, WrongPhase) ∷ rows)) (reply c past h op) ≡ Ok (reply c past h op)
+    unrefused_answer true missing rows o m none = cc
+    unrefused_answer false true rows o m none = cc
+    unrefused_answer false false rows o m none = rw none refl
 
 -- the answer to a tick that isn't refused
-pub clock_answered : (c : Config) (past : List Event) (n : ℕ) → is_full c past ≡ false → nat_lt last_time (time past + n) ≡ false → answer c past Clock (Tick n) ≡ Ok Done
-clock_answered c past n room early = rw (room, early) refl
+pub clock_answered : (c : Config) (past : List Event) (n : ℕ) → is_off past ≡ false → is_full c past ≡ false → nat_lt last_time (time past + n) ≡ false → answer c past Clock (Tick n) ≡ Ok Done
+clock_answered c past n on room early = rw (on, room, early) refl
 
 -- ticks that the timers take
 pub ticked_on : (t : Timing) (n : ℕ) → is_some (ticked t n) ≡ true → (unwrap_or (ticked t n) t ≡ record t { time = t.time + n }) × (nat_lt last_time (t.time + n) ≡ false)

@@ -1,5 +1,5 @@
 -- What the supervisor's registers hold (Privileged 4.1, Supervisor CSRs).
-use Rattle.std.specs.Prelude.{ℕ, ◌+◌, List, [], ◌∷◌, Bool, false, ◌==◌, ◌&&◌, ◌||◌, if◌then◌else◌, Option, Some, None}
+use Rattle.std.specs.Prelude.{ℕ, ◌+◌, List, [], ◌∷◌, Bool, false, ◌==◌, ◌&&◌, ◌||◌, if◌then◌else◌, Option, Some}
 use Rattle.std.specs.Int.{bit_at}
 use Rattle.board_core.specs.declared.config.Config.{Config}
 use Rattle.board_core.specs.declared.csrs.Sie.{Sie}
@@ -9,20 +9,17 @@ use Rattle.board_core.specs.declared.event.Op.TheVariants.{WriteSie, WriteSstatu
 use Rattle.board_core.specs.declared.event.Reply.{Reply}
 use Rattle.board_core.specs.declared.event.Reply.TheVariants.{Entry}
 use Rattle.board_core.specs.Course.{is_hart}
+use Rattle.board_core.specs.Resets.{reset_by}
 use Rattle.board_core.specs.States.{is_start_entry, is_starting}
+use Rattle.board_core.specs.Writes.{Write, Here, at_reset, latest}
 
--- the value that an event of the hart's own made, or else the one before
-abbrev pub latest : {A : Type 0} → Option A → (own : Bool) → A → A
-latest None own before = before
-latest (Some value) own before = if own then value else before
+-- A guest writes sstatus.SIE, and each entry clears it (SBI 9.1 and 9.4), and a reset everywhere (profile).
+abbrev pub sstatus_sie_by : Op → Reply → Option (Write Bool)
+sstatus_sie_by (WriteSstatusSie value) reply = Some (Here value)
+sstatus_sie_by Advance (Entry addr hart opaque) = Some (Here false)
+sstatus_sie_by op reply = at_reset (reset_by op reply) false
 
--- A guest writes sstatus.SIE, and each entry clears it (SBI 9.1 and 9.4).
-abbrev pub sstatus_sie_by : Op → Reply → Option Bool
-sstatus_sie_by (WriteSstatusSie value) reply = Some value
-sstatus_sie_by Advance (Entry addr hart opaque) = Some false
-sstatus_sie_by op reply = None
-
--- Whether sstatus.SIE of a hart is 1: what its last write or entry made of it, and 0 before any.
+-- Whether sstatus.SIE of a hart is 1: what its last write, entry or reset made of it, and 0 before any.
 abbrev pub sstatus_sie : List Event → ℕ → Bool
 sstatus_sie [] h = false
 sstatus_sie (event ∷ past) h = latest (sstatus_sie_by event.op event.reply) (is_hart h event.actor) (sstatus_sie past h)
@@ -47,12 +44,12 @@ bits_of sie = interrupt_bits sie.ssie sie.stie
 abbrev pub enables : Sie → (ssip stip : Bool) → Bool
 enables sie ssip stip = (sie.ssie && ssip) || (sie.stie && stip)
 
--- A guest writes sie, and the entry of a start clears it (profile).
-abbrev pub sie_by : Op → Reply → (starting : Bool) → Option Sie
-sie_by (WriteSie value) reply starting = Some (sie_of value)
-sie_by op reply starting = if is_start_entry op reply starting then Some none_enabled else None
+-- A guest writes sie, and the entry of a start clears it, and a reset everywhere (profile).
+abbrev pub sie_by : Op → Reply → (starting : Bool) → Option (Write Sie)
+sie_by (WriteSie value) reply starting = Some (Here (sie_of value))
+sie_by op reply starting = if is_start_entry op reply starting then Some (Here none_enabled) else at_reset (reset_by op reply) none_enabled
 
--- sie of a hart: what its last write or entry by start made of it, and 0 before any. The entry of a resume keeps it
+-- sie of a hart: what its last write, entry by start or reset made of it, and 0 before any. The entry of a resume keeps it
 -- (profile).
 abbrev pub sie : Config → List Event → ℕ → Sie
 sie c [] h = none_enabled

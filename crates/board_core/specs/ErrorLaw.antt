@@ -12,6 +12,7 @@ use Rattle.board_core.specs.Csrs as csrs
 use Rattle.board_core.specs.Fences as fences
 use Rattle.board_core.specs.Interrupts as interrupts
 use Rattle.board_core.specs.Memory as memory
+use Rattle.board_core.specs.Resets as resets
 use Rattle.board_core.specs.Starts as starts
 use Rattle.board_core.specs.States as states
 use Rattle.board_core.specs.Totals as counts
@@ -37,5 +38,6 @@ pub record LooksSame (c : Config) (past later : List Event) : Type 0 where
   pub fetched : (h : ℕ) → (cache_after covers_word (memory.word_acts c later h)).live ≡ (cache_after covers_word (memory.word_acts c past h)).live
   pub waiting : (h : ℕ) → fences.waiting c later h ≡ fences.waiting c past h
   pub outstanding : (h : ℕ) → fences.outstanding c later h ≡ fences.outstanding c past h
+  pub last_reset : resets.last_reset later ≡ resets.last_reset past
   pub time : interrupts.time later ≡ interrupts.time past
   pub totals : counts.totals c later ≡ counts.totals c past

@@ -3,14 +3,14 @@ use Rattle.std.specs.Prelude.{ℕ, List, [], ◌∷◌, Bool, map, ◌&&◌, if�
 use Rattle.sbi_abi.specs.declared.answer.SbiError.{SbiError}
 use Rattle.sbi_abi.specs.declared.answer.SbiError.TheVariants.{InvalidAddress}
 use Rattle.sbi_abi.specs.declared.call.Call.{Call}
-use Rattle.sbi_abi.specs.declared.call.Call.TheVariants.{HartStop, RemoteFenceI, RemoteSfenceVma, RemoteSfenceVmaAsid}
+use Rattle.sbi_abi.specs.declared.call.Call.TheVariants.{HartStop, RemoteFenceI, RemoteSfenceVma, RemoteSfenceVmaAsid, SystemReset}
 use Rattle.sbi_abi.specs.Calls.{call_of}
 use Rattle.fence_queue.specs.declared.request.Request.{Request}
 use Rattle.hart_mask.specs.HartList.{targets_of}
 use Rattle.hsm.specs.States.{is_interruptible}
 use Rattle.rfence.specs.Calls as calls
 use Rattle.rfence.specs.State.{in_call}
-use Rattle.rfence.specs.Turns.{Turn, Ask, Own, Serve, Poll, Stop, Quiet}
+use Rattle.rfence.specs.Turns.{Turn, Ask, Own, Serve, Poll, Stop, Reset, Quiet}
 use Rattle.rfence.specs.Waiting as queues
 use Rattle.tlb_model.specs.declared.fence.Flush.{Flush}
 use Rattle.tlb_model.specs.declared.fence.Flush.TheVariants.{Words, Entries}
@@ -61,6 +61,7 @@ module _ (c : Config) (past : List Event) where
 
   abbrev pub turn_by_call : (x : ℕ) → Call → Reply → Turn Flush
   turn_by_call x HartStop replies.Gone = Stop x
+  turn_by_call x (SystemReset (Ok reset)) replies.Gone = Reset
   turn_by_call x call reply = turn_by_remote x (remote_of call) reply
 
   -- What an operation of hart x means for fences.

@@ -15,8 +15,10 @@ use Rattle.board_core.specs.declared.event.Op.TheVariants.{Ecall, ClearSsip, Tic
 use Rattle.board_core.specs.declared.event.Reply.{Reply}
 use Rattle.board_core.specs.declared.event.Reply.TheVariants.{Ret, Gone}
 use Rattle.board_core.specs.Course.{is_hart}
-use Rattle.board_core.specs.Csrs.{enables, latest, sie}
+use Rattle.board_core.specs.Csrs.{enables, sie}
+use Rattle.board_core.specs.Resets.{reset_by, reset_by_call}
 use Rattle.board_core.specs.States.{is_start_entry, is_starting, state}
+use Rattle.board_core.specs.Writes.{Write, Here, at_reset, latest}
 
 -- ---- software interrupts
 
@@ -36,10 +38,10 @@ abbrev pub reaches_by : Config → List Event → Op → Reply → ℕ → Bool
 reaches_by c past (Ecall regs) reply h = reaches_by_call c past (call_of regs) reply h
 reaches_by c past op reply h = false
 
--- A guest clears SSIP of its hart, and so does the entry of a start (profile).
-abbrev pub ssip_by : Op → Reply → (starting : Bool) → Option Bool
-ssip_by ClearSsip reply starting = Some false
-ssip_by op reply starting = if is_start_entry op reply starting then Some false else None
+-- A guest clears SSIP of its hart, and so does the entry of a start; a reset clears it everywhere (profile).
+abbrev pub ssip_by : Op → Reply → (starting : Bool) → Option (Write Bool)
+ssip_by ClearSsip reply starting = Some (Here false)
+ssip_by op reply starting = if is_start_entry op reply starting then Some (Here false) else at_reset (reset_by op reply) false
 
 -- Whether SSIP of a hart is 1: the last event that wrote it was an IPI.
 abbrev pub ssip : Config → List Event → ℕ → Bool
@@ -59,16 +61,16 @@ abbrev pub time : List Event → ℕ
 time [] = 0
 time (event ∷ past) = time past + ticks_by event.op
 
--- A call sets its hart's deadline (SBI 6.1), and a stop forgets it (profile).
-abbrev pub deadline_by_call : Call → Reply → Option (Option ℕ)
-deadline_by_call (SetTimer deadline) (Ret answer) = Some (Some deadline)
-deadline_by_call HartStop Gone = Some None
-deadline_by_call call reply = None
+-- A call sets its hart's deadline (SBI 6.1), and a stop forgets it, and a reset that of every hart (profile).
+abbrev pub deadline_by_call : Call → Reply → Option (Write (Option ℕ))
+deadline_by_call (SetTimer deadline) (Ret answer) = Some (Here (Some deadline))
+deadline_by_call HartStop Gone = Some (Here None)
+deadline_by_call call reply = at_reset (reset_by_call call reply) None
 
 -- The entry of a start forgets it too (profile).
-abbrev pub deadline_by : Op → Reply → (starting : Bool) → Option (Option ℕ)
+abbrev pub deadline_by : Op → Reply → (starting : Bool) → Option (Write (Option ℕ))
 deadline_by (Ecall regs) reply starting = deadline_by_call (call_of regs) reply
-deadline_by op reply starting = if is_start_entry op reply starting then Some None else None
+deadline_by op reply starting = if is_start_entry op reply starting then Some (Here None) else None
 
 -- The deadline of a hart: that of its last call for one, unless it was forgotten since.
 abbrev pub deadline : Config → List Event → ℕ → Option ℕ

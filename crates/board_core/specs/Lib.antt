@@ -3,6 +3,8 @@ pub mod Course
 pub mod States
 pub mod Csrs
 pub mod History
+pub mod Resets
+pub mod Writes
 pub mod Fences
 pub mod Memory
 pub mod Accesses

@@ -1,5 +1,6 @@
 -- Memory, its translation, and the harts' caches (Privileged 4.1.11, 4.2, 4.3; Zifencei).
 use Rattle.std.specs.Prelude.{ℕ, List, [], ◌∷◌, Bool, ◌==◌, if◌then◌else◌, Option, Some, None, unwrap_or}
+use Rattle.sbi_abi.specs.declared.reset.Reset.{Reset}
 use Rattle.rfence.specs.Applied.{Effect, Nothing, Drops, Empties, effect}
 use Rattle.sv39.specs.Memory.{written, zero_memory}
 use Rattle.sv39.specs.Satp.{asid_of, is_sv39, mode_of}
@@ -19,24 +20,25 @@ use Rattle.board_core.specs.declared.event.Op.TheVariants as ops
 use Rattle.board_core.specs.declared.event.Reply.{Reply}
 use Rattle.board_core.specs.declared.event.Reply.TheVariants as replies
 use Rattle.board_core.specs.Course.{is_hart}
-use Rattle.board_core.specs.Csrs.{latest}
 use Rattle.board_core.specs.Fences.{turn_of, turns}
 use Rattle.board_core.specs.History.{Event}
+use Rattle.board_core.specs.Resets.{is_cold, reset_by}
+use Rattle.board_core.specs.Writes.{Write, Here, at_reset, latest}
 
 -- ---- satp
 
 -- What a write puts into satp: 0 with MODE Bare (profile), the value with MODE Sv39, and nothing with another MODE, which
 -- has no effect (Privileged 4.1.11).
-abbrev pub satp_of_write : ℕ → Option ℕ
-satp_of_write value = if mode_of value == 0 then Some 0 else if is_sv39 value then Some value else None
+abbrev pub satp_of_write : ℕ → Option (Write ℕ)
+satp_of_write value = if mode_of value == 0 then Some (Here 0) else if is_sv39 value then Some (Here value) else None
 
--- A guest writes satp, and each entry clears it (SBI 9.1 and 9.4).
-abbrev pub satp_by : Op → Reply → Option ℕ
+-- A guest writes satp, and each entry clears it (SBI 9.1 and 9.4), and a reset everywhere (profile).
+abbrev pub satp_by : Op → Reply → Option (Write ℕ)
 satp_by (ops.WriteSatp value) reply = satp_of_write value
-satp_by ops.Advance (replies.Entry addr hart opaque) = Some 0
-satp_by op reply = None
+satp_by ops.Advance (replies.Entry addr hart opaque) = Some (Here 0)
+satp_by op reply = at_reset (reset_by op reply) 0
 
--- satp of a hart: what its last write or entry made of it, and 0 before any.
+-- satp of a hart: what its last write, entry or reset made of it, and 0 before any.
 abbrev pub satp : List Event → ℕ → ℕ
 satp [] h = 0
 satp (event ∷ past) h = latest (satp_by event.op event.reply) (is_hart h event.actor) (satp past h)
@@ -52,19 +54,31 @@ pub record Storing : Type 0 where
   pub at : ℕ
   pub value : ℕ
 
+-- what is written into the memory: a word, or 0 into every word
+pub data Writing : Type 0 where
+  Stored : Storing → Writing
+  Zeroed : Writing
+
+-- A cold reboot writes 0 into every word (profile).
+abbrev pub zeroed_by : Option Reset → Option Writing
+zeroed_by None = None
+zeroed_by (Some reset) = if is_cold reset.kind then Some Zeroed else None
+
 -- A store that is done writes its word where its translation says.
-abbrev pub storing_by : Op → Reply → Option Entry → Option Storing
-storing_by (ops.Store va value) replies.Done used = Some (record { at = phys_at used va; value = value })
-storing_by op reply used = None
+abbrev pub writing_by : Op → Reply → Option Entry → Option Writing
+writing_by (ops.Store va value) replies.Done used = Some (Stored (record { at = phys_at used va; value = value }))
+writing_by op reply used = zeroed_by (reset_by op reply)
 
-abbrev pub written_by : Option Storing → (ℕ → Option ℕ) → ℕ → Option ℕ
-written_by None memory = memory
-written_by (Some storing) memory = written memory storing.at storing.value
+abbrev pub written_by : Config → Option Writing → (ℕ → Option ℕ) → ℕ → Option ℕ
+written_by c None memory = memory
+written_by c (Some (Stored storing)) memory = written memory storing.at storing.value
+written_by c (Some Zeroed) memory = zero_memory c.pages
 
--- The word at a physical address, where the RAM has one: the one that was stored there last, and 0 before any.
+-- The word at a physical address, where the RAM has one: the one that was stored there last, and 0 before any and after a
+-- cold reboot.
 abbrev pub memory : Config → List Event → ℕ → Option ℕ
 memory c [] = zero_memory c.pages
-memory c (event ∷ past) = written_by (storing_by event.op event.reply event.translation) (memory c past)
+memory c (event ∷ past) = written_by c (writing_by event.op event.reply event.translation) (memory c past)
 
 -- ---- caches
 

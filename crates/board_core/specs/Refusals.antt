@@ -10,12 +10,14 @@ use Rattle.board_core.specs.History.{Event}
 use Rattle.board_core.specs.declared.event.Op.{Op}
 use Rattle.board_core.specs.declared.event.Op.TheVariants.{Ecall, Load, Store, Fetch, WriteSatp, WriteSie, WriteSstatusSie, ReadSip, ClearSsip, Wfi, Sfence, FenceI, Poll, Serve, Advance, Tick}
 use Rattle.board_core.specs.declared.event.Refusal.{Refusal}
-use Rattle.board_core.specs.declared.event.Refusal.TheVariants.{WrongPhase, Nothing, HistoryFull, TimeFull}
+use Rattle.board_core.specs.declared.event.Refusal.TheVariants.{Off, WrongPhase, Nothing, HistoryFull, TimeFull}
 use Rattle.board_core.specs.Fences.{outstanding, waiting}
 use Rattle.board_core.specs.Interrupts.{ticks_by, time, wake}
+use Rattle.board_core.specs.Resets.{is_off}
 use Rattle.board_core.specs.States.{state}
 
 abbrev pub refusal_number : Refusal → ℕ
+refusal_number Off = 1
 refusal_number WrongPhase = 2
 refusal_number Nothing = 3
 refusal_number HistoryFull = 4
@@ -99,18 +101,19 @@ abbrev pub situation : Config → List Event → ℕ → Situation
 situation c past h =
     record { state = state c past h; wake = wake c past h; call = outstanding c past h; fences = waiting c past h }
 
--- The refusals of an operation of hart h: first of all, there has to be such a hart.
+-- The refusals of an operation of hart h: first of all, the power has to be on, and there has to be such a hart.
 abbrev pub refusals : Config → List Event → ℕ → Op → List (Bool × Refusal)
-refusals c past h op = (nat_le c.harts h, WrongPhase) ∷ refusals_in (situation c past h) op (is_full c past)
+refusals c past h op = (is_off past, Off) ∷ (nat_le c.harts h, WrongPhase) ∷ refusals_in (situation c past h) op (is_full c past)
 
 abbrev pub is_tick : Op → Bool
 is_tick (Tick n) = true
 is_tick op = false
 
--- The refusals of an operation of the clock, which only ticks, and not past the last time.
+-- The refusals of an operation of the clock, which only ticks, while the power is on, and not past the last time.
 abbrev pub clock_refusals : Config → List Event → Op → List (Bool × Refusal)
 clock_refusals c past op =
-    (not (is_tick op), WrongPhase)
+    (is_off past, Off)
+    ∷ (not (is_tick op), WrongPhase)
     ∷ (is_full c past, HistoryFull)
     ∷ (nat_lt last_time (time past + ticks_by op), TimeFull)
     ∷ []

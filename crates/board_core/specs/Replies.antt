@@ -4,9 +4,10 @@ use Rattle.sbi_abi.specs.declared.answer.Sbiret.{Sbiret}
 use Rattle.sbi_abi.specs.declared.answer.SbiError.{SbiError}
 use Rattle.sbi_abi.specs.declared.answer.SbiError.TheVariants.{Failed, NotSupported, InvalidParam, InvalidAddress, AlreadyAvailable}
 use Rattle.sbi_abi.specs.declared.call.Call.{Call}
-use Rattle.sbi_abi.specs.declared.call.Call.TheVariants.{GetSpecVersion, GetImplId, GetImplVersion, ProbeExtension, GetMvendorid, GetMarchid, GetMimpid, SetTimer, SendIpi, RemoteFenceI, RemoteSfenceVma, RemoteSfenceVmaAsid, HartStart, HartStop, HartGetStatus, HartSuspend, Unsupported}
+use Rattle.sbi_abi.specs.declared.call.Call.TheVariants.{GetSpecVersion, GetImplId, GetImplVersion, ProbeExtension, GetMvendorid, GetMarchid, GetMimpid, SetTimer, SendIpi, RemoteFenceI, RemoteSfenceVma, RemoteSfenceVmaAsid, HartStart, HartStop, HartGetStatus, HartSuspend, SystemReset, Unsupported}
 use Rattle.sbi_abi.specs.Calls.{call_of, is_extension_id}
 use Rattle.sbi_abi.specs.Errors.{error_number}
+use Rattle.sbi_abi.specs.declared.reset.Reset.{Reset}
 use Rattle.sbi_abi.specs.declared.suspend.SuspendKind.{SuspendKind}
 use Rattle.sbi_abi.specs.declared.suspend.SuspendKind.TheVariants.{Retentive, NonRetentive}
 use Rattle.hart_mask.specs.HartList.{targets_of}
@@ -82,6 +83,11 @@ suspend_reply c (Err error) addr = Ret (failure error)
 suspend_reply c (Ok Retentive) addr = Waiting
 suspend_reply c (Ok NonRetentive) addr = if is_start_address c.pages addr then Gone else Ret (failure InvalidAddress)
 
+-- A system reset doesn't return (SBI 10.1), or answers why its type or its reason is refused.
+abbrev pub reset_reply : Result Reset SbiError → Reply
+reset_reply (Err error) = Ret (failure error)
+reset_reply (Ok reset) = Gone
+
 -- The reply to a call by hart x (SBI 4; the ids and versions of the implementation are the profile's). A stop doesn't
 -- return; it fails while the caller's interrupts are enabled (SBI 9.2; that this is looked at: profile).
 abbrev pub call_reply : Config → List Event → (x : ℕ) → Call → Reply
@@ -101,6 +107,7 @@ call_reply c past x (HartStart t addr opaque) = Ret (unless (first_that_holds (s
 call_reply c past x HartStop = if sstatus_sie past x then Ret (failure Failed) else Gone
 call_reply c past x (HartGetStatus t) = Ret (unless (first_that_holds (status_errors c t)) (state_number (state c past t)))
 call_reply c past x (HartSuspend kind addr opaque) = suspend_reply c kind addr
+call_reply c past x (SystemReset reset) = reset_reply reset
 call_reply c past x Unsupported = Ret (failure NotSupported)
 
 -- The reply to the end of a suspend: an entry where the suspend said, or the return of its call (SBI 9.4).

@@ -33,6 +33,7 @@ use Rattle.board_core.specs.Limits.{IsGood}
 use Rattle.board_core.specs.Memory.{memory, satp, tlb_acts, word_acts}
 use Rattle.board_core.specs.Refusals.{Situation}
 use Rattle.board_core.specs.Replies.{IsLegal}
+use Rattle.board_core.specs.Resets.{last_reset}
 use Rattle.board_core.specs.Starts.{entries, hart_of, starts}
 
 -- the harts are those that the past makes
@@ -105,6 +106,7 @@ pub record StandsFor (c : Config) (past : List Event) (m : Machine) : Type 0 whe
   pub memory : MemoryStand c past m.memory
   pub fences : FencesStand c past m.fences
   pub counts : CountsStand c past m.counts
+  pub last_reset : m.last_reset ≡ last_reset past
 
 -- there is a hart, a deadline, a satp, a pair of caches, a call and a queue for each id
 pub record IsSized (c : Config) (m : Machine) : Type 0 where

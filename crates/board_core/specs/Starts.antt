@@ -4,6 +4,7 @@ use Rattle.std.specs.List.{filter_map}
 use Rattle.sbi_abi.specs.declared.call.Call.{Call}
 use Rattle.sbi_abi.specs.declared.call.Call.TheVariants.{HartStart}
 use Rattle.sbi_abi.specs.Calls.{call_of}
+use Rattle.sbi_abi.specs.declared.reset.Reset.{Reset}
 use Rattle.sbi_abi.specs.Errors.{is_success}
 use Rattle.hsm.specs.declared.hart.HartState.{HartState}
 use Rattle.hsm.specs.declared.hart.HartState.TheVariants as states
@@ -17,6 +18,7 @@ use Rattle.board_core.specs.declared.event.Op.TheVariants.{Ecall, Advance}
 use Rattle.board_core.specs.declared.event.Reply.{Reply}
 use Rattle.board_core.specs.declared.event.Reply.TheVariants.{Ret, Entry}
 use Rattle.board_core.specs.Course.{harts_of}
+use Rattle.board_core.specs.Resets.{begins_anew, reset_by, reset_by_call}
 use Rattle.board_core.specs.States.{is_starting, state}
 use Rattle.board_core.specs.Suspends.{resume_point}
 
@@ -30,32 +32,57 @@ pub record Start : Type 0 where
 abbrev pub boot_start : Config → Start
 boot_start c = record { hart = c.boot_hart; addr = c.boot_addr; opaque = c.boot_opaque }
 
+-- how a list of starts goes on: one more, or it begins anew
+pub data Growth : Type 0 where
+  More : Start → Growth
+  Anew : List Start → Growth
+
+abbrev pub grown : Option Growth → List Start → List Start
+grown None starts = starts
+grown (Some (More start)) starts = start ∷ starts
+grown (Some (Anew starts)) before = starts
+
+-- what an event makes of them: a start is one more, and with a reset they begin anew
+abbrev pub growth : Option Start → Option Reset → (anew : Reset → List Start) → Option Growth
+growth (Some start) reset anew = Some (More start)
+growth None None anew = None
+growth None (Some reset) anew = Some (Anew (anew reset))
+
+-- A reboot makes the firmware's own start again, and a shutdown none (profile).
+abbrev pub starts_at : Config → Reset → List Start
+starts_at c reset = if begins_anew reset.kind then boot_start c ∷ [] else []
+
 -- the start that a call asks for, where it succeeded
-abbrev pub start_by_call : Call → Reply → Option Start
-start_by_call (HartStart t addr opaque) (Ret answer) =
+abbrev pub started_by_call : Call → Reply → Option Start
+started_by_call (HartStart t addr opaque) (Ret answer) =
     if is_success answer then Some (record { hart = t; addr = addr; opaque = opaque }) else None
-start_by_call call reply = None
+started_by_call call reply = None
 
-abbrev pub start_by : Op → Reply → Option Start
-start_by (Ecall regs) reply = start_by_call (call_of regs) reply
-start_by op reply = None
+abbrev pub start_by_call : Config → Call → Reply → Option Growth
+start_by_call c call reply = growth (started_by_call call reply) (reset_by_call call reply) (starts_at c)
 
--- The accepted starts, newest first; the first of all is the firmware's own.
+abbrev pub start_by : Config → Op → Reply → Option Growth
+start_by c (Ecall regs) reply = start_by_call c (call_of regs) reply
+start_by c op reply = None
+
+-- The accepted starts since the last reset, newest first; the first of all is the firmware's own.
 abbrev pub starts : Config → List Event → List Start
 starts c [] = boot_start c ∷ []
-starts c (event ∷ past) = option_to_list (start_by event.op event.reply) ++ starts c past
+starts c (event ∷ past) = grown (start_by c event.op event.reply) (starts c past)
 
 -- the start that a step enters: an Advance that enters, of a hart whose start is pending
-abbrev pub entry_by : Op → Reply → (starting : Bool) → Option Start
-entry_by Advance (Entry addr hart opaque) starting =
+abbrev pub entered_by : Op → Reply → (starting : Bool) → Option Start
+entered_by Advance (Entry addr hart opaque) starting =
     if starting then Some (record { hart = hart; addr = addr; opaque = opaque }) else None
-entry_by op reply starting = None
+entered_by op reply starting = None
 
--- The entries of starts, newest first, as their replies tell them.
+abbrev pub entry_by : Op → Reply → (starting : Bool) → Option Growth
+entry_by op reply starting = growth (entered_by op reply starting) (reset_by op reply) (λ reset. [])
+
+-- The entries of starts since the last reset, newest first, as their replies tell them.
 abbrev pub entries : Config → List Event → List Start
 entries c [] = []
-entries c (event ∷ past) =
-    option_to_list (entry_by event.op event.reply (is_starting c past event.actor)) ++ entries c past
+entries c (event ∷ past) = grown (entry_by event.op event.reply (is_starting c past event.actor)) (entries c past)
 
 abbrev pub is_of : ℕ → Start → Bool
 is_of h start = h == start.hart

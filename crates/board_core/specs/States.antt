@@ -1,8 +1,9 @@
 -- The state of a hart: what the last event that moved it brought it to (SBI 9, HSM states).
-use Rattle.std.specs.Prelude.{ℕ, List, [], ◌∷◌, Bool, false, ◌==◌, if◌then◌else◌, Option, Some, None}
+use Rattle.std.specs.Prelude.{ℕ, List, [], ◌∷◌, Bool, false, ◌==◌, if◌then◌else◌, Option, Some, None, Ok}
 use Rattle.sbi_abi.specs.declared.call.Call.{Call}
-use Rattle.sbi_abi.specs.declared.call.Call.TheVariants.{HartStart, HartStop, HartSuspend}
+use Rattle.sbi_abi.specs.declared.call.Call.TheVariants.{HartStart, HartStop, HartSuspend, SystemReset}
 use Rattle.sbi_abi.specs.Calls.{call_of}
+use Rattle.sbi_abi.specs.declared.reset.Reset.{Reset}
 use Rattle.sbi_abi.specs.Errors.{is_success}
 use Rattle.hsm.specs.declared.hart.HartState.{HartState}
 use Rattle.hsm.specs.declared.hart.HartState.TheVariants as states
@@ -11,48 +12,58 @@ use Rattle.board_core.specs.declared.config.Config.{Config}
 use Rattle.board_core.specs.declared.event.Actor.{Actor}
 use Rattle.board_core.specs.declared.event.Actor.TheVariants.{Hart, Clock}
 use Rattle.board_core.specs.History.{Event}
+use Rattle.board_core.specs.Resets.{begins_anew}
 use Rattle.board_core.specs.declared.event.Op.{Op}
 use Rattle.board_core.specs.declared.event.Op.TheVariants.{Ecall, Advance}
 use Rattle.board_core.specs.declared.event.Reply.{Reply}
 use Rattle.board_core.specs.declared.event.Reply.TheVariants.{Ret, Waiting, Gone, Entry, Moved}
 
--- a hart, and the state that an event brings it to
-pub record Move : Type 0 where
-  pub hart : ℕ
-  pub state : HartState
+-- the state that an event brings a hart to, or each hart
+pub data Move : Type 0 where
+  One : ℕ → HartState → Move
+  Each : (ℕ → HartState) → Move
+
+-- The firmware starts the boot hart by itself: its start is pending, and the others are STOPPED (profile).
+abbrev pub state_at_opening : Config → ℕ → HartState
+state_at_opening c h = if h == c.boot_hart then states.StartPending else states.Stopped
+
+-- A reset makes each hart STOPPED, and a reboot starts the boot hart anew (profile).
+abbrev pub state_at_reset : Config → Reset → ℕ → HartState
+state_at_reset c reset h = if begins_anew reset.kind then state_at_opening c h else states.Stopped
 
 -- The move that a call by hart x is: a start that succeeded makes its hart START_PENDING (SBI 9.1), a stop makes its
--- caller STOP_PENDING (SBI 9.2), and a suspend makes its caller SUSPEND_PENDING (SBI 9.4).
-abbrev pub move_by_call : (x : ℕ) → Call → Reply → Option Move
-move_by_call x (HartStart t addr opaque) (Ret answer) =
-    if is_success answer then Some (record { hart = t; state = states.StartPending }) else None
-move_by_call x HartStop Gone = Some (record { hart = x; state = states.StopPending })
-move_by_call x (HartSuspend kind addr opaque) Gone = Some (record { hart = x; state = states.SuspendPending })
-move_by_call x (HartSuspend kind addr opaque) Waiting = Some (record { hart = x; state = states.SuspendPending })
-move_by_call x call reply = None
+-- caller STOP_PENDING (SBI 9.2), a suspend makes its caller SUSPEND_PENDING (SBI 9.4), and a reset moves each hart.
+abbrev pub move_by_call : Config → (x : ℕ) → Call → Reply → Option Move
+move_by_call c x (HartStart t addr opaque) (Ret answer) = if is_success answer then Some (One t states.StartPending) else None
+move_by_call c x HartStop Gone = Some (One x states.StopPending)
+move_by_call c x (HartSuspend kind addr opaque) Gone = Some (One x states.SuspendPending)
+move_by_call c x (HartSuspend kind addr opaque) Waiting = Some (One x states.SuspendPending)
+move_by_call c x (SystemReset (Ok reset)) Gone = Some (Each (state_at_reset c reset))
+move_by_call c x call reply = None
 
 -- The move that an operation of hart x is: besides calls, the firmware brings its own hart further, to its guest by an
 -- entry or by the return from a retentive suspend.
-abbrev pub move_by : (x : ℕ) → Op → Reply → Option Move
-move_by x (Ecall regs) reply = move_by_call x (call_of regs) reply
-move_by x Advance (Entry addr hart opaque) = Some (record { hart = x; state = states.Started })
-move_by x Advance (Ret answer) = Some (record { hart = x; state = states.Started })
-move_by x Advance (Moved s) = Some (record { hart = x; state = s })
-move_by x op reply = None
+abbrev pub move_by : Config → (x : ℕ) → Op → Reply → Option Move
+move_by c x (Ecall regs) reply = move_by_call c x (call_of regs) reply
+move_by c x Advance (Entry addr hart opaque) = Some (One x states.Started)
+move_by c x Advance (Ret answer) = Some (One x states.Started)
+move_by c x Advance (Moved s) = Some (One x s)
+move_by c x op reply = None
 
 -- the clock moves no hart
-abbrev pub move_of : Actor → Op → Reply → Option Move
-move_of (Hart x) op reply = move_by x op reply
-move_of Clock op reply = None
+abbrev pub move_of : Config → Actor → Op → Reply → Option Move
+move_of c (Hart x) op reply = move_by c x op reply
+move_of c Clock op reply = None
 
 -- the state of hart h after a move, if it is this hart's
 abbrev pub moved_to : Option Move → (h : ℕ) → HartState → HartState
-moved_to None h s = s
-moved_to (Some move) h s = if h == move.hart then move.state else s
+moved_to None h before = before
+moved_to (Some (One x s)) h before = if h == x then s else before
+moved_to (Some (Each state)) h before = state h
 
 abbrev pub state : Config → List Event → ℕ → HartState
-state c [] h = if h == c.boot_hart then states.StartPending else states.Stopped
-state c (event ∷ past) h = moved_to (move_of event.actor event.op event.reply) h (state c past h)
+state c [] h = state_at_opening c h
+state c (event ∷ past) h = moved_to (move_of c event.actor event.op event.reply) h (state c past h)
 
 -- whether the actor is a hart whose start is pending
 abbrev pub is_starting : Config → List Event → Actor → Bool

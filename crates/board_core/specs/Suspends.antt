@@ -10,16 +10,16 @@ use Rattle.board_core.specs.declared.event.Op.TheVariants.{Ecall}
 use Rattle.board_core.specs.declared.event.Reply.{Reply}
 use Rattle.board_core.specs.declared.event.Reply.TheVariants.{Waiting, Gone}
 use Rattle.board_core.specs.Course.{is_hart}
-use Rattle.board_core.specs.Csrs.{latest}
+use Rattle.board_core.specs.Writes.{Write, Here, latest}
 
 -- A suspend that doesn't return is non-retentive, and says where the hart begins anew; one that waits is retentive, and
 -- the hart returns from its call (SBI 9.4).
-abbrev pub resume_by_call : Call → Reply → Option (Option Kept)
-resume_by_call (HartSuspend kind addr opaque) Gone = Some (Some (record { addr = addr; opaque = opaque }))
-resume_by_call (HartSuspend kind addr opaque) Waiting = Some None
+abbrev pub resume_by_call : Call → Reply → Option (Write (Option Kept))
+resume_by_call (HartSuspend kind addr opaque) Gone = Some (Here (Some (record { addr = addr; opaque = opaque })))
+resume_by_call (HartSuspend kind addr opaque) Waiting = Some (Here None)
 resume_by_call call reply = None
 
-abbrev pub resume_by : Op → Reply → Option (Option Kept)
+abbrev pub resume_by : Op → Reply → Option (Write (Option Kept))
 resume_by (Ecall regs) reply = resume_by_call (call_of regs) reply
 resume_by op reply = None
 

@@ -1,4 +1,4 @@
-ghost use Rattle.std.specs.Prelude.{◌≡◌, ◌<◌, ◌≤◌, ◌↔◌, List, [], ◌∷◌, true, IfOk, IsErrOf, length, reverse};
+ghost use Rattle.std.specs.Prelude.{◌≡◌, ◌<◌, ◌≤◌, ◌↔◌, List, [], ◌∷◌, true, false, IfOk, IsErrOf, length, reverse};
 ghost use Rattle.hsm.specs.declared.hart.HartState.{HartState};
 ghost use Rattle.interrupts.specs.Timing.{last_time};
 ghost use Rattle.tlb_model.specs.Acts.{cache_after};
@@ -15,12 +15,14 @@ ghost use Rattle.board_core.specs.Limits.{IsGood};
 ghost use Rattle.board_core.specs.Memory.{memory, satp, tlb_acts, word_acts};
 ghost use Rattle.board_core.specs.Fences.{outstanding, waiting};
 ghost use Rattle.board_core.specs.Refusals.{first_that_holds, is_full, refusals_in, situation};
+ghost use Rattle.board_core.specs.Resets.{is_off, last_reset};
 ghost use Rattle.board_core.specs.States.{state};
 ghost use Rattle.board_core.specs.Starts.{kept, StartsAreEntered};
 ghost use Rattle.board_core.specs.Replies.{answer, stepped, IsLegal};
 ghost use Rattle.board_core.specs.Totals.{totals};
 ghost use Rattle.board_core.specs.Stands.{StandsFor};
 
+use crate::calls::is_shutdown;
 use crate::config::{BuildFault, Config};
 use crate::counts::Counts;
 use crate::csrs::{Csrs, Sie};
@@ -33,6 +35,7 @@ use hart_mask::HartSet;
 use hsm::{HartState, Hsm, Kept};
 use interrupts::{Ipis, Timers};
 use rfence::Fences;
+use sbi_abi::Reset;
 use std::alloc::{AllocError, Global};
 use std::marker::Model;
 use tlb_model::{Entry, FetchWord, Flush, Numbered};
@@ -104,14 +107,18 @@ impl Board {
         ensures answer { result ≡ answer self.old.config self.old.past actor op }
         ensures after { self.new ≡ stepped self.old actor op }
     {
+        if self.is_off() {
+            return Err(Refusal::Off);
+        }
         match actor {
             Actor::Hart(h) => self.hart_step(h, op),
             Actor::Clock => self.clock_step(op),
         }
     }
 
-    /// One step of hart `h`.
+    /// One step of hart `h`, while the power is on.
     fn hart_step(&mut self, h: u64, op: Op) -> Result<Reply, Refusal>
+        requires { is_off self.old.past ≡ false }
         ensures answer { result ≡ answer self.old.config self.old.past (Hart h) op }
         ensures after { self.new ≡ stepped self.old (Hart h) op }
     {
@@ -143,8 +150,9 @@ impl Board {
         }
     }
 
-    /// One step of the clock, which only ticks.
+    /// One step of the clock, which only ticks, while the power is on.
     fn clock_step(&mut self, op: Op) -> Result<Reply, Refusal>
+        requires { is_off self.old.past ≡ false }
         ensures answer { result ≡ answer self.old.config self.old.past Clock op }
         ensures after { self.new ≡ stepped self.old Clock op }
     {
@@ -302,6 +310,20 @@ impl Board {
         self.machine.fences.outstanding(h)
     }
 
+    /// The last system reset, if there was one (SBI 10).
+    pub fn last_reset(&self) -> Option<Reset>
+        ensures { result ≡ last_reset self.now.past }
+    {
+        self.machine.last_reset
+    }
+
+    /// Whether the power is off: the last reset is a shutdown (SBI 10.1).
+    pub fn is_off(&self) -> bool
+        ensures { result ≡ is_off self.now.past }
+    {
+        is_shutdown(self.machine.last_reset)
+    }
+
     /// The deadline of hart `h`, in ticks, if it has one (SBI 6.1).
     pub fn deadline(&self, h: u64) -> Option<u64>
         requires { h < self.now.config.harts }
@@ -358,20 +380,10 @@ fn opening(alloc: Global, config: &Config) -> Result<Machine, AllocError>
     };
     let hsm = Hsm::new(alloc, config.harts, config.boot_hart, boot)?;
     let timers = Timers::new(alloc, config.harts)?;
-    let csrs = Csrs {
-        sstatus_sie: HartSet::new(),
-        ssie: HartSet::new(),
-        stie: HartSet::new(),
-    };
-    let counts = Counts {
-        starts: 1,
-        entries: 0,
-    };
-    let interrupts = Interrupts {
-        csrs,
-        ipis: Ipis::new(),
-        timers,
-    };
+    let counts = Counts::new(true);
+    let csrs = Csrs::new();
+    let ipis = Ipis::new();
+    let interrupts = Interrupts { csrs, ipis, timers };
     let memory = Memory::new(alloc, config)?;
     let fences = Fences::new(alloc, config.harts)?;
     Ok(Machine {
@@ -380,5 +392,6 @@ fn opening(alloc: Global, config: &Config) -> Result<Machine, AllocError>
         memory,
         fences,
         counts,
+        last_reset: None,
     })
 }

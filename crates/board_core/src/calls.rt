@@ -16,9 +16,11 @@ ghost use Rattle.rfence.specs.State.{call_at};
 mod fences;
 mod harts;
 mod ipi;
+mod reset;
 mod time;
 
 use self::fences::flush_of_range;
+pub use self::reset::is_shutdown;
 use crate::config::Config;
 use crate::event::Reply;
 use crate::machine::Machine;
@@ -73,6 +75,7 @@ impl Machine {
             Call::HartSuspend { kind, addr, opaque } => {
                 self.hart_suspend(config, h, kind, addr, opaque)
             }
+            Call::SystemReset(reset) => self.system_reset(config, reset),
             Call::Unsupported => failure(SbiError::NotSupported),
         }
     }

@@ -1,6 +1,20 @@
-/// How many starts were accepted, the boot start among them, and how many of them were entered.
+ghost use Rattle.std.specs.Prelude.{◌≡◌, if◌then◌else◌};
+
+/// How many starts were accepted, the boot start among them, and how many of them were entered, since the last reset.
 #[derive(Drop)]
 pub struct Counts {
     pub starts: u64,
     pub entries: u64,
+}
+
+impl Counts {
+    /// The boot start alone, where there is one.
+    pub fn new(boots: bool) -> Counts
+        ensures { result ≡ record { starts = if boots then 1 else 0; entries = 0 } }
+    {
+        Counts {
+            starts: if boots { 1 } else { 0 },
+            entries: 0,
+        }
+    }
 }

@@ -1,4 +1,4 @@
-ghost use Rattle.std.specs.Prelude.{◌≡◌, ◌<◌, ◌+◌};
+ghost use Rattle.std.specs.Prelude.{◌≡◌, ◌<◌, ◌+◌, []};
 ghost use Rattle.hart_mask.specs.Ids.{has, with_bit};
 ghost use Rattle.board_core.specs.Csrs.{bits_of, enables, interrupt_bits, none_enabled, sie_of};
 
@@ -67,6 +67,17 @@ pub struct Csrs {
 }
 
 impl Csrs {
+    /// Every bit is 0 at every hart.
+    pub fn new() -> Csrs
+        ensures { result ≡ record { sstatus_sie = []; ssie = []; stie = [] } }
+    {
+        Csrs {
+            sstatus_sie: HartSet::new(),
+            ssie: HartSet::new(),
+            stie: HartSet::new(),
+        }
+    }
+
     /// sie of hart `h`.
     pub fn sie(&self, h: u64) -> Sie
         requires { h < 128 }

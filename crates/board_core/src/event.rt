@@ -89,6 +89,9 @@ pub enum Reply {
 /// Why a step was refused. Nothing changed.
 #[derive(Clone, Copy, Debug, PartialEq, Eq, Error)]
 pub enum Refusal {
+    /// The power is off.
+    #[error("the power is off")]
+    Off,
     /// Another kind of actor's operation, no such hart, or not in this state.
     #[error("not in this state, not by this actor, or no such hart")]
     WrongPhase,
@@ -109,6 +112,7 @@ impl Refusal {
         ensures { result ≡ refusal_number self }
     {
         match self {
+            Refusal::Off => 1,
             Refusal::WrongPhase => 2,
             Refusal::Nothing => 3,
             Refusal::HistoryFull => 4,

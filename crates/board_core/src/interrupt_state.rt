@@ -1,6 +1,6 @@
-ghost use Rattle.std.specs.Prelude.{◌≡◌, ◌<◌, None, false, length};
+ghost use Rattle.std.specs.Prelude.{◌≡◌, ◌<◌, [], None, false, length};
 ghost use Rattle.hart_mask.specs.Ids.{has, with_bit, without_id};
-ghost use Rattle.interrupts.specs.Timing.{is_timer_pending, with_deadline};
+ghost use Rattle.interrupts.specs.Timing.{is_timer_pending, with_deadline, without_deadlines};
 ghost use Rattle.board_core.specs.Csrs.{enables, interrupt_bits};
 
 use crate::csrs::{Csrs, Sie, interrupt_bits};
@@ -34,6 +34,19 @@ impl Interrupts {
     {
         let sie = self.csrs.sie(h);
         sie.enables(self.ipis.pending(h), self.timers.pending(h))
+    }
+
+    /// A reset: every interrupt is disabled, nothing is pending, no hart has a deadline, and the time goes on (profile).
+    pub fn reset(&mut self)
+        ensures { self.new ≡ record {
+          csrs = record { sstatus_sie = []; ssie = []; stie = [] };
+          ipis = [];
+          timers = without_deadlines self.old.timers;
+        } }
+    {
+        self.csrs = Csrs::new();
+        self.ipis.reset();
+        self.timers.reset();
     }
 
     /// The entry of a start of hart `h`: its interrupts are disabled, and nothing is pending (SBI 9.1; that sie, SSIP and

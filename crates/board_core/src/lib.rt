@@ -20,5 +20,6 @@ pub use event::{Actor, Event, Op, Refusal, Reply};
 pub use fence_queue::{Request, Waiting};
 pub use hart_mask::HartSet;
 pub use hsm::{HartState, Kept};
+pub use sbi_abi::{Reset, ResetKind};
 pub use sv39::Cause;
 pub use tlb_model::{Entry, Fence, FetchWord, Flush, Numbered, Range};

@@ -1,5 +1,5 @@
-ghost use Rattle.std.specs.Prelude.{◌≡◌, ◌<◌, IfOk, [], length, slice_set};
-ghost use Rattle.sv39.specs.Memory.{pages_of, word_in};
+ghost use Rattle.std.specs.Prelude.{◌≡◌, ◌<◌, IfOk, [], if◌then◌else◌, length, replicate, slice_set};
+ghost use Rattle.sv39.specs.Memory.{pages_of, word_in, zero_memory};
 ghost use Rattle.sv39.specs.Satp.{satp_written};
 ghost use Rattle.tlb_model.specs.Contents.{fenced, filled_if};
 ghost use Rattle.tlb_model.specs.Entries.{covers_entry};
@@ -64,6 +64,19 @@ impl Memory {
         ensures caches { self.new.caches.items ≡ self.old.caches.items }
     {
         self.satps[h as usize] = Satp::bare();
+    }
+
+    /// A reset: no hart's addresses are translated any more, and every word is 0 where the reboot is a cold one (profile).
+    pub fn reset(&mut self, cold: bool)
+        ensures satps { self.new.satps.items ≡ replicate (length self.old.satps.items) 0 }
+        ensures ram { word_in self.new.ram ≡ (if cold then zero_memory (pages_of self.old.ram) else word_in self.old.ram) }
+        ensures pages { pages_of self.new.ram ≡ pages_of self.old.ram }
+        ensures caches { self.new.caches ≡ self.old.caches }
+    {
+        self.satps.fill(Satp::bare());
+        if cold {
+            self.ram.clear();
+        }
     }
 
     /// An access of hart `h` at a virtual address.

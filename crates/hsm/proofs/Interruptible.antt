@@ -1,13 +1,14 @@
 -- What a write of one hart does to the set of the interruptible harts.
-use Rattle.std.proofs.Common.{◌≡◌, ◌≢◌, ℕ, ◌<◌, ◌≤◌, true, false, List, [], length, set, map, sym, ap, ◌∙◌, arith, inl, inr}
+use Rattle.std.proofs.Common.{◌≡◌, ◌≢◌, ℕ, zero, suc, ◌∷◌, ◌<◌, ◌≤◌, true, false, List, [], length, set, map, replicate, refl, sym, ap, ◌∙◌, arith, inl, inr}
 use Rattle.std.specs.Prelude.{◌||◌, ◌&&◌, not, if◌then◌else◌}
 use Rattle.std.specs.List.{range_with_len}
 use Rattle.std.proofs.lemmas.Bool.Decides.{eqb_tells, leb_tells}
-use Rattle.std.proofs.lemmas.List.{get_or-map, get_or-set_other, get_or-set_same, get_or_past, length-map, length-set, map-set}
+use Rattle.std.proofs.lemmas.List.{get_or-map, get_or-replicate, get_or-set_other, get_or-set_same, get_or_past, length-map, length-replicate, length-set, map-set}
 use Rattle.hart_mask.specs.Ids.{with_id, without_id}
 use Rattle.hart_mask.proofs.Sets.{ids_where-none, with_id-by, without_id-by}
 use Rattle.hsm.specs.declared.hart.Kept.{Kept}
 use Rattle.hsm.specs.declared.phase.Phase.{Phase}
+use Rattle.hsm.specs.declared.phase.Phase.TheVariants.{Stopped}
 use Rattle.hsm.specs.Harts.{Hart, resting, starting}
 use Rattle.hsm.specs.Interruptible.{interruptible_ids}
 use Rattle.hsm.specs.Phases.{AreKept, hart_of}
@@ -88,3 +89,24 @@ module _ (harts boot_hart : ℕ) (boot : Kept) where
         ap (λ (at : Hart). is_interruptible at.state) (get_or-map (hart_at_opening boot_hart boot) (range_with_len 0 harts) i 0 resting there.1)
         ∙ hart_at_opening-not _
   ])
+
+map-replicate : {A B : Type 0} (f : A → B) (a : A) (n : ℕ) → map f (replicate n a) ≡ replicate n (f a)
+map-replicate f a zero = refl
+map-replicate f a (suc n) = ap (λ rest. f a ∷ rest) (map-replicate f a n)
+
+-- so many harts that are all STOPPED, and none in the set
+none-at-rest : (n : ℕ) → interruptible_ids (replicate n resting) ≡ []
+none-at-rest n = ids_where-none _ (λ i _. elim (leb_tells n i) [
+  | inl past ↦ ap (λ (at : Hart). is_interruptible at.state) (get_or_past (replicate n resting) i resting (omega (arith, past.1, length-replicate n resting)))
+  | inr there ↦ ap (λ (at : Hart). is_interruptible at.state) (get_or-replicate n i resting resting there.1)
+])
+
+pub rests : (phases fresh : List Phase) → fresh ≡ replicate (length phases) Stopped → map hart_of fresh ≡ replicate (length (map hart_of phases)) resting
+rests phases fresh is = ap (map hart_of) is ∙ map-replicate hart_of Stopped (length phases) ∙ ap (λ n. replicate n resting) (sym (length-map phases hart_of))
+
+pub AreKept-none : (phases fresh : List Phase) (ids new : List ℕ) → AreKept (map hart_of phases) ids → fresh ≡ replicate (length phases) Stopped → new ≡ []
+    → AreKept (map hart_of fresh) new
+AreKept-none phases fresh ids new kept is none = record {
+  limit = omega (arith, kept.limit, length-map phases hart_of, ap length is, length-replicate (length phases) Stopped, length-map fresh hart_of);
+  interruptible = none ∙ sym (none-at-rest (length (map hart_of phases))) ∙ ap interruptible_ids (sym (rests phases fresh is));
+}

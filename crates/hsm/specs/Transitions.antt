@@ -1,5 +1,5 @@
 -- How a hart goes from state to state (SBI 9, HSM states), a row of the table at a time.
-use Rattle.std.specs.Prelude.{ℕ, Bool, true, false, List, ◌==◌, if◌then◌else◌, Option, Some, None, map, option_map, slice_index_or, slice_set}
+use Rattle.std.specs.Prelude.{ℕ, Bool, true, false, List, ◌==◌, if◌then◌else◌, Option, Some, None, map, option_map, replicate, slice_index_or, slice_set}
 use Rattle.std.specs.List.{range_with_len}
 use Rattle.sbi_abi.specs.declared.suspend.SuspendKind.{SuspendKind}
 use Rattle.sbi_abi.specs.declared.suspend.SuspendKind.TheVariants.{Retentive, NonRetentive}
@@ -84,3 +84,8 @@ hart_at_opening boot_hart boot h = if h == boot_hart then starting boot else res
 -- At the opening the boot hart's start is pending, and the others are STOPPED (profile).
 abbrev pub opening : ℕ → ℕ → Kept → List Hart
 opening harts boot_hart boot = map (hart_at_opening boot_hart boot) (range_with_len 0 harts)
+
+-- A reset makes every hart STOPPED; then the boot hart's start is pending, if it is to begin anew (profile).
+abbrev pub reset_to : (harts boot_hart : ℕ) → (boot : Option Kept) → List Hart
+reset_to harts boot_hart None = replicate harts resting
+reset_to harts boot_hart (Some boot) = slice_set (replicate harts resting) boot_hart (starting boot)

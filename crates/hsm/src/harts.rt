@@ -1,5 +1,5 @@
 ghost use Rattle.std.specs.Prelude.{◌≡◌, ◌<◌, ◌≤◌, IfOk, count_by, length, option_map, is_ok, is_some, false, slice_set};
-ghost use Rattle.hsm.specs.Transitions.{advanced, changed, hart_at, hart_at_opening, opening, started, stopped, suspended};
+ghost use Rattle.hsm.specs.Transitions.{advanced, changed, hart_at, hart_at_opening, opening, reset_to, started, stopped, suspended};
 ghost use Rattle.hsm.specs.States.{goes_on, is_in_suspend, is_start_pending};
 ghost use Rattle.hsm.specs.Interruptible.{interruptible_ids};
 ghost use Rattle.hsm.specs.Phases.{hart_of};
@@ -96,6 +96,18 @@ impl Hsm {
         let (phase, moved) = self.phases[h as usize].advanced(wake)?;
         self.put(h, phase);
         Some(moved)
+    }
+
+    /// Every hart becomes STOPPED. Then the boot hart's start is pending, if it is to begin anew (SBI 10; profile).
+    pub fn reset(&mut self, boot_hart: u64, boot: Option<Kept>)
+        requires { boot_hart < length self.old }
+        ensures { self.new ≡ reset_to (length self.old) boot_hart boot }
+    {
+        self.phases.fill(Phase::Stopped);
+        self.interruptible = HartSet::new();
+        if let Some(boot) = boot {
+            self.put(boot_hart, Phase::StartPending(boot));
+        }
     }
 
     /// From now on this is kept of hart `h`.

@@ -1,168 +1,59 @@
-use board_core::{BuildFault, Refusal};
-use hart_mask::{HartSet, InvalidParam, targets};
-use hsm::{AlreadyAvailable, HartState, Hsm, Kept, Moved};
-use interrupts::{Ipis, TimeFull, Timers};
-use sbi_abi::{SbiError, SuspendKind};
-use std::alloc::AllocError;
+//! What no schedule shows of the components: sets at the edges of their words, resets, the last moments of the time,
+//! and the numbers and texts of errors.
 
-/// The lowest and the highest bit of a hart list's mask.
-const ENDS: u64 = 0x8000_0000_0000_0001;
+use board_core::{BuildFault, Refusal};
+use hart_mask::{HartSet, InvalidParam};
+use hsm::AlreadyAvailable;
+use interrupts::{Ipis, TimeFull, Timers};
+use sbi_abi::SbiError;
+use sbiboard::{Failed, Fault, Outcome, ReadFault, ScriptFault, Stop, ended};
+use std::alloc::AllocError;
+use std::io::{self, ErrorKind};
+
+/// Shows a set's size, and its ids in their order.
+fn show_set<R: Print>(rt: &R, name: &str, set: HartSet) -> io::Result<()> {
+    print!(rt; "{name}: {} of", set.len())?;
+    for id in set.iter() {
+        print!(rt; " {id}")?;
+    }
+    println!(rt; "")
+}
 
 /// Sets with the first and last ids of their two words.
-#[test]
-fn ids_at_the_edges_of_words(rt: HostRuntime) {
+pub fn show_sets<R: Print>(rt: &R) -> io::Result<()> {
     let mut set = HartSet::new();
-    assert!(rt; set.is_empty());
+    show_set(rt, "new", set)?;
     set.insert(127);
     set.insert(64);
     set.insert(63);
     set.insert(0);
     set.insert(64);
-    assert_eq!(rt; set.len(), 4);
-    let mut ids = set.iter();
-    for want in [Some(0), Some(63), Some(64), Some(127), None] {
-        assert_eq!(rt; ids.next(), want);
-    }
+    show_set(rt, "inserted", set)?;
     let low = HartSet::below(64);
-    assert_eq!(rt; low.union(set).len(), 66);
-    assert_eq!(rt; low.intersection(set).len(), 2);
+    show_set(rt, "union", low.union(set))?;
+    show_set(rt, "intersection", low.intersection(set))?;
     set.remove(63);
-    assert!(rt; set.contains(0) && !set.contains(63) && set.contains(64) && set.contains(127));
-    set.remove(0);
+    show_set(rt, "removed", set)?;
+    let first = set.pop_first();
+    show_set(rt, "without its first", set)?;
     set.remove(64);
-    assert_eq!(rt; set.pop_first(), Some(127));
-    assert_eq!(rt; set, HartSet::default());
+    let last = set.pop_first();
+    let is_default = set == HartSet::default();
+    println!(rt; "popped: {first:?} {last:?} {:?}", set.pop_first())?;
+    println!(rt; "emptied: {} {is_default}", set.is_empty())
 }
 
-/// Hart lists with the harts that they name, or their refusal.
-#[test]
-fn hart_lists_at_their_edges(rt: HostRuntime) {
-    let rows: [(u64, u64, u64, Option<&[u64]>); 24] = [
-        (1, 0, 1, Some(&[0])),
-        (0, 0, 1, Some(&[])),
-        (2, 0, 1, None),
-        (0, 1, 1, None),
-        (0, u64::MAX, 1, Some(&[0])),
-        (ENDS, 0, 64, Some(&[0, 63])),
-        (ENDS, 1, 64, None),
-        (1, 63, 64, Some(&[63])),
-        (2, 63, 64, None),
-        (0, 64, 64, None),
-        (ENDS, 1, 65, Some(&[1, 64])),
-        (ENDS, 2, 65, None),
-        (2, 63, 65, Some(&[64])),
-        (1, 64, 65, Some(&[64])),
-        (1, 65, 65, None),
-        (ENDS, 0, 128, Some(&[0, 63])),
-        (ENDS, 63, 128, Some(&[63, 126])),
-        (ENDS, 64, 128, Some(&[64, 127])),
-        (ENDS, 65, 128, None),
-        (ENDS >> 1, 65, 128, Some(&[127])),
-        (1, 127, 128, Some(&[127])),
-        (2, 127, 128, None),
-        (0, 128, 128, None),
-        (2, u64::MAX - 1, 128, None),
-    ];
-    for (mask, base, n, want) in rows {
-        let found = targets(mask, base, n);
-        assert_eq!(rt; found.is_ok(), want.is_some());
-        let mut ids = found.unwrap_or_default().iter();
-        for id in want.unwrap_or(&[]) {
-            assert_eq!(rt; ids.next(), Some(*id));
-        }
-        assert_eq!(rt; ids.next(), None);
+/// Shows which of these harts have a pending software interrupt.
+fn show_ipis<R: Print>(rt: &R, name: &str, ipis: &Ipis) -> io::Result<()> {
+    print!(rt; "{name}:")?;
+    for h in [0, 64, 127] {
+        print!(rt; " {}", ipis.pending(h))?;
     }
-    for n in [0, 1, 63, 64, 65, 127, 128] {
-        let found = targets(ENDS, u64::MAX, n).unwrap_or_default();
-        assert_eq!(rt; found.len(), n);
-        assert!(rt; n == 0 || found.contains(n - 1));
-    }
-    assert_eq!(rt; SbiError::from(InvalidParam).number(), -3);
+    println!(rt; "")
 }
 
-/// A hart is started, enters, and is stopped.
-#[test]
-fn the_life_of_a_hart(rt: HostRuntime) -> Result<(), AllocError> {
-    let boot = Kept {
-        addr: 0x8000_0000,
-        opaque: 7,
-    };
-    let own = Kept {
-        addr: 0x8020_0000,
-        opaque: 9,
-    };
-    let mut hsm = Hsm::new(rt.alloc(), 3, 1, boot)?;
-    assert_eq!(rt; hsm.pending_starts(), 1);
-    assert_eq!(rt; hsm.advance(1, false), Some(Moved::Entered(boot)));
-    assert_eq!(rt; hsm.advance(1, false), None);
-    assert_eq!(rt; hsm.start(2, own.addr, own.opaque), Ok(()));
-    assert_eq!(rt; hsm.start(2, 0, 0), Err(AlreadyAvailable));
-    assert_eq!(rt; SbiError::from(AlreadyAvailable).number(), -6);
-    assert_eq!(rt; (hsm.status(2).number(), hsm.kept(2)), (2, Some(own)));
-    assert_eq!(rt; hsm.advance(2, false), Some(Moved::Entered(own)));
-    hsm.stop(2);
-    assert_eq!(rt; (hsm.status(2).number(), hsm.kept(2)), (3, None));
-    assert_eq!(rt; hsm.start(2, 0, 0), Err(AlreadyAvailable));
-    assert_eq!(rt; hsm.advance(2, false), Some(Moved::To(HartState::Stopped)));
-    assert_eq!(rt; hsm.advance(2, false), None);
-    let states = [hsm.status(0), hsm.status(1), hsm.status(2)];
-    assert_eq!(rt;
-        states,
-        [HartState::Stopped, HartState::Started, HartState::Stopped]
-    );
-    assert_eq!(rt; hsm.len(), 3);
-    Ok(())
-}
-
-/// A hart goes through a suspend of each kind.
-#[test]
-fn the_life_of_a_suspended_hart(rt: HostRuntime) -> Result<(), AllocError> {
-    let boot = Kept {
-        addr: 0x8000_0000,
-        opaque: 7,
-    };
-    let own = Kept {
-        addr: 0x8000_3000,
-        opaque: 0x55,
-    };
-    let mut hsm = Hsm::new(rt.alloc(), 2, 1, boot)?;
-    assert!(rt; hsm.interruptible().is_empty());
-    assert_eq!(rt; hsm.advance(1, true), Some(Moved::Entered(boot)));
-    hsm.suspend(1, SuspendKind::NonRetentive, own.addr, own.opaque);
-    assert_eq!(rt; (hsm.status(1).number(), hsm.kept(1)), (5, Some(own)));
-    assert_eq!(rt; hsm.start(1, 0, 0), Err(AlreadyAvailable));
-    assert_eq!(rt;
-        hsm.advance(1, false),
-        Some(Moved::To(HartState::Suspended))
-    );
-    assert_eq!(rt; hsm.advance(1, false), None);
-    assert_eq!(rt; (hsm.status(1).number(), hsm.kept(1)), (4, Some(own)));
-    assert_eq!(rt;
-        hsm.advance(1, true),
-        Some(Moved::To(HartState::ResumePending))
-    );
-    assert_eq!(rt;
-        (hsm.status(1).number(), hsm.interruptible().contains(1)),
-        (6, true)
-    );
-    assert_eq!(rt; hsm.advance(1, false), Some(Moved::Resumed(own)));
-    hsm.suspend(1, SuspendKind::Retentive, own.addr, own.opaque);
-    assert_eq!(rt; hsm.kept(1), None);
-    assert_eq!(rt; hsm.advance(1, true), Some(Moved::To(HartState::Suspended)));
-    assert_eq!(rt;
-        hsm.advance(1, true),
-        Some(Moved::To(HartState::ResumePending))
-    );
-    assert_eq!(rt; hsm.advance(1, true), Some(Moved::Returned));
-    assert_eq!(rt; hsm.interruptible().len(), 1);
-    hsm.stop(1);
-    assert!(rt; hsm.interruptible().is_empty());
-    Ok(())
-}
-
-/// Software interrupts are sent and cleared, and deadlines come.
-#[test]
-fn the_life_of_interrupts(rt: HostRuntime) -> Result<(), AllocError> {
+/// Software interrupts that are sent, cleared and reset; a copy is a value of its own.
+pub fn show_software_interrupts<R: Print>(rt: &R) -> io::Result<()> {
     let mut ipis = Ipis::new();
     let mut targets = HartSet::new();
     targets.insert(0);
@@ -172,80 +63,138 @@ fn the_life_of_interrupts(rt: HostRuntime) -> Result<(), AllocError> {
     ipis.send(targets);
     let copy = ipis;
     ipis.clear(0);
-    assert!(rt; !ipis.pending(0) && !ipis.pending(64) && ipis.pending(127));
-    assert!(rt; copy.pending(0) && copy.pending(127));
+    show_ipis(rt, "cleared", &ipis)?;
+    show_ipis(rt, "copy", &copy)?;
     ipis.reset();
-    assert!(rt; !ipis.pending(0) && !ipis.pending(127));
+    show_ipis(rt, "reset", &ipis)
+}
 
+/// What is done to timers.
+#[derive(Clone, Copy)]
+enum Turn {
+    Set(u64, u64),
+    Forget(u64),
+    Tick(u64),
+    Reset,
+}
+
+const TURNS: [Turn; 13] = [
+    Turn::Set(0, 0),
+    Turn::Set(1, 1),
+    Turn::Set(2, u64::MAX),
+    Turn::Tick(1),
+    Turn::Set(1, 2),
+    Turn::Forget(0),
+    Turn::Tick(u64::MAX - 1),
+    Turn::Tick(u64::MAX - 2),
+    Turn::Tick(1),
+    Turn::Tick(0),
+    Turn::Set(0, u64::MAX - 1),
+    Turn::Reset,
+    Turn::Tick(1),
+];
+
+/// Makes a turn, and answers whether it was accepted.
+fn turned(timers: &mut Timers, turn: Turn) -> bool {
+    let harts = timers.len();
+    match turn {
+        Turn::Set(h, deadline) if h < harts => timers.set(h, deadline),
+        Turn::Forget(h) if h < harts => timers.forget(h),
+        Turn::Tick(n) => return timers.tick(n).is_ok(),
+        Turn::Reset => timers.reset(),
+        Turn::Set(..) | Turn::Forget(_) => return false,
+    }
+    true
+}
+
+/// The timers of three harts after each turn: the time, and each hart's deadline with whether it has come.
+pub fn show_timers<R: AllocGlobal + Print>(rt: &R) -> io::Result<()> {
     let mut timers = Timers::new(rt.alloc(), 3)?;
-    assert_eq!(rt;
-        (timers.len(), timers.time(), timers.deadline(2)),
-        (3, 0, None)
-    );
-    timers.set(0, 0);
-    timers.set(1, 1);
-    timers.set(2, u64::MAX);
-    let at_0 = [timers.pending(0), timers.pending(1), timers.pending(2)];
-    assert_eq!(rt; at_0, [true, false, false]);
-    assert_eq!(rt; timers.tick(1), Ok(()));
-    assert!(rt; timers.pending(1));
-    timers.set(1, 2);
-    assert!(rt; !timers.pending(1));
-    timers.forget(0);
-    assert_eq!(rt; (timers.deadline(0), timers.pending(0)), (None, false));
-    assert_eq!(rt; timers.tick(u64::MAX - 1), Err(TimeFull));
-    assert_eq!(rt; timers.time(), 1);
-    assert_eq!(rt; timers.tick(u64::MAX - 2), Ok(()));
-    assert_eq!(rt; timers.time(), 0xffff_ffff_ffff_fffe);
-    assert_eq!(rt; timers.tick(1), Err(TimeFull));
-    assert_eq!(rt; timers.tick(0), Ok(()));
-    timers.set(0, 0xffff_ffff_ffff_fffe);
-    let at_the_last = [timers.pending(0), timers.pending(1), timers.pending(2)];
-    assert_eq!(rt; at_the_last, [true, true, false]);
-    assert_eq!(rt; timers.deadline(2), Some(u64::MAX));
-    timers.reset();
-    assert_eq!(rt; (timers.deadline(0), timers.deadline(2)), (None, None));
-    assert_eq!(rt; timers.time(), 0xffff_ffff_ffff_fffe);
+    for turn in TURNS {
+        let is_accepted = turned(&mut timers, turn);
+        print!(rt; "{is_accepted} {:#x}", timers.time())?;
+        for h in 0..timers.len() {
+            print!(rt; " {:?} {}", timers.deadline(h), timers.pending(h))?;
+        }
+        println!(rt; "")?;
+    }
     Ok(())
 }
 
-/// The texts of the components' errors.
-#[test]
-fn texts(rt: HostRuntime) -> Result<(), AllocError> {
-    for (error, text) in [
-        (SbiError::Failed, "failed"),
-        (SbiError::NotSupported, "not supported"),
-        (SbiError::InvalidParam, "invalid parameter"),
-        (SbiError::Denied, "denied"),
-        (SbiError::InvalidAddress, "invalid address"),
-        (SbiError::AlreadyAvailable, "already available"),
-        (SbiError::AlreadyStarted, "already started"),
-        (SbiError::AlreadyStopped, "already stopped"),
+/// The numbers and texts of the components' errors.
+pub fn show_errors<R: Print>(rt: &R) -> io::Result<()> {
+    for error in [
+        SbiError::Failed,
+        SbiError::NotSupported,
+        SbiError::InvalidParam,
+        SbiError::Denied,
+        SbiError::InvalidAddress,
+        SbiError::AlreadyAvailable,
+        SbiError::AlreadyStarted,
+        SbiError::AlreadyStopped,
+        SbiError::from(InvalidParam),
+        SbiError::from(AlreadyAvailable),
     ] {
-        assert_eq!(rt; format!(in rt.alloc(); "{error}")?.as_str(), text);
+        println!(rt; "{} {error}", error.number())?;
     }
-    for (refusal, text) in [
-        (
-            Refusal::WrongPhase,
-            "not in this state, not by this actor, or no such hart",
-        ),
-        (Refusal::Nothing, "nothing to do"),
-        (Refusal::HistoryFull, "history full"),
-        (Refusal::TimeFull, "the time would go past its end"),
+    for refusal in [
+        Refusal::WrongPhase,
+        Refusal::Nothing,
+        Refusal::HistoryFull,
+        Refusal::TimeFull,
     ] {
-        assert_eq!(rt; format!(in rt.alloc(); "{refusal}")?.as_str(), text);
+        println!(rt; "{} {refusal}", refusal.number())?;
     }
-    for (fault, text) in [
-        (BuildFault::BadConfig, "bad board"),
-        (BuildFault::NoMemory, "no memory"),
+    for fault in [BuildFault::BadConfig, BuildFault::NoMemory] {
+        println!(rt; "{} {fault}", fault.number())?;
+    }
+    println!(rt; "{InvalidParam}; {AlreadyAvailable}; {TimeFull}")
+}
+
+/// The numbers and texts of the faults of scripts and of reading.
+pub fn show_faults<R: Print>(rt: &R) -> io::Result<()> {
+    for fault in [
+        Fault::BadByte,
+        Fault::NoBoardLine,
+        Fault::UnknownWord,
+        Fault::BadNumber,
+        Fault::WordCount,
+        Fault::OtherKind,
+        Fault::TooLong,
+        Fault::NoMemory,
     ] {
-        assert_eq!(rt; format!(in rt.alloc(); "{fault}")?.as_str(), text);
+        println!(rt; "{} {}", fault.number(), ScriptFault { line: 3, fault })?;
     }
-    let list = format!(in rt.alloc(); "{InvalidParam}")?;
-    let start = format!(in rt.alloc(); "{AlreadyAvailable}")?;
-    let tick = format!(in rt.alloc(); "{TimeFull}")?;
-    assert_eq!(rt; list.as_str(), "invalid parameter");
-    assert_eq!(rt; start.as_str(), "already available");
-    assert_eq!(rt; tick.as_str(), "the time would go past its end");
-    Ok(())
+    println!(rt; "{Failed}; {}; {}", ReadFault::Failed, ReadFault::NoMemory)
+}
+
+/// The status and the text of each outcome, and of failures of the system. What is said of each stands on standard
+/// error.
+pub fn show_endings<R: Print + Eprint>(rt: &R) -> io::Result<()> {
+    for outcome in [
+        Outcome::Good,
+        Outcome::Script {
+            line: 12,
+            number: 5,
+        },
+        Outcome::BadBoard,
+        Outcome::WrongKind,
+        Outcome::HistoryFull,
+        Outcome::Differs,
+        Outcome::NoMemory,
+        Outcome::Io,
+    ] {
+        println!(rt; "{} {} {outcome}", ended(rt, Ok(outcome)), outcome.status())?;
+    }
+    for kind in [
+        ErrorKind::NotFound,
+        ErrorKind::IsADirectory,
+        ErrorKind::InvalidData,
+        ErrorKind::Interrupted,
+        ErrorKind::OutOfMemory,
+    ] {
+        let stop = Stop::from(io::Error::from(kind));
+        println!(rt; "{} {kind:?}", ended(rt, Err(stop)))?;
+    }
+    println!(rt; "{} refused memory", ended(rt, Err(Stop::from(AllocError))))
 }

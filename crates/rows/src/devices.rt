@@ -1,12 +1,15 @@
+//! Readers and writers whose calls fail.
+
 use crate::row::replayed;
-use sbiboard::{Device, Failed, Outcome, Sink, Source, replay};
+use anyhow::{Result, ensure};
+use sbiboard::{Device, Failed, Outcome, Sink, Source, read_whole, replay};
 use std::alloc::Global;
 use std::io::{self, ErrorKind, Read, Write};
 
 const SCHEDULE: &[u8] = b"board 2 1 9 0 0x80000000 0\n0 advance\n0 ecall 0x10 0\n1 advance\n";
 
 /// What a call of the system answers in place of what it would do.
-#[derive(Clone, Copy)]
+#[derive(Clone, Copy, Debug)]
 enum Answer {
     /// As many bytes as it moves.
     Moves,
@@ -16,7 +19,8 @@ enum Answer {
     Fails(ErrorKind),
 }
 
-const FAILURES: [Answer; 4] = [
+const ANSWERS: [Answer; 5] = [
+    Answer::Zero,
     Answer::Fails(ErrorKind::Interrupted),
     Answer::Fails(ErrorKind::WouldBlock),
     Answer::Fails(ErrorKind::OutOfMemory),
@@ -116,69 +120,24 @@ fn flush_once(alloc: Global, answer: Answer) -> (Result<(), Failed>, u64, u64) {
     (answer, system.calls, system.flushes)
 }
 
-/// What one call of the system answers, so many bytes or a failure, each call of a device answers too, and makes
-/// no other call.
-#[test]
-fn good_calls(rt: HostRuntime) {
-    let left = SCHEDULE.len();
-    for (most, moved) in [(0, 0), (1, 1), (3, 3), (5, 5), (64, 5)] {
-        let read = read_once(rt.alloc(), most, Answer::Moves);
-        assert_eq!(rt; read, (Ok(moved), 1, left.saturating_sub(moved)));
-        let written = write_once(rt.alloc(), b"bytes", most, Answer::Moves);
-        assert_eq!(rt; written, (Ok(moved), 1, moved));
+/// Shows what each call of a device answers, and how many calls of the system it makes.
+pub fn show_calls<R: AllocGlobal + Print>(rt: &R) -> io::Result<()> {
+    let alloc = rt.alloc();
+    for most in [0, 1, 3, 5, 64] {
+        let read = read_once(alloc, most, Answer::Moves);
+        let written = write_once(alloc, b"bytes", most, Answer::Moves);
+        println!(rt; "{most}: {read:?} {written:?}")?;
     }
-    assert_eq!(rt;
-        write_once(rt.alloc(), b"", 5, Answer::Moves),
-        (Ok(0), 1, 0)
-    );
-    assert_eq!(rt; flush_once(rt.alloc(), Answer::Moves), (Ok(()), 1, 1));
-}
-
-#[test]
-fn failed_calls(rt: HostRuntime) {
-    for answer in FAILURES {
-        let read = read_once(rt.alloc(), 5, answer);
-        assert_eq!(rt; read, (Err(Failed), 1, SCHEDULE.len()));
-        let written = write_once(rt.alloc(), b"bytes", 5, answer);
-        assert_eq!(rt; written, (Err(Failed), 1, 0));
-        assert_eq!(rt; flush_once(rt.alloc(), answer), (Err(Failed), 1, 1));
+    let empty = write_once(alloc, b"", 5, Answer::Moves);
+    let flushed = flush_once(alloc, Answer::Moves);
+    println!(rt; "empty: {empty:?} flush: {flushed:?}")?;
+    for answer in ANSWERS {
+        let read = read_once(alloc, 5, answer);
+        let written = write_once(alloc, b"bytes", 5, answer);
+        let flushed = flush_once(alloc, answer);
+        println!(rt; "{answer:?}: {read:?} {written:?} {flushed:?}")?;
     }
-}
-
-/// Each read in turn fails. Nothing is written then, and no more is read.
-#[test]
-fn each_read(rt: HostRuntime) {
-    let (outcome, calls, printed) = replay_from(rt.alloc(), u64::MAX, Answer::Moves);
-    assert_eq!(rt; outcome, Outcome::Good);
-    assert_eq!(rt; printed, replayed(rt.alloc(), SCHEDULE).1);
-    assert!(rt; calls > 20);
-    for call in 0..calls {
-        for answer in FAILURES {
-            let (outcome, calls, printed) = replay_from(rt.alloc(), call, answer);
-            assert_eq!(rt; outcome, Outcome::Io, "{call}");
-            assert_eq!(rt; calls.wrapping_sub(1), call);
-            assert!(rt; printed.is_empty(), "{call}");
-        }
-    }
-}
-
-/// Each write in turn fails or takes nothing, and so does the flush at the end. No call is made after it.
-#[test]
-fn each_write(rt: HostRuntime) {
-    let (outcome, last, printed) = replay_to(rt.alloc(), u64::MAX, Answer::Moves);
-    assert_eq!(rt; outcome, Outcome::Good);
-    assert_eq!(rt; printed, replayed(rt.alloc(), SCHEDULE).1);
-    assert!(rt; last > 80);
-    for call in 0..last {
-        for answer in FAILURES {
-            let (outcome, calls, _) = replay_to(rt.alloc(), call, answer);
-            assert_eq!(rt; (outcome, calls.wrapping_sub(1)), (Outcome::Io, call));
-        }
-        let (outcome, calls, _) = replay_to(rt.alloc(), call, Answer::Zero);
-        let is_flush = calls == last;
-        assert_eq!(rt; outcome == Outcome::Good, is_flush, "{call}");
-        assert_eq!(rt; calls.wrapping_sub(1), call);
-    }
+    Ok(())
 }
 
 /// How a replay ends that reads three bytes at a call, how many calls it makes, and what it prints.
@@ -196,4 +155,49 @@ fn replay_to(alloc: Global, at: u64, answer: Answer) -> (Outcome, u64, Vec<u8>) 
     let outcome = replay(alloc, &mut reader, &mut writer);
     let system = writer.into_inner();
     (outcome, system.calls, system.taken)
+}
+
+/// Each read in turn fails: nothing is written then, and no more is read. A read of nothing is the end.
+pub fn check_reads(alloc: Global) -> Result<u64> {
+    let (outcome, calls, printed) = replay_from(alloc, u64::MAX, Answer::Moves);
+    ensure!(outcome == Outcome::Good, "{outcome}");
+    ensure!(printed == replayed(alloc, SCHEDULE).1, "another text");
+    for at in 0..calls {
+        for answer in ANSWERS.into_iter().skip(1) {
+            let (outcome, calls, printed) = replay_from(alloc, at, answer);
+            let is_right = outcome == Outcome::Io && calls == at + 1 && printed.is_empty();
+            ensure!(is_right, "read {at}, {answer:?}: {outcome}, {calls} calls");
+        }
+    }
+    Ok(calls)
+}
+
+/// Each write in turn fails or takes nothing, and so does the flush at the end: no call is made after it. A flush
+/// moves no bytes, so it ends well where it answers so.
+pub fn check_writes(alloc: Global) -> Result<u64> {
+    let (outcome, last, printed) = replay_to(alloc, u64::MAX, Answer::Moves);
+    ensure!(outcome == Outcome::Good, "{outcome}");
+    ensure!(printed == replayed(alloc, SCHEDULE).1, "another text");
+    for at in 0..last {
+        for answer in ANSWERS {
+            let (outcome, calls, _) = replay_to(alloc, at, answer);
+            let is_good = matches!(answer, Answer::Zero) && calls == last;
+            let wanted = if is_good { Outcome::Good } else { Outcome::Io };
+            let is_right = outcome == wanted && calls == at + 1;
+            ensure!(is_right, "write {at}, {answer:?}: {outcome}, {calls} calls");
+        }
+    }
+    Ok(last)
+}
+
+/// Shows how much is read within limits, of the schedule and of what has no end.
+pub fn show_limits<R: AllocGlobal + Print>(rt: &R) -> Result<()> {
+    for limit in [0, 1, 61, 62, 63] {
+        let bytes = read_whole(rt.alloc(), &mut Device::new(SCHEDULE), limit)?;
+        println!(rt; "{limit}: {} {}", bytes.len(), SCHEDULE.starts_with(&bytes))?;
+    }
+    let mut endless = Device::new(io::repeat(b'#'));
+    let bytes = read_whole(rt.alloc(), &mut endless, 1_000_001)?;
+    println!(rt; "endless: {}", bytes.len())?;
+    Ok(())
 }

@@ -1,5 +1,5 @@
-//! The worked rows. The program reads the files of rows that are named to it, replays each row, and prints what
-//! differs; the tests are of what such a file can't hold.
+//! The worked rows. The program shows what no schedule can (its file stdout has what must be shown), reads the files
+//! of rows that are named to it, replays each row, and prints what differs.
 //!
 //! A line `row NAME` begins a row, and the lines after it are a schedule, written as a trace: what stands behind
 //! `->` is the reply that the board must give. Then one of these may follow:
@@ -11,25 +11,8 @@
 //!   after each, or in the state behind `#`.
 #![tactic(auto)]
 
-#[cfg(test)]
-mod commands;
-#[cfg(test)]
 mod components;
-#[cfg(test)]
 mod devices;
-#[cfg(test)]
-mod endings;
-#[cfg(test)]
-mod failing;
-#[cfg(test)]
-mod faults;
-#[cfg(test)]
-mod generated;
-#[cfg(test)]
-mod limits;
-#[cfg(test)]
-mod memory;
-#[cfg(test)]
 mod printing;
 mod row;
 
@@ -39,10 +22,27 @@ use std::rt::{Env, Files};
 use std::{env, fs};
 
 fn main(rt: HostRuntime) -> Result<()> {
+    show(&rt)?;
     let names = env::args(&rt)?.collect::<Vec<String>>(rt.alloc())?;
     for name in names.iter().skip(1) {
         check_file(&rt, name)?;
     }
+    Ok(())
+}
+
+/// Shows what no schedule can.
+fn show<R: AllocGlobal + Print + Eprint>(rt: &R) -> Result<()> {
+    components::show_sets(rt)?;
+    components::show_software_interrupts(rt)?;
+    components::show_timers(rt)?;
+    components::show_errors(rt)?;
+    components::show_faults(rt)?;
+    components::show_endings(rt)?;
+    printing::show_lines(rt)?;
+    devices::show_calls(rt)?;
+    devices::show_limits(rt)?;
+    println!(rt; "{} reads", devices::check_reads(rt.alloc())?)?;
+    println!(rt; "{} writes", devices::check_writes(rt.alloc())?)?;
     Ok(())
 }
 

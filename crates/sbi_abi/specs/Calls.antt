@@ -3,7 +3,8 @@ use Rattle.std.specs.Prelude.{ℕ, Bool, List, [], ◌∷◌, ◌==◌, if◌the
 use Rattle.std.specs.List.{list_any}
 use Rattle.sbi_abi.specs.declared.call.Regs.{Regs}
 use Rattle.sbi_abi.specs.declared.call.Call.{Call}
-use Rattle.sbi_abi.specs.declared.call.Call.TheVariants.{GetSpecVersion, GetImplId, GetImplVersion, ProbeExtension, GetMvendorid, GetMarchid, GetMimpid, SetTimer, SendIpi, RemoteFenceI, RemoteSfenceVma, RemoteSfenceVmaAsid, HartStart, HartStop, HartGetStatus, HartSuspend, Unsupported}
+use Rattle.sbi_abi.specs.declared.call.Call.TheVariants.{GetSpecVersion, GetImplId, GetImplVersion, ProbeExtension, GetMvendorid, GetMarchid, GetMimpid, SetTimer, SendIpi, RemoteFenceI, RemoteSfenceVma, RemoteSfenceVmaAsid, HartStart, HartStop, HartGetStatus, HartSuspend, SystemReset, Unsupported}
+use Rattle.sbi_abi.specs.ResetTypes.{reset_of}
 use Rattle.sbi_abi.specs.SuspendTypes.{suspend_kind_of}
 
 -- what a listing names by the number n, or else `other`
@@ -49,6 +50,10 @@ hsm_listing regs =
     ∷ (3, HartSuspend (suspend_kind_of (slice_index regs.a 0)) (slice_index regs.a 1) (slice_index regs.a 2))
     ∷ []
 
+-- The function listing of the System Reset Extension (SBI 10).
+abbrev pub srst_listing : Regs → List (ℕ × Call)
+srst_listing regs = (0, SystemReset (reset_of (slice_index regs.a 0) (slice_index regs.a 1))) ∷ []
+
 -- The extensions by their ids, each with its function listing.
 abbrev pub extensions : Regs → List (ℕ × List (ℕ × Call))
 extensions regs =
@@ -57,6 +62,7 @@ extensions regs =
     ∷ (0x735049, ipi_listing regs)
     ∷ (0x52464E43, rfence_listing regs)
     ∷ (0x48534D, hsm_listing regs)
+    ∷ (0x53525354, srst_listing regs)
     ∷ []
 
 -- The call that the registers name (SBI 3: an EID or FID that isn't implemented is not supported).
@@ -65,4 +71,4 @@ call_of regs = named regs.fid Unsupported (named regs.eid [] (extensions regs))
 
 -- The ids that probing answers 1 for (SBI 4.4).
 abbrev pub is_extension_id : ℕ → Bool
-is_extension_id eid = list_any (λ n. n == eid) (0x10 ∷ 0x54494D45 ∷ 0x735049 ∷ 0x52464E43 ∷ 0x48534D ∷ [])
+is_extension_id eid = list_any (λ n. n == eid) (0x10 ∷ 0x54494D45 ∷ 0x735049 ∷ 0x52464E43 ∷ 0x48534D ∷ 0x53525354 ∷ [])

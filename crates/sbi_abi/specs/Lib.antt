@@ -1,3 +1,4 @@
 pub mod Calls
 pub mod Errors
 pub mod SuspendTypes
+pub mod ResetTypes

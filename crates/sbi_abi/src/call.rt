@@ -1,8 +1,9 @@
 ghost use Rattle.std.specs.Prelude.{◌≡◌};
 ghost use Rattle.sbi_abi.specs.declared.call.Call.TheVariants.{Unsupported};
-ghost use Rattle.sbi_abi.specs.Calls.{base_listing, call_of, hsm_listing, ipi_listing, is_extension_id, named, rfence_listing, time_listing};
+ghost use Rattle.sbi_abi.specs.Calls.{base_listing, call_of, hsm_listing, ipi_listing, is_extension_id, named, rfence_listing, srst_listing, time_listing};
 
 use crate::answer::SbiError;
+use crate::reset::{Reset, system_reset};
 use crate::suspend::{SuspendKind, suspend_kind};
 
 /// The registers of an ECALL from a supervisor (SBI 3, Binary Encoding).
@@ -96,6 +97,8 @@ pub enum Call {
         /// What it is to be handed over in a1 then.
         opaque: u64,
     },
+    /// Resets the board (SBI 10.1): the reset, or why its type or its reason is refused.
+    SystemReset(Result<Reset, SbiError>),
     /// An extension or a function that isn't implemented (SBI 3).
     Unsupported,
 }
@@ -110,6 +113,8 @@ const RFENCE: u64 = 0x5246_4E43;
 
 const HSM: u64 = 0x48_534D;
 
+const SRST: u64 = 0x5352_5354;
+
 /// The call that the registers ask for.
 #[tactic(auto, unfolding(crate::specs::Calls::call_of))]
 pub fn decode(regs: &Regs) -> Call
@@ -121,6 +126,7 @@ pub fn decode(regs: &Regs) -> Call
         IPI => ipi_call(regs),
         RFENCE => rfence_call(regs),
         HSM => hsm_call(regs),
+        SRST => srst_call(regs),
         _ => Call::Unsupported,
     }
 }
@@ -129,7 +135,7 @@ pub fn decode(regs: &Regs) -> Call
 pub fn is_extension(eid: u64) -> bool
     ensures { result ≡ is_extension_id eid }
 {
-    matches!(eid, BASE | TIME | IPI | RFENCE | HSM)
+    matches!(eid, BASE | TIME | IPI | RFENCE | HSM | SRST)
 }
 
 fn base_call(regs: &Regs) -> Call
@@ -206,6 +212,15 @@ fn hsm_call(regs: &Regs) -> Call
             addr: second,
             opaque: third,
         },
+        _ => Call::Unsupported,
+    }
+}
+
+fn srst_call(regs: &Regs) -> Call
+    ensures { result ≡ named regs.now.fid Unsupported (srst_listing regs.now) }
+{
+    match regs.fid {
+        0 => Call::SystemReset(system_reset(regs.a[0], regs.a[1])),
         _ => Call::Unsupported,
     }
 }

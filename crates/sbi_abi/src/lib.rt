@@ -4,8 +4,10 @@
 
 mod answer;
 mod call;
+mod reset;
 mod suspend;
 
 pub use answer::{SbiError, Sbiret};
 pub use call::{Call, Regs, decode, is_extension};
+pub use reset::{Reset, ResetKind};
 pub use suspend::SuspendKind;

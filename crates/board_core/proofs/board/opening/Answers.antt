@@ -29,12 +29,12 @@ unfolding boot
 returns c = record {
   harts = record { each = c.in_ok-hsm.ensures ∙ tabulate-same (hart_at_opening c.args.config.now.boot_hart (boot c.args.config.now)) (hart_of c.args.config.now []) (opened_as c.args.config.now) (harts_of c.args.config.now) };
   interrupts = record {
-    csrs = record {
-      sstatus_sie = c.new-3.ensures ∙ sym (ids_where-none (sstatus_sie []) (λ i below. refl));
-      ssie = c.new-4.ensures ∙ sym (ids_where-none (λ h. (sie c.args.config.now [] h).ssie) (λ i below. refl));
-      stie = c.new-5.ensures ∙ sym (ids_where-none (λ h. (sie c.args.config.now [] h).stie) (λ i below. refl));
+    csrs = rw c.new-csrs.ensures record {
+      sstatus_sie = sym (ids_where-none (sstatus_sie []) (λ i below. refl));
+      ssie = sym (ids_where-none (λ h. (sie c.args.config.now [] h).ssie) (λ i below. refl));
+      stie = sym (ids_where-none (λ h. (sie c.args.config.now [] h).stie) (λ i below. refl));
     };
-    ipis = record { ssip = c.new-6.ensures ∙ sym (ids_where-none (ssip c.args.config.now []) (λ i below. refl)) };
+    ipis = record { ssip = c.new-ipis.ensures ∙ sym (ids_where-none (ssip c.args.config.now []) (λ i below. refl)) };
     timers = rw c.in_ok-timers.ensures record {
       time = refl;
       deadlines = splat_is_map (harts_of c.args.config.now) c.args.config.now.harts None (length-range_with_len 0 c.args.config.now.harts);
@@ -42,5 +42,6 @@ returns c = record {
   };
   memory = c.in_ok-memory.ensures;
   fences = record { stands = c.in_ok-fences.ensures; right = tt };
-  counts = record { starts = refl; entries = refl };
+  counts = rw c.new-counts.ensures record { starts = refl; entries = refl };
+  last_reset = refl;
 }

@@ -6,6 +6,7 @@ use Rattle.board_core.specs.declared.event.Op.TheVariants.{Tick}
 use Rattle.board_core.specs.declared.event.Reply.TheVariants.{Done}
 use Rattle.board_core.specs.Course.{Course}
 use Rattle.board_core.specs.Refusals.{is_full}
+use Rattle.board_core.specs.Resets.{is_off}
 use Rattle.board_core.proofs.Events.{deed}
 use Rattle.board_core.proofs.Standing.{interrupts-timers, stands-interrupts, timers-ticked}
 use Rattle.board_core.proofs.Steps.{clock_answered, kept-more, past-more, ticked_on}
@@ -24,7 +25,8 @@ invariant_of-self-2 c =
     let room : is_full config past ≡ false = ap (λ (b : Course). is_full b.config b.past) c.self.view_is ∙ sym c.is_full.ensures ∙ c.if-is_full.false in
     let taken : is_some (ticked timers n) ≡ true = sym c.tick.ensures.answer ∙ c.is_err.ensures.negation ∙ ap not c.if-is_err.false in
     let on = ticked_on timers n taken in
-    let answered = clock_answered config past n room (ap (λ t. nat_lt last_time (t + n)) (sym stands.interrupts.timers.time) ∙ on.1) in
+    let power : is_off past ≡ false = ap (λ (b : Course). is_off b.past) c.self.view_is ∙ c.requires in
+    let answered = clock_answered config past n power room (ap (λ t. nat_lt last_time (t + n)) (sym stands.interrupts.timers.time) ∙ on.1) in
     rw (past-more c.self.inside.events.items _ tick (c.push_reserved.ensures.items ∙ ap (λ (event : Event). c.self.inside.events.items ++ event ∷ []) c.new.ensures), c.tick.ensures.after) (
       kept-more config past tick answered refl room c.self.invariant.0,
       stands-interrupts config past tick d refl m _ refl stands (interrupts-timers config past tick d refl m.interrupts _ refl stands.interrupts

@@ -1,4 +1,5 @@
-use Rattle.std.proofs.Common.{List, [], ◌∷◌, ◌++◌, ap, sym, ◌∙◌, arith, reverse}
+use Rattle.board_core.specs.Resets.{is_off}
+use Rattle.std.proofs.Common.{◌≡◌, false, List, [], ◌∷◌, ◌++◌, ap, sym, ◌∙◌, arith, reverse}
 use Rattle.std.proofs.lemmas.List.{length-reverse}
 use Rattle.board_core.specs.declared.event.Actor.TheVariants.{Hart}
 use Rattle.board_core.specs.History.{Event, using}
@@ -48,7 +49,8 @@ invariant_of-self c =
     let u = c.perform-reply.ensures.used past c.self.invariant.1 in
     let event = using c.args.h op c.perform-reply.result.0 c.perform-reply.result.1 in
     let none = ap (λ (b : Course). first_that_holds (refusals_in (situation b.config b.past c.args.h) op (is_full b.config b.past))) c.self.view_is ∙ sym c.refusal.ensures ∙ c.in_default.is in
-    let answered = hart_answered config past c.args.h op c.perform-reply.result.0 (omega arith) none r in
+    let on : is_off past ≡ false = ap (λ (b : Course). is_off b.past) c.self.view_is ∙ c.requires in
+    let answered = hart_answered config past c.args.h op c.perform-reply.result.0 on (omega arith) none r in
     let room = (unrefused op (situation config past c.args.h) (is_full config past) none).1 in
     rw (past-more c.self.inside.events.items _ event (c.push_reserved.ensures.items ∙ ap (λ (e : Event). c.self.inside.events.items ++ e ∷ []) (c.new.ensures ∙ recorded_as config past c.args.h op c.perform-reply.result.0 c.perform-reply.result.1 u)))
     (kept-more config past event answered u room c.self.invariant.0, c.perform-reply.ensures.after past c.self.invariant.1, let capacity = c.push_reserved.ensures.capacity in let enough = c.self.invariant.2 in omega arith)
@@ -60,7 +62,8 @@ returns-clause-answer c =
     let op = c.args.op in
     let same_config = ap (λ (b : Course). b.config.harts) c.self.view_is in
     let none = ap (λ (b : Course). first_that_holds (refusals_in (situation b.config b.past c.args.h) op (is_full b.config b.past))) c.self.view_is ∙ sym c.refusal.ensures ∙ c.in_default.is in
-    let answered = hart_answered config past c.args.h op c.perform-reply.result.0 (omega arith) none (c.perform-reply.ensures.answered past c.self.invariant.1) in
+    let on : is_off past ≡ false = ap (λ (b : Course). is_off b.past) c.self.view_is ∙ c.requires in
+    let answered = hart_answered config past c.args.h op c.perform-reply.result.0 on (omega arith) none (c.perform-reply.ensures.answered past c.self.invariant.1) in
     sym answered ∙ ap (λ (b : Course). answer b.config b.past (Hart c.args.h) op) c.self.view_is
 
 pub returns-clause-after : goal.returns-clause-after
@@ -72,7 +75,8 @@ returns-clause-after c =
     let u = c.perform-reply.ensures.used past c.self.invariant.1 in
     let event = using c.args.h op c.perform-reply.result.0 c.perform-reply.result.1 in
     let none = ap (λ (b : Course). first_that_holds (refusals_in (situation b.config b.past c.args.h) op (is_full b.config b.past))) c.self.view_is ∙ sym c.refusal.ensures ∙ c.in_default.is in
-    let answered = hart_answered config past c.args.h op c.perform-reply.result.0 (omega arith) none (c.perform-reply.ensures.answered past c.self.invariant.1) in
+    let on : is_off past ≡ false = ap (λ (b : Course). is_off b.past) c.self.view_is ∙ c.requires in
+    let answered = hart_answered config past c.args.h op c.perform-reply.result.0 on (omega arith) none (c.perform-reply.ensures.answered past c.self.invariant.1) in
     ap (λ (events : List Event). record { config = config; past = events })
     (past-more c.self.inside.events.items _ event (c.push_reserved.ensures.items ∙ ap (λ (e : Event). c.self.inside.events.items ++ e ∷ []) (c.new.ensures ∙ recorded_as config past c.args.h op c.perform-reply.result.0 c.perform-reply.result.1 u)))
     ∙ stepped-more config past event answered u

@@ -9,7 +9,7 @@ use Rattle.board_core.specs.Replies.{success}
 use Rattle.board_core.specs.History.{by_hart}
 use Rattle.board_core.proofs.Events.{deed, deed_of_entry, deed_of_resume, does_entry, does_resume}
 use Rattle.board_core.proofs.Rows.{told}
-use Rattle.board_core.proofs.Standing.{counts-entered, counts-still, fences-still, harts-own, interrupts-csrs, ipis-cleared, memory-satps, satps-written, ssie-quiet, ssie-written, sstatus_sie-written, stands-harts, stie-quiet, stie-written, timers-set}
+use Rattle.board_core.proofs.Standing.{counts-entered, counts-still, fences-still, harts-own, interrupts-csrs, ipis-cleared, last-still, memory-satps, satps-written, ssie-quiet, ssie-written, sstatus_sie-written, stands-harts, stie-quiet, stie-written, timers-set}
 use Rattle.board_core.proofs.machine.Machine.advance.Goals as goal
 
 pub unreachable-requires : goal.unreachable-requires
@@ -49,7 +49,7 @@ returns-in-Some-Entered-clause-after c = λ config past stands.
     let does = does_entry config past h start.addr start.opaque t.enters in
     let csrs = stands.interrupts.csrs in
     record {
-      harts = record { each = c.advance.ensures.after ∙ t.after ∙ (harts-own config past event d does m.hsm h Started refl refl refl stands.harts).each };
+      harts = record { each = c.advance.ensures.after ∙ t.after ∙ (harts-own config past event d does m.hsm h Started refl refl refl (λ j. refl) stands.harts).each };
       interrupts = rw c.enter.ensures record {
         csrs = record {
           sstatus_sie = sstatus_sie-written config past event d does h refl m.interrupts.csrs.sstatus_sie false refl csrs.sstatus_sie;
@@ -63,6 +63,7 @@ returns-in-Some-Entered-clause-after c = λ config past stands.
           (c.make_bare.ensures.satps ∙ satps-written config past event d does m.memory.satps.items h 0 refl refl stands.memory.satps);
       fences = fences-still config past event d does m.fences refl stands.fences;
       counts = counts-entered config past event d does m.counts _ refl stands.counts;
+      last_reset = last-still config past event d does m.last_reset refl stands.last_reset;
     }
 
 pub returns-in-Some-Resumed-clause-after : goal.returns-in-Some-Resumed-clause-after
@@ -77,7 +78,7 @@ returns-in-Some-Resumed-clause-after c = λ config past stands.
     let does = does_resume config past h resume.addr resume.opaque t.enters in
     let csrs = stands.interrupts.csrs in
     record {
-      harts = record { each = c.advance.ensures.after ∙ t.after ∙ (harts-own config past event d does m.hsm h Started refl refl refl stands.harts).each };
+      harts = record { each = c.advance.ensures.after ∙ t.after ∙ (harts-own config past event d does m.hsm h Started refl refl refl (λ j. refl) stands.harts).each };
       interrupts = interrupts-csrs config past event d does m.interrupts _ refl stands.interrupts record {
         sstatus_sie = c.set.ensures ∙ sstatus_sie-written config past event d does h refl m.interrupts.csrs.sstatus_sie false refl csrs.sstatus_sie;
         ssie = ssie-quiet config past event d does m.interrupts.csrs.ssie refl csrs.ssie;
@@ -87,6 +88,7 @@ returns-in-Some-Resumed-clause-after c = λ config past stands.
           (c.make_bare-in-Some-Resumed.ensures.satps ∙ satps-written config past event d does m.memory.satps.items h 0 refl refl stands.memory.satps);
       fences = fences-still config past event d does m.fences refl stands.fences;
       counts = counts-still config past event d does m.counts refl stands.counts;
+      last_reset = last-still config past event d does m.last_reset refl stands.last_reset;
     }
 
 pub returns-in-Some-Returned-clause-after : goal.returns-in-Some-Returned-clause-after
@@ -97,7 +99,7 @@ returns-in-Some-Returned-clause-after c = λ config past stands.
     let event = by_hart c.args.h Advance (Ret (success 0)) in
     let d = deed config past event in
     stands-harts config past event d refl m _ refl stands
-    (record { each = c.advance.ensures.after ∙ t.after ∙ (harts-own config past event d refl m.hsm c.args.h Started refl refl refl stands.harts).each })
+    (record { each = c.advance.ensures.after ∙ t.after ∙ (harts-own config past event d refl m.hsm c.args.h Started refl refl refl (λ j. refl) stands.harts).each })
 
 pub returns-in-Some-To-clause-after : goal.returns-in-Some-To-clause-after
 returns-in-Some-To-clause-after c = λ config past stands.
@@ -108,4 +110,4 @@ returns-in-Some-To-clause-after c = λ config past stands.
     let event = by_hart c.args.h Advance (Moved s) in
     let d = deed config past event in
     stands-harts config past event d refl m _ refl stands
-    (record { each = c.advance.ensures.after ∙ t.after ∙ (harts-own config past event d refl m.hsm c.args.h s refl refl refl stands.harts).each })
+    (record { each = c.advance.ensures.after ∙ t.after ∙ (harts-own config past event d refl m.hsm c.args.h s refl refl refl (λ j. refl) stands.harts).each })

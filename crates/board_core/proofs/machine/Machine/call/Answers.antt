@@ -108,3 +108,11 @@ returns-in-RemoteSfenceVmaAsid-clause-after c = λ past regs is stands.
 
 pub hart_start-requires-clause-room : goal.hart_start-requires-clause-room
 hart_start-requires-clause-room c = counts-room c.args.config.now c.args.self.now c.requires.good c.requires.standing
+
+pub returns-in-SystemReset-clause-answered : goal.returns-in-SystemReset-clause-answered
+returns-in-SystemReset-clause-answered c = λ past stands.
+    c.system_reset.ensures.answered ∙ ap (call_reply c.args.config.now past c.args.h) (sym c.in-SystemReset.is)
+
+pub returns-in-SystemReset-clause-after : goal.returns-in-SystemReset-clause-after
+returns-in-SystemReset-clause-after c = λ past regs is stands.
+    c.system_reset.ensures.after c.args.h past regs (sym c.in-SystemReset.is ∙ is) stands

@@ -58,8 +58,8 @@ returns-clause-after c = λ past regs is stands.
     let memory = record m.memory { caches = with_items m.memory.caches c.discharge_all.new.caches } in
     let right = c.requires.in_range in
     rw c.forget.ensures
-    (stands-but-counts config past event d does m _ _ memory _ refl stands
-    (record { each = c.stop.ensures ∙ (harts-own config past event d does m.hsm h StopPending refl refl refl stands.harts).each })
+    (stands-but-counts config past event d does m _ _ memory _ refl refl stands
+    (record { each = c.stop.ensures ∙ (harts-own config past event d does m.hsm h StopPending refl refl refl (λ j. refl) stands.harts).each })
     (interrupts-timers config past event d does m.interrupts _ refl stands.interrupts
     (timers-set config past event d does h refl m.interrupts.timers None refl refl stands.interrupts.timers))
     (memory-caches config past event d does m.memory memory refl refl stands.memory refl refl

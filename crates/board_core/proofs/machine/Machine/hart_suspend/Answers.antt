@@ -20,7 +20,7 @@ returns-in-Ok-Retentive-clause-after c = λ past regs is stands.
     let d = deed_of_call config past h call Waiting in
     let does = does_call config past h regs call Waiting is in
     stands-harts config past event d does m _ refl stands
-    (record { each = c.suspend.ensures ∙ (harts-own config past event d does m.hsm h SuspendPending refl refl refl stands.harts).each })
+    (record { each = c.suspend.ensures ∙ (harts-own config past event d does m.hsm h SuspendPending refl refl refl (λ j. refl) stands.harts).each })
 
 pub returns-else-not-is_start_address-clause-after : goal.returns-else-not-is_start_address-clause-after
 returns-else-not-is_start_address-clause-after c = λ past regs is stands.
@@ -32,7 +32,7 @@ returns-else-not-is_start_address-clause-after c = λ past regs is stands.
     let d = deed_of_call config past h call Gone in
     let does = does_call config past h regs call Gone is in
     stands-harts config past event d does m _ refl stands
-    (record { each = c.suspend-in-Ok-NonRetentive.ensures ∙ (harts-own config past event d does m.hsm h SuspendPending refl refl refl stands.harts).each })
+    (record { each = c.suspend-in-Ok-NonRetentive.ensures ∙ (harts-own config past event d does m.hsm h SuspendPending refl refl refl (λ j. refl) stands.harts).each })
 
 pub returns-then-not-is_start_address-clause-after : goal.returns-then-not-is_start_address-clause-after
 returns-then-not-is_start_address-clause-after c = λ past regs is stands.

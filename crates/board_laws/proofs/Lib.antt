@@ -1,0 +1,12 @@
+pub mod Acts
+pub mod Places
+pub mod Leaves
+pub mod Lives
+pub mod Gone
+pub mod Right
+pub mod Reached
+pub mod Once
+pub mod Fresh
+pub mod Steady
+pub mod Again
+pub mod WorkedRows

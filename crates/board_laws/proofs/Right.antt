@@ -1,0 +1,182 @@
+-- The turns of a legal history of a good board are right.
+use Rattle.std.proofs.Common.{◌≡◌, ℕ, ◌<◌, ◌≤◌, Bool, true, false, List, [], ◌∷◌, length, refl, sym, ap, ◌∙◌, arith, eqb, Option, Some, None, Result, Ok, Err, inl, inr}
+use Rattle.std.specs.Prelude.{if◌then◌else◌, is_none, is_some, map, nat_le, not}
+use Rattle.std.proofs.lemmas.Bool.{and_parts, cases_lt, leb-false, ne_eqb, not-false}
+use Rattle.std.proofs.lemmas.Option.{same_Some}
+use Rattle.hsm.specs.declared.hart.HartState.{HartState}
+use Rattle.hsm.specs.declared.hart.HartState.TheVariants as states
+use Rattle.hsm.specs.States.{is_interruptible, is_started, is_stopped}
+use Rattle.rfence.specs.Calls as calls
+use Rattle.rfence.specs.Right.{IsRight, IsRightTurn}
+use Rattle.rfence.specs.State.{in_call}
+use Rattle.rfence.specs.Waiting as queues
+use Rattle.sbi_abi.specs.declared.answer.Sbiret.{Sbiret}
+use Rattle.sbi_abi.specs.declared.answer.SbiError.{SbiError}
+use Rattle.sbi_abi.specs.declared.answer.SbiError.TheVariants.{InvalidParam, InvalidAddress, AlreadyAvailable}
+use Rattle.sbi_abi.specs.declared.call.Call.{Call}
+use Rattle.sbi_abi.specs.declared.call.Call.TheVariants.{HartStart, HartStop, HartSuspend}
+use Rattle.sbi_abi.specs.Calls.{call_of}
+use Rattle.sbi_abi.specs.Errors.{is_success}
+use Rattle.hart_mask.specs.HartList.{targets_of}
+use Rattle.tlb_model.specs.declared.fence.Flush.{Flush}
+use Rattle.board_core.specs.declared.config.Config.{Config}
+use Rattle.board_core.specs.declared.event.Actor.{Actor}
+use Rattle.board_core.specs.declared.event.Actor.TheVariants.{Hart, Clock}
+use Rattle.board_core.specs.declared.event.Op.{Op}
+use Rattle.board_core.specs.declared.event.Op.TheVariants.{Ecall, Sfence, FenceI, Advance}
+use Rattle.board_core.specs.declared.event.Op.TheVariants as ops
+use Rattle.board_core.specs.declared.event.Refusal.TheVariants as refusals
+use Rattle.board_core.specs.declared.event.Reply.{Reply}
+use Rattle.board_core.specs.declared.event.Reply.TheVariants as replies
+use Rattle.board_core.specs.Fences.{Remote, is_asked_by, outstanding, remote_of, turn_by, turn_by_call, turn_by_flush, turn_by_remote, turn_of, turns}
+use Rattle.board_core.specs.History.{Event}
+use Rattle.board_core.specs.Interrupts.{is_target}
+use Rattle.board_core.specs.Limits.{IsGood, is_start_address}
+use Rattle.board_core.specs.Refusals.{first_that_holds, has_nothing_to_do, is_empty, is_full, is_out_of_phase, is_running, situation, waits_for_some}
+use Rattle.board_core.specs.Replies.{IsLegal, answer, call_reply, refused_or, reply, start_errors, unless}
+use Rattle.board_core.specs.States.{Move, move_by, move_by_call, move_of, moved_to, state}
+
+-- ---- what an answer says of its step
+
+-- an operation that isn't refused is of a hart that is there, in its phase, and has something to do
+record IsTaken (c : Config) (past : List Event) (x : ℕ) (op : Op) (r : Reply) : Type 0 where
+  inside : x < c.harts
+  in_phase : is_out_of_phase op (situation c past x) ≡ false
+  to_do : has_nothing_to_do op (situation c past x) ≡ false
+  replied : reply c past x op ≡ r
+
+taken : (c : Config) (past : List Event) (x : ℕ) (op : Op) (r : Reply) → answer c past (Hart x) op ≡ Ok r → IsTaken c past x op r
+taken c past x op r e = by_tests (nat_le c.harts x) (is_out_of_phase op (situation c past x)) (has_nothing_to_do op (situation c past x)) (is_full c past) refl refl refl e
+  where
+    by_tests : (missing out idle full : Bool) → nat_le c.harts x ≡ missing → is_out_of_phase op (situation c past x) ≡ out → has_nothing_to_do op (situation c past x) ≡ idle
+        → refused_or (first_that_holds ((missing, refusals.WrongPhase) ∷ (out, refusals.WrongPhase) ∷ (idle, refusals.Nothing) ∷ (full, refusals.HistoryFull) ∷ [])) (reply c past x op) ≡ Ok r
+        → IsTaken c past x op r
+    by_tests true out idle full there phase work e = cc
+    by_tests false true idle full there phase work e = cc
+    by_tests false false true full there phase work e = cc
+    by_tests false false false true there phase work e = cc
+    by_tests false false false false there phase work e = record { inside = leb-false c.harts x there; in_phase = phase; to_do = work; replied = cc }
+
+-- ---- harts that aren't there
+
+-- a start that succeeds is of a hart that is there
+started-inside : (c : Config) (past : List Event) (t addr : ℕ) (answered : Sbiret) → replies.Ret (unless (first_that_holds (start_errors c past t addr)) 0) ≡ replies.Ret answered
+    → is_success answered ≡ true → t < c.harts
+started-inside c past t addr answered e ok = by_test (nat_le c.harts t) refl e
+  where
+    by_test : (missing : Bool) → nat_le c.harts t ≡ missing
+        → replies.Ret (unless (first_that_holds ((missing, InvalidParam) ∷ (not (is_start_address c.pages addr), InvalidAddress) ∷ (not (is_stopped (state c past t)), AlreadyAvailable) ∷ [])) 0) ≡ replies.Ret answered
+        → t < c.harts
+    by_test true there e =
+        let failed : unless (Some InvalidParam) 0 ≡ answered = cc in
+        let wrong : false ≡ true = ap is_success failed ∙ ok in
+        cc
+    by_test false there e = leb-false c.harts t there
+
+moved-hart : (h : ℕ) (s : HartState) (move : Move) → Some (let made : Move = record { hart = h; state = s } in made) ≡ Some move → h ≡ move.hart
+moved-hart h s move e = ap (λ (m : Move). m.hart) (same_Some _ _ e)
+
+-- so a call moves a hart that is there
+call-moves : (c : Config) (past : List Event) (x : ℕ) (call : Call) (r : Reply) (move : Move) → x < c.harts → call_reply c past x call ≡ r → move_by_call x call r ≡ Some move → move.hart < c.harts
+call-moves c past x (HartStart t addr opaque) (replies.Ret answered) move inside replied e = by_success (is_success answered) refl e
+  where
+    by_success : (ok : Bool) → is_success answered ≡ ok → (if ok then Some (record { hart = t; state = states.StartPending }) else None) ≡ Some move → move.hart < c.harts
+    by_success true is e = rw (← moved-hart t states.StartPending move e) (started-inside c past t addr answered replied is)
+    by_success false is e = cc
+call-moves c past x HartStop replies.Gone move inside replied e = rw (← moved-hart x states.StopPending move e) inside
+call-moves c past x (HartSuspend kind addr opaque) replies.Gone move inside replied e = rw (← moved-hart x states.SuspendPending move e) inside
+call-moves c past x (HartSuspend kind addr opaque) replies.Waiting move inside replied e = rw (← moved-hart x states.SuspendPending move e) inside
+call-moves c past x call r move inside replied e = cc
+
+-- and so does any operation
+op-moves : (c : Config) (past : List Event) (x : ℕ) (op : Op) (r : Reply) (move : Move) → x < c.harts → reply c past x op ≡ r → move_by x op r ≡ Some move → move.hart < c.harts
+op-moves c past x (Ecall regs) r move inside replied e = call-moves c past x (call_of regs) r move inside replied e
+op-moves c past x Advance (replies.Entry addr hart opaque) move inside replied e = rw (← moved-hart x states.Started move e) inside
+op-moves c past x Advance (replies.Ret answered) move inside replied e = rw (← moved-hart x states.Started move e) inside
+op-moves c past x Advance (replies.Moved s) move inside replied e = rw (← moved-hart x s move e) inside
+op-moves c past x op r move inside replied e = cc
+
+moves-inside : (c : Config) (past : List Event) (actor : Actor) (op : Op) (r : Reply) (move : Move) → answer c past actor op ≡ Ok r → move_of actor op r ≡ Some move → move.hart < c.harts
+moves-inside c past (Hart x) op r move answered e = let is = taken c past x op r answered in op-moves c past x op r move is.inside is.replied e
+moves-inside c past Clock op r move answered e = cc
+
+-- no event moves a hart that isn't there, so it is STOPPED as it was at the opening
+pub stopped-outside : (c : Config) (past : List Event) (t : ℕ) → IsGood c → IsLegal c past → c.harts ≤ t → state c past t ≡ states.Stopped
+stopped-outside c [] t good legal outside =
+    let boot = good.boot_hart_is_there in
+    let other : eqb t c.boot_hart ≡ false = ne_eqb t c.boot_hart (λ same. absurd (omega arith)) in
+    rw other refl
+stopped-outside c (event ∷ past) t good legal outside =
+    by_move (move_of event.actor event.op event.reply) refl (stopped-outside c past t good legal.2 outside)
+  where
+    by_move : (moved : Option Move) → move_of event.actor event.op event.reply ≡ moved → state c past t ≡ states.Stopped → moved_to moved t (state c past t) ≡ states.Stopped
+    by_move None is before = before
+    by_move (Some move) is before =
+        let inside = moves-inside c past event.actor event.op event.reply move legal.0 is in
+        let other : eqb t move.hart ≡ false = ne_eqb t move.hart (λ same. absurd (omega arith)) in
+        rw other before
+
+-- ---- each turn
+
+asked-inside : (c : Config) (past : List Event) (mask base t : ℕ) → IsGood c → IsLegal c past → is_asked_by c past mask base t ≡ true → t < c.harts
+asked-inside c past mask base t good legal asked = elim (cases_lt t c.harts) [
+  | inl inside ↦ inside
+  | inr outside ↦
+      let parts = and_parts (is_target (targets_of mask base c.harts) t) (is_interruptible (state c past t)) asked in
+      let wrong : false ≡ true = sym (ap is_interruptible (stopped-outside c past t good legal outside)) ∙ parts.1 in
+      absurd (cc)
+]
+
+no-call : (opened : Option ℕ) (ids : List ℕ) → is_none (in_call opened ids) ≡ true → opened ≡ None
+no-call None ids e = refl
+no-call (Some place) ids e = cc
+
+some-call : (opened : Option ℕ) (ids : List ℕ) → is_none (in_call opened ids) ≡ false → waits_for_some (in_call opened ids) ≡ false → (is_some opened ≡ true) × (ids ≡ [])
+some-call None ids open_now waits = cc
+some-call (Some place) [] open_now waits = (refl, refl)
+some-call (Some place) (h ∷ ids) open_now waits = cc
+
+some-waits : {A B : Type 0} (f : A → B) (xs : List A) → is_empty (map f xs) ≡ false → 0 < length xs
+some-waits f [] e = cc
+some-waits f (x ∷ xs) e = omega arith
+
+module _ (c : Config) (past : List Event) (x : ℕ) (good : IsGood c) (legal : IsLegal c past) (inside : x < c.harts) where
+  right-remote : (remote : Option Remote) (r : Reply) → calls.open_call (turns c past) x ≡ None → IsRightTurn c.harts (turns c past) (turn_by_remote c past x remote r)
+  right-remote (Some remote) replies.Waiting none = by_flush remote.flush
+    where
+      by_flush : (flush : Result Flush SbiError) → IsRightTurn c.harts (turns c past) (turn_by_flush c past x remote.mask remote.base flush)
+      by_flush (Ok flush) = (inside, λ t asked. asked-inside c past remote.mask remote.base t good legal asked, none)
+      by_flush (Err error) = tt
+  right-remote remote r none = tt
+
+  right-call : (call : Call) (r : Reply) → calls.open_call (turns c past) x ≡ None → IsRightTurn c.harts (turns c past) (turn_by_call c past x call r)
+  right-call HartStop replies.Gone none = inside
+  right-call call r none = right-remote (remote_of call) r none
+
+  -- a guest runs outside of a call
+  outside-call : not (is_running (situation c past x)) ≡ false → calls.open_call (turns c past) x ≡ None
+  outside-call e =
+      let parts = and_parts (is_started (state c past x)) (is_none (outstanding c past x)) (not-false (is_running (situation c past x)) e) in
+      no-call (calls.open_call (turns c past) x) (calls.outstanding c.harts (turns c past) x) parts.1
+
+  right-op : (op : Op) (r : Reply) → is_out_of_phase op (situation c past x) ≡ false → has_nothing_to_do op (situation c past x) ≡ false
+      → IsRightTurn c.harts (turns c past) (turn_by c past x op r)
+  right-op (Ecall regs) r in_phase to_do = right-call (call_of regs) r (outside-call in_phase)
+  right-op (Sfence va asid) r in_phase to_do = inside
+  right-op FenceI r in_phase to_do = inside
+  right-op ops.Serve r in_phase to_do = (inside, some-waits queues.kept (queues.waiting (turns c past) x) to_do)
+  right-op ops.Poll r in_phase to_do =
+      let call = some-call (calls.open_call (turns c past) x) (calls.outstanding c.harts (turns c past) x) in_phase to_do in
+      (inside, call.0, call.1)
+  right-op op r in_phase to_do = tt
+
+right-turn : (c : Config) (past : List Event) (actor : Actor) (op : Op) (r : Reply) → IsGood c → IsLegal c past → answer c past actor op ≡ Ok r
+    → IsRightTurn c.harts (turns c past) (turn_of c past actor op r)
+right-turn c past (Hart x) op r good legal answered =
+    let is = taken c past x op r answered in
+    right-op c past x good legal is.inside op r is.in_phase is.to_do
+right-turn c past Clock op r good legal answered = tt
+
+pub turns_are_right : (c : Config) (past : List Event) → IsGood c → IsLegal c past → IsRight c.harts (turns c past)
+turns_are_right c [] good legal = tt
+turns_are_right c (event ∷ past) good legal = (right-turn c past event.actor event.op event.reply good legal.2 legal.0, turns_are_right c past good legal.2)

@@ -1,0 +1,207 @@
+-- Worked rows, computed from the definitions: what lives before a fence and after it.
+use Rattle.std.proofs.Common.{◌≡◌, ℕ, ◌+◌, ◌*◌, ◌^◌, List, [], ◌∷◌, true, false, pos, refl, arith, ◌<◌, ◌≤◌, inl, inr, Err}
+use Rattle.std.specs.Prelude.{Some, None, map, take}
+use Rattle.tlb_model.specs.declared.entry.Entry.{Entry as CacheEntry}
+use Rattle.tlb_model.specs.declared.fence.Flush.TheVariants.{Entries}
+use Rattle.sv39.specs.declared.page.Level.TheVariants.{Giga}
+use Rattle.sv39.specs.declared.cause.Cause.TheVariants.{LoadPageFault}
+use Rattle.sv39.specs.Maps.{maps}
+use Rattle.sv39.specs.Memory.{is_in_ram, zero_memory}
+use Rattle.sv39.specs.Pages.{is_valid}
+use Rattle.sbi_abi.specs.Calls.{call_of}
+use Rattle.hart_mask.specs.HartList.{names_stray, targets_of}
+use Rattle.hart_mask.specs.Ids.{ids_where}
+use Rattle.board_core.specs.declared.config.Config.{Config}
+use Rattle.board_core.specs.declared.event.Actor.TheVariants.{Hart}
+use Rattle.board_core.specs.declared.event.Op.{Op}
+use Rattle.board_core.specs.declared.event.Op.TheVariants.{Advance, Ecall, Fetch, FenceI, Load, Poll, Serve, Sfence, Store, WriteSatp}
+use Rattle.board_core.specs.declared.event.Reply.{Reply}
+use Rattle.board_core.specs.declared.event.Reply.TheVariants.{Done, Entry, Fault, Ret, Served, Value, Waiting}
+use Rattle.board_core.specs.Fences.{flush_of_range}
+use Rattle.sv39.specs.declared.cause.Kind.TheVariants as kinds
+use Rattle.hart_access.specs.declared.operation.Access.TheVariants as accesses
+use Rattle.std.proofs.lemmas.Bool.{cases_eq}
+use Rattle.board_core.specs.Memory.{memory, satp}
+use Rattle.board_laws.specs.Fresh.{FencedAccess}
+use Rattle.board_laws.specs.Places.{past_at}
+use Rattle.board_laws.specs.Steady.{IsSteady}
+use Rattle.board_core.specs.History.{Event, Reach}
+use Rattle.board_laws.specs.Again.{Step, again}
+use Rattle.board_laws.specs.Fences.{ByCall, Reached}
+use Rattle.board_laws.specs.Lives.{live_entries, live_words}
+
+abbrev opened : Config
+opened = record { harts = 1; pages = 16; limit = 1000; boot_hart = 0; boot_addr = 0x80000000; boot_opaque = 0 }
+
+-- what hart 0 did, newest first, and what it was answered
+abbrev by_hart : List Op → List Event
+by_hart ops = again opened (map (λ op. record { actor = Hart 0; op = op }) ops)
+
+abbrev replies : List Event → List Reply
+replies = map (λ event. event.reply)
+
+abbrev entry_dates : List Event → List ℕ
+entry_dates past = map (λ x. x.date) (live_entries opened past 0)
+
+abbrev word_dates : List Event → List ℕ
+word_dates past = map (λ x. x.date) (live_words opened past 0)
+
+-- a gigapage that maps the RAM to itself, its table at 0x80001000, and then the table's entry taken away
+abbrev unmapped : List Op
+unmapped = Store 0x80001010 0 ∷ Load 0x80002000 ∷ WriteSatp (8 * 2 ^ 60 + 0x80001) ∷ Store 0x80001010 0x200000cf ∷ Advance ∷ []
+
+-- The entry lives on, and a load uses it, though the page tables have it no more.
+stale-load : replies (by_hart (Load 0x80002000 ∷ unmapped)) ≡ Value 0 ∷ Done ∷ Value 0 ∷ Done ∷ Done ∷ Entry 0x80000000 0 0 ∷ []
+unfolding maps is_valid zero_memory is_in_ram
+stale-load = refl
+
+lives-before : entry_dates (by_hart unmapped) ≡ 3 ∷ []
+unfolding maps is_valid zero_memory is_in_ram
+lives-before = refl
+
+-- After a fence it is gone, and the load fails as the page tables say.
+gone-after : entry_dates (by_hart (Sfence None None ∷ unmapped)) ≡ []
+unfolding maps is_valid zero_memory is_in_ram
+gone-after = refl
+
+fresh-load : replies (by_hart (Load 0x80002000 ∷ Sfence None None ∷ unmapped)) ≡ Fault LoadPageFault ∷ Done ∷ Done ∷ Value 0 ∷ Done ∷ Done ∷ Entry 0x80000000 0 0 ∷ []
+unfolding maps is_valid zero_memory is_in_ram
+fresh-load = refl
+
+-- A fence of another address leaves it, if the address isn't in its page.
+lives-after : entry_dates (by_hart (Sfence (Some 0x2000) None ∷ unmapped)) ≡ 3 ∷ []
+unfolding maps is_valid zero_memory is_in_ram
+lives-after = refl
+
+-- A store leaves the word that was fetched, and a FENCE.I drops it.
+stale-fetch : replies (by_hart (Fetch 0x80003000 ∷ FenceI ∷ Fetch 0x80003000 ∷ Store 0x80003000 7 ∷ Fetch 0x80003000 ∷ Advance ∷ []))
+    ≡ Value 7 ∷ Done ∷ Value 0 ∷ Done ∷ Value 0 ∷ Entry 0x80000000 0 0 ∷ []
+unfolding maps is_valid zero_memory is_in_ram
+stale-fetch = refl
+
+refilled : word_dates (by_hart (Fetch 0x80003000 ∷ FenceI ∷ Fetch 0x80003000 ∷ Store 0x80003000 7 ∷ Fetch 0x80003000 ∷ Advance ∷ [])) ≡ 5 ∷ []
+unfolding maps is_valid zero_memory is_in_ram
+refilled = refl
+
+-- ---- a remote fence, between two harts
+
+abbrev pair : Config
+pair = record { harts = 2; pages = 16; limit = 1000; boot_hart = 0; boot_addr = 0x80000000; boot_opaque = 0 }
+
+abbrev did : ℕ → Op → Step
+did h op = record { actor = Hart h; op = op }
+
+abbrev call : (eid fid a b c d : ℕ) → Op
+call eid fid a b c d = Ecall (record { eid = eid; fid = fid; a = a ∷ b ∷ c ∷ d ∷ 0 ∷ 0 ∷ [] })
+
+-- Hart 1 translates by the same gigapage, whose entry hart 0 takes away; and hart 0 asks a fence of hart 1.
+abbrev asked : List Step
+asked =
+    did 0 (call 0x52464e43 1 2 0 0 0)
+    ∷ did 0 (Store 0x80001010 0)
+    ∷ did 1 (Load 0x80002000)
+    ∷ did 1 (WriteSatp (8 * 2 ^ 60 + 0x80001))
+    ∷ did 0 (Store 0x80001010 0x200000cf)
+    ∷ did 1 Advance
+    ∷ did 0 (call 0x48534d 0 1 0x80000000 0 0)
+    ∷ did 0 Advance
+    ∷ []
+
+abbrev first_reply : List Event → List Reply
+first_reply past = map (λ event. event.reply) (take 1 past)
+
+-- Until hart 1 has served, its load is stale, and hart 0's call waits.
+stale-before_serve : first_reply (again pair (did 1 (Load 0x80002000) ∷ asked)) ≡ Value 0 ∷ []
+unfolding maps is_valid zero_memory is_in_ram call_of targets_of names_stray ids_where
+stale-before_serve = refl
+
+-- Once the call was a success, it is fresh.
+abbrev served : List Step
+served = did 0 Poll ∷ did 1 Serve ∷ asked
+
+fresh-after_poll : first_reply (again pair (did 1 (Load 0x80002000) ∷ served)) ≡ Fault LoadPageFault ∷ []
+unfolding maps is_valid zero_memory is_in_ram call_of targets_of names_stray ids_where
+fresh-after_poll = refl
+
+-- The same history, written out.
+abbrev event_of : ℕ → Op → Reply → Event
+event_of h op reply = record { actor = Hart h; op = op; reply = reply; translation = None }
+
+abbrev mapped : CacheEntry
+mapped = record { leaf = record { page = 0x80000000; level = Giga; global = false; pa = 0x80000000; r = true; w = true; x = true; d = true }; asid = 0 }
+
+abbrev ask : Event
+ask = event_of 0 (call 0x52464e43 1 2 0 0 0) Waiting
+
+abbrev poll : Event
+poll = event_of 0 Poll (Ret (record { error = pos 0; value = 0 }))
+
+abbrev before_ask : List Event
+before_ask =
+    event_of 0 (Store 0x80001010 0) Done
+    ∷ record { actor = Hart 1; op = Load 0x80002000; reply = Value 0; translation = Some mapped }
+    ∷ event_of 1 (WriteSatp (8 * 2 ^ 60 + 0x80001)) Done
+    ∷ event_of 0 (Store 0x80001010 0x200000cf) Done
+    ∷ event_of 1 Advance (Entry 0x80000000 1 0)
+    ∷ event_of 0 (call 0x48534d 0 1 0x80000000 0 0) (Ret (record { error = pos 0; value = 0 }))
+    ∷ event_of 0 Advance (Entry 0x80000000 0 0)
+    ∷ []
+
+abbrev written : List Event
+written = poll ∷ event_of 1 Serve Served ∷ ask ∷ before_ask
+
+is-written : again pair served ≡ written
+unfolding maps is_valid zero_memory is_in_ram call_of targets_of names_stray ids_where
+is-written = refl
+
+-- In it the fence has reached hart 1.
+has-reached : Reached pair written 1 7 (Entries (record { asid = None; range = None }))
+unfolding call_of targets_of names_stray ids_where
+has-reached = ByCall 0
+    (record {
+      event = ask;
+      happened = record { newer = poll ∷ event_of 1 Serve Served ∷ []; made = refl };
+      by_hart = refl;
+      regs = record { eid = 0x52464e43; fid = 1; a = 2 ∷ 0 ∷ 0 ∷ 0 ∷ 0 ∷ 0 ∷ [] };
+      call = refl;
+      accepted = refl;
+      remote = record { mask = 2; base = 0; flush = flush_of_range 0 0 None };
+      fences = refl;
+      drops = refl;
+      asked = refl;
+    })
+    (record { end = 9; later = omega arith; event = poll; happened = record { newer = []; made = refl }; by_hart = refl; poll = refl })
+
+-- So the load after it is one that the fence is of, and from the fence on the page tables say one thing of it.
+abbrev load : Event
+load = event_of 1 (Load 0x80002000) (Fault LoadPageFault)
+
+abbrev reach : Reach
+reach = record { va = 0x80002000; access = accesses.Load }
+
+is-fenced : FencedAccess pair (load ∷ written) 1 7 10 (record { asid = None; range = None }) reach
+is-fenced = record {
+  event = load;
+  happened = record { newer = []; made = refl };
+  by_hart = refl;
+  access = refl;
+  reached = has-reached;
+  page = refl;
+  space = λ entry e. cc;
+}
+
+after-seven : (P : ℕ → Type 0) → P 8 → P 9 → P 10 → (m : ℕ) → 7 < m → m ≤ 10 → P m
+after-seven P eight nine ten m after upto = elim (cases_eq m 8) [
+  | inl e ↦ rw e eight
+  | inr not_eight ↦ elim (cases_eq m 9) [
+    | inl e ↦ rw e nine
+    | inr not_nine ↦ let e : m ≡ 10 = omega arith in rw e ten
+  ]
+]
+
+is-steady : IsSteady pair (load ∷ written) 1 7 10 reach (Err LoadPageFault)
+unfolding maps is_valid zero_memory is_in_ram
+is-steady = record {
+  same_satp = after-seven (λ m. satp (past_at (load ∷ written) m) 1 ≡ satp (past_at (load ∷ written) 10) 1) refl refl refl;
+  one_result = after-seven (λ m. maps (memory pair (past_at (load ∷ written) m)) (satp (past_at (load ∷ written) 10) 1) 0x80002000 kinds.Load ≡ Err LoadPageFault) refl refl refl;
+}

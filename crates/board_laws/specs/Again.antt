@@ -1,0 +1,22 @@
+-- A history from its steps alone.
+use Rattle.std.specs.Prelude.{List, [], ◌∷◌, map}
+use Rattle.board_core.specs.declared.config.Config.{Config}
+use Rattle.board_core.specs.declared.event.Actor.{Actor}
+use Rattle.board_core.specs.declared.event.Op.{Op}
+use Rattle.board_core.specs.History.{Event}
+use Rattle.board_core.specs.Replies.{stepped}
+
+-- a step, as an actor asks for it
+pub record Step : Type 0 where
+  pub actor : Actor
+  pub op : Op
+
+-- who did what in the past, without what was answered and used
+abbrev pub steps_of : List Event → List Step
+steps_of = map (λ event. record { actor = event.actor; op = event.op })
+
+-- The past that the steps make, newest first: each is answered, and uses an entry, by what the steps before it made, and
+-- one that is refused makes no event.
+abbrev pub again : Config → List Step → List Event
+again c [] = []
+again c (step ∷ steps) = (stepped (record { config = c; past = again c steps }) step.actor step.op).past

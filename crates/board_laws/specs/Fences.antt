@@ -1,0 +1,82 @@
+-- The fences that have reached a hart, its own and those of others (SBI 8; Privileged 4.2.1; Zifencei).
+use Rattle.std.specs.Prelude.{◌≡◌, ℕ, ◌+◌, ◌<◌, true, List, [], if◌then◌else◌, Option, Some, None, Ok}
+use Rattle.sbi_abi.specs.declared.call.Call.TheVariants.{HartStop}
+use Rattle.sbi_abi.specs.declared.call.Regs.{Regs}
+use Rattle.sbi_abi.specs.Calls.{call_of}
+use Rattle.tlb_model.specs.declared.fence.Flush.{Flush}
+use Rattle.tlb_model.specs.declared.fence.Flush.TheVariants.{Words, Entries}
+use Rattle.tlb_model.specs.Fences.{fence_of_address}
+use Rattle.rfence.specs.Laws.{applied_places, times, waiting_places}
+use Rattle.rfence.specs.Turns.{is_asked}
+use Rattle.board_core.specs.declared.config.Config.{Config}
+use Rattle.board_core.specs.declared.event.Actor.TheVariants.{Hart}
+use Rattle.board_core.specs.declared.event.Op.{Op}
+use Rattle.board_core.specs.declared.event.Op.TheVariants.{Ecall, FenceI, Poll, Sfence}
+use Rattle.board_core.specs.declared.event.Reply.TheVariants.{Gone, Waiting}
+use Rattle.board_core.specs.Fences.{Remote, is_asked_by, remote_of, turn_of, turns, waiting}
+use Rattle.board_core.specs.History.{Event}
+use Rattle.board_laws.specs.Lives.{live_entries, live_words}
+use Rattle.board_laws.specs.Places.{IsAt, past_at}
+
+-- What a guest's local fence drops: an SFENCE.VMA translations, and a FENCE.I fetched words (Privileged 4.2.1; Zifencei).
+abbrev pub own_fence : Op → Option Flush
+own_fence (Sfence va asid) = Some (Entries (fence_of_address va asid))
+own_fence FenceI = Some Words
+own_fence op = None
+
+-- Hart t fenced itself at this place.
+pub record FencesItself (past : List Event) (t place : ℕ) (flush : Flush) : Type 0 where
+  pub event : Event
+  pub happened : IsAt past place event
+  pub by_hart : event.actor ≡ Hart t
+  pub fences : own_fence event.op ≡ Some flush
+
+-- Hart x asked a fence of hart t at this place: by a call that was accepted, whose hart list names t, while t was in an
+-- interruptible state (SBI 8).
+pub record Asks (c : Config) (past : List Event) (x t place : ℕ) (flush : Flush) : Type 0 where
+  pub event : Event
+  pub happened : IsAt past place event
+  pub by_hart : event.actor ≡ Hart x
+  pub regs : Regs
+  pub call : event.op ≡ Ecall regs
+  pub accepted : event.reply ≡ Waiting
+  pub remote : Remote
+  pub fences : remote_of (call_of regs) ≡ Some remote
+  pub drops : remote.flush ≡ Ok flush
+  pub asked : is_asked_by c (past_at past place) remote.mask remote.base t ≡ true
+
+-- The call that hart x made at this place was a success: the hart polled later (profile).
+pub record Succeeded (past : List Event) (x place : ℕ) : Type 0 where
+  pub end : ℕ
+  pub later : place < end
+  pub event : Event
+  pub happened : IsAt past end event
+  pub by_hart : event.actor ≡ Hart x
+  pub poll : event.op ≡ Poll
+
+-- A fence that was asked at a place of the past has reached hart t: it is the hart's own, or it was asked of the hart by
+-- a call that was a success.
+pub data Reached (c : Config) (past : List Event) (t place : ℕ) (flush : Flush) : Type 0 where
+  Itself : FencesItself past t place flush → Reached c past t place flush
+  ByCall : (x : ℕ) → Asks c past x t place flush → Succeeded past x place → Reached c past t place flush
+
+-- A fence that the event of a place asks of hart t was applied there once, or waits there once; one that it doesn't ask
+-- neither was applied there nor waits there.
+abbrev pub AppliedOnce : Config → List Event → (t place : ℕ) → Event → Type 0
+AppliedOnce c past t place event =
+    times place (applied_places (turns c past) t) + times place (waiting_places (turns c past) t)
+    ≡ (if is_asked (turn_of c (past_at past place) event.actor event.op event.reply) t then 1 else 0)
+
+-- Hart t stops by this event (SBI 9.2).
+pub record Stops (event : Event) (t : ℕ) : Type 0 where
+  pub by_hart : event.actor ≡ Hart t
+  pub regs : Regs
+  pub call : event.op ≡ Ecall regs
+  pub stop : call_of regs ≡ HartStop
+  pub accepted : event.reply ≡ Gone
+
+-- Nothing lives in the caches of hart t, and no fence waits there.
+pub record LeavesNothing (c : Config) (past : List Event) (t : ℕ) : Type 0 where
+  pub entries : live_entries c past t ≡ []
+  pub words : live_words c past t ≡ []
+  pub waiting : waiting c past t ≡ []

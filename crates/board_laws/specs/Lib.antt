@@ -1,0 +1,6 @@
+pub mod Places
+pub mod Lives
+pub mod Fences
+pub mod Fresh
+pub mod Steady
+pub mod Again

@@ -1,0 +1,32 @@
+-- Accesses after a fence, while the page tables say one thing.
+use Rattle.std.specs.Prelude.{◌≡◌, ℕ, ◌<◌, ◌≤◌, List, Option, None, Result, Ok, Err}
+use Rattle.sv39.specs.declared.cause.Cause.{Cause}
+use Rattle.sv39.specs.declared.page.Leaf.{Leaf}
+use Rattle.sv39.specs.Maps.{maps}
+use Rattle.tlb_model.specs.declared.entry.Address.{Address}
+use Rattle.tlb_model.specs.declared.entry.Entry.{Entry}
+use Rattle.hart_access.specs.Accesses as whole
+use Rattle.hart_access.specs.Operations.{kind_of}
+use Rattle.hart_access.specs.Ways.{phys_at, phys_in}
+use Rattle.board_core.specs.declared.config.Config.{Config}
+use Rattle.board_core.specs.declared.event.Reply.TheVariants.{Fault}
+use Rattle.board_core.specs.Accesses.{access_reply_of, cached}
+use Rattle.board_core.specs.History.{Event, Reach}
+use Rattle.board_core.specs.Memory.{memory, satp}
+use Rattle.board_laws.specs.Places.{past_at}
+
+-- At all places after a up to p hart t's satp is the one of p, and with it the page tables give this access one result.
+pub record IsSteady (c : Config) (past : List Event) (t a p : ℕ) (reach : Reach) (result : Result Leaf Cause) : Type 0 where
+  pub same_satp : (m : ℕ) → a < m → m ≤ p → satp (past_at past m) t ≡ satp (past_at past p) t
+  pub one_result : (m : ℕ) → a < m → m ≤ p → maps (memory c (past_at past m)) (satp (past_at past p) t) reach.va (kind_of reach.access) ≡ result
+
+-- a TLB with nothing in it
+abbrev pub no_tlb : Address → Option Entry
+no_tlb at = None
+
+-- The result decides the access: a leaf gives the physical address, a fault is the reply, and the reply is the one that
+-- there is without TLBs.
+pub record IsDecidedBy (c : Config) (past : List Event) (t : ℕ) (event : Event) (reach : Reach) (result : Result Leaf Cause) : Type 0 where
+  pub address : (leaf : Leaf) → result ≡ Ok leaf → phys_at event.translation reach.va ≡ phys_in leaf reach.va
+  pub fault : (cause : Cause) → result ≡ Err cause → event.reply ≡ Fault cause
+  pub reply : event.reply ≡ access_reply_of reach.access (whole.answer (memory c past) (satp past t) no_tlb (cached c past t) reach.va reach.access)

@@ -1,0 +1,35 @@
+//! Fences of harts by others.
+ghost use Rattle.std.specs.Prelude.{◌≡◌, ℕ, ◌+◌, List, ◌∷◌};
+ghost use Rattle.tlb_model.specs.declared.fence.Flush.{Flush};
+ghost use Rattle.rfence.specs.Laws.{applied_places, times, waiting_places};
+ghost use Rattle.rfence.specs.Right.{IsRight};
+ghost use Rattle.board_core.specs.declared.config.Config.{Config};
+ghost use Rattle.board_core.specs.Fences.{turns};
+ghost use Rattle.board_core.specs.History.{Event};
+ghost use Rattle.board_core.specs.Limits.{IsGood};
+ghost use Rattle.board_core.specs.Replies.{IsLegal};
+ghost use Rattle.board_laws.specs.Fences.{AppliedOnce, Asks, LeavesNothing, Stops};
+ghost use Rattle.board_laws.specs.Places.{IsAt};
+
+/// In every legal history of a good board a hart asks for fences outside of a call, and of harts that are there; it
+/// serves where a fence waits; and it polls inside a call that waits for no hart (SBI 8; profile).
+pub fn turns_are_right()
+    ensures { (c : Config) (past : List Event) → IsGood c → IsLegal c past → IsRight c.harts (turns c past) }
+{}
+
+/// In every legal history of a good board each fence that is asked of a hart, by itself or by another one, was applied
+/// there once, or waits there once (SBI 8).
+pub fn applied_once()
+    ensures { (c : Config) (past : List Event) (t place : ℕ) (event : Event) → IsGood c → IsLegal c past → IsAt past place event → AppliedOnce c past t place event }
+{}
+
+/// In particular, each remote fence that was asked of a hart was applied there once, or waits there once (SBI 8).
+pub fn asked_once()
+    ensures { (c : Config) (past : List Event) (x t place : ℕ) (flush : Flush) → IsGood c → IsLegal c past → Asks c past x t place flush
+        → times place (applied_places (turns c past) t) + times place (waiting_places (turns c past) t) ≡ 1 }
+{}
+
+/// After a hart's stop nothing lives in its caches, and no fence waits there (profile).
+pub fn stops_leave_nothing()
+    ensures { (c : Config) (event : Event) (past : List Event) (t : ℕ) → Stops event t → LeavesNothing c (event ∷ past) t }
+{}

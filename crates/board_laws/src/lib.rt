@@ -1,0 +1,14 @@
+//! What holds of every legal history of a board: what lives in its caches, and what accesses are answered after fences.
+//!
+//! Each function is a law, which its `ensures` states: there is nothing to run.
+#![tactic(auto)]
+
+mod accesses;
+mod caches;
+mod fences;
+mod record;
+
+pub use accesses::{fetches_are_fresh, steady_tables_decide, translations_are_fresh};
+pub use caches::{fenced_is_gone, fences_strike, lives_from_its_date, struck_is_gone};
+pub use fences::{applied_once, asked_once, stops_leave_nothing, turns_are_right};
+pub use record::recorded_is_recomputed;
