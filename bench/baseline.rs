@@ -9,6 +9,10 @@
 
 #[path = "baseline/board.rs"]
 mod board;
+#[path = "baseline/fences.rs"]
+mod fences;
+#[path = "baseline/memory.rs"]
+mod memory;
 #[path = "baseline/printing.rs"]
 mod printing;
 #[path = "baseline/script.rs"]

@@ -1,5 +1,7 @@
 //! The board: a step changes it, and adds an event to its history or is refused.
 
+use crate::fences::{Fence, Fences};
+use crate::memory::{self, Access, Caches, Entry, RAM, Ram, is_valid};
 use crate::script::{CLOCK, Line, Name};
 
 const LAST_TIME: u64 = u64::MAX - 1;
@@ -43,12 +45,15 @@ pub enum Reply {
     Gone,
     Entry { addr: u64, opaque: u64 },
     Value(u64),
+    Fault(u8),
+    Served,
     Moved(State),
     Done,
 }
 
 #[derive(Clone, Copy, PartialEq)]
 pub enum Refusal {
+    Off = 1,
     WrongPhase = 2,
     Nothing = 3,
     HistoryFull = 4,
@@ -66,11 +71,15 @@ pub struct Hart {
     pub state: State,
     pub kept: Option<(u64, u64)>,
     pub deadline: Option<u64>,
+    pub satp: u64,
+    pub caches: Caches,
 }
 
 pub struct Board {
-    pages: u64,
+    config: [u64; 6],
     pub harts: Vec<Hart>,
+    ram: Ram,
+    pub fences: Fences,
     interruptible: u128,
     pub ssip: u128,
     pub ssie: u128,
@@ -79,9 +88,14 @@ pub struct Board {
     pub time: u64,
     pub starts: u64,
     pub entries: u64,
+    pub is_off: bool,
+    /// Type and reason of the last reset.
+    pub last_reset: Option<(u32, u32)>,
     limit: usize,
     events: Vec<Event>,
     numbers: Vec<u64>,
+    /// The entries that accesses used, each with its event's place.
+    used: Vec<(u32, Entry)>,
 }
 
 fn set(bits: &mut u128, h: usize, value: bool) {
@@ -93,7 +107,17 @@ pub fn has(bits: u128, h: usize) -> bool {
 }
 
 fn is_start_address(pages: u64, addr: u64) -> bool {
-    addr % 2 == 0 && (0x8000_0000..0x8000_0000 + 4096 * pages).contains(&addr)
+    addr % 2 == 0 && (RAM..RAM + 4096 * pages).contains(&addr)
+}
+
+/// The remote SFENCE.VMA of a range, or none where the range is wrong.
+fn fence_of(start: u64, size: u64, asid: Option<u16>) -> Option<Fence> {
+    let is_full = start == 0 && size == 0 || size == u64::MAX;
+    let is_right = is_full || size == 0 || start.checked_add(size - 1).is_some();
+    is_right.then_some(Fence::Entries {
+        range: (!is_full).then_some((start, size)),
+        asid,
+    })
 }
 
 impl Board {
@@ -106,14 +130,18 @@ impl Board {
             return None;
         }
         let mut board = Board {
-            pages,
+            config: *config,
             harts: (0..harts)
                 .map(|_| Hart {
                     state: State::Stopped,
                     kept: None,
                     deadline: None,
+                    satp: 0,
+                    caches: Caches::new(),
                 })
                 .collect(),
+            ram: Ram::new(pages),
+            fences: Fences::new(harts as usize),
             interruptible: 0,
             ssip: 0,
             ssie: 0,
@@ -122,9 +150,12 @@ impl Board {
             time: 0,
             starts: 0,
             entries: 0,
+            is_off: false,
+            last_reset: None,
             limit: limit as usize,
             events: Vec::with_capacity(limit as usize),
             numbers: Vec::with_capacity(8 * limit as usize),
+            used: Vec::with_capacity(limit as usize),
         };
         board.start(boot_hart as usize, boot_addr, boot_opaque);
         Some(board)
@@ -156,6 +187,9 @@ impl Board {
     }
 
     pub fn step(&mut self, line: Line, numbers: &[u64]) -> Result<Reply, Refusal> {
+        if self.is_off {
+            return Err(Refusal::Off);
+        }
         let reply = if line.actor == CLOCK {
             self.clock_step(line.name, numbers)?
         } else {
@@ -187,12 +221,24 @@ impl Board {
 
     fn hart_step(&mut self, h: usize, name: Name, numbers: &[u64]) -> Result<Reply, Refusal> {
         let state = self.harts.get(h).ok_or(Refusal::WrongPhase)?.state;
-        let is_guests = !matches!(name, Name::Advance | Name::Tick);
-        if name == Name::Tick || is_guests != (state == State::Started) {
+        let is_inside = has(self.fences.callers, h);
+        let (is_in_phase, is_ready) = match name {
+            Name::Tick => (false, false),
+            Name::Advance => (
+                state != State::Started,
+                state != State::Stopped && (state != State::Suspended || self.wake(h)),
+            ),
+            Name::Poll => (is_inside, self.fences.outstanding[h] == 0),
+            Name::Serve => (state.is_interruptible(), !self.fences.queues[h].is_empty()),
+            _ => (
+                state == State::Started && !is_inside,
+                name != Name::Wfi || self.wake(h),
+            ),
+        };
+        if !is_in_phase {
             return Err(Refusal::WrongPhase);
         }
-        let waits = name == Name::Wfi || state == State::Suspended;
-        if state == State::Stopped || waits && !self.wake(h) {
+        if !is_ready {
             return Err(Refusal::Nothing);
         }
         if self.events.len() == self.limit {
@@ -204,21 +250,72 @@ impl Board {
     fn perform(&mut self, h: usize, name: Name, numbers: &[u64]) -> Reply {
         match name {
             Name::Ecall => return self.call(h, numbers),
+            Name::Load => return self.access(h, numbers[0], Access::Load),
+            Name::Store => return self.access(h, numbers[0], Access::Store(numbers[1])),
+            Name::Fetch => return self.access(h, numbers[0], Access::Fetch),
             Name::Advance => return self.advance(h),
+            Name::Serve => {
+                self.serve(h);
+                return Reply::Served;
+            }
+            Name::Poll => {
+                self.fences.callers &= !(1 << h);
+                return Reply::Ret(0, 0);
+            }
             Name::Sip => {
                 return Reply::Value(
                     u64::from(has(self.ssip, h)) << 1 | u64::from(self.stip(h)) << 5,
                 );
             }
+            Name::Satp => match numbers[0] >> 60 {
+                0 => self.harts[h].satp = 0,
+                8 => self.harts[h].satp = numbers[0],
+                _ => {}
+            },
             Name::Sie => {
                 set(&mut self.ssie, h, numbers[0] >> 1 & 1 == 1);
                 set(&mut self.stie, h, numbers[0] >> 5 & 1 == 1);
             }
             Name::Sstatus => set(&mut self.sstatus_sie, h, numbers[0] == 1),
             Name::Clearssip => set(&mut self.ssip, h, false),
+            Name::Sfence => self.fence(h, Some(numbers[0]), Some(numbers[1])),
+            Name::SfenceOfAddress => self.fence(h, Some(numbers[0]), None),
+            Name::SfenceOfSpace => self.fence(h, None, Some(numbers[0])),
+            Name::SfenceOfAll => self.fence(h, None, None),
+            Name::Fencei => self.harts[h].caches.apply(Fence::Words),
             Name::Wfi | Name::Tick => {}
         }
         Reply::Done
+    }
+
+    fn access(&mut self, h: usize, va: u64, access: Access) -> Reply {
+        let Hart { satp, caches, .. } = &mut self.harts[h];
+        let (answer, used) = memory::perform(&mut self.ram, *satp, caches, va, access);
+        if let Some(entry) = used {
+            self.used.push((self.events.len() as u32, entry));
+        }
+        match (answer, access) {
+            (Ok(_), Access::Store(_)) => Reply::Done,
+            (Ok(word), _) => Reply::Value(word),
+            (Err(cause), _) => Reply::Fault(cause),
+        }
+    }
+
+    /// A local SFENCE.VMA: an address that isn't valid is a range of no byte.
+    fn fence(&mut self, h: usize, va: Option<u64>, asid: Option<u64>) {
+        let fence = Fence::Entries {
+            range: va.map(|va| (va, u64::from(is_valid(va)))),
+            asid: asid.map(|asid| asid as u16),
+        };
+        self.harts[h].caches.apply(fence);
+    }
+
+    fn serve(&mut self, h: usize) -> bool {
+        let taken = self.fences.take(h);
+        if let Some(fence) = taken {
+            self.harts[h].caches.apply(fence);
+        }
+        taken.is_some()
     }
 
     fn advance(&mut self, h: usize) -> Reply {
@@ -244,6 +341,7 @@ impl Board {
             return Reply::Ret(0, 0);
         };
         set(&mut self.sstatus_sie, h, false);
+        self.harts[h].satp = 0;
         Reply::Entry { addr, opaque }
     }
 
@@ -256,7 +354,10 @@ impl Board {
             (0x10, 2) => Reply::Ret(0, 1),
             (0x10, 3) => Reply::Ret(
                 0,
-                u64::from(matches!(a(0), 0x10 | 0x5449_4D45 | 0x73_5049 | 0x48_534D)),
+                u64::from(matches!(
+                    a(0),
+                    0x10 | 0x5449_4D45 | 0x73_5049 | 0x5246_4E43 | 0x48_534D | 0x5352_5354
+                )),
             ),
             (0x10, 4..=6) => Reply::Ret(0, 0),
             (0x5449_4D45, 0) => {
@@ -264,6 +365,12 @@ impl Board {
                 Reply::Ret(0, 0)
             }
             (0x73_5049, 0) => self.send_ipi(a(0), a(1)),
+            (0x5246_4E43, 0) => self.remote_fence(h, a(0), a(1), Some(Fence::Words)),
+            (0x5246_4E43, 1) => self.remote_fence(h, a(0), a(1), fence_of(a(2), a(3), None)),
+            (0x5246_4E43, 2) => {
+                let fence = fence_of(a(2), a(3), Some(a(4) as u16));
+                self.remote_fence(h, a(0), a(1), fence)
+            }
             (0x48_534D, 0) => self.hart_start(a(0), a(1), a(2)),
             (0x48_534D, 1) => self.hart_stop(h),
             (0x48_534D, 2) => match self.harts.get(a(0) as usize) {
@@ -271,28 +378,50 @@ impl Board {
                 None => Reply::Ret(-3, 0),
             },
             (0x48_534D, 3) => self.hart_suspend(h, a(0) as u32, a(1), a(2)),
+            (0x5352_5354, 0) => self.system_reset(a(0) as u32, a(1) as u32),
             _ => Reply::Ret(-2, 0),
         }
     }
 
-    fn send_ipi(&mut self, mask: u64, base: u64) -> Reply {
+    /// The harts of a hart list, or none where it names one that isn't there.
+    fn targets(&self, mask: u64, base: u64) -> Option<u128> {
         let harts = self.harts.len() as u64;
-        let targets = if base == u64::MAX {
-            u128::MAX
-        } else if base >= harts || u64::from(64 - mask.leading_zeros()) > harts - base {
+        if base == u64::MAX {
+            return Some(u128::MAX);
+        }
+        let is_there = base < harts && u64::from(64 - mask.leading_zeros()) <= harts - base;
+        is_there.then(|| u128::from(mask) << base)
+    }
+
+    fn send_ipi(&mut self, mask: u64, base: u64) -> Reply {
+        let Some(targets) = self.targets(mask, base) else {
             return Reply::Ret(-3, 0);
-        } else {
-            u128::from(mask) << base
         };
         self.ssip |= targets & self.interruptible;
         Reply::Ret(0, 0)
+    }
+
+    /// Asks a fence, or none where its range is wrong.
+    fn remote_fence(&mut self, h: usize, mask: u64, base: u64, fence: Option<Fence>) -> Reply {
+        let Some(targets) = self.targets(mask, base) else {
+            return Reply::Ret(-3, 0);
+        };
+        let Some(fence) = fence else {
+            return Reply::Ret(-5, 0);
+        };
+        let asked = targets & self.interruptible;
+        self.fences.ask(h, asked, fence);
+        if has(asked, h) {
+            self.harts[h].caches.apply(fence);
+        }
+        Reply::Waiting
     }
 
     fn hart_start(&mut self, t: u64, addr: u64, opaque: u64) -> Reply {
         let Some(hart) = self.harts.get(t as usize) else {
             return Reply::Ret(-3, 0);
         };
-        if !is_start_address(self.pages, addr) {
+        if !is_start_address(self.config[1], addr) {
             return Reply::Ret(-5, 0);
         }
         if hart.state != State::Stopped {
@@ -306,15 +435,51 @@ impl Board {
         if has(self.sstatus_sie, h) {
             return Reply::Ret(-1, 0);
         }
+        while self.serve(h) {}
+        self.harts[h].caches.clear();
         self.harts[h].deadline = None;
         self.bring(h, State::StopPending);
+        Reply::Gone
+    }
+
+    fn system_reset(&mut self, kind: u32, reason: u32) -> Reply {
+        match (kind, reason) {
+            (3..=0xEFFF_FFFF, _) => return Reply::Ret(-3, 0),
+            (0xF000_0000.., _) => return Reply::Ret(-2, 0),
+            (_, 2..=0xDFFF_FFFF) => return Reply::Ret(-3, 0),
+            _ => {}
+        }
+        for hart in &mut self.harts {
+            hart.state = State::Stopped;
+            hart.kept = None;
+            hart.deadline = None;
+            hart.satp = 0;
+            hart.caches.clear();
+        }
+        self.fences.reset();
+        self.interruptible = 0;
+        self.ssip = 0;
+        self.ssie = 0;
+        self.stie = 0;
+        self.sstatus_sie = 0;
+        self.starts = 0;
+        self.entries = 0;
+        self.last_reset = Some((kind, reason));
+        self.is_off = kind == 0;
+        if kind == 1 {
+            self.ram.clear();
+        }
+        if kind != 0 {
+            let [_, _, _, hart, addr, opaque] = self.config;
+            self.start(hart as usize, addr, opaque);
+        }
         Reply::Gone
     }
 
     fn hart_suspend(&mut self, h: usize, kind: u32, addr: u64, opaque: u64) -> Reply {
         let (kept, reply) = match kind {
             0 => (None, Reply::Waiting),
-            0x8000_0000 if is_start_address(self.pages, addr) => {
+            0x8000_0000 if is_start_address(self.config[1], addr) => {
                 (Some((addr, opaque)), Reply::Gone)
             }
             0x8000_0000 => return Reply::Ret(-5, 0),

@@ -1,6 +1,8 @@
 //! Composes the lines and the table of a board.
 
 use crate::board::{Board, Hart, Refusal, Reply, State, has};
+use crate::fences::{Fence, Request};
+use crate::memory::{D, Entry, G, R, W, Word, X};
 use crate::script::{CLOCK, Line, Name};
 use std::fs::File;
 use std::io::{self, Write};
@@ -136,6 +138,15 @@ impl Out {
         self.text(line.name.word());
         match line.name {
             Name::Sstatus => self.text(if numbers[0] == 1 { b" 1" } else { b" 0" }),
+            Name::SfenceOfAddress => {
+                self.hex(numbers[0]);
+                self.text(b" -");
+            }
+            Name::SfenceOfSpace => {
+                self.text(b" -");
+                self.hex(numbers[0]);
+            }
+            Name::SfenceOfAll => self.text(b" - -"),
             _ => numbers.iter().for_each(|n| self.hex(*n)),
         }
         if line.name == Name::Ecall {
@@ -166,6 +177,11 @@ impl Out {
                 self.text(b"value");
                 self.hex(value);
             }
+            Ok(Reply::Fault(cause)) => {
+                self.text(b"fault ");
+                self.decimal(u64::from(cause));
+            }
+            Ok(Reply::Served) => self.text(b"served"),
             Ok(Reply::Moved(state)) => {
                 self.text(b"moved ");
                 self.decimal(state as u64);
@@ -183,14 +199,36 @@ impl Out {
         self.hex_digits(board.time, 16);
         self.text(b" events ");
         self.right(board.events() as u64, 7);
-        self.text(b" power on reset none\n# starts ");
-        self.decimal(board.starts);
-        self.text(b" entries ");
-        self.decimal(board.entries);
-        self.text(b" pending ");
+        self.text(if board.is_off {
+            b" power off"
+        } else {
+            b" power on"
+        });
+        self.text(b" reset ");
+        match board.last_reset {
+            Some((kind, reason)) => {
+                self.hex_digits(u64::from(kind), 8);
+                self.text(b" ");
+                self.hex_digits(u64::from(reason), 8);
+            }
+            None => self.text(b"none"),
+        }
         let is_pending = |hart: &&Hart| hart.state == State::StartPending;
-        self.decimal(board.harts.iter().filter(is_pending).count() as u64);
-        self.text(b" asked 0 applied 0 waiting 0\n# hart state           wait out ss st ie se ");
+        let pending = board.harts.iter().filter(is_pending).count() as u64;
+        let fences = &board.fences;
+        let waiting = fences.asked - fences.applied;
+        for (name, n) in [
+            (b"\n# starts ".as_slice(), board.starts),
+            (b" entries ", board.entries),
+            (b" pending ", pending),
+            (b" asked ", fences.asked),
+            (b" applied ", fences.applied),
+            (b" waiting ", waiting),
+        ] {
+            self.text(name);
+            self.decimal(n);
+        }
+        self.text(b"\n# hart state           wait out ss st ie se ");
         self.text(b"satp             deadline         tlb ic");
         self.end_line()?;
         for (h, hart) in board.harts.iter().enumerate() {
@@ -198,6 +236,15 @@ impl Out {
         }
         for (h, hart) in board.harts.iter().enumerate() {
             self.entry(h, hart.kept)?;
+            for entry in hart.caches.tlb.items() {
+                self.translation(h, &entry)?;
+            }
+            for word in hart.caches.words.items() {
+                self.word(h, word)?;
+            }
+            for request in &fences.queues[h] {
+                self.fence(h, *request)?;
+            }
         }
         self.flush()
     }
@@ -209,7 +256,15 @@ impl Out {
         let name = hart.state.name();
         self.text(name);
         self.text(&b"               "[name.len()..]);
-        self.text(b"    0   -  ");
+        self.text(b" ");
+        self.right(board.fences.queues[h].len() as u64, 4);
+        self.text(b" ");
+        if has(board.fences.callers, h) {
+            self.right(u64::from(board.fences.outstanding[h].count_ones()), 3);
+        } else {
+            self.text(b"  -");
+        }
+        self.text(b"  ");
         self.decimal(u64::from(has(board.ssip, h)));
         self.text(b"  ");
         self.decimal(u64::from(board.stip(h)));
@@ -220,12 +275,17 @@ impl Out {
         );
         self.text(b"  ");
         self.decimal(u64::from(has(board.sstatus_sie, h)));
-        self.text(b" 0000000000000000 ");
+        self.text(b" ");
+        self.hex_digits(hart.satp, 16);
+        self.text(b" ");
         match hart.deadline {
             Some(deadline) => self.hex_digits(deadline, 16),
             None => self.text(b"----------------"),
         }
-        self.text(b"   0  0");
+        self.text(b" ");
+        self.right(u64::from(hart.caches.tlb.len()), 3);
+        self.text(b" ");
+        self.right(u64::from(hart.caches.words.len()), 2);
         self.end_line()
     }
 
@@ -233,12 +293,67 @@ impl Out {
         let Some((addr, opaque)) = kept else {
             return Ok(());
         };
-        self.text(b"# entry ");
+        self.begins(b"# entry ", h);
+        self.digits(addr);
+        self.digits(opaque);
+        self.end_line()
+    }
+
+    /// The first word of a line below the rows, and its hart.
+    fn begins(&mut self, word: &[u8], h: usize) {
+        self.text(word);
         self.right(h as u64, 3);
+    }
+
+    /// A blank, and all digits of the number.
+    fn digits(&mut self, n: u64) {
         self.text(b" ");
-        self.hex_digits(addr, 16);
+        self.hex_digits(n, 16);
+    }
+
+    fn translation(&mut self, h: usize, entry: &Entry) -> io::Result<()> {
+        self.begins(b"# tlb ", h);
+        self.digits(entry.page);
         self.text(b" ");
-        self.hex_digits(opaque, 16);
+        self.decimal(u64::from(entry.level));
+        self.text(b" ");
+        self.hex_digits(u64::from(entry.asid), 4);
+        self.text(if entry.has(G) { b" g" } else { b" -" });
+        self.digits(entry.pa);
+        self.text(b" ");
+        for (right, letter) in [(R, b"r"), (W, b"w"), (X, b"x"), (D, b"d")] {
+            self.text(if entry.has(right) { letter } else { b"-" });
+        }
+        self.end_line()
+    }
+
+    fn word(&mut self, h: usize, (pa, word): Word) -> io::Result<()> {
+        self.begins(b"# ic ", h);
+        self.digits(pa);
+        self.digits(word);
+        self.end_line()
+    }
+
+    fn fence(&mut self, h: usize, (caller, fence): Request) -> io::Result<()> {
+        self.begins(b"# fence ", h);
+        self.begins(b" from ", usize::from(caller));
+        match fence {
+            Fence::Words => self.text(b" i"),
+            Fence::Entries { range, asid } => {
+                self.text(b" vma");
+                match range {
+                    Some((start, size)) => {
+                        self.digits(start);
+                        self.digits(size);
+                    }
+                    None => self.text(b" full"),
+                }
+                if let Some(asid) = asid {
+                    self.text(b" asid ");
+                    self.hex_digits(u64::from(asid), 4);
+                }
+            }
+        }
         self.end_line()
     }
 }

@@ -10,11 +10,23 @@ pub const CLOCK: u8 = 255;
 #[derive(Clone, Copy, PartialEq)]
 pub enum Name {
     Ecall,
+    Load,
+    Store,
+    Fetch,
+    Satp,
     Sie,
     Sstatus,
     Sip,
     Clearssip,
+    /// An `sfence` with its address and its ASID, with one of them, or with none.
+    Sfence,
+    SfenceOfAddress,
+    SfenceOfSpace,
+    SfenceOfAll,
+    Fencei,
     Wfi,
+    Poll,
+    Serve,
     Advance,
     Tick,
 }
@@ -24,11 +36,19 @@ impl Name {
     fn of(word: &[u8]) -> Option<Name> {
         Some(match word {
             b"ecall" => Name::Ecall,
+            b"load" => Name::Load,
+            b"store" => Name::Store,
+            b"fetch" => Name::Fetch,
+            b"satp" => Name::Satp,
             b"sie" => Name::Sie,
             b"sstatus" => Name::Sstatus,
             b"sip" => Name::Sip,
             b"clearssip" => Name::Clearssip,
+            b"sfence" => Name::Sfence,
+            b"fencei" => Name::Fencei,
             b"wfi" => Name::Wfi,
+            b"poll" => Name::Poll,
+            b"serve" => Name::Serve,
             b"advance" => Name::Advance,
             b"tick" => Name::Tick,
             _ => return None,
@@ -38,11 +58,20 @@ impl Name {
     pub fn word(self) -> &'static [u8] {
         match self {
             Name::Ecall => b" ecall",
+            Name::Load => b" load",
+            Name::Store => b" store",
+            Name::Fetch => b" fetch",
+            Name::Satp => b" satp",
             Name::Sie => b" sie",
             Name::Sstatus => b" sstatus",
             Name::Sip => b" sip",
             Name::Clearssip => b" clearssip",
+            Name::Sfence | Name::SfenceOfSpace => b" sfence",
+            Name::SfenceOfAddress | Name::SfenceOfAll => b" sfence",
+            Name::Fencei => b" fencei",
             Name::Wfi => b" wfi",
+            Name::Poll => b" poll",
+            Name::Serve => b" serve",
             Name::Advance => b" advance",
             Name::Tick => b" tick",
         }
@@ -53,8 +82,9 @@ impl Name {
         match self {
             Name::Ecall => (2, 8, u64::MAX),
             Name::Sstatus => (1, 1, 1),
-            Name::Sie | Name::Tick => (1, 1, u64::MAX),
-            Name::Sip | Name::Clearssip | Name::Wfi | Name::Advance => (0, 0, u64::MAX),
+            Name::Load | Name::Fetch | Name::Satp | Name::Sie | Name::Tick => (1, 1, u64::MAX),
+            Name::Store | Name::Sfence => (2, 2, u64::MAX),
+            _ => (0, 0, u64::MAX),
         }
     }
 }
@@ -189,6 +219,31 @@ impl<'a> Reader<'a> {
         Some(count)
     }
 
+    /// The word up to a blank or the line's end is a dash.
+    fn dash(&mut self) -> bool {
+        let is_dash = self.peek() == b'-' && ends_word(self.bytes[self.at + 1]);
+        self.at += usize::from(is_dash);
+        is_dash
+    }
+
+    /// The address and the ASID of an `sfence`, each a number or a dash: which of them are there.
+    fn fence_numbers(&mut self, into: &mut Vec<u64>) -> Option<Name> {
+        let mut is_there = [true; 2];
+        for it in &mut is_there {
+            self.skip_gap();
+            *it = !self.dash();
+            if *it {
+                into.push(self.number()?);
+            }
+        }
+        matches!(self.skip_gap(), b'\n' | b'\r' | b'#').then_some(match is_there {
+            [true, true] => Name::Sfence,
+            [true, false] => Name::SfenceOfAddress,
+            [false, true] => Name::SfenceOfSpace,
+            [false, false] => Name::SfenceOfAll,
+        })
+    }
+
     /// The board's numbers, if the line has words.
     fn board_line(&mut self) -> Option<Option<[u64; 6]>> {
         if matches!(self.skip_gap(), b'\n' | b'\r' | b'#') {
@@ -214,15 +269,20 @@ impl<'a> Reader<'a> {
             _ => self.number().filter(|n| *n < 128)? as u8,
         };
         self.skip_gap();
-        let name = Name::of(self.word())?;
-        let (least, most, limit) = name.places();
+        let mut name = Name::of(self.word())?;
         let first = into.len() as u32;
-        let count = self.numbers(most, limit, into)?;
+        if name == Name::Sfence {
+            name = self.fence_numbers(into)?;
+        } else {
+            let (least, most, limit) = name.places();
+            if self.numbers(most, limit, into)? < least {
+                return None;
+            }
+        }
         self.end_line()?;
-        let count = (count >= least).then_some(count as u8)?;
         Some(Some(Line {
             first,
-            count,
+            count: (into.len() - first as usize) as u8,
             actor,
             name,
         }))
