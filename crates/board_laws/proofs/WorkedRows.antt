@@ -23,6 +23,7 @@ use Rattle.sv39.specs.declared.cause.Kind.TheVariants as kinds
 use Rattle.hart_access.specs.declared.operation.Access.TheVariants as accesses
 use Rattle.std.proofs.lemmas.Bool.{cases_eq}
 use Rattle.board_core.specs.Memory.{memory, satp}
+use Rattle.board_core.specs.Totals.{totals}
 use Rattle.board_laws.specs.Fresh.{FencedAccess}
 use Rattle.board_core.specs.Resets.{reset_by}
 use Rattle.board_laws.specs.Places.{IsAt, past_at}
@@ -136,6 +137,23 @@ served = did 0 Poll ∷ did 1 Serve ∷ asked
 fresh-after_poll : first_reply (again pair (did 1 (Load 0x80002000) ∷ served)) ≡ Fault LoadPageFault ∷ []
 unfolding maps is_valid zero_memory is_in_ram call_of targets_of names_stray ids_where
 fresh-after_poll = refl
+
+-- Of how many harts fences were asked, at how many they were applied, and at how many they wait: a reset counts as applying
+-- what waits.
+abbrev fence_counts : List Event → List ℕ
+fence_counts past = (totals pair past).asked ∷ (totals pair past).applied ∷ (totals pair past).waiting ∷ []
+
+waits-once : fence_counts (again pair asked) ≡ 1 ∷ 0 ∷ 1 ∷ []
+unfolding maps is_valid zero_memory is_in_ram call_of targets_of names_stray ids_where
+waits-once = refl
+
+applied-by_serve : fence_counts (again pair served) ≡ 1 ∷ 1 ∷ 0 ∷ []
+unfolding maps is_valid zero_memory is_in_ram call_of targets_of names_stray ids_where
+applied-by_serve = refl
+
+applied-by_reset : fence_counts (again pair rebooted) ≡ 1 ∷ 1 ∷ 0 ∷ []
+unfolding maps is_valid zero_memory is_in_ram call_of targets_of names_stray ids_where reset_kind_of
+applied-by_reset = refl
 
 -- The same history, written out.
 abbrev event_of : ℕ → Op → Reply → Event
