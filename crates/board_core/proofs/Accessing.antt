@@ -34,7 +34,7 @@ use Rattle.board_core.specs.History.{Event, access_op, using}
 use Rattle.board_core.specs.Fences.{turn_by, turns}
 use Rattle.board_core.specs.Memory.{act_by, address_by, cached_in, entry_filling, filling_of, hit_in, own_filling, satp_by, word_filling, writing_by, written_by}
 use Rattle.board_core.proofs.Events.{deed, still}
-use Rattle.board_core.proofs.Standing.{filled-elsewhere}
+use Rattle.board_core.proofs.MemoryStanding.{filled-elsewhere}
 use Rattle.board_core.proofs.Tables.{eqb-other, eqb-same}
 
 filled_by_act : {E : Type 0} (covers : Flush → E → Bool) (cache : Contents E) (own : Bool) → own ≡ true → (filling : Option E)

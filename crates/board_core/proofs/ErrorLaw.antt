@@ -36,7 +36,7 @@ use Rattle.hart_access.specs.Accesses as whole
 use Rattle.board_core.specs.Accesses.{access_reply_of, cached, hit}
 use Rattle.board_core.specs.Csrs.{sstatus_sie}
 use Rattle.board_core.specs.Memory.{memory, satp, written_by}
-use Rattle.board_core.proofs.Standing.{caches-same}
+use Rattle.board_core.proofs.MemoryStanding.{caches-same}
 use Rattle.board_core.specs.ErrorLaw.{LooksSame, is_error}
 use Rattle.rfence.specs.State.{total_applied, total_asked}
 use Rattle.board_core.specs.Fences.{turn_of, turns, waiting}

@@ -10,8 +10,9 @@ use Rattle.hsm.specs.Transitions.{hart_at_opening, reset_to}
 use Rattle.board_core.specs.declared.config.Config.{Config}
 use Rattle.board_core.specs.Course.{harts_of}
 use Rattle.board_core.specs.Resets.{begins_anew}
-use Rattle.board_core.proofs.Standing.{hart_at_reset}
-use Rattle.board_core.proofs.Tables.{eqb-other, eqb-same, tabulate-set}
+use Rattle.board_core.proofs.HartsStanding.{hart_at_reset}
+use Rattle.fence_queue.proofs.Tables.{tabulate-set}
+use Rattle.board_core.proofs.Tables.{eqb-other, eqb-same}
 
 -- every hart is STOPPED, and the boot hart begins anew, if it is to
 pub harts-anew : (c : Config) (reset : Reset) (boot : Option Kept)

@@ -28,7 +28,7 @@ use Rattle.board_core.specs.Starts.{Start, kept_in, last_start}
 use Rattle.board_core.specs.Stands.{HartsStand}
 use Rattle.board_core.specs.States.{state}
 use Rattle.board_core.specs.Suspends.{resume_point}
-use Rattle.board_core.proofs.Standing.{hart_at-inside}
+use Rattle.board_core.proofs.HartsStanding.{hart_at-inside}
 
 -- a hart that a start moves was STOPPED, and one that it doesn't wasn't
 pub started_stopped : (kept : Kept) (s : HartState) → true ≡ is_some (started_from kept s) → s ≡ Stopped

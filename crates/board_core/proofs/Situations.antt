@@ -1,5 +1,5 @@
 -- What a machine that stands for a past says of whether an operation happens, and what it has room for.
-use Rattle.std.proofs.Common.{◌≡◌, ℕ, ◌<◌, ◌≤◌, true, false, List, [], ◌∷◌, length, map, suc, refl, sym, ap, ◌∙◌, arith}
+use Rattle.std.proofs.Common.{◌≡◌, ℕ, ◌<◌, ◌≤◌, Bool, true, false, List, [], ◌∷◌, length, map, suc, refl, sym, ap, ◌∙◌, arith}
 use Rattle.std.specs.Prelude.{Option, Some, None, is_none, is_some}
 use Rattle.fence_queue.specs.Queues.{queue_at}
 use Rattle.rfence.specs.Calls as calls
@@ -15,10 +15,13 @@ use Rattle.board_core.specs.declared.config.Config.{Config}
 use Rattle.board_core.specs.declared.machine.Machine.{Machine}
 use Rattle.board_core.specs.Fences.{outstanding, turns, waiting}
 use Rattle.board_core.specs.History.{Event}
+use Rattle.board_core.specs.Course.{Course}
+use Rattle.board_core.specs.declared.event.Op.{Op}
 use Rattle.board_core.specs.Limits.{IsGood}
-use Rattle.board_core.specs.Refusals.{is_empty, situation, waits_for_some}
+use Rattle.board_core.specs.Refusals.{first_that_holds, is_empty, is_full, refusals_in, situation, waits_for_some}
 use Rattle.board_core.specs.Stands.{CanFill, FencesStand, HasRoom, IsSized, IsStanding, StandsFor, situation_in}
-use Rattle.board_core.proofs.Standing.{can-fill, hart_at-stand, length-caches, length-deadlines, length-entries-le, length-harts, length-satps, length-starts-le, wake-read}
+use Rattle.board_core.proofs.HartsStanding.{hart_at-stand, length-harts}
+use Rattle.board_core.proofs.Reading.{can-fill, length-caches, length-deadlines, length-entries-le, length-satps, length-starts-le, wake-read}
 
 pub length-turns : (c : Config) (past : List Event) → length (turns c past) ≡ length past
 length-turns c [] = refl
@@ -79,6 +82,14 @@ module _ (c : Config) (past : List Event) (m : Machine) (most : c.harts ≤ 128)
       let call = call-read c past m.fences stands.fences h inside in
       let queue = queue-read c past m.fences stands.fences h inside in
       λ i. record { state = (own i).state; wake = wake i; call = call i; fences = queue i }
+
+-- the machine refuses what the past refuses
+pub refusal-read : (b : Course) (c : Config) (past : List Event) {m : Machine} → record { config = c; past = past } ≡ b → c.harts ≤ 128 → StandsFor c past m → (h : ℕ) → h < c.harts → (op : Op)
+    (full : Bool) → full ≡ is_full b.config b.past → first_that_holds (refusals_in (situation_in m h) op full) ≡ first_that_holds (refusals_in (situation c past h) op (is_full c past))
+refusal-read b c past {m} is most stands h inside op full full_is =
+    let s = situation-read c past m most stands h inside in
+    let same : full ≡ is_full c past = full_is ∙ sym (ap (λ (b : Course). is_full b.config b.past) is) in
+    λ i. first_that_holds (refusals_in (s i) op (same i))
 
 module _ (c : Config) (m : Machine) (good : IsGood c) (standing : IsStanding c m) where
   pub counts-room : HasRoom m.counts

@@ -1,6 +1,6 @@
 -- How an accepted step makes a course one event longer.
-use Rattle.std.proofs.Common.{◌≡◌, ◌≢◌, ℕ, ◌+◌, ◌<◌, ◌≤◌, Bool, true, false, List, [], ◌∷◌, ◌++◌, length, reverse, refl, sym, ap, ◌∙◌, arith, eqb, inl, inr}
-use Rattle.std.specs.Prelude.{Option, Some, None, Ok, is_some, unwrap_or, nat_le, nat_lt}
+use Rattle.std.proofs.Common.{◌≡◌, ◌≢◌, ℕ, ◌+◌, ◌<◌, ◌≤◌, true, false, List, [], ◌∷◌, ◌++◌, length, reverse, refl, sym, ap, ◌∙◌, arith, eqb, inl, inr}
+use Rattle.std.specs.Prelude.{Option, Some, None, Ok, Err, is_some, unwrap_or, nat_le, nat_lt}
 use Rattle.std.proofs.lemmas.Bool.{cases_Bool, le-ltb, leb-true, lt-leb}
 use Rattle.std.proofs.lemmas.List.{reverse-append}
 use Rattle.interrupts.specs.Timing.{Timing, last_time, ticked}
@@ -22,18 +22,20 @@ use Rattle.board_core.specs.Resets.{is_off}
 use Rattle.board_core.specs.Stands.{IsKept}
 use Rattle.board_core.proofs.Tables.{eqb-same}
 
--- the answer to a hart that is there and isn't refused is the reply
+-- the answer to a hart that is there: its first refusal, or else the reply
+pub answer-inside : (c : Config) (past : List Event) (h : ℕ) (op : Op) → is_off past ≡ false → h < c.harts
+    → answer c past (Hart h) op ≡ refused_or (first_that_holds (refusals_in (situation c past h) op (is_full c past))) (reply c past h op)
+answer-inside c past h op on inside =
+    let present = lt-leb c.harts h inside in
+    λ i. refused_or (first_that_holds ((on i, Off) ∷ (present i, WrongPhase) ∷ refusals_in (situation c past h) op (is_full c past))) (reply c past h op)
+
 pub hart_answered : (c : Config) (past : List Event) (h : ℕ) (op : Op) (r : Reply) → is_off past ≡ false → h < c.harts
     → first_that_holds (refusals_in (situation c past h) op (is_full c past)) ≡ None → r ≡ reply c past h op → answer c past (Hart h) op ≡ Ok r
-hart_answered c past h op r on inside none is =
-    let present = lt-leb c.harts h inside in
-    unrefused_answer (is_off past) (nat_le c.harts h) (refusals_in (situation c past h) op (is_full c past)) on present none ∙ ap Ok (sym is)
-  where
-    unrefused_answer : (off missing : Bool) (rows : List (Bool × Refusal)) → off ≡ false → missing ≡ false → first_that_holds rows ≡ None
-        → refused_or (first_that_holds ((off, Off) ∷ (missing, WrongPhase) ∷ rows)) (reply c past h op) ≡ Ok (reply c past h op)
-    unrefused_answer true missing rows o m none = cc
-    unrefused_answer false true rows o m none = cc
-    unrefused_answer false false rows o m none = rw none refl
+hart_answered c past h op r on inside none is = answer-inside c past h op on inside ∙ ap (λ refusal. refused_or refusal (reply c past h op)) none ∙ ap Ok (sym is)
+
+pub hart_refused : (c : Config) (past : List Event) (h : ℕ) (op : Op) (refusal : Refusal) → is_off past ≡ false → h < c.harts
+    → first_that_holds (refusals_in (situation c past h) op (is_full c past)) ≡ Some refusal → answer c past (Hart h) op ≡ Err refusal
+hart_refused c past h op refusal on inside some = answer-inside c past h op on inside ∙ ap (λ refusal. refused_or refusal (reply c past h op)) some
 
 -- the answer to a tick that isn't refused
 pub clock_answered : (c : Config) (past : List Event) (n : ℕ) → is_off past ≡ false → is_full c past ≡ false → nat_lt last_time (time past + n) ≡ false → answer c past Clock (Tick n) ≡ Ok Done

@@ -16,7 +16,7 @@ use Rattle.board_core.specs.History.{Event}
 use Rattle.board_core.specs.Interrupts.{is_target}
 use Rattle.board_core.specs.Stands.{HartsStand}
 use Rattle.board_core.specs.States.{state}
-use Rattle.board_core.proofs.Standing.{hart_at-stand}
+use Rattle.board_core.proofs.HartsStanding.{hart_at-stand}
 
 -- what is in none of the first sets is in no intersection with them
 none_of : (first second in_both : Bool) → first ≡ false → (in_both ≡ true → (first && second) ≡ true) → in_both ≡ (first && second)

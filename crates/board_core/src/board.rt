@@ -14,7 +14,7 @@ ghost use Rattle.board_core.specs.Interrupts.{deadline, ssip, stip, time, wake};
 ghost use Rattle.board_core.specs.Limits.{IsGood};
 ghost use Rattle.board_core.specs.Memory.{memory, satp, tlb_acts, word_acts};
 ghost use Rattle.board_core.specs.Fences.{outstanding, waiting};
-ghost use Rattle.board_core.specs.Refusals.{first_that_holds, is_full, refusals_in, situation};
+ghost use Rattle.board_core.specs.Refusals.{is_full};
 ghost use Rattle.board_core.specs.Resets.{is_off, last_reset};
 ghost use Rattle.board_core.specs.States.{state};
 ghost use Rattle.board_core.specs.Starts.{kept, StartsAreEntered};
@@ -125,29 +125,13 @@ impl Board {
         if h >= self.config.harts {
             return Err(Refusal::WrongPhase);
         }
-        if let Some(refusal) = self.refusal(h, op) {
+        if let Some(refusal) = self.machine.refusal(h, op, self.is_full()) {
             return Err(refusal);
         }
         let (reply, used) = self.machine.perform(&self.config, h, op);
         self.events
             .push_reserved(Event::new(Actor::Hart(h), op, reply, used));
         Ok(reply)
-    }
-
-    /// The first refusal that holds of an operation of hart `h`, which is there.
-    fn refusal(&self, h: u64, op: Op) -> Option<Refusal>
-        requires { h < self.now.config.harts }
-        ensures { result ≡ first_that_holds (refusals_in (situation self.now.config self.now.past h) op (is_full self.now.config self.now.past)) }
-    {
-        if self.machine.is_out_of_phase(h, op) {
-            Some(Refusal::WrongPhase)
-        } else if self.machine.has_nothing_to_do(h, op) {
-            Some(Refusal::Nothing)
-        } else if self.is_full() {
-            Some(Refusal::HistoryFull)
-        } else {
-            None
-        }
     }
 
     /// One step of the clock, which only ticks, while the power is on.

@@ -138,6 +138,7 @@ pub fn show_errors<R: Print>(rt: &R) -> io::Result<()> {
         println!(rt; "{} {error}", error.number())?;
     }
     for refusal in [
+        Refusal::Off,
         Refusal::WrongPhase,
         Refusal::Nothing,
         Refusal::HistoryFull,

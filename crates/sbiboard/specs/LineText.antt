@@ -42,6 +42,14 @@ step_room = call_room + arguments_room
 abbrev pub arrow_room : ℕ
 arrow_room = step_room + 3
 
+-- `#`, `time`, the time, `events`, their count, `power`, `off` and `reset`
+abbrev pub power_room : ℕ
+power_room = 30 + hex_column_room + decimal_room
+
+-- the type and the reason of a reset
+abbrev pub reset_room : ℕ
+reset_room = 2 * hex_column_room
+
 -- `#`, `fence`, a hart, `from`, and the hart that asked
 abbrev pub fence_room : ℕ
 fence_room = 13 + 2 * decimal_room

@@ -43,6 +43,7 @@ lines_text b (line ∷ lines) =
 
 abbrev pub is_history_full : Result Reply Refusal → Bool
 is_history_full (Ok reply) = false
+is_history_full (Err refusals.Off) = false
 is_history_full (Err refusals.WrongPhase) = false
 is_history_full (Err refusals.Nothing) = false
 is_history_full (Err refusals.HistoryFull) = true

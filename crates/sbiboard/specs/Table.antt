@@ -1,7 +1,9 @@
 -- The printed table of a board (profile).
-use Rattle.std.specs.Prelude.{ℕ, ◌-◌, List, [], ◌∷◌, ◌++◌, length, map, replicate, reverse, codes, decimal, Bool, false, if◌then◌else◌, Option, Some, None}
+use Rattle.std.specs.Prelude.{ℕ, ◌-◌, List, [], ◌∷◌, ◌++◌, length, map, replicate, reverse, codes, decimal, Bool, true, false, if◌then◌else◌, Option, Some, None}
 use Rattle.std.specs.Fmt.{digits}
 use Rattle.std.specs.List.{flat_map}
+use Rattle.sbi_abi.specs.declared.reset.Reset.{Reset}
+use Rattle.sbi_abi.specs.ResetTypes.{reset_kind_number}
 use Rattle.hsm.specs.declared.hart.HartState.{HartState}
 use Rattle.hsm.specs.declared.hart.HartState.TheVariants.{Started, Stopped, StartPending, StopPending, Suspended, SuspendPending, ResumePending}
 use Rattle.hsm.specs.declared.hart.Kept.{Kept}
@@ -23,6 +25,7 @@ use Rattle.board_core.specs.Fences.{outstanding, waiting}
 use Rattle.board_core.specs.History.{Event}
 use Rattle.board_core.specs.Interrupts.{deadline, ssip, stip, time}
 use Rattle.board_core.specs.Memory.{satp, tlb_acts, word_acts}
+use Rattle.board_core.specs.Resets.{is_off, last_reset}
 use Rattle.board_core.specs.Starts.{kept}
 use Rattle.board_core.specs.States.{state}
 use Rattle.board_core.specs.Totals.{totals}
@@ -65,15 +68,24 @@ abbrev pub outstanding_cell : Option (List ℕ) → List ℕ
 outstanding_cell (Some harts) = right 3 (decimal (length harts))
 outstanding_cell None = right 3 (codes "-")
 
--- The time, the count of events, the power and the last reset. Resets aren't built yet.
+-- the power: `off` after a shutdown
+abbrev pub power_word : (is_off : Bool) → List ℕ
+power_word true = codes "off"
+power_word false = codes "on"
+
+-- the type and the reason of the last reset, or `none`
+abbrev pub reset_words : Option Reset → List (List ℕ)
+reset_words None = codes "none" ∷ []
+reset_words (Some reset) = hex_column 8 (reset_kind_number reset.kind) ∷ hex_column 8 reset.reason ∷ []
+
+-- the time, the count of events, the power, and the last reset
 unfoldable pub time_cells : List Event → List (List ℕ)
 time_cells past =
     codes "#"
     ∷ codes "time" ∷ hex16 (time past)
     ∷ codes "events" ∷ right 7 (decimal (length past))
-    ∷ codes "power" ∷ codes "on"
-    ∷ codes "reset" ∷ codes "none"
-    ∷ []
+    ∷ codes "power" ∷ power_word (is_off past)
+    ∷ codes "reset" ∷ reset_words (last_reset past)
 
 unfoldable pub totals_cells : Totals → List (List ℕ)
 totals_cells t =

@@ -39,6 +39,7 @@ Faults of a schedule, of which the first is said as `line L: fault N` (line 0 is
   8  more than 16,777,216 bytes
 
 Refusals of a step, printed as `refused N`; a refused step changes nothing:
+  1  the power is off
   2  the hart isn't there, or isn't in a state for this operation, or it is another actor's;
      inside a fence call a hart's guest does nothing
   3  nothing to do: no transition is pending, no interrupt wakes the hart, no fence waits to

@@ -119,6 +119,8 @@ fn is_history_full(answer: &Result<Reply, Refusal>) -> bool
 {
     match answer {
         Err(Refusal::HistoryFull) => true,
-        Err(Refusal::WrongPhase | Refusal::Nothing | Refusal::TimeFull) | Ok(_) => false,
+        Err(Refusal::Off | Refusal::WrongPhase | Refusal::Nothing | Refusal::TimeFull) | Ok(_) => {
+            false
+        }
     }
 }

@@ -2,15 +2,15 @@ ghost use Rattle.std.specs.Prelude.{◌≡◌, ◌+◌, ◌*◌, ◌^◌, ◌<�
 ghost use Rattle.std.specs.List.{flat_map};
 ghost use Rattle.board_core.specs.Course.{harts_of};
 ghost use Rattle.board_core.specs.Fences.{waiting};
-ghost use Rattle.sbiboard.specs.LineText.{decimal_room, fence_room, flush_room, hex_column_room, hex_column_work, line_room, with_words};
+ghost use Rattle.sbiboard.specs.LineText.{decimal_room, fence_room, flush_room, hex_column_room, hex_column_work, line_room, power_room, reset_room, with_words};
 ghost use Rattle.sbiboard.specs.Sinks.{Puts};
-ghost use Rattle.sbiboard.specs.Table.{asid_words, deadline_cell, details, entries, entry_cells, entry_line, fence_cells, fence_line, flush_words, hart_cells, head_cells, letter, outstanding_cell, range_words, rights, row, state_name, table, time_cells, tlb_cells, tlb_line, totals_cells, word_cells, word_line, words};
+ghost use Rattle.sbiboard.specs.Table.{asid_words, deadline_cell, details, entries, entry_cells, entry_line, fence_cells, fence_line, flush_words, hart_cells, head_cells, letter, outstanding_cell, power_word, range_words, reset_words, rights, row, state_name, table, time_cells, tlb_cells, tlb_line, totals_cells, word_cells, word_line, words};
 ghost use Rattle.sbiboard.specs.Words.{line_of};
 
 use super::line_text::LineText;
 use super::lines::bit;
 use super::sink::{Failed, Sink};
-use board_core::{Board, Entry, FetchWord, HartState, Kept, Totals};
+use board_core::{Board, Entry, FetchWord, HartState, Kept, Reset, Totals};
 use fence_queue::Request;
 use hart_mask::HartSet;
 use tlb_model::{Flush, Range};
@@ -123,10 +123,33 @@ fn time_line(board: &Board) -> LineText
     line.word(b"events");
     line.right_decimal(7, board.history().len() as u64);
     line.word(b"power");
-    line.word(b"on");
+    line.word(power(board.is_off()));
     line.word(b"reset");
-    line.word(b"none");
+    reset_onto(&mut line, board.last_reset());
     line
+}
+
+fn power(is_off: bool) -> &'static [u8]
+    ensures name { result.now ≡ power_word is_off }
+    ensures len { length result.now ≤ 3 }
+{
+    if is_off { b"off" } else { b"on" }
+}
+
+/// Appends the type and the reason of the last reset.
+fn reset_onto(line: &mut LineText, last: Option<Reset>)
+    requires { length line.old ≤ power_room }
+    ensures text { line.new ≡ with_words line.old (reset_words last) }
+    ensures len { length line.new ≤ length line.old + reset_room }
+    ensures some { 0 < length line.new }
+{
+    match last {
+        None => line.word(b"none"),
+        Some(reset) => {
+            line.hex_column(8, u64::from(reset.kind.number()));
+            line.hex_column(8, u64::from(reset.reason));
+        }
+    }
 }
 
 #[tactic(auto, unfolding(crate::specs::Table::totals_cells))]

@@ -8,7 +8,8 @@ use Rattle.board_core.specs.Course.{Course}
 use Rattle.board_core.specs.Refusals.{is_full}
 use Rattle.board_core.specs.Resets.{is_off}
 use Rattle.board_core.proofs.Events.{deed}
-use Rattle.board_core.proofs.Standing.{interrupts-timers, stands-interrupts, timers-ticked}
+use Rattle.board_core.proofs.InterruptsStanding.{interrupts-timers, timers-ticked}
+use Rattle.board_core.proofs.Standing.{stands-interrupts}
 use Rattle.board_core.proofs.Steps.{clock_answered, kept-more, past-more, ticked_on}
 use Rattle.board_core.proofs.board.Board.clock_step.Goals as goal
 

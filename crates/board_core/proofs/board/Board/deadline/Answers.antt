@@ -1,6 +1,6 @@
 use Rattle.std.proofs.Common.{ap, ◌∙◌, arith}
 use Rattle.board_core.specs.Course.{Course}
-use Rattle.board_core.proofs.Standing.{deadline-read, length-deadlines}
+use Rattle.board_core.proofs.Reading.{deadline-read, length-deadlines}
 use Rattle.board_core.proofs.board.Board.deadline.Goals as goal
 
 pub deadline-requires : goal.deadline-requires

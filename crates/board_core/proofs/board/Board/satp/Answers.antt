@@ -1,6 +1,6 @@
 use Rattle.std.proofs.Common.{ap, ◌∙◌, arith, reverse}
 use Rattle.board_core.specs.Course.{Course}
-use Rattle.board_core.proofs.Standing.{length-satps, satp-read}
+use Rattle.board_core.proofs.Reading.{length-satps, satp-read}
 use Rattle.board_core.proofs.board.Board.satp.Goals as goal
 
 pub satp-requires : goal.satp-requires

@@ -1,6 +1,6 @@
 use Rattle.std.proofs.Common.{ap, ◌∙◌, arith}
 use Rattle.board_core.specs.Course.{Course}
-use Rattle.board_core.proofs.Standing.{sie-read}
+use Rattle.board_core.proofs.Reading.{sie-read}
 use Rattle.board_core.proofs.board.Board.sie.Goals as goal
 
 pub returns : goal.returns

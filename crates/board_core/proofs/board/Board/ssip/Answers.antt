@@ -1,7 +1,7 @@
 use Rattle.std.proofs.Common.{ap, ◌∙◌, arith, reverse}
 use Rattle.board_core.specs.Course.{Course}
 use Rattle.board_core.specs.Interrupts.{ssip}
-use Rattle.board_core.proofs.Standing.{bit-read}
+use Rattle.board_core.proofs.Reading.{bit-read}
 use Rattle.board_core.proofs.board.Board.ssip.Goals as goal
 
 pub returns : goal.returns

@@ -1,7 +1,7 @@
 use Rattle.std.proofs.Common.{ap, ◌∙◌, arith, reverse}
 use Rattle.board_core.specs.Course.{Course}
 use Rattle.board_core.specs.Csrs.{sstatus_sie}
-use Rattle.board_core.proofs.Standing.{bit-read}
+use Rattle.board_core.proofs.Reading.{bit-read}
 use Rattle.board_core.proofs.board.Board.sstatus_sie.Goals as goal
 
 pub returns : goal.returns

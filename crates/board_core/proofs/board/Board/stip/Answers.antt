@@ -1,6 +1,6 @@
 use Rattle.std.proofs.Common.{ap, ◌∙◌, arith}
 use Rattle.board_core.specs.Course.{Course}
-use Rattle.board_core.proofs.Standing.{stip-read, length-deadlines}
+use Rattle.board_core.proofs.Reading.{length-deadlines, stip-read}
 use Rattle.board_core.proofs.board.Board.stip.Goals as goal
 
 pub pending-requires : goal.pending-requires

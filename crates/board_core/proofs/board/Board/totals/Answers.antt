@@ -3,7 +3,7 @@ use Rattle.std.specs.Prelude.{sum_by}
 use Rattle.board_core.specs.Course.{harts_of}
 use Rattle.board_core.specs.Fences.{waiting}
 use Rattle.board_core.proofs.Tables.{sum_by-map}
-use Rattle.board_core.proofs.Standing.{count_by-pending}
+use Rattle.board_core.proofs.HartsStanding.{count_by-pending}
 use Rattle.board_core.proofs.StartsLaw.{starts_are_entered}
 use Rattle.board_core.proofs.board.Board.totals.Goals as goal
 

@@ -1,6 +1,6 @@
 use Rattle.std.proofs.Common.{ap, ◌∙◌, arith}
 use Rattle.board_core.specs.Course.{Course}
-use Rattle.board_core.proofs.Standing.{length-deadlines, wake-read}
+use Rattle.board_core.proofs.Reading.{length-deadlines, wake-read}
 use Rattle.board_core.proofs.board.Board.wake.Goals as goal
 
 pub wake-requires-clause-in_range : goal.wake-requires-clause-in_range

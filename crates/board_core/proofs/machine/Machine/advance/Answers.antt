@@ -9,7 +9,10 @@ use Rattle.board_core.specs.Replies.{success}
 use Rattle.board_core.specs.History.{by_hart}
 use Rattle.board_core.proofs.Events.{deed, deed_of_entry, deed_of_resume, does_entry, does_resume}
 use Rattle.board_core.proofs.Rows.{told}
-use Rattle.board_core.proofs.Standing.{counts-entered, counts-still, fences-still, harts-own, interrupts-csrs, ipis-cleared, last-still, memory-satps, satps-written, ssie-quiet, ssie-written, sstatus_sie-written, stands-harts, stie-quiet, stie-written, timers-set}
+use Rattle.board_core.proofs.HartsStanding.{harts-own}
+use Rattle.board_core.proofs.InterruptsStanding.{interrupts-csrs, ipis-cleared, ssie-quiet, ssie-written, sstatus_sie-written, stie-quiet, stie-written, timers-set}
+use Rattle.board_core.proofs.MemoryStanding.{memory-satps, satps-written}
+use Rattle.board_core.proofs.Standing.{counts-entered, counts-still, fences-still, last-still, stands-harts}
 use Rattle.board_core.proofs.machine.Machine.advance.Goals as goal
 
 pub unreachable-requires : goal.unreachable-requires

@@ -4,7 +4,7 @@ use Rattle.hsm.specs.Harts.{Hart}
 use Rattle.hsm.specs.States.{state_number}
 use Rattle.board_core.specs.Replies.{success}
 use Rattle.board_core.specs.declared.event.Reply.TheVariants.{Ret}
-use Rattle.board_core.proofs.Standing.{hart_at-stand}
+use Rattle.board_core.proofs.HartsStanding.{hart_at-stand}
 use Rattle.board_core.proofs.machine.Machine.hart_get_status.Goals as goal
 
 pub returns : goal.returns

@@ -12,7 +12,8 @@ use Rattle.board_core.specs.Replies.{failure, success}
 use Rattle.board_core.specs.History.{by_hart}
 use Rattle.board_core.proofs.Events.{deed_of_call, does_call}
 use Rattle.board_core.proofs.Rows.{started_stopped, unstarted_not_stopped, unstarted_same}
-use Rattle.board_core.proofs.Standing.{call-quiet, counts-started, hart_at-stand, harts-started, stands-harts-counts, stands-quiet}
+use Rattle.board_core.proofs.HartsStanding.{hart_at-stand, harts-started}
+use Rattle.board_core.proofs.Standing.{call-quiet, counts-started, stands-harts-counts, stands-quiet}
 use Rattle.board_core.proofs.machine.Machine.hart_start.Goals as goal
 
 pub returns-then-t-config-clause-after : goal.returns-then-t-config-clause-after

@@ -11,7 +11,11 @@ use Rattle.board_core.specs.History.{by_hart}
 use Rattle.rfence.specs.Turns.{Stop}
 use Rattle.board_core.proofs.Situations.{fences-room, takes}
 use Rattle.board_core.proofs.Events.{deed_of_call, does_call}
-use Rattle.board_core.proofs.Standing.{bit-read, caches-turned, fences-turned, harts-own, interrupts-timers, length-caches, memory-caches, stands-but-counts, stands-quiet, timers-set}
+use Rattle.board_core.proofs.HartsStanding.{harts-own}
+use Rattle.board_core.proofs.InterruptsStanding.{interrupts-timers, timers-set}
+use Rattle.board_core.proofs.MemoryStanding.{caches-turned, memory-caches}
+use Rattle.board_core.proofs.Reading.{bit-read, length-caches}
+use Rattle.board_core.proofs.Standing.{fences-turned, stands-but-counts, stands-quiet}
 use Rattle.std.specs.Vec.{with_items}
 use Rattle.board_core.proofs.Tables.{tabulated-items}
 use Rattle.board_core.proofs.machine.Machine.hart_stop.Goals as goal

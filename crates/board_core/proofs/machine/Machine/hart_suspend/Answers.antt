@@ -7,7 +7,8 @@ use Rattle.board_core.specs.declared.event.Op.TheVariants.{Ecall}
 use Rattle.board_core.specs.declared.event.Reply.TheVariants.{Gone, Ret, Waiting}
 use Rattle.board_core.specs.History.{by_hart}
 use Rattle.board_core.proofs.Events.{deed_of_call, does_call}
-use Rattle.board_core.proofs.Standing.{call-quiet, harts-own, stands-harts}
+use Rattle.board_core.proofs.HartsStanding.{harts-own}
+use Rattle.board_core.proofs.Standing.{call-quiet, stands-harts}
 use Rattle.board_core.proofs.machine.Machine.hart_suspend.Goals as goal
 
 pub returns-in-Ok-Retentive-clause-after : goal.returns-in-Ok-Retentive-clause-after

@@ -19,7 +19,10 @@ use Rattle.board_core.specs.Csrs.{sie_of}
 use Rattle.board_core.specs.History.{by_hart}
 use Rattle.board_core.specs.Replies.{success}
 use Rattle.board_core.proofs.Events.{deed}
-use Rattle.board_core.proofs.Standing.{caches-fenced, caches-read, caches-turned, fences-own, fences-turned, interrupts-csrs, interrupts-ipis, ipis-cleared, length-caches, memory-caches, memory-satps, memory-still, own-drops, own-spares, satp-read, satps-put, sip-read, ssie-quiet, ssie-written, sstatus_sie-quiet, sstatus_sie-written, stands-fences, stands-interrupts, stands-memory, stands-quiet, stie-quiet, stie-written}
+use Rattle.board_core.proofs.InterruptsStanding.{interrupts-csrs, interrupts-ipis, ipis-cleared, ssie-quiet, ssie-written, sstatus_sie-quiet, sstatus_sie-written, stie-quiet, stie-written}
+use Rattle.board_core.proofs.MemoryStanding.{caches-fenced, caches-turned, memory-caches, memory-satps, memory-still, own-drops, own-spares, satps-put}
+use Rattle.board_core.proofs.Reading.{caches-read, length-caches, satp-read, sip-read}
+use Rattle.board_core.proofs.Standing.{fences-own, fences-turned, stands-fences, stands-interrupts, stands-memory, stands-quiet}
 use Rattle.board_core.proofs.machine.Machine.perform.Goals as goal
 
 pub returns-in-Ecall-clause-after : goal.returns-in-Ecall-clause-after

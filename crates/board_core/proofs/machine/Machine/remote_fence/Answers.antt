@@ -12,7 +12,9 @@ use Rattle.board_core.specs.History.{by_hart}
 use Rattle.board_core.specs.Replies.{failure}
 use Rattle.board_core.proofs.Events.{deed, deed_of_turn, does_call, does_no_remote, does_remote, still}
 use Rattle.board_core.proofs.Situations.{fences-room, outside-read, takes}
-use Rattle.board_core.proofs.Standing.{caches-turned, fences-turned, length-caches, memory-caches, stands-fences, stands-quiet}
+use Rattle.board_core.proofs.MemoryStanding.{caches-turned, memory-caches}
+use Rattle.board_core.proofs.Reading.{length-caches}
+use Rattle.board_core.proofs.Standing.{fences-turned, stands-fences, stands-quiet}
 use Rattle.board_core.proofs.Targets.{asked-as, is_reached, reached-below}
 use Rattle.std.specs.Vec.{with_items}
 use Rattle.board_core.proofs.Tables.{tabulated-items}

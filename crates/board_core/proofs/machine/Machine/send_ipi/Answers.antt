@@ -6,7 +6,8 @@ use Rattle.board_core.specs.declared.event.Reply.TheVariants.{Ret}
 use Rattle.board_core.specs.Replies.{failure, success}
 use Rattle.board_core.specs.History.{by_hart}
 use Rattle.board_core.proofs.Events.{deed_of_call, does_call}
-use Rattle.board_core.proofs.Standing.{call-quiet, interrupts-ipis, ipis-sent, stands-interrupts}
+use Rattle.board_core.proofs.InterruptsStanding.{interrupts-ipis, ipis-sent}
+use Rattle.board_core.proofs.Standing.{call-quiet, stands-interrupts}
 use Rattle.board_core.proofs.Targets.{is_reached}
 use Rattle.board_core.proofs.machine.Machine.send_ipi.Goals as goal
 

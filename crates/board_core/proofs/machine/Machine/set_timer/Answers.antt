@@ -6,7 +6,8 @@ use Rattle.board_core.specs.declared.event.Reply.TheVariants.{Ret}
 use Rattle.board_core.specs.Replies.{success}
 use Rattle.board_core.specs.History.{by_hart}
 use Rattle.board_core.proofs.Events.{deed_of_call, does_call}
-use Rattle.board_core.proofs.Standing.{interrupts-timers, stands-interrupts, timers-set}
+use Rattle.board_core.proofs.InterruptsStanding.{interrupts-timers, timers-set}
+use Rattle.board_core.proofs.Standing.{stands-interrupts}
 use Rattle.board_core.proofs.machine.Machine.set_timer.Goals as goal
 
 pub returns-clause-after : goal.returns-clause-after

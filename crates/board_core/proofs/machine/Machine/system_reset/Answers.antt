@@ -14,7 +14,11 @@ use Rattle.board_core.specs.Replies.{failure}
 use Rattle.board_core.proofs.Events.{deed_of_call, does_call}
 use Rattle.board_core.proofs.Resetting.{harts-anew}
 use Rattle.board_core.proofs.Situations.{fences-room, takes}
-use Rattle.board_core.proofs.Standing.{call-quiet, caches-turned, counts-reset, fences-turned, harts-reset, interrupts-reset, last-reset, length-caches, length-harts, memory-reset}
+use Rattle.board_core.proofs.HartsStanding.{harts-reset, length-harts}
+use Rattle.board_core.proofs.InterruptsStanding.{interrupts-reset}
+use Rattle.board_core.proofs.MemoryStanding.{caches-turned, memory-reset}
+use Rattle.board_core.proofs.Reading.{length-caches}
+use Rattle.board_core.proofs.Standing.{call-quiet, counts-reset, fences-turned, last-reset}
 use Rattle.board_core.proofs.Tables.{tabulated-items}
 use Rattle.board_core.proofs.machine.Machine.system_reset.Goals as goal
 
