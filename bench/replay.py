@@ -4,7 +4,8 @@
 usage: bench/replay.py [--runs N] [--instructions] [--harts N,..] [--lines N,..] [PROGRAM]
 
 PROGRAM is a built `sbiboard` (default: the one that `./sbiboard` builds); plain Rust is `bench/baseline.rs`, which
-is built here with rustc. First both replay each schedule once, and must print the same bytes. Then they take
+is built here with rustc. It does the same work: `bench/agree.py` compares the two byte for byte, on all examples and
+on random schedules. Here, too, both first replay each schedule once, and must print the same bytes. Then they take
 turns, --runs times (default 9), and of each the fastest run counts. Time is the processor's, of the whole process,
 in user and system: reading the file and writing the output are in it, waiting for a processor isn't. A busy machine
 still slows both by its caches, so look at the load that is printed. Memory is the peak, which can't be told below
@@ -29,6 +30,7 @@ import tempfile
 from itertools import count, islice
 
 ROOT = os.path.dirname(os.path.dirname(os.path.abspath(__file__)))
+BUILT = os.path.join(ROOT, "crates/sbiboard_cli/out/sbiboard_cli")
 RUSTC = ["rustc", "--edition", "2024", "-C", "opt-level=3", "-C", "codegen-units=1", "-C", "target-cpu=x86-64"]
 PLAIN_PAGES = {"GLIBC_TUNABLES": ""}
 HUGE_PAGES = {"GLIBC_TUNABLES": "glibc.malloc.hugetlb=1"}
@@ -188,6 +190,13 @@ def schedule(folder, workload, harts, lines):
 # ---- runs
 
 
+def plain_rust(folder):
+    """Builds plain Rust in this folder."""
+    made = os.path.join(folder, "baseline")
+    subprocess.run([*RUSTC, "-o", made, os.path.join(ROOT, "bench/baseline.rs")], check=True)
+    return made
+
+
 def replay(program, path, pages, output=os.devnull):
     """The seconds of the processor that one replay takes, and its peak of memory in MiB."""
     with open(output, "wb") as sink:
@@ -280,7 +289,7 @@ def numbers(text):
 
 def options():
     parser = argparse.ArgumentParser(description="Times the program beside plain Rust, and prints the README's table.")
-    parser.add_argument("program", nargs="?", default=os.path.join(ROOT, "crates/sbiboard_cli/out/sbiboard_cli"))
+    parser.add_argument("program", nargs="?", default=BUILT)
     parser.add_argument("--runs", type=int, default=9, help="how many runs of each, of which the fastest counts")
     parser.add_argument("--instructions", action="store_true", help="count instructions by valgrind, not time")
     parser.add_argument("--harts", type=numbers, help="as 1,64,128 (the default), each 1 to 128")
@@ -298,9 +307,8 @@ def main():
         sys.exit(f"{' and '.join(missing)} not found")
     print(f"load {os.getloadavg()[0]:.1f} on {os.cpu_count()} processors", file=sys.stderr)
     with tempfile.TemporaryDirectory() as folder:
-        baseline = os.path.join(folder, "baseline")
-        subprocess.run([*RUSTC, "-o", baseline, os.path.join(ROOT, "bench/baseline.rs")], check=True)
-        print_rows((os.path.abspath(chosen.program), baseline), folder, chosen)
+        print_rows((os.path.abspath(chosen.program), plain_rust(folder)), folder, chosen)
 
 
-main()
+if __name__ == "__main__":
+    main()
