@@ -6,7 +6,9 @@ pub mod Gone
 pub mod Right
 pub mod Reached
 pub mod Once
+pub mod Counted
 pub mod Fresh
 pub mod Steady
 pub mod Again
+pub mod AfterResets
 pub mod WorkedRows

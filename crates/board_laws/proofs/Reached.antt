@@ -64,6 +64,7 @@ event-strikes c past t place flush was =
 call-turn : (c : Config) (past : List Event) (x : ℕ) (call : Call) (remote : Remote) → remote_of call ≡ Some remote
     → turn_by_call c past x call replies.Waiting ≡ turn_by_remote c past x (Some remote) replies.Waiting
 call-turn c past x calls.HartStop remote e = cc
+call-turn c past x (calls.SystemReset reset) remote e = cc
 call-turn c past x call remote e = ap (λ r. turn_by_remote c past x r replies.Waiting) e
 
 pub ask-turn : (c : Config) (past : List Event) (x t place : ℕ) (flush : Flush) (a : Asks c past x t place flush)

@@ -1,8 +1,7 @@
 -- The turns of a legal history of a good board are right.
-use Rattle.std.proofs.Common.{◌≡◌, ℕ, ◌<◌, ◌≤◌, Bool, true, false, List, [], ◌∷◌, length, refl, sym, ap, ◌∙◌, arith, eqb, Option, Some, None, Result, Ok, Err, inl, inr}
+use Rattle.std.proofs.Common.{◌≡◌, ℕ, ◌<◌, ◌≤◌, Bool, true, false, List, [], ◌∷◌, length, refl, sym, ap, ◌∙◌, arith, Option, Some, None, Result, Ok, Err, inl, inr}
 use Rattle.std.specs.Prelude.{if◌then◌else◌, is_none, is_some, map, nat_le, not}
 use Rattle.std.proofs.lemmas.Bool.{and_parts, cases_lt, leb-false, ne_eqb, not-false}
-use Rattle.std.proofs.lemmas.Option.{same_Some}
 use Rattle.hsm.specs.declared.hart.HartState.{HartState}
 use Rattle.hsm.specs.declared.hart.HartState.TheVariants as states
 use Rattle.hsm.specs.States.{is_interruptible, is_started, is_stopped}
@@ -14,8 +13,9 @@ use Rattle.sbi_abi.specs.declared.answer.Sbiret.{Sbiret}
 use Rattle.sbi_abi.specs.declared.answer.SbiError.{SbiError}
 use Rattle.sbi_abi.specs.declared.answer.SbiError.TheVariants.{InvalidParam, InvalidAddress, AlreadyAvailable}
 use Rattle.sbi_abi.specs.declared.call.Call.{Call}
-use Rattle.sbi_abi.specs.declared.call.Call.TheVariants.{HartStart, HartStop, HartSuspend}
+use Rattle.sbi_abi.specs.declared.call.Call.TheVariants.{HartStart, HartStop, HartSuspend, SystemReset}
 use Rattle.sbi_abi.specs.Calls.{call_of}
+use Rattle.sbi_abi.specs.declared.reset.Reset.{Reset}
 use Rattle.sbi_abi.specs.Errors.{is_success}
 use Rattle.hart_mask.specs.HartList.{targets_of}
 use Rattle.tlb_model.specs.declared.fence.Flush.{Flush}
@@ -34,7 +34,8 @@ use Rattle.board_core.specs.Interrupts.{is_target}
 use Rattle.board_core.specs.Limits.{IsGood, is_start_address}
 use Rattle.board_core.specs.Refusals.{first_that_holds, has_nothing_to_do, is_empty, is_full, is_out_of_phase, is_running, situation, waits_for_some}
 use Rattle.board_core.specs.Replies.{IsLegal, answer, call_reply, refused_or, reply, start_errors, unless}
-use Rattle.board_core.specs.States.{Move, move_by, move_by_call, move_of, moved_to, state}
+use Rattle.board_core.specs.Resets.{begins_anew, is_off}
+use Rattle.board_core.specs.States.{One, move_by, move_by_call, move_of, moved_to, state, state_at_opening, state_at_reset}
 
 -- ---- what an answer says of its step
 
@@ -46,16 +47,17 @@ record IsTaken (c : Config) (past : List Event) (x : ℕ) (op : Op) (r : Reply) 
   replied : reply c past x op ≡ r
 
 taken : (c : Config) (past : List Event) (x : ℕ) (op : Op) (r : Reply) → answer c past (Hart x) op ≡ Ok r → IsTaken c past x op r
-taken c past x op r e = by_tests (nat_le c.harts x) (is_out_of_phase op (situation c past x)) (has_nothing_to_do op (situation c past x)) (is_full c past) refl refl refl e
+taken c past x op r e = by_tests (is_off past) (nat_le c.harts x) (is_out_of_phase op (situation c past x)) (has_nothing_to_do op (situation c past x)) (is_full c past) refl refl refl e
   where
-    by_tests : (missing out idle full : Bool) → nat_le c.harts x ≡ missing → is_out_of_phase op (situation c past x) ≡ out → has_nothing_to_do op (situation c past x) ≡ idle
-        → refused_or (first_that_holds ((missing, refusals.WrongPhase) ∷ (out, refusals.WrongPhase) ∷ (idle, refusals.Nothing) ∷ (full, refusals.HistoryFull) ∷ [])) (reply c past x op) ≡ Ok r
+    by_tests : (off missing out idle full : Bool) → nat_le c.harts x ≡ missing → is_out_of_phase op (situation c past x) ≡ out → has_nothing_to_do op (situation c past x) ≡ idle
+        → refused_or (first_that_holds ((off, refusals.Off) ∷ (missing, refusals.WrongPhase) ∷ (out, refusals.WrongPhase) ∷ (idle, refusals.Nothing) ∷ (full, refusals.HistoryFull) ∷ [])) (reply c past x op) ≡ Ok r
         → IsTaken c past x op r
-    by_tests true out idle full there phase work e = cc
-    by_tests false true idle full there phase work e = cc
-    by_tests false false true full there phase work e = cc
-    by_tests false false false true there phase work e = cc
-    by_tests false false false false there phase work e = record { inside = leb-false c.harts x there; in_phase = phase; to_do = work; replied = cc }
+    by_tests true missing out idle full there phase work e = cc
+    by_tests false true out idle full there phase work e = cc
+    by_tests false false true idle full there phase work e = cc
+    by_tests false false false true full there phase work e = cc
+    by_tests false false false false true there phase work e = cc
+    by_tests false false false false false there phase work e = record { inside = leb-false c.harts x there; in_phase = phase; to_do = work; replied = cc }
 
 -- ---- harts that aren't there
 
@@ -73,48 +75,55 @@ started-inside c past t addr answered e ok = by_test (nat_le c.harts t) refl e
         cc
     by_test false there e = leb-false c.harts t there
 
-moved-hart : (h : ℕ) (s : HartState) (move : Move) → Some (let made : Move = record { hart = h; state = s } in made) ≡ Some move → h ≡ move.hart
-moved-hart h s move e = ap (λ (m : Move). m.hart) (same_Some _ _ e)
+-- a hart that isn't there stays STOPPED where another one is moved
+one-stays : (c : Config) (t h : ℕ) (s : HartState) → c.harts ≤ t → h < c.harts → moved_to (Some (One h s)) t states.Stopped ≡ states.Stopped
+one-stays c t h s outside inside = rw (ne_eqb t h (λ same. absurd (omega arith))) refl
 
--- so a call moves a hart that is there
-call-moves : (c : Config) (past : List Event) (x : ℕ) (call : Call) (r : Reply) (move : Move) → x < c.harts → call_reply c past x call ≡ r → move_by_call x call r ≡ Some move → move.hart < c.harts
-call-moves c past x (HartStart t addr opaque) (replies.Ret answered) move inside replied e = by_success (is_success answered) refl e
+-- it isn't the boot hart, and so it is STOPPED at the opening, and after a reset
+opening-stops : (c : Config) (t : ℕ) → IsGood c → c.harts ≤ t → state_at_opening c t ≡ states.Stopped
+opening-stops c t good outside =
+    let boot = good.boot_hart_is_there in
+    rw (ne_eqb t c.boot_hart (λ same. absurd (omega arith))) refl
+
+reset-stops : (c : Config) (t : ℕ) (reset : Reset) → IsGood c → c.harts ≤ t → state_at_reset c reset t ≡ states.Stopped
+reset-stops c t reset good outside = by_kind (begins_anew reset.kind)
   where
-    by_success : (ok : Bool) → is_success answered ≡ ok → (if ok then Some (record { hart = t; state = states.StartPending }) else None) ≡ Some move → move.hart < c.harts
-    by_success true is e = rw (← moved-hart t states.StartPending move e) (started-inside c past t addr answered replied is)
-    by_success false is e = cc
-call-moves c past x HartStop replies.Gone move inside replied e = rw (← moved-hart x states.StopPending move e) inside
-call-moves c past x (HartSuspend kind addr opaque) replies.Gone move inside replied e = rw (← moved-hart x states.SuspendPending move e) inside
-call-moves c past x (HartSuspend kind addr opaque) replies.Waiting move inside replied e = rw (← moved-hart x states.SuspendPending move e) inside
-call-moves c past x call r move inside replied e = cc
+    by_kind : (anew : Bool) → (if anew then state_at_opening c t else states.Stopped) ≡ states.Stopped
+    by_kind true = opening-stops c t good outside
+    by_kind false = refl
 
--- and so does any operation
-op-moves : (c : Config) (past : List Event) (x : ℕ) (op : Op) (r : Reply) (move : Move) → x < c.harts → reply c past x op ≡ r → move_by x op r ≡ Some move → move.hart < c.harts
-op-moves c past x (Ecall regs) r move inside replied e = call-moves c past x (call_of regs) r move inside replied e
-op-moves c past x Advance (replies.Entry addr hart opaque) move inside replied e = rw (← moved-hart x states.Started move e) inside
-op-moves c past x Advance (replies.Ret answered) move inside replied e = rw (← moved-hart x states.Started move e) inside
-op-moves c past x Advance (replies.Moved s) move inside replied e = rw (← moved-hart x s move e) inside
-op-moves c past x op r move inside replied e = cc
+module _ (c : Config) (past : List Event) (t : ℕ) (good : IsGood c) (outside : c.harts ≤ t) where
+  -- so it stays STOPPED by a call
+  call-stays : (x : ℕ) (call : Call) (r : Reply) → x < c.harts → call_reply c past x call ≡ r → moved_to (move_by_call c x call r) t states.Stopped ≡ states.Stopped
+  call-stays x (HartStart h addr opaque) (replies.Ret answered) inside replied = by_success (is_success answered) refl
+    where
+      by_success : (ok : Bool) → is_success answered ≡ ok → moved_to (if ok then Some (One h states.StartPending) else None) t states.Stopped ≡ states.Stopped
+      by_success true is = one-stays c t h states.StartPending outside (started-inside c past h addr answered replied is)
+      by_success false is = refl
+  call-stays x HartStop replies.Gone inside replied = one-stays c t x states.StopPending outside inside
+  call-stays x (HartSuspend kind addr opaque) replies.Gone inside replied = one-stays c t x states.SuspendPending outside inside
+  call-stays x (HartSuspend kind addr opaque) replies.Waiting inside replied = one-stays c t x states.SuspendPending outside inside
+  call-stays x (SystemReset (Ok reset)) replies.Gone inside replied = reset-stops c t reset good outside
+  call-stays x call r inside replied = refl
 
-moves-inside : (c : Config) (past : List Event) (actor : Actor) (op : Op) (r : Reply) (move : Move) → answer c past actor op ≡ Ok r → move_of actor op r ≡ Some move → move.hart < c.harts
-moves-inside c past (Hart x) op r move answered e = let is = taken c past x op r answered in op-moves c past x op r move is.inside is.replied e
-moves-inside c past Clock op r move answered e = cc
+  -- and by any operation
+  op-stays : (x : ℕ) (op : Op) (r : Reply) → x < c.harts → reply c past x op ≡ r → moved_to (move_by c x op r) t states.Stopped ≡ states.Stopped
+  op-stays x (Ecall regs) r inside replied = call-stays x (call_of regs) r inside replied
+  op-stays x Advance (replies.Entry addr hart opaque) inside replied = one-stays c t x states.Started outside inside
+  op-stays x Advance (replies.Ret answered) inside replied = one-stays c t x states.Started outside inside
+  op-stays x Advance (replies.Moved s) inside replied = one-stays c t x s outside inside
+  op-stays x op r inside replied = refl
+
+  stays : (actor : Actor) (op : Op) (r : Reply) → answer c past actor op ≡ Ok r → moved_to (move_of c actor op r) t states.Stopped ≡ states.Stopped
+  stays (Hart x) op r answered = let is = taken c past x op r answered in op-stays x op r is.inside is.replied
+  stays Clock op r answered = refl
 
 -- no event moves a hart that isn't there, so it is STOPPED as it was at the opening
 pub stopped-outside : (c : Config) (past : List Event) (t : ℕ) → IsGood c → IsLegal c past → c.harts ≤ t → state c past t ≡ states.Stopped
-stopped-outside c [] t good legal outside =
-    let boot = good.boot_hart_is_there in
-    let other : eqb t c.boot_hart ≡ false = ne_eqb t c.boot_hart (λ same. absurd (omega arith)) in
-    rw other refl
+stopped-outside c [] t good legal outside = opening-stops c t good outside
 stopped-outside c (event ∷ past) t good legal outside =
-    by_move (move_of event.actor event.op event.reply) refl (stopped-outside c past t good legal.2 outside)
-  where
-    by_move : (moved : Option Move) → move_of event.actor event.op event.reply ≡ moved → state c past t ≡ states.Stopped → moved_to moved t (state c past t) ≡ states.Stopped
-    by_move None is before = before
-    by_move (Some move) is before =
-        let inside = moves-inside c past event.actor event.op event.reply move legal.0 is in
-        let other : eqb t move.hart ≡ false = ne_eqb t move.hart (λ same. absurd (omega arith)) in
-        rw other before
+    ap (moved_to (move_of c event.actor event.op event.reply) t) (stopped-outside c past t good legal.2 outside)
+    ∙ stays c past t good outside event.actor event.op event.reply legal.0
 
 -- ---- each turn
 
@@ -151,6 +160,7 @@ module _ (c : Config) (past : List Event) (x : ℕ) (good : IsGood c) (legal : I
 
   right-call : (call : Call) (r : Reply) → calls.open_call (turns c past) x ≡ None → IsRightTurn c.harts (turns c past) (turn_by_call c past x call r)
   right-call HartStop replies.Gone none = inside
+  right-call (SystemReset (Ok reset)) replies.Gone none = tt
   right-call call r none = right-remote (remote_of call) r none
 
   -- a guest runs outside of a call

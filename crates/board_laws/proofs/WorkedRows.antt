@@ -1,5 +1,5 @@
 -- Worked rows, computed from the definitions: what lives before a fence and after it.
-use Rattle.std.proofs.Common.{◌≡◌, ℕ, ◌+◌, ◌*◌, ◌^◌, List, [], ◌∷◌, true, false, pos, refl, arith, ◌<◌, ◌≤◌, inl, inr, Err}
+use Rattle.std.proofs.Common.{◌≡◌, ℕ, suc, ◌+◌, ◌*◌, ◌^◌, List, [], ◌∷◌, ◌++◌, length, true, false, pos, refl, sym, ap, ◌∙◌, arith, ◌<◌, ◌≤◌, inl, inr, Err, length-append}
 use Rattle.std.specs.Prelude.{Some, None, map, take}
 use Rattle.tlb_model.specs.declared.entry.Entry.{Entry as CacheEntry}
 use Rattle.tlb_model.specs.declared.fence.Flush.TheVariants.{Entries}
@@ -9,6 +9,7 @@ use Rattle.sv39.specs.Maps.{maps}
 use Rattle.sv39.specs.Memory.{is_in_ram, zero_memory}
 use Rattle.sv39.specs.Pages.{is_valid}
 use Rattle.sbi_abi.specs.Calls.{call_of}
+use Rattle.sbi_abi.specs.ResetTypes.{reset_kind_of}
 use Rattle.hart_mask.specs.HartList.{names_stray, targets_of}
 use Rattle.hart_mask.specs.Ids.{ids_where}
 use Rattle.board_core.specs.declared.config.Config.{Config}
@@ -16,14 +17,16 @@ use Rattle.board_core.specs.declared.event.Actor.TheVariants.{Hart}
 use Rattle.board_core.specs.declared.event.Op.{Op}
 use Rattle.board_core.specs.declared.event.Op.TheVariants.{Advance, Ecall, Fetch, FenceI, Load, Poll, Serve, Sfence, Store, WriteSatp}
 use Rattle.board_core.specs.declared.event.Reply.{Reply}
-use Rattle.board_core.specs.declared.event.Reply.TheVariants.{Done, Entry, Fault, Ret, Served, Value, Waiting}
+use Rattle.board_core.specs.declared.event.Reply.TheVariants.{Done, Entry, Fault, Gone, Ret, Served, Value, Waiting}
 use Rattle.board_core.specs.Fences.{flush_of_range}
 use Rattle.sv39.specs.declared.cause.Kind.TheVariants as kinds
 use Rattle.hart_access.specs.declared.operation.Access.TheVariants as accesses
 use Rattle.std.proofs.lemmas.Bool.{cases_eq}
 use Rattle.board_core.specs.Memory.{memory, satp}
+use Rattle.board_core.specs.Totals.{totals}
 use Rattle.board_laws.specs.Fresh.{FencedAccess}
-use Rattle.board_laws.specs.Places.{past_at}
+use Rattle.board_core.specs.Resets.{reset_by}
+use Rattle.board_laws.specs.Places.{IsAt, past_at}
 use Rattle.board_laws.specs.Steady.{IsSteady}
 use Rattle.board_core.specs.History.{Event, Reach}
 use Rattle.board_laws.specs.Again.{Step, again}
@@ -115,6 +118,18 @@ stale-before_serve : first_reply (again pair (did 1 (Load 0x80002000) ∷ asked)
 unfolding maps is_valid zero_memory is_in_ram call_of targets_of names_stray ids_where
 stale-before_serve = refl
 
+-- A cold reboot by hart 1 drops the call: what hart 0 then polls is refused, and makes no event.
+abbrev rebooted : List Step
+rebooted = did 1 (call 0x53525354 0 1 0 0 0) ∷ asked
+
+reboot-accepted : first_reply (again pair rebooted) ≡ Gone ∷ []
+unfolding maps is_valid zero_memory is_in_ram call_of targets_of names_stray ids_where reset_kind_of
+reboot-accepted = refl
+
+reboot-drops_call : again pair (did 0 Poll ∷ rebooted) ≡ again pair rebooted
+unfolding maps is_valid zero_memory is_in_ram call_of targets_of names_stray ids_where reset_kind_of
+reboot-drops_call = refl
+
 -- Once the call was a success, it is fresh.
 abbrev served : List Step
 served = did 0 Poll ∷ did 1 Serve ∷ asked
@@ -122,6 +137,23 @@ served = did 0 Poll ∷ did 1 Serve ∷ asked
 fresh-after_poll : first_reply (again pair (did 1 (Load 0x80002000) ∷ served)) ≡ Fault LoadPageFault ∷ []
 unfolding maps is_valid zero_memory is_in_ram call_of targets_of names_stray ids_where
 fresh-after_poll = refl
+
+-- Of how many harts fences were asked, at how many they were applied, and at how many they wait: a reset counts as applying
+-- what waits.
+abbrev fence_counts : List Event → List ℕ
+fence_counts past = (totals pair past).asked ∷ (totals pair past).applied ∷ (totals pair past).waiting ∷ []
+
+waits-once : fence_counts (again pair asked) ≡ 1 ∷ 0 ∷ 1 ∷ []
+unfolding maps is_valid zero_memory is_in_ram call_of targets_of names_stray ids_where
+waits-once = refl
+
+applied-by_serve : fence_counts (again pair served) ≡ 1 ∷ 1 ∷ 0 ∷ []
+unfolding maps is_valid zero_memory is_in_ram call_of targets_of names_stray ids_where
+applied-by_serve = refl
+
+applied-by_reset : fence_counts (again pair rebooted) ≡ 1 ∷ 1 ∷ 0 ∷ []
+unfolding maps is_valid zero_memory is_in_ram call_of targets_of names_stray ids_where reset_kind_of
+applied-by_reset = refl
 
 -- The same history, written out.
 abbrev event_of : ℕ → Op → Reply → Event
@@ -154,6 +186,29 @@ is-written : again pair served ≡ written
 unfolding maps is_valid zero_memory is_in_ram call_of targets_of names_stray ids_where
 is-written = refl
 
+-- What stands between the call and its end is no reset.
+abbrev second_op : List Event → Op
+second_op (first ∷ second ∷ past) = second.op
+second_op past = Poll
+
+too-short : (m n : ℕ) → m ≡ n → m ≡ 10 → n ≡ 9 → ⊥
+too-short m n same ten nine = omega arith
+
+too-long : (m n k : ℕ) → m ≡ suc (suc n) → m ≡ 10 → n ≡ k + 9 → ⊥
+too-long m n k same ten more = omega arith
+
+only-served : (newer : List Event) (other : Event) → written ≡ newer ++ other ∷ ask ∷ before_ask → other.op ≡ Serve
+only-served [] other e = absurd (too-short (length written) (length (other ∷ ask ∷ before_ask)) (ap length e) refl refl)
+only-served (first ∷ []) other e = sym (ap second_op e)
+only-served (first ∷ second ∷ newer) other e =
+    absurd (too-long (length written) (length (newer ++ other ∷ ask ∷ before_ask)) (length newer) (ap length e) refl (length-append newer (other ∷ ask ∷ before_ask)))
+
+no-reset : (m : ℕ) (other : Event) → 7 < m → m < 9 → IsAt written m other → reset_by other.op other.reply ≡ None
+no-reset m other after before at =
+    let place : m ≡ 8 = omega arith in
+    let served : other.op ≡ Serve = only-served at.newer other (at.made ∙ ap (λ n. at.newer ++ other ∷ past_at written n) place) in
+    rw served refl
+
 -- In it the fence has reached hart 1.
 has-reached : Reached pair written 1 7 (Entries (record { asid = None; range = None }))
 unfolding call_of targets_of names_stray ids_where
@@ -170,7 +225,7 @@ has-reached = ByCall 0
       drops = refl;
       asked = refl;
     })
-    (record { end = 9; later = omega arith; event = poll; happened = record { newer = []; made = refl }; by_hart = refl; poll = refl })
+    (record { end = 9; later = omega arith; event = poll; happened = record { newer = []; made = refl }; by_hart = refl; poll = refl; kept = no-reset })
 
 -- So the load after it is one that the fence is of, and from the fence on the page tables say one thing of it.
 abbrev load : Event
@@ -200,7 +255,7 @@ after-seven P eight nine ten m after upto = elim (cases_eq m 8) [
 ]
 
 is-steady : IsSteady pair (load ∷ written) 1 7 10 reach (Err LoadPageFault)
-unfolding maps is_valid zero_memory is_in_ram
+unfolding maps is_valid zero_memory is_in_ram call_of
 is-steady = record {
   same_satp = after-seven (λ m. satp (past_at (load ∷ written) m) 1 ≡ satp (past_at (load ∷ written) 10) 1) refl refl refl;
   one_result = after-seven (λ m. maps (memory pair (past_at (load ∷ written) m)) (satp (past_at (load ∷ written) 10) 1) 0x80002000 kinds.Load ≡ Err LoadPageFault) refl refl refl;

@@ -15,6 +15,7 @@ use Rattle.board_core.specs.declared.event.Op.TheVariants.{Ecall, FenceI, Poll, 
 use Rattle.board_core.specs.declared.event.Reply.TheVariants.{Gone, Waiting}
 use Rattle.board_core.specs.Fences.{Remote, is_asked_by, remote_of, turn_of, turns, waiting}
 use Rattle.board_core.specs.History.{Event}
+use Rattle.board_core.specs.Resets.{reset_by}
 use Rattle.board_laws.specs.Lives.{live_entries, live_words}
 use Rattle.board_laws.specs.Places.{IsAt, past_at}
 
@@ -45,7 +46,8 @@ pub record Asks (c : Config) (past : List Event) (x t place : ℕ) (flush : Flus
   pub drops : remote.flush ≡ Ok flush
   pub asked : is_asked_by c (past_at past place) remote.mask remote.base t ≡ true
 
--- The call that hart x made at this place was a success: the hart polled later (profile).
+-- The call that hart x made at this place was a success: the hart polled later, and no reset had dropped the call (SBI 10;
+-- profile).
 pub record Succeeded (past : List Event) (x place : ℕ) : Type 0 where
   pub end : ℕ
   pub later : place < end
@@ -53,6 +55,7 @@ pub record Succeeded (past : List Event) (x place : ℕ) : Type 0 where
   pub happened : IsAt past end event
   pub by_hart : event.actor ≡ Hart x
   pub poll : event.op ≡ Poll
+  pub kept : (m : ℕ) (other : Event) → place < m → m < end → IsAt past m other → reset_by other.op other.reply ≡ None
 
 -- A fence that was asked at a place of the past has reached hart t: it is the hart's own, or it was asked of the hart by
 -- a call that was a success.

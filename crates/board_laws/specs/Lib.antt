@@ -4,3 +4,4 @@ pub mod Fences
 pub mod Fresh
 pub mod Steady
 pub mod Again
+pub mod Resets

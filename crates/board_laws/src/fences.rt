@@ -8,6 +8,7 @@ ghost use Rattle.board_core.specs.Fences.{turns};
 ghost use Rattle.board_core.specs.History.{Event};
 ghost use Rattle.board_core.specs.Limits.{IsGood};
 ghost use Rattle.board_core.specs.Replies.{IsLegal};
+ghost use Rattle.board_core.specs.Totals.{totals};
 ghost use Rattle.board_laws.specs.Fences.{AppliedOnce, Asks, LeavesNothing, Stops};
 ghost use Rattle.board_laws.specs.Places.{IsAt};
 
@@ -27,6 +28,12 @@ pub fn applied_once()
 pub fn asked_once()
     ensures { (c : Config) (past : List Event) (x t place : ℕ) (flush : Flush) → IsGood c → IsLegal c past → Asks c past x t place flush
         → times place (applied_places (turns c past) t) + times place (waiting_places (turns c past) t) ≡ 1 }
+{}
+
+/// In every legal history of a good board: of the harts of which remote fences were asked, all together, these were
+/// applied at as many as the totals say, and wait at the others (SBI 8; the counts: profile).
+pub fn fences_are_counted()
+    ensures { (c : Config) (past : List Event) → IsGood c → IsLegal c past → (totals c past).asked ≡ (totals c past).applied + (totals c past).waiting }
 {}
 
 /// After a hart's stop nothing lives in its caches, and no fence waits there (profile).

@@ -21,7 +21,7 @@ unfolding ids_where
 few-ids p = omega (arith, length-filter p (range_with_len 0 128), count_by-le-length p (range_with_len 0 128), length-range_with_len 0 128)
 
 -- what passes nowhere from n on is kept below n
-filter-below : (p : ℕ → Bool) (a m n : ℕ) → n ≤ m → ((i : ℕ) → a + n ≤ i → p i ≡ false) → filter p (range_with_len a m) ≡ filter p (range_with_len a n)
+pub filter-below : (p : ℕ → Bool) (a m n : ℕ) → n ≤ m → ((i : ℕ) → a + n ≤ i → p i ≡ false) → filter p (range_with_len a m) ≡ filter p (range_with_len a n)
 filter-below p a zero zero fits none = refl
 filter-below p a zero (suc n) fits none = absurd (omega arith)
 filter-below p a (suc m) zero fits none =

@@ -7,3 +7,4 @@ pub mod Stands
 pub mod Once
 pub mod Success
 pub mod Counts
+pub mod Totals

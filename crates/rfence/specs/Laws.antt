@@ -1,6 +1,6 @@
 -- What holds of all right turns.
-use Rattle.std.specs.Prelude.{◌≡◌, ℕ, ◌+◌, ◌*◌, ◌<◌, ◌≤◌, ◌==◌, Bool, true, List, [], ◌∷◌, ◌++◌, length, map, if◌then◌else◌, Some}
-use Rattle.std.specs.List.{All}
+use Rattle.std.specs.Prelude.{◌≡◌, ℕ, ◌+◌, ◌*◌, ◌<◌, ◌≤◌, ◌==◌, Bool, true, List, [], ◌∷◌, ◌++◌, length, map, sum_by, if◌then◌else◌, Some}
+use Rattle.std.specs.List.{All, range_with_len}
 use Rattle.hart_mask.specs.Ids.{ids_where}
 use Rattle.fence_queue.specs.Queues.{IsQueue}
 use Rattle.rfence.specs.Turns.{Turn, Ask, Own, Poll, Quiet, is_asked}
@@ -72,6 +72,15 @@ pub record IsSmall {F : Type 0} (n : ℕ) (turns : List (Turn F)) : Type 0 where
 
 abbrev pub BoardsAreSmall : Type 0 → Type 0
 BoardsAreSmall F = (n : ℕ) (turns : List (Turn F)) → n ≤ 128 → IsRight n turns → IsSmall n turns
+
+-- How many fences wait, at all of n harts together.
+abbrev pub total_waiting : {F : Type 0} → ℕ → List (Turn F) → ℕ
+total_waiting n turns = sum_by (λ t. length (waiting turns t)) (range_with_len 0 n)
+
+-- Of the harts of which fences were asked, all together, they were applied at some, and wait at the others.
+abbrev pub CountsAgree : Type 0 → Type 0
+CountsAgree F =
+    (n : ℕ) (turns : List (Turn F)) → n ≤ 128 → IsRight n turns → total_asked turns ≡ total_applied n turns + total_waiting n turns
 
 -- A fence of a hart by itself alone, and what has to do with no fence, leave what is kept as it is.
 abbrev pub OthersChangeNothing : Type 0 → Type 0

@@ -1,4 +1,4 @@
-ghost use Rattle.rfence.specs.Laws.{AppliedOnce, BoardsAreSmall, OthersChangeNothing, SuccessStrikes, WaitsAreOfOpenCalls};
+ghost use Rattle.rfence.specs.Laws.{AppliedOnce, BoardsAreSmall, CountsAgree, OthersChangeNothing, SuccessStrikes, WaitsAreOfOpenCalls};
 
 /// The fences that wait at a hart are of distinct other harts of the board, each inside the call by which it asked;
 /// so fewer wait at a hart than there are harts (profile).
@@ -21,6 +21,12 @@ pub fn success_strikes<F>()
 /// most 128 fences that are asked and 16,384 that are applied (profile).
 pub fn boards_are_small<F>()
     ensures { BoardsAreSmall F }
+{}
+
+/// Of right turns on at most 128 harts: as many fences were asked of harts, all together, as were applied there and as
+/// wait there; those of a hart by itself alone don't count (profile).
+pub fn counts_agree<F>()
+    ensures { CountsAgree F }
 {}
 
 /// A fence of a hart by itself alone, and what has to do with no fence, leave what is kept as it is.

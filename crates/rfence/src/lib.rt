@@ -9,5 +9,6 @@ mod laws;
 pub use caches::Fenced;
 pub use fences::Fences;
 pub use laws::{
-    applied_once, boards_are_small, others_change_nothing, success_strikes, waits_are_of_open_calls,
+    applied_once, boards_are_small, counts_agree, others_change_nothing, success_strikes,
+    waits_are_of_open_calls,
 };
