@@ -1,7 +1,7 @@
 #!/usr/bin/env python3
 """Times the program beside plain Rust, and prints the README's table.
 
-usage: bench/replay.py [--runs N] [--instructions] [--harts N,..] [--lines N,..] [PROGRAM]
+usage: bench/replay.py [--runs N] [--instructions] [--workloads NAME,..] [--harts N,..] [--lines N,..] [PROGRAM]
 
 PROGRAM is a built `sbiboard` (default: the one that `./sbiboard` builds); plain Rust is `bench/baseline.rs`, which
 is built here with rustc. It does the same work: `bench/agree.py` compares the two byte for byte, on all examples and
@@ -13,11 +13,11 @@ that of this script: there it stands behind a `<`.
 "Huge pages" is the same with GLIBC_TUNABLES=glibc.malloc.hugetlb=1, which has the C library ask for them; it changes
 both, and the ratio is the program's time over plain Rust's, both with it.
 
-A step is constant work, so a row's speed should depend neither on the number of harts nor on how long the history
-is: rows of 100,000 lines differ in their harts, and rows of 128 harts in their lines. (Of 10,000 lines a large part is
-the start of the process.) --harts and --lines choose other ones. A script has at most 16,777,216 bytes, so workloads
-of longer lines end at 500,000 lines. --instructions counts instructions by valgrind in the place of time, in some
-minutes: a busy machine doesn't change them.
+A step should be constant work, so a row's speed should depend neither on the number of harts nor on how long the
+history is: rows of 100,000 lines differ in their harts, and rows of 128 harts in their lines. (Of 10,000 lines a large
+part is the start of the process.) The exception is a queue of fences that wait: see "crossing fences". --harts and
+--lines choose other ones. A script has at most 16,777,216 bytes, so workloads of longer lines end at 500,000 lines.
+--instructions counts instructions by valgrind in the place of time, in some minutes: a busy machine doesn't change them.
 """
 import argparse
 import filecmp
@@ -170,7 +170,7 @@ WORKLOADS = (
     (stores, 500_000),
     (fences_and_loads, 500_000),
     (full_fences, 1_000_000),
-    (crossing_fences, 1_000_000),
+    (crossing_fences, 100_000),
     (fences_of_a_page, 500_000),
     (fences_of_an_asid, 500_000),
 )
@@ -263,7 +263,7 @@ def sizes(most, chosen):
     if chosen.harts or chosen.lines:
         lines = [min(n, most) for n in chosen.lines or [100_000]]
         return [(harts, n) for harts in chosen.harts or [128] for n in lines]
-    return [(1, 100_000), (64, 100_000), (128, 10_000), (128, 100_000), (128, most)]
+    return dict.fromkeys([(1, 100_000), (64, 100_000), (128, 10_000), (128, 100_000), (128, most)])
 
 
 def print_rows(programs, folder, chosen):
@@ -271,6 +271,8 @@ def print_rows(programs, folder, chosen):
     print("| workload | harts | lines | " + " | ".join(heads) + " |")
     print("|---" * (3 + len(heads)) + "|")
     for workload, most in WORKLOADS:
+        if chosen.workloads and workload.__name__ not in chosen.workloads:
+            continue
         for harts, lines in sizes(most, chosen):
             path = schedule(folder, workload, harts, lines)
             agree(programs, path)
@@ -292,6 +294,7 @@ def options():
     parser.add_argument("program", nargs="?", default=BUILT)
     parser.add_argument("--runs", type=int, default=9, help="how many runs of each, of which the fastest counts")
     parser.add_argument("--instructions", action="store_true", help="count instructions by valgrind, not time")
+    parser.add_argument("--workloads", type=lambda text: text.split(","), help="as calls,full_fences (default: all)")
     parser.add_argument("--harts", type=numbers, help="as 1,64,128 (the default), each 1 to 128")
     parser.add_argument("--lines", type=numbers, help="as 10000,100000 (default: these and the workload's most)")
     return parser.parse_args()
