@@ -1,9 +1,11 @@
 //! An unverified program that does what `sbiboard replay FILE` does, to measure beside it. `bench/replay.py` builds
-//! it, compares its output with the program's byte for byte, and times both.
+//! it, compares its output with the program's byte for byte, and times both; `bench/agree.py` compares the two on all
+//! examples and on random schedules, where they print the same bytes and end with the same status.
 //!
 //! It is written for speed, as one careful programmer would write it: the bytes of a script are looked at once, a line
-//! is eight bytes with its numbers in a list beside it, an event of the history is 32 bytes with its numbers in a
-//! list of the board's own, sets of harts are words of 128 bits, lines are composed in one buffer of 64 KiB, and no
+//! is eight bytes with its numbers in a list beside it, an event of the history is 32 bytes with its numbers, and the
+//! TLB entry that it used, in lists of the board's own, a cache is sixteen places, each hart has a ring of the fences
+//! that wait there, sets of harts are words of 128 bits, lines are composed in one buffer of 64 KiB, and no
 //! line or step takes memory. As in the program, the whole script is read before the first byte is written, every
 //! fault is told with its line, and the history owns what it holds. Want of memory isn't told: it aborts.
 

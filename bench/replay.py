@@ -1,10 +1,11 @@
 #!/usr/bin/env python3
 """Times the program beside plain Rust, and prints the README's table.
 
-usage: bench/replay.py [--runs N] [--instructions] [--harts N,..] [--lines N,..] [PROGRAM]
+usage: bench/replay.py [--runs N] [--instructions] [--workloads NAME,..] [--harts N,..] [--lines N,..] [PROGRAM]
 
 PROGRAM is a built `sbiboard` (default: the one that `./sbiboard` builds); plain Rust is `bench/baseline.rs`, which
-is built here with rustc. First both replay each schedule once, and must print the same bytes. Then they take
+is built here with rustc. It does the same work: `bench/agree.py` compares the two byte for byte, on all examples and
+on random schedules. Here, too, both first replay each schedule once, and must print the same bytes. Then they take
 turns, --runs times (default 9), and of each the fastest run counts. Time is the processor's, of the whole process,
 in user and system: reading the file and writing the output are in it, waiting for a processor isn't. A busy machine
 still slows both by its caches, so look at the load that is printed. Memory is the peak, which can't be told below
@@ -12,11 +13,11 @@ that of this script: there it stands behind a `<`.
 "Huge pages" is the same with GLIBC_TUNABLES=glibc.malloc.hugetlb=1, which has the C library ask for them; it changes
 both, and the ratio is the program's time over plain Rust's, both with it.
 
-A step is constant work, so a row's speed should depend neither on the number of harts nor on how long the history
-is: rows of 100,000 lines differ in their harts, and rows of 128 harts in their lines. (Of 10,000 lines a large part is
-the start of the process.) --harts and --lines choose other ones. A script has at most 16,777,216 bytes, so workloads
-of longer lines end at 500,000 lines. --instructions counts instructions by valgrind in the place of time, in some
-minutes: a busy machine doesn't change them.
+A step should be constant work, so a row's speed should depend neither on the number of harts nor on how long the
+history is: rows of 100,000 lines differ in their harts, and rows of 128 harts in their lines. (Of 10,000 lines a large
+part is the start of the process.) The exception is a queue of fences that wait: see "crossing fences". --harts and
+--lines choose other ones. A script has at most 16,777,216 bytes, so workloads of longer lines end at 500,000 lines.
+--instructions counts instructions by valgrind in the place of time, in some minutes: a busy machine doesn't change them.
 """
 import argparse
 import filecmp
@@ -26,8 +27,10 @@ import shutil
 import subprocess
 import sys
 import tempfile
+from itertools import count, islice
 
 ROOT = os.path.dirname(os.path.dirname(os.path.abspath(__file__)))
+BUILT = os.path.join(ROOT, "crates/sbiboard_cli/out/sbiboard_cli")
 RUSTC = ["rustc", "--edition", "2024", "-C", "opt-level=3", "-C", "codegen-units=1", "-C", "target-cpu=x86-64"]
 PLAIN_PAGES = {"GLIBC_TUNABLES": ""}
 HUGE_PAGES = {"GLIBC_TUNABLES": "glibc.malloc.hugetlb=1"}
@@ -37,47 +40,140 @@ MOST_BYTES = 16_777_216
 # ---- workloads
 
 
-def started(harts, lines):
+def started(harts, lines, pages=1):
     """All harts are started and entered: 2 * harts lines with the board's."""
-    yield f"board {harts} 1 {lines} 0 0x80000000 0x0"
+    yield f"board {harts} {pages} {lines} 0 0x80000000 0x0"
     yield "0 advance"
     for hart in range(1, harts):
         yield f"0 ecall 0x48534d 0 {hart} 0x80000000 0"
         yield f"{hart} advance"
 
 
+def mapped(harts, lines):
+    """All harts are started, and run with the same 32 pages: those of even ids in address space 5, the others in 6."""
+    yield from started(harts, lines, pages=16)
+    yield "0 store 0x80001000 0x20000801"
+    yield "0 store 0x80002000 0x20000c01"
+    for page in range(32):
+        yield f"0 store {0x80003000 + 8 * page:#x} {(0x80004 + page % 12) << 10 | 0xCF:#x}"
+    for hart in range(harts):
+        yield f"{hart} satp {8 << 60 | (5 + hart % 2) << 44 | 0x80001:#x}"
+
+
 def calls(harts, lines):
     """The harts in turn call the functions of the Base extension, and one that it lacks."""
     yield from started(harts, lines)
-    for line in range(lines - 2 * harts):
-        yield f"{line % harts} ecall 0x10 {line % 8}"
+    for turn in count():
+        yield f"{turn % harts} ecall 0x10 {turn % 8}"
 
 
 def refusals(harts, lines):
     """The harts in turn try to advance, of which one is STARTED and the others are STOPPED: nothing is recorded."""
     yield f"board {harts} 1 1000 0 0x80000000 0x0"
     yield "0 advance"
-    for line in range(lines - 2):
-        yield f"{line % harts} advance"
+    for turn in count():
+        yield f"{turn % harts} advance"
 
 
 def ipis(harts, lines):
     """The harts in turn send an IPI to all harts and clear their own."""
     yield from started(harts, lines)
-    for line in range(lines - 2 * harts):
-        hart = line // 2 % harts
-        yield f"{hart} clearssip" if line % 2 else f"{hart} ecall 0x735049 0 0 0xffffffffffffffff"
+    for turn in count():
+        yield f"{turn % harts} ecall 0x735049 0 0 0xffffffffffffffff"
+        yield f"{turn % harts} clearssip"
 
 
 def timers(harts, lines):
     """The harts in turn set their timers, time goes on, and they look at what is pending."""
     yield from started(harts, lines)
-    for line in range(lines - 2 * harts):
-        hart = line // 3 % harts
-        yield (f"{hart} ecall 0x54494d45 0 {line // 3 + 64}", "c tick 1", f"{hart} sip")[line % 3]
+    for turn in count():
+        yield f"{turn % harts} ecall 0x54494d45 0 {turn + 64}"
+        yield "c tick 1"
+        yield f"{turn % harts} sip"
 
 
-WORKLOADS = ((calls, 1_000_000), (refusals, 1_000_000), (ipis, 500_000), (timers, 500_000))
+def loads_that_hit(harts, lines):
+    """The harts in turn load from 8 pages, which their TLBs have."""
+    yield from mapped(harts, lines)
+    for turn in count():
+        yield f"{turn % harts} load {turn // harts % 8 << 12:#x}"
+
+
+def loads_that_walk(harts, lines):
+    """The harts in turn load from 32 pages, of which their TLBs have 16 others: three levels are walked each time."""
+    yield from mapped(harts, lines)
+    for turn in count():
+        yield f"{turn % harts} load {turn // harts % 32 << 12:#x}"
+
+
+def stores(harts, lines):
+    """The harts in turn store to 8 pages, which their TLBs have."""
+    yield from mapped(harts, lines)
+    for turn in count():
+        yield f"{turn % harts} store {turn // harts % 8 << 12 | turn % 512 * 8:#x} {turn:#x}"
+
+
+def fences_and_loads(harts, lines):
+    """The harts in turn drop a page from their TLBs and load from it."""
+    yield from mapped(harts, lines)
+    for turn in count():
+        page = turn // harts % 8 << 12
+        yield f"{turn % harts} sfence {page:#x} -"
+        yield f"{turn % harts} load {page:#x}"
+
+
+def full_fences(harts, lines):
+    """The harts in turn ask a fence of all addresses of all harts, which serve it, and then it returns."""
+    yield from mapped(harts, lines)
+    for turn in count():
+        caller = turn % harts
+        yield f"{caller} ecall 0x52464e43 1 0 0xffffffffffffffff"
+        yield from (f"{hart} serve" for hart in range(harts) if hart != caller)
+        yield f"{caller} poll"
+
+
+def crossing_fences(harts, lines):
+    """All harts ask a fence of all harts before anyone serves: a queue at each hart, with the fences of all others."""
+    yield from mapped(harts, lines)
+    while True:
+        yield from (f"{hart} ecall 0x52464e43 1 0 0xffffffffffffffff" for hart in range(harts))
+        yield from (f"{hart} serve" for _ in range(harts - 1) for hart in range(harts))
+        yield from (f"{hart} poll" for hart in range(harts))
+
+
+def fences_of_a_page(harts, lines, fid=1, asid=""):
+    """The harts in turn fence a page of four neighbours, which serve it and load from that page after it has returned."""
+    yield from mapped(harts, lines)
+    for turn in count():
+        caller, page = turn % harts, turn // harts % 8 << 12
+        first = max(0, min(caller + 1, harts - 4))
+        targets = [hart for hart in range(first, min(first + 4, harts)) if hart != caller]
+        mask = sum(1 << hart - first for hart in targets)
+        yield f"{caller} ecall 0x52464e43 {fid} {mask:#x} {first} {page:#x} 0x1000{asid}"
+        yield from (f"{hart} serve" for hart in targets)
+        yield f"{caller} poll"
+        yield from (f"{hart} load {page:#x}" for hart in targets)
+
+
+def fences_of_an_asid(harts, lines):
+    """The same in address space 5, in which half of the neighbours run: the others keep their entries."""
+    yield from fences_of_a_page(harts, lines, fid=2, asid=" 5")
+
+
+WORKLOADS = (
+    (calls, 1_000_000),
+    (refusals, 1_000_000),
+    (ipis, 500_000),
+    (timers, 500_000),
+    (loads_that_hit, 500_000),
+    (loads_that_walk, 500_000),
+    (stores, 500_000),
+    (fences_and_loads, 500_000),
+    (full_fences, 1_000_000),
+    (crossing_fences, 100_000),
+    (fences_of_a_page, 500_000),
+    (fences_of_an_asid, 500_000),
+)
 
 
 def schedule(folder, workload, harts, lines):
@@ -85,13 +181,20 @@ def schedule(folder, workload, harts, lines):
     path = os.path.join(folder, f"{workload.__name__}-{harts}-{lines}.sched")
     if not os.path.exists(path):
         with open(path, "w") as file:
-            file.writelines(line + "\n" for line in workload(harts, lines))
+            file.writelines(line + "\n" for line in islice(workload(harts, lines), lines))
         if os.path.getsize(path) > MOST_BYTES:
             sys.exit(f"{workload.__name__}: {lines} lines are more bytes than a script may have")
     return path
 
 
 # ---- runs
+
+
+def plain_rust(folder):
+    """Builds plain Rust in this folder."""
+    made = os.path.join(folder, "baseline")
+    subprocess.run([*RUSTC, "-o", made, os.path.join(ROOT, "bench/baseline.rs")], check=True)
+    return made
 
 
 def replay(program, path, pages, output=os.devnull):
@@ -160,7 +263,7 @@ def sizes(most, chosen):
     if chosen.harts or chosen.lines:
         lines = [min(n, most) for n in chosen.lines or [100_000]]
         return [(harts, n) for harts in chosen.harts or [128] for n in lines]
-    return [(1, 100_000), (64, 100_000), (128, 10_000), (128, 100_000), (128, most)]
+    return dict.fromkeys([(1, 100_000), (64, 100_000), (128, 10_000), (128, 100_000), (128, most)])
 
 
 def print_rows(programs, folder, chosen):
@@ -168,6 +271,8 @@ def print_rows(programs, folder, chosen):
     print("| workload | harts | lines | " + " | ".join(heads) + " |")
     print("|---" * (3 + len(heads)) + "|")
     for workload, most in WORKLOADS:
+        if chosen.workloads and workload.__name__ not in chosen.workloads:
+            continue
         for harts, lines in sizes(most, chosen):
             path = schedule(folder, workload, harts, lines)
             agree(programs, path)
@@ -175,7 +280,8 @@ def print_rows(programs, folder, chosen):
                 cells = instructions_row(programs, path, lines)
             else:
                 cells = times_row(programs, path, lines, chosen.runs)
-            print(f"| {workload.__name__} | {harts} | {lines:,} | " + " | ".join(cells) + " |", flush=True)
+            name = workload.__name__.replace("_", " ")
+            print(f"| {name} | {harts} | {lines:,} | " + " | ".join(cells) + " |", flush=True)
             os.remove(path)
 
 
@@ -185,9 +291,10 @@ def numbers(text):
 
 def options():
     parser = argparse.ArgumentParser(description="Times the program beside plain Rust, and prints the README's table.")
-    parser.add_argument("program", nargs="?", default=os.path.join(ROOT, "crates/sbiboard_cli/out/sbiboard_cli"))
+    parser.add_argument("program", nargs="?", default=BUILT)
     parser.add_argument("--runs", type=int, default=9, help="how many runs of each, of which the fastest counts")
     parser.add_argument("--instructions", action="store_true", help="count instructions by valgrind, not time")
+    parser.add_argument("--workloads", type=lambda text: text.split(","), help="as calls,full_fences (default: all)")
     parser.add_argument("--harts", type=numbers, help="as 1,64,128 (the default), each 1 to 128")
     parser.add_argument("--lines", type=numbers, help="as 10000,100000 (default: these and the workload's most)")
     return parser.parse_args()
@@ -203,9 +310,8 @@ def main():
         sys.exit(f"{' and '.join(missing)} not found")
     print(f"load {os.getloadavg()[0]:.1f} on {os.cpu_count()} processors", file=sys.stderr)
     with tempfile.TemporaryDirectory() as folder:
-        baseline = os.path.join(folder, "baseline")
-        subprocess.run([*RUSTC, "-o", baseline, os.path.join(ROOT, "bench/baseline.rs")], check=True)
-        print_rows((os.path.abspath(chosen.program), baseline), folder, chosen)
+        print_rows((os.path.abspath(chosen.program), plain_rust(folder)), folder, chosen)
 
 
-main()
+if __name__ == "__main__":
+    main()

@@ -221,17 +221,17 @@ impl Board {
 
     fn hart_step(&mut self, h: usize, name: Name, numbers: &[u64]) -> Result<Reply, Refusal> {
         let state = self.harts.get(h).ok_or(Refusal::WrongPhase)?.state;
-        let is_inside = has(self.fences.callers, h);
+        let call = self.fences.calls[h];
         let (is_in_phase, is_ready) = match name {
             Name::Tick => (false, false),
             Name::Advance => (
                 state != State::Started,
                 state != State::Stopped && (state != State::Suspended || self.wake(h)),
             ),
-            Name::Poll => (is_inside, self.fences.outstanding[h] == 0),
+            Name::Poll => (call.is_some(), call == Some(0)),
             Name::Serve => (state.is_interruptible(), !self.fences.queues[h].is_empty()),
             _ => (
-                state == State::Started && !is_inside,
+                state == State::Started && call.is_none(),
                 name != Name::Wfi || self.wake(h),
             ),
         };
@@ -259,7 +259,7 @@ impl Board {
                 return Reply::Served;
             }
             Name::Poll => {
-                self.fences.callers &= !(1 << h);
+                self.fences.calls[h] = None;
                 return Reply::Ret(0, 0);
             }
             Name::Sip => {

@@ -21,10 +21,8 @@ pub type Request = (u8, Fence);
 pub struct Fences {
     /// What waits at each hart.
     pub queues: Vec<VecDeque<Request>>,
-    /// The harts inside a call.
-    pub callers: u128,
-    /// The harts that each caller waits for.
-    pub outstanding: Vec<u128>,
+    /// The harts that each hart inside a call waits for.
+    pub calls: Vec<Option<u128>>,
     pub asked: u64,
     pub applied: u64,
 }
@@ -33,8 +31,7 @@ impl Fences {
     pub fn new(harts: usize) -> Fences {
         Fences {
             queues: (0..harts).map(|_| VecDeque::with_capacity(harts)).collect(),
-            callers: 0,
-            outstanding: vec![0; harts],
+            calls: vec![None; harts],
             asked: 0,
             applied: 0,
         }
@@ -49,8 +46,7 @@ impl Fences {
             self.queues[t].push_back((h as u8, fence));
             rest &= rest - 1;
         }
-        self.outstanding[h] = others;
-        self.callers |= 1 << h;
+        self.calls[h] = Some(others);
         self.asked += u64::from(targets.count_ones());
         self.applied += u64::from(has(targets, h));
     }
@@ -58,7 +54,9 @@ impl Fences {
     /// Takes the first fence that waits at `h`: its caller no longer waits for this hart.
     pub fn take(&mut self, h: usize) -> Option<Fence> {
         let (caller, fence) = self.queues[h].pop_front()?;
-        self.outstanding[usize::from(caller)] &= !(1 << h);
+        if let Some(outstanding) = &mut self.calls[usize::from(caller)] {
+            *outstanding &= !(1 << h);
+        }
         self.applied += 1;
         Some(fence)
     }
@@ -68,8 +66,7 @@ impl Fences {
         for queue in &mut self.queues {
             queue.clear();
         }
-        self.callers = 0;
-        self.outstanding.fill(0);
+        self.calls.fill(None);
         self.applied = self.asked;
     }
 }

@@ -259,10 +259,9 @@ impl Out {
         self.text(b" ");
         self.right(board.fences.queues[h].len() as u64, 4);
         self.text(b" ");
-        if has(board.fences.callers, h) {
-            self.right(u64::from(board.fences.outstanding[h].count_ones()), 3);
-        } else {
-            self.text(b"  -");
+        match board.fences.calls[h] {
+            Some(outstanding) => self.right(u64::from(outstanding.count_ones()), 3),
+            None => self.text(b"  -"),
         }
         self.text(b"  ");
         self.decimal(u64::from(has(board.ssip, h)));
