@@ -1,5 +1,5 @@
 -- Where an event stands among its actor's events.
-use Rattle.std.proofs.Common.{◌≡◌, ℕ, zero, suc, ◌+◌, ◌≤◌, true, List, [], ◌∷◌, ◌++◌, length, get_or, refl, inl, inr, sym, ap, ◌∙◌, arith, append_assoc}
+use Rattle.std.proofs.Common.{◌≡◌, ℕ, zero, suc, ◌+◌, ◌<◌, ◌≤◌, true, List, [], ◌∷◌, ◌++◌, length, get_or, refl, inl, inr, sym, ap, ◌∙◌, arith, append_assoc}
 use Rattle.std.specs.Prelude.{Option, Some, None, slice_get}
 use Rattle.std.proofs.lemmas.Bool.{cases_Bool}
 use Rattle.board_core.specs.declared.event.Actor.{Actor}
@@ -69,3 +69,45 @@ member whole seen rest before e at a ordinal place prefix last by placed counted
     ∙ found 0 a before e rest same ∙ ap (λ (k : ℕ). Some (k, e)) (let from : 0 + length before ≡ length before = omega arith in from ∙ placed) in
     let here : slice_get whole place ≡ Some e = ap (λ (es : List Event). slice_get es place) (sym spread) ∙ ap (slice_get (before ++ e ∷ rest)) (sym placed) ∙ after before e rest in
     mine ∙ ap (λ (x : Event). Some (place, x)) (sym (there ∙ slice_get-tells whole place e at here))
+
+-- ---- later members stand at later places
+
+abbrev Placed : Type 0
+Placed = ℕ × Event
+
+placed-is : (x y : Placed) → ◌≡◌ {A = Option Placed} (Some x) (Some y) → x.0 ≡ y.0
+placed-is x y same = ap (from 0) same
+  where
+    from : ℕ → Option Placed → ℕ
+    from d None = d
+    from d (Some x) = x.0
+
+none-there : (x : Placed) → ◌≡◌ {A = Option Placed} None (Some x) → ⊥
+none-there x same = absurd (let e = same in cc)
+
+-- the members of a list that goes on from place n, of which the first stands there
+first-on : (n : ℕ) (x : Event) (rest : List Placed) → ((k : ℕ) (y : Placed) → slice_get rest k ≡ Some y → n + 1 ≤ y.0)
+    → (k : ℕ) (y : Placed) → slice_get ((n, x) ∷ rest) k ≡ Some y → n ≤ y.0
+first-on n x rest more zero y at = let same = placed-is (n, x) y at in omega arith
+first-on n x rest more (suc k) y at = let on = more k y at in omega arith
+
+from-on : (n : ℕ) (a : Actor) (es : List Event) (k : ℕ) (y : Placed) → slice_get (events_from n a es) k ≡ Some y → n ≤ y.0
+from-on n a [] k y there = absurd (none-there y there)
+from-on n a (x ∷ xs) k y there = elim (cases_Bool (is_same a x.actor)) [
+  | inl mine ↦ first-on n x (events_from (n + 1) a xs) (from-on (n + 1) a xs) k y (rw mine at there)
+  | inr other ↦ let rest = from-on (n + 1) a xs k y (rw other at there) in omega arith
+]
+
+first-later : (n : ℕ) (x : Event) (rest : List Placed) → ((k : ℕ) (y : Placed) → slice_get rest k ≡ Some y → n + 1 ≤ y.0)
+    → ((k l : ℕ) (y z : Placed) → k < l → slice_get rest k ≡ Some y → slice_get rest l ≡ Some z → y.0 < z.0)
+    → (k l : ℕ) (y z : Placed) → k < l → slice_get ((n, x) ∷ rest) k ≡ Some y → slice_get ((n, x) ∷ rest) l ≡ Some z → y.0 < z.0
+first-later n x rest on more k zero y z less one two = absurd (omega arith)
+first-later n x rest on more zero (suc l) y z less one two = let here = placed-is (n, x) y one in let there = on l z two in omega arith
+first-later n x rest on more (suc k) (suc l) y z less one two = more k l y z (omega arith) one two
+
+pub later : (n : ℕ) (a : Actor) (es : List Event) (k l : ℕ) (y z : Placed) → k < l → slice_get (events_from n a es) k ≡ Some y → slice_get (events_from n a es) l ≡ Some z → y.0 < z.0
+later n a [] k l y z less one two = absurd (none-there y one)
+later n a (x ∷ xs) k l y z less one two = elim (cases_Bool (is_same a x.actor)) [
+  | inl mine ↦ first-later n x (events_from (n + 1) a xs) (from-on (n + 1) a xs) (later (n + 1) a xs) k l y z less (rw mine at one) (rw mine at two)
+  | inr other ↦ later (n + 1) a xs k l y z less (rw other at one) (rw other at two)
+]

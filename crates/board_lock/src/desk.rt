@@ -4,6 +4,7 @@ ghost use Rattle.board_core.specs.Resets.{is_off};
 ghost use Rattle.board_core.specs.Replies.{answer, stepped};
 ghost use Rattle.board_lock.specs.Events.{IsActor};
 ghost use Rattle.board_lock.specs.Kept.{number_of};
+ghost use Rattle.board_lock.specs.Rests.{IsPause};
 ghost use Rattle.board_lock.specs.Views.{Shows};
 
 use crate::receipts::Receipt;
@@ -122,7 +123,8 @@ impl<K: Room> Desk<K> {
 
     /// The seat would rest, and has seen so many events. No event happens.
     pub(crate) fn rest(&mut self, seat: &Seat<K>, seen: u64) -> Pause
-        ensures { self.new ≡ self.old }
+        ensures pause { IsPause result (length self.old.past) seen }
+        ensures same { self.new ≡ self.old }
     {
         if self.ended {
             return Pause::Over(Rest::AllRest);

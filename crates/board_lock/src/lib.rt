@@ -14,7 +14,7 @@ mod shared;
 mod views;
 
 pub use receipts::Receipt;
-pub use records::Record;
+pub use records::{Record, later_calls_are_later};
 pub use rests::Rest;
 pub use rooms::{NewRoom, Room};
 pub use seats::Seat;

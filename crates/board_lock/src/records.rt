@@ -1,4 +1,6 @@
-ghost use Rattle.std.specs.Prelude.{◌≡◌, ℕ, Some, slice_get, length, ◌≤◌, reverse};
+ghost use Rattle.std.specs.Prelude.{◌≡◌, ℕ, ◌<◌, ◌≤◌, List, Some, slice_get, length};
+ghost use Rattle.board_core.specs.declared.event.Actor.{Actor};
+ghost use Rattle.board_core.specs.History.{Event};
 ghost use Rattle.board_core.specs.Replies.{IsLegal};
 ghost use Rattle.board_lock.specs.Events.{events_in, events_of};
 
@@ -62,3 +64,9 @@ impl<K: Room> Record<K> {
         &self.board.history()[receipt.place as usize]
     }
 }
+
+/// A later one of an actor's events stands at a later place; so of two receipts of one seat, the one of the later ordinal has
+/// the later place. A law: there is nothing to run.
+pub fn later_calls_are_later()
+    ensures { (a : Actor) (es : List Event) (k l p q : ℕ) (e f : Event) → k < l → slice_get (events_of a es) k ≡ Some (p, e) → slice_get (events_of a es) l ≡ Some (q, f) → p < q }
+{}
