@@ -2,11 +2,13 @@
 //! and the numbers and texts of errors.
 
 use board_core::{BuildFault, Refusal};
+use guest_script::{Fault, ScriptFault};
 use hart_mask::{HartSet, InvalidParam};
 use hsm::AlreadyAvailable;
 use interrupts::{Ipis, TimeFull, Timers};
+use monitor::Failed;
 use sbi_abi::SbiError;
-use sbiboard::{Failed, Fault, Outcome, ReadFault, ScriptFault, Stop, ended};
+use sbiboard::{Outcome, ReadFault, Stop, ended};
 use std::alloc::AllocError;
 use std::io::{self, ErrorKind};
 

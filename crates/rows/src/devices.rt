@@ -2,7 +2,8 @@
 
 use crate::row::replayed;
 use anyhow::{Result, ensure};
-use sbiboard::{Device, Failed, Outcome, Sink, Source, read_whole, replay};
+use monitor::{Failed, Sink};
+use sbiboard::{Device, Outcome, Source, read_whole, replay};
 use std::alloc::Global;
 use std::io::{self, ErrorKind, Read, Write};
 

@@ -2,8 +2,9 @@
 
 use anyhow::{Context, Result};
 use board_core::{Actor, Config, Event, Op, Refusal, Reply};
+use monitor::{print_event, print_head, print_line, print_reply};
 use sbi_abi::{Regs, Sbiret};
-use sbiboard::{Device, print_event, print_head, print_line, print_reply};
+use sbiboard::Device;
 
 const CONFIG: Config = Config {
     harts: 1,

@@ -15,12 +15,12 @@ use Rattle.board_core.specs.declared.event.Actor.{Actor}
 use Rattle.board_core.specs.declared.event.Actor.TheVariants.{Hart, Clock}
 use Rattle.board_core.specs.declared.event.Op.{Op}
 use Rattle.board_core.specs.declared.event.Op.TheVariants.{Ecall, Load, Store, Fetch, WriteSatp, WriteSie, WriteSstatusSie, ReadSip, ClearSsip, Sfence, FenceI, Wfi, Poll, Serve, Advance, Tick}
-use Rattle.sbiboard.specs.declared.guest_script.schedule.Line.{Line}
-use Rattle.sbiboard.specs.Words.{actor_word, board_words, hex, hex_or_dash, line_of, op_words}
-use Rattle.sbiboard.specs.Grammar.{AreArguments, AreNumbers, AreSteps, Form, form_of, IsActor, IsArgument, is_allowed, is_blank, is_hash, IsLine, IsOp, IsWord, last_hart, last_number, number_at, numbers_of, regs_of, Spaces, Spells}
-use Rattle.sbiboard.specs.ScriptLaws.{FitsActor, FitsLine, FitsOp, NumberReadsBack, ScheduleReadsBack, StepReadsBack, words_of}
-use Rattle.sbiboard.proofs.LinesOf.{lines_fed}
-use Rattle.sbiboard.proofs.Spacing.{Spaces-blank}
+use Rattle.guest_script.specs.declared.schedule.Line.{Line}
+use Rattle.monitor.specs.Words.{actor_word, board_words, hex, hex_or_dash, line_of, op_words}
+use Rattle.guest_script.specs.Grammar.{AreArguments, AreNumbers, AreSteps, Form, form_of, IsActor, IsArgument, is_allowed, is_blank, is_hash, IsLine, IsOp, IsWord, last_hart, last_number, number_at, numbers_of, regs_of, Spaces, Spells}
+use Rattle.sbiboard.specs.PrintedScripts.{FitsActor, FitsLine, FitsOp, NumberReadsBack, ScheduleReadsBack, StepReadsBack, words_of}
+use Rattle.guest_script.proofs.LinesOf.{lines_fed}
+use Rattle.guest_script.proofs.Spacing.{Spaces-blank}
 use Rattle.std.proofs.lemmas.List.FromFn.{fill_by_all}
 use Rattle.sbi_abi.specs.declared.call.Regs.{Regs}
 

@@ -7,10 +7,10 @@ use Rattle.board_core.specs.declared.event.Refusal.{Refusal}
 use Rattle.board_core.specs.declared.event.Reply.{Reply}
 use Rattle.board_core.specs.Course.{Course}
 use Rattle.board_core.specs.Replies.{stepped}
-use Rattle.sbiboard.specs.declared.guest_script.schedule.Line.{Line}
+use Rattle.guest_script.specs.declared.schedule.Line.{Line}
 use Rattle.sbiboard.specs.Replay.{answer_of, course_after, is_history_full, lines_text, meets_full, opening_of, table_of, text_of}
-use Rattle.sbiboard.specs.Grammar.{Schedule}
-use Rattle.sbiboard.specs.Words.{board_words, event_words, line_of}
+use Rattle.guest_script.specs.Grammar.{Schedule}
+use Rattle.monitor.specs.Words.{board_words, event_words, line_of}
 
 -- what was written is the text of the lines that were done: with that of the others it is the whole text
 pub record HasWritten (before after : Option (List ℕ)) (rest whole : List ℕ) : Type 0 where

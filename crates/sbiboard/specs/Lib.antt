@@ -1,12 +1,5 @@
-pub mod FirstFault
-pub mod Grammar
-pub mod ScriptLaws
-pub mod LineText
+pub mod Devices
 pub mod Outcomes
-pub mod Reading
+pub mod PrintedScripts
 pub mod Replay
-pub mod Scanning
-pub mod Sinks
 pub mod Sources
-pub mod Table
-pub mod Words

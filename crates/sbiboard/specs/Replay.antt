@@ -8,16 +8,16 @@ use Rattle.board_core.specs.declared.event.Reply.{Reply}
 use Rattle.board_core.specs.Course.{Course}
 use Rattle.board_core.specs.Limits.{IsGood}
 use Rattle.board_core.specs.Replies.{answer, stepped}
-use Rattle.sbiboard.specs.declared.guest_script.schedule.Line.{Line}
-use Rattle.sbiboard.specs.declared.guest_script.fault.Fault.{Fault}
-use Rattle.sbiboard.specs.declared.guest_script.fault.Fault.TheVariants as faults
-use Rattle.sbiboard.specs.declared.guest_script.fault.ScriptFault.{ScriptFault}
+use Rattle.guest_script.specs.declared.schedule.Line.{Line}
+use Rattle.guest_script.specs.declared.fault.Fault.{Fault}
+use Rattle.guest_script.specs.declared.fault.Fault.TheVariants as faults
+use Rattle.guest_script.specs.declared.fault.ScriptFault.{ScriptFault}
 use Rattle.sbiboard.specs.declared.outcome.Outcome.{Outcome}
 use Rattle.sbiboard.specs.declared.outcome.Outcome.TheVariants.{Good, Script, BadBoard, WrongKind, HistoryFull, Differs, NoMemory, Io}
-use Rattle.sbiboard.specs.FirstFault.{fault_number, first_fault}
-use Rattle.sbiboard.specs.Grammar.{Reads, Schedule, most_bytes}
-use Rattle.sbiboard.specs.Table.{table}
-use Rattle.sbiboard.specs.Words.{board_words, event_words, line_of}
+use Rattle.guest_script.specs.FirstFault.{fault_number, first_fault}
+use Rattle.guest_script.specs.Grammar.{Reads, Schedule, most_bytes}
+use Rattle.monitor.specs.Table.{table}
+use Rattle.monitor.specs.Words.{board_words, event_words, line_of}
 
 -- how many bytes are read at most: one more than a script may have
 abbrev pub read_limit : ℕ

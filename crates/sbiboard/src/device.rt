@@ -1,12 +1,13 @@
 //! What is read, and the devices behind readers and writers.
 
 ghost use Rattle.std.specs.Prelude.{◌≡◌, ℕ, ◌^◌, ◌<◌, Bool, false, List, Option};
-ghost use Rattle.sbiboard.specs.Sinks.{CountsWrite, Counted, HandsOn, HandsOnFlush, HandsOnWrite};
+ghost use Rattle.monitor.specs.Sinks.{CountsWrite};
+ghost use Rattle.sbiboard.specs.Devices.{Counted, HandsOn, HandsOnFlush, HandsOnWrite};
 
 mod source;
 mod whole;
 
-use crate::monitor::{Failed, Sink};
+use monitor::{Failed, Sink};
 pub use source::Source;
 use std::io::{self, Read, Write};
 use std::marker::Model;

@@ -1,15 +1,15 @@
 ghost use Rattle.std.specs.Prelude.{◌≡◌, ◌^◌, ◌<◌, true, IfOk, IfSome, OnOk, take};
 ghost use Rattle.std.specs.Io.KnownBytes.{Appends};
 ghost use Rattle.sbiboard.specs.Replay.{CountsEnd, EndsFlushed, EndsRead, EndsScript, Writes, course_after, ended_as, is_history_full, lines_text, meets_full, opening_of, read_limit, text_of};
-ghost use Rattle.sbiboard.specs.Grammar.{schedule};
-ghost use Rattle.sbiboard.specs.Sinks.{Puts};
+ghost use Rattle.guest_script.specs.Grammar.{schedule};
+ghost use Rattle.monitor.specs.Sinks.{Puts};
 ghost use Rattle.sbiboard.specs.Sources.{ReadsUpTo};
 
 use crate::device::{ReadFault, Source, read_whole};
-use crate::guest_script::{Fault, Line, Script, ScriptFault, parse};
-use crate::monitor::{Failed, Sink, print, print_head, print_line};
 use crate::outcome::Outcome;
 use board_core::{Board, BuildFault, Refusal, Reply};
+use guest_script::{Fault, Line, Script, ScriptFault, parse};
+use monitor::{Failed, Sink, print, print_head, print_line};
 use std::alloc::Global;
 
 /// One byte more than a script may have.

@@ -1,8 +1,8 @@
 ghost use Rattle.std.specs.Prelude.{◌≡◌, ℕ, ◌^◌, ◌<◌, ◌≤◌, List, Option, length, MatchResult, IfOk};
 ghost use Rattle.std.specs.Io.KnownBytes.{ReadConsumes};
-ghost use Rattle.sbiboard.specs.Sinks.{CountsCall};
+ghost use Rattle.monitor.specs.Sinks.{CountsCall};
 
-use crate::monitor::Failed;
+use monitor::Failed;
 
 /// What bytes are read from.
 pub trait Source {

@@ -4,7 +4,7 @@ ghost use Rattle.sbiboard.specs.Sources.{CountsReading, ReadsUpTo};
 ghost use Rattle.sbiboard.specs.declared.device.whole.ReadFault.TheVariants.{Failed as ReadFailed, NoMemory};
 
 use super::source::Source;
-use crate::monitor::Failed;
+use monitor::Failed;
 use std::alloc::{AllocError, Global};
 use thiserror::Error;
 

@@ -1,5 +1,5 @@
 use Rattle.std.proofs.Common.{◌∙◌}
-use Rattle.sbiboard.specs.Grammar.{schedule}
+use Rattle.guest_script.specs.Grammar.{schedule}
 use Rattle.sbiboard.proofs.Replayed.{text_of-printed}
 use Rattle.sbiboard.proofs.replaying.print_script.Goals as goal
 

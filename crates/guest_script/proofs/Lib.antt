@@ -1,0 +1,10 @@
+pub mod ArgumentsIn
+pub mod FaultsFound
+pub mod LineWords
+pub mod LinesOf
+pub mod Numerals
+pub mod ScriptLines
+pub mod Spacing
+pub mod Spelling
+pub mod StepsFrom
+pub mod WordsIn

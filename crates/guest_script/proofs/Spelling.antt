@@ -1,0 +1,157 @@
+-- A word is a number by the tests where it spells one, and no other.
+use Rattle.std.proofs.Common.{◌≡◌, ℕ, ◌<◌, ◌≤◌, true, false, eqb, leb, Bool, ◌&&◌, ◌||◌, List, [], ◌∷◌, ◌++◌, length, take, drop, map, codes, Option, Some, None, subst, refl, sym, ap, ◌∙◌, inl, inr, arith}
+use Rattle.std.specs.Char.{digit_value, is_digit}
+use Rattle.std.specs.List.{list_all}
+use Rattle.std.specs.Option.{unwrap_or}
+use Rattle.std.specs.Str.Parse.{AllDigits, IsNumeral, digits_value}
+use Rattle.std.proofs.lemmas.Bool.{cases_Bool, and_parts, and_from, and_right, ltb-true, lt-ltb, leb-true, le-leb, eqb-true}
+use Rattle.std.proofs.lemmas.Slice.Eq.{bytes_eq-Decides}
+use Rattle.std.proofs.lemmas.List.{take-append-drop}
+use Rattle.guest_script.specs.Grammar.{AreArguments, AreNumbers, IsArgument, IsNumber, Spells}
+use Rattle.guest_script.specs.FirstFault.{is_argument, is_dash, is_filled, is_hexadecimal, is_numeral, is_number}
+use Rattle.guest_script.specs.Reading.{number_in, arguments_in, word_value}
+
+-- ---- digits
+
+digits_tested : (radix : ℕ) (digits : List ℕ) → list_all (λ b. is_digit b radix) digits ≡ true → AllDigits radix digits
+digits_tested radix [] all = tt
+digits_tested radix (b ∷ digits) all =
+    let both = and_parts (is_digit b radix) (list_all (λ x. is_digit x radix) digits) all in
+    (ltb-true (digit_value b) radix both.0, digits_tested radix digits both.1)
+
+digits_pass : (radix : ℕ) (digits : List ℕ) → AllDigits radix digits → list_all (λ b. is_digit b radix) digits ≡ true
+digits_pass radix [] all = refl
+digits_pass radix (b ∷ digits) all =
+    and_from (is_digit b radix) (list_all (λ x. is_digit x radix) digits) (lt-ltb (digit_value b) radix all.0) (digits_pass radix digits all.1)
+
+filled_length : (digits : List ℕ) → is_filled digits ≡ true → 0 < length digits
+filled_length [] filled = absurd cc
+filled_length (b ∷ digits) filled = omega arith
+
+length_filled : (digits : List ℕ) → 0 < length digits → is_filled digits ≡ true
+length_filled [] some = absurd (omega arith)
+length_filled (b ∷ digits) some = refl
+
+numeral_tested : (radix limit : ℕ) (digits : List ℕ) → is_numeral radix limit digits ≡ true → IsNumeral radix digits × (digits_value radix digits ≤ limit)
+numeral_tested radix limit digits good =
+    let all = list_all (λ b. is_digit b radix) digits in
+    let parts = and_parts (is_filled digits && all) (leb (digits_value radix digits) limit) good in
+    let front = and_parts (is_filled digits) all parts.0 in
+    ((filled_length digits front.0, digits_tested radix digits front.1), leb-true (digits_value radix digits) limit parts.1)
+
+numeral_passes : (radix limit : ℕ) (digits : List ℕ) → IsNumeral radix digits → digits_value radix digits ≤ limit → is_numeral radix limit digits ≡ true
+numeral_passes radix limit digits numeral small =
+    let all = list_all (λ b. is_digit b radix) digits in
+    and_from (is_filled digits && all) (leb (digits_value radix digits) limit)
+    (and_from (is_filled digits) all (length_filled digits numeral.0) (digits_pass radix digits numeral.1))
+    (le-leb (digits_value radix digits) limit small)
+
+no_x : (b : ℕ) → digit_value b < 10 → eqb b 120 ≡ false
+no_x b digit = elim (cases_Bool (eqb b 120)) [
+  | inl same ↦ let P : ℕ → Type 0 = λ x. digit_value x < 10 in absurd (omega (arith, subst P (eqb-true b 120 same) digit))
+  | inr other ↦ other
+]
+
+-- a decimal numeral doesn't begin with `0x`
+decimal_is_plain : (word : List ℕ) → AllDigits 10 word → is_hexadecimal word ≡ false
+decimal_is_plain [] all = refl
+decimal_is_plain (a ∷ []) all = and_right (eqb a 48) false refl
+decimal_is_plain (a ∷ b ∷ word) all = and_right (eqb a 48) (eqb b 120 && true) (rw (no_x b all.1.0) refl)
+
+hexadecimal_parts : (word : List ℕ) → is_hexadecimal word ≡ true → word ≡ codes "0x" ++ drop 2 word
+hexadecimal_parts word hex =
+    let front : take 2 word ≡ codes "0x" = (bytes_eq-Decides (take 2 word) (codes "0x")).0 hex in
+    sym (take-append-drop 2 word) ∙ ap (λ (w : List ℕ). w ++ drop 2 word) front
+
+-- ---- one number
+
+number_value : (limit : ℕ) (word : List ℕ) → is_number limit word ≡ true → unwrap_or (number_in limit word) 0 ≡ word_value word
+unfolding number_in
+number_value limit word good = rw good refl
+
+value_spelled : (limit : ℕ) (word : List ℕ) → is_number limit word ≡ true → IsNumber limit word (word_value word)
+unfolding is_number
+value_spelled limit word good = elim (cases_Bool (is_hexadecimal word)) [
+  | inl hex ↦
+      let t = numeral_tested 16 limit (drop 2 word) (rw hex at good) in
+      rw hex (t.1, inr (drop 2 word, hexadecimal_parts word hex, t.0, refl))
+  | inr plain ↦ let t = numeral_tested 10 limit word (rw plain at good) in rw plain (t.1, inl (t.0, refl))
+]
+
+spelled_value : (limit : ℕ) (word : List ℕ) (n : ℕ) → n ≤ limit → Spells word n → (is_number limit word ≡ true) × (word_value word ≡ n)
+unfolding is_number
+spelled_value limit word n small (inl decimal) =
+    let plain = decimal_is_plain word decimal.0.1 in
+    rw plain (numeral_passes 10 limit word decimal.0 (omega (arith, decimal.1)), sym decimal.1)
+spelled_value limit word n small (inr hex) =
+    rw hex.1 (numeral_passes 16 limit hex.0 hex.2 (omega (arith, hex.3)), sym hex.3)
+
+pub number_spelled : (limit : ℕ) (word : List ℕ) → is_number limit word ≡ true → IsNumber limit word (unwrap_or (number_in limit word) 0)
+number_spelled limit word good = rw (number_value limit word good) (value_spelled limit word good)
+
+pub spelled_number : (limit : ℕ) (word : List ℕ) (n : ℕ) → IsNumber limit word n → (is_number limit word ≡ true) × (unwrap_or (number_in limit word) 0 ≡ n)
+spelled_number limit word n number =
+    let value = spelled_value limit word n number.0 number.1 in
+    (value.0, number_value limit word value.0 ∙ value.1)
+
+-- ---- arguments
+
+or_true : (b : Bool) → (b || true) ≡ true
+or_true true = refl
+or_true false = refl
+
+pub argument_spelled : (dash : Bool) (limit : ℕ) (word : List ℕ) → is_argument dash limit word ≡ true → IsArgument dash limit word (number_in limit word)
+unfolding number_in
+argument_spelled dash limit word good = elim (cases_Bool (is_number limit word)) [
+  | inl number ↦ rw number (value_spelled limit word number)
+  | inr other ↦
+      let parts = and_parts dash (is_dash word) (rw other at good) in
+      rw other (parts.0, (bytes_eq-Decides word (codes "-")).0 parts.1)
+]
+
+dash_is_none : (limit : ℕ) → number_in limit (codes "-") ≡ None
+unfolding number_in is_number
+dash_is_none limit = refl
+
+number_is_some : (limit : ℕ) (word : List ℕ) (n : ℕ) → IsNumber limit word n → number_in limit word ≡ Some n
+unfolding number_in
+number_is_some limit word n number =
+    let value = spelled_value limit word n number.0 number.1 in
+    rw (value.0, value.1) refl
+
+pub spelled_argument : (dash : Bool) (limit : ℕ) (word : List ℕ) (a : Option ℕ) → IsArgument dash limit word a → (is_argument dash limit word ≡ true) × (number_in limit word ≡ a)
+spelled_argument dash limit word (Some n) number = (rw (spelled_number limit word n number).0 refl, number_is_some limit word n number)
+spelled_argument dash limit word None absent = rw (absent.0, absent.1) (or_true (is_number limit (codes "-")), dash_is_none limit)
+
+pub arguments_spelled : (dash : Bool) (limit : ℕ) (words : List (List ℕ)) → list_all (is_argument dash limit) words ≡ true → AreArguments dash limit words (arguments_in limit words)
+unfolding arguments_in
+arguments_spelled dash limit [] all = tt
+arguments_spelled dash limit (word ∷ words) all =
+    let both = and_parts (is_argument dash limit word) (list_all (is_argument dash limit) words) all in
+    (argument_spelled dash limit word both.0, arguments_spelled dash limit words both.1)
+
+pub spelled_arguments : (dash : Bool) (limit : ℕ) (words : List (List ℕ)) (ns : List (Option ℕ)) → AreArguments dash limit words ns
+    → (list_all (is_argument dash limit) words ≡ true) × (arguments_in limit words ≡ ns)
+unfolding arguments_in
+spelled_arguments dash limit [] [] arguments = (refl, refl)
+spelled_arguments dash limit [] (n ∷ ns) arguments = absurd arguments
+spelled_arguments dash limit (word ∷ words) [] arguments = absurd arguments
+spelled_arguments dash limit (word ∷ words) (n ∷ ns) arguments =
+    let first = spelled_argument dash limit word n arguments.0 in
+    let others = spelled_arguments dash limit words ns arguments.1 in
+    (and_from (is_argument dash limit word) (list_all (is_argument dash limit) words) first.0 others.0, rw (first.1, others.1) refl)
+
+-- ---- numbers alone
+
+pub numbers_as_arguments : (limit : ℕ) (words : List (List ℕ)) (ns : List ℕ) → AreNumbers limit words ns → AreArguments false limit words (map (λ n. Some n) ns)
+numbers_as_arguments limit [] [] numbers = tt
+numbers_as_arguments limit [] (n ∷ ns) numbers = absurd numbers
+numbers_as_arguments limit (word ∷ words) [] numbers = absurd numbers
+numbers_as_arguments limit (word ∷ words) (n ∷ ns) numbers = (numbers.0, numbers_as_arguments limit words ns numbers.1)
+
+pub arguments_as_numbers : (limit : ℕ) (words : List (List ℕ)) (ns : List (Option ℕ)) → AreArguments false limit words ns → AreNumbers limit words (map (λ a. unwrap_or a 0) ns)
+arguments_as_numbers limit [] [] arguments = tt
+arguments_as_numbers limit [] (n ∷ ns) arguments = absurd arguments
+arguments_as_numbers limit (word ∷ words) [] arguments = absurd arguments
+arguments_as_numbers limit (word ∷ words) (Some n ∷ ns) arguments = (arguments.0, arguments_as_numbers limit words ns arguments.1)
+arguments_as_numbers limit (word ∷ words) (None ∷ ns) arguments = absurd (let e = arguments.0.0 in cc)

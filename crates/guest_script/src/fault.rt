@@ -1,0 +1,61 @@
+ghost use Rattle.std.specs.Prelude.{◌≡◌};
+ghost use Rattle.guest_script.specs.FirstFault.{fault_number};
+
+use thiserror::Error;
+
+/// What is wrong with a line, or with the whole script (profile).
+#[derive(Clone, Copy, Debug, PartialEq, Eq, Error)]
+pub enum Fault {
+    /// A byte that is neither printable ASCII nor a tab.
+    #[error("a byte that is neither printable ASCII nor a tab")]
+    BadByte,
+    /// The first line with words isn't a board line, or no line has words.
+    #[error("the first line with words isn't a board line, or no line has words")]
+    NoBoardLine,
+    /// No operation has this name.
+    #[error("no operation has this name")]
+    UnknownWord,
+    /// A word that should be a number and isn't, or a number too large for its place.
+    #[error("not a number, or a number too large for its place")]
+    BadNumber,
+    /// Too few or too many words.
+    #[error("too few or too many words")]
+    WordCount,
+    /// A line of another kind of script.
+    #[error("a line of another kind of script")]
+    OtherKind,
+    /// More than 16,777,216 bytes.
+    #[error("more than 16,777,216 bytes")]
+    TooLong,
+    /// Memory was refused.
+    #[error("no memory")]
+    NoMemory,
+}
+
+impl Fault {
+    /// The fault's number (profile).
+    pub fn number(self) -> u64
+        ensures { result ≡ fault_number self }
+    {
+        match self {
+            Fault::BadByte => 1,
+            Fault::NoBoardLine => 2,
+            Fault::UnknownWord => 3,
+            Fault::BadNumber => 4,
+            Fault::WordCount => 5,
+            Fault::OtherKind => 6,
+            Fault::TooLong => 8,
+            Fault::NoMemory => 9,
+        }
+    }
+}
+
+/// A fault and its line. Lines count from 1; 0 is the script as a whole.
+#[derive(Clone, Copy, Debug, PartialEq, Eq, Error)]
+#[error("line {line}: {fault}")]
+pub struct ScriptFault {
+    /// The line.
+    pub line: u64,
+    /// What is wrong.
+    pub fault: Fault,
+}

@@ -1,0 +1,53 @@
+ghost use Rattle.std.specs.Prelude.{◌≡◌, ◌≤◌};
+ghost use Rattle.guest_script.specs.Reading.{number_in};
+ghost use Rattle.guest_script.specs.Scanning.{digit_after, numeral_of, spelled_of};
+
+/// The number that a word spells, if it is at most `limit`.
+#[tactic(auto, using(crate::proofs::Numerals::of_spelled))]
+pub fn number(word: &[u8], limit: u64) -> Option<u64>
+    ensures { result ≡ number_in limit word.now }
+{
+    match spelled(word) {
+        Some(n) if n <= limit => Some(n),
+        _ => None,
+    }
+}
+
+/// The number that a word spells, if there is one below 2^64.
+#[tactic(auto, unfolding(crate::specs::Scanning::spelled_of))]
+fn spelled(word: &[u8]) -> Option<u64>
+    ensures { result ≡ spelled_of word.now }
+{
+    match word.strip_prefix(b"0x") {
+        Some(digits) => numeral(digits, 16),
+        None => numeral(word, 10),
+    }
+}
+
+/// The number that the digits spell, of which there is at least one.
+fn numeral(digits: &[u8], radix: u32) -> Option<u64>
+    requires low { 2 ≤ radix }
+    requires high { radix ≤ 36 }
+    ensures { result ≡ numeral_of radix digits.now }
+{
+    if digits.is_empty() {
+        return None;
+    }
+    let mut n = 0;
+    for digit in digits {
+        n = push_digit(n, *digit, radix)?;
+    }
+    Some(n)
+}
+
+/// The number whose digits are those of `n` and one more.
+#[tactic(auto, unfolding(crate::specs::Scanning::digit_after))]
+fn push_digit(n: u64, digit: u8, radix: u32) -> Option<u64>
+    requires low { 2 ≤ radix }
+    requires high { radix ≤ 36 }
+    ensures { result ≡ digit_after radix n digit }
+{
+    let value = (digit as char).to_digit(radix)?;
+    n.checked_mul(u64::from(radix))?
+        .checked_add(u64::from(value))
+}

@@ -1,0 +1,57 @@
+ghost use Rattle.std.specs.Prelude.{◌≡◌, ◌∷◌, ◌<◌, ◌≤◌, ◌^◌, ◌==◌, length};
+ghost use Rattle.std.specs.List.{list_all, position};
+ghost use Rattle.std.specs.Str.Lines.{lines, strip_carriage_return};
+ghost use Rattle.guest_script.specs.Grammar.{is_allowed};
+
+/// The text of the first line, and the lines after it.
+pub fn next_line(bytes: &[u8]) -> (&[u8], &[u8])
+    requires { 0 < length bytes.now }
+    ensures lines { lines bytes.now ≡ result.0.now ∷ lines result.1.now }
+    ensures shorter { length result.1.now < length bytes.now }
+{
+    match line_end(bytes) {
+        Some(end) => (without_return(&bytes[..end]), &bytes[end + 1..]),
+        None => bytes.split_at(bytes.len()),
+    }
+}
+
+fn line_end(bytes: &[u8]) -> Option<usize>
+    ensures { result ≡ position (λ b. b == 10) bytes.now }
+{
+    bytes.iter().position(|byte| *byte == b'\n')
+}
+
+fn without_return(text: &[u8]) -> &[u8]
+    ensures { result.now ≡ strip_carriage_return text.now }
+{
+    match text {
+        [front @ .., b'\r'] => front,
+        _ => text,
+    }
+}
+
+/// At least how many lines there are.
+#[tactic(auto, using(crate::proofs::LinesOf::length_lines_le))]
+pub fn line_limit(bytes: &[u8]) -> usize
+    requires { length bytes.now < 2 ^ 63 }
+    ensures { length (lines bytes.now) ≤ result }
+{
+    bytes.iter().filter(|byte| **byte == b'\n').count() + 1
+}
+
+/// Whether each byte of a line is allowed: printable ASCII, or a tab.
+pub fn is_clean(text: &[u8]) -> bool
+    ensures { result ≡ list_all is_allowed text.now }
+{
+    let mut clean = true;
+    for byte in text {
+        clean &= is_allowed(*byte);
+    }
+    clean
+}
+
+fn is_allowed(byte: u8) -> bool
+    ensures { result ≡ is_allowed byte }
+{
+    matches!(byte, b' '..=b'~' | b'\t')
+}

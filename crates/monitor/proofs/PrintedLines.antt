@@ -1,0 +1,26 @@
+-- Words after a blank each, and words that one blank parts.
+use Rattle.std.proofs.Common.{◌≡◌, ℕ, List, [], ◌∷◌, ◌++◌, ◌<◌, length, drop, arith, refl, ap, ◌∙◌, append_assoc}
+use Rattle.std.specs.List.{join_with_byte}
+use Rattle.monitor.specs.LineText.{with_words}
+use Rattle.monitor.specs.Words.{line_of}
+
+pub with_words-append : (line : List ℕ) (words more : List (List ℕ)) → with_words line (words ++ more) ≡ with_words (with_words line words) more
+with_words-append line [] more = refl
+with_words-append line (word ∷ words) more = with_words-append (line ++ 32 ∷ word) words more
+
+with_words-join : (line word : List ℕ) (words : List (List ℕ)) → with_words line (word ∷ words) ≡ line ++ (32 ∷ join_with_byte 32 (word ∷ words))
+with_words-join line word [] = refl
+with_words-join line word (next ∷ words) =
+    with_words-join (line ++ 32 ∷ word) next words ∙ append_assoc line (32 ∷ word) (32 ∷ join_with_byte 32 (next ∷ words))
+
+-- without its first blank, and ended, the line is the line of its words
+pub words-as_line : (line ended : List ℕ) (words : List (List ℕ)) → 0 < length line → ended ≡ line ++ 10 ∷ [] → line ≡ with_words [] words → drop 1 ended ≡ line_of words
+words-as_line line ended [] some e is = absurd (omega (arith, ap length is))
+words-as_line line ended (word ∷ words) some e is = ap (drop 1) (e ∙ ap (λ l. l ++ 10 ∷ []) (is ∙ with_words-join [] word words))
+
+-- the words of a step, an arrow and the words of its answer, one after the other
+pub step-words : (actor arrow : List ℕ) (op reply : List (List ℕ)) (empty own stepped parted whole : List ℕ) → empty ≡ []
+    → own ≡ empty ++ 32 ∷ actor → stepped ≡ with_words own op → parted ≡ stepped ++ 32 ∷ arrow → whole ≡ with_words parted reply
+    → whole ≡ with_words [] (actor ∷ (op ++ arrow ∷ reply))
+step-words actor arrow op reply empty own stepped parted whole e0 e1 e2 e3 e4 =
+    rw (e4, e3, e2, e1, e0, with_words-append ([] ++ 32 ∷ actor) op (arrow ∷ reply)) refl

@@ -1,0 +1,10 @@
+use Rattle.std.proofs.Common.{◌≡◌}
+use Rattle.std.specs.Io.KnownBytes.{Appends}
+use Rattle.std.specs.List.{flat_map, range_with_len}
+use Rattle.monitor.specs.Table.{details}
+use Rattle.monitor.proofs.table.print_details.Given as goal
+
+abbrev pub invariant-loop-h : goal.invariant-loop-h
+invariant-loop-h g l =
+    Appends (g.W.Sink.written l.fn.sink) (g.W.Sink.written l.sink) (flat_map (details l.board.config l.board.past) (range_with_len 0 l.h))
+    × (g.W.Sink.failures l.sink ≡ g.W.Sink.failures l.fn.sink)

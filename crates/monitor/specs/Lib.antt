@@ -1,0 +1,4 @@
+pub mod LineText
+pub mod Sinks
+pub mod Table
+pub mod Words

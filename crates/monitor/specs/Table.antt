@@ -1,0 +1,232 @@
+-- The printed table of a board (profile).
+use Rattle.std.specs.Prelude.{ℕ, ◌-◌, List, [], ◌∷◌, ◌++◌, length, map, replicate, reverse, codes, decimal, Bool, true, false, if◌then◌else◌, Option, Some, None}
+use Rattle.std.specs.Fmt.{digits}
+use Rattle.std.specs.List.{flat_map}
+use Rattle.sbi_abi.specs.declared.reset.Reset.{Reset}
+use Rattle.sbi_abi.specs.ResetTypes.{reset_kind_number}
+use Rattle.hsm.specs.declared.hart.HartState.{HartState}
+use Rattle.hsm.specs.declared.hart.HartState.TheVariants.{Started, Stopped, StartPending, StopPending, Suspended, SuspendPending, ResumePending}
+use Rattle.hsm.specs.declared.hart.Kept.{Kept}
+use Rattle.sv39.specs.Pages.{level_number}
+use Rattle.fence_queue.specs.declared.request.Request.{Request}
+use Rattle.tlb_model.specs.declared.entry.Entry.{Entry}
+use Rattle.tlb_model.specs.declared.fence.Flush.{Flush}
+use Rattle.tlb_model.specs.declared.fence.Flush.TheVariants.{Words, Entries}
+use Rattle.tlb_model.specs.declared.fence.Range.{Range}
+use Rattle.tlb_model.specs.declared.word.FetchWord.{FetchWord}
+use Rattle.tlb_model.specs.Acts.{Filling, live}
+use Rattle.tlb_model.specs.Entries.{covers_entry}
+use Rattle.tlb_model.specs.Words.{covers_word}
+use Rattle.board_core.specs.declared.board.Totals.{Totals}
+use Rattle.board_core.specs.declared.config.Config.{Config}
+use Rattle.board_core.specs.Course.{harts_of}
+use Rattle.board_core.specs.Csrs.{bits_of, sie, sstatus_sie}
+use Rattle.board_core.specs.Fences.{outstanding, waiting}
+use Rattle.board_core.specs.History.{Event}
+use Rattle.board_core.specs.Interrupts.{deadline, ssip, stip, time}
+use Rattle.board_core.specs.Memory.{satp, tlb_acts, word_acts}
+use Rattle.board_core.specs.Resets.{is_off, last_reset}
+use Rattle.board_core.specs.Starts.{kept}
+use Rattle.board_core.specs.States.{state}
+use Rattle.board_core.specs.Totals.{totals}
+use Rattle.monitor.specs.Words.{bit_of, line_of}
+
+-- a text after as many of these bytes as fill the width
+abbrev pub filled : (width byte : ℕ) → List ℕ → List ℕ
+filled width byte text = replicate (width - length text) byte ++ text
+
+-- a text at the right, or at the left, of a column of this width
+abbrev pub right : (width : ℕ) → List ℕ → List ℕ
+right width text = filled width 32 text
+
+abbrev pub left : (width : ℕ) → List ℕ → List ℕ
+left width text = text ++ replicate (width - length text) 32
+
+-- lower case hexadecimal digits with leading zeros
+abbrev pub hex_column : (width : ℕ) → ℕ → List ℕ
+hex_column width n = filled width 48 (digits 16 false n)
+
+abbrev pub hex16 : ℕ → List ℕ
+hex16 n = hex_column 16 n
+
+abbrev pub state_name : HartState → List ℕ
+state_name Started = codes "STARTED"
+state_name Stopped = codes "STOPPED"
+state_name StartPending = codes "START_PENDING"
+state_name StopPending = codes "STOP_PENDING"
+state_name Suspended = codes "SUSPENDED"
+state_name SuspendPending = codes "SUSPEND_PENDING"
+state_name ResumePending = codes "RESUME_PENDING"
+
+-- a deadline's hexadecimal digits, or as many dashes where there is none
+abbrev pub deadline_cell : Option ℕ → List ℕ
+deadline_cell (Some deadline) = hex16 deadline
+deadline_cell None = replicate 16 45
+
+-- how many harts a fence call waits for, or a dash outside of a call
+abbrev pub outstanding_cell : Option (List ℕ) → List ℕ
+outstanding_cell (Some harts) = right 3 (decimal (length harts))
+outstanding_cell None = right 3 (codes "-")
+
+-- the power: `off` after a shutdown
+abbrev pub power_word : (is_off : Bool) → List ℕ
+power_word true = codes "off"
+power_word false = codes "on"
+
+-- the type and the reason of the last reset, or `none`
+abbrev pub reset_words : Option Reset → List (List ℕ)
+reset_words None = codes "none" ∷ []
+reset_words (Some reset) = hex_column 8 (reset_kind_number reset.kind) ∷ hex_column 8 reset.reason ∷ []
+
+-- the time, the count of events, the power, and the last reset
+unfoldable pub time_cells : List Event → List (List ℕ)
+time_cells past =
+    codes "#"
+    ∷ codes "time" ∷ hex16 (time past)
+    ∷ codes "events" ∷ right 7 (decimal (length past))
+    ∷ codes "power" ∷ power_word (is_off past)
+    ∷ codes "reset" ∷ reset_words (last_reset past)
+
+unfoldable pub totals_cells : Totals → List (List ℕ)
+totals_cells t =
+    codes "#"
+    ∷ codes "starts" ∷ decimal t.starts
+    ∷ codes "entries" ∷ decimal t.entries
+    ∷ codes "pending" ∷ decimal t.pending
+    ∷ codes "asked" ∷ decimal t.asked
+    ∷ codes "applied" ∷ decimal t.applied
+    ∷ codes "waiting" ∷ decimal t.waiting
+    ∷ []
+
+-- the heads of a hart's columns, each as wide as its column
+unfoldable pub head_cells : List (List ℕ)
+head_cells =
+    codes "#"
+    ∷ codes "hart"
+    ∷ left 15 (codes "state")
+    ∷ codes "wait"
+    ∷ codes "out"
+    ∷ codes "ss"
+    ∷ codes "st"
+    ∷ codes "ie"
+    ∷ codes "se"
+    ∷ left 16 (codes "satp")
+    ∷ left 16 (codes "deadline")
+    ∷ codes "tlb"
+    ∷ codes "ic"
+    ∷ []
+
+-- the items of fills, newest first, in the order of filling
+abbrev pub in_order : {E : Type 0} → List (Filling E) → List E
+in_order fillings = reverse (map (λ filling. filling.item) fillings)
+
+-- the live entries of a hart's TLB, in the order of filling
+abbrev pub entries : Config → List Event → ℕ → List Entry
+entries c past h = in_order (live covers_entry (tlb_acts c past h))
+
+-- the live words of a hart's instruction cache, in the order of filling
+abbrev pub words : Config → List Event → ℕ → List FetchWord
+words c past h = in_order (live covers_word (word_acts c past h))
+
+-- the row of a hart
+unfoldable pub hart_cells : Config → List Event → ℕ → List (List ℕ)
+hart_cells c past h =
+    codes "#"
+    ∷ right 4 (decimal h)
+    ∷ left 15 (state_name (state c past h))
+    ∷ right 4 (decimal (length (waiting c past h)))
+    ∷ outstanding_cell (outstanding c past h)
+    ∷ right 2 (decimal (bit_of (ssip c past h)))
+    ∷ right 2 (decimal (bit_of (stip c past h)))
+    ∷ hex_column 2 (bits_of (sie c past h))
+    ∷ right 2 (decimal (bit_of (sstatus_sie past h)))
+    ∷ hex16 (satp past h)
+    ∷ deadline_cell (deadline c past h)
+    ∷ right 3 (decimal (length (entries c past h)))
+    ∷ right 2 (decimal (length (words c past h)))
+    ∷ []
+
+-- what the firmware keeps for a hart's entry
+unfoldable pub entry_cells : ℕ → Kept → List (List ℕ)
+entry_cells h start = codes "#" ∷ codes "entry" ∷ right 3 (decimal h) ∷ hex16 start.addr ∷ hex16 start.opaque ∷ []
+
+abbrev pub entry_line : ℕ → Option Kept → List ℕ
+entry_line h (Some start) = line_of (entry_cells h start)
+entry_line h None = []
+
+abbrev pub row : Config → List Event → ℕ → List ℕ
+row c past h = line_of (hart_cells c past h)
+
+-- a letter, or a dash where what it stands for is absent
+abbrev pub letter : Bool → (byte : ℕ) → ℕ
+letter present byte = if present then byte else 45
+
+-- the rights of an entry's page: `r`, `w`, `x` and `d`
+abbrev pub rights : Entry → List ℕ
+rights entry = letter entry.leaf.r 114 ∷ letter entry.leaf.w 119 ∷ letter entry.leaf.x 120 ∷ letter entry.leaf.d 100 ∷ []
+
+-- a TLB's entry: its page, level, ASID, whether it is global, the physical page, and the rights
+unfoldable pub tlb_cells : ℕ → Entry → List (List ℕ)
+tlb_cells h entry =
+    codes "#"
+    ∷ codes "tlb"
+    ∷ right 3 (decimal h)
+    ∷ hex16 entry.leaf.page
+    ∷ decimal (level_number entry.leaf.level)
+    ∷ hex_column 4 entry.asid
+    ∷ (letter entry.leaf.global 103 ∷ [])
+    ∷ hex16 entry.leaf.pa
+    ∷ rights entry
+    ∷ []
+
+-- a fetched word after its physical address
+unfoldable pub word_cells : ℕ → FetchWord → List (List ℕ)
+word_cells h fetched = codes "#" ∷ codes "ic" ∷ right 3 (decimal h) ∷ hex16 fetched.pa ∷ hex16 fetched.word ∷ []
+
+abbrev pub tlb_line : ℕ → Entry → List ℕ
+tlb_line h entry = line_of (tlb_cells h entry)
+
+abbrev pub word_line : ℕ → FetchWord → List ℕ
+word_line h fetched = line_of (word_cells h fetched)
+
+-- the addresses that a fence is of: all, or a range by its start and its size
+abbrev pub range_words : Option Range → List (List ℕ)
+range_words None = codes "full" ∷ []
+range_words (Some range) = hex16 range.start ∷ hex16 range.size ∷ []
+
+-- the address space that a fence is of, where it is of one
+abbrev pub asid_words : Option ℕ → List (List ℕ)
+asid_words None = []
+asid_words (Some asid) = codes "asid" ∷ hex_column 4 asid ∷ []
+
+-- what a fence drops: the fetched words, or translations
+abbrev pub flush_words : Flush → List (List ℕ)
+flush_words Words = codes "i" ∷ []
+flush_words (Entries fence) = codes "vma" ∷ (range_words fence.range ++ asid_words fence.asid)
+
+-- a fence that waits at a hart, and the hart that asked it
+unfoldable pub fence_cells : ℕ → Request Flush → List (List ℕ)
+fence_cells h request =
+    codes "#" ∷ codes "fence" ∷ right 3 (decimal h) ∷ codes "from" ∷ right 3 (decimal request.from) ∷ flush_words request.flush
+
+abbrev pub fence_line : ℕ → Request Flush → List ℕ
+fence_line h request = line_of (fence_cells h request)
+
+-- the lines that follow the rows for a hart: what is kept for it, the entries of its TLB, its fetched words, and the
+-- fences that wait at it
+abbrev pub details : Config → List Event → ℕ → List ℕ
+details c past h =
+    entry_line h (kept c past h)
+    ++ (flat_map (tlb_line h) (entries c past h)
+    ++ (flat_map (word_line h) (words c past h)
+    ++ flat_map (fence_line h) (waiting c past h)))
+
+-- The table of the board whose past this is: the time, the totals, the heads of the columns, a row for each hart, and
+-- then, hart by hart, what is kept for it, what its caches have, and the fences that wait at it.
+abbrev pub table : Config → List Event → List ℕ
+table c past =
+    line_of (time_cells past)
+    ++ (line_of (totals_cells (totals c past))
+    ++ (line_of head_cells
+    ++ (flat_map (row c past) (harts_of c)
+    ++ flat_map (details c past) (harts_of c))))

@@ -1,0 +1,196 @@
+ghost use Rattle.std.specs.Prelude.{◌≡◌, ◌+◌, ◌^◌, ◌<◌, ◌≤◌, ◌∷◌, ◌++◌, length, map, Ok};
+ghost use Rattle.std.specs.List.{join_with_byte};
+ghost use Rattle.monitor.specs.LineText.{arguments_room, arrow_room, call_room, decimal_room, hex_room, reply_room, step_room, with_words};
+ghost use Rattle.monitor.specs.Sinks.{Puts};
+ghost use Rattle.monitor.specs.Words.{bit_of, hex, hex_or_dash, actor_word, board_words, event_words, line_of, op_words, reply_words};
+
+use crate::line_text::LineText;
+use crate::sink::{Failed, Sink, write_all};
+use board_core::{Actor, Config, Event, Op, Refusal, Reply};
+
+/// Prints the board line.
+pub fn print_head<W: Sink>(config: &Config, sink: &mut W) -> Result<(), Failed>
+    requires { W.failures sink.old < 2 ^ 63 }
+    ensures { Puts W.written W.failures sink.old sink.new result (line_of (board_words config.now)) }
+{
+    let mut line = LineText::new();
+    line.word(b"board");
+    line.decimal(config.harts);
+    line.decimal(config.pages);
+    line.decimal(config.limit);
+    line.decimal(config.boot_hart);
+    line.hex(config.boot_addr);
+    line.hex(config.boot_opaque);
+    line.put(sink)
+}
+
+/// Prints the line of a step and of what it answered.
+pub fn print_line<W: Sink>(
+    actor: Actor,
+    op: Op,
+    answer: Result<Reply, Refusal>,
+    sink: &mut W,
+) -> Result<(), Failed>
+    requires { W.failures sink.old < 2 ^ 63 }
+    ensures { Puts W.written W.failures sink.old sink.new result
+        (line_of (event_words actor op answer)) }
+{
+    let mut line = LineText::new();
+    actor_onto(&mut line, actor);
+    op_onto(&mut line, op);
+    line.word(b"->");
+    reply_onto(&mut line, answer);
+    line.put(sink)
+}
+
+/// Prints the line of an accepted step.
+pub fn print_event<W: Sink>(event: &Event, sink: &mut W) -> Result<(), Failed>
+    requires { W.failures sink.old < 2 ^ 63 }
+    ensures { Puts W.written W.failures sink.old sink.new result
+        (line_of (event_words event.now.actor event.now.op (Ok event.now.reply))) }
+{
+    print_line(event.actor(), event.op(), Ok(event.reply()), sink)
+}
+
+/// Prints the words of a reply or a refusal alone, with no line feed.
+pub fn print_reply<W: Sink>(answer: Result<Reply, Refusal>, sink: &mut W) -> Result<(), Failed>
+    requires { W.failures sink.old < 2 ^ 63 }
+    ensures { Puts W.written W.failures sink.old sink.new result
+        (join_with_byte 32 (reply_words answer)) }
+{
+    let mut line = LineText::new();
+    reply_onto(&mut line, answer);
+    write_all(sink, line.as_bytes())
+}
+
+fn actor_onto(line: &mut LineText, actor: Actor)
+    requires { length line.old ≡ 0 }
+    ensures text { line.new ≡ line.old ++ 32 ∷ actor_word actor }
+    ensures len { length line.new ≤ decimal_room }
+{
+    match actor {
+        Actor::Hart(hart) => line.decimal(hart),
+        Actor::Clock => line.word(b"c"),
+    }
+}
+
+fn op_onto(line: &mut LineText, op: Op)
+    requires { length line.old ≤ decimal_room }
+    ensures text { line.new ≡ with_words line.old (op_words op) }
+    ensures len { length line.new ≤ step_room }
+{
+    match op {
+        Op::Ecall(regs) => {
+            line.word(b"ecall");
+            line.hex(regs.eid);
+            line.hex(regs.fid);
+            numbers_onto(line, &regs.a);
+        }
+        Op::Load(va) => number_onto(line, b"load", va),
+        Op::Store(va, value) => {
+            number_onto(line, b"store", va);
+            line.hex(value);
+        }
+        Op::Fetch(va) => number_onto(line, b"fetch", va),
+        Op::WriteSatp(value) => number_onto(line, b"satp", value),
+        Op::WriteSie(value) => number_onto(line, b"sie", value),
+        Op::WriteSstatusSie(value) => {
+            line.word(b"sstatus");
+            line.decimal(bit(value));
+        }
+        Op::ReadSip => line.word(b"sip"),
+        Op::ClearSsip => line.word(b"clearssip"),
+        Op::Sfence(va, asid) => {
+            line.word(b"sfence");
+            hex_or_dash_onto(line, va);
+            hex_or_dash_onto(line, asid);
+        }
+        Op::FenceI => line.word(b"fencei"),
+        Op::Wfi => line.word(b"wfi"),
+        Op::Poll => line.word(b"poll"),
+        Op::Serve => line.word(b"serve"),
+        Op::Advance => line.word(b"advance"),
+        Op::Tick(n) => number_onto(line, b"tick", n),
+    }
+}
+
+/// Appends an operation's name and its number.
+fn number_onto(line: &mut LineText, name: &[u8], n: u64)
+    requires name { length name.now ≤ 8 }
+    requires room { length line.old ≤ decimal_room }
+    ensures text { line.new ≡ (line.old ++ 32 ∷ name.now) ++ 32 ∷ hex n }
+    ensures len { length line.new ≤ length line.old + 9 + hex_room }
+{
+    line.word(name);
+    line.hex(n);
+}
+
+/// Appends a number, or a dash where it is absent.
+fn hex_or_dash_onto(line: &mut LineText, n: Option<u64>)
+    requires { length line.old ≤ call_room }
+    ensures text { line.new ≡ line.old ++ 32 ∷ hex_or_dash n }
+    ensures len { length line.new ≤ length line.old + hex_room }
+{
+    match n {
+        Some(n) => line.hex(n),
+        None => line.word(b"-"),
+    }
+}
+
+fn reply_onto(line: &mut LineText, answer: Result<Reply, Refusal>)
+    requires { length line.old ≤ arrow_room }
+    ensures text { line.new ≡ with_words line.old (reply_words answer) }
+    ensures len { length line.new ≤ length line.old + reply_room }
+    ensures some { 0 < length line.new }
+{
+    match answer {
+        Ok(Reply::Ret(answer)) => {
+            line.word(b"ret");
+            line.signed(answer.error);
+            line.hex(answer.value);
+        }
+        Ok(Reply::Waiting) => line.word(b"waiting"),
+        Ok(Reply::Gone) => line.word(b"gone"),
+        Ok(Reply::Entry { addr, hart, opaque }) => {
+            line.word(b"entry");
+            line.hex(addr);
+            line.decimal(hart);
+            line.hex(opaque);
+        }
+        Ok(Reply::Value(value)) => {
+            line.word(b"value");
+            line.hex(value);
+        }
+        Ok(Reply::Fault(cause)) => {
+            line.word(b"fault");
+            line.decimal(cause.number());
+        }
+        Ok(Reply::Served) => line.word(b"served"),
+        Ok(Reply::Moved(state)) => {
+            line.word(b"moved");
+            line.decimal(state.number());
+        }
+        Ok(Reply::Done) => line.word(b"done"),
+        Err(refusal) => {
+            line.word(b"refused");
+            line.decimal(refusal.number());
+        }
+    }
+}
+
+/// A bit: 1 for true.
+pub fn bit(value: bool) -> u64
+    ensures { result ≡ bit_of value }
+{
+    u64::from(value)
+}
+
+fn numbers_onto(line: &mut LineText, numbers: &[u64; 6])
+    requires { length line.old ≤ call_room }
+    ensures text { line.new ≡ with_words line.old (map hex numbers.now) }
+    ensures len { length line.new ≤ length line.old + arguments_room }
+{
+    for number in numbers {
+        line.hex(*number);
+    }
+}

@@ -1,0 +1,406 @@
+ghost use Rattle.std.specs.Prelude.{◌≡◌, ◌+◌, ◌*◌, ◌^◌, ◌<◌, ◌≤◌, [], ◌∷◌, ◌++◌, length};
+ghost use Rattle.std.specs.List.{flat_map};
+ghost use Rattle.board_core.specs.Course.{harts_of};
+ghost use Rattle.board_core.specs.Fences.{waiting};
+ghost use Rattle.monitor.specs.LineText.{decimal_room, fence_room, flush_room, hex_column_room, hex_column_work, line_room, power_room, reset_room, with_words};
+ghost use Rattle.monitor.specs.Sinks.{Puts};
+ghost use Rattle.monitor.specs.Table.{asid_words, deadline_cell, details, entries, entry_cells, entry_line, fence_cells, fence_line, flush_words, hart_cells, head_cells, letter, outstanding_cell, power_word, range_words, reset_words, rights, row, state_name, table, time_cells, tlb_cells, tlb_line, totals_cells, word_cells, word_line, words};
+ghost use Rattle.monitor.specs.Words.{line_of};
+
+use crate::line_text::LineText;
+use crate::lines::bit;
+use crate::sink::{Failed, Sink};
+use board_core::{Board, Entry, FetchWord, HartState, Kept, Reset, Totals};
+use fence_queue::Request;
+use hart_mask::HartSet;
+use tlb_model::{Flush, Range};
+
+/// Prints the board's table, of lines that are comments in a script.
+pub fn print<W: Sink>(board: &Board, sink: &mut W) -> Result<(), Failed>
+    requires { W.failures sink.old < 2 ^ 63 }
+    ensures { Puts W.written W.failures sink.old sink.new result
+        (table board.now.config board.now.past) }
+{
+    time_line(board).put(sink)?;
+    totals_line(&board.totals()).put(sink)?;
+    columns_line().put(sink)?;
+    print_rows(board, sink)?;
+    print_details(board, sink)
+}
+
+fn print_rows<W: Sink>(board: &Board, sink: &mut W) -> Result<(), Failed>
+    requires { W.failures sink.old < 2 ^ 63 }
+    ensures { Puts W.written W.failures sink.old sink.new result
+        (flat_map (row board.now.config board.now.past) (harts_of board.now.config)) }
+{
+    for h in 0..board.config().harts {
+        hart_line(board, h).put(sink)?;
+    }
+    Ok(())
+}
+
+fn print_details<W: Sink>(board: &Board, sink: &mut W) -> Result<(), Failed>
+    requires { W.failures sink.old < 2 ^ 63 }
+    ensures { Puts W.written W.failures sink.old sink.new result
+        (flat_map (details board.now.config board.now.past) (harts_of board.now.config)) }
+{
+    for h in 0..board.config().harts {
+        print_hart(board, h, sink)?;
+    }
+    Ok(())
+}
+
+/// Prints the lines that follow the rows for hart `h`.
+fn print_hart<W: Sink>(board: &Board, h: u64, sink: &mut W) -> Result<(), Failed>
+    requires failures { W.failures sink.old < 2 ^ 63 }
+    requires is_hart { h < board.now.config.harts }
+    ensures { Puts W.written W.failures sink.old sink.new result (details board.now.config board.now.past h) }
+{
+    print_entry(h, board.kept(h), sink)?;
+    print_tlb(board, h, sink)?;
+    print_fetched(board, h, sink)?;
+    print_fences(board, h, sink)
+}
+
+fn print_tlb<W: Sink>(board: &Board, h: u64, sink: &mut W) -> Result<(), Failed>
+    requires failures { W.failures sink.old < 2 ^ 63 }
+    requires is_hart { h < board.now.config.harts }
+    ensures { Puts W.written W.failures sink.old sink.new result
+        (flat_map (tlb_line h) (entries board.now.config board.now.past h)) }
+{
+    let fills = board.tlb(h);
+    for fill in fills {
+        tlb_line(h, &fill.item).put(sink)?;
+    }
+    Ok(())
+}
+
+fn print_fetched<W: Sink>(board: &Board, h: u64, sink: &mut W) -> Result<(), Failed>
+    requires failures { W.failures sink.old < 2 ^ 63 }
+    requires is_hart { h < board.now.config.harts }
+    ensures { Puts W.written W.failures sink.old sink.new result
+        (flat_map (word_line h) (words board.now.config board.now.past h)) }
+{
+    let fills = board.fetched(h);
+    for fill in fills {
+        word_line(h, &fill.item).put(sink)?;
+    }
+    Ok(())
+}
+
+fn print_fences<W: Sink>(board: &Board, h: u64, sink: &mut W) -> Result<(), Failed>
+    requires failures { W.failures sink.old < 2 ^ 63 }
+    requires is_hart { h < board.now.config.harts }
+    ensures { Puts W.written W.failures sink.old sink.new result
+        (flat_map (fence_line h) (waiting board.now.config board.now.past h)) }
+{
+    for request in board.waiting(h) {
+        fence_line(h, &request).put(sink)?;
+    }
+    Ok(())
+}
+
+fn print_entry<W: Sink>(h: u64, kept: Option<Kept>, sink: &mut W) -> Result<(), Failed>
+    requires { W.failures sink.old < 2 ^ 63 }
+    ensures { Puts W.written W.failures sink.old sink.new result (entry_line h kept) }
+{
+    match kept {
+        Some(start) => entry_line(h, &start).put(sink),
+        None => Ok(()),
+    }
+}
+
+#[tactic(auto, unfolding(crate::specs::Table::time_cells))]
+fn time_line(board: &Board) -> LineText
+    ensures text { result ≡ with_words [] (time_cells board.now.past) }
+    ensures some { 0 < length result }
+    ensures room { length result < line_room }
+{
+    let mut line = LineText::new();
+    line.word(b"#");
+    line.word(b"time");
+    line.hex_column(16, board.time());
+    line.word(b"events");
+    line.right_decimal(7, board.history().len() as u64);
+    line.word(b"power");
+    line.word(power(board.is_off()));
+    line.word(b"reset");
+    reset_onto(&mut line, board.last_reset());
+    line
+}
+
+fn power(is_off: bool) -> &'static [u8]
+    ensures name { result.now ≡ power_word is_off }
+    ensures len { length result.now ≤ 3 }
+{
+    if is_off { b"off" } else { b"on" }
+}
+
+/// Appends the type and the reason of the last reset.
+fn reset_onto(line: &mut LineText, last: Option<Reset>)
+    requires { length line.old ≤ power_room }
+    ensures text { line.new ≡ with_words line.old (reset_words last) }
+    ensures len { length line.new ≤ length line.old + reset_room }
+    ensures some { 0 < length line.new }
+{
+    match last {
+        None => line.word(b"none"),
+        Some(reset) => {
+            line.hex_column(8, u64::from(reset.kind.number()));
+            line.hex_column(8, u64::from(reset.reason));
+        }
+    }
+}
+
+#[tactic(auto, unfolding(crate::specs::Table::totals_cells))]
+fn totals_line(totals: &Totals) -> LineText
+    ensures text { result ≡ with_words [] (totals_cells totals.now) }
+    ensures some { 0 < length result }
+    ensures room { length result < line_room }
+{
+    let mut line = LineText::new();
+    line.word(b"#");
+    line.word(b"starts");
+    line.decimal(totals.starts);
+    line.word(b"entries");
+    line.decimal(totals.entries);
+    line.word(b"pending");
+    line.decimal(totals.pending);
+    line.word(b"asked");
+    line.decimal(totals.asked);
+    line.word(b"applied");
+    line.decimal(totals.applied);
+    line.word(b"waiting");
+    line.decimal(totals.waiting);
+    line
+}
+
+#[tactic(auto, unfolding(crate::specs::Table::head_cells))]
+fn columns_line() -> LineText
+    ensures text { result ≡ with_words [] (head_cells) }
+    ensures some { 0 < length result }
+    ensures room { length result < line_room }
+{
+    let mut line = LineText::new();
+    line.word(b"#");
+    line.word(b"hart");
+    line.left(15, b"state");
+    line.word(b"wait");
+    line.word(b"out");
+    line.word(b"ss");
+    line.word(b"st");
+    line.word(b"ie");
+    line.word(b"se");
+    line.left(16, b"satp");
+    line.left(16, b"deadline");
+    line.word(b"tlb");
+    line.word(b"ic");
+    line
+}
+
+#[tactic(auto, unfolding(crate::specs::Table::hart_cells))]
+fn hart_line(board: &Board, h: u64) -> LineText
+    requires { h < board.now.config.harts }
+    ensures text { result ≡ with_words [] (hart_cells board.now.config board.now.past h) }
+    ensures some { 0 < length result }
+    ensures room { length result < line_room }
+{
+    let mut line = LineText::new();
+    line.word(b"#");
+    line.right_decimal(4, h);
+    line.left(15, name(board.state(h)));
+    line.right_decimal(4, board.waiting_len(h));
+    outstanding_onto(&mut line, board.outstanding(h));
+    line.right_decimal(2, bit(board.ssip(h)));
+    line.right_decimal(2, bit(board.stip(h)));
+    line.hex_column(2, board.sie(h).bits());
+    line.right_decimal(2, bit(board.sstatus_sie(h)));
+    line.hex_column(16, board.satp(h));
+    deadline_onto(&mut line, board.deadline(h));
+    line.right_decimal(3, entry_count(board, h));
+    line.right_decimal(2, word_count(board, h));
+    line
+}
+
+fn entry_count(board: &Board, h: u64) -> u64
+    requires { h < board.now.config.harts }
+    ensures { result ≡ length (entries board.now.config board.now.past h) }
+{
+    board.tlb(h).len() as u64
+}
+
+fn word_count(board: &Board, h: u64) -> u64
+    requires { h < board.now.config.harts }
+    ensures { result ≡ length (words board.now.config board.now.past h) }
+{
+    board.fetched(h).len() as u64
+}
+
+fn outstanding_onto(line: &mut LineText, harts: Option<HartSet>)
+    requires { length line.old + decimal_room ≤ line_room }
+    ensures text { line.new ≡ line.old ++ 32 ∷ outstanding_cell harts }
+    ensures len { length line.new ≤ length line.old + decimal_room }
+{
+    match harts {
+        Some(harts) => line.right_decimal(3, harts.len()),
+        None => line.right(3, b"-"),
+    }
+}
+
+fn deadline_onto(line: &mut LineText, deadline: Option<u64>)
+    requires { length line.old + hex_column_work ≤ line_room }
+    ensures text { line.new ≡ line.old ++ 32 ∷ deadline_cell deadline }
+    ensures len { length line.new ≤ length line.old + hex_column_room }
+{
+    match deadline {
+        Some(deadline) => line.hex_column(16, deadline),
+        None => line.word(&[b'-'; 16]),
+    }
+}
+
+#[tactic(auto, unfolding(crate::specs::Table::entry_cells))]
+fn entry_line(h: u64, start: &Kept) -> LineText
+    ensures text { result ≡ with_words [] (entry_cells h start.now) }
+    ensures some { 0 < length result }
+    ensures room { length result < line_room }
+{
+    let mut line = LineText::new();
+    line.word(b"#");
+    line.word(b"entry");
+    line.right_decimal(3, h);
+    line.hex_column(16, start.addr);
+    line.hex_column(16, start.opaque);
+    line
+}
+
+#[tactic(auto, unfolding(crate::specs::Table::tlb_cells))]
+fn tlb_line(h: u64, entry: &Entry) -> LineText
+    ensures text { result ≡ with_words [] (tlb_cells h entry.now) }
+    ensures some { 0 < length result }
+    ensures room { length result < line_room }
+{
+    let leaf = &entry.leaf;
+    let mut line = LineText::new();
+    line.word(b"#");
+    line.word(b"tlb");
+    line.right_decimal(3, h);
+    line.hex_column(16, leaf.page);
+    line.decimal(leaf.level.number());
+    line.hex_column(4, u64::from(entry.asid));
+    line.word(&[letter(leaf.global, b'g')]);
+    line.hex_column(16, leaf.pa);
+    line.word(&rights(entry));
+    line
+}
+
+/// The rights of an entry's page, a letter each.
+fn rights(entry: &Entry) -> [u8; 4]
+    ensures { result ≡ rights entry.now }
+{
+    let leaf = &entry.leaf;
+    [
+        letter(leaf.r, b'r'),
+        letter(leaf.w, b'w'),
+        letter(leaf.x, b'x'),
+        letter(leaf.d, b'd'),
+    ]
+}
+
+/// A letter, or a dash where what it stands for is absent.
+fn letter(present: bool, byte: u8) -> u8
+    ensures { result ≡ letter present byte }
+{
+    if present { byte } else { b'-' }
+}
+
+#[tactic(auto, unfolding(crate::specs::Table::word_cells))]
+fn word_line(h: u64, fetched: &FetchWord) -> LineText
+    ensures text { result ≡ with_words [] (word_cells h fetched.now) }
+    ensures some { 0 < length result }
+    ensures room { length result < line_room }
+{
+    let mut line = LineText::new();
+    line.word(b"#");
+    line.word(b"ic");
+    line.right_decimal(3, h);
+    line.hex_column(16, fetched.pa);
+    line.hex_column(16, fetched.word);
+    line
+}
+
+#[tactic(auto, unfolding(crate::specs::Table::fence_cells))]
+fn fence_line(h: u64, request: &Request<Flush>) -> LineText
+    ensures text { result ≡ with_words [] (fence_cells h request.now) }
+    ensures some { 0 < length result }
+    ensures room { length result < line_room }
+{
+    let mut line = LineText::new();
+    line.word(b"#");
+    line.word(b"fence");
+    line.right_decimal(3, h);
+    line.word(b"from");
+    line.right_decimal(3, request.from);
+    flush_onto(&mut line, request.flush);
+    line
+}
+
+/// Appends what a fence drops.
+fn flush_onto(line: &mut LineText, flush: Flush)
+    requires { length line.old ≤ fence_room }
+    ensures text { line.new ≡ with_words line.old (flush_words flush) }
+    ensures len { length line.new ≤ length line.old + flush_room }
+    ensures some { 0 < length line.new }
+{
+    match flush {
+        Flush::Words => line.word(b"i"),
+        Flush::Entries(fence) => {
+            line.word(b"vma");
+            range_onto(line, fence.range);
+            asid_onto(line, fence.asid);
+        }
+    }
+}
+
+/// Appends the addresses that a fence is of.
+fn range_onto(line: &mut LineText, range: Option<Range>)
+    requires { length line.old ≤ fence_room + 4 }
+    ensures text { line.new ≡ with_words line.old (range_words range) }
+    ensures len { length line.new ≤ length line.old + 2 * hex_column_room }
+    ensures some { 0 < length line.new }
+{
+    match range {
+        None => line.word(b"full"),
+        Some(range) => {
+            line.hex_column(16, range.start);
+            line.hex_column(16, range.size);
+        }
+    }
+}
+
+/// Appends the address space that a fence is of, where it is of one.
+fn asid_onto(line: &mut LineText, asid: Option<u16>)
+    requires { length line.old ≤ fence_room + 4 + 2 * hex_column_room }
+    ensures text { line.new ≡ with_words line.old (asid_words asid) }
+    ensures len { length line.new ≤ length line.old + 5 + hex_column_room }
+    ensures some { length line.old ≤ length line.new }
+{
+    if let Some(asid) = asid {
+        line.word(b"asid");
+        line.hex_column(4, u64::from(asid));
+    }
+}
+
+fn name(state: HartState) -> &'static [u8]
+    ensures name { result.now ≡ state_name state }
+    ensures len { length result.now ≤ 15 }
+{
+    match state {
+        HartState::Started => b"STARTED",
+        HartState::Stopped => b"STOPPED",
+        HartState::StartPending => b"START_PENDING",
+        HartState::StopPending => b"STOP_PENDING",
+        HartState::Suspended => b"SUSPENDED",
+        HartState::SuspendPending => b"SUSPEND_PENDING",
+        HartState::ResumePending => b"RESUME_PENDING",
+    }
+}

@@ -1,9 +1,0 @@
-use Rattle.sbiboard.specs.Words.{actor_word, event_words, op_words, reply_words}
-use Rattle.sbiboard.proofs.Lines.{step-words}
-use Rattle.sbiboard.proofs.monitor.lines.print_line.Goals as goal
-
-pub returns : goal.returns
-returns g c =
-    c.put.ensures.puts (event_words c.args.actor c.args.op c.args.answer)
-    (step-words (actor_word c.args.actor) _ (op_words c.args.op) (reply_words c.args.answer) _ _ _ _ _
-    c.new-line.ensures c.actor_onto.ensures.text c.op_onto.ensures.text c.word.ensures.text c.reply_onto.ensures.text)

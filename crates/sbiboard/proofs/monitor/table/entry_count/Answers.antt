@@ -1,8 +1,0 @@
-use Rattle.tlb_model.specs.Acts.{live}
-use Rattle.tlb_model.specs.Entries.{covers_entry}
-use Rattle.board_core.specs.Memory.{tlb_acts}
-use Rattle.sbiboard.proofs.Caches.{count_kept}
-use Rattle.sbiboard.proofs.monitor.table.entry_count.Goals as goal
-
-pub returns : goal.returns
-returns c = count_kept _ (live covers_entry (tlb_acts c.args.board.now.config c.args.board.now.past c.args.h)) c.tlb.ensures
