@@ -9,9 +9,12 @@ use Rattle.board_core.specs.Refusals.{first_that_holds}
 use Rattle.guest_script.specs.declared.fault.Fault.{Fault}
 use Rattle.guest_script.specs.declared.fault.Fault.TheVariants.{NoMemory}
 use Rattle.guest_script.specs.declared.fault.ScriptFault.{ScriptFault}
-use Rattle.guest_script.specs.declared.schedule.Script.{Script}
-use Rattle.guest_script.specs.Grammar.{Form, form_of, last_number, Reads, schedule, Schedule}
-use Rattle.guest_script.specs.FirstFault.{at_line, board_tests, byte_test, first_fault, form_tests, is_filled, no_memory, argument_tests, op_tests, schedule_tests, script_tests, step_tests, steps_tests, words_in}
+use Rattle.guest_script.specs.declared.script.Script.{Script}
+use Rattle.guest_script.specs.Words.{last_number}
+use Rattle.guest_script.specs.Forms.{Form, form_of}
+use Rattle.guest_script.specs.Grammar.{Reads, Schedule, schedule}
+use Rattle.guest_script.specs.Values.{is_filled, words_in}
+use Rattle.guest_script.specs.FirstFault.{argument_tests, at_line, board_tests, byte_test, first_fault, form_tests, no_memory, op_tests, schedule_tests, script_tests, step_tests, steps_tests}
 use Rattle.guest_script.specs.Reading.{script_of}
 use Rattle.guest_script.proofs.ScriptLines.{first_fault_answered, read_what_it_reads, reads_what_is_read}
 

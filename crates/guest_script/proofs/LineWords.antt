@@ -15,10 +15,13 @@ use Rattle.board_core.specs.declared.event.Op.{Op}
 use Rattle.board_core.specs.Refusals.{first_that_holds}
 use Rattle.guest_script.specs.declared.fault.Fault.{Fault}
 use Rattle.guest_script.specs.declared.fault.Fault.TheVariants.{NoBoardLine}
-use Rattle.guest_script.specs.declared.schedule.Line.{Line}
-use Rattle.guest_script.specs.Grammar.{AreArguments, AreNumbers, Form, form_of, IsActor, IsArgument, IsBoard, IsNumber, IsOp, IsStep, last_hart, last_number, number_at, numbers_of, Spells}
-use Rattle.guest_script.specs.FirstFault.{actor_test, begins_actor_line, board_tests, form_tests, has_arrow, is_clock, is_number, argument_tests, arguments_tests, op_tests, step_tests}
-use Rattle.guest_script.specs.Reading.{actor_in, board_in, config_of, limit_from, line_in, or_fault, tested, arguments_in, op_from, op_in, step_in}
+use Rattle.guest_script.specs.declared.script.Line.{Line}
+use Rattle.guest_script.specs.Words.{AreNumbers, IsNumber, Spells, last_hart, last_number}
+use Rattle.guest_script.specs.Forms.{AreArguments, Form, IsArgument, form_of, number_at}
+use Rattle.guest_script.specs.Grammar.{IsActor, IsBoard, IsOp, IsStep, numbers_of}
+use Rattle.guest_script.specs.Values.{actor_in, arguments_in, begins_actor_line, board_in, config_of, has_arrow, is_clock, is_number, line_in, op_in}
+use Rattle.guest_script.specs.FirstFault.{actor_test, argument_tests, arguments_tests, board_tests, form_tests, op_tests, step_tests}
+use Rattle.guest_script.specs.Reading.{limit_from, op_from, or_fault, step_in, tested}
 use Rattle.guest_script.proofs.ArgumentsIn.{first_argument_fault, length-arguments_in}
 use Rattle.guest_script.proofs.Spelling.{arguments_as_numbers, arguments_spelled, number_spelled, numbers_as_arguments, spelled_number, spelled_arguments}
 

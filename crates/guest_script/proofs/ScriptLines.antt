@@ -5,11 +5,13 @@ use Rattle.std.specs.Str.Lines.{lines}
 use Rattle.std.proofs.lemmas.Bool.{le-ltb, ltb-false, not-false, not_from_true}
 use Rattle.guest_script.specs.declared.fault.Fault.{Fault}
 use Rattle.guest_script.specs.declared.fault.ScriptFault.{ScriptFault}
-use Rattle.guest_script.specs.declared.schedule.Line.{Line}
-use Rattle.guest_script.specs.Grammar.{AreSchedule, AreSteps, IsBoard, IsLine, IsStepOrNone, Reads, Schedule}
-use Rattle.guest_script.specs.FirstFault.{at_line, board_tests, byte_test, first_fault, is_filled, schedule_tests, step_tests, steps_tests, words_in}
+use Rattle.guest_script.specs.declared.script.Line.{Line}
+use Rattle.guest_script.specs.Words.{IsLine}
+use Rattle.guest_script.specs.Grammar.{AreSchedule, AreSteps, IsBoard, IsStepOrNone, Reads, Schedule}
+use Rattle.guest_script.specs.Values.{board_in, is_filled, words_in}
+use Rattle.guest_script.specs.FirstFault.{at_line, board_tests, byte_test, first_fault, schedule_tests, step_tests, steps_tests}
+use Rattle.guest_script.specs.Reading.{or_fault, schedule_in, schedule_of, script_of, step_in, steps_in}
 use Rattle.guest_script.specs.ScriptLaws.{HasOneReading}
-use Rattle.guest_script.specs.Reading.{board_in, or_fault, schedule_in, schedule_of, script_of, step_in, steps_in}
 use Rattle.guest_script.proofs.LineWords.{board_passes, board_tested, none_cons, none_first, NoneHolds, step_passes, step_tested}
 use Rattle.guest_script.proofs.Spacing.{line_allowed, line_has_words, line_words}
 use Rattle.guest_script.proofs.StepsFrom.{first_at_line}

@@ -7,9 +7,10 @@ use Rattle.std.specs.Str.Parse.{AllDigits, IsNumeral, digits_value}
 use Rattle.std.proofs.lemmas.Bool.{cases_Bool, and_parts, and_from, and_right, ltb-true, lt-ltb, leb-true, le-leb, eqb-true}
 use Rattle.std.proofs.lemmas.Slice.Eq.{bytes_eq-Decides}
 use Rattle.std.proofs.lemmas.List.{take-append-drop}
-use Rattle.guest_script.specs.Grammar.{AreArguments, AreNumbers, IsArgument, IsNumber, Spells}
-use Rattle.guest_script.specs.FirstFault.{is_argument, is_dash, is_filled, is_hexadecimal, is_numeral, is_number}
-use Rattle.guest_script.specs.Reading.{number_in, arguments_in, word_value}
+use Rattle.guest_script.specs.Words.{AreNumbers, IsNumber, Spells}
+use Rattle.guest_script.specs.Forms.{AreArguments, IsArgument}
+use Rattle.guest_script.specs.Values.{arguments_in, is_filled, is_hexadecimal, is_number, is_numeral, number_in, word_value}
+use Rattle.guest_script.specs.FirstFault.{is_argument, is_dash}
 
 -- ---- digits
 

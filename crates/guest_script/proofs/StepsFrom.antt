@@ -11,10 +11,11 @@ use Rattle.board_core.specs.Refusals.{first_that_holds}
 use Rattle.guest_script.specs.declared.fault.Fault.{Fault}
 use Rattle.guest_script.specs.declared.fault.Fault.TheVariants.{NoBoardLine, TooLong}
 use Rattle.guest_script.specs.declared.fault.ScriptFault.{ScriptFault}
-use Rattle.guest_script.specs.declared.schedule.Line.{Line}
+use Rattle.guest_script.specs.declared.script.Line.{Line}
 use Rattle.guest_script.specs.Grammar.{most_bytes}
-use Rattle.guest_script.specs.FirstFault.{at_line, board_tests, byte_test, is_filled, schedule_tests, step_tests, steps_tests, words_in}
-use Rattle.guest_script.specs.Reading.{board_in, located, or_fault, schedule_from, schedule_in, script_of, step_in, steps_from, steps_in, tested, with_config, with_front}
+use Rattle.guest_script.specs.Values.{board_in, is_filled, words_in}
+use Rattle.guest_script.specs.FirstFault.{at_line, board_tests, byte_test, schedule_tests, step_tests, steps_tests}
+use Rattle.guest_script.specs.Reading.{located, or_fault, schedule_from, schedule_in, script_of, step_in, steps_from, steps_in, tested, with_config, with_front}
 
 -- ---- tests one after another
 

@@ -1,5 +1,11 @@
+pub mod Agreeing
+pub mod Drafts
 pub mod FirstFault
+pub mod Forms
 pub mod Grammar
+pub mod OpenBlocks
 pub mod Reading
 pub mod Scanning
 pub mod ScriptLaws
+pub mod Values
+pub mod Words

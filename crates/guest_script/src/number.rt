@@ -1,6 +1,10 @@
-ghost use Rattle.std.specs.Prelude.{◌≡◌, ◌≤◌};
-ghost use Rattle.guest_script.specs.Reading.{number_in};
+ghost use Rattle.std.specs.Prelude.{◌≡◌, ◌≤◌, neg_ℤ, pos};
+ghost use Rattle.guest_script.specs.Words.{last_below};
+ghost use Rattle.guest_script.specs.Values.{number_in, signed_in};
 ghost use Rattle.guest_script.specs.Scanning.{digit_after, numeral_of, spelled_of};
+
+/// How far a signed number may be below 0.
+const LAST_BELOW: u64 = 1 << 63;
 
 /// The number that a word spells, if it is at most `limit`.
 #[tactic(auto, using(crate::proofs::Numerals::of_spelled))]
@@ -22,6 +26,30 @@ fn spelled(word: &[u8]) -> Option<u64>
         Some(digits) => numeral(digits, 16),
         None => numeral(word, 10),
     }
+}
+
+/// The signed number that a word spells, if there is one.
+pub fn signed_number(word: &[u8]) -> Option<i64>
+    ensures { result ≡ signed_in word.now }
+{
+    match word.strip_prefix(b"-") {
+        Some(digits) => match numeral(digits, 10) {
+            Some(n) if n <= LAST_BELOW => Some(below_zero(n)),
+            _ => None,
+        },
+        None => match numeral(word, 10) {
+            Some(n) if n < LAST_BELOW => Some(n as i64),
+            _ => None,
+        },
+    }
+}
+
+/// The number below 0 by so much.
+fn below_zero(n: u64) -> i64
+    requires { n ≤ last_below }
+    ensures { result ≡ neg_ℤ (pos n) }
+{
+    if n == 0 { 0 } else { -1 - (n - 1) as i64 }
 }
 
 /// The number that the digits spell, of which there is at least one.

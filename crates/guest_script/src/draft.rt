@@ -1,0 +1,182 @@
+ghost use Rattle.std.specs.Prelude.{◌≡◌, ◌∷◌, true, IfOk};
+ghost use Rattle.guest_script.specs.Drafts.{draft_of};
+ghost use Rattle.guest_script.specs.FirstFault.{head_tests, kind_tests, line_tests, may_follow};
+ghost use Rattle.guest_script.specs.Grammar.{content, content_of};
+ghost use Rattle.guest_script.specs.Reading.{GivesOrLacks, GivesOrWants, line_from, tested};
+ghost use Rattle.guest_script.specs.Values.{next_in, next_of, words_in, with_step};
+
+use crate::blocks::BlocksDraft;
+use crate::fault::{Fault, NO_MEMORY, ScriptFault};
+use crate::kind::Kind;
+use crate::lines::Lines;
+use crate::script::{Body, Line};
+use crate::step::{one_number, step_line};
+use crate::text::is_clean;
+use crate::words::next_word;
+use std::alloc::{AllocError, Global};
+
+/// What the lines so far say.
+#[derive(Drop)]
+pub enum BodyDraft {
+    /// Nothing: there was no line with words.
+    Nothing,
+    /// Blocks of a program.
+    Blocks(BlocksDraft),
+    /// Steps of a schedule.
+    Steps(Lines),
+    /// Steps of a trace.
+    Trace(Lines),
+}
+
+impl BodyDraft {
+    /// Reads line `n`.
+    pub fn read_line(&mut self, alloc: Global, n: u64, text: &[u8]) -> Result<(), ScriptFault>
+        ensures { GivesOrLacks (λ _. draft_of self.new) result (line_from n (draft_of self.old) text.now) }
+    {
+        match self.line(alloc, n, text) {
+            Ok(()) => Ok(()),
+            Err(Fault::NoMemory) => Err(NO_MEMORY),
+            Err(fault) => Err(ScriptFault { line: n, fault }),
+        }
+    }
+
+    fn line(&mut self, alloc: Global, n: u64, text: &[u8]) -> Result<(), Fault>
+        ensures { GivesOrWants (λ _. draft_of self.new) result
+            (tested (byte_test text.now ∷ line_tests (draft_of self.old) (words_in text.now)) (next_in n (draft_of self.old) (words_in text.now))) }
+    {
+        if !is_clean(text) {
+            return Err(Fault::BadByte);
+        }
+        match next_word(text) {
+            None => Ok(()),
+            Some((first, rest)) => self.words(alloc, n, first, rest),
+        }
+    }
+
+    /// Reads the words of line `n`.
+    fn words(&mut self, alloc: Global, n: u64, first: &[u8], rest: &[u8]) -> Result<(), Fault>
+        ensures { GivesOrWants (λ _. draft_of self.new) result
+            (tested (line_tests (draft_of self.old) (first.now ∷ words_in rest.now)) (next_in n (draft_of self.old) (first.now ∷ words_in rest.now))) }
+    {
+        let kind = Kind::of(first, rest);
+        if !self.may_follow(kind) {
+            return Err(Fault::OtherKind);
+        }
+        match kind {
+            Kind::Head => self.head(alloc, first, rest),
+            Kind::Step { in_trace } => {
+                let line = step_line(n, in_trace, first, rest)?;
+                self.step(alloc, in_trace, &line)?;
+                Ok(())
+            }
+            Kind::Operation => self.operation(first, rest),
+        }
+    }
+
+    /// Whether a line of this kind may follow.
+    fn may_follow(&self, kind: Kind) -> bool
+        ensures { result ≡ may_follow (draft_of self.now) kind }
+    {
+        match self {
+            BodyDraft::Nothing => !matches!(kind, Kind::Operation),
+            BodyDraft::Blocks(_) => !matches!(kind, Kind::Step { .. }),
+            BodyDraft::Steps(_) => matches!(kind, Kind::Step { in_trace: false }),
+            BodyDraft::Trace(_) => matches!(kind, Kind::Step { in_trace: true }),
+        }
+    }
+
+    /// Reads a block's head.
+    fn head(&mut self, alloc: Global, first: &[u8], rest: &[u8]) -> Result<(), Fault>
+        requires { may_follow (draft_of self.old) Head ≡ true }
+        ensures { GivesOrWants (λ _. draft_of self.new) result
+            (tested (kind_tests Head (draft_of self.old) first.now (words_in rest.now)) (next_of Head 0 (draft_of self.old) first.now (words_in rest.now))) }
+    {
+        if first == b"at".as_slice() {
+            let addr = one_number(rest)?;
+            self.open_guest(alloc, addr)
+        } else if next_word(rest).is_some() {
+            Err(Fault::WordCount)
+        } else {
+            self.open_clock(alloc)
+        }
+    }
+
+    fn open_guest(&mut self, alloc: Global, addr: u64) -> Result<(), Fault>
+        requires { may_follow (draft_of self.old) Head ≡ true }
+        ensures { MatchResult result
+            (λ _. (has_block (guests_in (draft_of self.old)) addr ≡ false)
+                × (draft_of self.new ≡ Blocked (opened (guests_in (draft_of self.old)) (clock_in (draft_of self.old)) (guest_at addr))))
+            (λ fault. (fault ≡ NoMemory) ⊎ ((fault ≡ SecondBlock) × (has_block (guests_in (draft_of self.old)) addr ≡ true))) }
+    {
+        match self {
+            BodyDraft::Blocks(blocks) => blocks.open_guest(alloc, addr),
+            _ => {
+                *self = BodyDraft::Blocks(BlocksDraft::of_guest(alloc, addr)?);
+                Ok(())
+            }
+        }
+    }
+
+    fn open_clock(&mut self, alloc: Global) -> Result<(), Fault>
+        requires { may_follow (draft_of self.old) Head ≡ true }
+        ensures { MatchResult result
+            (λ _. (clock_in (draft_of self.old) ≡ None) × (draft_of self.new ≡ Blocked (opened (guests_in (draft_of self.old)) None (OfClock []))))
+            (λ fault. (fault ≡ NoMemory) ⊎ ((fault ≡ SecondBlock) × (is_some (clock_in (draft_of self.old)) ≡ true))) }
+    {
+        match self {
+            BodyDraft::Blocks(blocks) => blocks.open_clock(alloc),
+            _ => {
+                *self = BodyDraft::Blocks(BlocksDraft::of_clock(alloc));
+                Ok(())
+            }
+        }
+    }
+
+    /// A step more.
+    fn step(&mut self, alloc: Global, in_trace: bool, line: &Line) -> Result<(), AllocError>
+        requires { may_follow (draft_of self.old) (Step in_trace) ≡ true }
+        ensures { OnOk result (draft_of self.new ≡ with_step in_trace (draft_of self.old) line.now) }
+    {
+        match self {
+            BodyDraft::Steps(lines) | BodyDraft::Trace(lines) => lines.push(line),
+            _ => {
+                let mut lines = Lines::new(alloc);
+                lines.push(line)?;
+                *self = if in_trace {
+                    BodyDraft::Trace(lines)
+                } else {
+                    BodyDraft::Steps(lines)
+                };
+                Ok(())
+            }
+        }
+    }
+
+    /// Reads an operation of the open block.
+    fn operation(&mut self, first: &[u8], rest: &[u8]) -> Result<(), Fault>
+        requires { may_follow (draft_of self.old) Operation ≡ true }
+        ensures { GivesOrWants (λ _. draft_of self.new) result
+            (tested (kind_tests Operation (draft_of self.old) first.now (words_in rest.now)) (next_of Operation 0 (draft_of self.old) first.now (words_in rest.now))) }
+    {
+        match self {
+            BodyDraft::Blocks(blocks) => blocks.line(first, rest),
+            _ => Err(Fault::OtherKind),
+        }
+    }
+
+    /// All that the lines say.
+    ///
+    /// # Errors
+    ///
+    /// Memory was refused.
+    pub fn body(self, alloc: Global) -> Result<Body, AllocError>
+        ensures { IfOk result (λ body. content body ≡ content_of (draft_of self)) }
+    {
+        match self {
+            BodyDraft::Nothing => Ok(Body::Empty),
+            BodyDraft::Blocks(blocks) => blocks.body(alloc),
+            BodyDraft::Steps(lines) => Ok(Body::Schedule(lines)),
+            BodyDraft::Trace(lines) => Ok(Body::Trace(lines)),
+        }
+    }
+}
