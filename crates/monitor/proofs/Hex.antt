@@ -56,6 +56,9 @@ length-hex-step n large fits = ap length (hex-step n large fits) ∙ length-appe
 pub hex_small : (n : ℕ) → n < 16 → digits 16 false n ≡ digit_glyph false n ∷ []
 hex_small n small = hex_one_digit false n small
 
+pub hex_two : (n : ℕ) → 16 ≤ n → n < 256 → digits 16 false n ≡ digit_glyph false (n / 16) ∷ digit_glyph false (n % 16) ∷ []
+hex_two n large small = rw (hex-step n large (omega arith), hex_small (n / 16) (omega arith)) refl
+
 pub length-hex-one : (n : ℕ) → n < 16 → length (digits 16 false n) ≡ 1
 length-hex-one n small = ap length (hex_one_digit false n small)
 

@@ -1,7 +1,8 @@
+pub mod Arguments
 pub mod Caches
 pub mod Decimal
+pub mod DigitPairs
 pub mod Hex
-pub mod HexPairs
 pub mod Known
 pub mod PrintedLines
 pub mod WorkedTables

@@ -13,6 +13,10 @@ const CAPACITY: usize = 256;
 
 static HEX_DIGITS: [u8; 16] = *b"0123456789abcdef";
 
+/// The two decimal digits of each number below 100.
+static DECIMAL_PAIRS: [u8; 200] =
+    *b"00010203040506070809101112131415161718192021222324252627282930313233343536373839404142434445464748495051525354555657585960616263646566676869707172737475767778798081828384858687888990919293949596979899";
+
 /// The two hexadecimal digits of each number below 256.
 static HEX_PAIRS: [u8; 512] =
     *b"000102030405060708090a0b0c0d0e0f101112131415161718191a1b1c1d1e1f202122232425262728292a2b2c2d2e2f303132333435363738393a3b3c3d3e3f404142434445464748494a4b4c4d4e4f505152535455565758595a5b5c5d5e5f606162636465666768696a6b6c6d6e6f707172737475767778797a7b7c7d7e7f808182838485868788898a8b8c8d8e8f909192939495969798999a9b9c9d9e9fa0a1a2a3a4a5a6a7a8a9aaabacadaeafb0b1b2b3b4b5b6b7b8b9babbbcbdbebfc0c1c2c3c4c5c6c7c8c9cacbcccdcecfd0d1d2d3d4d5d6d7d8d9dadbdcdddedfe0e1e2e3e4e5e6e7e8e9eaebecedeeeff0f1f2f3f4f5f6f7f8f9fafbfcfdfeff";
@@ -114,7 +118,7 @@ impl LineText {
 
     /// Appends a blank and the number, in hexadecimal digits after `0x`.
     #[inline(always)]
-    #[tactic(auto, using(crate::proofs::Hex::hex_small))]
+    #[tactic(auto, using(crate::proofs::Hex::hex_small, crate::proofs::Hex::hex_two))]
     pub fn hex(&mut self, n: u64)
         requires { length self.old + hex_room ≤ CAPACITY }
         ensures text { self.new ≡ self.old ++ 32 ∷ hex n }
@@ -122,6 +126,9 @@ impl LineText {
     {
         if n < 16 {
             self.text(&[b' ', b'0', b'x', hex_digit(n)]);
+        } else if n < 256 {
+            let [high, low] = hex_pair(n);
+            self.text(&[b' ', b'0', b'x', high, low]);
         } else {
             self.text(b" 0x");
             self.hex_digits(n);
@@ -185,17 +192,26 @@ impl LineText {
 
     /// Appends the decimal digits of `n`.
     #[inline(always)]
-    #[tactic(auto, using(crate::proofs::Decimal::decimal_small))]
     fn decimal_digits(&mut self, n: u64)
         requires { length self.old + 20 ≤ CAPACITY }
         ensures text { self.new ≡ self.old ++ decimal n }
         ensures len { length self.new ≤ length self.old + 20 }
     {
-        if n < 10 {
-            self.text(&[decimal_digit(n)]);
+        if n < 1000 {
+            self.len = write_short_decimal(n, &mut self.bytes, self.len);
         } else {
-            self.len = write_decimal(n, &mut self.bytes, self.len);
+            self.long_decimal_digits(n);
         }
+    }
+
+    #[cold]
+    fn long_decimal_digits(&mut self, n: u64)
+        requires { length self.old + 20 ≤ CAPACITY }
+        ensures text { self.new ≡ self.old ++ decimal n }
+        ensures len { length self.new ≤ length self.old + 20 }
+    {
+        let mut buffer = Buffer::new();
+        self.text(buffer.format(n).as_bytes());
     }
 
     /// Appends the hexadecimal digits of `n`.
@@ -234,24 +250,9 @@ fn write_text(piece: &[u8], bytes: &mut [u8], start: usize) -> usize
     end
 }
 
-/// Writes the decimal digits of `n` from `start` on, and answers where they end.
-fn write_decimal(n: u64, bytes: &mut [u8], start: usize) -> usize
-    requires { start + 20 ≤ length bytes.old }
-    ensures end { result ≡ start + length (decimal n) }
-    ensures bound { result ≤ start + 20 }
-    ensures text { take result bytes.new ≡ take start bytes.old ++ decimal n }
-    ensures len { length bytes.new ≡ length bytes.old }
-{
-    if n < 1000 {
-        return write_short_decimal(n, bytes, start);
-    }
-    let mut buffer = Buffer::new();
-    write_text(buffer.format(n).as_bytes(), bytes, start)
-}
-
-/// Writes up to three decimal digits.
+/// Writes up to three decimal digits from `start` on, and answers where they end.
 #[inline(always)]
-#[tactic(auto, using(crate::proofs::Decimal::decimal_one, crate::proofs::Decimal::decimal_two, crate::proofs::Decimal::decimal_three))]
+#[tactic(auto, using(crate::proofs::Decimal::decimal_small, crate::proofs::Decimal::decimal_two, crate::proofs::Decimal::decimal_three))]
 fn write_short_decimal(n: u64, bytes: &mut [u8], start: usize) -> usize
     requires small { n < 1000 }
     requires room { start + 3 ≤ length bytes.old }
@@ -260,15 +261,23 @@ fn write_short_decimal(n: u64, bytes: &mut [u8], start: usize) -> usize
     ensures text { take result bytes.new ≡ take start bytes.old ++ decimal n }
     ensures len { length bytes.new ≡ length bytes.old }
 {
-    let ones = decimal_digit(n % 10);
     if n < 10 {
-        return write_text(&[ones], bytes, start);
+        return write_text(&[decimal_digit(n)], bytes, start);
     }
-    let tens = decimal_digit(n / 10 % 10);
     if n < 100 {
-        return write_text(&[tens, ones], bytes, start);
+        return write_text(&decimal_pair(n), bytes, start);
     }
+    let [tens, ones] = decimal_pair(n % 100);
     write_text(&[decimal_digit(n / 100), tens, ones], bytes, start)
+}
+
+#[inline(always)]
+fn decimal_pair(pair: u64) -> [u8; 2]
+    requires { pair < 100 }
+    ensures { result ≡ (48 + pair / 10) ∷ (48 + pair % 10) ∷ [] }
+{
+    let from = pair as usize * 2;
+    [DECIMAL_PAIRS[from], DECIMAL_PAIRS[from + 1]]
 }
 
 #[inline(always)]
@@ -318,9 +327,18 @@ fn write_hex_pair(pair: u64, bytes: &mut [u8], at: usize)
     ensures { bytes.new
         ≡ set (set bytes.old (at + 1) (digit_glyph false (pair % 16))) at (digit_glyph false (pair / 16)) }
 {
+    let [high, low] = hex_pair(pair);
+    bytes[at + 1] = low;
+    bytes[at] = high;
+}
+
+#[inline(always)]
+fn hex_pair(pair: u64) -> [u8; 2]
+    requires { pair < 256 }
+    ensures { result ≡ digit_glyph false (pair / 16) ∷ digit_glyph false (pair % 16) ∷ [] }
+{
     let from = pair as usize * 2;
-    bytes[at + 1] = HEX_PAIRS[from + 1];
-    bytes[at] = HEX_PAIRS[from];
+    [HEX_PAIRS[from], HEX_PAIRS[from + 1]]
 }
 
 #[inline(always)]

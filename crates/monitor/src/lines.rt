@@ -84,7 +84,7 @@ fn op_onto(line: &mut LineText, op: Op)
             line.word(b"ecall");
             line.hex(regs.eid);
             line.hex(regs.fid);
-            numbers_onto(line, &regs.a);
+            arguments_onto(line, &regs.a);
         }
         Op::Load(va) => number_onto(line, b"load", va),
         Op::Store(va, value) => {
@@ -185,12 +185,21 @@ pub fn bit(value: bool) -> u64
     u64::from(value)
 }
 
-fn numbers_onto(line: &mut LineText, numbers: &[u64; 6])
+/// Appends the arguments of a call. Most calls have at most two, and the others are 0.
+fn arguments_onto(line: &mut LineText, arguments: &[u64; 6])
     requires { length line.old ≤ call_room }
-    ensures text { line.new ≡ with_words line.old (map hex numbers.now) }
+    ensures text { line.new ≡ with_words line.old (map hex arguments.now) }
     ensures len { length line.new ≤ length line.old + arguments_room }
 {
-    for number in numbers {
-        line.hex(*number);
+    let [a0, a1, a2, a3, a4, a5] = *arguments;
+    line.hex(a0);
+    line.hex(a1);
+    if a2 == 0 && a3 == 0 && a4 == 0 && a5 == 0 {
+        line.text(b" 0x0 0x0 0x0 0x0");
+    } else {
+        line.hex(a2);
+        line.hex(a3);
+        line.hex(a4);
+        line.hex(a5);
     }
 }
