@@ -301,6 +301,7 @@ fn hex_places(n: u64) -> usize
 }
 
 /// Writes the hexadecimal digits of `n` from `start` to `end`.
+#[inline(always)]
 fn write_hex(n: u64, bytes: &mut [u8], start: usize, end: usize)
     requires places { start + length (digits 16 false n) ≡ end }
     requires room { end ≤ length bytes.old }

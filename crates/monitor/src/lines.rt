@@ -1,4 +1,4 @@
-ghost use Rattle.std.specs.Prelude.{◌≡◌, ◌+◌, ◌^◌, ◌<◌, ◌≤◌, ◌∷◌, ◌++◌, length, map, Ok};
+ghost use Rattle.std.specs.Prelude.{◌≡◌, ◌+◌, ◌^◌, ◌<◌, ◌≤◌, ◌∷◌, ◌++◌, length, map, decimal, Ok};
 ghost use Rattle.std.specs.List.{join_with_byte};
 ghost use Rattle.monitor.specs.LineText.{arguments_room, arrow_room, call_room, decimal_room, hex_room, reply_room, step_room, with_words};
 ghost use Rattle.monitor.specs.Sinks.{Puts};
@@ -86,18 +86,15 @@ fn op_onto(line: &mut LineText, op: Op)
             line.hex(regs.fid);
             arguments_onto(line, &regs.a);
         }
-        Op::Load(va) => number_onto(line, b"load", va),
+        Op::Load(va) => hex_onto(line, b"load", va),
         Op::Store(va, value) => {
-            number_onto(line, b"store", va);
+            hex_onto(line, b"store", va);
             line.hex(value);
         }
-        Op::Fetch(va) => number_onto(line, b"fetch", va),
-        Op::WriteSatp(value) => number_onto(line, b"satp", value),
-        Op::WriteSie(value) => number_onto(line, b"sie", value),
-        Op::WriteSstatusSie(value) => {
-            line.word(b"sstatus");
-            line.decimal(bit(value));
-        }
+        Op::Fetch(va) => hex_onto(line, b"fetch", va),
+        Op::WriteSatp(value) => hex_onto(line, b"satp", value),
+        Op::WriteSie(value) => hex_onto(line, b"sie", value),
+        Op::WriteSstatusSie(value) => decimal_onto(line, b"sstatus", bit(value)),
         Op::ReadSip => line.word(b"sip"),
         Op::ClearSsip => line.word(b"clearssip"),
         Op::Sfence(va, asid) => {
@@ -110,19 +107,32 @@ fn op_onto(line: &mut LineText, op: Op)
         Op::Poll => line.word(b"poll"),
         Op::Serve => line.word(b"serve"),
         Op::Advance => line.word(b"advance"),
-        Op::Tick(n) => number_onto(line, b"tick", n),
+        Op::Tick(n) => hex_onto(line, b"tick", n),
     }
 }
 
-/// Appends an operation's name and its number.
-fn number_onto(line: &mut LineText, name: &[u8], n: u64)
+/// Appends a name and a number in hexadecimal digits.
+#[inline(always)]
+fn hex_onto(line: &mut LineText, name: &[u8], n: u64)
     requires name { length name.now ≤ 8 }
-    requires room { length line.old ≤ decimal_room }
+    requires room { length line.old ≤ arrow_room }
     ensures text { line.new ≡ (line.old ++ 32 ∷ name.now) ++ 32 ∷ hex n }
     ensures len { length line.new ≤ length line.old + 9 + hex_room }
 {
     line.word(name);
     line.hex(n);
+}
+
+/// Appends a name and a number in decimal digits.
+#[inline(always)]
+fn decimal_onto(line: &mut LineText, name: &[u8], n: u64)
+    requires name { length name.now ≤ 8 }
+    requires room { length line.old ≤ arrow_room }
+    ensures text { line.new ≡ (line.old ++ 32 ∷ name.now) ++ 32 ∷ decimal n }
+    ensures len { length line.new ≤ length line.old + 9 + decimal_room }
+{
+    line.word(name);
+    line.decimal(n);
 }
 
 /// Appends a number, or a dash where it is absent.
@@ -157,24 +167,12 @@ fn reply_onto(line: &mut LineText, answer: Result<Reply, Refusal>)
             line.decimal(hart);
             line.hex(opaque);
         }
-        Ok(Reply::Value(value)) => {
-            line.word(b"value");
-            line.hex(value);
-        }
-        Ok(Reply::Fault(cause)) => {
-            line.word(b"fault");
-            line.decimal(cause.number());
-        }
+        Ok(Reply::Value(value)) => hex_onto(line, b"value", value),
+        Ok(Reply::Fault(cause)) => decimal_onto(line, b"fault", cause.number()),
         Ok(Reply::Served) => line.word(b"served"),
-        Ok(Reply::Moved(state)) => {
-            line.word(b"moved");
-            line.decimal(state.number());
-        }
+        Ok(Reply::Moved(state)) => decimal_onto(line, b"moved", state.number()),
         Ok(Reply::Done) => line.word(b"done"),
-        Err(refusal) => {
-            line.word(b"refused");
-            line.decimal(refusal.number());
-        }
+        Err(refusal) => decimal_onto(line, b"refused", refusal.number()),
     }
 }
 
