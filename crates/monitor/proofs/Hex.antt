@@ -145,3 +145,27 @@ hex-written-first-pair bytes start at n large small ends within =
     let more = rw e at (hex-written-more bytes start at n large (omega arith) ends within) in
     let first = hex-written-first bytes1 start (start + 1) (n / 16) (omega arith) (omega (arith, length-hex-one (n / 16) (omega arith))) (omega (arith, length-set bytes (start + 1) (digit_glyph false (n % 16)))) in
     first ∙ more
+
+-- four more digits
+pub hex-written-four : (bytes : List ℕ) (start at n : ℕ) → 65536 ≤ n → n < 2 ^ 64 → start + length (digits 16 false n) ≡ at → at ≤ length bytes
+    → let low = set (set bytes (at - 4 + 2 + 1) (digit_glyph false (n % 256 % 16))) (at - 4 + 2) (digit_glyph false (n % 256 / 16)) in
+    let written = set (set low (at - 4 + 1) (digit_glyph false (n / 256 % 256 % 16))) (at - 4) (digit_glyph false (n / 256 % 256 / 16)) in
+    take start written ++ (digits 16 false (n / 65536) ++ drop (at - 4) written)
+    ≡ take start bytes ++ (digits 16 false n ++ drop at bytes)
+hex-written-four bytes start at n large fits ends within =
+    let c : n / 65536 ≡ n / 256 / 256 = omega arith in
+    let shorter = length-hex-pair n (omega arith) fits in
+    let shortest = length-hex-pair (n / 256) (omega arith) (omega arith) in
+    let d : at - 4 + 2 ≡ at - 2 = omega (arith, shorter, shortest) in
+    let e : at - 4 ≡ at - 2 - 2 = omega arith in
+    let low1 : List ℕ = set bytes (at - 2 + 1) (digit_glyph false (n % 256 % 16)) in
+    let low : List ℕ = set low1 (at - 2) (digit_glyph false (n % 256 / 16)) in
+    let same : length low ≡ length bytes = length-set low1 (at - 2) (digit_glyph false (n % 256 / 16)) ∙ length-set bytes (at - 2 + 1) (digit_glyph false (n % 256 % 16)) in
+    let first = hex-written-pair bytes start at n (omega arith) fits ends within in
+    let second = hex-written-pair low start (at - 2) (n / 256) (omega arith) (omega arith) (omega (arith, shorter)) (omega (arith, same)) in
+    rw (d, e, c) (second ∙ first)
+
+pub length-hex-four : (n : ℕ) → 65536 ≤ n → n < 2 ^ 64 → length (digits 16 false n) ≡ length (digits 16 false (n / 65536)) + 4
+length-hex-four n large fits =
+    let c : n / 65536 ≡ n / 256 / 256 = omega arith in
+    rw c (omega (arith, length-hex-pair n (omega arith) fits, length-hex-pair (n / 256) (omega arith) (omega arith)))

@@ -300,7 +300,7 @@ fn hex_places(n: u64) -> usize
     (n.ilog2() / 4 + 1) as usize
 }
 
-/// Writes the hexadecimal digits of `n` from `start` to `end`.
+/// Writes the hexadecimal digits of `n` from `start` to `end`, from the last to the first.
 #[inline(always)]
 fn write_hex(n: u64, bytes: &mut [u8], start: usize, end: usize)
     requires places { start + length (digits 16 false n) ≡ end }
@@ -309,15 +309,32 @@ fn write_hex(n: u64, bytes: &mut [u8], start: usize, end: usize)
 {
     let mut rest = n;
     let mut at = end;
-    while rest >= 256 {
-        at -= 2;
-        write_hex_pair(rest % 256, bytes, at);
-        rest /= 256;
+    while rest >= 65_536 {
+        at -= 4;
+        write_hex_pair(rest % 256, bytes, at + 2);
+        write_hex_pair(rest / 256 % 256, bytes, at);
+        rest /= 65_536;
     }
-    if rest >= 16 {
-        write_hex_pair(rest, bytes, start);
+    if rest < 256 {
+        write_short_hex(rest, bytes, start, at);
     } else {
-        bytes[start] = hex_digit(rest);
+        write_hex_pair(rest % 256, bytes, at - 2);
+        write_short_hex(rest / 256, bytes, start, at - 2);
+    }
+}
+
+/// Writes up to two hexadecimal digits from `start` to `end`.
+#[inline(always)]
+fn write_short_hex(n: u64, bytes: &mut [u8], start: usize, end: usize)
+    requires small { n < 256 }
+    requires places { start + length (digits 16 false n) ≡ end }
+    requires room { end ≤ length bytes.old }
+    ensures { bytes.new ≡ take start bytes.old ++ (digits 16 false n ++ drop end bytes.old) }
+{
+    if n >= 16 {
+        write_hex_pair(n, bytes, start);
+    } else {
+        bytes[start] = hex_digit(n);
     }
 }
 

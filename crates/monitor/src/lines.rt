@@ -37,9 +37,9 @@ pub fn print_line<W: Sink>(
 {
     let mut line = LineText::new();
     actor_onto(&mut line, actor);
-    op_onto(&mut line, op);
+    op_onto(&mut line, &op);
     line.word(b"->");
-    reply_onto(&mut line, answer);
+    reply_onto(&mut line, &answer);
     line.put(sink)
 }
 
@@ -59,7 +59,7 @@ pub fn print_reply<W: Sink>(answer: Result<Reply, Refusal>, sink: &mut W) -> Res
         (join_with_byte 32 (reply_words answer)) }
 {
     let mut line = LineText::new();
-    reply_onto(&mut line, answer);
+    reply_onto(&mut line, &answer);
     write_all(sink, line.as_bytes())
 }
 
@@ -74,12 +74,12 @@ fn actor_onto(line: &mut LineText, actor: Actor)
     }
 }
 
-fn op_onto(line: &mut LineText, op: Op)
+fn op_onto(line: &mut LineText, op: &Op)
     requires { length line.old ≤ decimal_room }
-    ensures text { line.new ≡ with_words line.old (op_words op) }
+    ensures text { line.new ≡ with_words line.old (op_words op.now) }
     ensures len { length line.new ≤ step_room }
 {
-    match op {
+    match *op {
         Op::Ecall(regs) => {
             line.word(b"ecall");
             line.hex(regs.eid);
@@ -147,13 +147,13 @@ fn hex_or_dash_onto(line: &mut LineText, n: Option<u64>)
     }
 }
 
-fn reply_onto(line: &mut LineText, answer: Result<Reply, Refusal>)
+fn reply_onto(line: &mut LineText, answer: &Result<Reply, Refusal>)
     requires { length line.old ≤ arrow_room }
-    ensures text { line.new ≡ with_words line.old (reply_words answer) }
+    ensures text { line.new ≡ with_words line.old (reply_words answer.now) }
     ensures len { length line.new ≤ length line.old + reply_room }
     ensures some { 0 < length line.new }
 {
-    match answer {
+    match *answer {
         Ok(Reply::Ret(answer)) => {
             line.word(b"ret");
             line.signed(answer.error);
