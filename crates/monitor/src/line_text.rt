@@ -37,6 +37,7 @@ impl Model for LineText {
 }
 
 impl LineText {
+    /// An empty line.
     #[inline(always)]
     pub fn new() -> LineText
         ensures { result ≡ [] }
@@ -204,6 +205,7 @@ impl LineText {
         }
     }
 
+    /// Appends the decimal digits of a long number, apart, so that those of a short one are written in place.
     #[cold]
     fn long_decimal_digits(&mut self, n: u64)
         requires { length self.old + 20 ≤ CAPACITY }
@@ -271,6 +273,7 @@ fn write_short_decimal(n: u64, bytes: &mut [u8], start: usize) -> usize
     write_text(&[decimal_digit(n / 100), tens, ones], bytes, start)
 }
 
+/// The two digits of a number below 100.
 #[inline(always)]
 fn decimal_pair(pair: u64) -> [u8; 2]
     requires { pair < 100 }
@@ -350,6 +353,7 @@ fn write_hex_pair(pair: u64, bytes: &mut [u8], at: usize)
     bytes[at] = high;
 }
 
+/// The two hexadecimal digits of a number below 256.
 #[inline(always)]
 fn hex_pair(pair: u64) -> [u8; 2]
     requires { pair < 256 }
