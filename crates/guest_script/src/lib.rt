@@ -14,6 +14,7 @@ mod op_name;
 mod op_shape;
 mod parsing;
 mod places;
+mod plain;
 mod said;
 mod said_name;
 mod said_shape;

@@ -81,7 +81,7 @@ fn numeral(digits: &[u8], radix: u32) -> Option<u64>
 
 /// The number whose digits are those of `n` and one more.
 #[tactic(auto, unfolding(crate::specs::Scanning::digit_after))]
-fn push_digit(n: u64, digit: u8, radix: u32) -> Option<u64>
+pub fn push_digit(n: u64, digit: u8, radix: u32) -> Option<u64>
     requires low { 2 ≤ radix }
     requires high { radix ≤ 36 }
     ensures { result ≡ digit_after radix n digit }

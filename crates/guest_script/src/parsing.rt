@@ -116,9 +116,7 @@ fn read_lines(alloc: Global, bytes: &[u8], first: u64) -> Result<BodyDraft, Scri
     let mut rest = bytes;
     let mut number = first;
     while !rest.is_empty() {
-        let (text, after) = next_line(rest);
-        draft.read_line(alloc, number, text)?;
-        rest = after;
+        rest = draft.read_first(alloc, number, rest)?;
         number += 1;
     }
     Ok(draft)

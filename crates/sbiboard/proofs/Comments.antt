@@ -29,7 +29,7 @@ use Rattle.guest_script.specs.Words.{is_allowed, IsLine}
 use Rattle.monitor.specs.Table.{asid_words, deadline_cell, details, entries, entry_cells, entry_line, fence_cells, fence_line, flush_words, hart_cells, head_cells, hex_column, left, letter, outstanding_cell, power_word, range_words, reset_words, right, rights, row, state_name, table, time_cells, tlb_cells, tlb_line, totals_cells, word_cells, word_line, words}
 use Rattle.monitor.specs.Words.{line_of}
 use Rattle.sbiboard.specs.PrintedScripts.{AreComments, TableIsComments}
-use Rattle.sbiboard.proofs.Plain.{append_all, lines_allowed}
+use Rattle.guest_script.proofs.PlainWords.{append_all, lines_allowed}
 
 -- ---- bytes that a script may have
 

@@ -32,7 +32,7 @@ use Rattle.guest_script.specs.Grammar.{AreLines, Draft, Nothing, Traced, IsActor
 use Rattle.guest_script.specs.Words.{AreNumbers, IsLine, IsNumber, IsSigned, last_above, last_below, last_hart, last_number}
 use Rattle.monitor.specs.Words.{actor_word, board_words, hex, hex_or_dash, line_of, op_words, reply_words}
 use Rattle.sbiboard.specs.PrintedScripts.{Answered, AreComments, FitsActor, FitsAnswer, FitsAnswered, FitsConfig, FitsError, FitsOp, LineReadsBack, NumberReadsBack, SignedReadsBack, TraceReadsBack, trace_line, trace_lines, trace_of, words_of}
-use Rattle.sbiboard.proofs.Plain.{append_all, arguments_plain, IsPlain, IsPlainByte, joined_line, lines_printed, name_plain, numbers_plain, spelled_plain}
+use Rattle.guest_script.proofs.PlainWords.{append_all, arguments_plain, IsPlain, IsPlainByte, joined_line, lines_printed, name_plain, numbers_plain, spelled_plain}
 
 -- ---- printed numbers
 
