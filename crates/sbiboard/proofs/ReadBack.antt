@@ -1,5 +1,5 @@
 -- What is printed of a trace is read back.
-use Rattle.std.proofs.Common.{◌≡◌, ℕ, zero, suc, ◌+◌, ◌≤◌, Bool, true, false, List, [], ◌∷◌, ◌++◌, length, map, get_or, Option, Some, None, codes, subst, refl, sym, ap, ◌∙◌, inl, inr, arith}
+use Rattle.std.proofs.Common.{◌≡◌, ℕ, zero, suc, ◌+◌, ◌≤◌, true, false, List, [], ◌∷◌, ◌++◌, length, map, get_or, Option, Some, None, codes, subst, refl, sym, ap, ◌∙◌, inl, inr, arith}
 use Rattle.std.specs.Prelude.{IfSome, Result, Ok, Err, ℤ, pos, negsuc, neg_ℤ, decimal}
 use Rattle.std.specs.Fmt.{digits, signed_decimal}
 use Rattle.std.specs.List.{AllByRecursion, flat_map, join_with_byte}
@@ -29,10 +29,10 @@ use Rattle.guest_script.specs.declared.script.Line.{Line}
 use Rattle.guest_script.specs.Agreeing.{said_of}
 use Rattle.guest_script.specs.Forms.{AreArguments, Form, form_of, IsArgument, IsNamed, IsSaid, number_at, regs_of, said_form_of}
 use Rattle.guest_script.specs.Grammar.{AreLines, Draft, Nothing, Traced, IsActor, IsStep, numbers_of, content_of}
-use Rattle.guest_script.specs.Words.{AreNumbers, IsLine, IsNumber, IsSigned, last_above, last_below, last_hart, last_number}
+use Rattle.guest_script.specs.Words.{AreNumbers, IsLine, IsNumber, last_hart, last_number}
 use Rattle.monitor.specs.Words.{actor_word, board_words, hex, hex_or_dash, line_of, op_words, reply_words}
 use Rattle.sbiboard.specs.PrintedScripts.{Answered, AreComments, FitsActor, FitsAnswer, FitsAnswered, FitsConfig, FitsError, FitsOp, LineReadsBack, NumberReadsBack, SignedReadsBack, TraceReadsBack, trace_line, trace_lines, trace_of, words_of}
-use Rattle.sbiboard.proofs.Plain.{append_all, arguments_plain, IsPlain, IsPlainByte, joined_line, lines_printed, name_plain, numbers_plain, spelled_plain}
+use Rattle.sbiboard.proofs.Plain.{append_all, arguments_plain, IsPlain, joined_line, lines_printed, name_plain, numbers_plain, spelled_plain}
 
 -- ---- printed numbers
 

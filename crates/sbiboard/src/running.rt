@@ -2,6 +2,7 @@
 
 ghost use Rattle.std.specs.Prelude.{◌≡◌, ◌^◌, ◌<◌, IfSome, take};
 ghost use Rattle.guest_script.specs.Grammar.{content};
+ghost use Rattle.sbiboard.specs.Fitting.{AreRead};
 ghost use Rattle.sbiboard.specs.Jobs.{Does, lines_for};
 ghost use Rattle.sbiboard.specs.Running.{CountsEnd, EndsAs, EndsFlushed, EndsRead, Writes, ended_as, opening_of, read_limit};
 ghost use Rattle.sbiboard.specs.Sources.{ReadsUpTo};
@@ -107,6 +108,7 @@ fn run_lines<W: Sink>(
     writer: &mut W,
 ) -> Outcome
     requires at_opening { board.old ≡ opening_of config.now }
+    requires read { AreRead config.now lines.now }
     requires counts { W.failures writer.old < 2 ^ 63 }
     ensures writes { Writes (Does job config.now lines.now) result (W.written writer.old) (W.written writer.new) }
     ensures flushed { EndsFlushed result (W.is_flushed writer.new) }
