@@ -7,6 +7,7 @@ pub mod LinesFrom
 pub mod LinesOf
 pub mod Named
 pub mod Numerals
+pub mod Packed
 pub mod ScriptLines
 pub mod Spacing
 pub mod Spelling

@@ -1,11 +1,12 @@
-ghost use Rattle.std.specs.Prelude.{◌≡◌, ◌⊎◌, ◌∷◌, [], true, false, is_some, None, IfOk, OnOk, MatchResult};
+ghost use Rattle.std.specs.Prelude.{◌≡◌, ◌⊎◌, ◌∷◌, [], true, false, is_some, None, IfOk, OnOk, MatchResult, ◌<◌, ◌^◌, length};
+ghost use Rattle.guest_script.specs.Packing.{FitsKept};
 ghost use Rattle.guest_script.specs.declared.fault.Fault.TheVariants.{NoMemory, SecondBlock};
 ghost use Rattle.guest_script.specs.declared.kind.Kind.TheVariants.{Head, Operation, Step};
 ghost use Rattle.guest_script.specs.Drafts.{draft_of};
 ghost use Rattle.guest_script.specs.FirstFault.{byte_test, kind_tests, line_tests, may_follow};
 ghost use Rattle.guest_script.specs.Grammar.{Blocked, content, content_of, guest_at, has_block, OfClock, opened};
 ghost use Rattle.guest_script.specs.Reading.{GivesOrLacks, GivesOrWants, line_from, tested};
-ghost use Rattle.guest_script.specs.Values.{clock_in, guests_in, next_in, next_of, words_in, with_step};
+ghost use Rattle.guest_script.specs.Values.{clock_in, guests_in, lines_in, next_in, next_of, words_in, with_step};
 
 use crate::blocks::BlocksDraft;
 use crate::fault::{Fault, ScriptFault};
@@ -33,6 +34,8 @@ pub enum BodyDraft {
 impl BodyDraft {
     /// Reads line `n`.
     pub fn read_line(&mut self, alloc: Global, n: u64, text: &[u8]) -> Result<(), ScriptFault>
+        requires number { n < 2 ^ 28 }
+        requires few { length (lines_in (draft_of self.old)) < 2 ^ 28 }
         ensures { GivesOrLacks (λ _. draft_of self.new) result (line_from n (draft_of self.old) text.now) }
     {
         match self.line(alloc, n, text) {
@@ -42,6 +45,8 @@ impl BodyDraft {
     }
 
     fn line(&mut self, alloc: Global, n: u64, text: &[u8]) -> Result<(), Fault>
+        requires number { n < 2 ^ 28 }
+        requires few { length (lines_in (draft_of self.old)) < 2 ^ 28 }
         ensures { GivesOrWants (λ _. draft_of self.new) result
             (tested (byte_test text.now ∷ line_tests (draft_of self.old) (words_in text.now)) (next_in n (draft_of self.old) (words_in text.now))) }
     {
@@ -56,6 +61,8 @@ impl BodyDraft {
 
     /// Reads the words of line `n`.
     fn words(&mut self, alloc: Global, n: u64, first: &[u8], rest: &[u8]) -> Result<(), Fault>
+        requires number { n < 2 ^ 28 }
+        requires few { length (lines_in (draft_of self.old)) < 2 ^ 28 }
         ensures { GivesOrWants (λ _. draft_of self.new) result
             (tested (line_tests (draft_of self.old) (first.now ∷ words_in rest.now)) (next_in n (draft_of self.old) (first.now ∷ words_in rest.now))) }
     {
@@ -135,7 +142,10 @@ impl BodyDraft {
 
     /// A step more.
     fn step(&mut self, alloc: Global, in_trace: bool, line: &Line) -> Result<(), AllocError>
-        requires { may_follow (draft_of self.old) (Step in_trace) ≡ true }
+        requires kind { may_follow (draft_of self.old) (Step in_trace) ≡ true }
+        requires number { line.now.number < 2 ^ 28 }
+        requires actor { FitsKept line.now.actor }
+        requires few { length (lines_in (draft_of self.old)) < 2 ^ 28 }
         ensures { OnOk result (draft_of self.new ≡ with_step in_trace (draft_of self.old) line.now) }
     {
         match self {

@@ -12,7 +12,8 @@ const LAST_ABOVE: u64 = LAST_BELOW - 1;
 /// The number that a word spells, if it is at most `limit`.
 #[tactic(auto, using(crate::proofs::Numerals::of_spelled))]
 pub fn number(word: &[u8], limit: u64) -> Option<u64>
-    ensures { result ≡ number_in limit word.now }
+    ensures within { IfSome result (λ n. n ≤ limit) }
+    ensures value { result ≡ number_in limit word.now }
 {
     match spelled(word) {
         Some(n) if n <= limit => Some(n),

@@ -109,7 +109,7 @@ fn config(arguments: &[Option<u64>]) -> Config
 
 /// Reads the lines, which are numbered from `first`.
 fn read_lines(alloc: Global, bytes: &[u8], first: u64) -> Result<BodyDraft, ScriptFault>
-    requires { first + length bytes.now < 2 ^ 63 }
+    requires { first + length bytes.now < 2 ^ 28 }
     ensures { GivesOrLacks draft_of result (lines_from first Nothing (lines bytes.now)) }
 {
     let mut draft = BodyDraft::Nothing;
