@@ -1,5 +1,5 @@
 -- What a replay writes is a trace with which the board agrees.
-use Rattle.std.proofs.Common.{◌≡◌, ℕ, suc, ◌+◌, ◌≤◌, List, [], ◌∷◌, ◌++◌, length, Some, subst, refl, sym, ap, ◌∙◌, append_assoc, inl}
+use Rattle.std.proofs.Common.{◌≡◌, ℕ, suc, ◌+◌, ◌≤◌, List, [], ◌∷◌, ◌++◌, length, Some, subst, refl, sym, ap, ◌∙◌, inl}
 use Rattle.std.specs.List.{AllByRecursion, flat_map}
 use Rattle.board_core.specs.declared.config.Config.{Config}
 use Rattle.board_core.specs.Course.{Course}
@@ -55,11 +55,11 @@ accepted c lines are fits text is short =
     let reads = trace_read_back c steps comments are.config fit table (subst (λ t. length t ≤ most_bytes) same short) in
     subst (λ t. EndsCheck t Good (agrees_text (length lines))) (sym same)
     (inl (
-          c,
-          trace,
-          record { script = record { config = c; content = trace_of trace }; reads = reads; config_is = refl; lines_are = traced_of trace; good = are.good },
-          (all_agree 2 first lines, ap agrees_text (sym (as_many 2 first lines))),
-        ))
+      c,
+      trace,
+      record { script = record { config = c; content = trace_of trace }; reads = reads; config_is = refl; lines_are = traced_of trace; good = are.good },
+      (all_agree 2 first lines, ap agrees_text (sym (as_many 2 first lines))),
+    ))
 
 -- the text of lines that were replayed
 pub is_replay : (c : Config) (lines : List Line) → AreRead c lines → AllFit (opening_of c) lines → IsReplay c lines (text_of c lines)

@@ -35,5 +35,4 @@ fn regs_fit(eid: u64, fid: u64, a: [u64; 6])
 
 pub fn answer_fits(answer: Result<Reply, Refusal>)
     ensures { FitsAnswer answer }
-{
-}
+{}

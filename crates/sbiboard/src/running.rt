@@ -30,12 +30,7 @@ pub enum Job {
 
 /// Reads a script to its end, makes its board, and runs its lines. Nothing is written before the script is read and
 /// the board made; at most 16,777,217 bytes are read, and after a failed read the writer is as it was.
-pub fn run<R: Source, W: Sink>(
-    job: Job,
-    alloc: Global,
-    reader: &mut R,
-    writer: &mut W,
-) -> Outcome
+pub fn run<R: Source, W: Sink>(job: Job, alloc: Global, reader: &mut R, writer: &mut W) -> Outcome
     requires reader_counts { R.failures reader.old < 2 ^ 63 }
     requires writer_counts { W.failures writer.old < 2 ^ 63 }
     ensures writes { IfSome (R.left reader.old) (λ bytes.
