@@ -50,7 +50,7 @@ fn numbers_of<'a>(script: &'a Script, line: &Line) -> &'a [u64] {
 }
 
 /// Steps the board through a schedule and prints it. Answers whether a line met a full history.
-fn replay(script: &Script, board: &mut Board) -> io::Result<(i32, &'static str)> {
+fn replay(script: &Script, board: &mut Board) -> Ended {
     let mut out = output()?;
     let mut met_full = false;
     out.board_line(&script.config)?;
@@ -69,7 +69,7 @@ fn replay(script: &Script, board: &mut Board) -> io::Result<(i32, &'static str)>
 }
 
 /// Steps the board through a trace and compares each answer with what the trace says.
-fn check(script: &Script, board: &mut Board) -> io::Result<(i32, &'static str)> {
+fn check(script: &Script, board: &mut Board) -> Ended {
     let mut out = output()?;
     for (line, said) in script.lines.iter().zip(&script.said) {
         let answer = board.step(*line, numbers_of(script, line));
@@ -106,10 +106,10 @@ fn agrees(name: SaidName, numbers: &[u64], actor: u8, answer: Result<Reply, Refu
     }
 }
 
-type Task = fn(&Script, &mut Board) -> io::Result<(i32, &'static str)>;
+type Ended = io::Result<(i32, &'static str)>;
 
 /// Runs a task on the script of a file, which must be of this kind, or without lines.
-fn run(path: &str, kind: Kind, task: Task) -> (i32, String) {
+fn run(path: &str, kind: Kind, task: impl Fn(&Script, &mut Board) -> Ended) -> (i32, String) {
     let failed = || (7, "input or output failed".to_string());
     let Ok(mut bytes) = read(path) else {
         return failed();

@@ -327,8 +327,7 @@ impl<'a> Reader<'a> {
                 into.push(self.number()?);
             }
         }
-        self.skip_gap();
-        Some(match is_there {
+        matches!(self.skip_gap(), b'\n' | b'\r' | b'#' | b'-').then_some(match is_there {
             [true, true] => Name::Sfence,
             [true, false] => Name::SfenceOfAddress,
             [false, true] => Name::SfenceOfSpace,
@@ -388,15 +387,11 @@ impl<'a> Reader<'a> {
             }
         }
         let count = (script.numbers.len() - first as usize) as u8;
-        let kind = if self.is_at_end() {
-            Kind::Schedule
+        if self.peek() != b'-' {
+            script.must_be(Kind::Schedule, self.end)?;
         } else {
-            self.arrow().then_some(Kind::Trace)?
-        };
-        if script.kind != kind {
-            script.begin(kind, self.end)?;
-        }
-        if kind == Kind::Trace {
+            self.arrow().then_some(())?;
+            script.must_be(Kind::Trace, self.end)?;
             let said = Said {
                 name: self.said(&mut script.numbers)?,
                 line: number as u32,
@@ -415,8 +410,12 @@ impl<'a> Reader<'a> {
 }
 
 impl Script {
-    /// The first line sets the kind.
-    fn begin(&mut self, kind: Kind, size: usize) -> Option<()> {
+    /// The first line sets the kind, and the others must be of it.
+    #[inline(always)]
+    fn must_be(&mut self, kind: Kind, size: usize) -> Option<()> {
+        if self.kind == kind {
+            return Some(());
+        }
         (self.kind == Kind::Empty).then_some(())?;
         self.kind = kind;
         if kind == Kind::Trace {
