@@ -1,10 +1,13 @@
 pub mod ArgumentsIn
+pub mod BoardLine
+pub mod Drafted
 pub mod FaultsFound
 pub mod LineWords
+pub mod LinesFrom
 pub mod LinesOf
+pub mod Named
 pub mod Numerals
 pub mod ScriptLines
 pub mod Spacing
 pub mod Spelling
-pub mod StepsFrom
 pub mod WordsIn

@@ -1,5 +1,5 @@
 -- What is read, where no test holds.
-use Rattle.std.specs.Prelude.{◌≡◌, ◌⊎◌, ℕ, List, [], ◌∷◌, map, codes, Option, Some, None, Result, Ok, Err, Bool, MatchResult}
+use Rattle.std.specs.Prelude.{◌≡◌, ◌⊎◌, ℕ, List, ◌∷◌, codes, Option, Some, None, Result, Ok, Err, Bool}
 use Rattle.std.specs.Str.Lines.{lines}
 use Rattle.board_core.specs.declared.config.Config.{Config}
 use Rattle.board_core.specs.Refusals.{first_that_holds}
@@ -12,8 +12,8 @@ use Rattle.guest_script.specs.declared.op_name.OpName.TheVariants as ops
 use Rattle.guest_script.specs.declared.said_name.SaidName.{SaidName}
 use Rattle.guest_script.specs.declared.said_name.SaidName.TheVariants as saids
 use Rattle.guest_script.specs.Forms.{Form}
-use Rattle.guest_script.specs.Grammar.{content_of, Draft, Nothing, Written}
-use Rattle.guest_script.specs.Values.{board_in, draft_in, next_in, script_in, words_in}
+use Rattle.guest_script.specs.Grammar.{content_of, Draft, Written}
+use Rattle.guest_script.specs.Values.{draft_in, next_in, script_in, words_in}
 use Rattle.guest_script.specs.FirstFault.{board_first_tests, byte_test, line_tests, lines_tests, no_memory, script_tests}
 
 -- the value, where there is no fault
@@ -89,6 +89,11 @@ made_from otherwise (Some form) ns = form.makes ns
 abbrev pub located : {A : Type 0} → ℕ → Result A Fault → Result A ScriptFault
 located n (Ok value) = Ok value
 located n (Err fault) = Err (record { line = n; fault = fault })
+
+-- a fault of line n; the want of memory is of no line
+abbrev pub located_fault : ℕ → Fault → ScriptFault
+located_fault n NoMemory = no_memory
+located_fault n fault = record { line = n; fault = fault }
 
 -- what the lines say with line n, or its fault
 unfoldable pub line_from : ℕ → Draft → List ℕ → Result Draft ScriptFault

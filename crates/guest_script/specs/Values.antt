@@ -16,7 +16,7 @@ use Rattle.guest_script.specs.declared.said.Said.TheVariants.{Ret, Done}
 use Rattle.guest_script.specs.declared.script.Line.{Line}
 use Rattle.guest_script.specs.Words.{is_blank, is_hash, last_above, last_below, last_hart, last_number}
 use Rattle.guest_script.specs.Forms.{Form, form_of, guest_form_of, number_at, said_form_of}
-use Rattle.guest_script.specs.Grammar.{Blocks, clock_of, content_of, Draft, Nothing, Blocked, Stepped, Traced, guest_at, Guest, guests_of, Open, OfClock, OfGuest, opened, with_op, with_tick, Written}
+use Rattle.guest_script.specs.Grammar.{clock_of, content_of, Draft, Nothing, Blocked, Stepped, Traced, guest_at, Guest, guests_of, Open, OfClock, OfGuest, opened, with_op, with_tick, Written}
 
 -- ---- words
 

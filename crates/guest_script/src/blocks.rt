@@ -5,7 +5,7 @@ ghost use Rattle.std.specs.Ordering.{nat_cmp};
 ghost use Rattle.guest_script.specs.declared.fault.Fault.TheVariants.{NoMemory, SecondBlock};
 ghost use Rattle.guest_script.specs.OpenBlocks.{open_of};
 ghost use Rattle.guest_script.specs.FirstFault.{in_block_tests};
-ghost use Rattle.guest_script.specs.Grammar.{Blocks, clock_of, clock_with, guest, guest_at, guests_of, guests_with, has_block, OfClock, opened};
+ghost use Rattle.guest_script.specs.Grammar.{Blocks, clock_of, clock_with, guest, guest_at, guests_of, guests_with, content, content_of, Blocked, has_block, OfClock, opened};
 ghost use Rattle.guest_script.specs.Reading.{GivesOrWants, tested};
 ghost use Rattle.guest_script.specs.Values.{in_block, words_in};
 

@@ -1,12 +1,14 @@
-ghost use Rattle.std.specs.Prelude.{◌≡◌, ◌∷◌, true, IfOk};
+ghost use Rattle.std.specs.Prelude.{◌≡◌, ◌⊎◌, ◌∷◌, [], true, false, is_some, None, IfOk, OnOk, MatchResult};
+ghost use Rattle.guest_script.specs.declared.fault.Fault.TheVariants.{NoMemory, SecondBlock};
+ghost use Rattle.guest_script.specs.declared.kind.Kind.TheVariants.{Head, Operation, Step};
 ghost use Rattle.guest_script.specs.Drafts.{draft_of};
-ghost use Rattle.guest_script.specs.FirstFault.{head_tests, kind_tests, line_tests, may_follow};
-ghost use Rattle.guest_script.specs.Grammar.{content, content_of};
+ghost use Rattle.guest_script.specs.FirstFault.{byte_test, kind_tests, line_tests, may_follow};
+ghost use Rattle.guest_script.specs.Grammar.{Blocked, content, content_of, guest_at, has_block, OfClock, opened};
 ghost use Rattle.guest_script.specs.Reading.{GivesOrLacks, GivesOrWants, line_from, tested};
-ghost use Rattle.guest_script.specs.Values.{next_in, next_of, words_in, with_step};
+ghost use Rattle.guest_script.specs.Values.{clock_in, guests_in, next_in, next_of, words_in, with_step};
 
 use crate::blocks::BlocksDraft;
-use crate::fault::{Fault, NO_MEMORY, ScriptFault};
+use crate::fault::{Fault, ScriptFault};
 use crate::kind::Kind;
 use crate::lines::Lines;
 use crate::script::{Body, Line};
@@ -35,8 +37,7 @@ impl BodyDraft {
     {
         match self.line(alloc, n, text) {
             Ok(()) => Ok(()),
-            Err(Fault::NoMemory) => Err(NO_MEMORY),
-            Err(fault) => Err(ScriptFault { line: n, fault }),
+            Err(fault) => Err(ScriptFault::at(n, fault)),
         }
     }
 
@@ -105,7 +106,7 @@ impl BodyDraft {
         requires { may_follow (draft_of self.old) Head ≡ true }
         ensures { MatchResult result
             (λ _. (has_block (guests_in (draft_of self.old)) addr ≡ false)
-                × (draft_of self.new ≡ Blocked (opened (guests_in (draft_of self.old)) (clock_in (draft_of self.old)) (guest_at addr))))
+            × (draft_of self.new ≡ Blocked (opened (guests_in (draft_of self.old)) (clock_in (draft_of self.old)) (guest_at addr))))
             (λ fault. (fault ≡ NoMemory) ⊎ ((fault ≡ SecondBlock) × (has_block (guests_in (draft_of self.old)) addr ≡ true))) }
     {
         match self {
@@ -138,7 +139,8 @@ impl BodyDraft {
         ensures { OnOk result (draft_of self.new ≡ with_step in_trace (draft_of self.old) line.now) }
     {
         match self {
-            BodyDraft::Steps(lines) | BodyDraft::Trace(lines) => lines.push(line),
+            BodyDraft::Steps(lines) => lines.push(line),
+            BodyDraft::Trace(lines) => lines.push(line),
             _ => {
                 let mut lines = Lines::new(alloc);
                 lines.push(line)?;

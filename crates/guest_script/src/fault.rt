@@ -1,6 +1,7 @@
 ghost use Rattle.std.specs.Prelude.{◌≡◌};
 ghost use Rattle.guest_script.specs.declared.fault.Fault.TheVariants.{NoMemory};
 ghost use Rattle.guest_script.specs.FirstFault.{fault_number};
+ghost use Rattle.guest_script.specs.Reading.{located_fault};
 
 use std::alloc::{AllocError, AllocFailed};
 use thiserror::Error;
@@ -80,6 +81,18 @@ pub struct ScriptFault {
     pub line: u64,
     /// What is wrong.
     pub fault: Fault,
+}
+
+impl ScriptFault {
+    /// What is wrong with a line; the want of memory is none of a line's.
+    pub(crate) fn at(line: u64, fault: Fault) -> ScriptFault
+        ensures { result ≡ located_fault line fault }
+    {
+        match fault {
+            Fault::NoMemory => NO_MEMORY,
+            fault => ScriptFault { line, fault },
+        }
+    }
 }
 
 /// Memory was refused, at no line.

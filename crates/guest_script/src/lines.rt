@@ -78,7 +78,7 @@ pub struct LinesIter<'a> {
 impl<'a> Model for LinesIter<'a> {
     ghost Value = { List Line };
 
-    ghost view = { λ l. l.left };
+    ghost view = { λ l. l.left.now };
 }
 
 impl<'a> Iterator for LinesIter<'a> {

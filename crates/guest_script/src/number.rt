@@ -1,10 +1,13 @@
-ghost use Rattle.std.specs.Prelude.{◌≡◌, ◌≤◌, neg_ℤ, pos};
+ghost use Rattle.std.specs.Prelude.{◌≡◌, ◌≤◌, neg_ℤ, pos, IfSome};
 ghost use Rattle.guest_script.specs.Words.{last_below};
 ghost use Rattle.guest_script.specs.Values.{number_in, signed_in};
-ghost use Rattle.guest_script.specs.Scanning.{digit_after, numeral_of, spelled_of};
+ghost use Rattle.guest_script.specs.Scanning.{decimal_in, digit_after, numeral_of, spelled_of};
 
 /// How far a signed number may be below 0.
 const LAST_BELOW: u64 = 1 << 63;
+
+/// The largest signed number.
+const LAST_ABOVE: u64 = LAST_BELOW - 1;
 
 /// The number that a word spells, if it is at most `limit`.
 #[tactic(auto, using(crate::proofs::Numerals::of_spelled))]
@@ -29,18 +32,25 @@ fn spelled(word: &[u8]) -> Option<u64>
 }
 
 /// The signed number that a word spells, if there is one.
+#[tactic(auto, unfolding(crate::specs::Values::signed_in, crate::specs::Scanning::decimal_in))]
 pub fn signed_number(word: &[u8]) -> Option<i64>
     ensures { result ≡ signed_in word.now }
 {
     match word.strip_prefix(b"-") {
-        Some(digits) => match numeral(digits, 10) {
-            Some(n) if n <= LAST_BELOW => Some(below_zero(n)),
-            _ => None,
-        },
-        None => match numeral(word, 10) {
-            Some(n) if n < LAST_BELOW => Some(n as i64),
-            _ => None,
-        },
+        Some(digits) => Some(below_zero(decimal(digits, LAST_BELOW)?)),
+        None => Some(decimal(word, LAST_ABOVE)? as i64),
+    }
+}
+
+/// The number that decimal digits spell, if it is at most `limit`.
+#[tactic(auto, using(crate::proofs::Numerals::of_numeral))]
+fn decimal(digits: &[u8], limit: u64) -> Option<u64>
+    ensures value { result ≡ decimal_in limit digits.now }
+    ensures within { IfSome result (λ n. n ≤ limit) }
+{
+    match numeral(digits, 10) {
+        Some(n) if n <= limit => Some(n),
+        _ => None,
     }
 }
 

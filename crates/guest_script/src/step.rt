@@ -1,10 +1,11 @@
-ghost use Rattle.std.specs.Prelude.{◌≡◌, ◌++◌, ◌∷◌, [], MatchOption, None};
+ghost use Rattle.std.specs.Prelude.{◌≡◌, ◌∷◌, [], true, false, MatchOption, None};
 ghost use Rattle.board_core.specs.declared.event.Op.TheVariants.{Advance};
-ghost use Rattle.guest_script.specs.Forms.{form_of, guest_form_of};
+ghost use Rattle.guest_script.specs.declared.said.Said.TheVariants.{Done};
+ghost use Rattle.guest_script.specs.Forms.{form_of, guest_form_of, said_form_of};
 ghost use Rattle.guest_script.specs.FirstFault.{actor_test, form_tests, named_tests, number_tests, ret_tests, said_tests, step_tests};
 ghost use Rattle.guest_script.specs.Reading.{IsFormAt, op_spelling, tested};
 ghost use Rattle.guest_script.specs.Scanning.{words_until};
-ghost use Rattle.guest_script.specs.Values.{actor_in, first_number, line_in, named_in, op_in, ret_in, said_in, words_in};
+ghost use Rattle.guest_script.specs.Values.{actor_in, after_arrow, before_arrow, first_number, line_in, made_by, named_in, op_in, ret_in, said_in, words_in};
 
 use crate::fault::Fault;
 use crate::number::{number, signed_number};
@@ -24,19 +25,46 @@ const LAST_HART: u64 = 127;
 pub fn step_line(n: u64, in_trace: bool, first: &[u8], rest: &[u8]) -> Result<Line, Fault>
     ensures { result ≡ tested (actor_test first.now ∷ step_tests in_trace (words_in rest.now)) (line_in n in_trace first.now (words_in rest.now)) }
 {
-    let actor = actor(first)?;
-    let op = op(rest, in_trace)?;
-    let said = if in_trace {
-        Some(said(after_arrow(rest))?)
+    if in_trace {
+        trace_line(n, first, rest)
     } else {
-        None
-    };
+        schedule_line(n, first, rest)
+    }
+}
+
+fn schedule_line(n: u64, first: &[u8], rest: &[u8]) -> Result<Line, Fault>
+    ensures { result ≡ tested (actor_test first.now ∷ step_tests false (words_in rest.now)) (line_in n false first.now (words_in rest.now)) }
+{
+    let actor = actor(first)?;
+    let op = op(rest, false)?;
     Ok(Line {
         number: n,
         actor,
         op,
-        said,
+        said: None,
     })
+}
+
+fn trace_line(n: u64, first: &[u8], rest: &[u8]) -> Result<Line, Fault>
+    ensures { result ≡ tested (actor_test first.now ∷ step_tests true (words_in rest.now)) (line_in n true first.now (words_in rest.now)) }
+{
+    let actor = actor(first)?;
+    let told = told_op(rest)?;
+    Ok(Line {
+        number: n,
+        actor,
+        op: told.0,
+        said: Some(told.1),
+    })
+}
+
+/// The operation that the words before the first arrow are, and what those after it say.
+fn told_op(rest: &[u8]) -> Result<(Op, Said), Fault>
+    ensures { result ≡ tested (step_tests true (words_in rest.now)) (op_in (before_arrow (words_in rest.now)), said_in (after_arrow (words_in rest.now))) }
+{
+    let op = op(rest, true)?;
+    let said = said(after_arrow(rest))?;
+    Ok((op, said))
 }
 
 #[tactic(auto, using(crate::proofs::ArgumentsIn::actor_read, crate::proofs::ArgumentsIn::actor_unread))]
@@ -72,11 +100,14 @@ pub fn guest_op(word: &[u8], rest: &[u8]) -> Result<Op, Fault>
 }
 
 /// The guest's operation that a word names.
+#[tactic(auto, using(crate::proofs::Named::not_for_guests))]
 fn guest_name(word: &[u8]) -> Option<OpName>
     ensures { MatchOption result (guest_form_of word.now ≡ None) (λ name. (word.now ≡ op_spelling name) × (guest_form_of word.now ≡ form_of word.now)) }
 {
-    let name = OpName::of(word)?;
-    if name.is_guest() { Some(name) } else { None }
+    match OpName::of(word) {
+        Some(name) if name.is_guest() => Some(name),
+        _ => None,
+    }
 }
 
 /// The one number that a text's words are.
@@ -93,8 +124,16 @@ fn said(text: &[u8]) -> Result<Said, Fault>
 {
     let (word, rest) = next_word(text).ok_or(Fault::WordCount)?;
     if word == b"ret".as_slice() {
-        return ret(rest);
+        ret(rest)
+    } else {
+        named_said(word, rest)
     }
+}
+
+/// What a name and the words behind it say.
+fn named_said(word: &[u8], rest: &[u8]) -> Result<Said, Fault>
+    ensures { result ≡ tested (form_tests (said_form_of word.now) (words_in rest.now)) (made_by Done (said_form_of word.now) (words_in rest.now)) }
+{
     let name = SaidName::of(word).ok_or(Fault::UnknownWord)?;
     let arguments = arguments_in(rest, false, &name.places())?;
     Ok(name.said(&arguments))
@@ -109,7 +148,19 @@ fn ret(text: &[u8]) -> Result<Said, Fault>
     if next_word(rest).is_some() {
         return Err(Fault::WordCount);
     }
-    let error = signed_number(error).ok_or(Fault::BadNumber)?;
-    let value = number(value, u64::MAX).ok_or(Fault::BadNumber)?;
-    Ok(Said::Ret { error, value })
+    ret_of(error, value)
+}
+
+/// The error and the value that two words are.
+#[tactic(auto, using(crate::proofs::Named::ret_good, crate::proofs::Named::ret_bad_error, crate::proofs::Named::ret_bad_value))]
+fn ret_of(error: &[u8], value: &[u8]) -> Result<Said, Fault>
+    ensures { result ≡ tested (ret_tests (error.now ∷ value.now ∷ [])) (ret_in (error.now ∷ value.now ∷ [])) }
+{
+    match signed_number(error) {
+        None => Err(Fault::BadNumber),
+        Some(error) => match number(value, u64::MAX) {
+            None => Err(Fault::BadNumber),
+            Some(value) => Ok(Said::Ret { error, value }),
+        },
+    }
 }

@@ -1,24 +1,18 @@
-use Rattle.std.proofs.Common.{length, ap, sym, arith}
+use Rattle.std.proofs.Common.{sym, ◌∙◌, arith}
 use Rattle.std.proofs.lemmas.Bool.{eqb-true}
 use Rattle.std.proofs.lemmas.Result.{err_from_is_err_and}
-use Rattle.guest_script.proofs.StepsFrom.{left_good, left_bad, left_none}
-use Rattle.guest_script.proofs.parsing.read_steps.Goals as goal
-
-pub returns-in_err-found : goal.returns-in_err-found
-returns-in_err-found c =
-    let p = err_from_is_err_and c.from_residual.result c.from_residual.ensures.1 in
-    let read = rw c.step_words.ensures at c.in_err-found.ensures in
-    rw (p.1, p.2) (left_bad c.loop-rest.invariant c.next_line.result.0.now c.next_line.result.1.now _ c.next_line.ensures.lines read)
+use Rattle.guest_script.specs.Drafts.{draft_of}
+use Rattle.guest_script.proofs.LinesFrom.{bad_line, good_line, lines_from_none}
+use Rattle.guest_script.proofs.parsing.read_lines.Goals as goal
 
 pub loop-rest-preserved : goal.loop-rest-preserved
 loop-rest-preserved c =
-    let at = c.next_line.ensures.lines in
-    let read = rw c.step_words.ensures at c.in_ok-found.ensures in
-    record {
-      read = rw c.keep.ensures.items (left_good c.loop-rest.invariant c.next_line.result.0.now c.next_line.result.1.now _ at read);
-      room = omega (arith, ap length at);
-      fits = omega arith;
-    }
+    (sym (good_line c.loop-rest.number (draft_of c.loop-rest.draft) c.loop-rest.rest.now c.next_line.result.0.now c.next_line.result.1.now c.next_line.ensures.lines _ c.in_ok-read_line.ensures) ∙ c.loop-rest.invariant.0, omega arith)
 
 pub returns : goal.returns
-returns c = left_none c.loop-rest.invariant (eqb-true _ _ (sym c.loop-rest-test.ensures))
+returns c = sym c.loop-rest.invariant.0 ∙ lines_from_none _ _ c.loop-rest.rest.now (eqb-true _ _ (sym c.loop-rest-test.ensures))
+
+pub returns-in_err-read_line : goal.returns-in_err-read_line
+returns-in_err-read_line c =
+    let p = err_from_is_err_and c.from_residual.result c.from_residual.ensures.1 in
+    rw (p.1, p.2) (rw c.loop-rest.invariant.0 at (bad_line c.loop-rest.number (draft_of c.loop-rest.draft) c.loop-rest.rest.now c.next_line.result.0.now c.next_line.result.1.now c.next_line.ensures.lines _ c.in_err-read_line.ensures))
