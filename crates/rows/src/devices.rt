@@ -9,7 +9,8 @@ use std::io::{self, ErrorKind, Read, Write};
 
 const SCHEDULE: &[u8] = b"board 2 1 9 0 0x80000000 0\n0 advance\n0 ecall 0x10 0\n1 advance\n";
 
-const TRACE: &[u8] = b"board 2 1 9 0 0x80000000 0\n0 advance -> entry 0x80000000 0 0\n1 advance -> refused 3\n";
+const TRACE: &[u8] =
+    b"board 2 1 9 0 0x80000000 0\n0 advance -> entry 0x80000000 0 0\n1 advance -> refused 3\n";
 
 /// A task of the library.
 #[derive(Clone, Copy)]
@@ -87,7 +88,13 @@ struct System<'a> {
 
 impl System<'_> {
     /// With the script to be read, and nothing written.
-    fn new(alloc: Global, script: &'static [u8], most: usize, at: u64, answer: Answer) -> System<'static> {
+    fn new(
+        alloc: Global,
+        script: &'static [u8],
+        most: usize,
+        at: u64,
+        answer: Answer,
+    ) -> System<'static> {
         System {
             rest: script,
             taken: Vec::new(alloc),

@@ -111,7 +111,10 @@ pub fn check_traces(alloc: Global, lines: &str, cases: &str) -> Result<()> {
         };
         ensure!(said.strip_suffix('\n') == Some(wanted), "{case}: {said}");
         let is_differing = wanted.starts_with("differs at line ");
-        ensure!(is_differing == (outcome == Outcome::Differs), "{case}: {outcome}");
+        ensure!(
+            is_differing == (outcome == Outcome::Differs),
+            "{case}: {outcome}"
+        );
     }
     Ok(())
 }
@@ -141,7 +144,10 @@ fn check_agrees(alloc: Global, printed: &str) -> Result<()> {
     let wanted = format!(in alloc; "agrees {steps}\n")?;
     let (outcome, said) = checked(alloc, printed.as_bytes());
     ensure!(outcome == Outcome::Good, "checked: {outcome}");
-    ensure!(said.as_slice() == wanted.as_bytes(), "not all of {steps} steps were checked");
+    ensure!(
+        said.as_slice() == wanted.as_bytes(),
+        "not all of {steps} steps were checked"
+    );
     Ok(())
 }
 
