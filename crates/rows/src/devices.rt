@@ -1,5 +1,7 @@
 //! Readers and writers whose calls fail.
 
+ghost use Rattle.std.specs.Prelude.{◌^◌, ◌<◌};
+
 use crate::row::{checked, replayed};
 use anyhow::{Result, ensure};
 use monitor::{Failed, Sink};
