@@ -1,23 +1,23 @@
 -- The parts of a line that is read as it is printed.
-use Rattle.std.proofs.Common.{◌≡◌, ℕ, zero, suc, ◌+◌, ◌-◌, ◌*◌, ◌<◌, ◌≤◌, ◌^◌, Bool, true, false, cond, ltb, ◌&&◌, List, [], ◌∷◌, ◌++◌, length, get_or, take, drop, map, codes, Option, Some, None, refl, sym, ap, ◌∙◌, inl, inr, arith}
+use Rattle.std.proofs.Common.{◌≡◌, ℕ, ℤ, pos, neg_ℤ, zero, suc, ◌+◌, ◌-◌, ◌*◌, ◌<◌, ◌≤◌, ◌^◌, Bool, true, false, cond, ltb, ◌&&◌, List, [], ◌∷◌, ◌++◌, length, get_or, take, drop, map, codes, Option, Some, None, refl, sym, ap, ◌∙◌, inl, inr, arith}
 use Rattle.std.specs.Char.{digit_value, is_digit}
 use Rattle.std.specs.Str.{bytes_eq}
 use Rattle.std.specs.Str.Parse.{digits_value, IsNumeral}
 use Rattle.std.proofs.lemmas.Bool.{le-leb, ltb-true}
-use Rattle.std.proofs.lemmas.List.{append_assoc, length-drop, length-map, map-append, take-append-drop, take_all}
+use Rattle.std.proofs.lemmas.List.{append_assoc, append-nil, length-drop, length-map, map-append, take-append-drop, take_all}
 use Rattle.std.proofs.Math.Seq.{take-suc}
 use Rattle.std.proofs.lemmas.Slice.Eq.{bytes_eq-Decides}
 use Rattle.board_core.specs.declared.event.Actor.{Actor}
 use Rattle.board_core.specs.declared.event.Op.{Op}
-use Rattle.board_core.specs.declared.event.Op.TheVariants.{Advance}
-use Rattle.guest_script.specs.declared.op_name.OpName.{OpName}
 use Rattle.guest_script.specs.declared.places.Places.{Places}
-use Rattle.guest_script.specs.Words.{AreNumbers, last_number}
-use Rattle.guest_script.specs.Forms.{AreArguments, Form, form_of, IsNamed}
-use Rattle.guest_script.specs.Reading.{IsFormAt, made_from, op_spelling}
+use Rattle.guest_script.specs.declared.said.Said.{Said}
+use Rattle.guest_script.specs.declared.said.Said.TheVariants.{Ret}
+use Rattle.guest_script.specs.Words.{last_above, last_below, AreNumbers, last_number}
+use Rattle.guest_script.specs.Forms.{AreArguments, Form, IsNamed}
+use Rattle.guest_script.specs.Reading.{IsFormAt, made_from}
 use Rattle.guest_script.specs.Values.{is_numeral}
 use Rattle.guest_script.specs.Scanning.{digit_after, digits_after, and_digits, numeral_of}
-use Rattle.guest_script.specs.PlainLines.{behind, BeginsActor, BeginsDigits, BeginsLine, BeginsName, BeginsNumber, BeginsNumbers, BeginsOp}
+use Rattle.guest_script.specs.PlainLines.{behind, BeginsActor, BeginsDigits, BeginsLine, BeginsNumber, BeginsNumbers, BeginsOp, BeginsSaid, BeginsSigned}
 use Rattle.guest_script.proofs.LineWords.{length_numbers}
 use Rattle.guest_script.proofs.Numerals.{at_most, numeral_at_most}
 use Rattle.guest_script.proofs.Spelling.{numeral_tested}
@@ -126,37 +126,71 @@ any_arguments dash limit [] (n ∷ ns) numbers = absurd numbers
 any_arguments dash limit (word ∷ words) [] numbers = absurd numbers
 any_arguments dash limit (word ∷ words) (n ∷ ns) numbers = (numbers.0, any_arguments dash limit words ns numbers.1)
 
-named_by : (name : OpName) (places : Places) (form : Option (Form Op)) (words : List (List ℕ)) (ns : List ℕ) → form_of (op_spelling name) ≡ form → IsFormAt places form → places.limit ≡ last_number
-    → AreNumbers last_number words ns → places.least ≤ length (some_all ns) → length (some_all ns) ≤ places.most → IsNamed form_of (op_spelling name ∷ words) (made_from Advance form (some_all ns))
-named_by name places None words ns at is limit numbers enough not_more = absurd is
-named_by name places (Some form) words ns at is limit numbers enough not_more = record {
-  name = op_spelling name;
-  others = words;
-  form = form;
-  arguments = some_all ns;
-  parts = refl;
-  has_form = at;
-  enough = omega (arith, is.0, enough, length_words words ns numbers);
-  not_more = omega (arith, is.1, not_more, length_words words ns numbers);
-  are_arguments = rw (is.2, limit) (any_arguments form.may_be_absent last_number words ns numbers);
-  made = refl;
-}
+module _ {A : Type 0} (form_of : List ℕ → Option (Form A)) (otherwise : A) where
+  named_by : (name : List ℕ) (places : Places) (form : Option (Form A)) (words : List (List ℕ)) (ns : List ℕ) → form_of name ≡ form → IsFormAt places form → places.limit ≡ last_number
+      → AreNumbers last_number words ns → places.least ≤ length (some_all ns) → length (some_all ns) ≤ places.most → IsNamed form_of (name ∷ words) (made_from otherwise form (some_all ns))
+  named_by name places None words ns at is limit numbers enough not_more = absurd is
+  named_by name places (Some form) words ns at is limit numbers enough not_more = record {
+    name = name;
+    others = words;
+    form = form;
+    arguments = some_all ns;
+    parts = refl;
+    has_form = at;
+    enough = omega (arith, is.0, enough, length_words words ns numbers);
+    not_more = omega (arith, is.1, not_more, length_words words ns numbers);
+    are_arguments = rw (is.2, limit) (any_arguments form.may_be_absent last_number words ns numbers);
+    made = refl;
+  }
 
-pub op_begins : (bytes : List ℕ) (name : OpName) (middle : List ℕ) (places : Places) (arguments : List (Option ℕ)) (rest : List ℕ) (op : Op) → BeginsName bytes name middle → IsFormAt places (form_of (op_spelling name))
-    → places.limit ≡ last_number → BeginsNumbers middle arguments rest → places.least ≤ length arguments → length arguments ≤ places.most → op ≡ made_from Advance (form_of (op_spelling name)) arguments → BeginsOp bytes op rest
-op_begins bytes name middle places arguments rest op at is limit (words, ns, parts, numbers, given) enough not_more made = (
-  op_spelling name ∷ words,
-  at ∙ ap (λ (b : List ℕ). 32 ∷ (op_spelling name ++ b)) parts ∙ ap (λ (b : List ℕ). 32 ∷ b) (sym (append_assoc (op_spelling name) (behind words) rest)),
-  rw (made, given) (named_by name places (form_of (op_spelling name)) words ns refl is limit numbers (rw given at enough) (rw given at not_more)),
+  -- a name and its numbers
+  pub named_begins : (bytes name middle : List ℕ) (places : Places) (arguments : List (Option ℕ)) (rest : List ℕ) (value : A) → bytes ≡ 32 ∷ (name ++ middle) → IsFormAt places (form_of name) → places.limit ≡ last_number
+      → BeginsNumbers middle arguments rest → places.least ≤ length arguments → length arguments ≤ places.most → value ≡ made_from otherwise (form_of name) arguments
+      → (words : List (List ℕ)) × (bytes ≡ behind words ++ rest) × IsNamed form_of words value
+  named_begins bytes name middle places arguments rest value at is limit (words, ns, parts, numbers, given) enough not_more made = (
+    name ∷ words,
+    at ∙ ap (λ (b : List ℕ). 32 ∷ (name ++ b)) parts ∙ ap (λ (b : List ℕ). 32 ∷ b) (sym (append_assoc name (behind words) rest)),
+    rw (made, given) (named_by name places (form_of name) words ns refl is limit numbers (rw given at enough) (rw given at not_more)),
+  )
+
+-- ---- what is said
+
+pub below_begins : (bytes front : List ℕ) (n : ℕ) (rest : List ℕ) → bytes ≡ codes "-" ++ front → n ≤ last_below → BeginsDigits 10 front n rest → BeginsSigned bytes (neg_ℤ (pos n)) rest
+below_begins bytes front n rest at small (digits, parts, numeral, value) =
+    (codes "-" ++ digits, at ∙ ap (λ (b : List ℕ). 45 ∷ b) parts, inr (digits, refl, numeral, omega (arith, small, value), ap (λ (k : ℕ). neg_ℤ (pos k)) value))
+
+pub above_begins : (bytes : List ℕ) (n : ℕ) (rest : List ℕ) → n ≤ last_above → BeginsDigits 10 bytes n rest → BeginsSigned bytes (pos n) rest
+above_begins bytes n rest small (digits, parts, numeral, value) = (digits, parts, inl (numeral, omega (arith, small, value), ap (λ (k : ℕ). pos k) value))
+
+pub ret_begins : (before bytes : List ℕ) (error : ℤ) (middle : List ℕ) (value : ℕ) (rest : List ℕ) → before ≡ codes " ret " ++ bytes → BeginsSigned bytes error middle → BeginsNumber middle value rest → BeginsSaid before (Ret error value) rest
+ret_begins before bytes error middle value rest at (word, parts, is_error) (next, more, is_value) = (
+  codes "ret" ∷ word ∷ next ∷ [],
+  at ∙ ap (λ (b : List ℕ). codes " ret " ++ b) (parts ∙ ap (λ (b : List ℕ). word ++ b) (more ∙ ap (λ (b : List ℕ). 32 ∷ (b ++ rest)) (sym (append-nil next))) ∙ sym (append_assoc word (32 ∷ (next ++ [])) rest)),
+  inl (record { error_word = word; value_word = next; error = error; value = value; parts = refl; is_error = is_error; is_value = is_value; made = refl }),
 )
 
 -- ---- lines
 
-pub line_begins : (n : ℕ) (bytes : List ℕ) (actor : Actor) (middle : List ℕ) (op : Op) (rest after : List ℕ) → BeginsActor bytes actor middle → BeginsOp middle op rest → rest ≡ 10 ∷ after
+pub line_begins : (n : ℕ) (bytes : List ℕ) (actor : Actor) (middle : List ℕ) (op : Op) (rest after : List ℕ) → BeginsActor bytes actor middle → BeginsOp middle op rest → rest ≡ codes "\n" ++ after
     → BeginsLine n false bytes (record { number = n; actor = actor; op = op; said = None }) after
 line_begins n bytes actor middle op rest after (first, parts, is_actor) (words, more, is_op) at = (
   first,
   words,
   parts ∙ ap (λ (b : List ℕ). first ++ b) (more ∙ ap (λ (b : List ℕ). behind words ++ b) at),
   (refl, refl, record { first = first; others = words; parts = refl; is_actor = is_actor; is_op = is_op }),
+)
+
+pub told_begins : (n : ℕ) (bytes : List ℕ) (actor : Actor) (middle : List ℕ) (op : Op) (rest told : List ℕ) (said : Said) (end after : List ℕ) → BeginsActor bytes actor middle → BeginsOp middle op rest → rest ≡ codes " ->" ++ told
+    → BeginsSaid told said end → end ≡ codes "\n" ++ after → BeginsLine n true bytes (record { number = n; actor = actor; op = op; said = Some said }) after
+told_begins n bytes actor middle op rest told said end after (first, parts, is_actor) (words, more, is_op) arrow (replies, last, is_said) at = (
+  first,
+  words ++ codes "->" ∷ replies,
+  parts
+      ∙ ap (λ (b : List ℕ). first ++ b) (
+      more
+      ∙ ap (λ (b : List ℕ). behind words ++ b) (arrow ∙ ap (λ (b : List ℕ). codes " ->" ++ b) (last ∙ ap (λ (b : List ℕ). behind replies ++ b) at))
+      ∙ sym (append_assoc (behind words) (codes " ->" ++ behind replies) (10 ∷ after))
+      ∙ ap (λ (b : List ℕ). b ++ 10 ∷ after) (sym (behind-append words (codes "->" ∷ replies)))
+      ),
+  (first ∷ words, replies, said, refl, refl, refl, record { first = first; others = words; parts = refl; is_actor = is_actor; is_op = is_op }, is_said),
 )

@@ -1,8 +1,9 @@
 -- A line that is read as it is printed is what the reader of words reads.
-use Rattle.std.proofs.Common.{◌≡◌, ℕ, ◌+◌, ◌<◌, Bool, true, false, not, ◌&&◌, List, [], ◌∷◌, ◌++◌, length, Option, Some, None, Ok, refl, sym, ap, ◌∙◌, inl, inr}
+use Rattle.std.proofs.Common.{◌≡◌, ℕ, ℤ, ◌+◌, ◌<◌, Bool, true, false, not, ◌&&◌, List, [], ◌∷◌, ◌++◌, length, Option, Some, None, Ok, codes, refl, sym, ap, ◌∙◌, inl, inr}
 use Rattle.std.specs.List.{AllByRecursion, join_with_byte, list_all}
 use Rattle.std.specs.Str.Lines.{lines}
 use Rattle.std.specs.Str.{bytes_eq}
+use Rattle.std.specs.Str.Parse.{digits_value}
 use Rattle.std.proofs.lemmas.Bool.{and_parts, cases_Bool, not-true, not_from_true}
 use Rattle.std.proofs.lemmas.Slice.Eq.{bytes_eq-Decides}
 use Rattle.std.proofs.lemmas.List.{append_assoc, append-nil}
@@ -11,18 +12,19 @@ use Rattle.board_core.specs.declared.event.Actor.TheVariants.{Hart, Clock}
 use Rattle.board_core.specs.Refusals.{first_that_holds}
 use Rattle.guest_script.specs.declared.fault.Fault.{Fault}
 use Rattle.guest_script.specs.declared.kind.Kind.TheVariants.{Step}
+use Rattle.guest_script.specs.declared.said.Said.{Said}
 use Rattle.guest_script.specs.declared.script.Line.{Line}
-use Rattle.guest_script.specs.Forms.{Form, form_of, guest_forms, named, other_forms}
+use Rattle.guest_script.specs.Forms.{Form, form_of, guest_forms, IsSaid, named, other_forms, said_form_of, said_forms}
 use Rattle.board_core.specs.declared.event.Op.{Op}
-use Rattle.guest_script.specs.Words.{is_allowed, is_blank, is_hash}
-use Rattle.guest_script.specs.Grammar.{Draft, IsActor, IsStepLine}
+use Rattle.guest_script.specs.Words.{is_allowed, is_blank, is_hash, IsSigned}
+use Rattle.guest_script.specs.Grammar.{Draft, IsActor, IsStep, IsStepLine}
 use Rattle.guest_script.specs.Values.{is_filled, next_in, with_step, words_in}
 use Rattle.guest_script.specs.FirstFault.{byte_test, line_tests, may_follow}
 use Rattle.guest_script.specs.Reading.{line_from, lines_from, located, or_fault}
 use Rattle.guest_script.specs.PlainLines.{behind, BeginsLine}
 use Rattle.guest_script.proofs.LineWords.{none_cons, NoneHolds, step_follows}
 use Rattle.guest_script.proofs.LinesFrom.{good_line}
-use Rattle.guest_script.proofs.PlainWords.{arguments_plain, IsPlain, IsPlainByte, joined_line, lines_printed, spelled_plain}
+use Rattle.guest_script.proofs.PlainWords.{append_all, arguments_plain, IsPlain, IsPlainByte, joined_line, lines_printed, spelled_plain}
 use Rattle.guest_script.proofs.Spacing.{line_allowed, line_words}
 
 joined_behind : (first : List ℕ) (others : List (List ℕ)) → first ++ behind others ≡ join_with_byte 32 (first ∷ others)
@@ -65,11 +67,32 @@ actor_plain : (word : List ℕ) (actor : Actor) → IsActor word actor → IsPla
 actor_plain word (Hart h) is = spelled_plain word h is.1
 actor_plain word Clock is = word_plain word (ap is_plain is)
 
-step_plain : (n : ℕ) (words : List (List ℕ)) (line : Line) → IsStepLine n false words line → AllByRecursion IsPlain words
-step_plain n words line (number, said, step) =
-    let op = step.is_op in
-    rw (step.parts, op.parts)
-    (actor_plain step.first line.actor step.is_actor, (op_name_plain op.name op.form op.has_form, arguments_plain op.form.may_be_absent op.form.limit op.others op.arguments op.are_arguments))
+step_plain : (words : List (List ℕ)) (actor : Actor) (op : Op) → IsStep words actor op → AllByRecursion IsPlain words
+step_plain words actor op step =
+    let named = step.is_op in
+    rw (step.parts, named.parts)
+    (actor_plain step.first actor step.is_actor, (op_name_plain named.name named.form named.has_form, arguments_plain named.form.may_be_absent named.form.limit named.others named.arguments named.are_arguments))
+
+said_name_plain : (name : List ℕ) (form : Form Said) → said_form_of name ≡ Some form → IsPlain name
+unfolding said_form_of
+said_name_plain name form has = named_plain said_forms name form refl has
+
+signed_plain : (word : List ℕ) (e : ℤ) → IsSigned word e → IsPlain word
+signed_plain word e (inl (numeral, small, made)) = spelled_plain word (digits_value 10 word) (inl (numeral, refl))
+signed_plain word e (inr (digits, parts, numeral, small, made)) =
+    let plain = spelled_plain digits (digits_value 10 digits) (inl (numeral, refl)) in
+    rw parts ((λ none. cc), ((word_plain (codes "-") refl).1.0, plain.1))
+
+said_plain : (words : List (List ℕ)) (said : Said) → IsSaid words said → AllByRecursion IsPlain words
+said_plain words said (inl ret) =
+    rw ret.parts (word_plain (codes "ret") refl, (signed_plain ret.error_word ret.error ret.is_error, (spelled_plain ret.value_word ret.value ret.is_value.1, tt)))
+said_plain words said (inr named) =
+    rw named.parts (said_name_plain named.name named.form named.has_form, arguments_plain named.form.may_be_absent named.form.limit named.others named.arguments named.are_arguments)
+
+line_plain : (n : ℕ) (in_trace : Bool) (words : List (List ℕ)) (line : Line) → IsStepLine n in_trace words line → AllByRecursion IsPlain words
+line_plain n false words line (number, said, step) = step_plain words line.actor line.op step
+line_plain n true words line (before, after, said, number, has_said, parts, step, is_said) =
+    rw parts (append_all IsPlain before (codes "->" ∷ after) (step_plain before line.actor line.op step) (word_plain (codes "->") refl, said_plain after said is_said))
 
 -- ---- the line is read
 
@@ -83,22 +106,23 @@ read_by n draft text first others next at allowed none value =
     let tests : NoneHolds (byte_test text ∷ line_tests draft (first ∷ others)) = none_cons (byte_test text) (line_tests draft (first ∷ others)) (not_from_true _ allowed) none in
     rw at (located_none n (first_that_holds (byte_test text ∷ line_tests draft (first ∷ others))) (next_in n draft (first ∷ others)) next tests value)
 
-line_read : (n : ℕ) (draft : Draft) (words : List (List ℕ)) (line : Line) → AllByRecursion IsPlain words → IsStepLine n false words line → may_follow draft (Step false) ≡ true
-    → line_from n draft (join_with_byte 32 words) ≡ Ok (with_step false draft line)
-line_read n draft words line plain is may =
+line_read : (n : ℕ) (in_trace : Bool) (draft : Draft) (words : List (List ℕ)) (line : Line) → AllByRecursion IsPlain words → IsStepLine n in_trace words line → may_follow draft (Step in_trace) ≡ true
+    → line_from n draft (join_with_byte 32 words) ≡ Ok (with_step in_trace draft line)
+line_read n in_trace draft words line plain is may =
     let joined = joined_line words plain in
-    let follows = step_follows n false draft words line (with_step false draft line) may is refl in
-    read_by n draft (join_with_byte 32 words) follows.first follows.others (with_step false draft line) (line_words (join_with_byte 32 words) words joined ∙ follows.parts) (line_allowed (join_with_byte 32 words) words joined) follows.none follows.value
+    let follows = step_follows n in_trace draft words line (with_step in_trace draft line) may is refl in
+    read_by n draft (join_with_byte 32 words) follows.first follows.others (with_step in_trace draft line) (line_words (join_with_byte 32 words) words joined ∙ follows.parts) (line_allowed (join_with_byte 32 words) words joined) follows.none follows.value
 
-pub plain_read : (n : ℕ) (draft : Draft) (bytes : List ℕ) (line : Line) (after : List ℕ) → BeginsLine n false bytes line after → may_follow draft (Step false) ≡ true
-    → lines_from n draft (lines bytes) ≡ lines_from (n + 1) (with_step false draft line) (lines after)
-plain_read n draft bytes line after (first, others, parts, is) may =
+pub plain_read : (n : ℕ) (in_trace : Bool) (draft : Draft) (bytes : List ℕ) (line : Line) (after : List ℕ) → BeginsLine n in_trace bytes line after → may_follow draft (Step in_trace) ≡ true
+    → lines_from n draft (lines bytes) ≡ lines_from (n + 1) (with_step in_trace draft line) (lines after)
+plain_read n in_trace draft bytes line after (first, others, parts, is) may =
     let words : List (List ℕ) = first ∷ others in
-    let plain = step_plain n words line is in
+    let plain = line_plain n in_trace words line is in
     let whole : bytes ≡ (join_with_byte 32 words ++ 10 ∷ []) ++ after =
     parts ∙ sym (append_assoc first (behind others) (10 ∷ after)) ∙ ap (λ (b : List ℕ). b ++ 10 ∷ after) (joined_behind first others) ∙ sym (append_assoc (join_with_byte 32 words) (10 ∷ []) after) in
-    good_line n draft bytes (join_with_byte 32 words) after (ap lines whole ∙ lines_printed words after plain) (with_step false draft line) (line_read n draft words line plain is may)
+    good_line n draft bytes (join_with_byte 32 words) after (ap lines whole ∙ lines_printed words after plain) (with_step in_trace draft line) (line_read n in_trace draft words line plain is may)
 
-pub found_read : (n : ℕ) (draft next : Draft) (bytes after : List ℕ) → (line : Line) × BeginsLine n false bytes line after × (may_follow draft (Step false) ≡ true) × (next ≡ with_step false draft line) × (length after < length bytes)
+pub found_read : (n : ℕ) (draft next : Draft) (bytes after : List ℕ)
+    → (in_trace : Bool) × (line : Line) × BeginsLine n in_trace bytes line after × (may_follow draft (Step in_trace) ≡ true) × (next ≡ with_step in_trace draft line) × (length after < length bytes)
     → lines_from n draft (lines bytes) ≡ lines_from (n + 1) next (lines after)
-found_read n draft next bytes after (line, begins, may, made, shorter) = rw made (plain_read n draft bytes line after begins may)
+found_read n draft next bytes after (in_trace, line, begins, may, made, shorter) = rw made (plain_read n in_trace draft bytes line after begins may)

@@ -1,4 +1,4 @@
-ghost use Rattle.std.specs.Prelude.{◌≡◌, ◌⊎◌, ◌∷◌, [], true, false, is_some, None, IfOk, OnOk, Err, MatchOption, MatchResult, ◌+◌, ◌<◌, ◌≤◌, ◌^◌, length};
+ghost use Rattle.std.specs.Prelude.{◌≡◌, ◌⊎◌, ◌∷◌, [], ◌++◌, Bool, List, true, false, is_some, None, IfOk, OnOk, Err, MatchOption, MatchResult, ◌+◌, ◌<◌, ◌≤◌, ◌^◌, length};
 ghost use Rattle.std.specs.Str.Lines.{lines};
 ghost use Rattle.guest_script.specs.Packing.{FitsKept};
 ghost use Rattle.guest_script.specs.declared.fault.Fault.TheVariants.{NoMemory, SecondBlock};
@@ -14,7 +14,7 @@ use crate::blocks::BlocksDraft;
 use crate::fault::{Fault, NO_MEMORY, ScriptFault};
 use crate::kind::Kind;
 use crate::lines::Lines;
-use crate::plain::plain_step;
+use crate::plain::plain_line;
 use crate::script::{Body, Line};
 use crate::step::{one_number, step_line};
 use crate::text::{is_clean, next_line};
@@ -74,17 +74,24 @@ impl BodyDraft {
         }
     }
 
-    /// Reads line `n` of a schedule, which the bytes begin with, if it stands in the form in which steps are printed, and
-    /// answers the bytes after it. Else nothing is read.
+    /// Reads line `n` of a schedule or a trace, which the bytes begin with, if it stands in the form in which steps are
+    /// printed, and answers the bytes after it. Else nothing is read.
     fn read_plain<'a>(&mut self, n: u64, bytes: &'a [u8]) -> Result<Option<&'a [u8]>, AllocError>
         requires number { n < 2 ^ 28 }
         requires few { length (lines_in (draft_of self.old)) < 2 ^ 28 }
         ensures read { IfOk result (λ found. MatchOption found (draft_of self.new ≡ draft_of self.old)
-            (λ after. (line : Line) × BeginsLine n false bytes.now line after.now × (may_follow (draft_of self.old) (Step false) ≡ true)
-            × (draft_of self.new ≡ with_step false (draft_of self.old) line) × (length after.now < length bytes.now))) }
+            (λ after. (in_trace : Bool) × (line : Line) × BeginsLine n in_trace bytes.now line after.now × (may_follow (draft_of self.old) (Step in_trace) ≡ true)
+            × (draft_of self.new ≡ with_step in_trace (draft_of self.old) line) × (length after.now < length bytes.now))) }
     {
         match self {
-            BodyDraft::Steps(steps) => match plain_step(n, bytes) {
+            BodyDraft::Steps(steps) => match plain_line(n, false, bytes) {
+                Some((line, after)) => {
+                    steps.push(&line)?;
+                    Ok(Some(after))
+                }
+                None => Ok(None),
+            },
+            BodyDraft::Trace(steps) => match plain_line(n, true, bytes) {
                 Some((line, after)) => {
                     steps.push(&line)?;
                     Ok(Some(after))

@@ -4,10 +4,10 @@ ghost use Rattle.guest_script.specs.Values.{number_in, signed_in};
 ghost use Rattle.guest_script.specs.Scanning.{decimal_in, digit_after, numeral_of, spelled_of};
 
 /// How far a signed number may be below 0.
-const LAST_BELOW: u64 = 1 << 63;
+pub const LAST_BELOW: u64 = 1 << 63;
 
 /// The largest signed number.
-const LAST_ABOVE: u64 = LAST_BELOW - 1;
+pub const LAST_ABOVE: u64 = LAST_BELOW - 1;
 
 /// The number that a word spells, if it is at most `limit`.
 #[tactic(auto, using(crate::proofs::Numerals::of_spelled))]
@@ -56,7 +56,7 @@ fn decimal(digits: &[u8], limit: u64) -> Option<u64>
 }
 
 /// The number below 0 by so much.
-fn below_zero(n: u64) -> i64
+pub fn below_zero(n: u64) -> i64
     requires { n ≤ last_below }
     ensures { result ≡ neg_ℤ (pos n) }
 {

@@ -1,10 +1,12 @@
-ghost use Rattle.std.specs.Prelude.{◌≡◌, ◌+◌, ◌≤◌, ◌<◌, ◌++◌, ◌^◌, [], false, IfSome, length};
-ghost use Rattle.guest_script.specs.PlainLines.{BeginsActor, BeginsDigits, BeginsLine, BeginsName, BeginsNumber, BeginsNumbers, BeginsOp};
+ghost use Rattle.std.specs.Prelude.{◌≡◌, ◌+◌, ◌≤◌, ◌<◌, ◌++◌, ◌^◌, [], ℕ, List, None, Some, codes, IfSome, length};
+ghost use Rattle.guest_script.specs.PlainLines.{BeginsActor, BeginsDigits, BeginsLine, BeginsName, BeginsNumber, BeginsNumbers, BeginsOp, BeginsSaid, BeginsSaidName, BeginsSigned};
 ghost use Rattle.guest_script.specs.Packing.{FitsKept};
 
-use crate::number::push_digit;
+use crate::number::{LAST_ABOVE, LAST_BELOW, below_zero, push_digit};
 use crate::numbers::MOST_ARGUMENTS;
 use crate::op_name::OpName;
+use crate::said::Said;
+use crate::said_name::SaidName;
 use crate::script::Line;
 use arrayvec::ArrayVec;
 use board_core::{Actor, Op};
@@ -12,27 +14,46 @@ use board_core::{Actor, Op};
 /// The largest number of a hart.
 const LAST_HART: u64 = 127;
 
-/// Line `n` of a schedule, which the bytes begin with, and the bytes after it, if it stands in the form in which steps
-/// are printed, and has no dash. It is read in one pass; each other form is for the reader of words.
-pub fn plain_step(n: u64, bytes: &[u8]) -> Option<(Line, &[u8])>
+/// Line `n` of a schedule or of a trace, which the bytes begin with, and the bytes after it, if it stands in the form in
+/// which steps are printed, and has no dash. It is read in one pass; each other form is for the reader of words.
+pub fn plain_line(n: u64, in_trace: bool, bytes: &[u8]) -> Option<(Line, &[u8])>
     ensures number { IfSome result (λ found. found.0.number ≡ n) }
     ensures actor { IfSome result (λ found. FitsKept found.0.actor) }
-    ensures line { IfSome result (λ found. BeginsLine n false bytes.now found.0 found.1.now) }
+    ensures line { IfSome result (λ found. BeginsLine n in_trace bytes.now found.0 found.1.now) }
     ensures shorter { IfSome result (λ found. length found.1.now < length bytes.now) }
 {
     let (actor, rest) = plain_actor(bytes)?;
     let (op, rest) = plain_op(rest)?;
-    match rest {
-        [b'\n', after @ ..] => Some((
-            Line {
-                number: n,
-                actor,
-                op,
-                said: None,
-            },
-            after,
-        )),
-        _ => None,
+    if in_trace {
+        let replies = after(rest, b" ->")?;
+        let (said, end) = plain_said(replies)?;
+        let after = after(end, b"\n")?;
+        Some((told(n, actor, op, said), after))
+    } else {
+        let after = after(rest, b"\n")?;
+        Some((step(n, actor, op), after))
+    }
+}
+
+fn step(number: u64, actor: Actor, op: Op) -> Line
+    ensures { result ≡ record { number = number; actor = actor; op = op; said = None } }
+{
+    Line {
+        number,
+        actor,
+        op,
+        said: None,
+    }
+}
+
+fn told(number: u64, actor: Actor, op: Op, said: Said) -> Line
+    ensures { result ≡ record { number = number; actor = actor; op = op; said = Some said } }
+{
+    Line {
+        number,
+        actor,
+        op,
+        said: Some(said),
     }
 }
 
@@ -191,4 +212,101 @@ fn plain_digits(bytes: &[u8], radix: u32) -> Option<(u64, &[u8])>
         }
     }
     None
+}
+
+/// A reply or a refusal, a blank before each of its words.
+fn plain_said(bytes: &[u8]) -> Option<(Said, &[u8])>
+    ensures said { IfSome result (λ found. BeginsSaid bytes.now found.0 found.1.now) }
+    ensures shorter { IfSome result (λ found. length found.1.now ≤ length bytes.now) }
+{
+    match after(bytes, b" ret ") {
+        Some(rest) => plain_ret(rest),
+        None => plain_named_said(bytes),
+    }
+}
+
+/// The error and the value behind `ret`.
+fn plain_ret(bytes: &[u8]) -> Option<(Said, &[u8])>
+    ensures said { (before : List ℕ) → before ≡ codes " ret " ++ bytes.now → IfSome result (λ found. BeginsSaid before found.0 found.1.now) }
+    ensures shorter { IfSome result (λ found. length found.1.now ≤ length bytes.now) }
+{
+    let (error, rest) = plain_signed(bytes)?;
+    let (value, rest) = plain_number(rest)?;
+    Some((Said::Ret { error, value }, rest))
+}
+
+fn plain_signed(bytes: &[u8]) -> Option<(i64, &[u8])>
+    ensures error { IfSome result (λ found. BeginsSigned bytes.now found.0 found.1.now) }
+    ensures shorter { IfSome result (λ found. length found.1.now ≤ length bytes.now) }
+{
+    match after(bytes, b"-") {
+        Some(digits) => {
+            let (n, rest) = plain_digits(digits, 10)?;
+            if n <= LAST_BELOW {
+                Some((below_zero(n), rest))
+            } else {
+                None
+            }
+        }
+        None => {
+            let (n, rest) = plain_digits(bytes, 10)?;
+            if n <= LAST_ABOVE {
+                Some((n as i64, rest))
+            } else {
+                None
+            }
+        }
+    }
+}
+
+fn plain_named_said(bytes: &[u8]) -> Option<(Said, &[u8])>
+    ensures said { IfSome result (λ found. BeginsSaid bytes.now found.0 found.1.now) }
+    ensures shorter { IfSome result (λ found. length found.1.now ≤ length bytes.now) }
+{
+    let name = likely_said(bytes)?;
+    let rest = after_said(name, bytes)?;
+    let places = name.places();
+    if places.limit != u64::MAX {
+        return None;
+    }
+    let mut arguments = ArrayVec::new();
+    let rest = plain_numbers(rest, &mut arguments);
+    if arguments.len() < places.least || places.most < arguments.len() {
+        return None;
+    }
+    Some((name.said(&arguments), rest))
+}
+
+/// The one name that may stand behind a blank, by its first letter. A wrong guess costs no more than its time.
+fn likely_said(bytes: &[u8]) -> Option<SaidName> {
+    match bytes {
+        [_, b'w', ..] => Some(SaidName::Waiting),
+        [_, b'g', ..] => Some(SaidName::Gone),
+        [_, b's', ..] => Some(SaidName::Served),
+        [_, b'd', ..] => Some(SaidName::Done),
+        [_, b'e', ..] => Some(SaidName::Entry),
+        [_, b'v', ..] => Some(SaidName::Value),
+        [_, b'f', ..] => Some(SaidName::Fault),
+        [_, b'm', ..] => Some(SaidName::Moved),
+        [_, b'r', ..] => Some(SaidName::Refused),
+        _ => None,
+    }
+}
+
+/// What follows a blank and a name.
+fn after_said(name: SaidName, bytes: &[u8]) -> Option<&[u8]>
+    ensures name { IfSome result (λ rest. BeginsSaidName bytes.now name rest.now) }
+    ensures shorter { IfSome result (λ rest. length rest.now ≤ length bytes.now) }
+{
+    match name {
+        SaidName::Waiting => after(bytes, b" waiting"),
+        SaidName::Gone => after(bytes, b" gone"),
+        SaidName::Served => after(bytes, b" served"),
+        SaidName::Done => after(bytes, b" done"),
+        SaidName::Entry => after(bytes, b" entry"),
+        SaidName::Value => after(bytes, b" value"),
+        SaidName::Fault => after(bytes, b" fault"),
+        SaidName::Moved => after(bytes, b" moved"),
+        SaidName::Refused => after(bytes, b" refused"),
+    }
 }
