@@ -17,7 +17,8 @@ use std::alloc::Global;
 /// Reads a trace to its end, makes its board, runs the trace on it line by line, and writes whether each line says
 /// what the board answers: `agrees K` with the count of the lines, or `differs at line L: REPLY` with the board's own
 /// reply or refusal to the first that doesn't. Nothing is written before the trace is read and the board made; at most
-/// 16,777,217 bytes are read, and after a failed read the writer is as it was.
+/// 16,777,217 bytes are read, and after a failed read the writer is as it was. An empty script is a trace without lines;
+/// a program or a schedule is of the wrong kind.
 pub fn check<R: Source, W: Sink>(alloc: Global, reader: &mut R, writer: &mut W) -> Outcome
     requires reader_counts { R.failures reader.old < 2 ^ 63 }
     requires writer_counts { W.failures writer.old < 2 ^ 63 }

@@ -15,8 +15,9 @@ use monitor::{Failed, Sink, print, print_head, print_line};
 use std::alloc::Global;
 
 /// Reads a schedule to its end, makes its board, and writes the board line, each line with its reply, and
-/// the board's table. Nothing is written before the schedule is read and the board made; at most 16,777,217 bytes
-/// are read, and after a failed read the writer is as it was.
+/// the board's table. Where this has at most 16,777,216 bytes, it is a trace with which `check` agrees. Nothing is
+/// written before the schedule is read and the board made; at most 16,777,217 bytes are read, and after a failed read
+/// the writer is as it was. An empty script is a schedule without lines; a program or a trace is of the wrong kind.
 pub fn replay<R: Source, W: Sink>(alloc: Global, reader: &mut R, writer: &mut W) -> Outcome
     requires reader_counts { R.failures reader.old < 2 ^ 63 }
     requires writer_counts { W.failures writer.old < 2 ^ 63 }
