@@ -7,6 +7,10 @@ pub mod LinesFrom
 pub mod LinesOf
 pub mod Named
 pub mod Numerals
+pub mod Packed
+pub mod PlainParts
+pub mod PlainRead
+pub mod PlainWords
 pub mod ScriptLines
 pub mod Spacing
 pub mod Spelling

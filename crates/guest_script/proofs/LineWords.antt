@@ -541,7 +541,7 @@ follows n draft words next kind first others parts is may none value = record {
   value = rw is value;
 }
 
-step_follows : (n : ℕ) (in_trace : Bool) (draft : Draft) (words : List (List ℕ)) (line : Line) (next : Draft) → may_follow draft (Step in_trace) ≡ true → IsStepLine n in_trace words line → with_step in_trace draft line ≡ next → Follows n draft words next
+pub step_follows : (n : ℕ) (in_trace : Bool) (draft : Draft) (words : List (List ℕ)) (line : Line) (next : Draft) → may_follow draft (Step in_trace) ≡ true → IsStepLine n in_trace words line → with_step in_trace draft line ≡ next → Follows n draft words next
 step_follows n in_trace draft words line next may is value =
     let pass = step_line_passes n in_trace words line is in
     follows n draft words next (Step in_trace) pass.first pass.others pass.parts pass.kind may pass.none (ap (with_step in_trace draft) pass.value ∙ value)

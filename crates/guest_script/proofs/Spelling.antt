@@ -33,7 +33,7 @@ length_filled : (digits : List ℕ) → 0 < length digits → is_filled digits �
 length_filled [] some = absurd (omega arith)
 length_filled (b ∷ digits) some = refl
 
-numeral_tested : (radix limit : ℕ) (digits : List ℕ) → is_numeral radix limit digits ≡ true → IsNumeral radix digits × (digits_value radix digits ≤ limit)
+pub numeral_tested : (radix limit : ℕ) (digits : List ℕ) → is_numeral radix limit digits ≡ true → IsNumeral radix digits × (digits_value radix digits ≤ limit)
 numeral_tested radix limit digits good =
     let all = list_all (λ b. is_digit b radix) digits in
     let parts = and_parts (is_filled digits && all) (leb (digits_value radix digits) limit) good in

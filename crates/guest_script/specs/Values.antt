@@ -175,6 +175,10 @@ abbrev pub traced_in : Draft → List Line
 traced_in (Traced lines) = lines
 traced_in draft = []
 
+-- the lines so far
+abbrev pub lines_in : Draft → List Line
+lines_in draft = stepped_in draft ++ traced_in draft
+
 -- the block that a head opens
 abbrev pub opened_by : (first : List ℕ) → List (List ℕ) → Open
 opened_by first words = if is_at first then guest_at (first_number words) else OfClock []

@@ -1,19 +1,23 @@
-ghost use Rattle.std.specs.Prelude.{◌≡◌, ◌⊎◌, ◌∷◌, [], true, false, is_some, None, IfOk, OnOk, MatchResult};
+ghost use Rattle.std.specs.Prelude.{◌≡◌, ◌⊎◌, ◌∷◌, [], true, false, is_some, None, IfOk, OnOk, Err, MatchOption, MatchResult, ◌+◌, ◌<◌, ◌≤◌, ◌^◌, length};
+ghost use Rattle.std.specs.Str.Lines.{lines};
+ghost use Rattle.guest_script.specs.Packing.{FitsKept};
 ghost use Rattle.guest_script.specs.declared.fault.Fault.TheVariants.{NoMemory, SecondBlock};
 ghost use Rattle.guest_script.specs.declared.kind.Kind.TheVariants.{Head, Operation, Step};
 ghost use Rattle.guest_script.specs.Drafts.{draft_of};
-ghost use Rattle.guest_script.specs.FirstFault.{byte_test, kind_tests, line_tests, may_follow};
+ghost use Rattle.guest_script.specs.FirstFault.{byte_test, kind_tests, line_tests, may_follow, no_memory};
 ghost use Rattle.guest_script.specs.Grammar.{Blocked, content, content_of, guest_at, has_block, OfClock, opened};
-ghost use Rattle.guest_script.specs.Reading.{GivesOrLacks, GivesOrWants, line_from, tested};
-ghost use Rattle.guest_script.specs.Values.{clock_in, guests_in, next_in, next_of, words_in, with_step};
+ghost use Rattle.guest_script.specs.PlainLines.{BeginsLine};
+ghost use Rattle.guest_script.specs.Reading.{GivesOrLacks, GivesOrWants, line_from, lines_from, tested};
+ghost use Rattle.guest_script.specs.Values.{clock_in, guests_in, lines_in, next_in, next_of, words_in, with_step};
 
 use crate::blocks::BlocksDraft;
-use crate::fault::{Fault, ScriptFault};
+use crate::fault::{Fault, NO_MEMORY, ScriptFault};
 use crate::kind::Kind;
 use crate::lines::Lines;
+use crate::plain::plain_step;
 use crate::script::{Body, Line};
 use crate::step::{one_number, step_line};
-use crate::text::is_clean;
+use crate::text::{is_clean, next_line};
 use crate::words::next_word;
 use std::alloc::{AllocError, Global};
 
@@ -33,6 +37,8 @@ pub enum BodyDraft {
 impl BodyDraft {
     /// Reads line `n`.
     pub fn read_line(&mut self, alloc: Global, n: u64, text: &[u8]) -> Result<(), ScriptFault>
+        requires number { n < 2 ^ 28 }
+        requires few { length (lines_in (draft_of self.old)) < 2 ^ 28 }
         ensures { GivesOrLacks (λ _. draft_of self.new) result (line_from n (draft_of self.old) text.now) }
     {
         match self.line(alloc, n, text) {
@@ -41,7 +47,57 @@ impl BodyDraft {
         }
     }
 
+    /// Reads line `n`, which the bytes begin with, and answers the bytes after it.
+    pub fn read_first<'a>(
+        &mut self,
+        alloc: Global,
+        n: u64,
+        bytes: &'a [u8],
+    ) -> Result<&'a [u8], ScriptFault>
+        requires some { 0 < length bytes.now }
+        requires number { n < 2 ^ 28 }
+        requires few { length (lines_in (draft_of self.old)) < 2 ^ 28 }
+        ensures read { MatchResult result
+            (λ after. lines_from n (draft_of self.old) (lines bytes.now) ≡ lines_from (n + 1) (draft_of self.new) (lines after.now))
+            (λ e. (e ≡ no_memory) ⊎ (lines_from n (draft_of self.old) (lines bytes.now) ≡ Err e)) }
+        ensures shorter { IfOk result (λ after. length after.now < length bytes.now) }
+        ensures few { OnOk result (length (lines_in (draft_of self.new)) ≤ length (lines_in (draft_of self.old)) + 1) }
+    {
+        match self.read_plain(n, bytes) {
+            Ok(Some(after)) => Ok(after),
+            Ok(None) => {
+                let (text, after) = next_line(bytes);
+                self.read_line(alloc, n, text)?;
+                Ok(after)
+            }
+            Err(_) => Err(NO_MEMORY),
+        }
+    }
+
+    /// Reads line `n` of a schedule, which the bytes begin with, if it stands in the form in which steps are printed, and
+    /// answers the bytes after it. Else nothing is read.
+    fn read_plain<'a>(&mut self, n: u64, bytes: &'a [u8]) -> Result<Option<&'a [u8]>, AllocError>
+        requires number { n < 2 ^ 28 }
+        requires few { length (lines_in (draft_of self.old)) < 2 ^ 28 }
+        ensures read { IfOk result (λ found. MatchOption found (draft_of self.new ≡ draft_of self.old)
+            (λ after. (line : Line) × BeginsLine n false bytes.now line after.now × (may_follow (draft_of self.old) (Step false) ≡ true)
+            × (draft_of self.new ≡ with_step false (draft_of self.old) line) × (length after.now < length bytes.now))) }
+    {
+        match self {
+            BodyDraft::Steps(steps) => match plain_step(n, bytes) {
+                Some((line, after)) => {
+                    steps.push(&line)?;
+                    Ok(Some(after))
+                }
+                None => Ok(None),
+            },
+            _ => Ok(None),
+        }
+    }
+
     fn line(&mut self, alloc: Global, n: u64, text: &[u8]) -> Result<(), Fault>
+        requires number { n < 2 ^ 28 }
+        requires few { length (lines_in (draft_of self.old)) < 2 ^ 28 }
         ensures { GivesOrWants (λ _. draft_of self.new) result
             (tested (byte_test text.now ∷ line_tests (draft_of self.old) (words_in text.now)) (next_in n (draft_of self.old) (words_in text.now))) }
     {
@@ -56,6 +112,8 @@ impl BodyDraft {
 
     /// Reads the words of line `n`.
     fn words(&mut self, alloc: Global, n: u64, first: &[u8], rest: &[u8]) -> Result<(), Fault>
+        requires number { n < 2 ^ 28 }
+        requires few { length (lines_in (draft_of self.old)) < 2 ^ 28 }
         ensures { GivesOrWants (λ _. draft_of self.new) result
             (tested (line_tests (draft_of self.old) (first.now ∷ words_in rest.now)) (next_in n (draft_of self.old) (first.now ∷ words_in rest.now))) }
     {
@@ -135,7 +193,10 @@ impl BodyDraft {
 
     /// A step more.
     fn step(&mut self, alloc: Global, in_trace: bool, line: &Line) -> Result<(), AllocError>
-        requires { may_follow (draft_of self.old) (Step in_trace) ≡ true }
+        requires kind { may_follow (draft_of self.old) (Step in_trace) ≡ true }
+        requires number { line.now.number < 2 ^ 28 }
+        requires actor { FitsKept line.now.actor }
+        requires few { length (lines_in (draft_of self.old)) < 2 ^ 28 }
         ensures { OnOk result (draft_of self.new ≡ with_step in_trace (draft_of self.old) line.now) }
     {
         match self {

@@ -1,21 +1,32 @@
-ghost use Rattle.std.specs.Prelude.{◌≡◌, ◌==◌, ◌++◌, ◌∷◌, [], List, OnOk, length, slice_get};
+ghost use Rattle.std.specs.Prelude.{◌≡◌, ◌==◌, ◌++◌, ◌∷◌, [], ◌*◌, ◌+◌, ◌<◌, ◌≤◌, ◌^◌, List, OnOk, length, slice_get, vec_len};
 ghost use Rattle.std.specs.Iterator.{YieldsFirst, item_count};
 ghost use Rattle.guest_script.specs.declared.script.Line.{Line};
+ghost use Rattle.guest_script.specs.KeptLines.{AreWithin, lines_of};
+ghost use Rattle.guest_script.specs.Packing.{FitsKept};
 
+use crate::kept::{Kept, actor_number};
+use crate::op_shape::{OP_NUMBERS, OpShape};
+use crate::said_shape::{SAID_NUMBERS, SaidShape};
 use crate::script::Line;
 use std::alloc::{AllocError, Global};
 use std::marker::Model;
 
-/// The lines of a schedule or a trace.
+/// How many numbers a line has at most.
+const LINE_NUMBERS: usize = OP_NUMBERS + SAID_NUMBERS;
+
+/// The lines of a schedule or a trace. A line takes 12 bytes, and 8 for each of its numbers.
 #[derive(Debug, Drop)]
 pub struct Lines {
-    kept: Vec<Line>,
+    kept: Vec<Kept>,
+    numbers: Vec<u64>,
 }
 
 impl Model for Lines {
     ghost Value = { List Line };
 
-    ghost view = { λ l. l.kept.items };
+    ghost view = { λ l. lines_of l.numbers.items l.kept.items };
+
+    ghost invariant = { λ l. AreWithin (length l.numbers.items) l.kept.items × (vec_len l.numbers ≤ 11 * vec_len l.kept) };
 }
 
 impl Lines {
@@ -25,6 +36,7 @@ impl Lines {
     {
         Lines {
             kept: Vec::new(alloc),
+            numbers: Vec::new(alloc),
         }
     }
 
@@ -33,10 +45,26 @@ impl Lines {
     /// # Errors
     ///
     /// Memory was refused.
-    pub fn push(&mut self, line: &Line) -> Result<(), AllocError>
+    pub(crate) fn push(&mut self, line: &Line) -> Result<(), AllocError>
+        requires number { line.now.number < 2 ^ 28 }
+        requires actor { FitsKept line.now.actor }
+        requires few { length self.old < 2 ^ 28 }
         ensures { OnOk result (self.new ≡ self.old ++ line.now ∷ []) }
     {
-        self.kept.push(*line)?;
+        self.kept.reserve(1)?;
+        self.numbers.reserve(LINE_NUMBERS)?;
+        let from = self.numbers.len();
+        let op = OpShape::put(line.op, &mut self.numbers);
+        let middle = self.numbers.len();
+        let said = SaidShape::put(line.said, &mut self.numbers);
+        self.kept.push_reserved(Kept {
+            number: line.number as u32,
+            from: from as u32,
+            actor: actor_number(line.actor),
+            op,
+            op_count: (middle - from) as u8,
+            said,
+        });
         Ok(())
     }
 
@@ -58,27 +86,36 @@ impl Lines {
     pub fn get(&self, place: usize) -> Option<Line>
         ensures { result ≡ slice_get self.now place }
     {
-        self.kept.get(place).copied()
+        match self.kept.get(place) {
+            Some(kept) => Some(kept.line(&self.numbers)),
+            None => None,
+        }
     }
 
     /// The lines in their order.
     pub fn iter(&self) -> LinesIter<'_>
         ensures { result ≡ self.now }
     {
-        LinesIter { left: &self.kept }
+        LinesIter {
+            left: &self.kept,
+            numbers: &self.numbers,
+        }
     }
 }
 
 /// The lines that are still to come, in their order.
 #[derive(Drop)]
 pub struct LinesIter<'a> {
-    left: &'a [Line],
+    left: &'a [Kept],
+    numbers: &'a [u64],
 }
 
 impl<'a> Model for LinesIter<'a> {
     ghost Value = { List Line };
 
-    ghost view = { λ l. l.left.now };
+    ghost view = { λ l. lines_of l.numbers.now l.left.now };
+
+    ghost invariant = { λ l. AreWithin (length l.numbers.now) l.left.now };
 }
 
 impl<'a> Iterator for LinesIter<'a> {
@@ -91,6 +128,6 @@ impl<'a> Iterator for LinesIter<'a> {
     fn next(&mut self) -> Option<Line> {
         let (first, left) = self.left.split_first()?;
         self.left = left;
-        Some(*first)
+        Some(first.line(self.numbers))
     }
 }

@@ -12,7 +12,8 @@ const LAST_ABOVE: u64 = LAST_BELOW - 1;
 /// The number that a word spells, if it is at most `limit`.
 #[tactic(auto, using(crate::proofs::Numerals::of_spelled))]
 pub fn number(word: &[u8], limit: u64) -> Option<u64>
-    ensures { result ≡ number_in limit word.now }
+    ensures within { IfSome result (λ n. n ≤ limit) }
+    ensures value { result ≡ number_in limit word.now }
 {
     match spelled(word) {
         Some(n) if n <= limit => Some(n),
@@ -80,7 +81,7 @@ fn numeral(digits: &[u8], radix: u32) -> Option<u64>
 
 /// The number whose digits are those of `n` and one more.
 #[tactic(auto, unfolding(crate::specs::Scanning::digit_after))]
-fn push_digit(n: u64, digit: u8, radix: u32) -> Option<u64>
+pub fn push_digit(n: u64, digit: u8, radix: u32) -> Option<u64>
     requires low { 2 ≤ radix }
     requires high { radix ≤ 36 }
     ensures { result ≡ digit_after radix n digit }

@@ -109,16 +109,14 @@ fn config(arguments: &[Option<u64>]) -> Config
 
 /// Reads the lines, which are numbered from `first`.
 fn read_lines(alloc: Global, bytes: &[u8], first: u64) -> Result<BodyDraft, ScriptFault>
-    requires { first + length bytes.now < 2 ^ 63 }
+    requires { first + length bytes.now < 2 ^ 28 }
     ensures { GivesOrLacks draft_of result (lines_from first Nothing (lines bytes.now)) }
 {
     let mut draft = BodyDraft::Nothing;
     let mut rest = bytes;
     let mut number = first;
     while !rest.is_empty() {
-        let (text, after) = next_line(rest);
-        draft.read_line(alloc, number, text)?;
-        rest = after;
+        rest = draft.read_first(alloc, number, rest)?;
         number += 1;
     }
     Ok(draft)

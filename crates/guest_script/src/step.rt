@@ -1,4 +1,5 @@
-ghost use Rattle.std.specs.Prelude.{◌≡◌, ◌∷◌, [], true, false, MatchOption, None};
+ghost use Rattle.std.specs.Prelude.{◌≡◌, ◌∷◌, [], true, false, IfOk, MatchOption, None};
+ghost use Rattle.guest_script.specs.Packing.{FitsKept};
 ghost use Rattle.board_core.specs.declared.event.Op.TheVariants.{Advance};
 ghost use Rattle.guest_script.specs.declared.said.Said.TheVariants.{Done};
 ghost use Rattle.guest_script.specs.Forms.{form_of, guest_form_of, said_form_of};
@@ -23,7 +24,9 @@ const LAST_HART: u64 = 127;
 
 /// Line `n`: the actor that the first word is, its operation, and in a trace what that gave.
 pub fn step_line(n: u64, in_trace: bool, first: &[u8], rest: &[u8]) -> Result<Line, Fault>
-    ensures { result ≡ tested (actor_test first.now ∷ step_tests in_trace (words_in rest.now)) (line_in n in_trace first.now (words_in rest.now)) }
+    ensures number { IfOk result (λ line. line.number ≡ n) }
+    ensures actor { IfOk result (λ line. FitsKept line.actor) }
+    ensures read { result ≡ tested (actor_test first.now ∷ step_tests in_trace (words_in rest.now)) (line_in n in_trace first.now (words_in rest.now)) }
 {
     if in_trace {
         trace_line(n, first, rest)
@@ -33,7 +36,9 @@ pub fn step_line(n: u64, in_trace: bool, first: &[u8], rest: &[u8]) -> Result<Li
 }
 
 fn schedule_line(n: u64, first: &[u8], rest: &[u8]) -> Result<Line, Fault>
-    ensures { result ≡ tested (actor_test first.now ∷ step_tests false (words_in rest.now)) (line_in n false first.now (words_in rest.now)) }
+    ensures number { IfOk result (λ line. line.number ≡ n) }
+    ensures actor { IfOk result (λ line. FitsKept line.actor) }
+    ensures read { result ≡ tested (actor_test first.now ∷ step_tests false (words_in rest.now)) (line_in n false first.now (words_in rest.now)) }
 {
     let actor = actor(first)?;
     let op = op(rest, false)?;
@@ -46,7 +51,9 @@ fn schedule_line(n: u64, first: &[u8], rest: &[u8]) -> Result<Line, Fault>
 }
 
 fn trace_line(n: u64, first: &[u8], rest: &[u8]) -> Result<Line, Fault>
-    ensures { result ≡ tested (actor_test first.now ∷ step_tests true (words_in rest.now)) (line_in n true first.now (words_in rest.now)) }
+    ensures number { IfOk result (λ line. line.number ≡ n) }
+    ensures actor { IfOk result (λ line. FitsKept line.actor) }
+    ensures read { result ≡ tested (actor_test first.now ∷ step_tests true (words_in rest.now)) (line_in n true first.now (words_in rest.now)) }
 {
     let actor = actor(first)?;
     let told = told_op(rest)?;
@@ -69,7 +76,8 @@ fn told_op(rest: &[u8]) -> Result<(Op, Said), Fault>
 
 #[tactic(auto, using(crate::proofs::ArgumentsIn::actor_read, crate::proofs::ArgumentsIn::actor_unread))]
 fn actor(word: &[u8]) -> Result<Actor, Fault>
-    ensures { result ≡ tested (actor_test word.now ∷ []) (actor_in word.now) }
+    ensures fits { IfOk result (λ actor. FitsKept actor) }
+    ensures read { result ≡ tested (actor_test word.now ∷ []) (actor_in word.now) }
 {
     if word == b"c".as_slice() {
         return Ok(Actor::Clock);

@@ -3,7 +3,6 @@ use Rattle.std.proofs.Common.{◌≡◌, ℕ, zero, suc, ◌+◌, ◌-◌, ◌/�
 use Rattle.std.specs.Prelude.{IsTrue, decimal}
 use Rattle.std.specs.Fmt.{digit_glyph, digits, digits_onto}
 use Rattle.std.specs.List.{AllByRecursion, flat_map, join_with_byte, list_all}
-use Rattle.std.specs.Str.Lines.{lines}
 use Rattle.std.proofs.lemmas.Bool.{and_parts, cases_Bool, cases_lt, lt-ltb, le-ltb, le-leb}
 use Rattle.std.proofs.lemmas.List.{append_assoc, append-nil}
 use Rattle.std.proofs.lemmas.Nat.{mod_below}
@@ -29,7 +28,7 @@ use Rattle.guest_script.specs.Words.{is_allowed, IsLine}
 use Rattle.monitor.specs.Table.{asid_words, deadline_cell, details, entries, entry_cells, entry_line, fence_cells, fence_line, flush_words, hart_cells, head_cells, hex_column, left, letter, outstanding_cell, power_word, range_words, reset_words, right, rights, row, state_name, table, time_cells, tlb_cells, tlb_line, totals_cells, word_cells, word_line, words}
 use Rattle.monitor.specs.Words.{line_of}
 use Rattle.sbiboard.specs.PrintedScripts.{AreComments, TableIsComments}
-use Rattle.sbiboard.proofs.Plain.{append_all, lines_allowed}
+use Rattle.guest_script.proofs.PlainWords.{append_all, lines_allowed}
 
 -- ---- bytes that a script may have
 

@@ -1,5 +1,5 @@
 -- What is printed of a trace is read back.
-use Rattle.std.proofs.Common.{◌≡◌, ℕ, zero, suc, ◌+◌, ◌≤◌, Bool, true, false, List, [], ◌∷◌, ◌++◌, length, map, get_or, Option, Some, None, codes, subst, refl, sym, ap, ◌∙◌, inl, inr, arith}
+use Rattle.std.proofs.Common.{◌≡◌, ℕ, zero, suc, ◌+◌, ◌≤◌, true, false, List, [], ◌∷◌, ◌++◌, length, map, get_or, Option, Some, None, codes, subst, refl, sym, ap, ◌∙◌, inl, inr, arith}
 use Rattle.std.specs.Prelude.{IfSome, Result, Ok, Err, ℤ, pos, negsuc, neg_ℤ, decimal}
 use Rattle.std.specs.Fmt.{digits, signed_decimal}
 use Rattle.std.specs.List.{AllByRecursion, flat_map, join_with_byte}
@@ -29,10 +29,10 @@ use Rattle.guest_script.specs.declared.script.Line.{Line}
 use Rattle.guest_script.specs.Agreeing.{said_of}
 use Rattle.guest_script.specs.Forms.{AreArguments, Form, form_of, IsArgument, IsNamed, IsSaid, number_at, regs_of, said_form_of}
 use Rattle.guest_script.specs.Grammar.{AreLines, Draft, Nothing, Traced, IsActor, IsStep, numbers_of, content_of}
-use Rattle.guest_script.specs.Words.{AreNumbers, IsLine, IsNumber, IsSigned, last_above, last_below, last_hart, last_number}
+use Rattle.guest_script.specs.Words.{AreNumbers, IsLine, IsNumber, last_hart, last_number}
 use Rattle.monitor.specs.Words.{actor_word, board_words, hex, hex_or_dash, line_of, op_words, reply_words}
 use Rattle.sbiboard.specs.PrintedScripts.{Answered, AreComments, FitsActor, FitsAnswer, FitsAnswered, FitsConfig, FitsError, FitsOp, LineReadsBack, NumberReadsBack, SignedReadsBack, TraceReadsBack, trace_line, trace_lines, trace_of, words_of}
-use Rattle.sbiboard.proofs.Plain.{append_all, arguments_plain, IsPlain, IsPlainByte, joined_line, lines_printed, name_plain, numbers_plain, spelled_plain}
+use Rattle.guest_script.proofs.PlainWords.{append_all, arguments_plain, IsPlain, joined_line, lines_printed, name_plain, numbers_plain, spelled_plain}
 
 -- ---- printed numbers
 
@@ -222,23 +222,22 @@ answer_read_back (Ok (replies.Ret answer)) fits =
     let value = (number_read_back last_number answer.value fits.1 (omega arith)).1 in
     record {
       is_said = inl (record {
-            error_word = signed_decimal answer.error;
-            value_word = hex answer.value;
-            error = answer.error;
-            value = answer.value;
-            parts = refl;
-            is_error = signed_read_back answer.error fits.0;
-            is_value = value;
-            made = refl;
-          });
+        error_word = signed_decimal answer.error;
+        value_word = hex answer.value;
+        error = answer.error;
+        value = answer.value;
+        parts = refl;
+        is_error = signed_read_back answer.error fits.0;
+        is_value = value;
+        made = refl;
+      });
       plain = (name_plain (codes "ret") (λ e. cc) (omega arith), (signed_plain answer.error fits.0, (spelled_plain (hex answer.value) answer.value value.1, tt)));
     }
 answer_read_back (Ok replies.Waiting) fits = alone_answer (codes "waiting") _ refl refl refl (name_plain (codes "waiting") (λ e. cc) (omega arith))
 answer_read_back (Ok replies.Gone) fits = alone_answer (codes "gone") _ refl refl refl (name_plain (codes "gone") (λ e. cc) (omega arith))
 answer_read_back (Ok (replies.Entry addr hart opaque)) fits =
     named_answer _ _ (spelled said_form_of (codes "entry") (hex addr ∷ decimal hart ∷ hex opaque ∷ []) _ (Some addr ∷ Some hart ∷ Some opaque ∷ []) refl
-    (name_plain (codes "entry") (λ e. cc) (omega arith)) (omega arith) (omega arith)
-    (
+    (name_plain (codes "entry") (λ e. cc) (omega arith)) (omega arith) (omega arith) (
       (number_read_back last_number addr fits.0 (omega arith)).1,
       ((number_read_back last_number hart fits.1 (omega arith)).0, ((number_read_back last_number opaque fits.2 (omega arith)).1, tt)),
     ))
@@ -306,13 +305,13 @@ lines_read_back n before (step ∷ steps) comments fits are =
     let line = trace_line n step in
     rw (first_line step steps comments fits.0)
     (inr (
-          words_of step,
-          Traced (before ++ line ∷ []),
-          read.0,
-          (line, read.1, refl),
-          subst (λ l. AreLines (n + 1) (Traced (before ++ line ∷ [])) (lines (printed_lines steps comments)) (Traced l))
+      words_of step,
+      Traced (before ++ line ∷ []),
+      read.0,
+      (line, read.1, refl),
+      subst (λ l. AreLines (n + 1) (Traced (before ++ line ∷ [])) (lines (printed_lines steps comments)) (Traced l))
           (append_assoc before (line ∷ []) (trace_lines (n + 1) steps)) (lines_read_back (n + 1) (before ++ line ∷ []) steps comments fits.1 are),
-        ))
+    ))
 
 -- what all lines say
 abbrev draft_of : List Line → Draft
@@ -367,11 +366,11 @@ trace_read_back c steps comments fits fit are short =
       short,
       rw (lines_printed (board_words c) body plain)
           (inr (
-                board_words c,
-                draft_of (trace_lines 2 steps),
-                joined_line (board_words c) plain,
-                record { arguments = arguments_of c; parts = refl; are_numbers = board_numbers c fits },
-                all_read_back 2 steps comments fit are,
-                content_drafted (trace_lines 2 steps),
-              )),
+            board_words c,
+            draft_of (trace_lines 2 steps),
+            joined_line (board_words c) plain,
+            record { arguments = arguments_of c; parts = refl; are_numbers = board_numbers c fits },
+            all_read_back 2 steps comments fit are,
+            content_drafted (trace_lines 2 steps),
+          )),
     )

@@ -11,7 +11,7 @@ use Rattle.board_core.specs.Replies.{stepped}
 use Rattle.guest_script.specs.declared.script.Line.{Line}
 use Rattle.monitor.specs.Words.{board_words, event_words, line_of}
 use Rattle.sbiboard.specs.Replay.{is_history_full, lines_text, meets_full, table_of, text_of}
-use Rattle.sbiboard.specs.Running.{after_line, answer_of, course_after, opening_of}
+use Rattle.sbiboard.specs.Running.{answer_of, course_after, opening_of}
 
 -- what was written is the text of the lines that were done: with that of the others it is the whole text
 pub record HasWritten (before after : Option (List ℕ)) (rest whole : List ℕ) : Type 0 where

@@ -1,5 +1,6 @@
 pub mod Check
 pub mod Devices
+pub mod Fitting
 pub mod Jobs
 pub mod Outcomes
 pub mod PrintedScripts

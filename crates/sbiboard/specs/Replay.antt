@@ -1,16 +1,17 @@
 -- What the replay of a schedule writes, and how it ends (profile).
-use Rattle.std.specs.Prelude.{◌≡◌, ℕ, Bool, true, false, ◌||◌, List, [], ◌∷◌, ◌++◌, Option, Some, None, Result, Ok, Err}
+use Rattle.std.specs.Prelude.{◌≡◌, ℕ, ◌≤◌, Bool, true, false, ◌||◌, List, [], ◌∷◌, ◌++◌, length, Option, Some, None, Result, Ok, Err}
 use Rattle.board_core.specs.declared.config.Config.{Config}
 use Rattle.board_core.specs.declared.event.Refusal.{Refusal}
 use Rattle.board_core.specs.declared.event.Refusal.TheVariants as refusals
 use Rattle.board_core.specs.declared.event.Reply.{Reply}
 use Rattle.board_core.specs.Course.{Course}
 use Rattle.guest_script.specs.declared.script.Line.{Line}
-use Rattle.guest_script.specs.Grammar.{Content, Empty, Program, Schedule, Trace}
+use Rattle.guest_script.specs.Grammar.{Content, Empty, Program, most_bytes, Schedule, Trace}
 use Rattle.monitor.specs.Table.{table}
 use Rattle.monitor.specs.Words.{board_words, event_words, line_of}
 use Rattle.sbiboard.specs.declared.outcome.Outcome.{Outcome}
 use Rattle.sbiboard.specs.declared.outcome.Outcome.TheVariants.{Good, HistoryFull}
+use Rattle.sbiboard.specs.Check.{agrees_text, EndsCheck}
 use Rattle.sbiboard.specs.Running.{after_line, answer_of, course_after, EndsAs, opening_of}
 
 -- the lines of a schedule; an empty script is one without lines
@@ -47,10 +48,15 @@ unfoldable pub text_of : Config → List Line → List ℕ
 text_of c lines =
     line_of (board_words c) ++ (lines_text (opening_of c) lines ++ table_of (course_after (opening_of c) lines))
 
+-- The text of these lines' replay. Where it isn't too long, it is a trace, and its check says that as many lines agree.
+pub record IsReplay (c : Config) (lines : List Line) (text : List ℕ) : Type 0 where
+  pub is_text : text ≡ text_of c lines
+  pub accepted : length text ≤ most_bytes → EndsCheck text Good (agrees_text (length lines))
+
 -- What the replay of these lines writes with each outcome.
 abbrev pub Replays : Config → List Line → Outcome → List ℕ → Type 0
-Replays c lines Good text = (meets_full (opening_of c) lines ≡ false) × (text ≡ text_of c lines)
-Replays c lines HistoryFull text = (meets_full (opening_of c) lines ≡ true) × (text ≡ text_of c lines)
+Replays c lines Good text = (meets_full (opening_of c) lines ≡ false) × IsReplay c lines text
+Replays c lines HistoryFull text = (meets_full (opening_of c) lines ≡ true) × IsReplay c lines text
 Replays c lines outcome text = ⊥
 
 -- What the replay of bytes writes with each outcome.

@@ -85,13 +85,17 @@ pub fn command<'a>(alloc: Global, words: &'a [String]) -> Result<Task<'a>, Error
 
 /// The command line, as clap reads it.
 fn described<'a>(alloc: Global) -> Result<Command<'a>, AllocError> {
-    let replay = of_file(alloc, REPLAY, "The file of the schedule")?
-        .about("Replay a schedule on a new board, and print each reply and the board");
-    let check = of_file(alloc, CHECK, "The file of the trace")?
-        .about("Check a trace on a new board, and print the first reply that differs");
+    let replay = of_file(alloc, REPLAY, "The file of the schedule")?.about(
+        "Replay a schedule on a new board, and print each reply and the board",
+    );
+    let check = of_file(alloc, CHECK, "The file of the trace")?.about(
+        "Check a trace on a new board, and print the first reply that differs",
+    );
     Command::new(alloc, "sbiboard")
         .version(VERSION)
-        .about("Replay schedules and check traces on a proved SBI 1.0 firmware of a modelled RV64 board")
+        .about(
+            "Replay schedules and check traces on a proved SBI 1.0 firmware of a modelled RV64 board",
+        )
         .after_help(EXAMPLE)
         .subcommand_required(true)
         .subcommand(replay)?

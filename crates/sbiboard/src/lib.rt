@@ -5,6 +5,7 @@ mod checking;
 mod command_line;
 mod device;
 mod ending;
+mod fitting;
 mod laws;
 mod outcome;
 mod replaying;

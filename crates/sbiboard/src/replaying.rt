@@ -1,10 +1,12 @@
 ghost use Rattle.std.specs.Prelude.{◌≡◌, ◌^◌, ◌<◌, true, IfOk, IfSome, OnOk, take};
 ghost use Rattle.monitor.specs.Sinks.{Puts};
+ghost use Rattle.sbiboard.specs.Fitting.{AllFit, AreRead};
 ghost use Rattle.sbiboard.specs.Replay.{EndsReplay, Replays, is_history_full, lines_text, meets_full, text_of};
 ghost use Rattle.sbiboard.specs.Running.{CountsEnd, EndsFlushed, EndsRead, Writes, course_after, opening_of, read_limit};
 ghost use Rattle.sbiboard.specs.Sources.{ReadsUpTo};
 
 use crate::device::Source;
+use crate::fitting::{answer_fits, op_fits};
 use crate::outcome::Outcome;
 use crate::running::{Job, run};
 use board_core::{Board, Config, Refusal, Reply};
@@ -31,6 +33,7 @@ pub fn replay<R: Source, W: Sink>(alloc: Global, reader: &mut R, writer: &mut W)
 }
 
 /// Replays the lines on a new board.
+#[tactic(auto, using(crate::proofs::Retraced::is_replay))]
 pub fn replay_lines<W: Sink>(
     config: &Config,
     lines: &Lines,
@@ -38,6 +41,7 @@ pub fn replay_lines<W: Sink>(
     writer: &mut W,
 ) -> Outcome
     requires at_opening { board.old ≡ opening_of config.now }
+    requires read { AreRead config.now lines.now }
     requires counts { W.failures writer.old < 2 ^ 63 }
     ensures writes { Writes (Replays config.now lines.now) result (W.written writer.old) (W.written writer.new) }
     ensures flushed { EndsFlushed result (W.is_flushed writer.new) }
@@ -61,6 +65,7 @@ fn print_replay<W: Sink>(
     requires counts { W.failures writer.old < 2 ^ 63 }
     ensures text { Puts W.written W.failures writer.old writer.new result (text_of config.now lines.now) }
     ensures full { IfOk result (λ full. full ≡ meets_full (opening_of config.now) lines.now) }
+    ensures fits { IfOk result (λ _. AllFit (opening_of config.now) lines.now) }
     ensures flushed { OnOk result (W.is_flushed writer.new ≡ true) }
 {
     print_head(config, writer)?;
@@ -75,11 +80,14 @@ fn print_lines<W: Sink>(lines: &Lines, board: &mut Board, writer: &mut W) -> Res
     requires { W.failures writer.old < 2 ^ 63 }
     ensures text { Puts W.written W.failures writer.old writer.new result (lines_text board.old lines.now) }
     ensures full { IfOk result (λ full. full ≡ meets_full board.old lines.now) }
+    ensures fits { IfOk result (λ _. AllFit board.old lines.now) }
     ensures course { IfOk result (λ _. board.new ≡ course_after board.old lines.now) }
 {
     let mut met_full = false;
     for line in lines.iter() {
         let answer = board.step(line.actor, line.op);
+        op_fits(line.op);
+        answer_fits(answer);
         met_full |= is_history_full(&answer);
         print_line(line.actor, line.op, answer, writer)?;
     }

@@ -2,6 +2,7 @@
 
 ghost use Rattle.std.specs.Prelude.{◌≡◌, ◌^◌, ◌<◌, IfSome, take};
 ghost use Rattle.guest_script.specs.Grammar.{content};
+ghost use Rattle.sbiboard.specs.Fitting.{AreRead};
 ghost use Rattle.sbiboard.specs.Jobs.{Does, lines_for};
 ghost use Rattle.sbiboard.specs.Running.{CountsEnd, EndsAs, EndsFlushed, EndsRead, Writes, ended_as, opening_of, read_limit};
 ghost use Rattle.sbiboard.specs.Sources.{ReadsUpTo};
@@ -29,12 +30,7 @@ pub enum Job {
 
 /// Reads a script to its end, makes its board, and runs its lines. Nothing is written before the script is read and
 /// the board made; at most 16,777,217 bytes are read, and after a failed read the writer is as it was.
-pub fn run<R: Source, W: Sink>(
-    job: Job,
-    alloc: Global,
-    reader: &mut R,
-    writer: &mut W,
-) -> Outcome
+pub fn run<R: Source, W: Sink>(job: Job, alloc: Global, reader: &mut R, writer: &mut W) -> Outcome
     requires reader_counts { R.failures reader.old < 2 ^ 63 }
     requires writer_counts { W.failures writer.old < 2 ^ 63 }
     ensures writes { IfSome (R.left reader.old) (λ bytes.
@@ -107,6 +103,7 @@ fn run_lines<W: Sink>(
     writer: &mut W,
 ) -> Outcome
     requires at_opening { board.old ≡ opening_of config.now }
+    requires read { AreRead config.now lines.now }
     requires counts { W.failures writer.old < 2 ^ 63 }
     ensures writes { Writes (Does job config.now lines.now) result (W.written writer.old) (W.written writer.new) }
     ensures flushed { EndsFlushed result (W.is_flushed writer.new) }

@@ -1,5 +1,6 @@
 use Rattle.std.proofs.Common.{◌∙◌, ap}
 use Rattle.sbiboard.specs.Replay.{is_history_full, lines_text}
+use Rattle.sbiboard.proofs.ReadLines.{all_fit-more}
 use Rattle.sbiboard.proofs.Replayed.{has_written-more, lines_text-more, replaying-more}
 use Rattle.sbiboard.proofs.replaying.print_lines.Goals as goal
 
@@ -17,5 +18,7 @@ loop-line-preserved g c =
           (lines_text c.loop-line.board c.loop-line.line-iterator) _ (lines_text c.step-answer.new.self c.next.new.self) (lines_text c.args.board.now c.args.lines.now)
           (lines_text-more c.loop-line.board c.step-answer.new.self c.loop-line.line-iterator c.next.new.self c.in-Some.line are c.step-answer.ensures.after
           c.step-answer.result c.step-answer.ensures.answer) done.text printed.0;
+      fits = λ later. done.fits (all_fit-more c.loop-line.board c.step-answer.new.self c.loop-line.line-iterator c.next.new.self c.in-Some.line are
+          c.step-answer.ensures.after c.step-answer.result c.step-answer.ensures.answer c.op_fits.ensures c.answer_fits.ensures later);
       failures = printed.1 ∙ done.failures;
     }

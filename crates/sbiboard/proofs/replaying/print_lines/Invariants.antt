@@ -1,4 +1,5 @@
 use Rattle.std.proofs.Common.{◌≡◌}
+use Rattle.sbiboard.specs.Fitting.{AllFit}
 use Rattle.sbiboard.specs.Replay.{lines_text}
 use Rattle.sbiboard.proofs.Replayed.{HasWritten, Replaying}
 use Rattle.sbiboard.proofs.replaying.print_lines.Given as goal
@@ -10,5 +11,6 @@ invariant-loop-line g l = record {
   replaying : Replaying l.initial.board l.board l.lines l.line-iterator l.met_full;
   text : HasWritten (g.W.Sink.written l.initial.writer) (g.W.Sink.written l.writer)
       (lines_text l.board l.line-iterator) (lines_text l.initial.board l.lines);
+  fits : AllFit l.board l.line-iterator → AllFit l.initial.board l.lines;
   failures : g.W.Sink.failures l.writer ≡ g.W.Sink.failures l.initial.writer;
 }

@@ -10,7 +10,6 @@ use Rattle.std.proofs.lemmas.List.{append_assoc, append-nil}
 use Rattle.std.proofs.lemmas.List.Elements.{All-from_recursion, All-get_or}
 use Rattle.guest_script.specs.Words.{AreNumbers, is_allowed, is_blank, is_hash, IsLine, IsWord, Spaces, Spells}
 use Rattle.guest_script.specs.Forms.{AreArguments}
-use Rattle.monitor.specs.Words.{line_of}
 use Rattle.guest_script.proofs.LinesOf.{lines_fed}
 use Rattle.guest_script.proofs.Spacing.{Spaces-blank}
 
@@ -135,6 +134,6 @@ lines_allowed text bytes allowed =
     ∙ ap (λ (t : List ℕ). t ∷ lines bytes) (kept_by_strip text no_return)
 
 -- a printed line of plain words comes first among the lines
-pub lines_printed : (words : List (List ℕ)) (bytes : List ℕ) → AllByRecursion IsPlain words → lines (line_of words ++ bytes) ≡ join_with_byte 32 words ∷ lines bytes
+pub lines_printed : (words : List (List ℕ)) (bytes : List ℕ) → AllByRecursion IsPlain words → lines ((join_with_byte 32 words ++ 10 ∷ []) ++ bytes) ≡ join_with_byte 32 words ∷ lines bytes
 lines_printed words bytes plain =
     lines_allowed (join_with_byte 32 words) bytes (joined_all (λ b. IsTrue (is_allowed b)) refl (λ b p. p.allowed) words plain)
