@@ -231,6 +231,27 @@ def orders():
         yield b"board 0 1 1 0 0 0\n" + f"0 sip {one}".encode()
 
 
+PRINTED = [
+    b"0 ecall 0x10 0x0 0xffffffffffffffff 0x0 0x1 0x0 0x0 0x0",
+    b"127 ecall 0x52464e43 0x1 0x2 0x0 0x1000 0x1000 0x0 0x0 -> ret -3 0x0",
+    b"0 sfence 0x1000 - -> done",
+    b"12 store 0x80000008 0x1234567890abcdef",
+    b"c tick 0x5",
+    b"1 sstatus 1 -> refused 2",
+    b"3 advance -> entry 0x80000000 3 0x7",
+]
+
+
+def printed():
+    """Lines as they are printed, each byte left out, doubled, or another one."""
+    for line in PRINTED:
+        for place in range(len(line)):
+            yield BOARD + line[:place] + line[place + 1 :] + b"\n"
+            for byte in (line[place : place + 1], b"0", b"x", b" ", b"-", b"g", b"F", b"\t"):
+                yield BOARD + line[:place] + byte + line[place + 1 :] + b"\n"
+                yield BOARD + line[:place] + byte + line[place:] + b"\r\n"
+
+
 BOARDS = """\
 0 1 10 0 0x80000000 0|129 1 10 0 0x80000000 0|1 1 10 1 0x80000000 0|1 0 10 0 0x80000000 0
 1 257 10 0 0x80000000 0|1 1 0 0 0x80000000 0|1 1 1000001 0 0x80000000 0|1 1 10 0 0x7ffffffe 0
@@ -284,7 +305,7 @@ CHANGES = (byte_changed, word_changed, line_changed)
 
 def all_texts():
     """Every text once."""
-    makers = (beginnings, line_ends, bytes_in_words, comments, numbers, counts, names, arrows, kinds, orders, boards)
+    makers = (beginnings, line_ends, bytes_in_words, comments, numbers, counts, names, arrows, kinds, orders, printed, boards)
     texts = dict.fromkeys(text for maker in makers for text in maker())
     texts.update(dict.fromkeys(changed(0, 1500)))
     return [*texts]
