@@ -32,7 +32,8 @@ FIRMWARES = {"poll", "serve", "advance"}
 GUESTS = set(COUNTS) - CLOCKS - FIRMWARES
 
 # How many words follow a reply.
-REPLIES = {"ret": 2, "waiting": 0, "gone": 0, "served": 0, "done": 0, "entry": 3, "value": 1, "fault": 1, "moved": 1, "refused": 1}
+REPLIES = {"ret": 2, "entry": 3, "value": 1, "fault": 1, "moved": 1, "refused": 1}
+REPLIES |= {"waiting": 0, "gone": 0, "served": 0, "done": 0}
 
 EMPTY, PROGRAM, SCHEDULE, TRACE = "empty", "program", "schedule", "trace"
 

@@ -72,7 +72,8 @@ OPERATIONS = [
 REPLIES = ["ret -1 2", "waiting", "gone", "served", "done", "entry 1 2 3", "value 1", "fault 1", "moved 1", "refused 1"]
 
 # Where an operation may stand: before it, and after it.
-PLACES = [("0 ", ""), ("c ", ""), ("127 ", " -> done"), ("c ", " -> ret 0 0"), ("at 1\n", ""), ("clock\n", ""), ("", ""), ("at 1\nclock\n", "")]
+PLACES = [("0 ", ""), ("c ", ""), ("127 ", " -> done"), ("c ", " -> ret 0 0")]
+PLACES += [("at 1\n", ""), ("clock\n", ""), ("", ""), ("at 1\nclock\n", "")]
 
 # Words that aren't an operation's name, or nearly are.
 NAMES = """Ecall ecal ecalls ecall# load, loads lod sipp si SIP fence.i sfence.vma sret - -> c 0 at clock tick: board cut ret
@@ -183,10 +184,13 @@ def names():
         yield name.encode() + BOARD[5:]
 
 
-ARROWS = """0 ->|0 -> done|128 -> done|128 ->|c -> done|c ->|->|-> done|0 sip ->|0 sip -> ->|0 sip -> done ->|0 sip -> done -> done|0 -> sip
-0 -> ->|0 sip 1 ->|0 lod ->|0 load x ->|0 load ->|0 load -> value 0|0 load 1 2 -> value 0|0 sip->|0 sip-> done|0 sip ->done|0 sip - > done
-0 sip # -> done|0 sip -># done|x -> done|at -> done|at 1 -> done|clock -> done|clock ->|at ->|0 sip => done|0 sip -> done # ->|0 sfence - - -> done
-0 sfence - -> done|0 sfence -> - done|- -> done|0 sip -> -> done|0 ecall 1 -> done|0 ecall 1 2 -> done|0 tick 1 -> refused 2|c sip -> refused 2""".replace("\n", "|").split("|")
+ARROWS = """\
+0 ->|0 -> done|128 -> done|128 ->|c -> done|c ->|->|-> done|0 sip ->|0 sip -> ->|0 sip -> done ->
+0 sip -> done -> done|0 -> sip|0 -> ->|0 sip 1 ->|0 lod ->|0 load x ->|0 load ->|0 load -> value 0
+0 load 1 2 -> value 0|0 sip->|0 sip-> done|0 sip ->done|0 sip - > done|0 sip # -> done|0 sip -># done
+x -> done|at -> done|at 1 -> done|clock -> done|clock ->|at ->|0 sip => done|0 sip -> done # ->
+0 sfence - - -> done|0 sfence - -> done|0 sfence -> - done|- -> done|0 sip -> -> done|0 ecall 1 -> done
+0 ecall 1 2 -> done|0 tick 1 -> refused 2|c sip -> refused 2""".replace("\n", "|").split("|")
 
 
 def arrows():
@@ -196,7 +200,8 @@ def arrows():
             yield text(*before, line)
 
 
-KINDS = ["0 sip", "c tick 1", "0 sip -> done", "at 0x10", "at 16", "at 17", "clock", "sip", "tick 1", "poll", "# none", "lod", "128 x", "0"]
+KINDS = ["0 sip", "c tick 1", "0 sip -> done", "at 0x10", "at 16", "at 17", "clock", "sip", "tick 1", "poll"]
+KINDS += ["# none", "lod", "128 x", "0"]
 
 
 def kinds():
@@ -210,7 +215,8 @@ def kinds():
 
 def orders():
     """Lines with two faults of different tests, of which the first test decides."""
-    faulty = ["\x01", "128", "12x", "lod", "load", "load x", "load 1 2", "sip 1", "->", "-> nope", "-> value", "-> value x", "-> ret x y", "-> ret 0"]
+    faulty = ["\x01", "128", "12x", "lod", "load", "load x", "load 1 2", "sip 1", "->", "-> nope"]
+    faulty += ["-> value", "-> value x", "-> ret x y", "-> ret 0"]
     for one in faulty:
         for other in faulty:
             yield text(f"0 {one} {other}")
@@ -225,9 +231,32 @@ def orders():
         yield b"board 0 1 1 0 0 0\n" + f"0 sip {one}".encode()
 
 
-BOARDS = """0 1 10 0 0x80000000 0|129 1 10 0 0x80000000 0|1 1 10 1 0x80000000 0|1 0 10 0 0x80000000 0|1 257 10 0 0x80000000 0
-1 1 0 0 0x80000000 0|1 1 1000001 0 0x80000000 0|1 1 10 0 0x7ffffffe 0|1 1 10 0 0x80000001 0|1 1 10 0 0x80001000 0
-1 1 10 0 0x80000ffe 0|128 256 1000000 127 0x800ffffe 0|1 1 10 0 0x80000000 0 0|1 1 10 0 0x80000000 0 16 39|1 1 10 0|x y""".replace("\n", "|").split("|")
+PRINTED = [
+    b"0 ecall 0x10 0x0 0xffffffffffffffff 0x0 0x1 0x0 0x0 0x0",
+    b"127 ecall 0x52464e43 0x1 0x2 0x0 0x1000 0x1000 0x0 0x0 -> ret -3 0x0",
+    b"0 sfence 0x1000 - -> done",
+    b"12 store 0x80000008 0x1234567890abcdef",
+    b"c tick 0x5",
+    b"1 sstatus 1 -> refused 2",
+    b"3 advance -> entry 0x80000000 3 0x7",
+]
+
+
+def printed():
+    """Lines as they are printed, each byte left out, doubled, or another one."""
+    for line in PRINTED:
+        for place in range(len(line)):
+            yield BOARD + line[:place] + line[place + 1 :] + b"\n"
+            for byte in (line[place : place + 1], b"0", b"x", b" ", b"-", b"g", b"F", b"\t"):
+                yield BOARD + line[:place] + byte + line[place + 1 :] + b"\n"
+                yield BOARD + line[:place] + byte + line[place:] + b"\r\n"
+
+
+BOARDS = """\
+0 1 10 0 0x80000000 0|129 1 10 0 0x80000000 0|1 1 10 1 0x80000000 0|1 0 10 0 0x80000000 0
+1 257 10 0 0x80000000 0|1 1 0 0 0x80000000 0|1 1 1000001 0 0x80000000 0|1 1 10 0 0x7ffffffe 0
+1 1 10 0 0x80000001 0|1 1 10 0 0x80001000 0|1 1 10 0 0x80000ffe 0|128 256 1000000 127 0x800ffffe 0
+1 1 10 0 0x80000000 0 0|1 1 10 0 0x80000000 0 16 39|1 1 10 0|x y""".replace("\n", "|").split("|")
 
 
 def boards():
@@ -276,7 +305,7 @@ CHANGES = (byte_changed, word_changed, line_changed)
 
 def all_texts():
     """Every text once."""
-    makers = (beginnings, line_ends, bytes_in_words, comments, numbers, counts, names, arrows, kinds, orders, boards)
+    makers = (beginnings, line_ends, bytes_in_words, comments, numbers, counts, names, arrows, kinds, orders, printed, boards)
     texts = dict.fromkeys(text for maker in makers for text in maker())
     texts.update(dict.fromkeys(changed(0, 1500)))
     return [*texts]
