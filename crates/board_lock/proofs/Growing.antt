@@ -1,0 +1,131 @@
+-- What is under the lock, at a seat and in a receipt after one event more.
+use Rattle.std.proofs.Common.{◌≡◌, ℕ, ◌+◌, ◌<◌, ◌≤◌, ◌^◌, true, false, List, [], ◌∷◌, ◌++◌, length, reverse, set, get_or, refl, inl, inr, sym, ap, ◌∙◌, arith}
+use Rattle.std.specs.Prelude.{slice_index_or, Ok}
+use Rattle.std.specs.List.{AllByRecursion}
+use Rattle.std.proofs.lemmas.Bool.{cases_Bool}
+use Rattle.std.proofs.lemmas.List.{get_or-set_same, get_or-set_other, length-append, length-reverse, length-set, reverse-reverse}
+use Rattle.std.proofs.lemmas.Grind.{get_or_default_zero}
+use mathlib.Core.List.{reverse-cons}
+use Rattle.board_core.specs.declared.config.Config.{Config}
+use Rattle.board_core.specs.declared.event.Actor.{Actor}
+use Rattle.board_core.specs.declared.event.Op.{Op}
+use Rattle.board_core.specs.declared.event.Reply.{Reply}
+use Rattle.board_core.specs.Accesses.{used_by_actor}
+use Rattle.board_core.specs.Course.{Course}
+use Rattle.board_core.specs.History.{Event}
+use Rattle.board_core.specs.Replies.{answer, recorded, stepped}
+use Rattle.board_lock.specs.Events.{IsActor, events_in, is_same}
+use Rattle.board_lock.specs.Kept.{IsDesk, IsSeated, IsTold, count_of, number_of}
+use Rattle.board_lock.proofs.Actors.{number-tells, number-within, same-is, same-itself}
+use Rattle.board_lock.proofs.Places.{after, slice_get-tells, count_of-append, count_of-within}
+
+all-more : (P : Event → Type 0) (xs : List Event) (e : Event) → AllByRecursion P xs → P e → AllByRecursion P (xs ++ e ∷ [])
+all-more P [] e all more = (more, tt)
+all-more P (x ∷ xs) e all more = (all.0, all-more P xs e all.1 more)
+
+count-more : (a : Actor) (es : List Event) (e : Event) → is_same a e.actor ≡ true → count_of a (es ++ e ∷ []) ≡ count_of a es + 1
+count-more a es e same = count_of-append a es (e ∷ []) ∙ rw same (omega arith)
+
+count-same : (a : Actor) (es : List Event) (e : Event) → is_same a e.actor ≡ false → count_of a (es ++ e ∷ []) ≡ count_of a es
+count-same a es e other = count_of-append a es (e ∷ []) ∙ rw other (omega arith)
+
+-- a count that is read
+pub read : (opening : Config) (room : ℕ) (b : Course) (counts : List ℕ) (total parts amount name : ℕ) (list : List Event) (a : Actor) (n v : ℕ)
+    → IsDesk opening room b counts total parts amount name list → IsActor opening a → n ≡ number_of opening a → v ≡ get_or counts n v
+    → (v ≡ slice_index_or counts n 0) × (v ≡ count_of a list)
+read opening room b counts total parts amount name list a n v d acting number value =
+    let within : n < length counts = (let w = number-within opening a acting in let s = d.sized in omega arith) in
+    let at : v ≡ slice_index_or counts n 0 = value ∙ get_or_default_zero counts n v within in
+    (at, at ∙ ap (λ (k : ℕ). slice_index_or counts k 0) number ∙ d.counted a acting)
+
+-- a count of events of a board is far from the end of numbers
+pub small : (opening : Config) (room : ℕ) (b : Course) (counts : List ℕ) (total parts amount name : ℕ) (list : List Event) (a : Actor) (count : ℕ)
+    → IsDesk opening room b counts total parts amount name list → count ≡ count_of a list → length list ≤ b.config.limit → count + 1 < 2 ^ 64
+small opening room b counts total parts amount name list a count d counted within =
+    let most = count_of-within a list in
+    let opened : b.config.limit ≡ opening.limit = ap (λ (c : Config). c.limit) d.opened in
+    let limit = d.good.at_most_a_million_events in
+    omega arith
+
+-- the log is as long as the history
+pub as-long : (opening : Config) (room : ℕ) (b : Course) (counts : List ℕ) (total parts amount name : ℕ) (list history : List Event)
+    → IsDesk opening room b counts total parts amount name list → reverse history ≡ b.past → length list ≡ length history
+as-long opening room b counts total parts amount name list history d old = ap length (d.logged ∙ ap reverse (sym old)) ∙ length-reverse (reverse history) ∙ length-reverse history
+
+module _ (b b' : Course) (a : Actor) (op : Op) (reply : Reply) (answered : Ok reply ≡ answer b.config b.past a op) (went : b' ≡ stepped b a op) where
+  abbrev pub event : Event
+  event = record { actor = a; op = op; reply = reply; translation = used_by_actor b.config b.past a op }
+
+  pub is : b' ≡ record { config = b.config; past = event ∷ b.past }
+  is = went ∙ sym (ap (recorded b a op) answered)
+
+  -- the history has the event at its end
+  pub longer : (history history' : List Event) → reverse history ≡ b.past → reverse history' ≡ b'.past → history' ≡ history ++ event ∷ []
+  longer history history' old new =
+      sym (reverse-reverse history') ∙ ap reverse (new ∙ ap (λ (c : Course). c.past) is) ∙ reverse-cons event b.past
+      ∙ ap (λ (es : List Event). es ++ event ∷ []) (ap reverse (sym old) ∙ reverse-reverse history)
+
+  pub longer-by-one : (history history' : List Event) → reverse history ≡ b.past → reverse history' ≡ b'.past → length history' ≡ length history + 1
+  longer-by-one history history' old new = ap length (longer history history' old new) ∙ length-append history (event ∷ [])
+
+  -- which is what a look at it finds
+  pub last : (history history' : List Event) (at : Event) → reverse history ≡ b.past → reverse history' ≡ b'.past → at ≡ get_or history' (length history) at → at ≡ event
+  last history history' at old new is =
+      is ∙ ap (λ (es : List Event). get_or es (length history) at) (longer history history' old new)
+      ∙ (let more = length-append history (event ∷ []) in let one : length (event ∷ []) ≡ 1 = refl in slice_get-tells (history ++ event ∷ []) (length history) event at (after history event []))
+
+  module _ (opening : Config) (acting : IsActor opening a) where
+    pub desk-more : (room : ℕ) (counts : List ℕ) (total total' parts amount name name' : ℕ) (list list' : List Event) (n v : ℕ)
+        → IsDesk opening room b counts total parts amount name list → n ≡ number_of opening a → v ≡ slice_index_or counts n 0 → total' ≡ total + 1 → name' ≡ name
+        → list' ≡ list ++ event ∷ [] → IsDesk opening room b' (set counts n (v + 1)) total' parts amount name' list'
+    desk-more room counts total total' parts amount name name' list list' n v d number value sum named longer =
+        record {
+          good = d.good;
+          opened = ap (λ (c : Course). c.config) is ∙ d.opened;
+          named = named ∙ d.named;
+          logged = longer ∙ ap (λ (es : List Event). es ++ event ∷ []) d.logged ∙ sym (reverse-cons event b.past) ∙ ap events_in (sym is);
+          summed = sum ∙ (let s = d.summed in omega (arith, length-append list (event ∷ []))) ∙ ap length (sym longer);
+          sized = length-set counts n (v + 1) ∙ d.sized;
+          counted = each;
+          acted = subst-acted;
+          no_parts = d.no_parts;
+          no_amount = d.no_amount;
+        }
+      where
+        subst-acted : AllByRecursion (λ (e : Event). IsActor opening e.actor) list'
+        subst-acted = rw longer (all-more (λ (e : Event). IsActor opening e.actor) list event d.acted acting)
+
+        within : n < length counts
+        within = let w = number-within opening a acting in let s = d.sized in omega arith
+
+        each : (x : Actor) → IsActor opening x → slice_index_or (set counts n (v + 1)) (number_of opening x) 0 ≡ count_of x list'
+        each x there = elim (cases_Bool (is_same x a)) [
+          | inl same ↦
+              let one : x ≡ a = same-is x a same in
+              let at : number_of opening x ≡ n = ap (number_of opening) one ∙ sym number in
+              let before : v ≡ count_of a list = value ∙ ap (λ (k : ℕ). slice_index_or counts k 0) number ∙ d.counted a acting in
+              let more : count_of a list' ≡ count_of a list + 1 = ap (count_of a) longer ∙ count-more a list event (same-itself a) in
+              ap (λ (k : ℕ). slice_index_or (set counts n (v + 1)) k 0) at ∙ get_or-set_same counts n (v + 1) 0 within
+              ∙ ap (λ (k : ℕ). k + 1) before ∙ sym more ∙ ap (λ (y : Actor). count_of y list') (sym one)
+          | inr other ↦
+              let apart = number-tells opening x a there acting other in
+              get_or-set_other counts n (number_of opening x) (v + 1) 0 (λ (e : number_of opening x ≡ n). apart (e ∙ number))
+              ∙ d.counted x there ∙ sym (ap (count_of x) longer ∙ count-same x list event other)
+        ]
+
+    pub seat-more : (room : ℕ) (list-name seen-name : ℕ) (list seen : List Event) (count parts parts' amount amount' old : ℕ) (before : List Event)
+        → IsSeated opening room a count parts amount old before → list-name ≡ room → count ≡ count_of a list → parts' ≡ parts → amount' ≡ amount + 1
+        → seen-name ≡ list-name → seen ≡ list ++ event ∷ [] → IsSeated opening room a (count + 1) parts' amount' seen-name seen
+    seat-more room list-name seen-name list seen count parts parts' amount amount' old before s listed counted part more named saw =
+        record {
+          acting = s.acting;
+          one_part = part ∙ s.one_part;
+          counted = more ∙ ap (λ (k : ℕ). k + 1) s.counted;
+          named = named ∙ listed;
+          saw = ap (count_of a) saw ∙ count-more a list event (same-itself a) ∙ ap (λ (k : ℕ). k + 1) (sym counted);
+        }
+
+  pub told : (room list-name seen-name : ℕ) (list seen : List Event) (count place : ℕ) → list-name ≡ room → count ≡ count_of a list → length list ≡ place
+      → seen-name ≡ list-name → seen ≡ list ++ event ∷ [] → IsTold room a count place op reply seen-name seen
+  told room list-name seen-name list seen count place listed counted placed named saw =
+      record { before = list; event = event; named = named ∙ listed; last = saw; by = refl; asked = refl; answered = refl; placed = placed; counted = sym counted }

@@ -1,0 +1,4 @@
+pub mod Actors
+pub mod Places
+pub mod Growing
+pub mod Sums

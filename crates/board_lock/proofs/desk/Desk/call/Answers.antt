@@ -1,0 +1,122 @@
+use Rattle.std.proofs.Common.{◌≡◌, ℕ, ◌+◌, ◌≤◌, List, [], ◌∷◌, ◌++◌, length, arith, sym, ap, ◌∙◌}
+use Rattle.std.specs.Prelude.{Ok}
+use Rattle.board_core.specs.declared.event.Actor.{Actor}
+use Rattle.chronicle.specs.declared.tokens.Chronicle.{Chronicle}
+use Rattle.board_core.specs.Course.{Course}
+use Rattle.board_core.specs.History.{Event}
+use Rattle.board_core.specs.Replies.{answer, stepped}
+use Rattle.board_lock.specs.Kept.{number_of}
+use Rattle.board_lock.proofs.Actors.{number-within}
+use Rattle.board_lock.proofs.Growing.{event, longer-by-one, last, desk-more, seat-more, told, read, small, as-long}
+use Rattle.board_lock.proofs.desk.Desk.call.Goals as goal
+
+pub index-requires : goal.index-requires
+index-requires g c =
+    let within = number-within g.K.Room.opening c.seat.inside.actor c.seat.invariant.acting in
+    let number : c.number-number.result ≡ number_of g.K.Room.opening c.seat.inside.actor = c.number-number.ensures in
+    let sized : length c.self.inside.counts.items ≡ g.K.Room.opening.harts + 1 = c.self.invariant.sized in
+    omega arith
+
+pub index_mut-requires : goal.index_mut-requires
+index_mut-requires g c =
+    let within = number-within g.K.Room.opening c.seat.inside.actor c.seat.invariant.acting in
+    let number : c.number-number.result ≡ number_of g.K.Room.opening c.seat.inside.actor = c.number-number.ensures in
+    let sized : length c.self.inside.counts.items ≡ g.K.Room.opening.harts + 1 = c.self.invariant.sized in
+    omega arith
+
+pub bounds-history-place : goal.bounds-history-place
+bounds-history-place g c =
+    let b : Course = c.self.inside.board in
+    let b' : Course = c.step.new.self in
+    let before : List Event = c.history-place.result.now in
+    let now : List Event = c.history.result.now in
+    let answered : Ok c.in_ok-reply.reply ≡ answer b.config b.past c.seat.inside.actor c.args.op = c.in_ok-reply.ensures.answer in
+    let went : b' ≡ stepped b c.seat.inside.actor c.args.op = c.step.ensures.after in
+    let more = longer-by-one b b' c.seat.inside.actor c.args.op c.in_ok-reply.reply answered went before now c.history-place.ensures.events c.history.ensures.events in
+    omega arith
+
+-- the counts can grow
+pub overflow_add-index_mut : goal.overflow_add-index_mut
+overflow_add-index_mut g c =
+    let d = c.self.invariant in
+    let b : Course = c.self.inside.board in
+    let a : Actor = c.seat.inside.actor in
+    let count : ℕ = c.index_mut.result.now in
+    let here = read g.K.Room.opening g.K.Room.log b _ _ _ _ _ _ a c.number-number.result count d c.seat.invariant.acting c.number-number.ensures c.index_mut.ensures.value in
+    let long : length c.self.inside.log.list ≡ length c.history-place.result.now = as-long g.K.Room.opening g.K.Room.log b _ _ _ _ _ _ _ d c.history-place.ensures.events in
+    let within : length c.history-place.result.now ≤ b.config.limit = c.history-place.ensures.within in
+    let room = small g.K.Room.opening g.K.Room.log b _ _ _ _ _ c.self.inside.log.list a count d here.1 (omega arith) in
+    omega arith
+
+pub overflow_add-seat : goal.overflow_add-seat
+overflow_add-seat g c =
+    let d = c.self.invariant in
+    let b : Course = c.self.inside.board in
+    let a : Actor = c.seat.inside.actor in
+    let here = read g.K.Room.opening g.K.Room.log b _ _ _ _ _ _ a c.number-number.result c.index.result.now d c.seat.invariant.acting c.number-number.ensures c.index.ensures in
+    let same : c.index.result.now ≡ c.seat.inside.count = c.if-index-seat.false in
+    let long : length c.self.inside.log.list ≡ length c.history-place.result.now = as-long g.K.Room.opening g.K.Room.log b _ _ _ _ _ _ _ d c.history-place.ensures.events in
+    let within : length c.history-place.result.now ≤ b.config.limit = c.history-place.ensures.within in
+    let room = small g.K.Room.opening g.K.Room.log b _ _ _ _ _ c.self.inside.log.list a c.seat.inside.count d (sym same ∙ here.1) (omega arith) in
+    omega arith
+
+pub invariant_of-self-2 : goal.invariant_of-self-2
+invariant_of-self-2 g c =
+    let d = c.self.invariant in
+    let b : Course = c.self.inside.board in
+    let b' : Course = c.step.new.self in
+    let a : Actor = c.seat.inside.actor in
+    let answered : Ok c.in_ok-reply.reply ≡ answer b.config b.past a c.args.op = c.in_ok-reply.ensures.answer in
+    let went : b' ≡ stepped b a c.args.op = c.step.ensures.after in
+    let number : c.number-number.result ≡ number_of g.K.Room.opening a = c.number-number.ensures in
+    let at : c.index-history-place.result ≡ event b b' a c.args.op c.in_ok-reply.reply answered went =
+    last b b' a c.args.op c.in_ok-reply.reply answered went c.history-place.result.now c.history.result.now c.index-history-place.result c.history-place.ensures.events c.history.ensures.events c.index-history-place.is in
+    let here = read g.K.Room.opening g.K.Room.log b _ _ _ _ _ _ a c.number-number.result c.index_mut.result.now d c.seat.invariant.acting number c.index_mut.ensures.value in
+    let sum : c.add.new.self.total ≡ c.self.inside.book.total + 1 = c.add.ensures.total in
+    let named : c.glimpse-2.new.self.name ≡ c.self.inside.log.name =
+    ap (λ (l : Chronicle Event). l.name) c.glimpse-2.ensures.0 ∙ ap (λ (l : Chronicle Event). l.name) c.glimpse.ensures.0 ∙ c.push.ensures.0 in
+    let list : c.glimpse-2.new.self.list ≡ c.self.inside.log.list ++ event b b' a c.args.op c.in_ok-reply.reply answered went ∷ [] =
+    ap (λ (l : Chronicle Event). l.list) c.glimpse-2.ensures.0 ∙ ap (λ (l : Chronicle Event). l.list) c.glimpse.ensures.0 ∙ c.push.ensures.1
+    ∙ ap (λ (e : Event). c.self.inside.log.list ++ e ∷ []) at in
+    desk-more b b' a c.args.op c.in_ok-reply.reply answered went g.K.Room.opening c.seat.invariant.acting g.K.Room.log c.self.inside.counts.items
+    c.self.inside.book.total c.add.new.self.total c.self.inside.left.parts c.self.inside.left.amount c.self.inside.log.name c.glimpse-2.new.self.name c.self.inside.log.list c.glimpse-2.new.self.list
+    c.number-number.result c.index_mut.result.now d number here.0 sum named list
+
+pub invariant_of-seat : goal.invariant_of-seat
+invariant_of-seat g c =
+    let d = c.self.invariant in
+    let b : Course = c.self.inside.board in
+    let b' : Course = c.step.new.self in
+    let a : Actor = c.seat.inside.actor in
+    let answered : Ok c.in_ok-reply.reply ≡ answer b.config b.past a c.args.op = c.in_ok-reply.ensures.answer in
+    let went : b' ≡ stepped b a c.args.op = c.step.ensures.after in
+    let at : c.index-history-place.result ≡ event b b' a c.args.op c.in_ok-reply.reply answered went =
+    last b b' a c.args.op c.in_ok-reply.reply answered went c.history-place.result.now c.history.result.now c.index-history-place.result c.history-place.ensures.events c.history.ensures.events c.index-history-place.is in
+    let here = read g.K.Room.opening g.K.Room.log b _ _ _ _ _ _ a c.number-number.result c.index.result.now d c.seat.invariant.acting c.number-number.ensures c.index.ensures in
+    let same : c.index.result.now ≡ c.seat.inside.count = c.if-index-seat.false in
+    let part : c.add.new.share.parts ≡ c.seat.inside.share.parts = c.add.ensures.parts in
+    let more : c.add.new.share.amount ≡ c.seat.inside.share.amount + 1 = c.add.ensures.amount in
+    let saw : c.glimpse.result.list ≡ c.self.inside.log.list ++ event b b' a c.args.op c.in_ok-reply.reply answered went ∷ [] =
+    c.glimpse.ensures.2 ∙ c.push.ensures.1 ∙ ap (λ (e : Event). c.self.inside.log.list ++ e ∷ []) at in
+    seat-more b b' a c.args.op c.in_ok-reply.reply answered went g.K.Room.opening c.seat.invariant.acting g.K.Room.log c.self.inside.log.name c.glimpse.result.name c.self.inside.log.list c.glimpse.result.list
+    c.seat.inside.count c.seat.inside.share.parts c.add.new.share.parts c.seat.inside.share.amount c.add.new.share.amount c.seat.inside.seen.name c.seat.inside.seen.list
+    c.seat.invariant d.named (sym same ∙ here.1) part more (c.glimpse.ensures.1 ∙ c.push.ensures.0) saw
+
+pub invariant_of-result : goal.invariant_of-result
+invariant_of-result g c =
+    let d = c.self.invariant in
+    let b : Course = c.self.inside.board in
+    let b' : Course = c.step.new.self in
+    let a : Actor = c.seat.inside.actor in
+    let answered : Ok c.in_ok-reply.reply ≡ answer b.config b.past a c.args.op = c.in_ok-reply.ensures.answer in
+    let went : b' ≡ stepped b a c.args.op = c.step.ensures.after in
+    let at : c.index-history-place.result ≡ event b b' a c.args.op c.in_ok-reply.reply answered went =
+    last b b' a c.args.op c.in_ok-reply.reply answered went c.history-place.result.now c.history.result.now c.index-history-place.result c.history-place.ensures.events c.history.ensures.events c.index-history-place.is in
+    let here = read g.K.Room.opening g.K.Room.log b _ _ _ _ _ _ a c.number-number.result c.index.result.now d c.seat.invariant.acting c.number-number.ensures c.index.ensures in
+    let same : c.index.result.now ≡ c.seat.inside.count = c.if-index-seat.false in
+    let named : c.glimpse-2.result.name ≡ c.self.inside.log.name = c.glimpse-2.ensures.1 ∙ ap (λ (l : Chronicle Event). l.name) c.glimpse.ensures.0 ∙ c.push.ensures.0 in
+    let saw : c.glimpse-2.result.list ≡ c.self.inside.log.list ++ event b b' a c.args.op c.in_ok-reply.reply answered went ∷ [] =
+    c.glimpse-2.ensures.2 ∙ ap (λ (l : Chronicle Event). l.list) c.glimpse.ensures.0 ∙ c.push.ensures.1 ∙ ap (λ (e : Event). c.self.inside.log.list ++ e ∷ []) at in
+    told b b' a c.args.op c.in_ok-reply.reply answered went g.K.Room.log c.self.inside.log.name c.glimpse-2.result.name c.self.inside.log.list c.glimpse-2.result.list
+    c.seat.inside.count (length c.history-place.result.now) d.named (sym same ∙ here.1)
+    (as-long g.K.Room.opening g.K.Room.log b _ _ _ _ _ _ _ d c.history-place.ensures.events) named saw

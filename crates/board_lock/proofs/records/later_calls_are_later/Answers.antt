@@ -1,0 +1,5 @@
+use Rattle.board_lock.proofs.Places.{later}
+use Rattle.board_lock.proofs.records.later_calls_are_later.Goals as goal
+
+pub returns : goal.returns
+returns c = λ a es k l p q e f. later 0 a es k l (p, e) (q, f)

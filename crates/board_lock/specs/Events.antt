@@ -1,0 +1,32 @@
+-- The events of one actor.
+use Rattle.std.specs.Prelude.{ℕ, ◌+◌, ◌<◌, ◌==◌, Bool, true, false, if◌then◌else◌, List, [], ◌∷◌, reverse}
+use Rattle.board_core.specs.declared.config.Config.{Config}
+use Rattle.board_core.specs.declared.event.Actor.{Actor}
+use Rattle.board_core.specs.declared.event.Actor.TheVariants.{Hart, Clock}
+use Rattle.board_core.specs.Course.{Course}
+use Rattle.board_core.specs.History.{Event}
+
+-- An actor of a board: one of its harts, or the clock.
+abbrev pub IsActor : Config → Actor → Type 0
+IsActor c (Hart h) = h < c.harts
+IsActor c Clock = Unit {0}
+
+-- whether two actors are one
+abbrev pub is_same : Actor → Actor → Bool
+is_same (Hart h) (Hart n) = h == n
+is_same (Hart h) Clock = false
+is_same Clock (Hart n) = false
+is_same Clock Clock = true
+
+-- The history: the accepted events, oldest first.
+abbrev pub events_in : Course → List Event
+events_in b = reverse b.past
+
+-- the events of an actor in order, with their places, where the list begins at place n
+abbrev pub events_from : ℕ → Actor → List Event → List (ℕ × Event)
+events_from n a [] = []
+events_from n a (e ∷ es) = if is_same a e.actor then (n, e) ∷ events_from (n + 1) a es else events_from (n + 1) a es
+
+-- The events of an actor in order, with their places.
+abbrev pub events_of : Actor → List Event → List (ℕ × Event)
+events_of a es = events_from 0 a es

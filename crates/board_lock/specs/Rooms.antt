@@ -1,0 +1,10 @@
+-- Rooms: what ties seats, receipts and a record to their board.
+use Rattle.std.specs.Prelude.{ℕ}
+use Rattle.board_core.specs.declared.config.Config.{Config}
+
+-- What a new board will be opened with, and the names under which its events are counted and kept.
+pub record Place : Type 0 where
+  pub opening : Config
+  pub ledger : ℕ
+  pub parts : ℕ
+  pub log : ℕ

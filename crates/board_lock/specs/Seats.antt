@@ -1,0 +1,29 @@
+-- Seats: the right of one actor to make calls.
+use Rattle.std.specs.Prelude.{◌≡◌, ℕ, ◌+◌, if◌then◌else◌, List, [], ◌∷◌, ◌++◌, length, map}
+use Rattle.board_core.specs.declared.config.Config.{Config}
+use Rattle.board_core.specs.declared.event.Actor.{Actor}
+use Rattle.board_core.specs.declared.event.Actor.TheVariants.{Hart, Clock}
+use Rattle.board_core.specs.Course.{harts_of}
+use Rattle.board_lock.specs.Events.{IsActor, is_same}
+
+-- A seat knows its actor, and how many of its calls were accepted.
+pub record Sitting : Type 0 where
+  pub actor : Actor
+  pub count : ℕ
+
+abbrev pub sitting : Actor → ℕ → Sitting
+sitting actor count = record { actor = actor; count = count }
+
+-- The seats of a new board: those of its harts in order, and then the clock's. No call was made.
+abbrev pub new_seats : Config → List Sitting
+new_seats c = map (λ h. sitting (Hart h) 0) (harts_of c) ++ sitting Clock 0 ∷ []
+
+-- how many of the seats are the actor's
+abbrev pub seats_of : Actor → List Sitting → ℕ
+seats_of a [] = 0
+seats_of a (s ∷ ss) = (if is_same s.actor a then 1 else 0) + seats_of a ss
+
+-- The seats are one for each actor of the board.
+pub record IsOneEach (c : Config) (seats : List Sitting) : Type 0 where
+  pub as_many : length seats ≡ c.harts + 1
+  pub one_each : (a : Actor) → IsActor c a → seats_of a seats ≡ 1

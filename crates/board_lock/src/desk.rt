@@ -1,0 +1,167 @@
+ghost use Rattle.std.specs.Prelude.{◌≡◌, ℕ, ◌+◌, ◌<◌, IfOk, OnOk, OnErr, Ok, MatchOption, length};
+ghost use Rattle.board_core.specs.declared.event.Actor.TheVariants.{Hart, Clock};
+ghost use Rattle.board_core.specs.Resets.{is_off};
+ghost use Rattle.board_core.specs.Replies.{answer, stepped};
+ghost use Rattle.board_lock.specs.Events.{IsActor};
+ghost use Rattle.board_lock.specs.Kept.{number_of};
+ghost use Rattle.board_lock.specs.Rests.{IsPause};
+ghost use Rattle.board_lock.specs.Views.{Shows};
+
+use crate::receipts::Receipt;
+use crate::rests::{Rest, Rests};
+use crate::rooms::Room;
+use crate::seats::Seat;
+use crate::views::{HartNow, HartView};
+use board_core::{Actor, Board, Event, Op, Refusal};
+use chronicle::Chronicle;
+use std::marker::{Model, PhantomData};
+use std::sync::ledger::{Book, Share};
+
+/// What the lock holds: the board, and beside it how many events each actor has, and who rests.
+#[derive(Drop)]
+pub(crate) struct Desk<K: Room> {
+    pub(crate) board: Board,
+    pub(crate) counts: Vec<u64>,
+    pub(crate) rests: Rests,
+    pub(crate) ended: bool,
+    pub(crate) book: Book<K>,
+    pub(crate) left: Share<K>,
+    pub(crate) log: Chronicle<Event>,
+}
+
+impl<K: Room> Model for Desk<K> {
+    ghost use Rattle.board_core.specs.Course.{Course};
+    ghost use Rattle.board_lock.specs.Kept.{IsDesk};
+
+    ghost Value = { Course };
+
+    ghost view = { λ d. d.board };
+
+    ghost invariant = { λ d. IsDesk K.opening K.log d.board d.counts.items d.book.total d.left.parts d.left.amount d.log.name d.log.list };
+}
+
+/// What comes of a seat that would rest.
+#[derive(Clone, Copy, Debug)]
+pub(crate) enum Pause {
+    /// It waits.
+    Waits,
+    /// It has its answer.
+    Over(Rest),
+    /// It was the last one that didn't rest.
+    Last,
+}
+
+impl<K: Room> Desk<K> {
+    /// One step of the seat's actor, and a receipt for it.
+    pub(crate) fn call(&mut self, seat: &mut Seat<K>, op: Op) -> Result<Receipt<K>, Refusal>
+        ensures receipt { IfOk result (λ r. (r.actor ≡ seat.old.actor) × (r.op ≡ op) × (r.ordinal ≡ seat.old.count)) }
+        ensures reply { IfOk result (λ r. answer self.old.config self.old.past seat.old.actor op ≡ Ok r.reply) }
+        ensures after { OnOk result (self.new ≡ stepped self.old seat.old.actor op) }
+        ensures actor { seat.new.actor ≡ seat.old.actor }
+        ensures accepted { OnOk result (seat.new.count ≡ seat.old.count + 1) }
+        ensures refused { OnErr result ((seat.new ≡ seat.old) × (self.new ≡ self.old)) }
+    {
+        let number = self.number(seat.actor);
+        if self.counts[number] != seat.count {
+            return Err(Refusal::WrongPhase);
+        }
+        let place = self.board.history().len();
+        let reply = self.board.step(seat.actor, op)?;
+        self.log.push(&self.board.history()[place]);
+        self.counts[number] += 1;
+        self.book.add(&mut seat.share, 1);
+        let ordinal = seat.count;
+        seat.count += 1;
+        seat.seen = self.log.glimpse();
+        Ok(Receipt {
+            actor: seat.actor,
+            ordinal,
+            place: place as u64,
+            op,
+            reply,
+            seen: self.log.glimpse(),
+            room: PhantomData,
+        })
+    }
+
+    /// What the seat's hart may do next, and how far the board is.
+    pub(crate) fn view(&self, seat: &Seat<K>) -> HartView
+        ensures hart { MatchOption result.hart (seat.now.actor ≡ Clock) (λ now. (h : ℕ) × (seat.now.actor ≡ Hart h) × Shows self.now h now) }
+        ensures power { result.is_off ≡ is_off self.now.past }
+        ensures events { result.events ≡ length self.now.past }
+    {
+        let hart = match seat.actor {
+            Actor::Hart(h) => Some(self.hart_now(h)),
+            Actor::Clock => None,
+        };
+        HartView {
+            hart,
+            is_off: self.board.is_off(),
+            events: self.events(),
+        }
+    }
+
+    /// What hart `h` may do next.
+    fn hart_now(&self, h: u64) -> HartNow
+        requires { h < K.opening.harts }
+        ensures { Shows self.now h result }
+    {
+        HartNow {
+            state: self.board.state(h),
+            outstanding: self.board.outstanding(h),
+            waiting: self.board.waiting_len(h),
+            wake: self.board.wake(h),
+        }
+    }
+
+    /// How many events there are.
+    fn events(&self) -> u64
+        ensures { result ≡ length self.now.past }
+    {
+        self.board.history().len() as u64
+    }
+
+    /// The seat would rest, and has seen so many events. No event happens.
+    pub(crate) fn rest(&mut self, seat: &Seat<K>, seen: u64) -> Pause
+        ensures pause { IsPause result (length self.old.past) seen }
+        ensures same { self.new ≡ self.old }
+    {
+        if self.ended {
+            return Pause::Over(Rest::AllRest);
+        }
+        if self.events() != seen {
+            return Pause::Over(Rest::Changed);
+        }
+        self.rests.insert(seat.actor);
+        if !self.rests.is_all(self.board.config().harts) {
+            return Pause::Waits;
+        }
+        self.ended = true;
+        Pause::Last
+    }
+
+    /// Every rest is over, and stays so. No event happens.
+    pub(crate) fn end(&mut self)
+        ensures { self.new ≡ self.old }
+    {
+        self.ended = true;
+    }
+
+    /// No seat rests any more, since there is another event; and whether one did. No event happens.
+    pub(crate) fn wake(&mut self) -> bool
+        ensures { self.new ≡ self.old }
+    {
+        self.rests.end()
+    }
+
+    /// An actor's number: a hart's id, and after those the clock's.
+    fn number(&self, actor: Actor) -> usize
+        requires { IsActor K.opening actor }
+        ensures { result ≡ number_of K.opening actor }
+    {
+        match actor {
+            Actor::Hart(h) => h as usize,
+            Actor::Clock => self.board.config().harts as usize,
+        }
+    }
+}

@@ -1,0 +1,96 @@
+ghost use Rattle.std.specs.Prelude.{◌≡◌, ◌+◌, ◌<◌, ◌≤◌, ◌↔◌, [], IfOk, IsErrOf, OnOk, replicate};
+ghost use Rattle.board_core.specs.declared.config.BuildFault.TheVariants.{BadConfig};
+ghost use Rattle.board_core.specs.Limits.{IsGood};
+ghost use Rattle.board_lock.specs.Events.{IsActor};
+ghost use Rattle.board_lock.specs.Seats.{new_seats, sitting};
+
+use crate::desk::Desk;
+use crate::rests::Rests;
+use crate::rooms::{NewRoom, Room};
+use crate::seats::Seat;
+use board_core::{Actor, Board, BuildFault, Event};
+use chronicle::Chronicle;
+use std::alloc::{AllocError, Global};
+use std::sync::ledger::Share;
+
+/// What the lock of a new board holds, and its seats.
+pub(crate) fn open_desk<K: Room>(
+    alloc: Global,
+    room: NewRoom,
+) -> Result<(Desk<K>, Vec<Seat<K>>), BuildFault>
+    requires room { (room.opening ≡ K.opening) × (room.log ≡ K.log) }
+    requires ledger { (room.ledger ≡ K.name) × (room.parts ≡ K.parts) × (K.all ≡ K.parts) }
+    ensures bad { IsErrOf result BadConfig ↔ ¬ IsGood K.opening }
+    ensures seats { IfOk result (λ r. r.1.items ≡ new_seats K.opening) }
+    ensures all { IfOk result (λ r. IsGood K.opening × (K.all ≡ K.opening.harts + 1)) }
+{
+    let board = Board::new(alloc, &room.config)?;
+    let NewRoom {
+        config,
+        ledger,
+        mut log,
+    } = room;
+    let (book, mut left) = ledger.open::<K>();
+    let Ok(counts) = zeros(alloc, config.harts as usize + 1) else {
+        return Err(BuildFault::NoMemory);
+    };
+    let Ok(seats) = seats(alloc, config.harts, &mut left, &mut log) else {
+        return Err(BuildFault::NoMemory);
+    };
+    let desk = Desk {
+        board,
+        counts,
+        rests: Rests::new(),
+        ended: false,
+        book,
+        left,
+        log,
+    };
+    Ok((desk, seats))
+}
+
+/// A count of 0 for each actor.
+fn zeros(alloc: Global, len: usize) -> Result<Vec<u64>, AllocError>
+    ensures { IfOk result (λ v. v.items ≡ replicate len 0) }
+{
+    vec![in alloc; 0; len]
+}
+
+/// The seats of a new board.
+fn seats<K: Room>(
+    alloc: Global,
+    harts: u64,
+    left: &mut Share<K>,
+    log: &mut Chronicle<Event>,
+) -> Result<Vec<Seat<K>>, AllocError>
+    requires harts { (harts ≡ K.opening.harts) × (harts ≤ 128) }
+    requires parts { (left.old.parts ≡ harts + 1) × (left.old.amount ≡ 0) }
+    requires log { (log.old.name ≡ K.log) × (log.old.list ≡ []) }
+    ensures seats { IfOk result (λ v. v.items ≡ new_seats K.opening) }
+    ensures left { OnOk result ((left.new.parts ≡ 0) × (left.new.amount ≡ 0)) }
+    ensures log { log.new ≡ log.old }
+{
+    let mut seats = Vec::with_capacity(alloc, harts as usize + 1)?;
+    for h in 0..harts {
+        seats.push(seat(Actor::Hart(h), left, log))?;
+    }
+    seats.push(seat(Actor::Clock, left, log))?;
+    Ok(seats)
+}
+
+/// The seat of an actor on a new board.
+fn seat<K: Room>(actor: Actor, left: &mut Share<K>, log: &mut Chronicle<Event>) -> Seat<K>
+    requires acting { IsActor K.opening actor }
+    requires part { (0 < left.old.parts) × (left.old.amount ≡ 0) }
+    requires log { (log.old.name ≡ K.log) × (log.old.list ≡ []) }
+    ensures seat { result ≡ sitting actor 0 }
+    ensures left { (left.new.parts + 1 ≡ left.old.parts) × (left.new.amount ≡ 0) }
+    ensures log { log.new ≡ log.old }
+{
+    Seat {
+        actor,
+        count: 0,
+        share: left.split_off(1, 0),
+        seen: log.glimpse(),
+    }
+}

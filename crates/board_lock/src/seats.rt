@@ -1,0 +1,45 @@
+ghost use Rattle.std.specs.Prelude.{◌≡◌};
+ghost use Rattle.board_lock.specs.Events.{IsActor};
+
+use crate::rooms::Room;
+use board_core::{Actor, Event};
+use chronicle::Glimpse;
+use std::marker::Model;
+use std::sync::ledger::Share;
+
+/// The right of one actor to make calls: there is one for each.
+#[derive(Drop)]
+pub struct Seat<K: Room> {
+    pub(crate) actor: Actor,
+    pub(crate) count: u64,
+    pub(crate) share: Share<K>,
+    pub(crate) seen: Glimpse<Event>,
+}
+
+impl<K: Room> Model for Seat<K> {
+    ghost use Rattle.board_lock.specs.Kept.{IsSeated};
+    ghost use Rattle.board_lock.specs.Seats.{Sitting, sitting};
+
+    ghost Value = { Sitting };
+
+    ghost view = { λ s. sitting s.actor s.count };
+
+    ghost invariant = { λ s. IsSeated K.opening K.log s.actor s.count s.share.parts s.share.amount s.seen.name s.seen.list };
+}
+
+impl<K: Room> Seat<K> {
+    /// Whose seat it is.
+    pub fn actor(&self) -> Actor
+        ensures actor { result ≡ self.now.actor }
+        ensures acting { IsActor K.opening self.now.actor }
+    {
+        self.actor
+    }
+
+    /// How many of its calls were accepted.
+    pub fn count(&self) -> u64
+        ensures { result ≡ self.now.count }
+    {
+        self.count
+    }
+}

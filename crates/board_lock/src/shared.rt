@@ -1,0 +1,121 @@
+ghost use Rattle.std.specs.Prelude.{◌≡◌, ◌+◌, ◌↔◌, All, IfOk, IfErr, IsOk, IsErrOf, OnOk, OnErr, length};
+ghost use Rattle.board_core.specs.declared.config.BuildFault.TheVariants.{BadConfig};
+ghost use Rattle.board_core.specs.Limits.{IsGood};
+ghost use Rattle.board_core.specs.Replies.{IsLegal};
+ghost use Rattle.board_lock.specs.Events.{events_in, events_of};
+ghost use Rattle.board_lock.specs.Seats.{IsOneEach, new_seats};
+
+use crate::closing::{is_one_each, settle};
+use crate::desk::{Desk, Pause};
+use crate::opening::open_desk;
+use crate::receipts::Receipt;
+use crate::records::Record;
+use crate::rests::Rest;
+use crate::rooms::{NewRoom, Room};
+use crate::seats::Seat;
+use crate::views::HartView;
+use board_core::{BuildFault, Config, Op, Refusal};
+use std::alloc::Global;
+use std::marker::PhantomData;
+use std::sync::{Condvar, Mutex, Wait};
+
+/// A board behind one lock.
+#[derive(Drop)]
+pub struct SharedBoard<K: Room> {
+    config: Config,
+    desk: Mutex<Desk<K>>,
+    changed: Condvar,
+    ghost opening: { config ≡ K.opening },
+    ghost good: { IsGood config },
+    ghost whole: { K.all ≡ K.opening.harts + 1 },
+}
+
+/// The seats weren't one for each actor. The board and the seats are back.
+#[derive(Drop)]
+pub struct NotAll<K: Room> {
+    /// The board.
+    pub board: SharedBoard<K>,
+    /// The seats.
+    pub seats: Vec<Seat<K>>,
+}
+
+impl<K: Room> SharedBoard<K> {
+    /// A board at its opening behind a lock, and the seats of its harts in order, and then the clock's. Memory for the board
+    /// and for all seats is taken here, and by no later call.
+    pub fn open(alloc: Global, room: NewRoom) -> Result<(SharedBoard<K>, Vec<Seat<K>>), BuildFault>
+        requires room { (room.opening ≡ K.opening) × (room.log ≡ K.log) }
+        requires ledger { (room.ledger ≡ K.name) × (room.parts ≡ K.parts) × (K.all ≡ K.parts) }
+        ensures bad { IsErrOf result BadConfig ↔ ¬ IsGood K.opening }
+        ensures seats { IfOk result (λ r. r.1.items ≡ new_seats K.opening) }
+    {
+        let config = room.config;
+        let (desk, seats) = open_desk(alloc, room)?;
+        let shared = SharedBoard {
+            config,
+            desk: Mutex::new(desk),
+            changed: Condvar::new(),
+        };
+        Ok((shared, seats))
+    }
+
+    /// One step of the seat's actor: a receipt for the event that it records, or a refusal that leaves all as it was. The lock
+    /// is held for this one step alone.
+    pub fn call(&self, rt: &impl Wait, seat: &mut Seat<K>, op: Op) -> Result<Receipt<K>, Refusal>
+        ensures receipt { IfOk result (λ r. (r.actor ≡ seat.old.actor) × (r.op ≡ op) × (r.ordinal ≡ seat.old.count)) }
+        ensures actor { seat.new.actor ≡ seat.old.actor }
+        ensures accepted { OnOk result (seat.new.count ≡ seat.old.count + 1) }
+        ensures refused { OnErr result (seat.new ≡ seat.old) }
+    {
+        let mut desk = self.desk.lock(rt);
+        let receipt = desk.call(seat, op)?;
+        let rested = desk.wake();
+        drop(desk);
+        if rested {
+            self.changed.notify_all();
+        }
+        Ok(receipt)
+    }
+
+    /// What the seat's hart may do next. It is a hint.
+    pub fn view(&self, rt: &impl Wait, seat: &Seat<K>) -> HartView {
+        self.desk.lock(rt).view(seat)
+    }
+
+    /// Waits until there is another number of events than the seat had seen, or every seat rests, or the end was called for.
+    pub fn rest<R: Wait>(&self, rt: &R, seat: &Seat<K>, seen: u64) -> Rest {
+        let mut desk = self.desk.lock(rt);
+        for _ in rt.forever() {
+            match desk.rest(seat, seen) {
+                Pause::Over(rest) => return rest,
+                Pause::Last => {
+                    self.changed.notify_all();
+                    return Rest::AllRest;
+                }
+                Pause::Waits => {}
+            }
+            desk = self.changed.wait(rt, desk);
+        }
+        unreachable!()
+    }
+
+    /// Ends every rest, those that will be asked for too.
+    pub fn end(&self, rt: &impl Wait) {
+        self.desk.lock(rt).end();
+        self.changed.notify_all();
+    }
+
+    /// Takes the board from behind its lock, with all seats: the record, in which each receipt stands.
+    pub fn close(self, seats: Vec<Seat<K>>) -> Result<Record<K>, NotAll<K>>
+        requires { K.all ≡ K.parts }
+        ensures all { IsOk result ↔ IsOneEach K.opening seats.items }
+        ensures opening { IfOk result (λ r. r.config ≡ K.opening) }
+        ensures legal { IfOk result (λ r. IsLegal r.config r.past) }
+        ensures counts { IfOk result (λ r. All (λ s. length (events_of s.actor (events_in r)) ≡ s.count) seats.items) }
+        ensures back { IfErr result (λ n. n.seats.items ≡ seats.items) }
+    {
+        if !is_one_each(&self.config, &seats) {
+            return Err(NotAll { board: self, seats });
+        }
+        Ok(settle(self.desk.into_inner(), seats))
+    }
+}
