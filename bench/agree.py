@@ -1,11 +1,13 @@
 #!/usr/bin/env python3
-"""Compares the program with plain Rust on random schedules: status, output and standard error, byte for byte.
+"""Compares the program with plain Rust on random schedules and their traces: status, output and standard error, byte
+for byte.
 
 usage: bench/agree.py [--count N] [--seed N] [PROGRAM]
 
 PROGRAM is a built `sbiboard` (default: the one that `./sbiboard` builds). The examples come first, and then --count
-random schedules (default 1000), each of a seed of its own from --seed on (default 0). A schedule that differs is kept
-in the folder that the last line but one names. The last line is 'N agree, N differ'.
+random schedules (default 1000), each of a seed of its own from --seed on (default 0). Each is replayed; what plain Rust
+prints of a replay is checked as a trace, and so is the same with one of its replies changed. A schedule that differs is
+kept in the folder that the last line but one names. The last line is 'N agree, N differ'.
 """
 import argparse
 import glob
@@ -176,14 +178,52 @@ KINDS = [
 ]  # fmt: skip
 
 
-def replayed(program, path):
-    """Status, output and standard error of a replay."""
-    run = subprocess.run(["sbiboard", "replay", path], executable=program, capture_output=True, timeout=120)
+REPLIES = """ret 0 0|ret -3 0x0|ret 0 0x1|waiting|gone|served|done|entry 0x80000000 0 0|value 0x0|value 0x11|fault 13|moved 1
+moved 4|refused 2|refused 3|refused 4""".replace("\n", "|").split("|")
+
+
+def changed(trace, seed):
+    """The trace with another reply in one of its lines."""
+    any_of = random.Random(seed)
+    lines = trace.decode().splitlines()
+    steps = [at for at, line in enumerate(lines) if " -> " in line]
+    if steps:
+        at = any_of.choice(steps)
+        lines[at] = lines[at].partition(" -> ")[0] + " -> " + any_of.choice(REPLIES)
+    return "\n".join(lines).encode()
+
+
+def ran(program, task, path):
+    """Status, output and standard error of a run."""
+    run = subprocess.run(["sbiboard", task, path], executable=program, capture_output=True, timeout=120)
     return run.returncode, run.stdout, run.stderr
 
 
+def is_same(programs, task, path):
+    one, other = (ran(program, task, path) for program in programs)
+    return one == other
+
+
+def trace_is_same(programs, trace, folder, is_good):
+    """Both check a trace alike, and find that it agrees where it is good."""
+    path = os.path.join(folder, "checked.trace")
+    with open(path, "wb") as file:
+        file.write(trace)
+    return is_same(programs, "check", path) and (not is_good or ran(programs[1], "check", path)[0] == 0)
+
+
+def all_same(programs, path, folder, seed):
+    """Both replay a schedule alike, and check alike what is printed of it, and that with a change."""
+    status, trace, _ = ran(programs[1], "replay", path)
+    if not is_same(programs, "replay", path):
+        return False
+    if status not in (0, 3):
+        return True
+    return trace_is_same(programs, trace, folder, True) and trace_is_same(programs, changed(trace, seed), folder, False)
+
+
 def options():
-    parser = argparse.ArgumentParser(description="Compares the program with plain Rust on random schedules.")
+    parser = argparse.ArgumentParser(description="Compares the program with plain Rust on random schedules and their traces.")
     parser.add_argument("program", nargs="?", default=BUILT)
     parser.add_argument("--count", type=int, default=1000, help="how many random schedules")
     parser.add_argument("--seed", type=int, default=0, help="the seed of the first one")
@@ -203,12 +243,13 @@ def main():
         if number >= len(paths):
             with open(path, "w") as file:
                 file.write(Maker(chosen.seed + number - len(paths)).text)
-        if replayed(chosen.program, path) != replayed(plain, path):
+        if not all_same((chosen.program, plain), path, folder, number):
             differ += 1
             print(f"differs: {path}")
         elif number >= len(paths):
             os.remove(path)
-    os.remove(plain)
+    for name in (plain, os.path.join(folder, "checked.trace")):
+        os.remove(name)
     if differ == 0:
         os.rmdir(folder)
     else:

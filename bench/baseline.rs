@@ -1,9 +1,10 @@
-//! An unverified program that does what `sbiboard replay FILE` does, to measure beside it. `bench/replay.py` builds
-//! it, compares its output with the program's byte for byte, and times both; `bench/agree.py` compares the two on all
-//! examples and on random schedules, where they print the same bytes and end with the same status.
+//! An unverified program that does what `sbiboard replay FILE` and `sbiboard check FILE` do, to measure beside them.
+//! `bench/replay.py` builds it, compares its output with the program's byte for byte, and times both; `bench/agree.py`
+//! compares the two on all examples, on random schedules and on their traces, where they print the same bytes and end
+//! with the same status.
 //!
 //! It is written for speed, as one careful programmer would write it: the bytes of a script are looked at once, a line
-//! is eight bytes with its numbers in a list beside it, an event of the history is 32 bytes with its numbers, and the
+//! is eight bytes with its numbers in a list beside it, what a trace says of it eight more, an event of the history is 32 bytes with its numbers, and the
 //! TLB entry that it used, in lists of the board's own, a cache is sixteen places, each hart has a ring of the fences
 //! that wait there, sets of harts are words of 128 bits, lines are composed in one buffer of 64 KiB, and no
 //! line or step takes memory. As in the program, the whole script is read before the first byte is written, every
@@ -11,6 +12,8 @@
 
 #[path = "baseline/board.rs"]
 mod board;
+#[path = "baseline/faults.rs"]
+mod faults;
 #[path = "baseline/fences.rs"]
 mod fences;
 #[path = "baseline/memory.rs"]
@@ -20,9 +23,9 @@ mod printing;
 #[path = "baseline/script.rs"]
 mod script;
 
-use board::{Board, Refusal};
+use board::{Board, Refusal, Reply};
 use printing::Out;
-use script::{Fault, MOST_BYTES, Script, parse};
+use script::{Fault, Kind, Line, MOST_BYTES, SaidName, Script, parse};
 use std::fs::File;
 use std::io::{self, Read};
 use std::os::fd::AsFd;
@@ -36,23 +39,77 @@ fn read(path: &str) -> io::Result<Vec<u8>> {
     Ok(bytes)
 }
 
-/// Steps the board through the script and prints it. Answers whether a line met a full history.
-fn print(script: &Script, board: &mut Board) -> io::Result<bool> {
+/// The standard output, with a buffer.
+fn output() -> io::Result<Out> {
     let file = File::from(io::stdout().as_fd().try_clone_to_owned()?);
-    let mut out = Out::new(file);
+    Ok(Out::new(file))
+}
+
+fn numbers_of<'a>(script: &'a Script, line: &Line) -> &'a [u64] {
+    &script.numbers[line.first as usize..][..usize::from(line.count)]
+}
+
+/// Steps the board through a schedule and prints it. Answers whether a line met a full history.
+fn replay(script: &Script, board: &mut Board) -> Ended {
+    let mut out = output()?;
     let mut met_full = false;
     out.board_line(&script.config)?;
     for line in &script.lines {
-        let numbers = &script.numbers[line.first as usize..][..usize::from(line.count)];
+        let numbers = numbers_of(script, line);
         let answer = board.step(*line, numbers);
         met_full |= answer.is_err_and(|refusal| refusal == Refusal::HistoryFull);
         out.line(*line, numbers, answer)?;
     }
     out.table(board)?;
-    Ok(met_full)
+    Ok(if met_full {
+        (3, "history full")
+    } else {
+        (0, "")
+    })
 }
 
-fn replay(path: &str) -> (i32, String) {
+/// Steps the board through a trace and compares each answer with what the trace says.
+fn check(script: &Script, board: &mut Board) -> Ended {
+    let mut out = output()?;
+    for (line, said) in script.lines.iter().zip(&script.said) {
+        let answer = board.step(*line, numbers_of(script, line));
+        let first = line.first as usize + usize::from(line.count);
+        let numbers = &script.numbers[first..][..said.name.count()];
+        if !agrees(said.name, numbers, line.actor, answer) {
+            out.differing(said.line, line.actor, answer)?;
+            out.flush()?;
+            return Ok((5, ""));
+        }
+    }
+    out.agreed(script.lines.len())?;
+    out.flush()?;
+    Ok((0, ""))
+}
+
+fn agrees(name: SaidName, numbers: &[u64], actor: u8, answer: Result<Reply, Refusal>) -> bool {
+    match (name, answer) {
+        (SaidName::Ret, Ok(Reply::Ret(error, value))) => {
+            numbers[0] == i64::from(error) as u64 && numbers[1] == value
+        }
+        (SaidName::Entry, Ok(Reply::Entry { addr, opaque })) => {
+            *numbers == [addr, u64::from(actor), opaque]
+        }
+        (SaidName::Value, Ok(Reply::Value(value))) => numbers[0] == value,
+        (SaidName::Fault, Ok(Reply::Fault(cause))) => numbers[0] == u64::from(cause),
+        (SaidName::Moved, Ok(Reply::Moved(state))) => numbers[0] == state as u64,
+        (SaidName::Refused, Err(refusal)) => numbers[0] == refusal as u64,
+        (SaidName::Waiting, Ok(Reply::Waiting))
+        | (SaidName::Gone, Ok(Reply::Gone))
+        | (SaidName::Served, Ok(Reply::Served))
+        | (SaidName::Done, Ok(Reply::Done)) => true,
+        _ => false,
+    }
+}
+
+type Ended = io::Result<(i32, &'static str)>;
+
+/// Runs a task on the script of a file, which must be of this kind, or without lines.
+fn run(path: &str, kind: Kind, task: impl Fn(&Script, &mut Board) -> Ended) -> (i32, String) {
     let failed = || (7, "input or output failed".to_string());
     let Ok(mut bytes) = read(path) else {
         return failed();
@@ -61,23 +118,23 @@ fn replay(path: &str) -> (i32, String) {
         Ok(script) => script,
         Err(Fault(line, fault)) => return (1, format!("line {line}: fault {fault}")),
     };
+    if script.kind != kind && script.kind != Kind::Empty {
+        return (1, "wrong kind of script".to_string());
+    }
     let Some(mut board) = Board::new(&script.config) else {
         return (1, "bad board".to_string());
     };
-    let printed = print(&script, &mut board);
+    let ended = task(&script, &mut board);
     std::hint::black_box(&board);
-    match printed {
-        Ok(false) => (0, String::new()),
-        Ok(true) => (3, "history full".to_string()),
-        Err(_) => failed(),
-    }
+    ended.map_or_else(|_| failed(), |(status, text)| (status, text.to_string()))
 }
 
 fn main() {
     let words: Vec<String> = std::env::args().skip(1).collect();
     let (status, text) = match words.as_slice() {
-        [word, path] if word == "replay" => replay(path),
-        _ => (2, "replay FILE".to_string()),
+        [word, path] if word == "replay" => run(path, Kind::Schedule, replay),
+        [word, path] if word == "check" => run(path, Kind::Trace, check),
+        _ => (2, "replay FILE, or check FILE".to_string()),
     };
     if !text.is_empty() {
         eprintln!("sbiboard: {text}");

@@ -1,22 +1,25 @@
 #!/usr/bin/env python3
 """Times the program beside plain Rust, and prints the README's table.
 
-usage: bench/replay.py [--runs N] [--instructions] [--workloads NAME,..] [--harts N,..] [--lines N,..] [PROGRAM]
+usage: bench/replay.py [--runs N] [--instructions] [--tasks replay,check] [--workloads NAME,..] [--harts N,..]
+                       [--lines N,..] [PROGRAM]
 
 PROGRAM is a built `sbiboard` (default: the one that `./sbiboard` builds); plain Rust is `bench/baseline.rs`, which
-is built here with rustc. It does the same work: `bench/agree.py` compares the two byte for byte, on all examples and
-on random schedules. Here, too, both first replay each schedule once, and must print the same bytes. Then they take
-turns, --runs times (default 9), and of each the fastest run counts. Time is the processor's, of the whole process,
+is built here with rustc. It does the same work: `bench/agree.py` compares the two byte for byte, on all examples, on
+random schedules and on their traces. Here, too, both first run each script once, and must print the same bytes. Then
+they take turns, --runs times (default 9), and of each the fastest run counts. A workload is a schedule, which is
+replayed, and then what that prints, which is checked as a trace. Time is the processor's, of the whole process,
 in user and system: reading the file and writing the output are in it, waiting for a processor isn't. A busy machine
-still slows both by its caches, so look at the load that is printed. Memory is the peak, which can't be told below
-that of this script: there it stands behind a `<`.
+still slows both by its caches, so look at the load that is printed. Memory is the peak, divided by the lines, so that
+of few lines much of it is the process's own; it can't be told below that of this script: there it stands behind a `<`.
 "Huge pages" is the same with GLIBC_TUNABLES=glibc.malloc.hugetlb=1, which has the C library ask for them; it changes
 both, and the ratio is the program's time over plain Rust's, both with it.
 
 A step should be constant work, so a row's speed should depend neither on the number of harts nor on how long the
 history is: rows of 100,000 lines differ in their harts, and rows of 128 harts in their lines. (Of 10,000 lines a large
 part is the start of the process.) The exception is a queue of fences that wait: see "crossing fences". --harts and
---lines choose other ones. A script has at most 16,777,216 bytes, so workloads of longer lines end at 500,000 lines.
+--lines choose other ones. A script has at most 16,777,216 bytes, so workloads of longer lines end at 500,000 lines,
+and of a longer trace the lines that fit are checked.
 --instructions counts instructions by valgrind in the place of time, in some minutes: a busy machine doesn't change them.
 """
 import argparse
@@ -187,6 +190,18 @@ def schedule(folder, workload, harts, lines):
     return path
 
 
+def trace(folder, plain, path):
+    """The file of the trace that a schedule's replay prints, or of as many of its lines as a script may have, and their number."""
+    made = os.path.join(folder, "replayed.trace")
+    run(plain, "replay", path, PLAIN_PAGES, made)
+    with open(made, "rb") as file:
+        text = file.read(MOST_BYTES)
+    whole = text[: text.rindex(b"\n") + 1]
+    with open(made, "wb") as file:
+        file.write(whole)
+    return made, whole.count(b" -> ")
+
+
 # ---- runs
 
 
@@ -197,43 +212,43 @@ def plain_rust(folder):
     return made
 
 
-def replay(program, path, pages, output=os.devnull):
-    """The seconds of the processor that one replay takes, and its peak of memory in MiB."""
+def run(program, task, path, pages, output=os.devnull):
+    """The seconds of the processor that one run takes, and its peak of memory in bytes."""
     with open(output, "wb") as sink:
-        child = subprocess.Popen([program, "replay", path], stdout=sink, env=os.environ | pages)
+        child = subprocess.Popen([program, task, path], stdout=sink, env=os.environ | pages)
         _, status, used = os.wait4(child.pid, 0)
     if status != 0:
-        sys.exit(f"{program} replay {path}: status {os.waitstatus_to_exitcode(status)}")
-    return used.ru_utime + used.ru_stime, used.ru_maxrss / 1024
+        sys.exit(f"{program} {task} {path}: status {os.waitstatus_to_exitcode(status)}")
+    return used.ru_utime + used.ru_stime, used.ru_maxrss * 1024
 
 
-def agree(programs, path):
+def agree(programs, task, path):
     """Both programs print the same bytes."""
     outputs = [f"{path}.{i}" for i in range(len(programs))]
     for program, output in zip(programs, outputs):
-        replay(program, path, PLAIN_PAGES, output)
+        run(program, task, path, PLAIN_PAGES, output)
     if not filecmp.cmp(*outputs, shallow=False):
         sys.exit(f"{path}: the outputs differ: {' '.join(outputs)}")
     for output in outputs:
         os.remove(output)
 
 
-def fastest(programs, path, runs):
+def fastest(programs, task, path, runs):
     """The fastest of the runs of each program, without huge pages and with them, in turns."""
     variants = [(program, pages) for program in programs for pages in (PLAIN_PAGES, HUGE_PAGES)]
-    rounds = [[replay(program, path, pages) for program, pages in variants] for _ in range(runs)]
+    rounds = [[run(program, task, path, pages) for program, pages in variants] for _ in range(runs)]
     return [min(column) for column in zip(*rounds)]
 
 
 def least_memory():
-    """The peak that a process shows whatever it does, in MiB: that of this script, which starts it."""
+    """The peak that a process shows whatever it does, in bytes: that of this script, which starts it."""
     child = subprocess.Popen(["true"])
-    return os.wait4(child.pid, 0)[2].ru_maxrss / 1024
+    return os.wait4(child.pid, 0)[2].ru_maxrss * 1024
 
 
-def instructions(program, path):
-    """How many instructions a replay takes."""
-    command = ["valgrind", "--tool=callgrind", "--callgrind-out-file=/dev/null", program, "replay", path]
+def instructions(program, task, path):
+    """How many instructions a run takes."""
+    command = ["valgrind", "--tool=callgrind", "--callgrind-out-file=/dev/null", program, task, path]
     said = subprocess.run(command, stdout=subprocess.DEVNULL, stderr=subprocess.PIPE, text=True, check=True).stderr
     return int(re.search(r"Collected : (\d+)", said).group(1))
 
@@ -241,20 +256,20 @@ def instructions(program, path):
 # ---- tables
 
 
-def times_row(programs, path, lines, runs):
-    (own, memory), (own_huge, _), (plain, plain_memory), (plain_huge, _) = fastest(programs, path, runs)
+def times_row(programs, task, path, lines, runs):
+    (own, memory), (own_huge, _), (plain, plain_memory), (plain_huge, _) = fastest(programs, task, path, runs)
     speeds = [f"{lines / seconds:,.0f}" for seconds in (own, own_huge, plain, plain_huge)]
-    least = least_memory() + 1
-    peaks = [f"{peak:.0f}" if peak > least else f"< {least:.0f}" for peak in (memory, plain_memory)]
+    least = least_memory() + (1 << 20)
+    peaks = [("" if peak > least else "< ") + f"{max(peak, least) / lines:,.0f}" for peak in (memory, plain_memory)]
     return speeds + [f"{own_huge / plain_huge:.2f}"] + peaks
 
 
-def instructions_row(programs, path, lines):
-    own, plain = (instructions(program, path) / lines for program in programs)
+def instructions_row(programs, task, path, lines):
+    own, plain = (instructions(program, task, path) / lines for program in programs)
     return [f"{own:,.0f}", f"{plain:,.0f}", f"{own / plain:.2f}"]
 
 
-TIMES = ("lines a second", "with huge pages", "plain Rust", "with huge pages", "ratio", "peak MiB", "plain Rust")
+TIMES = ("lines a second", "with huge pages", "plain Rust", "with huge pages", "ratio", "peak bytes a line", "plain Rust")
 INSTRUCTIONS = ("instructions a line", "plain Rust", "ratio")
 
 
@@ -266,22 +281,27 @@ def sizes(most, chosen):
     return dict.fromkeys([(1, 100_000), (64, 100_000), (128, 10_000), (128, 100_000), (128, most)])
 
 
+def cells(programs, task, path, lines, chosen):
+    agree(programs, task, path)
+    if chosen.instructions:
+        return instructions_row(programs, task, path, lines)
+    return times_row(programs, task, path, lines, chosen.runs)
+
+
 def print_rows(programs, folder, chosen):
     heads = INSTRUCTIONS if chosen.instructions else TIMES
-    print("| workload | harts | lines | " + " | ".join(heads) + " |")
-    print("|---" * (3 + len(heads)) + "|")
+    print("| workload | task | harts | lines | " + " | ".join(heads) + " |")
+    print("|---" * (4 + len(heads)) + "|")
     for workload, most in WORKLOADS:
         if chosen.workloads and workload.__name__ not in chosen.workloads:
             continue
+        name = workload.__name__.replace("_", " ")
         for harts, lines in sizes(most, chosen):
             path = schedule(folder, workload, harts, lines)
-            agree(programs, path)
-            if chosen.instructions:
-                cells = instructions_row(programs, path, lines)
-            else:
-                cells = times_row(programs, path, lines, chosen.runs)
-            name = workload.__name__.replace("_", " ")
-            print(f"| {name} | {harts} | {lines:,} | " + " | ".join(cells) + " |", flush=True)
+            for task in chosen.tasks:
+                given, count = (path, lines) if task == "replay" else trace(folder, programs[1], path)
+                row = [name, task, str(harts), f"{count:,}", *cells(programs, task, given, count, chosen)]
+                print("| " + " | ".join(row) + " |", flush=True)
             os.remove(path)
 
 
@@ -289,12 +309,17 @@ def numbers(text):
     return [int(word) for word in text.split(",")]
 
 
+def words(text):
+    return text.split(",")
+
+
 def options():
     parser = argparse.ArgumentParser(description="Times the program beside plain Rust, and prints the README's table.")
     parser.add_argument("program", nargs="?", default=BUILT)
     parser.add_argument("--runs", type=int, default=9, help="how many runs of each, of which the fastest counts")
     parser.add_argument("--instructions", action="store_true", help="count instructions by valgrind, not time")
-    parser.add_argument("--workloads", type=lambda text: text.split(","), help="as calls,full_fences (default: all)")
+    parser.add_argument("--tasks", type=words, default=words("replay,check"), help="as replay,check (the default)")
+    parser.add_argument("--workloads", type=words, help="as calls,full_fences (default: all)")
     parser.add_argument("--harts", type=numbers, help="as 1,64,128 (the default), each 1 to 128")
     parser.add_argument("--lines", type=numbers, help="as 10000,100000 (default: these and the workload's most)")
     return parser.parse_args()

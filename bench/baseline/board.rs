@@ -186,6 +186,7 @@ impl Board {
         has(self.ssip & self.ssie, h) || has(self.stie, h) && self.stip(h)
     }
 
+    #[inline(always)]
     pub fn step(&mut self, line: Line, numbers: &[u64]) -> Result<Reply, Refusal> {
         if self.is_off {
             return Err(Refusal::Off);

@@ -108,7 +108,7 @@ impl Out {
         }
     }
 
-    fn flush(&mut self) -> io::Result<()> {
+    pub fn flush(&mut self) -> io::Result<()> {
         self.file.write_all(&self.bytes[..self.len])?;
         self.len = 0;
         Ok(())
@@ -192,6 +192,27 @@ impl Out {
                 self.decimal(refusal as u64);
             }
         }
+    }
+
+    /// The line of a trace that agrees.
+    pub fn agreed(&mut self, lines: usize) -> io::Result<()> {
+        self.text(b"agrees ");
+        self.decimal(lines as u64);
+        self.end_line()
+    }
+
+    /// The line of a trace that differs: the board's own answer.
+    pub fn differing(
+        &mut self,
+        line: u32,
+        actor: u8,
+        answer: Result<Reply, Refusal>,
+    ) -> io::Result<()> {
+        self.text(b"differs at line ");
+        self.decimal(u64::from(line));
+        self.text(b": ");
+        self.answer(actor, answer);
+        self.end_line()
     }
 
     pub fn table(&mut self, board: &Board) -> io::Result<()> {

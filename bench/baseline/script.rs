@@ -1,4 +1,7 @@
-//! Reads a script. A line is looked at once; only where it is none is it looked through for its fault.
+//! Reads a script. A line of a schedule or a trace is looked at once; only where it is none is it looked through for its
+//! fault, or for blocks of a program, which nothing here runs.
+
+use crate::faults;
 
 /// The most bytes that a script has.
 pub const MOST_BYTES: usize = 16_777_216;
@@ -7,7 +10,7 @@ pub const MOST_BYTES: usize = 16_777_216;
 pub const CLOCK: u8 = 255;
 
 /// An operation by its name.
-#[derive(Clone, Copy, PartialEq)]
+#[derive(Clone, Copy, PartialEq, Eq)]
 pub enum Name {
     Ecall,
     Load,
@@ -33,7 +36,7 @@ pub enum Name {
 
 impl Name {
     #[inline(always)]
-    fn of(word: &[u8]) -> Option<Name> {
+    pub fn of(word: &[u8]) -> Option<Name> {
         Some(match word {
             b"ecall" => Name::Ecall,
             b"load" => Name::Load,
@@ -78,7 +81,7 @@ impl Name {
     }
 
     /// How many numbers follow at least and at most, and the largest that they may be.
-    fn places(self) -> (usize, usize, u64) {
+    pub fn places(self) -> (usize, usize, u64) {
         match self {
             Name::Ecall => (2, 8, u64::MAX),
             Name::Sstatus => (1, 1, 1),
@@ -98,9 +101,71 @@ pub struct Line {
     pub name: Name,
 }
 
+/// What a trace says that a step gave.
+#[derive(Clone, Copy, PartialEq)]
+pub enum SaidName {
+    Ret,
+    Waiting,
+    Gone,
+    Entry,
+    Value,
+    Fault,
+    Served,
+    Moved,
+    Done,
+    Refused,
+}
+
+impl SaidName {
+    #[inline(always)]
+    pub fn of(word: &[u8]) -> Option<SaidName> {
+        Some(match word {
+            b"ret" => SaidName::Ret,
+            b"waiting" => SaidName::Waiting,
+            b"gone" => SaidName::Gone,
+            b"entry" => SaidName::Entry,
+            b"value" => SaidName::Value,
+            b"fault" => SaidName::Fault,
+            b"served" => SaidName::Served,
+            b"moved" => SaidName::Moved,
+            b"done" => SaidName::Done,
+            b"refused" => SaidName::Refused,
+            _ => return None,
+        })
+    }
+
+    /// How many numbers follow, the error of `ret` among them.
+    pub fn count(self) -> usize {
+        match self {
+            SaidName::Ret => 2,
+            SaidName::Entry => 3,
+            SaidName::Value | SaidName::Fault | SaidName::Moved | SaidName::Refused => 1,
+            SaidName::Waiting | SaidName::Gone | SaidName::Served | SaidName::Done => 0,
+        }
+    }
+}
+
+/// What the line of a trace says, and where: its numbers are those behind the step's.
+#[derive(Clone, Copy)]
+pub struct Said {
+    pub line: u32,
+    pub name: SaidName,
+}
+
+#[derive(Clone, Copy, PartialEq)]
+pub enum Kind {
+    Empty,
+    Program,
+    Schedule,
+    Trace,
+}
+
 pub struct Script {
     pub config: [u64; 6],
+    pub kind: Kind,
     pub lines: Vec<Line>,
+    /// One for each line of a trace.
+    pub said: Vec<Said>,
     pub numbers: Vec<u64>,
 }
 
@@ -120,7 +185,7 @@ const fn hex_values() -> [u8; 256] {
 
 static HEX_VALUES: [u8; 256] = hex_values();
 
-fn is_allowed(byte: u8) -> bool {
+pub fn is_allowed(byte: u8) -> bool {
     matches!(byte, b' '..=b'~' | b'\t')
 }
 
@@ -205,11 +270,22 @@ impl<'a> Reader<'a> {
         }
     }
 
-    /// The numbers up to the line's end, at most `most` of them and each at most `limit`.
+    #[inline(always)]
+    fn signed_number(&mut self) -> Option<u64> {
+        if self.peek() == b'-' {
+            let n = self.digits::<10>(self.at + 1)?;
+            (n <= 1 << 63).then_some(n.wrapping_neg())
+        } else {
+            let n = self.digits::<10>(self.at)?;
+            (n < 1 << 63).then_some(n)
+        }
+    }
+
+    /// The numbers up to the line's end or to a dash, at most `most` of them and each at most `limit`.
     #[inline(always)]
     fn numbers(&mut self, most: usize, limit: u64, into: &mut Vec<u64>) -> Option<usize> {
         let mut count = 0;
-        while !matches!(self.skip_gap(), b'\n' | b'\r' | b'#') {
+        while !matches!(self.skip_gap(), b'\n' | b'\r' | b'#' | b'-') {
             if count == most {
                 return None;
             }
@@ -217,6 +293,21 @@ impl<'a> Reader<'a> {
             count += 1;
         }
         Some(count)
+    }
+
+    /// Whether no word follows.
+    #[inline(always)]
+    fn is_at_end(&self) -> bool {
+        matches!(self.peek(), b'\n' | b'\r' | b'#')
+    }
+
+    /// Goes past an arrow, if there is one.
+    #[inline(always)]
+    fn arrow(&mut self) -> bool {
+        let is_arrow =
+            matches!(&self.bytes[self.at..], [b'-', b'>', end, ..] if ends_word(*end));
+        self.at += 2 * usize::from(is_arrow);
+        is_arrow
     }
 
     /// The word up to a blank or the line's end is a dash.
@@ -236,7 +327,7 @@ impl<'a> Reader<'a> {
                 into.push(self.number()?);
             }
         }
-        matches!(self.skip_gap(), b'\n' | b'\r' | b'#').then_some(match is_there {
+        matches!(self.skip_gap(), b'\n' | b'\r' | b'#' | b'-').then_some(match is_there {
             [true, true] => Name::Sfence,
             [true, false] => Name::SfenceOfAddress,
             [false, true] => Name::SfenceOfSpace,
@@ -254,14 +345,30 @@ impl<'a> Reader<'a> {
         }
         let mut found = Vec::new();
         self.numbers(6, u64::MAX, &mut found)?;
+        self.is_at_end().then_some(())?;
         self.end_line()?;
         found.try_into().ok().map(Some)
     }
 
-    /// The step of a line, if it has words.
-    fn step_line(&mut self, into: &mut Vec<u64>) -> Option<Option<Line>> {
+    /// What a trace says, behind its arrow.
+    #[inline(always)]
+    fn said(&mut self, into: &mut Vec<u64>) -> Option<SaidName> {
+        self.skip_gap();
+        let name = SaidName::of(self.word())?;
+        let mut left = name.count();
+        if name == SaidName::Ret {
+            self.skip_gap();
+            into.push(self.signed_number()?);
+            left -= 1;
+        }
+        (self.numbers(left, u64::MAX, into)? == left && self.is_at_end()).then_some(name)
+    }
+
+    /// Adds the step of a line, if it has words and is of the script's kind.
+    #[inline(always)]
+    fn step_line(&mut self, number: u64, script: &mut Script) -> Option<()> {
         let actor = match self.skip_gap() {
-            b'\n' | b'\r' | b'#' => return self.end_line().map(|()| None),
+            b'\n' | b'\r' | b'#' => return self.end_line(),
             b'c' => {
                 self.at += 1;
                 ends_word(self.peek()).then_some(CLOCK)?
@@ -270,22 +377,52 @@ impl<'a> Reader<'a> {
         };
         self.skip_gap();
         let mut name = Name::of(self.word())?;
-        let first = into.len() as u32;
+        let first = script.numbers.len() as u32;
         if name == Name::Sfence {
-            name = self.fence_numbers(into)?;
+            name = self.fence_numbers(&mut script.numbers)?;
         } else {
             let (least, most, limit) = name.places();
-            if self.numbers(most, limit, into)? < least {
+            if self.numbers(most, limit, &mut script.numbers)? < least {
                 return None;
             }
         }
+        let count = (script.numbers.len() - first as usize) as u8;
+        if self.peek() != b'-' {
+            script.must_be(Kind::Schedule, self.end)?;
+        } else {
+            self.arrow().then_some(())?;
+            script.must_be(Kind::Trace, self.end)?;
+            let said = Said {
+                name: self.said(&mut script.numbers)?,
+                line: number as u32,
+            };
+            script.said.push(said);
+        }
         self.end_line()?;
-        Some(Some(Line {
+        script.lines.push(Line {
             first,
-            count: (into.len() - first as usize) as u8,
+            count,
             actor,
             name,
-        }))
+        });
+        Some(())
+    }
+}
+
+impl Script {
+    /// The first line sets the kind, and the others must be of it.
+    #[inline(always)]
+    fn must_be(&mut self, kind: Kind, size: usize) -> Option<()> {
+        if self.kind == kind {
+            return Some(());
+        }
+        (self.kind == Kind::Empty).then_some(())?;
+        self.kind = kind;
+        if kind == Kind::Trace {
+            // A line of a trace has at least 13 bytes and its line feed.
+            self.said = Vec::with_capacity(size / 14 + 1);
+        }
+        Some(())
     }
 }
 
@@ -306,83 +443,25 @@ pub fn parse(bytes: &mut Vec<u8>) -> Result<Script, Fault> {
         match reader.board_line() {
             Some(Some(config)) => break config,
             Some(None) => {}
-            None => return Err(Fault(number, fault_of(&bytes[start..end], board_fault))),
+            None => return Err(Fault(number, faults::of_board_line(&bytes[start..end]))),
         }
     };
     // A step has at least five bytes and its line feed, and a number at least two with the blank before it.
-    let mut lines = Vec::with_capacity(end / 6 + 1);
-    let mut numbers = Vec::with_capacity(end / 2);
+    let mut script = Script {
+        config,
+        kind: Kind::Empty,
+        lines: Vec::with_capacity(end / 6 + 1),
+        said: Vec::new(),
+        numbers: Vec::with_capacity(end / 2),
+    };
     while reader.at < end {
         number += 1;
-        let start = reader.at;
-        match reader.step_line(&mut numbers) {
-            Some(Some(line)) => lines.push(line),
-            Some(None) => {}
-            None => return Err(Fault(number, fault_of(&bytes[start..end], step_fault))),
+        let (start, kind) = (reader.at, script.kind);
+        if reader.step_line(number, &mut script).is_none() {
+            faults::of_rest(&bytes[start..end], number, kind)?;
+            script.kind = Kind::Program;
+            return Ok(script);
         }
     }
-    Ok(Script {
-        config,
-        lines,
-        numbers,
-    })
-}
-
-// ---- faults, looked for where a line was none
-
-/// The fault of the first line of these bytes: a byte of it, or what its words show.
-fn fault_of(bytes: &[u8], words_fault: fn(&[&[u8]]) -> u8) -> u8 {
-    let line = match bytes.iter().position(|b| *b == b'\n') {
-        Some(end) => bytes[..end].strip_suffix(b"\r").unwrap_or(&bytes[..end]),
-        None => bytes,
-    };
-    if !line.iter().all(|b| is_allowed(*b)) {
-        return 1;
-    }
-    let body = line.split(|b| *b == b'#').next().unwrap_or(line);
-    let words: Vec<&[u8]> = body
-        .split(|b| ends_word(*b))
-        .filter(|w| !w.is_empty())
-        .collect();
-    words_fault(&words)
-}
-
-fn is_number(word: &[u8], limit: u64) -> bool {
-    let mut text = word.to_vec();
-    text.push(b'\n');
-    let mut reader = Reader {
-        bytes: &text,
-        at: 0,
-        end: word.len(),
-    };
-    reader.number().is_some_and(|n| n <= limit) && reader.at == word.len()
-}
-
-fn board_fault(words: &[&[u8]]) -> u8 {
-    if words[0] != b"board" {
-        return 2;
-    }
-    if words.len() != 7 { 5 } else { 4 }
-}
-
-fn step_fault(words: &[&[u8]]) -> u8 {
-    let is_actors = words[0] == b"c" || words[0][0].is_ascii_digit();
-    if !is_actors || words.contains(&b"->".as_slice()) {
-        return 6;
-    }
-    if words[0] != b"c" && !is_number(words[0], 127) {
-        return 4;
-    }
-    let Some(word) = words.get(1) else {
-        return 5;
-    };
-    let Some(name) = Name::of(word) else {
-        return 3;
-    };
-    let (least, most, _) = name.places();
-    if (least..=most).contains(&(words.len() - 2)) {
-        4
-    } else {
-        5
-    }
+    Ok(script)
 }

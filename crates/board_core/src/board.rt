@@ -40,7 +40,7 @@ use std::alloc::{AllocError, Global};
 use std::marker::Model;
 use tlb_model::{Entry, FetchWord, Flush, Numbered};
 
-/// The counts of the board's table, since the opening.
+/// The counts of the board's table: starts and entries since the last reset, fences since the opening.
 #[derive(Clone, Copy, Debug, PartialEq, Eq)]
 pub struct Totals {
     /// Starts of harts, the boot start among them.
@@ -281,7 +281,8 @@ impl Board {
     /// How many fences wait at hart `h`: fewer than there are harts.
     pub fn waiting_len(&self, h: u64) -> u64
         requires { h < self.now.config.harts }
-        ensures { result ≡ length (waiting self.now.config self.now.past h) }
+        ensures count { result ≡ length (waiting self.now.config self.now.past h) }
+        ensures limit { result < self.now.config.harts }
     {
         self.machine.fences.len(h)
     }

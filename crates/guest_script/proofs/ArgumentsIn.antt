@@ -7,9 +7,10 @@ use Rattle.std.proofs.lemmas.List.{append_assoc, append-nil, length-append, leng
 use Rattle.board_core.specs.Refusals.{first_that_holds}
 use Rattle.guest_script.specs.declared.fault.Fault.TheVariants.{BadNumber, WordCount}
 use Rattle.board_core.specs.declared.event.Actor.TheVariants.{Hart}
-use Rattle.guest_script.specs.Grammar.{last_hart}
-use Rattle.guest_script.specs.FirstFault.{actor_test, is_argument, is_clock, is_dash, is_number, argument_tests, arguments_tests}
-use Rattle.guest_script.specs.Reading.{actor_in, or_fault, tested, number_in, arguments_in}
+use Rattle.guest_script.specs.Words.{last_hart}
+use Rattle.guest_script.specs.Values.{actor_in, arguments_in, is_clock, is_number, number_in}
+use Rattle.guest_script.specs.FirstFault.{actor_test, argument_tests, arguments_tests, is_argument, is_dash}
+use Rattle.guest_script.specs.Reading.{or_fault, tested}
 
 -- Of all the words some are read, and these are left.
 pub record AreRead (most : ℕ) (dash : Bool) (limit : ℕ) (all : List (List ℕ)) (found : List (Option ℕ)) (all_good : Bool) (words : List (List ℕ)) : Type 0 where

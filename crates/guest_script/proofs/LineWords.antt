@@ -1,26 +1,30 @@
--- The words of a line are a step, or the board's, exactly where none of the line's tests holds.
-use Rattle.std.proofs.Common.{◌≡◌, ℕ, suc, ◌≤◌, Bool, true, false, not, cond, ltb, ◌||◌, List, [], ◌∷◌, length, map, Option, Some, None, Ok, codes, refl, sym, ap, ◌∙◌, inl, inr, arith}
+-- The words of a line say something exactly where none of the line's tests holds.
+use Rattle.std.proofs.Common.{◌≡◌, ℕ, suc, ◌≤◌, Bool, true, false, not, cond, eqb, ltb, ◌||◌, List, [], ◌∷◌, ◌++◌, length, Option, Some, None, is_some, codes, pos, refl, sym, ap, ◌∙◌, inl, inr, arith}
 use Rattle.std.specs.Char.{digit_value, is_digit}
 use Rattle.std.specs.List.{slice_index}
 use Rattle.std.specs.Option.{unwrap_or}
 use Rattle.std.specs.Str.{bytes_eq}
-use Rattle.std.proofs.lemmas.Bool.{cases_Bool, lt-ltb, le-ltb, ltb-false, or_parts, or_from, not-false, not_from_true, false_from_ne_true}
-use Rattle.std.proofs.lemmas.List.{get_or-map, length-map}
-use Rattle.std.proofs.lemmas.List.FromFn.{fill_by_all}
+use Rattle.std.proofs.lemmas.Bool.{cases_Bool, lt-ltb, le-ltb, ltb-false, eqb-true, or_parts, or_from, not-false, not_from_true, false_from_ne_true}
 use Rattle.std.proofs.lemmas.Slice.Eq.{bytes_eq-Decides}
-use Rattle.board_core.specs.declared.config.Config.{Config}
 use Rattle.board_core.specs.declared.event.Actor.{Actor}
 use Rattle.board_core.specs.declared.event.Actor.TheVariants.{Hart, Clock}
 use Rattle.board_core.specs.declared.event.Op.{Op}
+use Rattle.board_core.specs.declared.event.Op.TheVariants.{Advance}
 use Rattle.board_core.specs.Refusals.{first_that_holds}
 use Rattle.guest_script.specs.declared.fault.Fault.{Fault}
-use Rattle.guest_script.specs.declared.fault.Fault.TheVariants.{NoBoardLine}
-use Rattle.guest_script.specs.declared.schedule.Line.{Line}
-use Rattle.guest_script.specs.Grammar.{AreArguments, AreNumbers, Form, form_of, IsActor, IsArgument, IsBoard, IsNumber, IsOp, IsStep, last_hart, last_number, number_at, numbers_of, Spells}
-use Rattle.guest_script.specs.FirstFault.{actor_test, begins_actor_line, board_tests, form_tests, has_arrow, is_clock, is_number, argument_tests, arguments_tests, op_tests, step_tests}
-use Rattle.guest_script.specs.Reading.{actor_in, board_in, config_of, limit_from, line_in, or_fault, tested, arguments_in, op_from, op_in, step_in}
-use Rattle.guest_script.proofs.ArgumentsIn.{first_argument_fault, length-arguments_in}
-use Rattle.guest_script.proofs.Spelling.{arguments_as_numbers, arguments_spelled, number_spelled, numbers_as_arguments, spelled_number, spelled_arguments}
+use Rattle.guest_script.specs.declared.fault.Fault.TheVariants.{BadNumber, OtherKind, SecondBlock, UnknownWord, WordCount}
+use Rattle.guest_script.specs.declared.kind.Kind.{Kind}
+use Rattle.guest_script.specs.declared.kind.Kind.TheVariants.{Head, Step, Operation}
+use Rattle.guest_script.specs.declared.said.Said.{Said}
+use Rattle.guest_script.specs.declared.said.Said.TheVariants.{Done}
+use Rattle.guest_script.specs.declared.script.Line.{Line}
+use Rattle.guest_script.specs.Words.{AreNumbers, IsNumber, Spells, last_hart, last_number}
+use Rattle.guest_script.specs.Forms.{AreArguments, Form, IsArgument, IsNamed, IsRet, IsSaid, form_of, guest_form_of, number_at, said_form_of}
+use Rattle.guest_script.specs.Grammar.{Blocked, Blocks, Draft, Guest, IsActor, IsHead, IsInBlock, IsNext, IsStep, IsStepLine, Nothing, OfClock, OfGuest, Open, Stepped, Traced, clock_of, guests_of, has_block, opened, with_op, with_tick}
+use Rattle.guest_script.specs.Values.{actor_in, after_arrow, arguments_in, before_arrow, begins_actor_line, first_number, has_arrow, in_block, is_arrow, is_at, is_clock, is_clock_head, is_filled, is_number, is_ret, is_signed, kind_of, line_in, made_by, named_in, next_in, next_of, number_in, op_in, opened_by, ret_in, said_in, signed_in, with_step}
+use Rattle.guest_script.specs.FirstFault.{actor_test, argument_tests, arguments_tests, form_tests, head_tests, in_block_tests, kind_tests, line_tests, may_follow, named_tests, number_tests, ret_tests, said_tests, step_tests}
+use Rattle.guest_script.proofs.ArgumentsIn.{first_argument_fault}
+use Rattle.guest_script.proofs.Spelling.{arguments_as_numbers, arguments_spelled, number_spelled, signed_spelled, spelled_number, spelled_arguments, spelled_signed}
 
 -- ---- tests of which none holds
 
@@ -38,16 +42,16 @@ none_cons test tests fails none = rw fails none
 
 -- ---- numbers
 
-record AreCounted (least most : ℕ) (dash : Bool) (limit : ℕ) (words : List (List ℕ)) (ns : List (Option ℕ)) : Type 0 where
-  enough : least ≤ length words
-  not_more : length words ≤ most
-  are_arguments : AreArguments dash limit words ns
+pub record AreCounted (least most : ℕ) (dash : Bool) (limit : ℕ) (words : List (List ℕ)) (ns : List (Option ℕ)) : Type 0 where
+  pub enough : least ≤ length words
+  pub not_more : length words ≤ most
+  pub are_arguments : AreArguments dash limit words ns
 
 all_from_none : (b : Bool) (fault : Fault) → cond b None (Some fault) ≡ None → b ≡ true
 all_from_none true fault none = refl
 all_from_none false fault none = absurd cc
 
-arguments_tested : (least most : ℕ) (dash : Bool) (limit : ℕ) (words : List (List ℕ)) → NoneHolds (arguments_tests least most dash limit words)
+pub arguments_tested : (least most : ℕ) (dash : Bool) (limit : ℕ) (words : List (List ℕ)) → NoneHolds (arguments_tests least most dash limit words)
     → AreCounted least most dash limit words (arguments_in limit words)
 arguments_tested least most dash limit words none =
     let rows = none_first _ (argument_tests dash limit words) none in
@@ -58,50 +62,138 @@ arguments_tested least most dash limit words none =
       are_arguments = arguments_spelled dash limit words (all_from_none _ _ (sym (first_argument_fault dash limit words) ∙ rows.1));
     }
 
-arguments_pass : (least most : ℕ) (dash : Bool) (limit : ℕ) (words : List (List ℕ)) (ns : List (Option ℕ)) → AreCounted least most dash limit words ns
+pub arguments_pass : (least most : ℕ) (dash : Bool) (limit : ℕ) (words : List (List ℕ)) (ns : List (Option ℕ)) → AreCounted least most dash limit words ns
     → NoneHolds (arguments_tests least most dash limit words) × (arguments_in limit words ≡ ns)
 arguments_pass least most dash limit words ns counted =
     let spelled = spelled_arguments dash limit words ns counted.are_arguments in
     let count = or_from (ltb (length words) least) (ltb most (length words)) (le-ltb _ _ counted.enough) (le-ltb _ _ counted.not_more) in
     (none_cons _ (argument_tests dash limit words) count (first_argument_fault dash limit words ∙ rw spelled.0 refl), spelled.1)
 
-length_numbers : (limit : ℕ) (words : List (List ℕ)) (ns : List ℕ) → AreNumbers limit words ns → length words ≡ length ns
+pub length_numbers : (limit : ℕ) (words : List (List ℕ)) (ns : List ℕ) → AreNumbers limit words ns → length words ≡ length ns
 length_numbers limit [] [] numbers = refl
 length_numbers limit [] (n ∷ ns) numbers = absurd numbers
 length_numbers limit (word ∷ words) [] numbers = absurd numbers
 length_numbers limit (word ∷ words) (n ∷ ns) numbers = ap suc (length_numbers limit words ns numbers.1)
 
--- ---- operations
+pub none_parts : {F : Type 0} (tests more : List (Bool × F)) → NoneHolds (tests ++ more) → NoneHolds tests × NoneHolds more
+none_parts [] more none = (refl, none)
+none_parts (test ∷ tests) more none =
+    let first = none_first test (tests ++ more) none in
+    let others = none_parts tests more first.1 in
+    (none_cons test tests first.0 others.0, others.1)
 
-form_tested : (name : List ℕ) (words : List (List ℕ)) (form : Option Form) → form_of name ≡ form → NoneHolds (form_tests form words)
-    → IsOp (name ∷ words) (op_from form (arguments_in (limit_from form) words))
-form_tested name words None at none = absurd cc
-form_tested name words (Some form) at none =
-    let counted = arguments_tested form.least form.most form.may_be_absent form.limit words none in
+pub none_both : {F : Type 0} (tests more : List (Bool × F)) → NoneHolds tests → NoneHolds more → NoneHolds (tests ++ more)
+none_both [] more none later = later
+none_both (test ∷ tests) more none later =
+    let first = none_first test tests none in
+    none_cons test (tests ++ more) first.0 (none_both tests more first.1 later)
+
+-- ---- names with arguments
+
+module _ {A : Type 0} (form_of : List ℕ → Option (Form A)) (otherwise : A) where
+  form_tested : (name : List ℕ) (words : List (List ℕ)) (form : Option (Form A)) → form_of name ≡ form → NoneHolds (form_tests form words)
+      → IsNamed form_of (name ∷ words) (made_by otherwise form words)
+  form_tested name words None at none = absurd cc
+  form_tested name words (Some form) at none =
+      let counted = arguments_tested form.least form.most form.may_be_absent form.limit words none in
+      record {
+        name = name;
+        others = words;
+        form = form;
+        arguments = arguments_in form.limit words;
+        parts = refl;
+        has_form = at;
+        enough = counted.enough;
+        not_more = counted.not_more;
+        are_arguments = counted.are_arguments;
+        made = refl;
+      }
+
+  pub named_tested : (words : List (List ℕ)) → NoneHolds (named_tests form_of words) → IsNamed form_of words (named_in form_of otherwise words)
+  named_tested [] none = absurd cc
+  named_tested (name ∷ words) none = form_tested name words (form_of name) refl none
+
+  pub named_passes : (words : List (List ℕ)) (value : A) → IsNamed form_of words value → NoneHolds (named_tests form_of words) × (named_in form_of otherwise words ≡ value)
+  named_passes words value is_named =
+      let form = is_named.form in
+      let counted : AreCounted form.least form.most form.may_be_absent form.limit is_named.others is_named.arguments =
+      record { enough = is_named.enough; not_more = is_named.not_more; are_arguments = is_named.are_arguments } in
+      let pass = arguments_pass form.least form.most form.may_be_absent form.limit is_named.others is_named.arguments counted in
+      rw (is_named.parts, is_named.has_form) (pass.0, ap form.makes pass.1 ∙ sym is_named.made)
+
+-- a name without a form is none
+no_name : {A : Type 0} (form_of : List ℕ → Option (Form A)) (name text : List ℕ) (form : Form A) → form_of name ≡ Some form → form_of text ≡ None → bytes_eq name text ≡ false
+no_name form_of name text form has none = false_from_ne_true (bytes_eq name text) (λ same.
+    let both = sym none ∙ sym (ap form_of ((bytes_eq-Decides name text).0 same)) ∙ has in cc)
+
+-- ---- one number
+
+record OneNumber (words : List (List ℕ)) : Type 0 where
+  word : List ℕ
+  parts : words ≡ word ∷ []
+  is_one : IsNumber last_number word (first_number words)
+
+one_tested : (words : List (List ℕ)) → NoneHolds (number_tests words) → OneNumber words
+unfolding arguments_in
+one_tested [] none = absurd (let counted = arguments_tested 1 1 false last_number [] none in omega (arith, counted.enough))
+one_tested (word ∷ []) none =
+    let counted = arguments_tested 1 1 false last_number (word ∷ []) none in
+    let spelled = arguments_as_numbers last_number (word ∷ []) (arguments_in last_number (word ∷ [])) counted.are_arguments in
+    record { word = word; parts = refl; is_one = spelled.0 }
+one_tested (word ∷ next ∷ words) none = absurd (let counted = arguments_tested 1 1 false last_number (word ∷ next ∷ words) none in omega (arith, counted.not_more))
+
+one_passes : (word : List ℕ) (n : ℕ) → IsNumber last_number word n → NoneHolds (number_tests (word ∷ [])) × (first_number (word ∷ []) ≡ n)
+unfolding arguments_in
+one_passes word n number =
+    let pass = arguments_pass 1 1 false last_number (word ∷ []) (Some n ∷ []) (record { enough = omega arith; not_more = omega arith; are_arguments = (number, tt) }) in
+    (pass.0, ap (λ (ns : List (Option ℕ)). number_at ns 0) pass.1)
+
+-- ---- what is said
+
+said_form_of-ret : said_form_of (codes "ret") ≡ None
+unfolding said_form_of
+said_form_of-ret = refl
+
+ret_tested : (name : List ℕ) (words : List (List ℕ)) → name ≡ codes "ret" → NoneHolds (ret_tests words) → IsRet (name ∷ words) (ret_in words)
+ret_tested name [] at none = absurd cc
+ret_tested name (error ∷ []) at none = absurd cc
+ret_tested name (error ∷ value ∷ []) at none =
+    let first = none_first (not (is_signed error), BadNumber) ((not (is_number last_number value), BadNumber) ∷ []) none in
+    let second = none_first (not (is_number last_number value), BadNumber) [] first.1 in
     record {
-      name = name;
-      others = words;
-      form = form;
-      arguments = arguments_in form.limit words;
-      parts = refl;
-      has_form = at;
-      enough = counted.enough;
-      not_more = counted.not_more;
-      are_arguments = counted.are_arguments;
-      makes = refl;
+      error_word = error;
+      value_word = value;
+      error = unwrap_or (signed_in error) (pos 0);
+      value = unwrap_or (number_in last_number value) 0;
+      parts = ap (λ (w : List ℕ). w ∷ error ∷ value ∷ []) at;
+      is_error = signed_spelled error (not-false _ first.0);
+      is_value = number_spelled last_number value (not-false _ second.0);
+      made = refl;
     }
+ret_tested name (error ∷ value ∷ next ∷ words) at none = absurd cc
 
-pub op_tested : (words : List (List ℕ)) → NoneHolds (op_tests words) → IsOp words (op_in words)
-op_tested [] none = absurd cc
-op_tested (name ∷ words) none = form_tested name words (form_of name) refl none
+ret_passes : (words : List (List ℕ)) (said : Said) → IsRet words said → NoneHolds (said_tests words) × (said_in words ≡ said)
+ret_passes words said ret =
+    let error = spelled_signed ret.error_word ret.error ret.is_error in
+    let value = spelled_number last_number ret.value_word ret.value ret.is_value in
+    let tests : NoneHolds (ret_tests (ret.error_word ∷ ret.value_word ∷ [])) =
+    none_cons (not (is_signed ret.error_word), BadNumber) ((not (is_number last_number ret.value_word), BadNumber) ∷ []) (not_from_true _ error.0) (none_cons (not (is_number last_number ret.value_word), BadNumber) [] (not_from_true _ value.0) refl) in
+    rw ret.parts (tests, rw (error.1, value.1) (sym ret.made))
 
-pub op_passes : (words : List (List ℕ)) (op : Op) → IsOp words op → NoneHolds (op_tests words) × (op_in words ≡ op)
-op_passes words op is_op =
-    let form = is_op.form in
-    let counted : AreCounted form.least form.most form.may_be_absent form.limit is_op.others is_op.arguments =
-    record { enough = is_op.enough; not_more = is_op.not_more; are_arguments = is_op.are_arguments } in
-    let pass = arguments_pass form.least form.most form.may_be_absent form.limit is_op.others is_op.arguments counted in
-    rw (is_op.parts, is_op.has_form) (pass.0, ap form.op pass.1 ∙ sym is_op.makes)
+pub said_tested : (words : List (List ℕ)) → NoneHolds (said_tests words) → IsSaid words (said_in words)
+said_tested [] none = absurd cc
+said_tested (name ∷ words) none = elim (cases_Bool (is_ret name)) [
+  | inl is ↦ rw is (inl (ret_tested name words ((bytes_eq-Decides name (codes "ret")).0 is) (rw is at none)))
+  | inr other ↦ rw other (inr (form_tested said_form_of Done name words (said_form_of name) refl (rw other at none)))
+]
+
+pub said_passes : (words : List (List ℕ)) (said : Said) → IsSaid words said → NoneHolds (said_tests words) × (said_in words ≡ said)
+said_passes words said (inl ret) = ret_passes words said ret
+said_passes words said (inr is_named) =
+    let other = no_name said_form_of is_named.name (codes "ret") is_named.form is_named.has_form said_form_of-ret in
+    let pass = named_passes said_form_of Done words said is_named in
+    let at = is_named.parts in
+    rw (at, other) (rw at at pass)
 
 -- ---- actors
 
@@ -124,22 +216,24 @@ actor_tested word good = elim (cases_Bool (is_clock word)) [
 ]
 
 record ActorPasses (word : List ℕ) (actor : Actor) : Type 0 where
+  no_head : (is_at word || is_clock_head word) ≡ false
   begins : begins_actor_line word ≡ true
   good : (is_clock word || is_number last_hart word) ≡ true
   value : actor_in word ≡ actor
 
 actor_passes : (word : List ℕ) (actor : Actor) → IsActor word actor → ActorPasses word actor
-actor_passes word Clock is_actor = record { begins = rw is_actor refl; good = rw is_actor refl; value = rw is_actor refl }
+actor_passes word Clock is_actor = record { no_head = rw is_actor refl; begins = rw is_actor refl; good = rw is_actor refl; value = rw is_actor refl }
 actor_passes word (Hart h) is_actor =
     let other = no_number last_hart word (codes "c") h refl is_actor in
     let spelled = spelled_number last_hart word h is_actor in
     record {
+      no_head = or_from _ _ (no_number last_hart word (codes "at") h refl is_actor) (no_number last_hart word (codes "clock") h refl is_actor);
       begins = rw (other, number_digit word h is_actor.1) refl;
       good = rw (other, spelled.0) refl;
       value = rw other (ap (λ (n : ℕ). Hart n) spelled.1);
     }
 
--- ---- steps
+-- ---- arrows
 
 form_of-arrow : form_of (codes "->") ≡ None
 unfolding form_of
@@ -155,77 +249,324 @@ arguments_no_arrow dash limit (word ∷ words) [] arguments = absurd arguments
 arguments_no_arrow dash limit (word ∷ words) (n ∷ ns) arguments =
     or_from (bytes_eq word (codes "->")) (has_arrow words) (argument_no_arrow dash limit word n arguments.0) (arguments_no_arrow dash limit words ns arguments.1)
 
-op_no_arrow : (words : List (List ℕ)) (op : Op) → IsOp words op → has_arrow words ≡ false
+op_no_arrow : (words : List (List ℕ)) (op : Op) → IsNamed form_of words op → has_arrow words ≡ false
 op_no_arrow words op is_op =
-    let named : bytes_eq is_op.name (codes "->") ≡ false = false_from_ne_true _ (λ same.
-    let none : form_of is_op.name ≡ None = ap form_of ((bytes_eq-Decides is_op.name (codes "->")).0 same) ∙ form_of-arrow in
-    let both = sym none ∙ is_op.has_form in cc) in
+    let named = no_name form_of is_op.name (codes "->") is_op.form is_op.has_form form_of-arrow in
     rw is_op.parts (or_from (bytes_eq is_op.name (codes "->")) (has_arrow is_op.others) named (arguments_no_arrow is_op.form.may_be_absent is_op.form.limit is_op.others is_op.arguments is_op.are_arguments))
 
-is_value : (o : Option Fault) (x y : Line) → or_fault o x ≡ Ok y → o ≡ None
-is_value None x y e = refl
-is_value (Some fault) x y e = absurd cc
+-- the words round the first arrow
+pub arrow_parts : (words : List (List ℕ)) → has_arrow words ≡ true → words ≡ before_arrow words ++ codes "->" ∷ after_arrow words
+arrow_parts [] some = absurd cc
+arrow_parts (word ∷ words) some = elim (cases_Bool (is_arrow word)) [
+  | inl arrow ↦ rw arrow (ap (λ (w : List ℕ). w ∷ words) ((bytes_eq-Decides word (codes "->")).0 arrow))
+  | inr other ↦ rw other (ap (λ (ws : List (List ℕ)). word ∷ ws) (arrow_parts words (rw other at some)))
+]
 
-some_value : (o : Option Fault) (x y : Line) → Ok y ≡ or_fault o x → Ok (Some y) ≡ or_fault o (Some x)
-some_value None x y e = cc
-some_value (Some fault) x y e = absurd cc
+record SplitsAt (words before after : List (List ℕ)) : Type 0 where
+  some : has_arrow words ≡ true
+  first : before_arrow words ≡ before
+  rest : after_arrow words ≡ after
 
--- a line that is read as a step has no arrow
-pub step_read : (words : List (List ℕ)) (first : List ℕ) (others : List (List ℕ)) (line : Line) → words ≡ first ∷ others → begins_actor_line first ≡ true
-    → Ok line ≡ tested (actor_test first ∷ op_tests others) (line_in first others) → Ok (Some line) ≡ tested (step_tests words) (step_in words)
-step_read words first others line at begins read =
-    let o = first_that_holds (actor_test first ∷ op_tests others) in
-    let none = none_first (actor_test first) (op_tests others) (is_value o (line_in first others) line (sym read)) in
-    let no_arrow = op_no_arrow others (op_in others) (op_tested others none.1) in
-    rw (at, begins, no_arrow) (some_value o (line_in first others) line read)
-
-pub step_tested : (first : List ℕ) (words : List (List ℕ)) → NoneHolds (step_tests (first ∷ words)) → IsStep (first ∷ words) (record { actor = actor_in first; op = op_in words })
-step_tested first words none =
-    let kind = none_first _ (actor_test first ∷ op_tests words) none in
-    let actor = none_first (actor_test first) (op_tests words) kind.1 in
+splits_at : (before after : List (List ℕ)) → has_arrow before ≡ false → SplitsAt (before ++ codes "->" ∷ after) before after
+splits_at [] after none = record { some = refl; first = refl; rest = refl }
+splits_at (word ∷ before) after none =
+    let parts = or_parts (is_arrow word) (has_arrow before) none in
+    let others = splits_at before after parts.1 in
     record {
-      first = first;
-      others = words;
-      parts = refl;
-      is_actor = actor_tested first (not-false _ actor.0);
-      is_op = op_tested words actor.1;
+      some = rw (parts.0, others.some) refl;
+      first = rw (parts.0, others.first) refl;
+      rest = rw (parts.0, others.rest) refl;
     }
 
-pub step_passes : (words : List (List ℕ)) (line : Line) → IsStep words line → NoneHolds (step_tests words) × (step_in words ≡ Some line)
-step_passes words line step =
-    let actor = actor_passes step.first line.actor step.is_actor in
-    let op = op_passes step.others line.op step.is_op in
-    let kind : (not (begins_actor_line step.first) || has_arrow step.others) ≡ false = or_from _ _ (not_from_true _ actor.begins) (op_no_arrow step.others line.op step.is_op) in
-    rw step.parts (
-      none_cons _ (actor_test step.first ∷ op_tests step.others) kind (none_cons (actor_test step.first) (op_tests step.others) (not_from_true _ actor.good) op.0),
-      rw (actor.value, op.1) refl,
+-- before_arrow of words without one
+pub before_no_arrow : (words : List (List ℕ)) → has_arrow words ≡ false → before_arrow words ≡ words
+before_no_arrow [] none = refl
+before_no_arrow (word ∷ words) none =
+    let parts = or_parts (is_arrow word) (has_arrow words) none in
+    rw parts.0 (ap (λ (ws : List (List ℕ)). word ∷ ws) (before_no_arrow words parts.1))
+
+-- ---- kinds
+
+is_head : (first : List ℕ) (words : List (List ℕ)) → kind_of first words ≡ Head → (is_at first || is_clock_head first) ≡ true
+is_head first words is = elim (cases_Bool (is_at first || is_clock_head first)) [
+  | inl head ↦ head
+  | inr other ↦ absurd (not_head (begins_actor_line first) (has_arrow words) (rw other at is))
+] where
+  not_head : (begins arrow : Bool) → cond begins (Step arrow) Operation ≡ Head → ⊥
+  not_head true arrow is = cc
+  not_head false arrow is = cc
+
+is_step : (first : List ℕ) (words : List (List ℕ)) (in_trace : Bool) → kind_of first words ≡ Step in_trace → has_arrow words ≡ in_trace
+is_step first words in_trace is = same_step (is_at first || is_clock_head first) (begins_actor_line first) (has_arrow words) in_trace is where
+  same_step : (head begins arrow in_trace : Bool) → cond head Head (cond begins (Step arrow) Operation) ≡ Step in_trace → arrow ≡ in_trace
+  same_step true begins arrow in_trace is = absurd cc
+  same_step false true arrow in_trace is = cc
+  same_step false false arrow in_trace is = absurd cc
+
+-- ---- steps
+
+step_tested : (first : List ℕ) (words : List (List ℕ)) → (actor_test first).0 ≡ false → NoneHolds (named_tests form_of words) → IsStep (first ∷ words) (actor_in first) (op_in words)
+step_tested first words actor none = record {
+  first = first;
+  others = words;
+  parts = refl;
+  is_actor = actor_tested first (not-false _ actor);
+  is_op = named_tested form_of Advance words none;
+}
+
+step_line_tested : (n : ℕ) (in_trace : Bool) (first : List ℕ) (words : List (List ℕ)) → has_arrow words ≡ in_trace → NoneHolds (actor_test first ∷ step_tests in_trace words)
+    → IsStepLine n in_trace (first ∷ words) (line_in n in_trace first words)
+step_line_tested n false first words at none =
+    let actor = none_first (actor_test first) (step_tests false words) none in
+    (refl, refl, step_tested first words actor.0 actor.1)
+step_line_tested n true first words at none =
+    let actor = none_first (actor_test first) (step_tests true words) none in
+    let both = none_parts (named_tests form_of (before_arrow words)) (said_tests (after_arrow words)) actor.1 in (
+      first ∷ before_arrow words,
+      after_arrow words,
+      said_in (after_arrow words),
+      refl,
+      refl,
+      ap (λ (ws : List (List ℕ)). first ∷ ws) (arrow_parts words at),
+      step_tested first (before_arrow words) actor.0 both.0,
+      said_tested (after_arrow words) both.1,
     )
 
--- ---- the board
+-- a line that is a step passes as one
+record StepPasses (n : ℕ) (in_trace : Bool) (words : List (List ℕ)) (line : Line) : Type 0 where
+  first : List ℕ
+  others : List (List ℕ)
+  parts : words ≡ first ∷ others
+  kind : kind_of first others ≡ Step in_trace
+  none : NoneHolds (actor_test first ∷ step_tests in_trace others)
+  value : line_in n in_trace first others ≡ line
 
-abbrev pub values : List (Option ℕ) → List ℕ
-values arguments = map (λ a. unwrap_or a 0) arguments
-
-pub config_numbers : (ns : List (Option ℕ)) → length ns ≡ 6 → numbers_of (config_of ns) ≡ values ns
-unfolding config_of
-config_numbers ns six =
-    sym (fill_by_all (λ k. number_at ns k) (values ns) 6 0 (length-map ns (λ a. unwrap_or a 0) ∙ six) (λ k h. get_or-map (λ a. unwrap_or a 0) ns k None 0 (omega (arith, six, h))))
-
-pub board_tested : (first : List ℕ) (words : List (List ℕ)) → NoneHolds (board_tests (first ∷ words)) → IsBoard (first ∷ words) (config_of (arguments_in last_number words))
-board_tested first words none =
-    let named = none_first (not (bytes_eq first (codes "board")), NoBoardLine) (arguments_tests 6 6 false last_number words) none in
-    let counted = arguments_tested 6 6 false last_number words named.1 in
-    let six : length (arguments_in last_number words) ≡ 6 = omega (arith, length-arguments_in last_number words, counted.enough, counted.not_more) in
+step_line_passes : (n : ℕ) (in_trace : Bool) (words : List (List ℕ)) (line : Line) → IsStepLine n in_trace words line → StepPasses n in_trace words line
+step_line_passes n false words line (number, said, step) =
+    let actor = actor_passes step.first line.actor step.is_actor in
+    let op = named_passes form_of Advance step.others line.op step.is_op in
     record {
-      arguments = words;
-      parts = ap (λ (w : List ℕ). w ∷ words) ((bytes_eq-Decides first (codes "board")).0 (not-false _ named.0));
-      are_numbers = rw (config_numbers (arguments_in last_number words) six) (arguments_as_numbers last_number words (arguments_in last_number words) counted.are_arguments);
+      first = step.first;
+      others = step.others;
+      parts = step.parts;
+      kind = rw (actor.no_head, actor.begins, op_no_arrow step.others line.op step.is_op) refl;
+      none = none_cons (actor_test step.first) (step_tests false step.others) (not_from_true _ actor.good) op.0;
+      value = rw (actor.value, op.1, number, said) refl;
+    }
+step_line_passes n true words line (before, after, said, number, has_said, parts, step, is_said) =
+    let actor = actor_passes step.first line.actor step.is_actor in
+    let op = named_passes form_of Advance step.others line.op step.is_op in
+    let told = said_passes after said is_said in
+    let split = splits_at step.others after (op_no_arrow step.others line.op step.is_op) in
+    let others = step.others ++ codes "->" ∷ after in
+    record {
+      first = step.first;
+      others = others;
+      parts = parts ∙ ap (λ (ws : List (List ℕ)). ws ++ codes "->" ∷ after) step.parts;
+      kind = rw (actor.no_head, actor.begins, split.some) refl;
+      none = none_cons (actor_test step.first) (step_tests true others) (not_from_true _ actor.good) (rw (split.first, split.rest) (none_both (named_tests form_of step.others) (said_tests after) op.0 told.0));
+      value = rw (split.first, split.rest, actor.value, op.1, told.1, number, has_said) refl;
     }
 
-pub board_passes : (words : List (List ℕ)) (config : Config) → IsBoard words config → NoneHolds (board_tests words) × (board_in words ≡ Some config)
-unfolding config_of
-board_passes words config board =
-    let count = length_numbers last_number board.arguments (numbers_of config) board.are_numbers in
-    let are = numbers_as_arguments last_number board.arguments (numbers_of config) board.are_numbers in
-    let pass = arguments_pass 6 6 false last_number board.arguments (map (λ n. Some n) (numbers_of config)) (record { enough = omega (arith, count); not_more = omega (arith, count); are_arguments = are }) in
-    rw board.parts (none_cons (false, NoBoardLine) (arguments_tests 6 6 false last_number board.arguments) refl pass.0, ap (λ (ns : List (Option ℕ)). Some (config_of ns)) pass.1)
+-- ---- blocks
+
+not_some : {A : Type 0} (o : Option A) → is_some o ≡ false → o ≡ None
+not_some None none = refl
+not_some (Some x) none = absurd cc
+
+not_filled : {A : Type 0} (xs : List A) → is_filled xs ≡ false → xs ≡ []
+not_filled [] none = refl
+not_filled (x ∷ xs) none = absurd cc
+
+head_tested : (guests : List Guest) (clock : Option (List ℕ)) (first : List ℕ) (words : List (List ℕ)) → (is_at first || is_clock_head first) ≡ true → NoneHolds (head_tests guests clock first words)
+    → IsHead guests clock (first ∷ words) (opened guests clock (opened_by first words))
+head_tested guests clock first words head none = elim (cases_Bool (is_at first)) [
+  | inl is ↦
+      let both = none_parts (number_tests words) ((has_block guests (first_number words), SecondBlock) ∷ []) (rw is at none) in
+      let one = one_tested words both.0 in
+      let fresh = none_first (has_block guests (first_number words), SecondBlock) [] both.1 in
+      let name : first ≡ codes "at" = (bytes_eq-Decides first (codes "at")).0 is in
+      rw is (inl (first_number words, (one.word, ap (λ (w : List ℕ). w ∷ words) name ∙ ap (λ (ws : List (List ℕ)). codes "at" ∷ ws) one.parts, one.is_one), fresh.0, refl))
+  | inr other ↦
+      let tests = none_first (is_filled words, WordCount) ((is_some clock, SecondBlock) ∷ []) (rw other at none) in
+      let fresh = none_first (is_some clock, SecondBlock) [] tests.1 in
+      let name : first ≡ codes "clock" = (bytes_eq-Decides first (codes "clock")).0 (rw other at head) in
+      rw other (inr (ap (λ (w : List ℕ). w ∷ words) name ∙ ap (λ (ws : List (List ℕ)). codes "clock" ∷ ws) (not_filled words tests.0), not_some clock fresh.0, refl))
+]
+
+record HeadPasses (guests : List Guest) (clock : Option (List ℕ)) (words : List (List ℕ)) (next : Blocks) : Type 0 where
+  first : List ℕ
+  others : List (List ℕ)
+  parts : words ≡ first ∷ others
+  kind : kind_of first others ≡ Head
+  none : NoneHolds (head_tests guests clock first others)
+  value : opened guests clock (opened_by first others) ≡ next
+
+head_passes : (guests : List Guest) (clock : Option (List ℕ)) (words : List (List ℕ)) (next : Blocks) → IsHead guests clock words next → HeadPasses guests clock words next
+head_passes guests clock words next (inl (addr, (word, parts, number), fresh, made)) =
+    let pass = one_passes word addr number in
+    record {
+      first = codes "at";
+      others = word ∷ [];
+      parts = parts;
+      kind = refl;
+      none = none_both (number_tests (word ∷ [])) ((has_block guests (first_number (word ∷ [])), SecondBlock) ∷ []) pass.0 (none_cons (has_block guests (first_number (word ∷ [])), SecondBlock) [] (rw pass.1 fresh) refl);
+      value = rw pass.1 (sym made);
+    }
+head_passes guests clock words next (inr (parts, fresh, made)) = record {
+  first = codes "clock";
+  others = [];
+  parts = parts;
+  kind = refl;
+  none = none_cons (false, WordCount) ((is_some clock, SecondBlock) ∷ []) refl (none_cons (is_some clock, SecondBlock) [] (rw fresh refl) refl);
+  value = sym made;
+}
+
+in_block_tested : (current : Open) (first : List ℕ) (words : List (List ℕ)) → NoneHolds (in_block_tests current (first ∷ words)) → IsInBlock current (first ∷ words) (in_block current (first ∷ words))
+in_block_tested (OfGuest guest) first words none = (named_in guest_form_of Advance (first ∷ words), named_tested guest_form_of Advance (first ∷ words) none, refl)
+in_block_tested (OfClock ticks) first words none =
+    let named = none_first (not (bytes_eq first (codes "tick")), UnknownWord) (number_tests words) none in
+    let one = one_tested words named.1 in
+    let name : first ≡ codes "tick" = (bytes_eq-Decides first (codes "tick")).0 (not-false _ named.0) in
+    (first_number words, (one.word, ap (λ (w : List ℕ). w ∷ words) name ∙ ap (λ (ws : List (List ℕ)). codes "tick" ∷ ws) one.parts, one.is_one), refl)
+
+-- a digit is no letter
+no_letter : (b x : ℕ) → is_digit b 10 ≡ true → is_digit x 10 ≡ false → eqb b x ≡ false
+no_letter b x digit other = elim (cases_Bool (eqb b x)) [
+  | inl same ↦ absurd (let both : true ≡ false = sym digit ∙ ap (λ y. is_digit y 10) (eqb-true b x same) ∙ other in cc)
+  | inr other ↦ other
+]
+
+-- a guest's operation is no actor's and no block's line
+guest_digit : (name : List ℕ) → is_digit (slice_index name 0) 10 ≡ true → guest_form_of name ≡ None
+unfolding guest_form_of
+guest_digit [] digit = refl
+guest_digit (b ∷ name) digit =
+    rw (no_letter b 101 digit refl, no_letter b 108 digit refl, no_letter b 115 digit refl, no_letter b 102 digit refl, no_letter b 99 digit refl, no_letter b 119 digit refl) refl
+
+guest_none : guest_form_of (codes "c") ≡ None
+unfolding guest_form_of
+guest_none = refl
+
+guest_at_none : guest_form_of (codes "at") ≡ None
+unfolding guest_form_of
+guest_at_none = refl
+
+guest_clock_none : guest_form_of (codes "clock") ≡ None
+unfolding guest_form_of
+guest_clock_none = refl
+
+no_digit : (name : List ℕ) (form : Form Op) → guest_form_of name ≡ Some form → is_digit (slice_index name 0) 10 ≡ false
+no_digit name form has = false_from_ne_true _ (λ digit. let both = sym (guest_digit name digit) ∙ has in cc)
+
+guest_kind : (name : List ℕ) (words : List (List ℕ)) (form : Form Op) → guest_form_of name ≡ Some form → kind_of name words ≡ Operation
+guest_kind name words form has =
+    rw (
+      no_name guest_form_of name (codes "at") form has guest_at_none,
+      no_name guest_form_of name (codes "clock") form has guest_clock_none,
+      no_name guest_form_of name (codes "c") form has guest_none,
+      no_digit name form has,
+    ) refl
+
+record InBlockPasses (current next : Open) (words : List (List ℕ)) : Type 0 where
+  first : List ℕ
+  others : List (List ℕ)
+  parts : words ≡ first ∷ others
+  kind : kind_of first others ≡ Operation
+  none : NoneHolds (in_block_tests current (first ∷ others))
+  value : in_block current (first ∷ others) ≡ next
+
+in_block_passes : (current next : Open) (words : List (List ℕ)) → IsInBlock current words next → InBlockPasses current next words
+in_block_passes (OfGuest guest) next words (op, is_op, made) =
+    let pass = named_passes guest_form_of Advance words op is_op in
+    record {
+      first = is_op.name;
+      others = is_op.others;
+      parts = is_op.parts;
+      kind = guest_kind is_op.name is_op.others is_op.form is_op.has_form;
+      none = rw is_op.parts at pass.0;
+      value = ap (with_op guest) (rw is_op.parts at pass.1) ∙ sym made;
+    }
+in_block_passes (OfClock ticks) next words (n, (word, parts, number), made) =
+    let pass = one_passes word n number in
+    record {
+      first = codes "tick";
+      others = word ∷ [];
+      parts = parts;
+      kind = refl;
+      none = none_cons (false, UnknownWord) (number_tests (word ∷ [])) refl pass.0;
+      value = ap (with_tick ticks) pass.1 ∙ sym made;
+    }
+
+-- ---- lines
+
+kind_tested : (n : ℕ) (kind : Kind) (draft : Draft) (first : List ℕ) (words : List (List ℕ)) → kind_of first words ≡ kind → may_follow draft kind ≡ true → NoneHolds (kind_tests kind draft first words)
+    → IsNext n draft (first ∷ words) (next_of kind n draft first words)
+kind_tested n Head Nothing first words is follows none = head_tested [] None first words (is_head first words is) none
+kind_tested n Head (Blocked p) first words is follows none = inl (head_tested (guests_of p) (clock_of p) first words (is_head first words is) none)
+kind_tested n Head (Stepped lines) first words is follows none = absurd cc
+kind_tested n Head (Traced lines) first words is follows none = absurd cc
+kind_tested n (Step false) Nothing first words is follows none = (line_in n false first words, step_line_tested n false first words (is_step first words false is) none, refl)
+kind_tested n (Step true) Nothing first words is follows none = (line_in n true first words, step_line_tested n true first words (is_step first words true is) none, refl)
+kind_tested n (Step in_trace) (Blocked p) first words is follows none = absurd cc
+kind_tested n (Step false) (Stepped lines) first words is follows none = (line_in n false first words, step_line_tested n false first words (is_step first words false is) none, refl)
+kind_tested n (Step true) (Stepped lines) first words is follows none = absurd cc
+kind_tested n (Step false) (Traced lines) first words is follows none = absurd cc
+kind_tested n (Step true) (Traced lines) first words is follows none = (line_in n true first words, step_line_tested n true first words (is_step first words true is) none, refl)
+kind_tested n Operation Nothing first words is follows none = absurd cc
+kind_tested n Operation (Blocked p) first words is follows none = inr (in_block p.current (first ∷ words), in_block_tested p.current first words none, refl)
+kind_tested n Operation (Stepped lines) first words is follows none = absurd cc
+kind_tested n Operation (Traced lines) first words is follows none = absurd cc
+
+pub next_tested : (n : ℕ) (draft : Draft) (first : List ℕ) (words : List (List ℕ)) → NoneHolds (line_tests draft (first ∷ words)) → IsNext n draft (first ∷ words) (next_in n draft (first ∷ words))
+next_tested n draft first words none =
+    let kind = none_first (not (may_follow draft (kind_of first words)), OtherKind) (kind_tests (kind_of first words) draft first words) none in
+    kind_tested n (kind_of first words) draft first words refl (not-false _ kind.0) kind.1
+
+-- the line's words have a kind that follows, and none of its tests holds
+pub record Follows (n : ℕ) (draft : Draft) (words : List (List ℕ)) (next : Draft) : Type 0 where
+  pub first : List ℕ
+  pub others : List (List ℕ)
+  pub parts : words ≡ first ∷ others
+  pub none : NoneHolds (line_tests draft (first ∷ others))
+  pub value : next_in n draft (first ∷ others) ≡ next
+
+follows : (n : ℕ) (draft : Draft) (words : List (List ℕ)) (next : Draft) (kind : Kind) (first : List ℕ) (others : List (List ℕ)) → words ≡ first ∷ others → kind_of first others ≡ kind → may_follow draft kind ≡ true
+    → NoneHolds (kind_tests kind draft first others) → next_of kind n draft first others ≡ next → Follows n draft words next
+follows n draft words next kind first others parts is may none value = record {
+  first = first;
+  others = others;
+  parts = parts;
+  none = rw is (none_cons (not (may_follow draft kind), OtherKind) (kind_tests kind draft first others) (not_from_true _ may) none);
+  value = rw is value;
+}
+
+pub step_follows : (n : ℕ) (in_trace : Bool) (draft : Draft) (words : List (List ℕ)) (line : Line) (next : Draft) → may_follow draft (Step in_trace) ≡ true → IsStepLine n in_trace words line → with_step in_trace draft line ≡ next → Follows n draft words next
+step_follows n in_trace draft words line next may is value =
+    let pass = step_line_passes n in_trace words line is in
+    follows n draft words next (Step in_trace) pass.first pass.others pass.parts pass.kind may pass.none (ap (with_step in_trace draft) pass.value ∙ value)
+
+pub next_passes : (n : ℕ) (draft : Draft) (words : List (List ℕ)) (next : Draft) → IsNext n draft words next → Follows n draft words next
+next_passes n Nothing words (Blocked next) head =
+    let pass = head_passes [] None words next head in
+    follows n Nothing words (Blocked next) Head pass.first pass.others pass.parts pass.kind refl pass.none (ap (λ (p : Blocks). Blocked p) pass.value)
+next_passes n Nothing words (Stepped lines) (line, is, made) = step_follows n false Nothing words line (Stepped lines) refl is (ap (λ (ls : List Line). Stepped ls) (sym made))
+next_passes n Nothing words (Traced lines) (line, is, made) = step_follows n true Nothing words line (Traced lines) refl is (ap (λ (ls : List Line). Traced ls) (sym made))
+next_passes n (Blocked p) words (Blocked next) (inl head) =
+    let pass = head_passes (guests_of p) (clock_of p) words next head in
+    follows n (Blocked p) words (Blocked next) Head pass.first pass.others pass.parts pass.kind refl pass.none (ap (λ (q : Blocks). Blocked q) pass.value)
+next_passes n (Blocked p) words (Blocked next) (inr (current, is, made)) =
+    let pass = in_block_passes p.current current words is in
+    follows n (Blocked p) words (Blocked next) Operation pass.first pass.others pass.parts pass.kind refl pass.none (ap (λ (o : Open). Blocked (record p { current = o })) pass.value ∙ ap (λ (q : Blocks). Blocked q) (sym made))
+next_passes n (Stepped before) words (Stepped lines) (line, is, made) = step_follows n false (Stepped before) words line (Stepped lines) refl is (ap (λ (ls : List Line). Stepped ls) (sym made))
+next_passes n (Traced before) words (Traced lines) (line, is, made) = step_follows n true (Traced before) words line (Traced lines) refl is (ap (λ (ls : List Line). Traced ls) (sym made))
+next_passes n Nothing words Nothing is = absurd is
+next_passes n (Blocked p) words Nothing is = absurd is
+next_passes n (Blocked p) words (Stepped lines) is = absurd is
+next_passes n (Blocked p) words (Traced lines) is = absurd is
+next_passes n (Stepped before) words Nothing is = absurd is
+next_passes n (Stepped before) words (Blocked next) is = absurd is
+next_passes n (Stepped before) words (Traced lines) is = absurd is
+next_passes n (Traced before) words Nothing is = absurd is
+next_passes n (Traced before) words (Blocked next) is = absurd is
+next_passes n (Traced before) words (Stepped lines) is = absurd is

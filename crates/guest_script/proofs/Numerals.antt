@@ -5,9 +5,8 @@ use Rattle.std.specs.Char.{digit_value, is_digit}
 use Rattle.std.specs.List.{list_all}
 use Rattle.std.specs.Str.Parse.{digits_value_after}
 use Rattle.std.proofs.lemmas.Bool.{cases_Bool, cases_lt, lt-ltb, le-ltb, lt-leb}
-use Rattle.guest_script.specs.FirstFault.{is_hexadecimal, is_numeral, is_number}
-use Rattle.guest_script.specs.Scanning.{digit_after, digits_after, numeral_of, spelled_of}
-use Rattle.guest_script.specs.Reading.{number_in}
+use Rattle.guest_script.specs.Values.{is_hexadecimal, is_number, is_numeral, number_in}
+use Rattle.guest_script.specs.Scanning.{decimal_in, digit_after, digits_after, numeral_of, spelled_of}
 
 abbrev pub at_most : ℕ → Option ℕ → Option ℕ
 at_most limit None = None
@@ -40,15 +39,20 @@ digits_after-at_most radix limit n (b ∷ ds) r l h =
       | inr bad ↦ rw bad refl
     ]
 
-numeral_of-at_most : (radix limit : ℕ) (ds : List ℕ) → 1 ≤ radix → limit < 2 ^ 64 → at_most limit (numeral_of radix ds) ≡ cond (is_numeral radix limit ds) (Some (digits_value_after radix 0 ds)) None
-numeral_of-at_most radix limit [] r l = refl
-numeral_of-at_most radix limit (b ∷ ds) r l = digits_after-at_most radix limit 0 (b ∷ ds) r l (omega arith)
+pub numeral_at_most : (radix limit : ℕ) (ds : List ℕ) → 1 ≤ radix → limit < 2 ^ 64 → at_most limit (numeral_of radix ds) ≡ cond (is_numeral radix limit ds) (Some (digits_value_after radix 0 ds)) None
+numeral_at_most radix limit [] r l = refl
+numeral_at_most radix limit (b ∷ ds) r l = digits_after-at_most radix limit 0 (b ∷ ds) r l (omega arith)
 
 -- what a word spells, as far as its place allows
 pub of_spelled : (limit : ℕ) (word : List ℕ) → limit < 2 ^ 64 → number_in limit word ≡ at_most limit (spelled_of word)
 unfolding number_in is_number spelled_of
 of_spelled limit word l =
     elim (cases_Bool (is_hexadecimal word)) [
-      | inl hex ↦ rw hex (sym (numeral_of-at_most 16 limit (drop 2 word) (omega arith) l))
-      | inr other ↦ rw other (sym (numeral_of-at_most 10 limit word (omega arith) l))
+      | inl hex ↦ rw hex (sym (numeral_at_most 16 limit (drop 2 word) (omega arith) l))
+      | inr other ↦ rw other (sym (numeral_at_most 10 limit word (omega arith) l))
     ]
+
+-- what decimal digits spell, as far as its place allows
+pub of_numeral : (limit : ℕ) (digits : List ℕ) → limit < 2 ^ 64 → decimal_in limit digits ≡ at_most limit (numeral_of 10 digits)
+unfolding decimal_in
+of_numeral limit digits l = sym (numeral_at_most 10 limit digits (omega arith) l)

@@ -1,31 +1,21 @@
--- Bytes are a schedule exactly where none of a script's tests holds.
+-- Bytes are a script exactly where none of its tests holds.
 use Rattle.std.proofs.Common.{◌≡◌, ℕ, ◌+◌, Bool, true, cond, List, [], ◌∷◌, ◌++◌, Option, Some, None, Ok, Err, refl, sym, ap, ◌∙◌, subst, inl, inr}
 use Rattle.std.specs.Option.{option_map}
 use Rattle.std.specs.Str.Lines.{lines}
 use Rattle.std.proofs.lemmas.Bool.{le-ltb, ltb-false, not-false, not_from_true}
+use Rattle.board_core.specs.declared.config.Config.{Config}
 use Rattle.guest_script.specs.declared.fault.Fault.{Fault}
 use Rattle.guest_script.specs.declared.fault.ScriptFault.{ScriptFault}
-use Rattle.guest_script.specs.declared.schedule.Line.{Line}
-use Rattle.guest_script.specs.Grammar.{AreSchedule, AreSteps, IsBoard, IsLine, IsStepOrNone, Reads, Schedule}
-use Rattle.guest_script.specs.FirstFault.{at_line, board_tests, byte_test, first_fault, is_filled, schedule_tests, step_tests, steps_tests, words_in}
+use Rattle.guest_script.specs.Words.{IsLine}
+use Rattle.guest_script.specs.Grammar.{AreLines, AreScript, Draft, IsBoard, Nothing, Reads, Written}
+use Rattle.guest_script.specs.Values.{board_in, draft_in, is_filled, next_in, script_in, script_with, words_in}
+use Rattle.guest_script.specs.FirstFault.{at_line, board_first_tests, board_tests, byte_test, first_fault, line_tests, lines_tests}
+use Rattle.guest_script.specs.Reading.{or_fault, script_of}
 use Rattle.guest_script.specs.ScriptLaws.{HasOneReading}
-use Rattle.guest_script.specs.Reading.{board_in, or_fault, schedule_in, schedule_of, script_of, step_in, steps_in}
-use Rattle.guest_script.proofs.LineWords.{board_passes, board_tested, none_cons, none_first, NoneHolds, step_passes, step_tested}
+use Rattle.guest_script.proofs.BoardLine.{board_passes, board_tested}
+use Rattle.guest_script.proofs.LineWords.{next_passes, next_tested, none_both, none_cons, none_first, none_parts, NoneHolds}
+use Rattle.guest_script.proofs.LinesFrom.{first_at_line}
 use Rattle.guest_script.proofs.Spacing.{line_allowed, line_has_words, line_words}
-use Rattle.guest_script.proofs.StepsFrom.{first_at_line}
-
-none_parts : {F : Type 0} (tests more : List (Bool × F)) → NoneHolds (tests ++ more) → NoneHolds tests × NoneHolds more
-none_parts [] more none = (refl, none)
-none_parts (test ∷ tests) more none =
-    let first = none_first test (tests ++ more) none in
-    let others = none_parts tests more first.1 in
-    (none_cons test tests first.0 others.0, others.1)
-
-none_both : {F : Type 0} (tests more : List (Bool × F)) → NoneHolds tests → NoneHolds more → NoneHolds (tests ++ more)
-none_both [] more none later = later
-none_both (test ∷ tests) more none later =
-    let first = none_first test tests none in
-    none_cons test (tests ++ more) first.0 (none_both tests more first.1 later)
 
 none_mapped : {F G : Type 0} (f : F → G) (o : Option F) → option_map f o ≡ None → o ≡ None
 none_mapped f None none = refl
@@ -45,62 +35,62 @@ module _ (n : ℕ) (text : List ℕ) (tests : List (Bool × Fault)) (more : List
       let first = first_at_line n (byte_test text ∷ tests) ∙ ap (option_map (λ f. record { line = n; fault = f })) (none_cons (byte_test text) tests bytes none) in
       none_both (at_line n (byte_test text ∷ tests)) more first later
 
--- ---- steps
+-- ---- lines
 
-step_or_none_tested : (words : List (List ℕ)) → NoneHolds (step_tests words) → IsStepOrNone words (step_in words)
-step_or_none_tested [] none = refl
-step_or_none_tested (first ∷ words) none = step_tested first words none
+first_line : (n : ℕ) (draft : Draft) (text : List ℕ) (texts : List (List ℕ)) (words : List (List ℕ)) → words_in text ≡ words → IsLine text words → NoneHolds (line_tests draft words)
+    → AreLines (n + 1) (next_in n draft words) texts (draft_in (n + 1) (next_in n draft words) texts)
+    → AreLines n draft (text ∷ texts) (draft_in (n + 1) (next_in n draft words) texts)
+first_line n draft text texts [] at line none later = inl (line, later)
+first_line n draft text texts (first ∷ words) at line none later = inr (first ∷ words, next_in n draft (first ∷ words), line, next_tested n draft first words none, later)
 
-step_or_none_passes : (words : List (List ℕ)) (found : Option Line) → IsStepOrNone words found → NoneHolds (step_tests words) × (step_in words ≡ found)
-step_or_none_passes words None nothing = rw nothing (refl, refl)
-step_or_none_passes words (Some line) step = step_passes words line step
+lines_tested : (n : ℕ) (draft : Draft) (texts : List (List ℕ)) → NoneHolds (lines_tests n draft texts) → AreLines n draft texts (draft_in n draft texts)
+lines_tested n draft [] none = refl
+lines_tested n draft (text ∷ texts) none =
+    let next = next_in n draft (words_in text) in
+    let line = line_tested n text (line_tests draft (words_in text)) (lines_tests (n + 1) next texts) none in
+    first_line n draft text texts (words_in text) refl line.0 line.1 (lines_tested (n + 1) next texts line.2)
 
-steps_tested : (n : ℕ) (texts : List (List ℕ)) → NoneHolds (steps_tests n texts) → AreSteps texts (steps_in texts)
-steps_tested n [] none = refl
-steps_tested n (text ∷ texts) none =
-    let line = line_tested n text (step_tests (words_in text)) (steps_tests (n + 1) texts) none in
-    (words_in text, step_in (words_in text), steps_in texts, line.0, step_or_none_tested (words_in text) line.1, refl, steps_tested (n + 1) texts line.2)
+lines_pass : (n : ℕ) (draft : Draft) (texts : List (List ℕ)) (last : Draft) → AreLines n draft texts last → NoneHolds (lines_tests n draft texts) × (draft_in n draft texts ≡ last)
+lines_pass n draft [] last lines = (refl, sym lines)
+lines_pass n draft (text ∷ texts) last (inl (line, later)) =
+    let rest = lines_pass (n + 1) draft texts last later in
+    rw (line_words text [] line) (line_passes n text [] (lines_tests (n + 1) draft texts) [] line refl rest.0, rest.1)
+lines_pass n draft (text ∷ texts) last (inr (words, next, line, is, later)) =
+    let pass = next_passes n draft words next is in
+    let rest = lines_pass (n + 1) next texts last later in
+    rw (line_words text words line, pass.parts, pass.value)
+    (line_passes n text (line_tests draft (pass.first ∷ pass.others)) (lines_tests (n + 1) next texts) words line pass.none rest.0, rest.1)
 
-steps_pass : (n : ℕ) (texts : List (List ℕ)) (found : List Line) → AreSteps texts found → NoneHolds (steps_tests n texts) × (steps_in texts ≡ found)
-steps_pass n [] found steps = (refl, sym steps)
-steps_pass n (text ∷ texts) found steps =
-    let words = line_words text steps.0 steps.3 in
-    let step = step_or_none_passes steps.0 steps.1 steps.4 in
-    let later = steps_pass (n + 1) texts steps.2 steps.6 in (
-      line_passes n text (step_tests (words_in text)) (steps_tests (n + 1) texts) steps.0 steps.3 (rw words step.0) later.0,
-      rw (words, step.1, later.1) (sym steps.5),
-    )
+-- ---- the board's line first
 
--- ---- the schedule
+filled_board : (words : List (List ℕ)) (config : Config) → IsBoard words config → is_filled words ≡ true
+filled_board words config board = rw board.parts refl
 
-filled_board : (words : List (List ℕ)) (s : Schedule) → IsBoard words s.config → is_filled words ≡ true
-filled_board words s board = rw board.parts refl
-
-schedule_line : (n : ℕ) (text : List ℕ) (texts : List (List ℕ)) (words : List (List ℕ)) → words_in text ≡ words
-    → NoneHolds (at_line n (byte_test text ∷ board_tests words) ++ cond (is_filled words) (steps_tests (n + 1) texts) (schedule_tests (n + 1) texts))
-    → (NoneHolds (schedule_tests (n + 1) texts) → AreSchedule texts (schedule_in texts))
-    → AreSchedule (text ∷ texts) (schedule_of (board_in words) (steps_in texts) (schedule_in texts))
-schedule_line n text texts [] at none later =
-    let line = line_tested n text [] (schedule_tests (n + 1) texts) none in
+board_line : (n : ℕ) (text : List ℕ) (texts : List (List ℕ)) (words : List (List ℕ)) → words_in text ≡ words
+    → NoneHolds (at_line n (byte_test text ∷ board_tests words) ++ cond (is_filled words) (lines_tests (n + 1) Nothing texts) (board_first_tests (n + 1) texts))
+    → (NoneHolds (board_first_tests (n + 1) texts) → AreScript (n + 1) texts (script_in (n + 1) texts))
+    → AreScript n (text ∷ texts) (script_with (board_in words) (draft_in (n + 1) Nothing texts) (script_in (n + 1) texts))
+board_line n text texts [] at none later =
+    let line = line_tested n text [] (board_first_tests (n + 1) texts) none in
     inl (rw at at line.0, later line.2)
-schedule_line n text texts (first ∷ words) at none later =
-    let line = line_tested n text (board_tests (first ∷ words)) (steps_tests (n + 1) texts) none in
-    inr (first ∷ words, rw at at line.0, board_tested first words line.1, steps_tested (n + 1) texts line.2)
+board_line n text texts (first ∷ words) at none later =
+    let line = line_tested n text (board_tests (first ∷ words)) (lines_tests (n + 1) Nothing texts) none in
+    inr (first ∷ words, draft_in (n + 1) Nothing texts, rw at at line.0, board_tested first words line.1, lines_tested (n + 1) Nothing texts line.2, refl)
 
-schedule_tested : (n : ℕ) (texts : List (List ℕ)) → NoneHolds (schedule_tests n texts) → AreSchedule texts (schedule_in texts)
-schedule_tested n [] none = absurd cc
-schedule_tested n (text ∷ texts) none = schedule_line n text texts (words_in text) refl none (schedule_tested (n + 1) texts)
+script_tested : (n : ℕ) (texts : List (List ℕ)) → NoneHolds (board_first_tests n texts) → AreScript n texts (script_in n texts)
+script_tested n [] none = absurd cc
+script_tested n (text ∷ texts) none = board_line n text texts (words_in text) refl none (script_tested (n + 1) texts)
 
-schedule_passes : (n : ℕ) (texts : List (List ℕ)) (s : Schedule) → AreSchedule texts s → NoneHolds (schedule_tests n texts) × (schedule_in texts ≡ s)
-schedule_passes n [] s none = absurd none
-schedule_passes n (text ∷ texts) s (inl blank) =
-    let later = schedule_passes (n + 1) texts s blank.1 in
-    rw (line_words text [] blank.0) (line_passes n text [] (schedule_tests (n + 1) texts) [] blank.0 refl later.0, later.1)
-schedule_passes n (text ∷ texts) s (inr board) =
-    let pass = board_passes board.0 s.config board.2 in
-    let steps = steps_pass (n + 1) texts s.lines board.3 in
-    rw (line_words text board.0 board.1, filled_board board.0 s board.2, pass.1, steps.1)
-    (line_passes n text (board_tests board.0) (steps_tests (n + 1) texts) board.0 board.1 pass.0 steps.0, refl)
+script_passes : (n : ℕ) (texts : List (List ℕ)) (s : Written) → AreScript n texts s → NoneHolds (board_first_tests n texts) × (script_in n texts ≡ s)
+script_passes n [] s none = absurd none
+script_passes n (text ∷ texts) s (inl (line, later)) =
+    let rest = script_passes (n + 1) texts s later in
+    rw (line_words text [] line) (line_passes n text [] (board_first_tests (n + 1) texts) [] line refl rest.0, rest.1)
+script_passes n (text ∷ texts) s (inr (words, last, line, board, are_lines, made)) =
+    let pass = board_passes words s.config board in
+    let rest = lines_pass (n + 1) Nothing texts last are_lines in
+    rw (line_words text words line, filled_board words s.config board, pass.1, rest.1, ← made)
+    (line_passes n text (board_tests words) (lines_tests (n + 1) Nothing texts) words line pass.0 rest.0, refl)
 
 -- ---- the script
 
@@ -112,32 +102,32 @@ is_fault : {A F : Type 0} (o : Option F) (x : A) (fault : F) → or_fault o x �
 is_fault None x fault e = absurd cc
 is_fault (Some f) x fault e = cc
 
-reads_without_fault : (bytes : List ℕ) → first_fault bytes ≡ None → Reads bytes (schedule_in (lines bytes))
+reads_without_fault : (bytes : List ℕ) → first_fault bytes ≡ None → Reads bytes (script_in 1 (lines bytes))
 reads_without_fault bytes none =
-    let size = none_first _ (schedule_tests 1 (lines bytes)) none in
-    (ltb-false _ _ size.0, schedule_tested 1 (lines bytes) size.1)
+    let size = none_first _ (board_first_tests 1 (lines bytes)) none in
+    (ltb-false _ _ size.0, script_tested 1 (lines bytes) size.1)
 
-pub reads_what_is_read : (bytes : List ℕ) (s : Schedule) → script_of bytes ≡ Ok s → Reads bytes s
+pub reads_what_is_read : (bytes : List ℕ) (s : Written) → script_of bytes ≡ Ok s → Reads bytes s
 unfolding script_of
 reads_what_is_read bytes s read =
-    let value = is_value (first_fault bytes) (schedule_in (lines bytes)) s read in
+    let value = is_value (first_fault bytes) (script_in 1 (lines bytes)) s read in
     subst (Reads bytes) value.1 (reads_without_fault bytes value.0)
 
-no_fault : (bytes : List ℕ) (s : Schedule) → Reads bytes s → (first_fault bytes ≡ None) × (schedule_in (lines bytes) ≡ s)
+no_fault : (bytes : List ℕ) (s : Written) → Reads bytes s → (first_fault bytes ≡ None) × (script_in 1 (lines bytes) ≡ s)
 no_fault bytes s reads =
-    let pass = schedule_passes 1 (lines bytes) s reads.1 in
-    (none_cons _ (schedule_tests 1 (lines bytes)) (le-ltb _ _ reads.0) pass.0, pass.1)
+    let pass = script_passes 1 (lines bytes) s reads.1 in
+    (none_cons _ (board_first_tests 1 (lines bytes)) (le-ltb _ _ reads.0) pass.0, pass.1)
 
-pub read_what_it_reads : (bytes : List ℕ) (s : Schedule) → Reads bytes s → script_of bytes ≡ Ok s
+pub read_what_it_reads : (bytes : List ℕ) (s : Written) → Reads bytes s → script_of bytes ≡ Ok s
 unfolding script_of
 read_what_it_reads bytes s reads = let none = no_fault bytes s reads in rw (none.0, none.1) refl
 
 pub first_fault_answered : (bytes : List ℕ) (e : ScriptFault) → script_of bytes ≡ Err e → first_fault bytes ≡ Some e
 unfolding script_of
-first_fault_answered bytes e read = is_fault (first_fault bytes) (schedule_in (lines bytes)) e read
+first_fault_answered bytes e read = is_fault (first_fault bytes) (script_in 1 (lines bytes)) e read
 
 pub one_reading : (bytes : List ℕ) → HasOneReading bytes
 one_reading bytes = record {
   at_most_one = λ s t reads_s reads_t. sym (no_fault bytes s reads_s).1 ∙ (no_fault bytes t reads_t).1;
-  script_or_fault = (λ found. (no_fault bytes found.0 found.1).0, λ none. (schedule_in (lines bytes), reads_without_fault bytes none));
+  script_or_fault = (λ found. (no_fault bytes found.0 found.1).0, λ none. (script_in 1 (lines bytes), reads_without_fault bytes none));
 }

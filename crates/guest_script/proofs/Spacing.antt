@@ -4,8 +4,8 @@ use Rattle.std.specs.Prelude.{IsTrue, IsFalse}
 use Rattle.std.specs.List.{AllByRecursion, filter, list_all, slice_split}
 use Rattle.std.proofs.lemmas.Bool.{cases_Bool, and_parts, and_from}
 use Rattle.std.proofs.lemmas.List.{append-nil}
-use Rattle.guest_script.specs.Grammar.{is_blank, is_allowed, is_hash, IsApart, IsComment, IsGap, IsLine, IsWord, Spaces}
-use Rattle.guest_script.specs.FirstFault.{before_comment, is_filled, words_in}
+use Rattle.guest_script.specs.Words.{IsApart, IsComment, IsGap, IsLine, IsWord, Spaces, is_allowed, is_blank, is_hash}
+use Rattle.guest_script.specs.Values.{before_comment, is_filled, words_in}
 
 pub list_all-true : {A : Type 0} (p : A → Bool) (xs : List A) → list_all p xs ≡ true → AllByRecursion (λ x. IsTrue (p x)) xs
 list_all-true p [] all = tt

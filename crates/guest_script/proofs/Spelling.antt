@@ -1,5 +1,5 @@
 -- A word is a number by the tests where it spells one, and no other.
-use Rattle.std.proofs.Common.{◌≡◌, ℕ, ◌<◌, ◌≤◌, true, false, eqb, leb, Bool, ◌&&◌, ◌||◌, List, [], ◌∷◌, ◌++◌, length, take, drop, map, codes, Option, Some, None, subst, refl, sym, ap, ◌∙◌, inl, inr, arith}
+use Rattle.std.proofs.Common.{◌≡◌, ℕ, ◌<◌, ◌≤◌, true, false, eqb, leb, Bool, ◌&&◌, ◌||◌, List, [], ◌∷◌, ◌++◌, length, take, drop, map, codes, ℤ, pos, Option, Some, None, subst, refl, sym, ap, ◌∙◌, inl, inr, arith}
 use Rattle.std.specs.Char.{digit_value, is_digit}
 use Rattle.std.specs.List.{list_all}
 use Rattle.std.specs.Option.{unwrap_or}
@@ -7,9 +7,10 @@ use Rattle.std.specs.Str.Parse.{AllDigits, IsNumeral, digits_value}
 use Rattle.std.proofs.lemmas.Bool.{cases_Bool, and_parts, and_from, and_right, ltb-true, lt-ltb, leb-true, le-leb, eqb-true}
 use Rattle.std.proofs.lemmas.Slice.Eq.{bytes_eq-Decides}
 use Rattle.std.proofs.lemmas.List.{take-append-drop}
-use Rattle.guest_script.specs.Grammar.{AreArguments, AreNumbers, IsArgument, IsNumber, Spells}
-use Rattle.guest_script.specs.FirstFault.{is_argument, is_dash, is_filled, is_hexadecimal, is_numeral, is_number}
-use Rattle.guest_script.specs.Reading.{number_in, arguments_in, word_value}
+use Rattle.guest_script.specs.Words.{AreNumbers, IsNumber, IsSigned, Spells, last_above, last_below}
+use Rattle.guest_script.specs.Forms.{AreArguments, IsArgument}
+use Rattle.guest_script.specs.Values.{arguments_in, is_below, is_filled, is_hexadecimal, is_number, is_numeral, is_signed, number_in, signed_in, word_value}
+use Rattle.guest_script.specs.FirstFault.{is_argument, is_dash}
 
 -- ---- digits
 
@@ -32,7 +33,7 @@ length_filled : (digits : List ℕ) → 0 < length digits → is_filled digits �
 length_filled [] some = absurd (omega arith)
 length_filled (b ∷ digits) some = refl
 
-numeral_tested : (radix limit : ℕ) (digits : List ℕ) → is_numeral radix limit digits ≡ true → IsNumeral radix digits × (digits_value radix digits ≤ limit)
+pub numeral_tested : (radix limit : ℕ) (digits : List ℕ) → is_numeral radix limit digits ≡ true → IsNumeral radix digits × (digits_value radix digits ≤ limit)
 numeral_tested radix limit digits good =
     let all = list_all (λ b. is_digit b radix) digits in
     let parts = and_parts (is_filled digits && all) (leb (digits_value radix digits) limit) good in
@@ -93,6 +94,42 @@ pub spelled_number : (limit : ℕ) (word : List ℕ) (n : ℕ) → IsNumber limi
 spelled_number limit word n number =
     let value = spelled_value limit word n number.0 number.1 in
     (value.0, number_value limit word value.0 ∙ value.1)
+
+-- ---- signed numbers
+
+no_dash : (b : ℕ) → digit_value b < 10 → eqb b 45 ≡ false
+no_dash b digit = elim (cases_Bool (eqb b 45)) [
+  | inl same ↦ let P : ℕ → Type 0 = λ x. digit_value x < 10 in absurd (omega (arith, subst P (eqb-true b 45 same) digit))
+  | inr other ↦ other
+]
+
+digits_not_below : (word : List ℕ) → AllDigits 10 word → is_below word ≡ false
+digits_not_below [] all = refl
+digits_not_below (b ∷ word) all = rw (no_dash b all.0) refl
+
+pub signed_spelled : (word : List ℕ) → is_signed word ≡ true → IsSigned word (unwrap_or (signed_in word) (pos 0))
+unfolding signed_in
+signed_spelled word good = elim (cases_Bool (is_below word)) [
+  | inl below ↦
+      let parts : word ≡ codes "-" ++ drop 1 word = sym (take-append-drop 1 word) ∙ ap (λ (w : List ℕ). w ++ drop 1 word) ((bytes_eq-Decides (take 1 word) (codes "-")).0 below) in
+      let numeral = rw below at good in
+      let t = numeral_tested 10 last_below (drop 1 word) numeral in
+      rw (below, numeral) (inr (drop 1 word, parts, t.0, t.1, refl))
+  | inr plain ↦
+      let numeral = rw plain at good in
+      let t = numeral_tested 10 last_above word numeral in
+      rw (plain, numeral) (inl (t.0, t.1, refl))
+]
+
+pub spelled_signed : (word : List ℕ) (e : ℤ) → IsSigned word e → (is_signed word ≡ true) × (unwrap_or (signed_in word) (pos 0) ≡ e)
+unfolding signed_in
+spelled_signed word e (inl (numeral, small, made)) =
+    let plain = digits_not_below word numeral.1 in
+    let passes = numeral_passes 10 last_above word numeral small in
+    rw (plain, passes) (refl, sym made)
+spelled_signed word e (inr (digits, parts, numeral, small, made)) =
+    let passes = numeral_passes 10 last_below digits numeral small in
+    rw (parts, passes) (refl, sym made)
 
 -- ---- arguments
 

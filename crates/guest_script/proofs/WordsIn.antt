@@ -3,8 +3,8 @@ use Rattle.std.proofs.lemmas.List.{at_drop_more}
 use Rattle.std.proofs.Common.{get_or, ◌≡◌, ℕ, ◌+◌, ◌<◌, ◌≤◌, true, false, eqb, List, [], ◌∷◌, length, take, drop, refl, sym, ap, ◌∙◌, inl, inr, arith}
 use Rattle.std.specs.List.{filter, slice_split}
 use Rattle.std.proofs.lemmas.Bool.{cases_Bool, eqb-true, or_cases}
-use Rattle.guest_script.specs.Grammar.{is_blank, is_hash}
-use Rattle.guest_script.specs.FirstFault.{before_comment, is_filled, words_in}
+use Rattle.guest_script.specs.Words.{is_blank, is_hash}
+use Rattle.guest_script.specs.Values.{before_comment, is_filled, words_in}
 use Rattle.guest_script.specs.Scanning.{begins_blank, is_word_end, word_length}
 
 pub blank_no_hash : (b : ℕ) → is_blank b ≡ true → is_hash b ≡ false

@@ -1,15 +1,18 @@
--- What is wrong with bytes that are no schedule: the first test that holds, from the first line on (profile).
-use Rattle.std.specs.Prelude.{ℕ, ◌+◌, Bool, true, false, not, ◌&&◌, ◌||◌, nat_lt, nat_le, if◌then◌else◌, List, [], ◌∷◌, ◌++◌, length, take, drop, slice_index, map, codes, Option, Some, None}
-use Rattle.std.specs.Char.{is_digit}
-use Rattle.std.specs.List.{filter, list_any, list_all, slice_split}
+-- What is wrong with bytes that are no script: the first test that holds, from the first line on (profile).
+use Rattle.std.specs.Prelude.{ℕ, ◌+◌, Bool, true, false, not, ◌&&◌, ◌||◌, nat_lt, if◌then◌else◌, List, [], ◌∷◌, ◌++◌, length, map, codes, Option, Some, None, is_some}
+use Rattle.std.specs.List.{list_all}
 use Rattle.std.specs.Str.{bytes_eq}
 use Rattle.std.specs.Str.Lines.{lines}
-use Rattle.std.specs.Str.Parse.{digits_value}
 use Rattle.board_core.specs.Refusals.{first_that_holds}
 use Rattle.guest_script.specs.declared.fault.Fault.{Fault}
-use Rattle.guest_script.specs.declared.fault.Fault.TheVariants.{BadByte, NoBoardLine, UnknownWord, BadNumber, WordCount, OtherKind, TooLong, NoMemory}
+use Rattle.guest_script.specs.declared.fault.Fault.TheVariants.{BadByte, NoBoardLine, UnknownWord, BadNumber, WordCount, OtherKind, SecondBlock, TooLong, NoMemory}
 use Rattle.guest_script.specs.declared.fault.ScriptFault.{ScriptFault}
-use Rattle.guest_script.specs.Grammar.{is_blank, is_allowed, is_hash, Form, form_of, last_number, last_hart, most_bytes}
+use Rattle.guest_script.specs.declared.kind.Kind.{Kind}
+use Rattle.guest_script.specs.declared.kind.Kind.TheVariants.{Head, Step, Operation}
+use Rattle.guest_script.specs.Words.{is_allowed, last_hart, last_number}
+use Rattle.guest_script.specs.Forms.{Form, form_of, guest_form_of, said_form_of}
+use Rattle.guest_script.specs.Grammar.{Draft, Nothing, Blocked, Stepped, Traced, Guest, has_block, most_bytes, Open, OfClock, OfGuest}
+use Rattle.guest_script.specs.Values.{after_arrow, before_arrow, clock_in, first_number, guests_in, is_at, is_clock, is_filled, is_number, is_ret, is_signed, kind_of, next_in, words_in}
 
 -- the faults' numbers
 abbrev pub fault_number : Fault → ℕ
@@ -19,37 +22,11 @@ fault_number UnknownWord = 3
 fault_number BadNumber = 4
 fault_number WordCount = 5
 fault_number OtherKind = 6
+fault_number SecondBlock = 7
 fault_number TooLong = 8
 fault_number NoMemory = 9
 
--- ---- words
-
--- a text up to its comment
-abbrev pub before_comment : List ℕ → List ℕ
-before_comment [] = []
-before_comment (b ∷ text) = if is_hash b then [] else b ∷ before_comment text
-
--- whether a list has an element
-abbrev pub is_filled : {A : Type 0} → List A → Bool
-is_filled [] = false
-is_filled (x ∷ xs) = true
-
--- what stands between blanks, up to the comment
-unfoldable pub words_in : List ℕ → List (List ℕ)
-words_in text = filter is_filled (slice_split is_blank (before_comment text))
-
--- at least one digit and nothing else, which say a number up to the limit
-abbrev pub is_numeral : (radix limit : ℕ) → List ℕ → Bool
-is_numeral radix limit digits =
-    is_filled digits && list_all (λ b. is_digit b radix) digits && nat_le (digits_value radix digits) limit
-
--- whether a word begins as hexadecimal digits do
-abbrev pub is_hexadecimal : List ℕ → Bool
-is_hexadecimal word = bytes_eq (take 2 word) (codes "0x")
-
--- whether a word spells a number up to the limit
-unfoldable pub is_number : (limit : ℕ) → List ℕ → Bool
-is_number limit word = if is_hexadecimal word then is_numeral 16 limit (drop 2 word) else is_numeral 10 limit word
+-- ---- names with arguments
 
 -- whether a word is the dash that stands for an absent argument
 abbrev pub is_dash : List ℕ → Bool
@@ -58,8 +35,6 @@ is_dash word = bytes_eq word (codes "-")
 -- whether a word is a number, or a dash where an argument may be absent
 abbrev pub is_argument : (may_be_absent : Bool) → (limit : ℕ) → List ℕ → Bool
 is_argument may_be_absent limit word = is_number limit word || (may_be_absent && is_dash word)
-
--- ---- the tests of a line
 
 -- each word in turn is an argument
 abbrev pub argument_tests : (may_be_absent : Bool) → (limit : ℕ) → List (List ℕ) → List (Bool × Fault)
@@ -71,38 +46,78 @@ arguments_tests least most may_be_absent limit words =
     (nat_lt (length words) least || nat_lt most (length words), WordCount) ∷ argument_tests may_be_absent limit words
 
 -- the name is known, and its arguments are as it takes them
-abbrev pub form_tests : Option Form → List (List ℕ) → List (Bool × Fault)
+abbrev pub form_tests : {A : Type 0} → Option (Form A) → List (List ℕ) → List (Bool × Fault)
 form_tests None words = (true, UnknownWord) ∷ []
 form_tests (Some form) words = arguments_tests form.least form.most form.may_be_absent form.limit words
 
--- there is a name, and it is that of an operation
-abbrev pub op_tests : List (List ℕ) → List (Bool × Fault)
-op_tests [] = (true, WordCount) ∷ []
-op_tests (name ∷ words) = form_tests (form_of name) words
+-- there is a name, and it is known
+abbrev pub named_tests : {A : Type 0} → (List ℕ → Option (Form A)) → List (List ℕ) → List (Bool × Fault)
+named_tests form_of [] = (true, WordCount) ∷ []
+named_tests form_of (name ∷ words) = form_tests (form_of name) words
 
--- whether a word is the clock's
-abbrev pub is_clock : List ℕ → Bool
-is_clock word = bytes_eq word (codes "c")
+-- one number
+abbrev pub number_tests : List (List ℕ) → List (Bool × Fault)
+number_tests words = arguments_tests 1 1 false last_number words
 
--- An actor's line begins with `c` or a digit; with an arrow it is a trace's.
-abbrev pub begins_actor_line : List ℕ → Bool
-begins_actor_line first = is_clock first || is_digit (slice_index first 0) 10
+-- a signed number and a number
+abbrev pub ret_tests : List (List ℕ) → List (Bool × Fault)
+ret_tests (error ∷ value ∷ []) = (not (is_signed error), BadNumber) ∷ (not (is_number last_number value), BadNumber) ∷ []
+ret_tests words = (true, WordCount) ∷ []
 
--- whether one of the words is an arrow
-abbrev pub has_arrow : List (List ℕ) → Bool
-has_arrow words = list_any (λ word. bytes_eq word (codes "->")) words
+-- the words of a reply or a refusal: there is one, it is known, and its arguments are as it takes them
+abbrev pub said_tests : List (List ℕ) → List (Bool × Fault)
+said_tests [] = (true, WordCount) ∷ []
+said_tests (name ∷ words) = if is_ret name then ret_tests words else form_tests (said_form_of name) words
+
+-- ---- the tests of a line
 
 -- `c`, or the number of a hart
 abbrev pub actor_test : List ℕ → Bool × Fault
 actor_test word = (not (is_clock word || is_number last_hart word), BadNumber)
 
--- a line's kind, then its actor, then its operation
-abbrev pub step_tests : List (List ℕ) → List (Bool × Fault)
-step_tests [] = []
-step_tests (first ∷ words) =
-    (not (begins_actor_line first) || has_arrow words, OtherKind)
-    ∷ actor_test first
-    ∷ op_tests words
+-- an operation, and in a trace what it gave
+abbrev pub step_tests : (in_trace : Bool) → List (List ℕ) → List (Bool × Fault)
+step_tests false words = named_tests form_of words
+step_tests true words = named_tests form_of (before_arrow words) ++ said_tests (after_arrow words)
+
+-- an address that no block has, or the clock's first block
+abbrev pub head_tests : List Guest → (clock : Option (List ℕ)) → (first : List ℕ) → List (List ℕ) → List (Bool × Fault)
+head_tests guests clock first words =
+    if is_at first then number_tests words ++ (has_block guests (first_number words), SecondBlock) ∷ []
+    else (is_filled words, WordCount) ∷ (is_some clock, SecondBlock) ∷ []
+
+-- an operation of the open block
+abbrev pub in_block_tests : Open → List (List ℕ) → List (Bool × Fault)
+in_block_tests (OfGuest guest) words = named_tests guest_form_of words
+in_block_tests (OfClock ticks) [] = []
+in_block_tests (OfClock ticks) (name ∷ words) = (not (bytes_eq name (codes "tick")), UnknownWord) ∷ number_tests words
+
+-- whether a line of this kind may follow: the first one may not be an operation alone, and the others are as the first
+abbrev pub may_follow : Draft → Kind → Bool
+may_follow Nothing Operation = false
+may_follow Nothing kind = true
+may_follow (Blocked p) (Step in_trace) = false
+may_follow (Blocked p) kind = true
+may_follow (Stepped lines) (Step in_trace) = not in_trace
+may_follow (Stepped lines) kind = false
+may_follow (Traced lines) (Step in_trace) = in_trace
+may_follow (Traced lines) kind = false
+
+abbrev pub operation_tests : Draft → List (List ℕ) → List (Bool × Fault)
+operation_tests (Blocked p) words = in_block_tests p.current words
+operation_tests draft words = []
+
+-- the tests of a line of this kind
+abbrev pub kind_tests : Kind → Draft → (first : List ℕ) → List (List ℕ) → List (Bool × Fault)
+kind_tests Head draft first words = head_tests (guests_in draft) (clock_in draft) first words
+kind_tests (Step in_trace) draft first words = actor_test first ∷ step_tests in_trace words
+kind_tests Operation draft first words = operation_tests draft (first ∷ words)
+
+-- a line's kind, and then what it says
+abbrev pub line_tests : Draft → List (List ℕ) → List (Bool × Fault)
+line_tests draft [] = []
+line_tests draft (first ∷ words) =
+    (not (may_follow draft (kind_of first words)), OtherKind) ∷ kind_tests (kind_of first words) draft first words
 
 -- the word `board`, and then its numbers
 abbrev pub board_tests : List (List ℕ) → List (Bool × Fault)
@@ -121,21 +136,22 @@ abbrev pub at_line : ℕ → List (Bool × Fault) → List (Bool × ScriptFault)
 at_line n tests = map (λ test. (test.0, record { line = n; fault = test.1 })) tests
 
 -- the tests of the lines from line n on, after the board's
-abbrev pub steps_tests : ℕ → List (List ℕ) → List (Bool × ScriptFault)
-steps_tests n [] = []
-steps_tests n (text ∷ texts) = at_line n (byte_test text ∷ step_tests (words_in text)) ++ steps_tests (n + 1) texts
+abbrev pub lines_tests : ℕ → Draft → List (List ℕ) → List (Bool × ScriptFault)
+lines_tests n draft [] = []
+lines_tests n draft (text ∷ texts) =
+    at_line n (byte_test text ∷ line_tests draft (words_in text)) ++ lines_tests (n + 1) (next_in n draft (words_in text)) texts
 
 -- the tests of the lines from line n on, of which the first with words is the board's
-abbrev pub schedule_tests : ℕ → List (List ℕ) → List (Bool × ScriptFault)
-schedule_tests n [] = (true, record { line = 0; fault = NoBoardLine }) ∷ []
-schedule_tests n (text ∷ texts) =
+abbrev pub board_first_tests : ℕ → List (List ℕ) → List (Bool × ScriptFault)
+board_first_tests n [] = (true, record { line = 0; fault = NoBoardLine }) ∷ []
+board_first_tests n (text ∷ texts) =
     at_line n (byte_test text ∷ board_tests (words_in text))
-    ++ (if is_filled (words_in text) then steps_tests (n + 1) texts else schedule_tests (n + 1) texts)
+    ++ (if is_filled (words_in text) then lines_tests (n + 1) Nothing texts else board_first_tests (n + 1) texts)
 
 -- all tests of a script: its size first, then its lines
 abbrev pub script_tests : List ℕ → List (Bool × ScriptFault)
 script_tests bytes =
-    (nat_lt most_bytes (length bytes), record { line = 0; fault = TooLong }) ∷ schedule_tests 1 (lines bytes)
+    (nat_lt most_bytes (length bytes), record { line = 0; fault = TooLong }) ∷ board_first_tests 1 (lines bytes)
 
 -- The fault of the first test that holds, if one does.
 abbrev pub first_fault : List ℕ → Option ScriptFault

@@ -1,23 +1,20 @@
 -- What is read, where no test holds.
-use Rattle.std.specs.Prelude.{◌≡◌, ℕ, if◌then◌else◌, List, [], ◌∷◌, ◌++◌, drop, map, codes, Option, Some, None, Result, Ok, Err, Bool}
-use Rattle.std.specs.List.{filter_map}
-use Rattle.std.specs.Option.{unwrap_or}
+use Rattle.std.specs.Prelude.{◌≡◌, ◌⊎◌, ℕ, List, ◌∷◌, codes, Option, Some, None, Result, Ok, Err, Bool}
 use Rattle.std.specs.Str.Lines.{lines}
-use Rattle.std.specs.Str.Parse.{digits_value}
 use Rattle.board_core.specs.declared.config.Config.{Config}
-use Rattle.board_core.specs.declared.event.Actor.{Actor}
-use Rattle.board_core.specs.declared.event.Actor.TheVariants.{Hart, Clock}
-use Rattle.board_core.specs.declared.event.Op.{Op}
-use Rattle.board_core.specs.declared.event.Op.TheVariants.{Advance}
 use Rattle.board_core.specs.Refusals.{first_that_holds}
 use Rattle.guest_script.specs.declared.fault.Fault.{Fault}
+use Rattle.guest_script.specs.declared.fault.Fault.TheVariants.{NoMemory}
 use Rattle.guest_script.specs.declared.fault.ScriptFault.{ScriptFault}
-use Rattle.guest_script.specs.declared.schedule.Line.{Line}
+use Rattle.guest_script.specs.declared.places.Places.{Places}
 use Rattle.guest_script.specs.declared.op_name.OpName.{OpName}
-use Rattle.guest_script.specs.declared.op_name.OpName.TheVariants as names
-use Rattle.guest_script.specs.declared.op_name.Places.{Places}
-use Rattle.guest_script.specs.Grammar.{Schedule, Form, form_of, number_at, last_number, last_hart}
-use Rattle.guest_script.specs.FirstFault.{words_in, is_number, is_hexadecimal, is_clock, steps_tests, schedule_tests, script_tests}
+use Rattle.guest_script.specs.declared.op_name.OpName.TheVariants as ops
+use Rattle.guest_script.specs.declared.said_name.SaidName.{SaidName}
+use Rattle.guest_script.specs.declared.said_name.SaidName.TheVariants as saids
+use Rattle.guest_script.specs.Forms.{Form}
+use Rattle.guest_script.specs.Grammar.{content_of, Draft, Written}
+use Rattle.guest_script.specs.Values.{draft_in, next_in, script_in, words_in}
+use Rattle.guest_script.specs.FirstFault.{board_first_tests, byte_test, line_tests, lines_tests, no_memory, script_tests}
 
 -- the value, where there is no fault
 abbrev pub or_fault : {A F : Type 0} → Option F → A → Result A F
@@ -33,107 +30,58 @@ abbrev pub Gives : {X A F : Type 0} → (X → A) → Result X F → Result A F 
 Gives view (Ok x) read = read ≡ Ok (view x)
 Gives view (Err fault) read = read ≡ Err fault
 
--- ---- an operation by its name
+-- The same of a whole script; or memory was refused.
+abbrev pub GivesOrLacks : {X A : Type 0} → (X → A) → Result X ScriptFault → Result A ScriptFault → Type 0
+GivesOrLacks view (Ok x) read = read ≡ Ok (view x)
+GivesOrLacks view (Err e) read = (e ≡ no_memory) ⊎ (read ≡ Err e)
 
--- the word that names it
-abbrev pub spelling : OpName → List ℕ
-spelling names.Ecall = codes "ecall"
-spelling names.Load = codes "load"
-spelling names.Store = codes "store"
-spelling names.Fetch = codes "fetch"
-spelling names.Satp = codes "satp"
-spelling names.Sie = codes "sie"
-spelling names.Sstatus = codes "sstatus"
-spelling names.Sip = codes "sip"
-spelling names.Clearssip = codes "clearssip"
-spelling names.Sfence = codes "sfence"
-spelling names.Fencei = codes "fencei"
-spelling names.Wfi = codes "wfi"
-spelling names.Poll = codes "poll"
-spelling names.Serve = codes "serve"
-spelling names.Advance = codes "advance"
-spelling names.Tick = codes "tick"
+-- What a function returned, seen by a view, is what is read of a line; or memory was refused.
+abbrev pub GivesOrWants : {X A : Type 0} → (X → A) → Result X Fault → Result A Fault → Type 0
+GivesOrWants view (Ok x) read = read ≡ Ok (view x)
+GivesOrWants view (Err fault) read = (fault ≡ NoMemory) ⊎ (read ≡ Err fault)
 
--- the places are those of this form
-abbrev pub IsFormAt : Places → Option Form → Type 0
+-- ---- names
+
+-- the word that names an operation
+abbrev pub op_spelling : OpName → List ℕ
+op_spelling ops.Ecall = codes "ecall"
+op_spelling ops.Load = codes "load"
+op_spelling ops.Store = codes "store"
+op_spelling ops.Fetch = codes "fetch"
+op_spelling ops.Satp = codes "satp"
+op_spelling ops.Sie = codes "sie"
+op_spelling ops.Sstatus = codes "sstatus"
+op_spelling ops.Sip = codes "sip"
+op_spelling ops.Clearssip = codes "clearssip"
+op_spelling ops.Sfence = codes "sfence"
+op_spelling ops.Fencei = codes "fencei"
+op_spelling ops.Wfi = codes "wfi"
+op_spelling ops.Poll = codes "poll"
+op_spelling ops.Serve = codes "serve"
+op_spelling ops.Advance = codes "advance"
+op_spelling ops.Tick = codes "tick"
+
+-- the word that names what is said
+abbrev pub said_spelling : SaidName → List ℕ
+said_spelling saids.Waiting = codes "waiting"
+said_spelling saids.Gone = codes "gone"
+said_spelling saids.Served = codes "served"
+said_spelling saids.Done = codes "done"
+said_spelling saids.Entry = codes "entry"
+said_spelling saids.Value = codes "value"
+said_spelling saids.Fault = codes "fault"
+said_spelling saids.Moved = codes "moved"
+said_spelling saids.Refused = codes "refused"
+
+-- The places are those of a form.
+abbrev pub IsFormAt : {A : Type 0} → Places → Option (Form A) → Type 0
 IsFormAt places None = ⊥
 IsFormAt places (Some form) = (form.least ≡ places.least) × (form.most ≡ places.most) × (form.limit ≡ places.limit) × (form.may_be_absent ≡ places.may_be_absent)
 
--- the places are those of the form under that name
-abbrev pub HasForm : OpName → Places → Type 0
-HasForm name places = IsFormAt places (form_of (spelling name))
-
--- ---- the values, which say nothing where a test holds
-
--- the number that a word spells
-abbrev pub word_value : List ℕ → ℕ
-word_value word = if is_hexadecimal word then digits_value 16 (drop 2 word) else digits_value 10 word
-
--- that number, if it is one and within the limit
-unfoldable pub number_in : (limit : ℕ) → List ℕ → Option ℕ
-number_in limit word = if is_number limit word then Some (word_value word) else None
-
--- the arguments that the words are: their numbers, and none for a word that spells none, as a dash does
-unfoldable pub arguments_in : (limit : ℕ) → List (List ℕ) → List (Option ℕ)
-arguments_in limit words = map (number_in limit) words
-
--- the operation that the form makes of arguments
-abbrev pub op_from : Option Form → List (Option ℕ) → Op
-op_from None ns = Advance
-op_from (Some form) ns = form.op ns
-
--- the largest number that the form takes
-abbrev pub limit_from : Option Form → ℕ
-limit_from None = 0
-limit_from (Some form) = form.limit
-
--- the operation that words are, its name first
-abbrev pub op_in : List (List ℕ) → Op
-op_in [] = Advance
-op_in (name ∷ words) = op_from (form_of name) (arguments_in (limit_from (form_of name)) words)
-
--- the actor that a word is
-abbrev pub actor_in : List ℕ → Actor
-actor_in word = if is_clock word then Clock else Hart (unwrap_or (number_in last_hart word) 0)
-
--- the step of an actor, from what follows it
-abbrev pub line_in : (first : List ℕ) → List (List ℕ) → Line
-line_in first words = record { actor = actor_in first; op = op_in words }
-
--- the step of a line, if it has words
-abbrev pub step_in : List (List ℕ) → Option Line
-step_in [] = None
-step_in (first ∷ words) = Some (line_in first words)
-
--- a board by its numbers
-unfoldable pub config_of : List (Option ℕ) → Config
-config_of ns = record {
-  harts = number_at ns 0;
-  pages = number_at ns 1;
-  limit = number_at ns 2;
-  boot_hart = number_at ns 3;
-  boot_addr = number_at ns 4;
-  boot_opaque = number_at ns 5;
-}
-
--- the board of a line, if it has words
-abbrev pub board_in : List (List ℕ) → Option Config
-board_in [] = None
-board_in (first ∷ words) = Some (config_of (arguments_in last_number words))
-
--- the steps of lines
-abbrev pub steps_in : List (List ℕ) → List Line
-steps_in texts = filter_map (λ text. step_in (words_in text)) texts
-
--- a board and the steps after it, or what comes later
-abbrev pub schedule_of : Option Config → (steps : List Line) → (later : Schedule) → Schedule
-schedule_of None steps later = later
-schedule_of (Some config) steps later = record { config = config; lines = steps }
-
--- the schedule of lines
-abbrev pub schedule_in : List (List ℕ) → Schedule
-schedule_in [] = record { config = config_of []; lines = [] }
-schedule_in (text ∷ texts) = schedule_of (board_in (words_in text)) (steps_in texts) (schedule_in texts)
+-- what a form makes of arguments
+abbrev pub made_from : {A : Type 0} → (otherwise : A) → Option (Form A) → List (Option ℕ) → A
+made_from otherwise None ns = otherwise
+made_from otherwise (Some form) ns = form.makes ns
 
 -- ---- what is read
 
@@ -142,24 +90,28 @@ abbrev pub located : {A : Type 0} → ℕ → Result A Fault → Result A Script
 located n (Ok value) = Ok value
 located n (Err fault) = Err (record { line = n; fault = fault })
 
--- with the steps that were read before
-abbrev pub with_front : List Line → Result (List Line) ScriptFault → Result (List Line) ScriptFault
-with_front front (Ok others) = Ok (front ++ others)
-with_front front (Err fault) = Err fault
+-- a fault of line n; the want of memory is of no line
+abbrev pub located_fault : ℕ → Fault → ScriptFault
+located_fault n NoMemory = no_memory
+located_fault n fault = record { line = n; fault = fault }
+
+-- what the lines say with line n, or its fault
+unfoldable pub line_from : ℕ → Draft → List ℕ → Result Draft ScriptFault
+line_from n draft text = located n (tested (byte_test text ∷ line_tests draft (words_in text)) (next_in n draft (words_in text)))
+
+-- what the lines say with those from line n on, or their first fault
+unfoldable pub lines_from : ℕ → Draft → List (List ℕ) → Result Draft ScriptFault
+lines_from n draft texts = tested (lines_tests n draft texts) (draft_in n draft texts)
 
 -- with the board's numbers
-abbrev pub with_config : Config → Result (List Line) ScriptFault → Result Schedule ScriptFault
-with_config config (Ok steps) = Ok (record { config = config; lines = steps })
+abbrev pub with_config : Config → Result Draft ScriptFault → Result Written ScriptFault
+with_config config (Ok draft) = Ok (record { config = config; content = content_of draft })
 with_config config (Err fault) = Err fault
 
--- the steps of the lines from line n on, or their first fault
-unfoldable pub steps_from : ℕ → List (List ℕ) → Result (List Line) ScriptFault
-steps_from n texts = tested (steps_tests n texts) (steps_in texts)
+-- the script of the lines from line n on, or their first fault
+unfoldable pub script_from : ℕ → List (List ℕ) → Result Written ScriptFault
+script_from n texts = tested (board_first_tests n texts) (script_in n texts)
 
--- the schedule of the lines from line n on, or their first fault
-unfoldable pub schedule_from : ℕ → List (List ℕ) → Result Schedule ScriptFault
-schedule_from n texts = tested (schedule_tests n texts) (schedule_in texts)
-
--- the schedule of all bytes, or their first fault
-unfoldable pub script_of : List ℕ → Result Schedule ScriptFault
-script_of bytes = tested (script_tests bytes) (schedule_in (lines bytes))
+-- the script of all bytes, or their first fault
+unfoldable pub script_of : List ℕ → Result Written ScriptFault
+script_of bytes = tested (script_tests bytes) (script_in 1 (lines bytes))

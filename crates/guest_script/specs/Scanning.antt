@@ -1,8 +1,9 @@
 -- A text's bytes, one after another: where a word ends, and the number that digits spell.
 use Rattle.std.specs.Prelude.{ℕ, suc, ◌+◌, ◌*◌, ◌^◌, Bool, false, ◌&&◌, ◌||◌, nat_lt, if◌then◌else◌, List, [], ◌∷◌, drop, Option, Some, None}
 use Rattle.std.specs.Char.{digit_value, is_digit}
-use Rattle.guest_script.specs.Grammar.{is_blank, is_hash}
-use Rattle.guest_script.specs.FirstFault.{is_hexadecimal}
+use Rattle.std.specs.Str.Parse.{digits_value}
+use Rattle.guest_script.specs.Words.{is_blank, is_hash}
+use Rattle.guest_script.specs.Values.{before_arrow, is_hexadecimal, is_numeral}
 
 abbrev pub begins_blank : List ℕ → Bool
 begins_blank [] = false
@@ -36,3 +37,11 @@ numeral_of radix (b ∷ digits) = digits_after radix 0 (b ∷ digits)
 
 unfoldable pub spelled_of : List ℕ → Option ℕ
 spelled_of word = if is_hexadecimal word then numeral_of 16 (drop 2 word) else numeral_of 10 word
+
+-- the number that decimal digits spell, if it is at most this
+unfoldable pub decimal_in : (limit : ℕ) → List ℕ → Option ℕ
+decimal_in limit digits = if is_numeral 10 limit digits then Some (digits_value 10 digits) else None
+
+-- all words, or those before the first arrow
+abbrev pub words_until : (until_arrow : Bool) → List (List ℕ) → List (List ℕ)
+words_until until_arrow words = if until_arrow then before_arrow words else words

@@ -1,6 +1,9 @@
 ghost use Rattle.std.specs.Prelude.{◌≡◌};
+ghost use Rattle.guest_script.specs.declared.fault.Fault.TheVariants.{NoMemory};
 ghost use Rattle.guest_script.specs.FirstFault.{fault_number};
+ghost use Rattle.guest_script.specs.Reading.{located_fault};
 
+use std::alloc::{AllocError, AllocFailed};
 use thiserror::Error;
 
 /// What is wrong with a line, or with the whole script (profile).
@@ -24,6 +27,9 @@ pub enum Fault {
     /// A line of another kind of script.
     #[error("a line of another kind of script")]
     OtherKind,
+    /// A second block with the same address, or a second block of the clock.
+    #[error("a second block with the same address, or a second block of the clock")]
+    SecondBlock,
     /// More than 16,777,216 bytes.
     #[error("more than 16,777,216 bytes")]
     TooLong,
@@ -44,9 +50,26 @@ impl Fault {
             Fault::BadNumber => 4,
             Fault::WordCount => 5,
             Fault::OtherKind => 6,
+            Fault::SecondBlock => 7,
             Fault::TooLong => 8,
             Fault::NoMemory => 9,
         }
+    }
+}
+
+impl From<AllocError> for Fault {
+    ghost from_gives = { λ _ fault. fault ≡ NoMemory };
+
+    fn from(_refused: AllocError) -> Fault {
+        Fault::NoMemory
+    }
+}
+
+impl<T: Drop> From<AllocFailed<T>> for Fault {
+    ghost from_gives = { λ _ fault. fault ≡ NoMemory };
+
+    fn from(_refused: AllocFailed<T>) -> Fault {
+        Fault::NoMemory
     }
 }
 
@@ -59,3 +82,21 @@ pub struct ScriptFault {
     /// What is wrong.
     pub fault: Fault,
 }
+
+impl ScriptFault {
+    /// What is wrong with a line; the want of memory is none of a line's.
+    pub(crate) fn at(line: u64, fault: Fault) -> ScriptFault
+        ensures { result ≡ located_fault line fault }
+    {
+        match fault {
+            Fault::NoMemory => NO_MEMORY,
+            fault => ScriptFault { line, fault },
+        }
+    }
+}
+
+/// Memory was refused, at no line.
+pub const NO_MEMORY: ScriptFault = ScriptFault {
+    line: 0,
+    fault: Fault::NoMemory,
+};

@@ -1,18 +1,31 @@
-//! Scripts as text: a board line, and one line for each step (profile).
+//! Scripts as text: a board line, and then a program, a schedule or a trace (profile).
 #![tactic(auto)]
 
+mod blocks;
+mod draft;
 mod fault;
+mod kept;
+mod kind;
 mod laws;
+mod lines;
 mod number;
 mod numbers;
 mod op_name;
+mod op_shape;
 mod parsing;
-mod schedule;
+mod places;
+mod plain;
+mod said;
+mod said_name;
+mod said_shape;
+mod script;
 mod step;
 mod text;
 mod words;
 
 pub use fault::{Fault, ScriptFault};
 pub use laws::one_reading;
+pub use lines::{Lines, LinesIter};
 pub use parsing::parse;
-pub use schedule::{Line, Script};
+pub use said::Said;
+pub use script::{Block, Body, Line, Script};

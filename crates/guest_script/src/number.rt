@@ -1,11 +1,19 @@
-ghost use Rattle.std.specs.Prelude.{◌≡◌, ◌≤◌};
-ghost use Rattle.guest_script.specs.Reading.{number_in};
-ghost use Rattle.guest_script.specs.Scanning.{digit_after, numeral_of, spelled_of};
+ghost use Rattle.std.specs.Prelude.{◌≡◌, ◌≤◌, neg_ℤ, pos, IfSome};
+ghost use Rattle.guest_script.specs.Words.{last_below};
+ghost use Rattle.guest_script.specs.Values.{number_in, signed_in};
+ghost use Rattle.guest_script.specs.Scanning.{decimal_in, digit_after, numeral_of, spelled_of};
+
+/// How far a signed number may be below 0.
+pub const LAST_BELOW: u64 = 1 << 63;
+
+/// The largest signed number.
+pub const LAST_ABOVE: u64 = LAST_BELOW - 1;
 
 /// The number that a word spells, if it is at most `limit`.
 #[tactic(auto, using(crate::proofs::Numerals::of_spelled))]
 pub fn number(word: &[u8], limit: u64) -> Option<u64>
-    ensures { result ≡ number_in limit word.now }
+    ensures within { IfSome result (λ n. n ≤ limit) }
+    ensures value { result ≡ number_in limit word.now }
 {
     match spelled(word) {
         Some(n) if n <= limit => Some(n),
@@ -22,6 +30,37 @@ fn spelled(word: &[u8]) -> Option<u64>
         Some(digits) => numeral(digits, 16),
         None => numeral(word, 10),
     }
+}
+
+/// The signed number that a word spells, if there is one.
+#[tactic(auto, unfolding(crate::specs::Values::signed_in, crate::specs::Scanning::decimal_in))]
+pub fn signed_number(word: &[u8]) -> Option<i64>
+    ensures { result ≡ signed_in word.now }
+{
+    match word.strip_prefix(b"-") {
+        Some(digits) => Some(below_zero(decimal(digits, LAST_BELOW)?)),
+        None => Some(decimal(word, LAST_ABOVE)? as i64),
+    }
+}
+
+/// The number that decimal digits spell, if it is at most `limit`.
+#[tactic(auto, using(crate::proofs::Numerals::of_numeral))]
+fn decimal(digits: &[u8], limit: u64) -> Option<u64>
+    ensures value { result ≡ decimal_in limit digits.now }
+    ensures within { IfSome result (λ n. n ≤ limit) }
+{
+    match numeral(digits, 10) {
+        Some(n) if n <= limit => Some(n),
+        _ => None,
+    }
+}
+
+/// The number below 0 by so much.
+pub fn below_zero(n: u64) -> i64
+    requires { n ≤ last_below }
+    ensures { result ≡ neg_ℤ (pos n) }
+{
+    if n == 0 { 0 } else { -1 - (n - 1) as i64 }
 }
 
 /// The number that the digits spell, of which there is at least one.
@@ -42,7 +81,7 @@ fn numeral(digits: &[u8], radix: u32) -> Option<u64>
 
 /// The number whose digits are those of `n` and one more.
 #[tactic(auto, unfolding(crate::specs::Scanning::digit_after))]
-fn push_digit(n: u64, digit: u8, radix: u32) -> Option<u64>
+pub fn push_digit(n: u64, digit: u8, radix: u32) -> Option<u64>
     requires low { 2 ≤ radix }
     requires high { radix ≤ 36 }
     ensures { result ≡ digit_after radix n digit }

@@ -1,31 +1,35 @@
 ghost use Rattle.std.specs.Prelude.{◌≡◌, ◌≤◌, ◌&&◌, ◌||◌, is_some};
-ghost use Rattle.guest_script.specs.Grammar.{argument_at, number_at};
-ghost use Rattle.guest_script.specs.FirstFault.{arguments_tests, is_dash, words_in};
-ghost use Rattle.guest_script.specs.Reading.{Gives, arguments_in, tested};
+ghost use Rattle.guest_script.specs.Forms.{argument_at, number_at};
+ghost use Rattle.guest_script.specs.FirstFault.{arguments_tests, is_dash};
+ghost use Rattle.guest_script.specs.Reading.{Gives, tested};
+ghost use Rattle.guest_script.specs.Scanning.{words_until};
+ghost use Rattle.guest_script.specs.Values.{arguments_in, words_in};
 
 use crate::fault::Fault;
 use crate::number::number;
-use crate::op_name::Places;
-use crate::words::next_word;
+use crate::places::Places;
+use crate::words::next_word_until;
 use arrayvec::ArrayVec;
 
 /// The most arguments that a line has.
 pub const MOST_ARGUMENTS: usize = 8;
 
-/// The arguments that a text's words are, as many as there are places: None where a dash stands for one.
+/// The arguments that a text's words are, or its words before the first arrow, as many as there are places: None where
+/// a dash stands for one.
 pub fn arguments_in(
     text: &[u8],
+    until_arrow: bool,
     places: &Places,
 ) -> Result<ArrayVec<Option<u64>, MOST_ARGUMENTS>, Fault>
     requires { places.now.most ≤ MOST_ARGUMENTS }
     ensures { Gives (λ found. found.items) result
-        (tested (arguments_tests places.now.least places.now.most places.now.may_be_absent places.now.limit (words_in text.now))
-        (arguments_in places.now.limit (words_in text.now))) }
+        (tested (arguments_tests places.now.least places.now.most places.now.may_be_absent places.now.limit (words_until until_arrow (words_in text.now)))
+        (arguments_in places.now.limit (words_until until_arrow (words_in text.now)))) }
 {
     let mut found = ArrayVec::new();
     let mut all_good = true;
     let mut rest = text;
-    while let Some((word, after)) = next_word(rest) {
+    while let Some((word, after)) = next_word_until(rest, until_arrow) {
         if found.len() >= places.most {
             return Err(Fault::WordCount);
         }

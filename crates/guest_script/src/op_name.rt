@@ -1,13 +1,15 @@
-ghost use Rattle.std.specs.Prelude.{◌≡◌, ◌≤◌, false, MatchOption, None};
-ghost use Rattle.guest_script.specs.Grammar.{form_of, last_number, regs_of};
-ghost use Rattle.guest_script.specs.Reading.{HasForm, op_from, spelling};
+ghost use Rattle.std.specs.Prelude.{◌≡◌, ◌≤◌, MatchOption, None, if◌then◌else◌};
+ghost use Rattle.board_core.specs.declared.event.Op.TheVariants.{Advance};
+ghost use Rattle.guest_script.specs.Forms.{form_of, guest_form_of, regs_of};
+ghost use Rattle.guest_script.specs.Reading.{IsFormAt, made_from, op_spelling};
 
 use crate::numbers::{MOST_ARGUMENTS, argument_at, number_at};
+use crate::places::{Places, any_numbers};
 use board_core::Op;
 use sbi_abi::Regs;
 
 /// An operation by its name.
-#[derive(Clone, Copy)]
+#[derive(Clone, Copy, PartialEq, Eq)]
 pub enum OpName {
     /// `ecall`
     Ecall,
@@ -43,21 +45,11 @@ pub enum OpName {
     Tick,
 }
 
-/// What may follow a name: from `least` to `most` numbers, each at most `limit`, and whether a dash may stand in the
-/// place of each.
-#[derive(Clone, Copy)]
-pub struct Places {
-    pub least: usize,
-    pub most: usize,
-    pub limit: u64,
-    pub may_be_absent: bool,
-}
-
 impl OpName {
     /// The operation that a word names.
-    #[tactic(auto, unfolding(crate::specs::Grammar::form_of))]
+    #[tactic(auto, unfolding(crate::specs::Forms::form_of))]
     pub fn of(word: &[u8]) -> Option<OpName>
-        ensures { MatchOption result (form_of word.now ≡ None) (λ name. word.now ≡ spelling name) }
+        ensures { MatchOption result (form_of word.now ≡ None) (λ name. word.now ≡ op_spelling name) }
     {
         match word {
             b"ecall" => Some(OpName::Ecall),
@@ -81,9 +73,9 @@ impl OpName {
     }
 
     /// What may follow the name.
-    #[tactic(auto, unfolding(crate::specs::Grammar::form_of))]
+    #[tactic(auto, unfolding(crate::specs::Forms::form_of))]
     pub fn places(self) -> Places
-        ensures form { HasForm self result }
+        ensures form { IsFormAt result (form_of (op_spelling self)) }
         ensures fits { result.most ≤ MOST_ARGUMENTS }
     {
         match self {
@@ -109,10 +101,23 @@ impl OpName {
         }
     }
 
+    /// Whether a guest may do it.
+    #[tactic(auto, unfolding(crate::specs::Forms::form_of, crate::specs::Forms::guest_form_of))]
+    pub fn is_guest(self) -> bool
+        ensures { guest_form_of (op_spelling self) ≡ (if result then form_of (op_spelling self) else None) }
+    {
+        match self {
+            OpName::Poll | OpName::Serve | OpName::Advance | OpName::Tick => false,
+            OpName::Ecall | OpName::Load | OpName::Store | OpName::Fetch | OpName::Satp => true,
+            OpName::Sie | OpName::Sstatus | OpName::Sip | OpName::Clearssip => true,
+            OpName::Sfence | OpName::Fencei | OpName::Wfi => true,
+        }
+    }
+
     /// The operation of this name, with its arguments.
-    #[tactic(auto, unfolding(crate::specs::Grammar::form_of))]
+    #[tactic(auto, unfolding(crate::specs::Forms::form_of))]
     pub fn op(self, arguments: &[Option<u64>]) -> Op
-        ensures { result ≡ op_from (form_of (spelling self)) arguments.now }
+        ensures { result ≡ made_from Advance (form_of (op_spelling self)) arguments.now }
     {
         match self {
             OpName::Ecall => Op::Ecall(regs(arguments)),
@@ -132,18 +137,6 @@ impl OpName {
             OpName::Advance => Op::Advance,
             OpName::Tick => Op::Tick(number_at(arguments, 0)),
         }
-    }
-}
-
-/// Numbers of any size, from `least` to `most` of them.
-pub fn any_numbers(least: usize, most: usize) -> Places
-    ensures { result ≡ record { least = least; most = most; limit = last_number; may_be_absent = false } }
-{
-    Places {
-        least,
-        most,
-        limit: u64::MAX,
-        may_be_absent: false,
     }
 }
 

@@ -1,17 +1,17 @@
-ghost use Rattle.std.specs.Prelude.{◌≡◌, ◌≢◌, ◌⊎◌, ◌+◌, ◌<◌, ◌≤◌, ◌^◌, ◌++◌, ◌∷◌, ℕ, length, IfErr, IfOk, MatchResult, Ok, Err, Some};
-ghost use Rattle.std.specs.Vec.{vec_len, vec_capacity};
-ghost use Rattle.std.specs.Option.{option_to_list};
+ghost use Rattle.std.specs.Prelude.{◌≡◌, ◌≢◌, ◌+◌, ◌<◌, ◌≤◌, ◌^◌, ◌∷◌, length, IfErr, IfOk, MatchResult, Ok, Err, Some};
 ghost use Rattle.std.specs.Str.Lines.{lines};
-ghost use Rattle.guest_script.specs.Grammar.{Reads, Schedule, schedule};
-ghost use Rattle.guest_script.specs.FirstFault.{board_tests, byte_test, first_fault, no_memory, step_tests, words_in};
-ghost use Rattle.guest_script.specs.Reading.{Gives, board_in, config_of, located, schedule_from, script_of, step_in, steps_from, tested, with_config, with_front};
+ghost use Rattle.guest_script.specs.Drafts.{draft_of};
+ghost use Rattle.guest_script.specs.Grammar.{Nothing, Reads, Written, written};
+ghost use Rattle.guest_script.specs.FirstFault.{board_tests, byte_test, first_fault};
+ghost use Rattle.guest_script.specs.Reading.{GivesOrLacks, lines_from, located, script_from, script_of, tested, with_config};
+ghost use Rattle.guest_script.specs.Values.{board_in, config_of, words_in};
 
-use crate::fault::{Fault, ScriptFault};
+use crate::draft::BodyDraft;
+use crate::fault::{Fault, NO_MEMORY, ScriptFault};
 use crate::numbers::{arguments_in, number_at};
-use crate::op_name::any_numbers;
-use crate::schedule::{Line, Script};
-use crate::step::step;
-use crate::text::{is_clean, line_limit, next_line};
+use crate::places::any_numbers;
+use crate::script::Script;
+use crate::text::{is_clean, next_line};
 use crate::words::next_word;
 use board_core::Config;
 use std::alloc::Global;
@@ -19,12 +19,12 @@ use std::alloc::Global;
 /// How many bytes a script may have.
 const MOST_BYTES: usize = 16_777_216;
 
-/// The schedule that the bytes are, or the first fault.
+/// The script that the bytes are, or the first fault.
 pub fn parse(alloc: Global, bytes: &[u8]) -> Result<Script, ScriptFault>
-    // What is read is a schedule that the bytes are.
-    ensures script { IfOk result (λ script. Reads bytes.now (schedule script)) }
-    // Bytes that are a schedule are read as that one, unless memory runs out.
-    ensures only { (s : Schedule) → Reads bytes.now s → MatchResult result (λ script. schedule script ≡ s) (λ e. e.fault ≡ Fault.NoMemory) }
+    // What is read is a script that the bytes are.
+    ensures script { IfOk result (λ script. Reads bytes.now (written script)) }
+    // Bytes that are a script are read as that one, unless memory runs out.
+    ensures only { (s : Written) → Reads bytes.now s → MatchResult result (λ script. written script ≡ s) (λ e. e.fault ≡ Fault.NoMemory) }
     // Any other fault is the first one.
     ensures fault { IfErr result (λ e. e.fault ≢ Fault.NoMemory → first_fault bytes.now ≡ Some e) }
     ensures memory { IfErr result (λ e. e.fault ≡ Fault.NoMemory → e.line ≡ 0) }
@@ -33,7 +33,7 @@ pub fn parse(alloc: Global, bytes: &[u8]) -> Result<Script, ScriptFault>
 }
 
 fn read(alloc: Global, bytes: &[u8]) -> Result<Script, ScriptFault>
-    ensures { MatchResult result (λ script. script_of bytes.now ≡ Ok (schedule script)) (λ e. (e ≡ no_memory) ⊎ (script_of bytes.now ≡ Err e)) }
+    ensures { GivesOrLacks written result (script_of bytes.now) }
 {
     if bytes.len() > MOST_BYTES {
         return Err(ScriptFault {
@@ -42,22 +42,19 @@ fn read(alloc: Global, bytes: &[u8]) -> Result<Script, ScriptFault>
         });
     }
     let (config, rest, number) = board_line(bytes)?;
-    let Ok(mut lines) = Vec::with_capacity(alloc, line_limit(rest)) else {
-        return Err(ScriptFault {
-            line: 0,
-            fault: Fault::NoMemory,
-        });
-    };
-    read_steps(rest, number, &mut lines)?;
-    Ok(Script { config, lines })
+    let draft = read_lines(alloc, rest, number)?;
+    match draft.body(alloc) {
+        Ok(body) => Ok(Script { config, body }),
+        Err(_) => Err(NO_MEMORY),
+    }
 }
 
 /// What the first line with words says, the bytes after that line, and the next line's number.
 fn board_line(bytes: &[u8]) -> Result<(Config, &[u8], u64), ScriptFault>
     requires { length bytes.now ≤ MOST_BYTES }
     ensures read { MatchResult result
-        (λ found. schedule_from 1 (lines bytes.now) ≡ with_config found.0 (steps_from found.2 (lines found.1.now)))
-        (λ e. schedule_from 1 (lines bytes.now) ≡ Err e) }
+        (λ found. script_from 1 (lines bytes.now) ≡ with_config found.0 (lines_from found.2 Nothing (lines found.1.now)))
+        (λ e. script_from 1 (lines bytes.now) ≡ Err e) }
     ensures fits { IfOk result (λ found. found.2 + length found.1.now ≤ 1 + length bytes.now) }
 {
     let mut rest = bytes;
@@ -90,13 +87,13 @@ fn board_words(text: &[u8]) -> Result<Option<Config>, Fault>
             if first != b"board".as_slice() {
                 return Err(Fault::NoBoardLine);
             }
-            let arguments = arguments_in(rest, &any_numbers(6, 6))?;
+            let arguments = arguments_in(rest, false, &any_numbers(6, 6))?;
             Ok(Some(config(&arguments)))
         }
     }
 }
 
-#[tactic(auto, unfolding(crate::specs::Reading::config_of))]
+#[tactic(auto, unfolding(crate::specs::Values::config_of))]
 fn config(arguments: &[Option<u64>]) -> Config
     ensures { result ≡ config_of arguments.now }
 {
@@ -110,44 +107,19 @@ fn config(arguments: &[Option<u64>]) -> Config
     }
 }
 
-/// Reads the lines, which are numbered from `first`, and keeps their steps.
-fn read_steps(bytes: &[u8], first: u64, steps: &mut Vec<Line>) -> Result<(), ScriptFault>
-    requires room { vec_len steps.old + length (lines bytes.now) ≤ vec_capacity steps.old }
-    requires fits { first + length bytes.now < 2 ^ 63 }
-    ensures { Gives (λ _. steps.new.items) result (with_front steps.old.items (steps_from first (lines bytes.now))) }
+/// Reads the lines, which are numbered from `first`.
+fn read_lines(alloc: Global, bytes: &[u8], first: u64) -> Result<BodyDraft, ScriptFault>
+    requires { first + length bytes.now < 2 ^ 28 }
+    ensures { GivesOrLacks draft_of result (lines_from first Nothing (lines bytes.now)) }
 {
+    let mut draft = BodyDraft::Nothing;
     let mut rest = bytes;
     let mut number = first;
     while !rest.is_empty() {
-        let (text, after) = next_line(rest);
-        let found = at_line(number, step_words(text))?;
-        keep(steps, found);
-        rest = after;
+        rest = draft.read_first(alloc, number, rest)?;
         number += 1;
     }
-    Ok(())
-}
-
-/// The step that a line is, if it has words.
-fn step_words(text: &[u8]) -> Result<Option<Line>, Fault>
-    ensures { result ≡ tested (byte_test text.now ∷ step_tests (words_in text.now)) (step_in (words_in text.now)) }
-{
-    if is_clean(text) {
-        step(text)
-    } else {
-        Err(Fault::BadByte)
-    }
-}
-
-fn keep(steps: &mut Vec<Line>, found: Option<Line>)
-    requires { vec_len steps.old < vec_capacity steps.old }
-    ensures items { steps.new.items ≡ steps.old.items ++ option_to_list found }
-    ensures len { vec_len steps.new ≤ vec_len steps.old + 1 }
-    ensures capacity { vec_capacity steps.new ≡ vec_capacity steps.old }
-{
-    if let Some(line) = found {
-        steps.push_reserved(line);
-    }
+    Ok(draft)
 }
 
 /// What a line gave, with the line's number at its fault.

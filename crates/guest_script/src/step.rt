@@ -1,55 +1,83 @@
-ghost use Rattle.std.specs.Prelude.{◌≡◌, ◌∷◌, []};
-ghost use Rattle.guest_script.specs.FirstFault.{actor_test, begins_actor_line, op_tests, step_tests, words_in};
-ghost use Rattle.guest_script.specs.Reading.{actor_in, line_in, op_in, step_in, tested};
+ghost use Rattle.std.specs.Prelude.{◌≡◌, ◌∷◌, [], true, false, IfOk, MatchOption, None};
+ghost use Rattle.guest_script.specs.Packing.{FitsKept};
+ghost use Rattle.board_core.specs.declared.event.Op.TheVariants.{Advance};
+ghost use Rattle.guest_script.specs.declared.said.Said.TheVariants.{Done};
+ghost use Rattle.guest_script.specs.Forms.{form_of, guest_form_of, said_form_of};
+ghost use Rattle.guest_script.specs.FirstFault.{actor_test, form_tests, named_tests, number_tests, ret_tests, said_tests, step_tests};
+ghost use Rattle.guest_script.specs.Reading.{IsFormAt, op_spelling, tested};
+ghost use Rattle.guest_script.specs.Scanning.{words_until};
+ghost use Rattle.guest_script.specs.Values.{actor_in, after_arrow, before_arrow, first_number, line_in, made_by, named_in, op_in, ret_in, said_in, words_in};
 
 use crate::fault::Fault;
-use crate::number::number;
-use crate::numbers::arguments_in;
+use crate::number::{number, signed_number};
+use crate::numbers::{arguments_in, number_at};
 use crate::op_name::OpName;
-use crate::schedule::Line;
-use crate::words::{has_arrow, next_word};
+use crate::places::any_numbers;
+use crate::said::Said;
+use crate::said_name::SaidName;
+use crate::script::Line;
+use crate::words::{after_arrow, next_word, next_word_until};
 use board_core::{Actor, Op};
 
 /// The largest number of a hart.
 const LAST_HART: u64 = 127;
 
-/// The step that a line's words are, if it has words.
-pub fn step(text: &[u8]) -> Result<Option<Line>, Fault>
-    ensures { result ≡ tested (step_tests (words_in text.now)) (step_in (words_in text.now)) }
+/// Line `n`: the actor that the first word is, its operation, and in a trace what that gave.
+pub fn step_line(n: u64, in_trace: bool, first: &[u8], rest: &[u8]) -> Result<Line, Fault>
+    ensures number { IfOk result (λ line. line.number ≡ n) }
+    ensures actor { IfOk result (λ line. FitsKept line.actor) }
+    ensures read { result ≡ tested (actor_test first.now ∷ step_tests in_trace (words_in rest.now)) (line_in n in_trace first.now (words_in rest.now)) }
 {
-    let Some((first, rest)) = next_word(text) else {
-        return Ok(None);
-    };
-    if !begins_actor_line(first) {
-        return Err(Fault::OtherKind);
-    }
-    match actor_step(first, rest) {
-        Ok(line) => Ok(Some(line)),
-        // No step has an arrow, so only what is none is searched for one.
-        Err(_) if has_arrow(rest) => Err(Fault::OtherKind),
-        Err(fault) => Err(fault),
+    if in_trace {
+        trace_line(n, first, rest)
+    } else {
+        schedule_line(n, first, rest)
     }
 }
 
-/// The step of an actor, whose operation is the words of the text after it.
-fn actor_step(first: &[u8], rest: &[u8]) -> Result<Line, Fault>
-    ensures { result ≡ tested (actor_test first.now ∷ op_tests (words_in rest.now)) (line_in first.now (words_in rest.now)) }
+fn schedule_line(n: u64, first: &[u8], rest: &[u8]) -> Result<Line, Fault>
+    ensures number { IfOk result (λ line. line.number ≡ n) }
+    ensures actor { IfOk result (λ line. FitsKept line.actor) }
+    ensures read { result ≡ tested (actor_test first.now ∷ step_tests false (words_in rest.now)) (line_in n false first.now (words_in rest.now)) }
 {
     let actor = actor(first)?;
-    let op = op(rest)?;
-    Ok(Line { actor, op })
+    let op = op(rest, false)?;
+    Ok(Line {
+        number: n,
+        actor,
+        op,
+        said: None,
+    })
 }
 
-/// Whether a line with this first word is an actor's.
-fn begins_actor_line(first: &[u8]) -> bool
-    ensures { result ≡ begins_actor_line first.now }
+fn trace_line(n: u64, first: &[u8], rest: &[u8]) -> Result<Line, Fault>
+    ensures number { IfOk result (λ line. line.number ≡ n) }
+    ensures actor { IfOk result (λ line. FitsKept line.actor) }
+    ensures read { result ≡ tested (actor_test first.now ∷ step_tests true (words_in rest.now)) (line_in n true first.now (words_in rest.now)) }
 {
-    matches!(first, b"c" | [b'0'..=b'9', ..])
+    let actor = actor(first)?;
+    let told = told_op(rest)?;
+    Ok(Line {
+        number: n,
+        actor,
+        op: told.0,
+        said: Some(told.1),
+    })
+}
+
+/// The operation that the words before the first arrow are, and what those after it say.
+fn told_op(rest: &[u8]) -> Result<(Op, Said), Fault>
+    ensures { result ≡ tested (step_tests true (words_in rest.now)) (op_in (before_arrow (words_in rest.now)), said_in (after_arrow (words_in rest.now))) }
+{
+    let op = op(rest, true)?;
+    let said = said(after_arrow(rest))?;
+    Ok((op, said))
 }
 
 #[tactic(auto, using(crate::proofs::ArgumentsIn::actor_read, crate::proofs::ArgumentsIn::actor_unread))]
 fn actor(word: &[u8]) -> Result<Actor, Fault>
-    ensures { result ≡ tested (actor_test word.now ∷ []) (actor_in word.now) }
+    ensures fits { IfOk result (λ actor. FitsKept actor) }
+    ensures read { result ≡ tested (actor_test word.now ∷ []) (actor_in word.now) }
 {
     if word == b"c".as_slice() {
         return Ok(Actor::Clock);
@@ -60,12 +88,87 @@ fn actor(word: &[u8]) -> Result<Actor, Fault>
     }
 }
 
-/// The operation that a text's words are.
-fn op(text: &[u8]) -> Result<Op, Fault>
-    ensures { result ≡ tested (op_tests (words_in text.now)) (op_in (words_in text.now)) }
+/// The operation that a text's words are, or its words before the first arrow.
+fn op(text: &[u8], until_arrow: bool) -> Result<Op, Fault>
+    ensures { result ≡ tested (named_tests form_of (words_until until_arrow (words_in text.now))) (op_in (words_until until_arrow (words_in text.now))) }
+{
+    let (word, rest) = next_word_until(text, until_arrow).ok_or(Fault::WordCount)?;
+    let name = OpName::of(word).ok_or(Fault::UnknownWord)?;
+    let arguments = arguments_in(rest, until_arrow, &name.places())?;
+    Ok(name.op(&arguments))
+}
+
+/// The guest's operation that a word names, with the arguments that a text's words are.
+pub fn guest_op(word: &[u8], rest: &[u8]) -> Result<Op, Fault>
+    ensures { result ≡ tested (named_tests guest_form_of (word.now ∷ words_in rest.now)) (named_in guest_form_of Advance (word.now ∷ words_in rest.now)) }
+{
+    let name = guest_name(word).ok_or(Fault::UnknownWord)?;
+    let arguments = arguments_in(rest, false, &name.places())?;
+    Ok(name.op(&arguments))
+}
+
+/// The guest's operation that a word names.
+#[tactic(auto, using(crate::proofs::Named::not_for_guests))]
+fn guest_name(word: &[u8]) -> Option<OpName>
+    ensures { MatchOption result (guest_form_of word.now ≡ None) (λ name. (word.now ≡ op_spelling name) × (guest_form_of word.now ≡ form_of word.now)) }
+{
+    match OpName::of(word) {
+        Some(name) if name.is_guest() => Some(name),
+        _ => None,
+    }
+}
+
+/// The one number that a text's words are.
+pub fn one_number(text: &[u8]) -> Result<u64, Fault>
+    ensures { result ≡ tested (number_tests (words_in text.now)) (first_number (words_in text.now)) }
+{
+    let arguments = arguments_in(text, false, &any_numbers(1, 1))?;
+    Ok(number_at(&arguments, 0))
+}
+
+/// What the words of a reply or a refusal say.
+fn said(text: &[u8]) -> Result<Said, Fault>
+    ensures { result ≡ tested (said_tests (words_in text.now)) (said_in (words_in text.now)) }
 {
     let (word, rest) = next_word(text).ok_or(Fault::WordCount)?;
-    let name = OpName::of(word).ok_or(Fault::UnknownWord)?;
-    let arguments = arguments_in(rest, &name.places())?;
-    Ok(name.op(&arguments))
+    if word == b"ret".as_slice() {
+        ret(rest)
+    } else {
+        named_said(word, rest)
+    }
+}
+
+/// What a name and the words behind it say.
+fn named_said(word: &[u8], rest: &[u8]) -> Result<Said, Fault>
+    ensures { result ≡ tested (form_tests (said_form_of word.now) (words_in rest.now)) (made_by Done (said_form_of word.now) (words_in rest.now)) }
+{
+    let name = SaidName::of(word).ok_or(Fault::UnknownWord)?;
+    let arguments = arguments_in(rest, false, &name.places())?;
+    Ok(name.said(&arguments))
+}
+
+/// An error and a value.
+fn ret(text: &[u8]) -> Result<Said, Fault>
+    ensures { result ≡ tested (ret_tests (words_in text.now)) (ret_in (words_in text.now)) }
+{
+    let (error, rest) = next_word(text).ok_or(Fault::WordCount)?;
+    let (value, rest) = next_word(rest).ok_or(Fault::WordCount)?;
+    if next_word(rest).is_some() {
+        return Err(Fault::WordCount);
+    }
+    ret_of(error, value)
+}
+
+/// The error and the value that two words are.
+#[tactic(auto, using(crate::proofs::Named::ret_good, crate::proofs::Named::ret_bad_error, crate::proofs::Named::ret_bad_value))]
+fn ret_of(error: &[u8], value: &[u8]) -> Result<Said, Fault>
+    ensures { result ≡ tested (ret_tests (error.now ∷ value.now ∷ [])) (ret_in (error.now ∷ value.now ∷ [])) }
+{
+    match signed_number(error) {
+        None => Err(Fault::BadNumber),
+        Some(error) => match number(value, u64::MAX) {
+            None => Err(Fault::BadNumber),
+            Some(value) => Ok(Said::Ret { error, value }),
+        },
+    }
 }

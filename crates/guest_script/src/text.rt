@@ -1,7 +1,7 @@
 ghost use Rattle.std.specs.Prelude.{◌≡◌, ◌∷◌, ◌<◌, ◌≤◌, ◌^◌, ◌==◌, length};
 ghost use Rattle.std.specs.List.{list_all, position};
 ghost use Rattle.std.specs.Str.Lines.{lines, strip_carriage_return};
-ghost use Rattle.guest_script.specs.Grammar.{is_allowed};
+ghost use Rattle.guest_script.specs.Words.{is_allowed};
 
 /// The text of the first line, and the lines after it.
 pub fn next_line(bytes: &[u8]) -> (&[u8], &[u8])
@@ -28,15 +28,6 @@ fn without_return(text: &[u8]) -> &[u8]
         [front @ .., b'\r'] => front,
         _ => text,
     }
-}
-
-/// At least how many lines there are.
-#[tactic(auto, using(crate::proofs::LinesOf::length_lines_le))]
-pub fn line_limit(bytes: &[u8]) -> usize
-    requires { length bytes.now < 2 ^ 63 }
-    ensures { length (lines bytes.now) ≤ result }
-{
-    bytes.iter().filter(|byte| **byte == b'\n').count() + 1
 }
 
 /// Whether each byte of a line is allowed: printable ASCII, or a tab.

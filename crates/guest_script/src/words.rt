@@ -1,7 +1,7 @@
 ghost use Rattle.std.specs.Prelude.{◌≡◌, ◌∷◌, [], ◌<◌, ◌≤◌, IsFalse, MatchOption, IfSome, length};
-ghost use Rattle.guest_script.specs.Grammar.{is_blank};
-ghost use Rattle.guest_script.specs.FirstFault.{has_arrow, words_in};
-ghost use Rattle.guest_script.specs.Scanning.{begins_blank, is_word_end, word_length};
+ghost use Rattle.guest_script.specs.Words.{is_blank};
+ghost use Rattle.guest_script.specs.Values.{after_arrow, has_arrow, is_arrow, words_in};
+ghost use Rattle.guest_script.specs.Scanning.{begins_blank, is_word_end, word_length, words_until};
 
 /// The first word of a text, and what follows it.
 #[tactic(auto, using(crate::proofs::WordsIn::word_length_le, crate::proofs::WordsIn::words_in_word, crate::proofs::WordsIn::words_in_none))]
@@ -14,18 +14,52 @@ pub fn next_word(text: &[u8]) -> Option<(&[u8], &[u8])>
     if n == 0 { None } else { Some(from.split_at(n)) }
 }
 
+/// The first word of a text that isn't an arrow where words end at the first arrow, and what follows it.
+pub fn next_word_until(text: &[u8], until_arrow: bool) -> Option<(&[u8], &[u8])>
+    ensures words { MatchOption result (words_until until_arrow (words_in text.now) ≡ [])
+        (λ found. words_until until_arrow (words_in text.now) ≡ found.0.now ∷ words_until until_arrow (words_in found.1.now)) }
+    ensures shorter { IfSome result (λ found. length found.1.now < length text.now) }
+{
+    let (word, after) = next_word(text)?;
+    if until_arrow && is_arrow(word) {
+        None
+    } else {
+        Some((word, after))
+    }
+}
+
 /// Whether one of the words of a text is an arrow.
 pub fn has_arrow(text: &[u8]) -> bool
     ensures { result ≡ has_arrow (words_in text.now) }
 {
     let mut rest = text;
     while let Some((word, after)) = next_word(rest) {
-        if word == b"->".as_slice() {
+        if is_arrow(word) {
             return true;
         }
         rest = after;
     }
     false
+}
+
+/// The text after the first arrow.
+pub fn after_arrow(text: &[u8]) -> &[u8]
+    ensures { words_in result.now ≡ after_arrow (words_in text.now) }
+{
+    let mut rest = text;
+    while let Some((word, after)) = next_word(rest) {
+        if is_arrow(word) {
+            return after;
+        }
+        rest = after;
+    }
+    rest
+}
+
+fn is_arrow(word: &[u8]) -> bool
+    ensures { result ≡ is_arrow word.now }
+{
+    word == b"->".as_slice()
 }
 
 fn is_blank(byte: u8) -> bool

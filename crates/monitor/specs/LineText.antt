@@ -10,9 +10,13 @@ with_words line (word ∷ words) = with_words (line ++ 32 ∷ word) words
 abbrev pub line_room : ℕ
 line_room = 256
 
--- a blank, and the digits of the largest number, or a sign and those of the largest signed one
+-- a blank, and the digits of the largest number
 abbrev pub decimal_room : ℕ
 decimal_room = 21
+
+-- a blank, a sign, and digits
+abbrev pub signed_room : ℕ
+signed_room = 22
 
 -- a blank, `0x`, and the hexadecimal digits of the largest number
 abbrev pub hex_room : ℕ

@@ -1,4 +1,4 @@
-ghost use Rattle.std.specs.Prelude.{◌≡◌, ◌+◌, ◌^◌, ◌<◌, ◌≤◌, ◌∷◌, ◌++◌, length, map, Ok};
+ghost use Rattle.std.specs.Prelude.{◌≡◌, ◌+◌, ◌^◌, ◌<◌, ◌≤◌, ◌∷◌, ◌++◌, length, map, decimal, Ok};
 ghost use Rattle.std.specs.List.{join_with_byte};
 ghost use Rattle.monitor.specs.LineText.{arguments_room, arrow_room, call_room, decimal_room, hex_room, reply_room, step_room, with_words};
 ghost use Rattle.monitor.specs.Sinks.{Puts};
@@ -37,9 +37,9 @@ pub fn print_line<W: Sink>(
 {
     let mut line = LineText::new();
     actor_onto(&mut line, actor);
-    op_onto(&mut line, op);
+    op_onto(&mut line, &op);
     line.word(b"->");
-    reply_onto(&mut line, answer);
+    reply_onto(&mut line, &answer);
     line.put(sink)
 }
 
@@ -59,7 +59,7 @@ pub fn print_reply<W: Sink>(answer: Result<Reply, Refusal>, sink: &mut W) -> Res
         (join_with_byte 32 (reply_words answer)) }
 {
     let mut line = LineText::new();
-    reply_onto(&mut line, answer);
+    reply_onto(&mut line, &answer);
     write_all(sink, line.as_bytes())
 }
 
@@ -74,30 +74,27 @@ fn actor_onto(line: &mut LineText, actor: Actor)
     }
 }
 
-fn op_onto(line: &mut LineText, op: Op)
+fn op_onto(line: &mut LineText, op: &Op)
     requires { length line.old ≤ decimal_room }
-    ensures text { line.new ≡ with_words line.old (op_words op) }
+    ensures text { line.new ≡ with_words line.old (op_words op.now) }
     ensures len { length line.new ≤ step_room }
 {
-    match op {
+    match *op {
         Op::Ecall(regs) => {
             line.word(b"ecall");
             line.hex(regs.eid);
             line.hex(regs.fid);
-            numbers_onto(line, &regs.a);
+            arguments_onto(line, &regs.a);
         }
-        Op::Load(va) => number_onto(line, b"load", va),
+        Op::Load(va) => hex_onto(line, b"load", va),
         Op::Store(va, value) => {
-            number_onto(line, b"store", va);
+            hex_onto(line, b"store", va);
             line.hex(value);
         }
-        Op::Fetch(va) => number_onto(line, b"fetch", va),
-        Op::WriteSatp(value) => number_onto(line, b"satp", value),
-        Op::WriteSie(value) => number_onto(line, b"sie", value),
-        Op::WriteSstatusSie(value) => {
-            line.word(b"sstatus");
-            line.decimal(bit(value));
-        }
+        Op::Fetch(va) => hex_onto(line, b"fetch", va),
+        Op::WriteSatp(value) => hex_onto(line, b"satp", value),
+        Op::WriteSie(value) => hex_onto(line, b"sie", value),
+        Op::WriteSstatusSie(value) => decimal_onto(line, b"sstatus", bit(value)),
         Op::ReadSip => line.word(b"sip"),
         Op::ClearSsip => line.word(b"clearssip"),
         Op::Sfence(va, asid) => {
@@ -110,19 +107,32 @@ fn op_onto(line: &mut LineText, op: Op)
         Op::Poll => line.word(b"poll"),
         Op::Serve => line.word(b"serve"),
         Op::Advance => line.word(b"advance"),
-        Op::Tick(n) => number_onto(line, b"tick", n),
+        Op::Tick(n) => hex_onto(line, b"tick", n),
     }
 }
 
-/// Appends an operation's name and its number.
-fn number_onto(line: &mut LineText, name: &[u8], n: u64)
+/// Appends a name and a number in hexadecimal digits.
+#[inline(always)]
+fn hex_onto(line: &mut LineText, name: &[u8], n: u64)
     requires name { length name.now ≤ 8 }
-    requires room { length line.old ≤ decimal_room }
+    requires room { length line.old ≤ arrow_room }
     ensures text { line.new ≡ (line.old ++ 32 ∷ name.now) ++ 32 ∷ hex n }
     ensures len { length line.new ≤ length line.old + 9 + hex_room }
 {
     line.word(name);
     line.hex(n);
+}
+
+/// Appends a name and a number in decimal digits.
+#[inline(always)]
+fn decimal_onto(line: &mut LineText, name: &[u8], n: u64)
+    requires name { length name.now ≤ 8 }
+    requires room { length line.old ≤ arrow_room }
+    ensures text { line.new ≡ (line.old ++ 32 ∷ name.now) ++ 32 ∷ decimal n }
+    ensures len { length line.new ≤ length line.old + 9 + decimal_room }
+{
+    line.word(name);
+    line.decimal(n);
 }
 
 /// Appends a number, or a dash where it is absent.
@@ -137,13 +147,13 @@ fn hex_or_dash_onto(line: &mut LineText, n: Option<u64>)
     }
 }
 
-fn reply_onto(line: &mut LineText, answer: Result<Reply, Refusal>)
+fn reply_onto(line: &mut LineText, answer: &Result<Reply, Refusal>)
     requires { length line.old ≤ arrow_room }
-    ensures text { line.new ≡ with_words line.old (reply_words answer) }
+    ensures text { line.new ≡ with_words line.old (reply_words answer.now) }
     ensures len { length line.new ≤ length line.old + reply_room }
     ensures some { 0 < length line.new }
 {
-    match answer {
+    match *answer {
         Ok(Reply::Ret(answer)) => {
             line.word(b"ret");
             line.signed(answer.error);
@@ -157,24 +167,12 @@ fn reply_onto(line: &mut LineText, answer: Result<Reply, Refusal>)
             line.decimal(hart);
             line.hex(opaque);
         }
-        Ok(Reply::Value(value)) => {
-            line.word(b"value");
-            line.hex(value);
-        }
-        Ok(Reply::Fault(cause)) => {
-            line.word(b"fault");
-            line.decimal(cause.number());
-        }
+        Ok(Reply::Value(value)) => hex_onto(line, b"value", value),
+        Ok(Reply::Fault(cause)) => decimal_onto(line, b"fault", cause.number()),
         Ok(Reply::Served) => line.word(b"served"),
-        Ok(Reply::Moved(state)) => {
-            line.word(b"moved");
-            line.decimal(state.number());
-        }
+        Ok(Reply::Moved(state)) => decimal_onto(line, b"moved", state.number()),
         Ok(Reply::Done) => line.word(b"done"),
-        Err(refusal) => {
-            line.word(b"refused");
-            line.decimal(refusal.number());
-        }
+        Err(refusal) => decimal_onto(line, b"refused", refusal.number()),
     }
 }
 
@@ -185,12 +183,21 @@ pub fn bit(value: bool) -> u64
     u64::from(value)
 }
 
-fn numbers_onto(line: &mut LineText, numbers: &[u64; 6])
+/// Appends the arguments of a call. Most calls have at most two, and the others are 0.
+fn arguments_onto(line: &mut LineText, arguments: &[u64; 6])
     requires { length line.old ≤ call_room }
-    ensures text { line.new ≡ with_words line.old (map hex numbers.now) }
+    ensures text { line.new ≡ with_words line.old (map hex arguments.now) }
     ensures len { length line.new ≤ length line.old + arguments_room }
 {
-    for number in numbers {
-        line.hex(*number);
+    let [a0, a1, a2, a3, a4, a5] = *arguments;
+    line.hex(a0);
+    line.hex(a1);
+    if a2 == 0 && a3 == 0 && a4 == 0 && a5 == 0 {
+        line.text(b" 0x0 0x0 0x0 0x0");
+    } else {
+        line.hex(a2);
+        line.hex(a3);
+        line.hex(a4);
+        line.hex(a5);
     }
 }

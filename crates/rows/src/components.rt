@@ -163,6 +163,7 @@ pub fn show_faults<R: Print>(rt: &R) -> io::Result<()> {
         Fault::BadNumber,
         Fault::WordCount,
         Fault::OtherKind,
+        Fault::SecondBlock,
         Fault::TooLong,
         Fault::NoMemory,
     ] {

@@ -1,13 +1,60 @@
 //! Readers and writers whose calls fail.
 
-use crate::row::replayed;
+ghost use Rattle.std.specs.Prelude.{◌^◌, ◌<◌};
+
+use crate::row::{checked, replayed};
 use anyhow::{Result, ensure};
 use monitor::{Failed, Sink};
-use sbiboard::{Device, Outcome, Source, read_whole, replay};
+use sbiboard::{Device, Outcome, Source, read_whole};
 use std::alloc::Global;
 use std::io::{self, ErrorKind, Read, Write};
 
 const SCHEDULE: &[u8] = b"board 2 1 9 0 0x80000000 0\n0 advance\n0 ecall 0x10 0\n1 advance\n";
+
+const TRACE: &[u8] =
+    b"board 2 1 9 0 0x80000000 0\n0 advance -> entry 0x80000000 0 0\n1 advance -> refused 3\n";
+
+/// A task of the library.
+#[derive(Clone, Copy)]
+pub enum Task {
+    /// A schedule is replayed.
+    Replay,
+    /// A trace is checked.
+    Check,
+}
+
+impl Task {
+    /// A script for it.
+    fn script(self) -> &'static [u8] {
+        match self {
+            Task::Replay => SCHEDULE,
+            Task::Check => TRACE,
+        }
+    }
+
+    /// All that it prints.
+    fn text(self, alloc: Global) -> Vec<u8> {
+        match self {
+            Task::Replay => replayed(alloc, SCHEDULE).1,
+            Task::Check => checked(alloc, TRACE).1,
+        }
+    }
+
+    fn run<R: Read, W: Write>(
+        self,
+        alloc: Global,
+        reader: &mut Device<R>,
+        writer: &mut Device<W>,
+    ) -> Outcome
+        requires reads { reader.old.failures < 2 ^ 63 }
+        requires writes { writer.old.failures < 2 ^ 63 }
+    {
+        match self {
+            Task::Replay => sbiboard::replay(alloc, reader, writer),
+            Task::Check => sbiboard::check(alloc, reader, writer),
+        }
+    }
+}
 
 /// What a call of the system answers in place of what it would do.
 #[derive(Clone, Copy, Debug)]
@@ -42,10 +89,16 @@ struct System<'a> {
 }
 
 impl System<'_> {
-    /// With the schedule to be read, and nothing written.
-    fn new(alloc: Global, most: usize, at: u64, answer: Answer) -> System<'static> {
+    /// With the script to be read, and nothing written.
+    fn new(
+        alloc: Global,
+        script: &'static [u8],
+        most: usize,
+        at: u64,
+        answer: Answer,
+    ) -> System<'static> {
         System {
-            rest: SCHEDULE,
+            rest: script,
             taken: Vec::new(alloc),
             most,
             calls: 0,
@@ -94,7 +147,7 @@ impl Write for System<'_> {
 
 /// What a read into five bytes answers, how many calls were made, and how much is left.
 fn read_once(alloc: Global, most: usize, answer: Answer) -> (Result<usize, Failed>, u64, usize) {
-    let mut device = Device::new(System::new(alloc, most, 0, answer));
+    let mut device = Device::new(System::new(alloc, SCHEDULE, most, 0, answer));
     let answer = device.read(&mut [0; 5]);
     let system = device.into_inner();
     (answer, system.calls, system.rest.len())
@@ -107,7 +160,7 @@ fn write_once(
     most: usize,
     answer: Answer,
 ) -> (Result<usize, Failed>, u64, usize) {
-    let mut device = Device::new(System::new(alloc, most, 0, answer));
+    let mut device = Device::new(System::new(alloc, SCHEDULE, most, 0, answer));
     let answer = device.write(piece);
     let system = device.into_inner();
     (answer, system.calls, system.taken.len())
@@ -115,7 +168,7 @@ fn write_once(
 
 /// What a flush answers, how many calls were made, and how many of them were flushes.
 fn flush_once(alloc: Global, answer: Answer) -> (Result<(), Failed>, u64, u64) {
-    let mut device = Device::new(System::new(alloc, 5, 0, answer));
+    let mut device = Device::new(System::new(alloc, SCHEDULE, 5, 0, answer));
     let answer = device.flush();
     let system = device.into_inner();
     (answer, system.calls, system.flushes)
@@ -141,31 +194,31 @@ pub fn show_calls<R: AllocGlobal + Print>(rt: &R) -> io::Result<()> {
     Ok(())
 }
 
-/// How a replay ends that reads three bytes at a call, how many calls it makes, and what it prints.
-fn replay_from(alloc: Global, at: u64, answer: Answer) -> (Outcome, u64, Vec<u8>) {
-    let mut reader = Device::new(System::new(alloc, 3, at, answer));
+/// How a task ends that reads three bytes at a call, how many calls it makes, and what it prints.
+fn run_from(alloc: Global, task: Task, at: u64, answer: Answer) -> (Outcome, u64, Vec<u8>) {
+    let mut reader = Device::new(System::new(alloc, task.script(), 3, at, answer));
     let mut writer = Device::new(Vec::new(alloc));
-    let outcome = replay(alloc, &mut reader, &mut writer);
+    let outcome = task.run(alloc, &mut reader, &mut writer);
     (outcome, reader.into_inner().calls, writer.into_inner())
 }
 
-/// How a replay ends that writes three bytes at a call, how many calls it makes, and what it prints.
-fn replay_to(alloc: Global, at: u64, answer: Answer) -> (Outcome, u64, Vec<u8>) {
-    let mut reader = Device::new(SCHEDULE);
-    let mut writer = Device::new(System::new(alloc, 3, at, answer));
-    let outcome = replay(alloc, &mut reader, &mut writer);
+/// How a task ends that writes three bytes at a call, how many calls it makes, and what it prints.
+fn run_to(alloc: Global, task: Task, at: u64, answer: Answer) -> (Outcome, u64, Vec<u8>) {
+    let mut reader = Device::new(task.script());
+    let mut writer = Device::new(System::new(alloc, b"", 3, at, answer));
+    let outcome = task.run(alloc, &mut reader, &mut writer);
     let system = writer.into_inner();
     (outcome, system.calls, system.taken)
 }
 
 /// Each read in turn fails: nothing is written then, and no more is read. A read of nothing is the end.
-pub fn check_reads(alloc: Global) -> Result<u64> {
-    let (outcome, calls, printed) = replay_from(alloc, u64::MAX, Answer::Moves);
+pub fn check_reads(alloc: Global, task: Task) -> Result<u64> {
+    let (outcome, calls, printed) = run_from(alloc, task, u64::MAX, Answer::Moves);
     ensure!(outcome == Outcome::Good, "{outcome}");
-    ensure!(printed == replayed(alloc, SCHEDULE).1, "another text");
+    ensure!(printed == task.text(alloc), "another text");
     for at in 0..calls {
         for answer in ANSWERS.into_iter().skip(1) {
-            let (outcome, calls, printed) = replay_from(alloc, at, answer);
+            let (outcome, calls, printed) = run_from(alloc, task, at, answer);
             let is_right = outcome == Outcome::Io && calls == at + 1 && printed.is_empty();
             ensure!(is_right, "read {at}, {answer:?}: {outcome}, {calls} calls");
         }
@@ -175,13 +228,13 @@ pub fn check_reads(alloc: Global) -> Result<u64> {
 
 /// Each write in turn fails or takes nothing, and so does the flush at the end: no call is made after it. A flush
 /// moves no bytes, so it ends well where it answers so.
-pub fn check_writes(alloc: Global) -> Result<u64> {
-    let (outcome, last, printed) = replay_to(alloc, u64::MAX, Answer::Moves);
+pub fn check_writes(alloc: Global, task: Task) -> Result<u64> {
+    let (outcome, last, printed) = run_to(alloc, task, u64::MAX, Answer::Moves);
     ensure!(outcome == Outcome::Good, "{outcome}");
-    ensure!(printed == replayed(alloc, SCHEDULE).1, "another text");
+    ensure!(printed == task.text(alloc), "another text");
     for at in 0..last {
         for answer in ANSWERS {
-            let (outcome, calls, _) = replay_to(alloc, at, answer);
+            let (outcome, calls, _) = run_to(alloc, task, at, answer);
             let is_good = matches!(answer, Answer::Zero) && calls == last;
             let wanted = if is_good { Outcome::Good } else { Outcome::Io };
             let is_right = outcome == wanted && calls == at + 1;

@@ -1,12 +1,15 @@
-//! The worked rows. The program shows what no schedule can (its file stdout has what must be shown), reads the files
-//! of rows that are named to it, replays each row, and prints what differs.
+//! The worked rows. The program shows what no script can (its file stdout has what must be shown), reads the files
+//! of rows that are named to it, replays each row, and prints what differs. All that a replay prints must be a trace
+//! that agrees when it is checked.
 //!
 //! A line `row NAME` begins a row, and the lines after it are a schedule, written as a trace: what stands behind
 //! `->` is the reply that the board must give. Then one of these may follow:
 //! - `ends STATUS`, and whole lines that must be printed; `lacks TEXT` names a text that must not be.
 //! - `prints STATUS`, and all that must be printed. The schedule is replayed as it stands.
 //! - `says`, and lines `OUTCOME | TEXT`: the schedule with the text after it, where `\n` is a line feed, must end
-//!   with that outcome, and print something only where it is good.
+//!   with that outcome, and print something only where it is good. A fault must also end the text's check.
+//! - `checks`, and lines `SAID | TEXT`: the lines as they stand, with the text after them, are checked as a trace,
+//!   which must print that line, or end with that outcome and print nothing.
 //! - `each STATE`, and lines that are replayed one by one, each after the schedule. Hart 1 must be in that state
 //!   after each, or in the state behind `#`.
 #![tactic(auto)]
@@ -16,7 +19,8 @@ mod devices;
 mod printing;
 mod row;
 
-use crate::row::{Row, check, check_cases, check_outcomes, check_text};
+use crate::devices::Task;
+use crate::row::{Row, check, check_cases, check_outcomes, check_text, check_traces};
 use anyhow::{Context, Result};
 use std::rt::{Env, Files};
 use std::{env, fs};
@@ -30,7 +34,7 @@ fn main(rt: HostRuntime) -> Result<()> {
     Ok(())
 }
 
-/// Shows what no schedule can.
+/// Shows what no script can.
 fn show<R: AllocGlobal + Print + Eprint>(rt: &R) -> Result<()> {
     components::show_sets(rt)?;
     components::show_software_interrupts(rt)?;
@@ -41,8 +45,15 @@ fn show<R: AllocGlobal + Print + Eprint>(rt: &R) -> Result<()> {
     printing::show_lines(rt)?;
     devices::show_calls(rt)?;
     devices::show_limits(rt)?;
-    println!(rt; "{} reads", devices::check_reads(rt.alloc())?)?;
-    println!(rt; "{} writes", devices::check_writes(rt.alloc())?)?;
+    show_failures(rt, Task::Replay, "replay")?;
+    show_failures(rt, Task::Check, "check")
+}
+
+/// Shows how many reads and writes a task makes, each of which failed in turn.
+fn show_failures<R: AllocGlobal + Print>(rt: &R, task: Task, name: &str) -> Result<()> {
+    let reads = devices::check_reads(rt.alloc(), task)?;
+    let writes = devices::check_writes(rt.alloc(), task)?;
+    println!(rt; "{name}: {reads} reads, {writes} writes")?;
     Ok(())
 }
 
@@ -59,11 +70,18 @@ fn check_file<R: AllocGlobal + Files + Print>(rt: &R, name: &str) -> Result<()> 
     Ok(())
 }
 
+/// The lines after a row's name, if there are any.
+fn after_name(lines: &str) -> &str {
+    lines.split_once('\n').map_or("", |(_, after)| after)
+}
+
 /// Checks a row, whose name is the text's first line.
 fn check_row<R: AllocGlobal>(rt: &R, text: &str) -> Result<()> {
     if let Some((lines, cases)) = text.split_once("\nsays\n") {
-        let schedule = lines.split_once('\n').map_or("", |(_, schedule)| schedule);
-        return check_outcomes(rt.alloc(), schedule, cases);
+        return check_outcomes(rt.alloc(), after_name(lines), cases);
+    }
+    if let Some((lines, cases)) = text.split_once("\nchecks\n") {
+        return check_traces(rt.alloc(), after_name(lines), cases);
     }
     let (_, body) = text.split_once('\n').context("no lines")?;
     if let Some((lines, cases)) = body.split_once("\neach ") {

@@ -1,5 +1,5 @@
 use anyhow::{Context, Result, ensure};
-use sbiboard::{Device, Outcome, replay};
+use sbiboard::{Device, Outcome};
 use std::alloc::{AllocError, Global};
 
 /// A schedule with what it must give.
@@ -18,7 +18,15 @@ pub struct Row<'a> {
 pub fn replayed(alloc: Global, schedule: &[u8]) -> (Outcome, Vec<u8>) {
     let mut reader = Device::new(schedule);
     let mut writer = Device::new(Vec::new(alloc));
-    let outcome = replay(alloc, &mut reader, &mut writer);
+    let outcome = sbiboard::replay(alloc, &mut reader, &mut writer);
+    (outcome, writer.into_inner())
+}
+
+/// How the check of these bytes ends, and what it prints.
+pub fn checked(alloc: Global, trace: &[u8]) -> (Outcome, Vec<u8>) {
+    let mut reader = Device::new(trace);
+    let mut writer = Device::new(Vec::new(alloc));
+    let outcome = sbiboard::check(alloc, &mut reader, &mut writer);
     (outcome, writer.into_inner())
 }
 
@@ -65,33 +73,82 @@ pub fn check_cases(alloc: Global, lines: &str, state: &str, cases: &str) -> Resu
     Ok(())
 }
 
-/// Replays each text after the lines, and compares its outcome. A text that isn't good prints nothing.
+/// Replays each text after the lines, and compares its outcome. A text that isn't good prints nothing. A fault is one
+/// whatever is done with the script, so it is also the outcome of the text's check.
 pub fn check_outcomes(alloc: Global, lines: &str, cases: &str) -> Result<()> {
     for case in cases.split('\n').filter(|case| !case.is_empty()) {
         let (wanted, text) = case.split_once(" | ").context("no text")?;
-        let text = text.replace(alloc, "\\n", "\n")?;
-        let schedule = if lines.is_empty() {
-            text
-        } else {
-            format!(in alloc; "{lines}\n{text}")?
-        };
-        let (outcome, printed) = replayed(alloc, schedule.as_bytes());
+        let script = script(alloc, lines, text)?;
+        let (outcome, printed) = replayed(alloc, script.as_bytes());
         let said = format!(in alloc; "{outcome}")?;
         ensure!(said.as_str() == wanted, "{case}: {said}");
         ensure!(
             printed.is_empty() != (outcome == Outcome::Good),
             "{case}: printed"
         );
+        if matches!(outcome, Outcome::Script { .. }) {
+            let (checked, printed) = checked(alloc, script.as_bytes());
+            ensure!(checked == outcome, "{case}: checked as {checked}");
+            ensure!(printed.is_empty(), "{case}: its check printed");
+        }
     }
     Ok(())
 }
 
-/// What the replay of a schedule prints, which must end with this status.
+/// Checks each text after the lines as a trace, and compares the line that this prints, or its outcome where it prints
+/// none.
+pub fn check_traces(alloc: Global, lines: &str, cases: &str) -> Result<()> {
+    for case in cases.split('\n').filter(|case| !case.is_empty()) {
+        let (wanted, text) = case.split_once(" | ").context("no text")?;
+        let script = script(alloc, lines, text)?;
+        let (outcome, printed) = checked(alloc, script.as_bytes());
+        let said = match outcome {
+            Outcome::Good | Outcome::Differs => String::from_utf8(printed).ok().context("no text")?,
+            _ => {
+                ensure!(printed.is_empty(), "{case}: printed");
+                format!(in alloc; "{outcome}\n")?
+            }
+        };
+        ensure!(said.strip_suffix('\n') == Some(wanted), "{case}: {said}");
+        let is_differing = wanted.starts_with("differs at line ");
+        ensure!(
+            is_differing == (outcome == Outcome::Differs),
+            "{case}: {outcome}"
+        );
+    }
+    Ok(())
+}
+
+/// The lines and the text of a case after them, in which `\n` is a line feed.
+fn script(alloc: Global, lines: &str, text: &str) -> Result<String, AllocError> {
+    let text = text.replace(alloc, "\\n", "\n")?;
+    if lines.is_empty() {
+        Ok(text)
+    } else {
+        format!(in alloc; "{lines}\n{text}")
+    }
+}
+
+/// What the replay of a schedule prints, which must end with this status, and be a trace that agrees.
 fn printed(alloc: Global, schedule: &str, status: u8) -> Result<String> {
     let (outcome, printed) = replayed(alloc, schedule.as_bytes());
     ensure!(outcome.status() == status, "ended: {outcome}");
     let printed = String::from_utf8(printed).ok().context("no text")?;
+    check_agrees(alloc, &printed)?;
     Ok(printed)
+}
+
+/// What a replay printed is a trace that agrees, with all lines that have a reply.
+fn check_agrees(alloc: Global, printed: &str) -> Result<()> {
+    let steps = printed.lines().filter(|line| line.contains(" -> ")).count();
+    let wanted = format!(in alloc; "agrees {steps}\n")?;
+    let (outcome, said) = checked(alloc, printed.as_bytes());
+    ensure!(outcome == Outcome::Good, "checked: {outcome}");
+    ensure!(
+        said.as_slice() == wanted.as_bytes(),
+        "not all of {steps} steps were checked"
+    );
+    Ok(())
 }
 
 /// The lines without their replies.

@@ -1,122 +1,38 @@
--- What is printed of a schedule is read back.
-use Rattle.std.proofs.Common.{◌≡◌, ◌≢◌, ℕ, zero, suc, ◌-◌, ◌<◌, ◌≤◌, Bool, true, false, eqb, List, [], ◌∷◌, ◌++◌, length, map, get_or, Option, Some, None, codes, subst, refl, sym, ap, ◌∙◌, inl, inr, arith}
-use Rattle.std.specs.Prelude.{IfSome, IsTrue, IsFalse, decimal}
-use Rattle.std.specs.Char.{digit_value}
-use Rattle.std.specs.Fmt.{digits}
+-- What is printed of a trace is read back.
+use Rattle.std.proofs.Common.{◌≡◌, ℕ, zero, suc, ◌+◌, ◌≤◌, true, false, List, [], ◌∷◌, ◌++◌, length, map, get_or, Option, Some, None, codes, subst, refl, sym, ap, ◌∙◌, inl, inr, arith}
+use Rattle.std.specs.Prelude.{IfSome, Result, Ok, Err, ℤ, pos, negsuc, neg_ℤ, decimal}
+use Rattle.std.specs.Fmt.{digits, signed_decimal}
 use Rattle.std.specs.List.{AllByRecursion, flat_map, join_with_byte}
-use Rattle.std.specs.Str.Lines.{lines, strip_carriage_return}
-use Rattle.std.specs.Str.Parse.{AllDigits}
-use Rattle.std.proofs.lemmas.Bool.{cases_lt, lt-ltb, le-ltb, le-leb, eqb-true, ne_eqb, false_from_ne_true}
+use Rattle.std.specs.Str.Lines.{lines}
 use Rattle.std.proofs.lemmas.Fmt.{decimal_is_IsNumeral, digits_is_IsNumeral}
 use Rattle.std.proofs.lemmas.List.{append_assoc, append-nil, length-map}
-use Rattle.std.proofs.lemmas.List.Elements.{All-from_recursion, All-get_or}
+use Rattle.std.proofs.lemmas.List.FromFn.{fill_by_all}
+use Rattle.sbi_abi.specs.declared.call.Regs.{Regs}
+use Rattle.sv39.specs.declared.cause.Cause.{Cause}
+use Rattle.sv39.specs.declared.cause.Cause.TheVariants as causes
+use Rattle.sv39.specs.Causes.{cause_number}
+use Rattle.hsm.specs.declared.hart.HartState.{HartState}
+use Rattle.hsm.specs.declared.hart.HartState.TheVariants as states
+use Rattle.hsm.specs.States.{state_number}
 use Rattle.board_core.specs.declared.config.Config.{Config}
 use Rattle.board_core.specs.declared.event.Actor.{Actor}
 use Rattle.board_core.specs.declared.event.Actor.TheVariants.{Hart, Clock}
 use Rattle.board_core.specs.declared.event.Op.{Op}
 use Rattle.board_core.specs.declared.event.Op.TheVariants.{Ecall, Load, Store, Fetch, WriteSatp, WriteSie, WriteSstatusSie, ReadSip, ClearSsip, Sfence, FenceI, Wfi, Poll, Serve, Advance, Tick}
-use Rattle.guest_script.specs.declared.schedule.Line.{Line}
-use Rattle.monitor.specs.Words.{actor_word, board_words, hex, hex_or_dash, line_of, op_words}
-use Rattle.guest_script.specs.Grammar.{AreArguments, AreNumbers, AreSteps, Form, form_of, IsActor, IsArgument, is_allowed, is_blank, is_hash, IsLine, IsOp, IsWord, last_hart, last_number, number_at, numbers_of, regs_of, Spaces, Spells}
-use Rattle.sbiboard.specs.PrintedScripts.{FitsActor, FitsLine, FitsOp, NumberReadsBack, ScheduleReadsBack, StepReadsBack, words_of}
-use Rattle.guest_script.proofs.LinesOf.{lines_fed}
-use Rattle.guest_script.proofs.Spacing.{Spaces-blank}
-use Rattle.std.proofs.lemmas.List.FromFn.{fill_by_all}
-use Rattle.sbi_abi.specs.declared.call.Regs.{Regs}
-
--- ---- words of letters and digits alone
-
--- a letter, a digit or a mark, and no `#`
-pub record IsPlainByte (b : ℕ) : Type 0 where
-  allowed : is_allowed b ≡ true
-  solid : is_blank b ≡ false
-  no_hash : is_hash b ≡ false
-
-abbrev pub IsPlain : List ℕ → Type 0
-IsPlain word = (word ≢ []) × AllByRecursion IsPlainByte word
-
-append_all : (P : ℕ → Type 0) (xs ys : List ℕ) → AllByRecursion P xs → AllByRecursion P ys → AllByRecursion P (xs ++ ys)
-append_all P [] ys all later = later
-append_all P (x ∷ xs) ys all later = (all.0, append_all P xs ys all.1 later)
-
-weaker_all : (P Q : ℕ → Type 0) → ((b : ℕ) → P b → Q b) → (xs : List ℕ) → AllByRecursion P xs → AllByRecursion Q xs
-weaker_all P Q weaker [] all = tt
-weaker_all P Q weaker (x ∷ xs) all = (weaker x all.0, weaker_all P Q weaker xs all.1)
-
--- what holds of a blank and of each plain byte holds of each byte of a line of plain words
-joined_all : (P : ℕ → Type 0) → P 32 → ((b : ℕ) → IsPlainByte b → P b) → (words : List (List ℕ)) → AllByRecursion IsPlain words → AllByRecursion P (join_with_byte 32 words)
-joined_all P blank weaker [] plain = tt
-joined_all P blank weaker (word ∷ []) plain = weaker_all IsPlainByte P weaker word plain.0.1
-joined_all P blank weaker (word ∷ next ∷ words) plain =
-    append_all P word (32 ∷ join_with_byte 32 (next ∷ words)) (weaker_all IsPlainByte P weaker word plain.0.1)
-    (blank, joined_all P blank weaker (next ∷ words) plain.1)
-
-plain_word : (word : List ℕ) → IsPlain word → IsWord word
-plain_word word plain = (plain.0, weaker_all IsPlainByte (λ b. IsFalse (is_blank b)) (λ b p. p.solid) word plain.1)
-
-joined_spaces : (words : List (List ℕ)) → AllByRecursion IsPlain words → Spaces (join_with_byte 32 words) words
-joined_spaces [] plain = tt
-joined_spaces (word ∷ []) plain = ([], [], tt, plain_word word plain.0, sym (append-nil word), tt, tt)
-joined_spaces (word ∷ next ∷ words) plain =
-    ([], 32 ∷ join_with_byte 32 (next ∷ words), tt, plain_word word plain.0, refl, refl, Spaces-blank 32 (join_with_byte 32 (next ∷ words)) (next ∷ words) refl (joined_spaces (next ∷ words) plain.1))
-
-pub joined_line : (words : List (List ℕ)) → AllByRecursion IsPlain words → IsLine (join_with_byte 32 words) words
-joined_line words plain = record {
-  body = join_with_byte 32 words;
-  comment = [];
-  parts = sym (append-nil (join_with_byte 32 words));
-  allowed = joined_all (λ b. IsTrue (is_allowed b)) refl (λ b p. p.allowed) words plain;
-  no_hash = joined_all (λ b. IsFalse (is_hash b)) refl (λ b p. p.no_hash) words plain;
-  is_comment = tt;
-  spaces = joined_spaces words plain;
-}
-
--- ---- numbers are plain
-
-digit_from : (b : ℕ) → digit_value b < 36 → 48 ≤ b
-digit_from b digit = elim (cases_lt b 48) [
-  | inl low ↦ absurd (omega (arith, rw (lt-ltb b 48 low) at digit))
-  | inr from ↦ from
-]
-
-digit_to : (b : ℕ) → digit_value b < 36 → b < 123
-digit_to b digit = elim (cases_lt b 123) [
-  | inl to ↦ to
-  | inr high ↦
-      let past = rw (le-ltb b 48 (omega arith), le-ltb b 58 (omega arith), le-ltb b 65 (omega arith), le-ltb b 91 (omega arith), le-ltb b 97 (omega arith), le-ltb b 123 high) at digit in
-      absurd (omega (arith, past))
-]
-
-digit_plain : (b : ℕ) → digit_value b < 36 → IsPlainByte b
-digit_plain b digit =
-    let from = digit_from b digit in
-    let to = digit_to b digit in
-    record {
-      allowed = rw (le-leb 32 b (omega arith), le-leb b 126 (omega arith)) refl;
-      solid = rw (ne_eqb b 32 (λ e. omega arith), ne_eqb b 9 (λ e. omega arith)) refl;
-      no_hash = ne_eqb b 35 (λ e. omega arith);
-    }
-
-digits_plain : (radix : ℕ) (ds : List ℕ) → radix ≤ 36 → AllDigits radix ds → AllByRecursion IsPlainByte ds
-digits_plain radix [] small all = tt
-digits_plain radix (b ∷ ds) small all = (digit_plain b (omega (arith, all.0)), digits_plain radix ds small all.1)
-
-spelled_plain : (word : List ℕ) (n : ℕ) → Spells word n → IsPlain word
-spelled_plain word n (inl decimal) = ((λ e. absurd (omega (arith, decimal.0.0, ap length e))), digits_plain 10 word (omega arith) decimal.0.1)
-spelled_plain word n (inr hex) =
-    rw hex.1 ((λ e. cc), (digit_plain 48 (omega arith), (digit_plain 120 (omega arith), digits_plain 16 hex.0 (omega arith) hex.2.1)))
-
-pub numbers_plain : (limit : ℕ) (words : List (List ℕ)) (ns : List ℕ) → AreNumbers limit words ns → AllByRecursion IsPlain words
-numbers_plain limit [] ns numbers = tt
-numbers_plain limit (word ∷ words) [] numbers = absurd numbers
-numbers_plain limit (word ∷ words) (n ∷ ns) numbers = (spelled_plain word n numbers.0.1, numbers_plain limit words ns numbers.1)
-
-arguments_plain : (dash : Bool) (limit : ℕ) (words : List (List ℕ)) (ns : List (Option ℕ)) → AreArguments dash limit words ns → AllByRecursion IsPlain words
-arguments_plain dash limit [] ns arguments = tt
-arguments_plain dash limit (word ∷ words) [] arguments = absurd arguments
-arguments_plain dash limit (word ∷ words) (Some n ∷ ns) arguments = (spelled_plain word n arguments.0.1, arguments_plain dash limit words ns arguments.1)
-arguments_plain dash limit (word ∷ words) (None ∷ ns) arguments =
-    (rw arguments.0.1 ((λ e. cc), (record { allowed = refl; solid = refl; no_hash = refl }, tt)), arguments_plain dash limit words ns arguments.1)
+use Rattle.board_core.specs.declared.event.Refusal.{Refusal}
+use Rattle.board_core.specs.declared.event.Refusal.TheVariants as refusals
+use Rattle.board_core.specs.declared.event.Reply.{Reply}
+use Rattle.board_core.specs.declared.event.Reply.TheVariants as replies
+use Rattle.board_core.specs.Refusals.{refusal_number}
+use Rattle.guest_script.specs.declared.said.Said.{Said}
+use Rattle.guest_script.specs.declared.script.Line.{Line}
+use Rattle.guest_script.specs.Agreeing.{said_of}
+use Rattle.guest_script.specs.Forms.{AreArguments, Form, form_of, IsArgument, IsNamed, IsSaid, number_at, regs_of, said_form_of}
+use Rattle.guest_script.specs.Grammar.{AreLines, Draft, Nothing, Traced, IsActor, IsStep, numbers_of, content_of}
+use Rattle.guest_script.specs.Words.{AreNumbers, IsLine, IsNumber, last_hart, last_number}
+use Rattle.monitor.specs.Words.{actor_word, board_words, hex, hex_or_dash, line_of, op_words, reply_words}
+use Rattle.sbiboard.specs.PrintedScripts.{Answered, AreComments, FitsActor, FitsAnswer, FitsAnswered, FitsConfig, FitsError, FitsOp, LineReadsBack, NumberReadsBack, SignedReadsBack, TraceReadsBack, trace_line, trace_lines, trace_of, words_of}
+use Rattle.guest_script.proofs.PlainWords.{append_all, arguments_plain, IsPlain, joined_line, lines_printed, name_plain, numbers_plain, spelled_plain}
 
 -- ---- printed numbers
 
@@ -130,20 +46,24 @@ hexes_read_back : (ns : List ℕ) → AllByRecursion (λ n. n ≤ last_number) n
 hexes_read_back [] fits = tt
 hexes_read_back (n ∷ ns) fits = ((number_read_back last_number n fits.0 (omega arith)).1, hexes_read_back ns fits.1)
 
+pub signed_read_back : SignedReadsBack
+signed_read_back (pos n) fits =
+    let ten = decimal_is_IsNumeral n (omega (arith, fits)) in
+    inl (ten.0, omega (arith, fits, ten.1), ap pos (sym ten.1))
+signed_read_back (negsuc n) fits =
+    let ten = decimal_is_IsNumeral (suc n) (omega (arith, fits)) in
+    inr (decimal (suc n), refl, ten.0, omega (arith, fits, ten.1), ap (λ m. neg_ℤ (pos m)) (sym ten.1))
+
 -- ---- printed steps
 
-record IsSpelled (words : List (List ℕ)) (op : Op) : Type 0 where
-  is_op : IsOp words op
+record IsSpelled {A : Type 0} (form_of : List ℕ → Option (Form A)) (words : List (List ℕ)) (value : A) : Type 0 where
+  is_named : IsNamed form_of words value
   plain : AllByRecursion IsPlain words
 
--- a name of letters and digits
-name_plain : (name : List ℕ) → name ≢ [] → AllDigits 36 name → IsPlain name
-name_plain name some letters = (some, digits_plain 36 name (omega arith) letters)
-
-op_spelled : (name : List ℕ) (arguments : List (List ℕ)) (form : Form) (ns : List (Option ℕ)) → form_of name ≡ Some form → IsPlain name
-    → form.least ≤ length arguments → length arguments ≤ form.most → AreArguments form.may_be_absent form.limit arguments ns → IsSpelled (name ∷ arguments) (form.op ns)
-op_spelled name arguments form ns at plain enough not_more numbers = record {
-  is_op = record {
+spelled : {A : Type 0} (form_of : List ℕ → Option (Form A)) (name : List ℕ) (arguments : List (List ℕ)) (form : Form A) (ns : List (Option ℕ)) → form_of name ≡ Some form → IsPlain name
+    → form.least ≤ length arguments → length arguments ≤ form.most → AreArguments form.may_be_absent form.limit arguments ns → IsSpelled form_of (name ∷ arguments) (form.makes ns)
+spelled form_of name arguments form ns at plain enough not_more numbers = record {
+  is_named = record {
     name = name;
     others = arguments;
     form = form;
@@ -153,7 +73,7 @@ op_spelled name arguments form ns at plain enough not_more numbers = record {
     enough = enough;
     not_more = not_more;
     are_arguments = numbers;
-    makes = refl;
+    made = refl;
   };
   plain = (plain, arguments_plain form.may_be_absent form.limit arguments ns numbers);
 }
@@ -176,55 +96,55 @@ optional_read_back : (n : Option ℕ) → IfSome n (λ m. m ≤ last_number) →
 optional_read_back (Some n) fits = (number_read_back last_number n fits (omega arith)).1
 optional_read_back None fits = (refl, refl)
 
-op_read_back : (op : Op) → FitsOp op → IsSpelled (op_words op) op
+op_read_back : (op : Op) → FitsOp op → IsSpelled form_of (op_words op) op
 unfolding form_of
 op_read_back (Ecall regs) fits =
     let number = λ (n : ℕ) (small : n ≤ last_number). (number_read_back last_number n small (omega arith)).1 in
     let count = length-map regs.a hex in
-    subst (λ (r : Regs). IsSpelled (op_words (Ecall regs)) (Ecall r)) (six_arguments regs fits.2)
-    (op_spelled (codes "ecall") (hex regs.eid ∷ hex regs.fid ∷ map hex regs.a) _ (written regs) refl
+    subst (λ (r : Regs). IsSpelled form_of (op_words (Ecall regs)) (Ecall r)) (six_arguments regs fits.2)
+    (spelled form_of (codes "ecall") (hex regs.eid ∷ hex regs.fid ∷ map hex regs.a) _ (written regs) refl
     (name_plain (codes "ecall") (λ e. cc) (omega arith)) (omega (arith, count)) (omega (arith, count, fits.2))
     (number regs.eid fits.0, (number regs.fid fits.1, hexes_read_back regs.a fits.3)))
 op_read_back (Load va) fits =
-    op_spelled (codes "load") (hex va ∷ []) _ (Some va ∷ []) refl (name_plain (codes "load") (λ e. cc) (omega arith)) (omega arith) (omega arith)
+    spelled form_of (codes "load") (hex va ∷ []) _ (Some va ∷ []) refl (name_plain (codes "load") (λ e. cc) (omega arith)) (omega arith) (omega arith)
     ((number_read_back last_number va fits (omega arith)).1, tt)
 op_read_back (Store va value) fits =
-    op_spelled (codes "store") (hex va ∷ hex value ∷ []) _ (Some va ∷ Some value ∷ []) refl (name_plain (codes "store") (λ e. cc) (omega arith)) (omega arith) (omega arith)
+    spelled form_of (codes "store") (hex va ∷ hex value ∷ []) _ (Some va ∷ Some value ∷ []) refl (name_plain (codes "store") (λ e. cc) (omega arith)) (omega arith) (omega arith)
     ((number_read_back last_number va fits.0 (omega arith)).1, ((number_read_back last_number value fits.1 (omega arith)).1, tt))
 op_read_back (Fetch va) fits =
-    op_spelled (codes "fetch") (hex va ∷ []) _ (Some va ∷ []) refl (name_plain (codes "fetch") (λ e. cc) (omega arith)) (omega arith) (omega arith)
+    spelled form_of (codes "fetch") (hex va ∷ []) _ (Some va ∷ []) refl (name_plain (codes "fetch") (λ e. cc) (omega arith)) (omega arith) (omega arith)
     ((number_read_back last_number va fits (omega arith)).1, tt)
 op_read_back (WriteSatp value) fits =
-    op_spelled (codes "satp") (hex value ∷ []) _ (Some value ∷ []) refl (name_plain (codes "satp") (λ e. cc) (omega arith)) (omega arith) (omega arith)
+    spelled form_of (codes "satp") (hex value ∷ []) _ (Some value ∷ []) refl (name_plain (codes "satp") (λ e. cc) (omega arith)) (omega arith) (omega arith)
     ((number_read_back last_number value fits (omega arith)).1, tt)
 op_read_back (WriteSie value) fits =
-    op_spelled (codes "sie") (hex value ∷ []) _ (Some value ∷ []) refl (name_plain (codes "sie") (λ e. cc) (omega arith)) (omega arith) (omega arith)
+    spelled form_of (codes "sie") (hex value ∷ []) _ (Some value ∷ []) refl (name_plain (codes "sie") (λ e. cc) (omega arith)) (omega arith) (omega arith)
     ((number_read_back last_number value fits (omega arith)).1, tt)
 op_read_back (WriteSstatusSie false) fits =
-    op_spelled (codes "sstatus") (decimal 0 ∷ []) _ (Some 0 ∷ []) refl (name_plain (codes "sstatus") (λ e. cc) (omega arith)) (omega arith) (omega arith)
+    spelled form_of (codes "sstatus") (decimal 0 ∷ []) _ (Some 0 ∷ []) refl (name_plain (codes "sstatus") (λ e. cc) (omega arith)) (omega arith) (omega arith)
     ((number_read_back 1 0 (omega arith) (omega arith)).0, tt)
 op_read_back (WriteSstatusSie true) fits =
-    op_spelled (codes "sstatus") (decimal 1 ∷ []) _ (Some 1 ∷ []) refl (name_plain (codes "sstatus") (λ e. cc) (omega arith)) (omega arith) (omega arith)
+    spelled form_of (codes "sstatus") (decimal 1 ∷ []) _ (Some 1 ∷ []) refl (name_plain (codes "sstatus") (λ e. cc) (omega arith)) (omega arith) (omega arith)
     ((number_read_back 1 1 (omega arith) (omega arith)).0, tt)
 op_read_back ReadSip fits =
-    op_spelled (codes "sip") [] _ [] refl (name_plain (codes "sip") (λ e. cc) (omega arith)) (omega arith) (omega arith) tt
+    spelled form_of (codes "sip") [] _ [] refl (name_plain (codes "sip") (λ e. cc) (omega arith)) (omega arith) (omega arith) tt
 op_read_back ClearSsip fits =
-    op_spelled (codes "clearssip") [] _ [] refl (name_plain (codes "clearssip") (λ e. cc) (omega arith)) (omega arith) (omega arith) tt
+    spelled form_of (codes "clearssip") [] _ [] refl (name_plain (codes "clearssip") (λ e. cc) (omega arith)) (omega arith) (omega arith) tt
 op_read_back (Sfence va asid) fits =
-    op_spelled (codes "sfence") (hex_or_dash va ∷ hex_or_dash asid ∷ []) _ (va ∷ asid ∷ []) refl (name_plain (codes "sfence") (λ e. cc) (omega arith)) (omega arith) (omega arith)
+    spelled form_of (codes "sfence") (hex_or_dash va ∷ hex_or_dash asid ∷ []) _ (va ∷ asid ∷ []) refl (name_plain (codes "sfence") (λ e. cc) (omega arith)) (omega arith) (omega arith)
     (optional_read_back va fits.0, (optional_read_back asid fits.1, tt))
 op_read_back FenceI fits =
-    op_spelled (codes "fencei") [] _ [] refl (name_plain (codes "fencei") (λ e. cc) (omega arith)) (omega arith) (omega arith) tt
+    spelled form_of (codes "fencei") [] _ [] refl (name_plain (codes "fencei") (λ e. cc) (omega arith)) (omega arith) (omega arith) tt
 op_read_back Wfi fits =
-    op_spelled (codes "wfi") [] _ [] refl (name_plain (codes "wfi") (λ e. cc) (omega arith)) (omega arith) (omega arith) tt
+    spelled form_of (codes "wfi") [] _ [] refl (name_plain (codes "wfi") (λ e. cc) (omega arith)) (omega arith) (omega arith) tt
 op_read_back Poll fits =
-    op_spelled (codes "poll") [] _ [] refl (name_plain (codes "poll") (λ e. cc) (omega arith)) (omega arith) (omega arith) tt
+    spelled form_of (codes "poll") [] _ [] refl (name_plain (codes "poll") (λ e. cc) (omega arith)) (omega arith) (omega arith) tt
 op_read_back Serve fits =
-    op_spelled (codes "serve") [] _ [] refl (name_plain (codes "serve") (λ e. cc) (omega arith)) (omega arith) (omega arith) tt
+    spelled form_of (codes "serve") [] _ [] refl (name_plain (codes "serve") (λ e. cc) (omega arith)) (omega arith) (omega arith) tt
 op_read_back Advance fits =
-    op_spelled (codes "advance") [] _ [] refl (name_plain (codes "advance") (λ e. cc) (omega arith)) (omega arith) (omega arith) tt
+    spelled form_of (codes "advance") [] _ [] refl (name_plain (codes "advance") (λ e. cc) (omega arith)) (omega arith) (omega arith) tt
 op_read_back (Tick n) fits =
-    op_spelled (codes "tick") (hex n ∷ []) _ (Some n ∷ []) refl (name_plain (codes "tick") (λ e. cc) (omega arith)) (omega arith) (omega arith)
+    spelled form_of (codes "tick") (hex n ∷ []) _ (Some n ∷ []) refl (name_plain (codes "tick") (λ e. cc) (omega arith)) (omega arith) (omega arith)
     ((number_read_back last_number n fits (omega arith)).1, tt)
 
 actor_read_back : (actor : Actor) → FitsActor actor → IsActor (actor_word actor) actor
@@ -235,56 +155,186 @@ actor_plain : (actor : Actor) → FitsActor actor → IsPlain (actor_word actor)
 actor_plain (Hart h) fits = spelled_plain (decimal h) h (number_read_back last_hart h fits (omega arith)).0.1
 actor_plain Clock fits = name_plain (codes "c") (λ e. cc) (omega arith)
 
-words_plain : (line : Line) → FitsLine line → AllByRecursion IsPlain (words_of line)
-words_plain line fits = (actor_plain line.actor fits.0, (op_read_back line.op fits.1).plain)
+step_is : (actor : Actor) (op : Op) → FitsActor actor → FitsOp op → IsStep (actor_word actor ∷ op_words op) actor op
+step_is actor op fits_actor fits_op = record {
+  first = actor_word actor;
+  others = op_words op;
+  parts = refl;
+  is_actor = actor_read_back actor fits_actor;
+  is_op = (op_read_back op fits_op).is_named;
+}
 
-pub step_read_back : StepReadsBack
-step_read_back line fits = (
-  joined_line (words_of line) (words_plain line fits),
-  record {
-    first = actor_word line.actor;
-    others = op_words line.op;
-    parts = refl;
-    is_actor = actor_read_back line.actor fits.0;
-    is_op = (op_read_back line.op fits.1).is_op;
-  },
+-- ---- printed answers
+
+record IsAnswer (words : List (List ℕ)) (said : Said) : Type 0 where
+  is_said : IsSaid words said
+  plain : AllByRecursion IsPlain words
+
+named_answer : (words : List (List ℕ)) (said : Said) → IsSpelled said_form_of words said → IsAnswer words said
+named_answer words said is = record { is_said = inr is.is_named; plain = is.plain }
+
+signed_plain : (e : ℤ) → FitsError e → IsPlain (signed_decimal e)
+signed_plain (pos n) fits = spelled_plain (decimal n) n (number_read_back last_number n (omega (arith, fits)) (omega arith)).0.1
+signed_plain (negsuc n) fits =
+    let digits = spelled_plain (decimal (suc n)) (suc n) (number_read_back last_number (suc n) (omega (arith, fits)) (omega arith)).0.1 in
+    ((λ e. cc), (record { allowed = refl; solid = refl; no_hash = refl }, digits.1))
+
+alone_answer : (name : List ℕ) (form : Form Said) → said_form_of name ≡ Some form → form.least ≡ 0 → form.most ≡ 0 → IsPlain name → IsAnswer (name ∷ []) (form.makes [])
+alone_answer name form at least most plain =
+    named_answer (name ∷ []) (form.makes []) (spelled said_form_of name [] form [] at plain (omega (arith, least)) (omega (arith, most)) tt)
+
+one_answer : (name word : List ℕ) (n : ℕ) (form : Form Said) → said_form_of name ≡ Some form → form.least ≡ 1 → form.most ≡ 1 → form.may_be_absent ≡ false → form.limit ≡ last_number
+    → IsPlain name → IsNumber last_number word n → IsAnswer (name ∷ word ∷ []) (form.makes (Some n ∷ []))
+one_answer name word n form at least most absent limit plain number =
+    named_answer (name ∷ word ∷ []) (form.makes (Some n ∷ [])) (spelled said_form_of name (word ∷ []) form (Some n ∷ []) at plain (omega (arith, least)) (omega (arith, most))
+    (rw limit (number, tt)))
+
+cause_small : (cause : Cause) → cause_number cause ≤ last_number
+cause_small causes.InstructionAddressMisaligned = omega arith
+cause_small causes.InstructionAccessFault = omega arith
+cause_small causes.LoadAddressMisaligned = omega arith
+cause_small causes.LoadAccessFault = omega arith
+cause_small causes.StoreAddressMisaligned = omega arith
+cause_small causes.StoreAccessFault = omega arith
+cause_small causes.InstructionPageFault = omega arith
+cause_small causes.LoadPageFault = omega arith
+cause_small causes.StorePageFault = omega arith
+
+state_small : (state : HartState) → state_number state ≤ last_number
+state_small states.Started = omega arith
+state_small states.Stopped = omega arith
+state_small states.StartPending = omega arith
+state_small states.StopPending = omega arith
+state_small states.Suspended = omega arith
+state_small states.SuspendPending = omega arith
+state_small states.ResumePending = omega arith
+
+refusal_small : (refusal : Refusal) → refusal_number refusal ≤ last_number
+refusal_small refusals.Off = omega arith
+refusal_small refusals.WrongPhase = omega arith
+refusal_small refusals.Nothing = omega arith
+refusal_small refusals.HistoryFull = omega arith
+refusal_small refusals.TimeFull = omega arith
+
+answer_read_back : (answer : Result Reply Refusal) → FitsAnswer answer → IsAnswer (reply_words answer) (said_of answer)
+unfolding said_form_of
+answer_read_back (Ok (replies.Ret answer)) fits =
+    let value = (number_read_back last_number answer.value fits.1 (omega arith)).1 in
+    record {
+      is_said = inl (record {
+        error_word = signed_decimal answer.error;
+        value_word = hex answer.value;
+        error = answer.error;
+        value = answer.value;
+        parts = refl;
+        is_error = signed_read_back answer.error fits.0;
+        is_value = value;
+        made = refl;
+      });
+      plain = (name_plain (codes "ret") (λ e. cc) (omega arith), (signed_plain answer.error fits.0, (spelled_plain (hex answer.value) answer.value value.1, tt)));
+    }
+answer_read_back (Ok replies.Waiting) fits = alone_answer (codes "waiting") _ refl refl refl (name_plain (codes "waiting") (λ e. cc) (omega arith))
+answer_read_back (Ok replies.Gone) fits = alone_answer (codes "gone") _ refl refl refl (name_plain (codes "gone") (λ e. cc) (omega arith))
+answer_read_back (Ok (replies.Entry addr hart opaque)) fits =
+    named_answer _ _ (spelled said_form_of (codes "entry") (hex addr ∷ decimal hart ∷ hex opaque ∷ []) _ (Some addr ∷ Some hart ∷ Some opaque ∷ []) refl
+    (name_plain (codes "entry") (λ e. cc) (omega arith)) (omega arith) (omega arith) (
+      (number_read_back last_number addr fits.0 (omega arith)).1,
+      ((number_read_back last_number hart fits.1 (omega arith)).0, ((number_read_back last_number opaque fits.2 (omega arith)).1, tt)),
+    ))
+answer_read_back (Ok (replies.Value value)) fits =
+    one_answer (codes "value") (hex value) value _ refl refl refl refl refl (name_plain (codes "value") (λ e. cc) (omega arith))
+    (number_read_back last_number value fits (omega arith)).1
+answer_read_back (Ok (replies.Fault cause)) fits =
+    one_answer (codes "fault") (decimal (cause_number cause)) (cause_number cause) _ refl refl refl refl refl (name_plain (codes "fault") (λ e. cc) (omega arith))
+    (number_read_back last_number (cause_number cause) (cause_small cause) (omega arith)).0
+answer_read_back (Ok replies.Served) fits = alone_answer (codes "served") _ refl refl refl (name_plain (codes "served") (λ e. cc) (omega arith))
+answer_read_back (Ok (replies.Moved state)) fits =
+    one_answer (codes "moved") (decimal (state_number state)) (state_number state) _ refl refl refl refl refl (name_plain (codes "moved") (λ e. cc) (omega arith))
+    (number_read_back last_number (state_number state) (state_small state) (omega arith)).0
+answer_read_back (Ok replies.Done) fits = alone_answer (codes "done") _ refl refl refl (name_plain (codes "done") (λ e. cc) (omega arith))
+answer_read_back (Err refusal) fits =
+    one_answer (codes "refused") (decimal (refusal_number refusal)) (refusal_number refusal) _ refl refl refl refl refl (name_plain (codes "refused") (λ e. cc) (omega arith))
+    (number_read_back last_number (refusal_number refusal) (refusal_small refusal) (omega arith)).0
+
+-- ---- printed lines
+
+arrow_plain : IsPlain (codes "->")
+arrow_plain = ((λ e. cc), (record { allowed = refl; solid = refl; no_hash = refl }, (record { allowed = refl; solid = refl; no_hash = refl }, tt)))
+
+words_plain : (step : Answered) → FitsAnswered step → AllByRecursion IsPlain (words_of step)
+words_plain step fits =
+    append_all IsPlain (actor_word step.actor ∷ op_words step.op) (codes "->" ∷ reply_words step.answer)
+    (actor_plain step.actor fits.actor, (op_read_back step.op fits.op).plain) (arrow_plain, (answer_read_back step.answer fits.answer).plain)
+
+pub line_read_back : LineReadsBack
+line_read_back n step fits = (
+  joined_line (words_of step) (words_plain step fits),
+  (
+    actor_word step.actor ∷ op_words step.op,
+    reply_words step.answer,
+    said_of step.answer,
+    refl,
+    refl,
+    refl,
+    step_is step.actor step.op fits.actor fits.op,
+    (answer_read_back step.answer fits.answer).is_said,
+  ),
 )
 
--- ---- printed schedules
+-- ---- printed traces
 
-not_ending : (c b : ℕ) → is_allowed c ≡ false → IsPlainByte b → eqb b c ≡ false
-not_ending c b ends plain = false_from_ne_true (eqb b c) (λ same.
-    let allowed : is_allowed c ≡ true = rw (← eqb-true b c same) plain.allowed in
-    let both : true ≡ false = sym allowed ∙ ends in cc)
+comments_pass : (n : ℕ) (draft : Draft) (texts : List (List ℕ)) → AllByRecursion (λ text. IsLine text []) texts → AreLines n draft texts draft
+comments_pass n draft [] all = refl
+comments_pass n draft (text ∷ texts) all = inl (all.0, comments_pass (n + 1) draft texts all.1)
 
-kept_by_strip : (text : List ℕ) → AllByRecursion (λ b. eqb b 13 ≡ false) text → strip_carriage_return text ≡ text
-kept_by_strip [] all = refl
-kept_by_strip (b ∷ text) all =
-    let last = All-get_or (λ x. eqb x 13 ≡ false) (b ∷ text) (length (b ∷ text) - 1) 0 (omega arith) (All-from_recursion (λ x. eqb x 13 ≡ false) (b ∷ text) all) in
-    rw last refl
+abbrev printed_lines : List Answered → List ℕ → List ℕ
+printed_lines steps comments = flat_map (λ step. line_of (words_of step)) steps ++ comments
 
--- a printed line of plain words comes first among the lines
-lines_printed : (words : List (List ℕ)) (bytes : List ℕ) → AllByRecursion IsPlain words → lines (line_of words ++ bytes) ≡ join_with_byte 32 words ∷ lines bytes
-lines_printed words bytes plain =
-    let text = join_with_byte 32 words in
-    let no_feed = joined_all (λ b. eqb b 10 ≡ false) refl (λ b p. not_ending 10 b refl p) words plain in
-    let no_return = joined_all (λ b. eqb b 13 ≡ false) refl (λ b p. not_ending 13 b refl p) words plain in
-    ap lines (append_assoc text (10 ∷ []) bytes)
-    ∙ lines_fed text bytes (All-from_recursion (λ b. eqb b 10 ≡ false) text no_feed)
-    ∙ ap (λ (t : List ℕ). t ∷ lines bytes) (kept_by_strip text no_return)
+first_line : (step : Answered) (steps : List Answered) (comments : List ℕ) → FitsAnswered step
+    → lines (printed_lines (step ∷ steps) comments) ≡ join_with_byte 32 (words_of step) ∷ lines (printed_lines steps comments)
+first_line step steps comments fits =
+    ap lines (append_assoc (line_of (words_of step)) (flat_map (λ s. line_of (words_of s)) steps) comments)
+    ∙ lines_printed (words_of step) (printed_lines steps comments) (words_plain step fits)
 
-steps_read_back : (steps : List Line) → AllByRecursion FitsLine steps → AreSteps (lines (flat_map (λ line. line_of (words_of line)) steps)) steps
-steps_read_back [] fits = refl
-steps_read_back (line ∷ steps) fits =
-    let others = flat_map (λ l. line_of (words_of l)) steps in
-    let read = step_read_back line fits.0 in
-    rw (lines_printed (words_of line) others (words_plain line fits.0))
-    (words_of line, Some line, steps, read.0, read.1, refl, steps_read_back steps fits.1)
+lines_read_back : (n : ℕ) (before : List Line) (steps : List Answered) (comments : List ℕ) → AllByRecursion FitsAnswered steps → AreComments comments
+    → AreLines n (Traced before) (lines (printed_lines steps comments)) (Traced (before ++ trace_lines n steps))
+lines_read_back n before [] comments fits are =
+    subst (λ l. AreLines n (Traced before) (lines comments) (Traced l)) (sym (append-nil before)) (comments_pass n (Traced before) (lines comments) are)
+lines_read_back n before (step ∷ steps) comments fits are =
+    let read = line_read_back n step fits.0 in
+    let line = trace_line n step in
+    rw (first_line step steps comments fits.0)
+    (inr (
+      words_of step,
+      Traced (before ++ line ∷ []),
+      read.0,
+      (line, read.1, refl),
+      subst (λ l. AreLines (n + 1) (Traced (before ++ line ∷ [])) (lines (printed_lines steps comments)) (Traced l))
+          (append_assoc before (line ∷ []) (trace_lines (n + 1) steps)) (lines_read_back (n + 1) (before ++ line ∷ []) steps comments fits.1 are),
+    ))
+
+-- what all lines say
+abbrev draft_of : List Line → Draft
+draft_of [] = Nothing
+draft_of (line ∷ lines) = Traced (line ∷ lines)
+
+all_read_back : (n : ℕ) (steps : List Answered) (comments : List ℕ) → AllByRecursion FitsAnswered steps → AreComments comments
+    → AreLines n Nothing (lines (printed_lines steps comments)) (draft_of (trace_lines n steps))
+all_read_back n [] comments fits are = comments_pass n Nothing (lines comments) are
+all_read_back n (step ∷ steps) comments fits are =
+    let read = line_read_back n step fits.0 in
+    let line = trace_line n step in
+    rw (first_line step steps comments fits.0)
+    (inr (words_of step, Traced (line ∷ []), read.0, (line, read.1, refl), lines_read_back (n + 1) (line ∷ []) steps comments fits.1 are))
+
+content_drafted : (lines : List Line) → trace_of lines ≡ content_of (draft_of lines)
+content_drafted [] = refl
+content_drafted (line ∷ lines) = refl
 
 abbrev arguments_of : Config → List (List ℕ)
 arguments_of c = decimal c.harts ∷ decimal c.pages ∷ decimal c.limit ∷ decimal c.boot_hart ∷ hex c.boot_addr ∷ hex c.boot_opaque ∷ []
 
-board_numbers : (c : Config) → AllByRecursion (λ n. n ≤ last_number) (numbers_of c) → AreNumbers last_number (arguments_of c) (numbers_of c)
+board_numbers : (c : Config) → FitsConfig c → AreNumbers last_number (arguments_of c) (numbers_of c)
 board_numbers c fits =
     let number = λ (n : ℕ) (small : n ≤ last_number). number_read_back last_number n small (omega arith) in (
       (number c.harts fits.0).0,
@@ -306,14 +356,21 @@ board_numbers c fits =
       ),
     )
 
-board_plain : (c : Config) → AllByRecursion (λ n. n ≤ last_number) (numbers_of c) → AllByRecursion IsPlain (board_words c)
+board_plain : (c : Config) → FitsConfig c → AllByRecursion IsPlain (board_words c)
 board_plain c fits = (name_plain (codes "board") (λ e. cc) (omega arith), numbers_plain last_number (arguments_of c) (numbers_of c) (board_numbers c fits))
 
-pub schedule_read_back : ScheduleReadsBack
-schedule_read_back s fits short =
-    let steps = flat_map (λ line. line_of (words_of line)) s.lines in
-    let plain = board_plain s.config fits.0 in (
+pub trace_read_back : TraceReadsBack
+trace_read_back c steps comments fits fit are short =
+    let body = printed_lines steps comments in
+    let plain = board_plain c fits in (
       short,
-      rw (lines_printed (board_words s.config) steps plain)
-          (inr (board_words s.config, joined_line (board_words s.config) plain, record { arguments = arguments_of s.config; parts = refl; are_numbers = board_numbers s.config fits.0 }, steps_read_back s.lines fits.1)),
+      rw (lines_printed (board_words c) body plain)
+          (inr (
+            board_words c,
+            draft_of (trace_lines 2 steps),
+            joined_line (board_words c) plain,
+            record { arguments = arguments_of c; parts = refl; are_numbers = board_numbers c fits },
+            all_read_back 2 steps comments fit are,
+            content_drafted (trace_lines 2 steps),
+          )),
     )

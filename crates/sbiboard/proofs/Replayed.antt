@@ -1,16 +1,17 @@
 -- What a replay has done after some of the lines.
-use Rattle.std.proofs.Common.{◌≡◌, ℕ, ◌+◌, ◌<◌, Bool, true, false, List, ◌∷◌, ◌++◌, ◌||◌, length, get_or, drop, refl, sym, ap, ◌∙◌, subst, append_assoc, add-one, drop-cons}
+use Rattle.std.proofs.Common.{◌≡◌, ℕ, Bool, true, false, List, ◌∷◌, ◌++◌, ◌||◌, refl, sym, ap, ◌∙◌, subst, append_assoc}
 use Rattle.std.specs.Prelude.{Option, Result}
 use Rattle.std.specs.Io.KnownBytes.{Appends, Keeps}
 use Rattle.std.proofs.KnownBytes.{Appends-kept, Appends-trans}
+use Rattle.board_core.specs.declared.config.Config.{Config}
 use Rattle.board_core.specs.declared.event.Refusal.{Refusal}
 use Rattle.board_core.specs.declared.event.Reply.{Reply}
 use Rattle.board_core.specs.Course.{Course}
 use Rattle.board_core.specs.Replies.{stepped}
-use Rattle.guest_script.specs.declared.schedule.Line.{Line}
-use Rattle.sbiboard.specs.Replay.{answer_of, course_after, is_history_full, lines_text, meets_full, opening_of, table_of, text_of}
-use Rattle.guest_script.specs.Grammar.{Schedule}
+use Rattle.guest_script.specs.declared.script.Line.{Line}
 use Rattle.monitor.specs.Words.{board_words, event_words, line_of}
+use Rattle.sbiboard.specs.Replay.{is_history_full, lines_text, meets_full, table_of, text_of}
+use Rattle.sbiboard.specs.Running.{answer_of, course_after, opening_of}
 
 -- what was written is the text of the lines that were done: with that of the others it is the whole text
 pub record HasWritten (before after : Option (List ℕ)) (rest whole : List ℕ) : Type 0 where
@@ -22,10 +23,6 @@ pub record HasWritten (before after : Option (List ℕ)) (rest whole : List ℕ)
 pub record Replaying (first b : Course) (lines others : List Line) (met_full : Bool) : Type 0 where
   pub course : course_after b others ≡ course_after first lines
   pub full : (met_full || meets_full b others) ≡ meets_full first lines
-
--- the lines from place i on are line i and those after it
-pub drop_line : (lines : List Line) (i : ℕ) (d : Line) → i < length lines → drop i lines ≡ get_or lines i d ∷ drop (i + 1) lines
-drop_line lines i d below = rw (add-one i) (drop-cons lines i d below)
 
 or_assoc : (a b c : Bool) → ((a || b) || c) ≡ (a || (b || c))
 or_assoc true b c = refl
@@ -59,16 +56,15 @@ module _ (b next : Course) (others rest : List Line) (line : Line) (are : others
       ∙ ap (λ c. line_of (event_words line.actor line.op answer) ++ lines_text c rest) (sym stepped_is)
 
 -- the board line, the lines and the table, one after the other, are the schedule's text
-pub text_of-printed : (s : Schedule) (first last : Course) (lines : List Line)
-    → first ≡ opening_of s.config → lines ≡ s.lines → last ≡ course_after first lines
+pub text_of-printed : (config : Config) (first last : Course) (lines : List Line)
+    → first ≡ opening_of config → last ≡ course_after first lines
     → (at_first at_lines at_table at_flush at_end : Option (List ℕ))
-    → Appends at_first at_lines (line_of (board_words s.config)) → Appends at_lines at_table (lines_text first lines)
-    → Appends at_table at_flush (table_of last) → Keeps at_flush at_end → Appends at_first at_end (text_of s)
+    → Appends at_first at_lines (line_of (board_words config)) → Appends at_lines at_table (lines_text first lines)
+    → Appends at_table at_flush (table_of last) → Keeps at_flush at_end → Appends at_first at_end (text_of config lines)
 unfolding text_of
-text_of-printed s first last lines opening_is lines_are last_is a b c d e head body table kept =
+text_of-printed config first last lines opening_is last_is a b c d e head body table kept =
     let whole = Appends-kept a d e _ (Appends-trans a b d _ _ head (Appends-trans b c d _ _ body table)) kept in
-    let lines_text_is : lines_text first lines ≡ lines_text (opening_of s.config) s.lines =
-    ap (λ b. lines_text b lines) opening_is ∙ ap (lines_text (opening_of s.config)) lines_are in
-    let table_is : table_of last ≡ table_of (course_after (opening_of s.config) s.lines) =
-    ap table_of (last_is ∙ ap (λ b. course_after b lines) opening_is ∙ ap (course_after (opening_of s.config)) lines_are) in
-    subst (λ t. Appends a e (line_of (board_words s.config) ++ t)) (λ i. lines_text_is i ++ table_is i) whole
+    let lines_text_is : lines_text first lines ≡ lines_text (opening_of config) lines = ap (λ b. lines_text b lines) opening_is in
+    let table_is : table_of last ≡ table_of (course_after (opening_of config) lines) =
+    ap table_of (last_is ∙ ap (λ b. course_after b lines) opening_is) in
+    subst (λ t. Appends a e (line_of (board_words config) ++ t)) (λ i. lines_text_is i ++ table_is i) whole

@@ -1,5 +1,9 @@
+pub mod Check
 pub mod Devices
+pub mod Fitting
+pub mod Jobs
 pub mod Outcomes
 pub mod PrintedScripts
 pub mod Replay
+pub mod Running
 pub mod Sources

@@ -1,17 +1,40 @@
 -- What is printed of a script is read back (profile).
-use Rattle.std.specs.Prelude.{◌≡◌, ℕ, ◌≤◌, List, ◌++◌, length, IfSome, decimal}
+use Rattle.std.specs.Prelude.{◌≡◌, ℕ, suc, ℤ, pos, negsuc, ◌+◌, ◌≤◌, true, List, [], ◌∷◌, ◌++◌, length, Some, IfSome, Result, Ok, decimal}
+use Rattle.std.specs.Fmt.{signed_decimal}
 use Rattle.std.specs.List.{AllByRecursion, flat_map, join_with_byte}
+use Rattle.std.specs.Str.Lines.{lines}
+use Rattle.board_core.specs.declared.config.Config.{Config}
 use Rattle.board_core.specs.declared.event.Actor.{Actor}
 use Rattle.board_core.specs.declared.event.Actor.TheVariants.{Hart, Clock}
 use Rattle.board_core.specs.declared.event.Op.{Op}
 use Rattle.board_core.specs.declared.event.Op.TheVariants.{Ecall, Load, Store, Fetch, WriteSatp, WriteSie, Sfence, Tick}
-use Rattle.guest_script.specs.declared.schedule.Line.{Line}
-use Rattle.monitor.specs.Words.{board_words, hex, line_of, step_words}
-use Rattle.guest_script.specs.Grammar.{IsLine, IsNumber, IsStep, last_hart, last_number, most_bytes, numbers_of, Reads, Schedule}
+use Rattle.board_core.specs.declared.event.Refusal.{Refusal}
+use Rattle.board_core.specs.declared.event.Reply.{Reply}
+use Rattle.board_core.specs.declared.event.Reply.TheVariants.{Ret, Entry, Value}
+use Rattle.board_core.specs.History.{Event}
+use Rattle.guest_script.specs.declared.script.Line.{Line}
+use Rattle.guest_script.specs.Agreeing.{said_of}
+use Rattle.guest_script.specs.Grammar.{Content, Empty, IsStepLine, most_bytes, numbers_of, Reads, Trace}
+use Rattle.guest_script.specs.Words.{IsLine, IsNumber, IsSigned, last_above, last_below, last_hart, last_number}
+use Rattle.monitor.specs.Table.{table}
+use Rattle.monitor.specs.Words.{board_words, event_words, hex, line_of}
+
+-- ---- numbers
 
 -- a printed number spells that number
 abbrev pub NumberReadsBack : Type 0
 NumberReadsBack = (limit n : ℕ) → n ≤ limit → limit ≤ last_number → IsNumber limit (decimal n) n × IsNumber limit (hex n) n
+
+-- a signed number of 64 bits
+abbrev pub FitsError : ℤ → Type 0
+FitsError (pos n) = n ≤ last_above
+FitsError (negsuc n) = suc n ≤ last_below
+
+-- a printed signed number spells that number
+abbrev pub SignedReadsBack : Type 0
+SignedReadsBack = (e : ℤ) → FitsError e → IsSigned (signed_decimal e) e
+
+-- ---- a step and what it gave
 
 -- the clock, or a hart with a number that may be written
 abbrev pub FitsActor : Actor → Type 0
@@ -30,26 +53,68 @@ FitsOp (Sfence va asid) = IfSome va (λ n. n ≤ last_number) × IfSome asid (λ
 FitsOp (Tick n) = n ≤ last_number
 FitsOp op = Unit {0}
 
--- a step that can be written
-abbrev pub FitsLine : Line → Type 0
-FitsLine line = FitsActor line.actor × FitsOp line.op
+-- an answer whose numbers fit registers
+abbrev pub FitsAnswer : Result Reply Refusal → Type 0
+FitsAnswer (Ok (Ret answer)) = FitsError answer.error × (answer.value ≤ last_number)
+FitsAnswer (Ok (Entry addr hart opaque)) = (addr ≤ last_number) × (hart ≤ last_number) × (opaque ≤ last_number)
+FitsAnswer (Ok (Value value)) = value ≤ last_number
+FitsAnswer answer = Unit {0}
 
--- a step's printed words
-abbrev pub words_of : Line → List (List ℕ)
-words_of line = step_words line.actor line.op
+-- who did what, and what it gave
+pub record Answered : Type 0 where
+  pub actor : Actor
+  pub op : Op
+  pub answer : Result Reply Refusal
 
--- a step's printed words, with a blank between each two, are a line of these words, which are that step
-abbrev pub StepReadsBack : Type 0
-StepReadsBack = (line : Line) → FitsLine line → IsLine (join_with_byte 32 (words_of line)) (words_of line) × IsStep (words_of line) line
+-- what can be written
+pub record FitsAnswered (step : Answered) : Type 0 where
+  pub actor : FitsActor step.actor
+  pub op : FitsOp step.op
+  pub answer : FitsAnswer step.answer
 
--- the printed board line and step lines
-abbrev pub printed : Schedule → List ℕ
-printed s = line_of (board_words s.config) ++ flat_map (λ line. line_of (words_of line)) s.lines
+-- the words of a printed line
+abbrev pub words_of : Answered → List (List ℕ)
+words_of step = event_words step.actor step.op step.answer
 
--- a board of registers' numbers, and steps that can be written
-abbrev pub FitsSchedule : Schedule → Type 0
-FitsSchedule s = AllByRecursion (λ n. n ≤ last_number) (numbers_of s.config) × AllByRecursion FitsLine s.lines
+-- it as line n of a trace
+abbrev pub trace_line : (n : ℕ) → Answered → Line
+trace_line n step = record { number = n; actor = step.actor; op = step.op; said = Some (said_of step.answer) }
 
--- a printed schedule that isn't too long is read as that schedule
-abbrev pub ScheduleReadsBack : Type 0
-ScheduleReadsBack = (s : Schedule) → FitsSchedule s → length (printed s) ≤ most_bytes → Reads (printed s) s
+-- a printed line, with a blank between each two words, is a line of these words, which are that step and what it gave
+abbrev pub LineReadsBack : Type 0
+LineReadsBack = (n : ℕ) (step : Answered) → FitsAnswered step
+    → IsLine (join_with_byte 32 (words_of step)) (words_of step) × IsStepLine n true (words_of step) (trace_line n step)
+
+-- ---- a trace
+
+-- no line has words: each is empty, blank or a comment
+abbrev pub AreComments : List ℕ → Type 0
+AreComments text = AllByRecursion (λ line. IsLine line []) (lines text)
+
+-- a board's table is comments
+abbrev pub TableIsComments : Type 0
+TableIsComments = (c : Config) (past : List Event) → AreComments (table c past)
+
+-- the steps as a trace's lines from line n on
+abbrev pub trace_lines : (n : ℕ) → List Answered → List Line
+trace_lines n [] = []
+trace_lines n (step ∷ steps) = trace_line n step ∷ trace_lines (n + 1) steps
+
+-- what lines of a trace are: an empty script, if there are none
+abbrev pub trace_of : List Line → Content
+trace_of [] = Empty
+trace_of (line ∷ lines) = Trace (line ∷ lines)
+
+-- the board line, the lines, and comments
+abbrev pub printed : Config → List Answered → (comments : List ℕ) → List ℕ
+printed c steps comments = line_of (board_words c) ++ (flat_map (λ step. line_of (words_of step)) steps ++ comments)
+
+-- a board of registers' numbers
+abbrev pub FitsConfig : Config → Type 0
+FitsConfig c = AllByRecursion (λ n. n ≤ last_number) (numbers_of c)
+
+-- a printed trace that isn't too long is read as that trace, its lines numbered from 2
+abbrev pub TraceReadsBack : Type 0
+TraceReadsBack = (c : Config) (steps : List Answered) (comments : List ℕ) → FitsConfig c → AllByRecursion FitsAnswered steps → AreComments comments
+    → length (printed c steps comments) ≤ most_bytes
+    → Reads (printed c steps comments) (record { config = c; content = trace_of (trace_lines 2 steps) })

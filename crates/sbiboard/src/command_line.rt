@@ -7,35 +7,43 @@ use std::alloc::{AllocError, Global};
 pub enum Task<'a> {
     /// Replay the schedule in this file.
     Replay(&'a str),
+    /// Check the trace in this file.
+    Check(&'a str),
 }
 
 const REPLAY: &str = "replay";
+
+const CHECK: &str = "check";
 
 const FILE: &str = "FILE";
 
 const VERSION: &str = "0.1.0";
 
 const EXAMPLE: &str = "\
-Example:
+Examples:
   sbiboard replay examples/version.sched
+  sbiboard check examples/version.trace
 
 A schedule is one board line and then a line for each step:
   board 1 1 10 0 0x80000000 0x0   # harts, pages, limit, boot hart, address, opaque
   0 advance                       # hart 0 enters its start
   0 ecall 0x10 0                  # and asks for the specification's version
-docs/FORMATS.md describes schedules and what is printed.
+A trace says of each step what it gave, as a replay prints it:
+  0 advance -> entry 0x80000000 0 0x0
+docs/FORMATS.md describes scripts and what is printed.
 
-Exit status: 0 good, 1 bad schedule or board, 2 usage, 3 history full, 6 no memory,
-7 input or output failed.";
+Exit status: 0 good, 1 bad script or board, 2 usage, 3 history full, 5 a trace differs,
+6 no memory, 7 input or output failed.";
 
 const NUMBERS: &str = "\
-Faults of a schedule, of which the first is said as `line L: fault N` (line 0 is the whole):
+Faults of a script, of which the first is said as `line L: fault N` (line 0 is the whole):
   1  a byte that is neither printable ASCII nor a tab
   2  the first line with words isn't a board line, or no line has words
-  3  no operation has this name
+  3  no operation or reply has this name, or its block doesn't allow the operation
   4  not a number, or a number too large for its place
   5  too few or too many words
-  6  a line of another kind of script
+  6  a line of another kind of script, or an operation before any block
+  7  a second block with the same address, or a second block of the clock
   8  more than 16,777,216 bytes
 
 Refusals of a step, printed as `refused N`; a refused step changes nothing:
@@ -48,10 +56,11 @@ Refusals of a step, printed as `refused N`; a refused step changes nothing:
   5  the time would pass 2^64-2
 
 Exit status:
-  0  all was replayed, whatever was refused but for a full history
-  1  a fault of the schedule, or a bad board: nothing is printed
+  0  all was replayed, whatever was refused but for a full history; all lines agree
+  1  a fault of the script, another kind of script, or a bad board: nothing is printed
   2  a fault of usage
-  3  a line was refused since the history was full
+  3  a line of a replay was refused since the history was full
+  5  a line of a trace differs
   6  no memory
   7  the file could not be opened, or a read or a write failed";
 
@@ -60,10 +69,13 @@ Exit status:
 pub fn command<'a>(alloc: Global, words: &'a [String]) -> Result<Task<'a>, Error> {
     let mut sbiboard = described(alloc)?;
     let matches = sbiboard.try_get_matches_from_mut(words)?;
-    if let Some((_, replay)) = matches.subcommand()
-        && let Some(file) = replay.get_str(FILE)
+    if let Some((name, found)) = matches.subcommand()
+        && let Some(file) = found.get_str(FILE)
     {
-        return Ok(Task::Replay(file));
+        return Ok(match name {
+            CHECK => Task::Check(file),
+            _ => Task::Replay(file),
+        });
     }
     Err(sbiboard.error(
         ErrorKind::MissingSubcommand,
@@ -73,17 +85,25 @@ pub fn command<'a>(alloc: Global, words: &'a [String]) -> Result<Task<'a>, Error
 
 /// The command line, as clap reads it.
 fn described<'a>(alloc: Global) -> Result<Command<'a>, AllocError> {
-    let file = Arg::new(alloc, FILE)
-        .required(true)
-        .help("The file of the schedule");
-    let replay = Command::new(alloc, REPLAY)
-        .about("Replay a schedule on a new board, and print each reply and the board")
-        .after_help(NUMBERS)
-        .arg(file)?;
+    let replay = of_file(alloc, REPLAY, "The file of the schedule")?.about(
+        "Replay a schedule on a new board, and print each reply and the board",
+    );
+    let check = of_file(alloc, CHECK, "The file of the trace")?.about(
+        "Check a trace on a new board, and print the first reply that differs",
+    );
     Command::new(alloc, "sbiboard")
         .version(VERSION)
-        .about("Replay schedules on a proved SBI 1.0 firmware of a modelled RV64 board")
+        .about(
+            "Replay schedules and check traces on a proved SBI 1.0 firmware of a modelled RV64 board",
+        )
         .after_help(EXAMPLE)
         .subcommand_required(true)
-        .subcommand(replay)
+        .subcommand(replay)?
+        .subcommand(check)
+}
+
+/// A subcommand of one file.
+fn of_file<'a>(alloc: Global, name: &'a str, help: &'a str) -> Result<Command<'a>, AllocError> {
+    let file = Arg::new(alloc, FILE).required(true).help(help);
+    Command::new(alloc, name).after_help(NUMBERS).arg(file)
 }

@@ -1,8 +1,10 @@
-ghost use Rattle.sbiboard.specs.PrintedScripts.{NumberReadsBack, ScheduleReadsBack, StepReadsBack};
+ghost use Rattle.sbiboard.specs.PrintedScripts.{LineReadsBack, NumberReadsBack, SignedReadsBack, TableIsComments, TraceReadsBack};
 
-/// What is printed of a schedule is read back.
+/// What is printed of a trace is read back.
 pub fn read_back()
     ensures number { NumberReadsBack }
-    ensures step { StepReadsBack }
-    ensures schedule { ScheduleReadsBack }
+    ensures signed { SignedReadsBack }
+    ensures line { LineReadsBack }
+    ensures table { TableIsComments }
+    ensures trace { TraceReadsBack }
 {}

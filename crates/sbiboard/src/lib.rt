@@ -1,13 +1,17 @@
-//! The program's library: schedules in, printed boards out.
+//! The program's library: scripts in, printed boards and verdicts on traces out.
 #![tactic(auto)]
 
+mod checking;
 mod command_line;
 mod device;
 mod ending;
+mod fitting;
 mod laws;
 mod outcome;
 mod replaying;
+mod running;
 
+pub use checking::check;
 pub use command_line::{Task, command};
 pub use device::{Device, ReadFault, Source, read_whole};
 pub use ending::{Stop, ended};

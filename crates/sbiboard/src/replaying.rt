@@ -1,28 +1,28 @@
 ghost use Rattle.std.specs.Prelude.{◌≡◌, ◌^◌, ◌<◌, true, IfOk, IfSome, OnOk, take};
-ghost use Rattle.std.specs.Io.KnownBytes.{Appends};
-ghost use Rattle.sbiboard.specs.Replay.{CountsEnd, EndsFlushed, EndsRead, EndsScript, Writes, course_after, ended_as, is_history_full, lines_text, meets_full, opening_of, read_limit, text_of};
-ghost use Rattle.guest_script.specs.Grammar.{schedule};
 ghost use Rattle.monitor.specs.Sinks.{Puts};
+ghost use Rattle.sbiboard.specs.Fitting.{AllFit, AreRead};
+ghost use Rattle.sbiboard.specs.Replay.{EndsReplay, Replays, is_history_full, lines_text, meets_full, text_of};
+ghost use Rattle.sbiboard.specs.Running.{CountsEnd, EndsFlushed, EndsRead, Writes, course_after, opening_of, read_limit};
 ghost use Rattle.sbiboard.specs.Sources.{ReadsUpTo};
 
-use crate::device::{ReadFault, Source, read_whole};
+use crate::device::Source;
+use crate::fitting::{answer_fits, op_fits};
 use crate::outcome::Outcome;
-use board_core::{Board, BuildFault, Refusal, Reply};
-use guest_script::{Fault, Line, Script, ScriptFault, parse};
+use crate::running::{Job, run};
+use board_core::{Board, Config, Refusal, Reply};
+use guest_script::Lines;
 use monitor::{Failed, Sink, print, print_head, print_line};
 use std::alloc::Global;
 
-/// One byte more than a script may have.
-const READ_LIMIT: usize = 16_777_217;
-
 /// Reads a schedule to its end, makes its board, and writes the board line, each line with its reply, and
-/// the board's table. Nothing is written before the schedule is read and the board made; at most 16,777,217 bytes
-/// are read, and after a failed read the writer is as it was.
+/// the board's table. Where this has at most 16,777,216 bytes, it is a trace with which `check` agrees. Nothing is
+/// written before the schedule is read and the board made; at most 16,777,217 bytes are read, and after a failed read
+/// the writer is as it was. An empty script is a schedule without lines; a program or a trace is of the wrong kind.
 pub fn replay<R: Source, W: Sink>(alloc: Global, reader: &mut R, writer: &mut W) -> Outcome
     requires reader_counts { R.failures reader.old < 2 ^ 63 }
     requires writer_counts { W.failures writer.old < 2 ^ 63 }
     ensures writes { IfSome (R.left reader.old) (λ bytes.
-        Writes (take read_limit bytes) result (W.written writer.old) (W.written writer.new)) }
+        Writes (EndsReplay (take read_limit bytes)) result (W.written writer.old) (W.written writer.new)) }
     ensures to_the_end { EndsRead result (R.left reader.new) }
     ensures at_most { ReadsUpTo read_limit (R.left reader.old) (R.left reader.new) }
     ensures untouched { R.failures reader.old < R.failures reader.new → writer.new ≡ writer.old }
@@ -30,53 +30,25 @@ pub fn replay<R: Source, W: Sink>(alloc: Global, reader: &mut R, writer: &mut W)
     ensures failed { CountsEnd result (R.failures reader.old) (R.failures reader.new)
         (W.failures writer.old) (W.failures writer.new) }
 {
-    let bytes = match read_whole(alloc, reader, READ_LIMIT) {
-        Ok(bytes) => bytes,
-        Err(ReadFault::Failed) => return Outcome::Io,
-        Err(ReadFault::NoMemory) => return Outcome::NoMemory,
-    };
-    replay_bytes(alloc, &bytes, writer)
+    run(Job::Replay, alloc, reader, writer)
 }
 
-fn replay_bytes<W: Sink>(alloc: Global, bytes: &[u8], writer: &mut W) -> Outcome
-    requires { W.failures writer.old < 2 ^ 63 }
-    ensures writes { Writes bytes.now result (W.written writer.old) (W.written writer.new) }
+/// Replays the lines on a new board.
+#[tactic(auto, using(crate::proofs::Retraced::is_replay))]
+pub fn replay_lines<W: Sink>(
+    config: &Config,
+    lines: &Lines,
+    board: &mut Board,
+    writer: &mut W,
+) -> Outcome
+    requires at_opening { board.old ≡ opening_of config.now }
+    requires read { AreRead config.now lines.now }
+    requires counts { W.failures writer.old < 2 ^ 63 }
+    ensures writes { Writes (Replays config.now lines.now) result (W.written writer.old) (W.written writer.new) }
     ensures flushed { EndsFlushed result (W.is_flushed writer.new) }
     ensures failed { CountsEnd result 0 0 (W.failures writer.old) (W.failures writer.new) }
 {
-    let script = match parse(alloc, bytes) {
-        Ok(script) => script,
-        Err(fault) => return ended(fault),
-    };
-    match Board::new(alloc, &script.config) {
-        Ok(mut board) => replay_script(&script, &mut board, writer),
-        Err(BuildFault::BadConfig) => Outcome::BadBoard,
-        Err(BuildFault::NoMemory) => Outcome::NoMemory,
-    }
-}
-
-/// How a replay ends that found no schedule.
-fn ended(fault: ScriptFault) -> Outcome
-    ensures { result ≡ ended_as fault.line fault.fault }
-{
-    match fault.fault {
-        Fault::NoMemory => Outcome::NoMemory,
-        found => Outcome::Script {
-            line: fault.line,
-            number: found.number(),
-        },
-    }
-}
-
-fn replay_script<W: Sink>(script: &Script, board: &mut Board, writer: &mut W) -> Outcome
-    requires at_opening { board.old ≡ opening_of script.now.config }
-    requires counts { W.failures writer.old < 2 ^ 63 }
-    ensures end { EndsScript result (meets_full (opening_of script.now.config) script.now.lines.items)
-        (Appends (W.written writer.old) (W.written writer.new) (text_of (schedule script.now)))
-        (W.failures writer.old) (W.failures writer.new) }
-    ensures flushed { EndsFlushed result (W.is_flushed writer.new) }
-{
-    match print_script(script, board, writer) {
+    match print_replay(config, lines, board, writer) {
         Ok(false) => Outcome::Good,
         Ok(true) => Outcome::HistoryFull,
         Err(Failed) => Outcome::Io,
@@ -84,30 +56,39 @@ fn replay_script<W: Sink>(script: &Script, board: &mut Board, writer: &mut W) ->
 }
 
 /// Writes all that a schedule's replay prints, and answers whether a line met a full history.
-fn print_script<W: Sink>(script: &Script, board: &mut Board, writer: &mut W) -> Result<bool, Failed>
-    requires at_opening { board.old ≡ opening_of script.now.config }
+fn print_replay<W: Sink>(
+    config: &Config,
+    lines: &Lines,
+    board: &mut Board,
+    writer: &mut W,
+) -> Result<bool, Failed>
+    requires at_opening { board.old ≡ opening_of config.now }
     requires counts { W.failures writer.old < 2 ^ 63 }
-    ensures text { Puts W.written W.failures writer.old writer.new result (text_of (schedule script.now)) }
-    ensures full { IfOk result (λ full. full ≡ meets_full (opening_of script.now.config) script.now.lines.items) }
+    ensures text { Puts W.written W.failures writer.old writer.new result (text_of config.now lines.now) }
+    ensures full { IfOk result (λ full. full ≡ meets_full (opening_of config.now) lines.now) }
+    ensures fits { IfOk result (λ _. AllFit (opening_of config.now) lines.now) }
     ensures flushed { OnOk result (W.is_flushed writer.new ≡ true) }
 {
-    print_head(&script.config, writer)?;
-    let met_full = print_lines(&script.lines, board, writer)?;
+    print_head(config, writer)?;
+    let met_full = print_lines(lines, board, writer)?;
     print(board, writer)?;
     writer.flush()?;
     Ok(met_full)
 }
 
 /// Steps the board through the lines and writes each with its reply.
-fn print_lines<W: Sink>(lines: &[Line], board: &mut Board, writer: &mut W) -> Result<bool, Failed>
+fn print_lines<W: Sink>(lines: &Lines, board: &mut Board, writer: &mut W) -> Result<bool, Failed>
     requires { W.failures writer.old < 2 ^ 63 }
     ensures text { Puts W.written W.failures writer.old writer.new result (lines_text board.old lines.now) }
     ensures full { IfOk result (λ full. full ≡ meets_full board.old lines.now) }
+    ensures fits { IfOk result (λ _. AllFit board.old lines.now) }
     ensures course { IfOk result (λ _. board.new ≡ course_after board.old lines.now) }
 {
     let mut met_full = false;
-    for line in lines {
+    for line in lines.iter() {
         let answer = board.step(line.actor, line.op);
+        op_fits(line.op);
+        answer_fits(answer);
         met_full |= is_history_full(&answer);
         print_line(line.actor, line.op, answer, writer)?;
     }

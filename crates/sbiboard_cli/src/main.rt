@@ -1,8 +1,8 @@
-//! The program: `sbiboard replay FILE`. It opens the file and standard output, lends them to the library, and
-//! ends with the status that the library answers.
+//! The program: `sbiboard replay FILE` and `sbiboard check FILE`. It opens the file and standard output, lends them to
+//! the library, and ends with the status that the library answers.
 #![tactic(auto)]
 
-use sbiboard::{Device, Outcome, Stop, Task, command, ended, replay};
+use sbiboard::{Device, Outcome, Stop, Task, check, command, ended, replay};
 use std::io::BufWriter;
 use std::process::ExitCode;
 use std::rt::{Env, Files};
@@ -16,13 +16,13 @@ fn main(rt: HostRuntime) -> ExitCode {
 
 fn run<R: AllocGlobal + Env + Files + Print>(rt: &R) -> Result<Outcome, Stop> {
     let words = env::args(rt)?.collect::<Vec<String>>(rt.alloc())?;
-    match command(rt.alloc(), words.as_slice())? {
-        Task::Replay(file) => replay_file(rt, file),
-    }
-}
-
-fn replay_file<R: AllocGlobal + Files + Print>(rt: &R, file: &str) -> Result<Outcome, Stop> {
+    let task = command(rt.alloc(), words.as_slice())?;
+    let (Task::Replay(file) | Task::Check(file)) = task;
     let mut reader = Device::new(fs::open(rt, file)?);
     let output = BufWriter::with_capacity(rt.alloc(), BUFFER, io::writer(rt))?;
-    Ok(replay(rt.alloc(), &mut reader, &mut Device::new(output)))
+    let mut writer = Device::new(output);
+    Ok(match task {
+        Task::Replay(_) => replay(rt.alloc(), &mut reader, &mut writer),
+        Task::Check(_) => check(rt.alloc(), &mut reader, &mut writer),
+    })
 }

@@ -8,7 +8,7 @@ returns-then-len-places c =
 
 pub loop-word-preserved : goal.loop-word-preserved
 loop-word-preserved c =
-    rw (c.push.ensures.items, c.is_argument-all_good.ensures, c.number-value.ensures)
+    rw (c.push.ensures.items, c.is_argument-all_good.ensures, c.number-value.ensures.value)
     (AreRead-more _ _ _ _ _ _ _ _ _ c.loop-word.invariant c.in-Some.ensures.words (omega arith))
 
 pub returns-then-len-places-2 : goal.returns-then-len-places-2

@@ -1,6 +1,6 @@
 use Rattle.std.proofs.Common.{◌≡◌, take}
 use Rattle.std.specs.List.{list_all}
-use Rattle.guest_script.specs.Grammar.{is_allowed}
+use Rattle.guest_script.specs.Words.{is_allowed}
 use Rattle.guest_script.proofs.text.is_clean.Given as goal
 
 abbrev pub invariant-loop-byte : goal.invariant-loop-byte

@@ -1,5 +1,5 @@
 use Rattle.std.proofs.Common.{◌≡◌, length}
-use Rattle.guest_script.specs.FirstFault.{has_arrow, words_in}
+use Rattle.guest_script.specs.Values.{has_arrow, words_in}
 use Rattle.guest_script.proofs.words.has_arrow.Given as goal
 
 abbrev pub invariant-loop-word : goal.invariant-loop-word

@@ -1,5 +1,5 @@
 use Rattle.std.proofs.Common.{◌≡◌, drop}
-use Rattle.guest_script.specs.FirstFault.{words_in}
+use Rattle.guest_script.specs.Values.{words_in}
 use Rattle.guest_script.proofs.words.skip_gap.Given as goal
 
 abbrev pub invariant-loop-i : goal.invariant-loop-i

@@ -1,11 +1,18 @@
-use Rattle.sbiboard.proofs.ReadBack.{number_read_back, step_read_back, schedule_read_back}
+use Rattle.sbiboard.proofs.Comments.{table_is_comments}
+use Rattle.sbiboard.proofs.ReadBack.{line_read_back, number_read_back, signed_read_back, trace_read_back}
 use Rattle.sbiboard.proofs.laws.read_back.Goals as goal
 
 pub returns-clause-number : goal.returns-clause-number
 returns-clause-number c = number_read_back
 
-pub returns-clause-step : goal.returns-clause-step
-returns-clause-step c = step_read_back
+pub returns-clause-signed : goal.returns-clause-signed
+returns-clause-signed c = signed_read_back
 
-pub returns-clause-schedule : goal.returns-clause-schedule
-returns-clause-schedule c = schedule_read_back
+pub returns-clause-line : goal.returns-clause-line
+returns-clause-line c = line_read_back
+
+pub returns-clause-table : goal.returns-clause-table
+returns-clause-table c = table_is_comments
+
+pub returns-clause-trace : goal.returns-clause-trace
+returns-clause-trace c = trace_read_back

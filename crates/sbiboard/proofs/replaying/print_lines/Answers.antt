@@ -1,18 +1,24 @@
 use Rattle.std.proofs.Common.{◌∙◌, ap}
-use Rattle.sbiboard.specs.Replay.{is_history_full}
-use Rattle.sbiboard.proofs.Replayed.{drop_line, has_written-more, lines_text-more, replaying-more}
+use Rattle.sbiboard.specs.Replay.{is_history_full, lines_text}
+use Rattle.sbiboard.proofs.ReadLines.{all_fit-more}
+use Rattle.sbiboard.proofs.Replayed.{has_written-more, lines_text-more, replaying-more}
 use Rattle.sbiboard.proofs.replaying.print_lines.Goals as goal
 
 pub loop-line-preserved : goal.loop-line-preserved
 loop-line-preserved g c =
     let done = c.loop-line.invariant in
-    let are = drop_line c.args.lines.now c.loop-line.line-index _ c.loop-line-test.true in
+    let are = c.in-Some.ensures.steps in
     let printed = c.in_ok-print_line.ensures in
     record {
-      replaying = replaying-more c.loop-line.board c.step-answer.new.self _ _ _ are c.step-answer.ensures.after
+      can_next = tt;
+      is_finite = tt;
+      replaying = replaying-more c.loop-line.board c.step-answer.new.self c.loop-line.line-iterator c.next.new.self c.in-Some.line are c.step-answer.ensures.after
           c.args.board.now c.args.lines.now c.loop-line.met_full c.is_history_full-met_full.result (c.is_history_full-met_full.ensures ∙ ap is_history_full c.step-answer.ensures.answer) done.replaying;
-      text = has_written-more _ _ _ _ _ _ _
-          (lines_text-more c.loop-line.board c.step-answer.new.self _ _ _ are c.step-answer.ensures.after
+      text = has_written-more (g.W.Sink.written c.args.writer.now) (g.W.Sink.written c.loop-line.writer) (g.W.Sink.written c.print_line.new.sink)
+          (lines_text c.loop-line.board c.loop-line.line-iterator) _ (lines_text c.step-answer.new.self c.next.new.self) (lines_text c.args.board.now c.args.lines.now)
+          (lines_text-more c.loop-line.board c.step-answer.new.self c.loop-line.line-iterator c.next.new.self c.in-Some.line are c.step-answer.ensures.after
           c.step-answer.result c.step-answer.ensures.answer) done.text printed.0;
+      fits = λ later. done.fits (all_fit-more c.loop-line.board c.step-answer.new.self c.loop-line.line-iterator c.next.new.self c.in-Some.line are
+          c.step-answer.ensures.after c.step-answer.result c.step-answer.ensures.answer c.op_fits.ensures c.answer_fits.ensures later);
       failures = printed.1 ∙ done.failures;
     }

@@ -1,0 +1,174 @@
+-- A line that is kept is the line.
+use Rattle.std.proofs.Common.{◌≡◌, ℕ, zero, suc, ◌+◌, ◌-◌, ◌≤◌, ◌&&◌, eqb, List, [], ◌∷◌, ◌++◌, take, drop, length, get_or, Option, Some, None, refl, sym, ap, ◌∙◌, inl, inr, arith}
+use Rattle.std.proofs.lemmas.Bool.{cases_Bool, cases_lt, and_parts, eqb-true}
+use Rattle.std.proofs.lemmas.List.{append_assoc, drop-append-le, get_or-take, length-append, length-drop, length-take, map-append, take-append-le, take_all}
+use Rattle.std.proofs.lemmas.List.FromFn.{fill_by_all}
+use Rattle.std.proofs.Math.Seq.{drop-append_seam, take-append_seam}
+use Rattle.sbi_abi.specs.declared.call.Regs.{Regs}
+use Rattle.board_core.specs.declared.event.Actor.{Actor}
+use Rattle.board_core.specs.declared.event.Actor.TheVariants.{Hart, Clock}
+use Rattle.board_core.specs.declared.event.Op.TheVariants as ops
+use Rattle.guest_script.specs.declared.kept.Kept.{Kept}
+use Rattle.guest_script.specs.declared.op_shape.OpShape.{OpShape}
+use Rattle.guest_script.specs.declared.op_shape.OpShape.TheVariants.{Ecall}
+use Rattle.guest_script.specs.declared.said.Said.{Said}
+use Rattle.guest_script.specs.declared.said.Said.TheVariants as says
+use Rattle.guest_script.specs.declared.said_shape.SaidShape.{SaidShape}
+use Rattle.guest_script.specs.declared.script.Line.{Line}
+use Rattle.guest_script.specs.KeptLines.{AreWithin, IsWithin, line_of, lines_of, part}
+use Rattle.guest_script.specs.Packing.{actor_made, actor_number, FitsKept, number_from, op_made, op_numbers, said_count, said_made, said_numbers, said_shape_of, shape_of, used}
+
+-- ---- a part of longer lists
+
+pub part_more : (numbers more : List ℕ) (from count : ℕ) → from + count ≤ length numbers → part (numbers ++ more) from count ≡ part numbers from count
+part_more numbers more from count fits =
+    ap (take count) (drop-append-le from numbers more (omega arith))
+    ∙ take-append-le count (drop from numbers) more (omega (arith, length-drop from numbers))
+
+line_more : (numbers more : List ℕ) (kept : Kept) → IsWithin (length numbers) kept → line_of (numbers ++ more) kept ≡ line_of numbers kept
+line_more numbers more kept within =
+    rw (part_more numbers more kept.from kept.op_count (omega arith), part_more numbers more (kept.from + kept.op_count) (said_count kept.said) (omega arith)) refl
+
+pub lines_more : (numbers more : List ℕ) (kept : List Kept) → AreWithin (length numbers) kept → lines_of (numbers ++ more) kept ≡ lines_of numbers kept
+lines_more numbers more [] within = refl
+lines_more numbers more (first ∷ kept) within = rw (line_more numbers more first within.0, lines_more numbers more kept within.1) refl
+
+pub within_more : (n m : ℕ) (kept : List Kept) → n ≤ m → AreWithin n kept → AreWithin m kept
+within_more n m [] le within = tt
+within_more n m (first ∷ kept) le within = (omega (arith, within.0), within_more n m kept le within.1)
+
+-- ---- a line more
+
+part_first : (numbers ns more : List ℕ) → part (numbers ++ (ns ++ more)) (length numbers) (length ns) ≡ ns
+part_first numbers ns more = ap (take (length ns)) (drop-append_seam numbers (ns ++ more)) ∙ take-append_seam ns more
+
+part_second : (numbers ns more : List ℕ) → part (numbers ++ (ns ++ more)) (length numbers + length ns) (length more) ≡ more
+part_second numbers ns more =
+    ap (λ (n : ℕ). take (length more) (drop n (numbers ++ (ns ++ more)))) (sym (length-append numbers ns))
+    ∙ ap (λ (xs : List ℕ). take (length more) (drop (length (numbers ++ ns)) xs)) (sym (append_assoc numbers ns more))
+    ∙ ap (take (length more)) (drop-append_seam (numbers ++ ns) more)
+    ∙ take_all (length more) more (omega arith)
+
+actor_kept : (actor : Actor) → FitsKept actor → actor_made (actor_number actor) ≡ actor
+actor_kept Clock fits = refl
+actor_kept (Hart h) fits = elim (cases_Bool (eqb h 128)) [
+  | inl same ↦ absurd (omega (arith, eqb-true h 128 same, fits))
+  | inr other ↦ rw other refl
+]
+
+pub length_said : (said : Option Said) → length (said_numbers said) ≡ said_count (said_shape_of said)
+length_said None = refl
+length_said (Some (says.Ret error value)) = refl
+length_said (Some says.Waiting) = refl
+length_said (Some says.Gone) = refl
+length_said (Some (says.Entry addr hart opaque)) = refl
+length_said (Some (says.Value value)) = refl
+length_said (Some (says.Fault cause)) = refl
+length_said (Some says.Served) = refl
+length_said (Some (says.Moved state)) = refl
+length_said (Some says.Done) = refl
+length_said (Some (says.Refused n)) = refl
+
+-- what is kept of a line behind so many numbers
+abbrev pub kept_as : (from : ℕ) → Line → Kept
+kept_as from line = record { number = line.number; from = from; actor = actor_number line.actor; op = shape_of line.op; op_count = length (op_numbers line.op); said = said_shape_of line.said }
+
+abbrev pub numbers_of : Line → List ℕ
+numbers_of line = op_numbers line.op ++ said_numbers line.said
+
+module _ (numbers : List ℕ) (line : Line) where
+  pub kept_within : IsWithin (length (numbers ++ numbers_of line)) (kept_as (length numbers) line)
+  kept_within = omega (arith, length-append numbers (numbers_of line), length-append (op_numbers line.op) (said_numbers line.said), length_said line.said)
+
+  line_kept : FitsKept line.actor → op_made (shape_of line.op) (op_numbers line.op) ≡ line.op → said_made (said_shape_of line.said) (said_numbers line.said) ≡ line.said
+      → line_of (numbers ++ numbers_of line) (kept_as (length numbers) line) ≡ line
+  line_kept fits op said =
+      rw (
+        part_first numbers (op_numbers line.op) (said_numbers line.said),
+        ← length_said line.said,
+        part_second numbers (op_numbers line.op) (said_numbers line.said),
+        actor_kept line.actor fits,
+        op,
+        said,
+      ) refl
+
+  pub lines_pushed : (kept : List Kept) → AreWithin (length numbers) kept → FitsKept line.actor → op_made (shape_of line.op) (op_numbers line.op) ≡ line.op → said_made (said_shape_of line.said) (said_numbers line.said) ≡ line.said
+      → lines_of (numbers ++ numbers_of line) (kept ++ kept_as (length numbers) line ∷ []) ≡ lines_of numbers kept ++ line ∷ []
+  lines_pushed kept within fits op said =
+      map-append (line_of (numbers ++ numbers_of line)) kept (kept_as (length numbers) line ∷ [])
+      ∙ rw (lines_more numbers (numbers_of line) kept within, line_kept fits op said) refl
+
+pub within_both : (n : ℕ) (kept more : List Kept) → AreWithin n kept → AreWithin n more → AreWithin n (kept ++ more)
+within_both n [] more within later = later
+within_both n (first ∷ kept) more within later = (within.0, within_both n kept more within.1 later)
+
+-- ---- calls
+
+zeros : (ns : List ℕ) (i : ℕ) → used ns ≤ i → get_or ns i 0 ≡ 0
+zeros [] i past = refl
+zeros (n ∷ ns) i past = elim (cases_Bool (eqb (used ns) 0 && eqb n 0)) [
+  | inl none ↦
+      let both = and_parts (eqb (used ns) 0) (eqb n 0) none in
+      all_zeros n ns i (eqb-true n 0 both.1) (λ j. zeros ns j (omega (arith, eqb-true (used ns) 0 both.0)))
+  | inr some ↦ later_zeros n ns i (rw some at past) (λ j h. zeros ns j h)
+] where
+  all_zeros : (n : ℕ) (ns : List ℕ) (i : ℕ) → n ≡ 0 → ((j : ℕ) → get_or ns j 0 ≡ 0) → get_or (n ∷ ns) i 0 ≡ 0
+  all_zeros n ns zero first rest = first
+  all_zeros n ns (suc i) first rest = rest i
+
+  later_zeros : (n : ℕ) (ns : List ℕ) (i : ℕ) → suc (used ns) ≤ i → ((j : ℕ) → used ns ≤ j → get_or ns j 0 ≡ 0) → get_or (n ∷ ns) i 0 ≡ 0
+  later_zeros n ns zero past rest = absurd (omega (arith, past))
+  later_zeros n ns (suc i) past rest = rest i (omega (arith, past))
+
+past_end : (ns : List ℕ) (i : ℕ) → length ns ≤ i → get_or ns i 0 ≡ 0
+past_end [] i past = refl
+past_end (n ∷ ns) zero past = absurd (omega (arith, past))
+past_end (n ∷ ns) (suc i) past = past_end ns i (omega (arith, past))
+
+taken : (ns : List ℕ) (i : ℕ) → get_or (take (used ns) ns) i 0 ≡ get_or ns i 0
+taken ns i = elim (cases_lt i (used ns)) [
+  | inl within ↦ get_or-take (used ns) ns i 0 within
+  | inr past ↦ past_end (take (used ns) ns) i (omega (arith, past, length-take (used ns) ns)) ∙ sym (zeros ns i past)
+]
+
+pub call_made : (regs : Regs) → length regs.a ≡ 6 → op_made Ecall (op_numbers (ops.Ecall regs)) ≡ ops.Ecall regs
+call_made regs six =
+    let a : number_from (take (used regs.a) regs.a) 0 ∷ number_from (take (used regs.a) regs.a) 1 ∷ number_from (take (used regs.a) regs.a) 2 ∷ number_from (take (used regs.a) regs.a) 3 ∷ number_from (take (used regs.a) regs.a) 4 ∷ number_from (take (used regs.a) regs.a) 5 ∷ [] ≡ regs.a =
+    sym (fill_by_all (λ k. number_from (take (used regs.a) regs.a) k) regs.a 6 0 six (λ k h. sym (taken regs.a k))) in
+    ap (λ (xs : List ℕ). ops.Ecall (record { eid = regs.eid; fid = regs.fid; a = xs })) a
+
+-- a line that is put behind others
+pub record IsPut (old new : List ℕ) (line : Line) (kept : Kept) : Type 0 where
+  pub numbers : new ≡ old ++ numbers_of line
+  pub is : kept ≡ kept_as (length old) line
+  pub fits : FitsKept line.actor
+  pub op : op_made (shape_of line.op) (op_numbers line.op) ≡ line.op
+  pub said : said_made (said_shape_of line.said) (said_numbers line.said) ≡ line.said
+
+put_is : (old middle new : List ℕ) (line : Line) (kept : Kept) → middle ≡ old ++ op_numbers line.op → new ≡ middle ++ said_numbers line.said → (new ≡ old ++ numbers_of line) × (length middle ≡ length old + length (op_numbers line.op))
+put_is old middle new line kept first second =
+    (second ∙ rw first (append_assoc old (op_numbers line.op) (said_numbers line.said)), ap length first ∙ length-append old (op_numbers line.op))
+
+pub put_from : (old middle new : List ℕ) (line : Line) (op : OpShape) (said : SaidShape) (actor from count : ℕ) → middle ≡ old ++ op_numbers line.op → new ≡ middle ++ said_numbers line.said
+    → op ≡ shape_of line.op → said ≡ said_shape_of line.said → actor ≡ actor_number line.actor → from ≡ length old → count ≡ length middle - length old
+    → FitsKept line.actor → op_made op (op_numbers line.op) ≡ line.op → said_made said (said_numbers line.said) ≡ line.said
+    → IsPut old new line (record { number = line.number; from = from; actor = actor; op = op; op_count = count; said = said })
+put_from old middle new line op said actor from count first second is_op is_said is_actor is_from is_count fits op_is said_is =
+    let put = put_is old middle new line (kept_as 0 line) first second in
+    let counted : count ≡ length (op_numbers line.op) = omega (arith, is_count, put.1) in
+    record {
+      numbers = put.0;
+      is = rw (is_op, is_said, is_actor, is_from, counted) refl;
+      fits = fits;
+      op = rw is_op at op_is;
+      said = rw is_said at said_is;
+    }
+
+module _ {old new : List ℕ} {line : Line} {first : Kept} (put : IsPut old new line first) (kept : List Kept) (within : AreWithin (length old) kept) where
+  pub put_lines : lines_of new (kept ++ first ∷ []) ≡ lines_of old kept ++ line ∷ []
+  put_lines = rw (put.numbers, put.is) (lines_pushed old line kept within put.fits put.op put.said)
+
+  pub put_within : AreWithin (length new) (kept ++ first ∷ [])
+  put_within =
+      rw (put.numbers, put.is)
+      (within_both (length (old ++ numbers_of line)) kept (kept_as (length old) line ∷ []) (within_more (length old) _ kept (omega (arith, length-append old (numbers_of line))) within) (kept_within old line, tt))

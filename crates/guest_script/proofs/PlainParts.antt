@@ -1,0 +1,196 @@
+-- The parts of a line that is read as it is printed.
+use Rattle.std.proofs.Common.{◌≡◌, ℕ, ℤ, pos, neg_ℤ, zero, suc, ◌+◌, ◌-◌, ◌*◌, ◌<◌, ◌≤◌, ◌^◌, Bool, true, false, cond, ltb, ◌&&◌, List, [], ◌∷◌, ◌++◌, length, get_or, take, drop, map, codes, Option, Some, None, refl, sym, ap, ◌∙◌, inl, inr, arith}
+use Rattle.std.specs.Char.{digit_value, is_digit}
+use Rattle.std.specs.Str.{bytes_eq}
+use Rattle.std.specs.Str.Parse.{digits_value, IsNumeral}
+use Rattle.std.proofs.lemmas.Bool.{le-leb, ltb-true}
+use Rattle.std.proofs.lemmas.List.{append_assoc, append-nil, length-drop, length-map, map-append, take-append-drop, take_all}
+use Rattle.std.proofs.Math.Seq.{take-suc}
+use Rattle.std.proofs.lemmas.Slice.Eq.{bytes_eq-Decides}
+use Rattle.board_core.specs.declared.event.Actor.{Actor}
+use Rattle.board_core.specs.declared.event.Op.{Op}
+use Rattle.guest_script.specs.declared.places.Places.{Places}
+use Rattle.guest_script.specs.declared.said.Said.{Said}
+use Rattle.guest_script.specs.declared.said.Said.TheVariants.{Ret}
+use Rattle.guest_script.specs.Words.{last_above, last_below, AreNumbers, last_number}
+use Rattle.guest_script.specs.Forms.{AreArguments, Form, IsNamed}
+use Rattle.guest_script.specs.Reading.{IsFormAt, made_from}
+use Rattle.guest_script.specs.Values.{is_numeral}
+use Rattle.guest_script.specs.Scanning.{digit_after, digits_after, and_digits, numeral_of}
+use Rattle.guest_script.specs.PlainLines.{behind, BeginsActor, BeginsDigits, BeginsLine, BeginsNumber, BeginsNumbers, BeginsOp, BeginsSaid, BeginsSigned}
+use Rattle.guest_script.proofs.LineWords.{length_numbers}
+use Rattle.guest_script.proofs.Numerals.{at_most, numeral_at_most}
+use Rattle.guest_script.proofs.Spelling.{numeral_tested}
+
+pub stripped : (bytes front rest : List ℕ) → bytes_eq (take (length front) bytes) front ≡ true → rest ≡ drop (length front) bytes → bytes ≡ front ++ rest
+stripped bytes front rest same is =
+    sym (take-append-drop (length front) bytes) ∙ rw is (ap (λ (xs : List ℕ). xs ++ drop (length front) bytes) ((bytes_eq-Decides (take (length front) bytes) front).0 same))
+
+-- ---- digits
+
+is_kept : (limit : ℕ) (o : Option ℕ) (b : Bool) (x n : ℕ) → o ≡ Some n → n ≤ limit → at_most limit o ≡ cond b (Some x) None → (b ≡ true) × (n ≡ x)
+is_kept limit o true x n some le e = (refl, let f = rw (some, le-leb n limit le) at e in cc)
+is_kept limit o false x n some le e = absurd (let f = rw (some, le-leb n limit le) at e in cc)
+
+digits_filled : (i : ℕ) (bytes : List ℕ) → 0 < i → i ≤ length bytes → (b : ℕ) × (ds : List ℕ) × (take i bytes ≡ b ∷ ds)
+digits_filled zero bytes some within = absurd (omega (arith, some))
+digits_filled (suc i) [] some within = absurd (omega (arith, within))
+digits_filled (suc i) (b ∷ bytes) some within = (b, take i bytes, refl)
+
+numeral_read : (radix : ℕ) (ds : List ℕ) (b n : ℕ) (rest : List ℕ) → 1 ≤ radix → n < 2 ^ 64 → ds ≡ b ∷ rest → digits_after radix 0 ds ≡ Some n → IsNumeral radix ds × (n ≡ digits_value radix ds)
+numeral_read radix ds b n rest r small at read =
+    let kept = is_kept last_number (numeral_of radix (b ∷ rest)) (is_numeral radix last_number (b ∷ rest)) (digits_value radix (b ∷ rest)) n (rw at at read) (omega arith) (numeral_at_most radix last_number (b ∷ rest) r (omega arith)) in
+    let tested = numeral_tested radix last_number (b ∷ rest) kept.0 in
+    rw at (tested.0, kept.1)
+
+pub digits_begin : (radix : ℕ) (bytes : List ℕ) (i n : ℕ) (rest : List ℕ) → 1 ≤ radix → n < 2 ^ 64 → 0 < i → i ≤ length bytes → rest ≡ drop i bytes → digits_after radix 0 (take i bytes) ≡ Some n → BeginsDigits radix bytes n rest
+digits_begin radix bytes i n rest r small some within is read =
+    let filled = digits_filled i bytes some within in
+    let numeral = numeral_read radix (take i bytes) filled.0 n filled.1 r small filled.2 read in
+    (take i bytes, rw is (sym (take-append-drop i bytes)), numeral.0, numeral.1)
+
+after_all : (radix m : ℕ) (xs ys : List ℕ) → digits_after radix m (xs ++ ys) ≡ and_digits (λ n. digits_after radix n ys) (digits_after radix m xs)
+after_all radix m [] ys = refl
+after_all radix m (x ∷ xs) ys = after_one radix xs ys (digit_after radix m x) (λ n. after_all radix n xs ys) where
+  after_one : (radix : ℕ) (xs ys : List ℕ) (o : Option ℕ) → ((n : ℕ) → digits_after radix n (xs ++ ys) ≡ and_digits (λ k. digits_after radix k ys) (digits_after radix n xs))
+      → and_digits (λ n. digits_after radix n (xs ++ ys)) o ≡ and_digits (λ k. digits_after radix k ys) (and_digits (λ n. digits_after radix n xs) o)
+  after_one radix xs ys None each = refl
+  after_one radix xs ys (Some n) each = each n
+
+one_digit : (o : Option ℕ) → and_digits (λ n. Some n) o ≡ o
+one_digit None = refl
+one_digit (Some n) = refl
+
+pub digits_more : (radix : ℕ) (bytes : List ℕ) (i n more : ℕ) → i < length bytes → digits_after radix 0 (take i bytes) ≡ Some n → digit_after radix n (get_or bytes i 0) ≡ Some more → digits_after radix 0 (take (i + 1) bytes) ≡ Some more
+digits_more radix bytes i n more within read digit =
+    let next : i + 1 ≡ suc i = omega arith in
+    ap (λ (k : ℕ). digits_after radix 0 (take k bytes)) next
+    ∙ ap (digits_after radix 0) (take-suc bytes i 0 within)
+    ∙ after_all radix 0 (take i bytes) (get_or bytes i 0 ∷ [])
+    ∙ rw read (one_digit (digit_after radix n (get_or bytes i 0)) ∙ digit)
+
+pub rest_of : (bytes : List ℕ) (i : ℕ) → i ≤ length bytes → take (length bytes - i) (drop i bytes) ≡ drop i bytes
+rest_of bytes i within = take_all (length bytes - i) (drop i bytes) (omega (arith, length-drop i bytes))
+
+pub digit_small : (radix n b more : ℕ) → digit_after radix n b ≡ Some more → more < 2 ^ 64
+unfolding digit_after
+digit_small radix n b more read = small (is_digit b radix) (ltb (n * radix + digit_value b) (2 ^ 64)) refl read where
+  small : (digit fits : Bool) → fits ≡ ltb (n * radix + digit_value b) (2 ^ 64) → cond (digit && fits) (Some (n * radix + digit_value b)) None ≡ Some more → more < 2 ^ 64
+  small true true fits read = let same : n * radix + digit_value b ≡ more = cc in omega (arith, ltb-true _ _ (sym fits), same)
+  small true false fits read = absurd cc
+  small false fits is read = absurd cc
+
+-- ---- numbers
+
+pub hex_begin : (bytes front : List ℕ) (n : ℕ) (rest : List ℕ) → bytes ≡ codes " 0x" ++ front → n < 2 ^ 64 → BeginsDigits 16 front n rest → BeginsNumber bytes n rest
+hex_begin bytes front n rest at small (digits, parts, numeral, value) =
+    (codes "0x" ++ digits, at ∙ ap (λ (xs : List ℕ). codes " 0x" ++ xs) parts, (omega arith, inr (digits, refl, numeral, value)))
+
+pub decimal_begin : (bytes front : List ℕ) (n : ℕ) (rest : List ℕ) → bytes ≡ codes " " ++ front → n < 2 ^ 64 → BeginsDigits 10 front n rest → BeginsNumber bytes n rest
+decimal_begin bytes front n rest at small (digits, parts, numeral, value) =
+    (digits, at ∙ ap (λ (xs : List ℕ). 32 ∷ xs) parts, (omega arith, inl (numeral, value)))
+
+behind-append : (xs ys : List (List ℕ)) → behind (xs ++ ys) ≡ behind xs ++ behind ys
+behind-append [] ys = refl
+behind-append (x ∷ xs) ys = ap (λ (b : List ℕ). 32 ∷ b) (ap (λ (b : List ℕ). x ++ b) (behind-append xs ys) ∙ sym (append_assoc x (behind xs) (behind ys)))
+
+numbers_append : (xs ys : List (List ℕ)) (ns ms : List ℕ) → AreNumbers last_number xs ns → AreNumbers last_number ys ms → AreNumbers last_number (xs ++ ys) (ns ++ ms)
+numbers_append [] ys [] ms numbers later = later
+numbers_append [] ys (n ∷ ns) ms numbers later = absurd numbers
+numbers_append (x ∷ xs) ys [] ms numbers later = absurd numbers
+numbers_append (x ∷ xs) ys (n ∷ ns) ms numbers later = (numbers.0, numbers_append xs ys ns ms numbers.1 later)
+
+pub no_numbers : (bytes : List ℕ) (found : List (Option ℕ)) → found ≡ [] → BeginsNumbers bytes found bytes
+no_numbers bytes found none = ([], [], refl, tt, none)
+
+pub numbers_more : (bytes : List ℕ) (found : List (Option ℕ)) (rest : List ℕ) (n : ℕ) (after : List ℕ) → BeginsNumbers bytes found rest → BeginsNumber rest n after → BeginsNumbers bytes (found ++ Some n ∷ []) after
+numbers_more bytes found rest n after (words, ns, parts, numbers, is) (word, at, number) = (
+  words ++ word ∷ [],
+  ns ++ n ∷ [],
+  parts ∙ rw at (sym (append_assoc (behind words) (32 ∷ (word ++ [])) after ∙ ap (λ (b : List ℕ). behind words ++ 32 ∷ b) (append_assoc word [] after))) ∙ ap (λ (b : List ℕ). b ++ after) (sym (behind-append words (word ∷ []))),
+  numbers_append words (word ∷ []) ns (n ∷ []) numbers (number, tt),
+  ap (λ (xs : List (Option ℕ)). xs ++ Some n ∷ []) is ∙ sym (map-append (λ k. Some k) ns (n ∷ [])),
+)
+
+-- ---- operations
+
+abbrev some_all : List ℕ → List (Option ℕ)
+some_all ns = map (λ n. Some n) ns
+
+length_words : (words : List (List ℕ)) (ns : List ℕ) → AreNumbers last_number words ns → length words ≡ length (some_all ns)
+length_words words ns numbers = length_numbers last_number words ns numbers ∙ sym (length-map ns (λ n. Some n))
+
+any_arguments : (dash : Bool) (limit : ℕ) (words : List (List ℕ)) (ns : List ℕ) → AreNumbers limit words ns → AreArguments dash limit words (some_all ns)
+any_arguments dash limit [] [] numbers = tt
+any_arguments dash limit [] (n ∷ ns) numbers = absurd numbers
+any_arguments dash limit (word ∷ words) [] numbers = absurd numbers
+any_arguments dash limit (word ∷ words) (n ∷ ns) numbers = (numbers.0, any_arguments dash limit words ns numbers.1)
+
+module _ {A : Type 0} (form_of : List ℕ → Option (Form A)) (otherwise : A) where
+  named_by : (name : List ℕ) (places : Places) (form : Option (Form A)) (words : List (List ℕ)) (ns : List ℕ) → form_of name ≡ form → IsFormAt places form → places.limit ≡ last_number
+      → AreNumbers last_number words ns → places.least ≤ length (some_all ns) → length (some_all ns) ≤ places.most → IsNamed form_of (name ∷ words) (made_from otherwise form (some_all ns))
+  named_by name places None words ns at is limit numbers enough not_more = absurd is
+  named_by name places (Some form) words ns at is limit numbers enough not_more = record {
+    name = name;
+    others = words;
+    form = form;
+    arguments = some_all ns;
+    parts = refl;
+    has_form = at;
+    enough = omega (arith, is.0, enough, length_words words ns numbers);
+    not_more = omega (arith, is.1, not_more, length_words words ns numbers);
+    are_arguments = rw (is.2, limit) (any_arguments form.may_be_absent last_number words ns numbers);
+    made = refl;
+  }
+
+  -- a name and its numbers
+  pub named_begins : (bytes name middle : List ℕ) (places : Places) (arguments : List (Option ℕ)) (rest : List ℕ) (value : A) → bytes ≡ 32 ∷ (name ++ middle) → IsFormAt places (form_of name) → places.limit ≡ last_number
+      → BeginsNumbers middle arguments rest → places.least ≤ length arguments → length arguments ≤ places.most → value ≡ made_from otherwise (form_of name) arguments
+      → (words : List (List ℕ)) × (bytes ≡ behind words ++ rest) × IsNamed form_of words value
+  named_begins bytes name middle places arguments rest value at is limit (words, ns, parts, numbers, given) enough not_more made = (
+    name ∷ words,
+    at ∙ ap (λ (b : List ℕ). 32 ∷ (name ++ b)) parts ∙ ap (λ (b : List ℕ). 32 ∷ b) (sym (append_assoc name (behind words) rest)),
+    rw (made, given) (named_by name places (form_of name) words ns refl is limit numbers (rw given at enough) (rw given at not_more)),
+  )
+
+-- ---- what is said
+
+pub below_begins : (bytes front : List ℕ) (n : ℕ) (rest : List ℕ) → bytes ≡ codes "-" ++ front → n ≤ last_below → BeginsDigits 10 front n rest → BeginsSigned bytes (neg_ℤ (pos n)) rest
+below_begins bytes front n rest at small (digits, parts, numeral, value) =
+    (codes "-" ++ digits, at ∙ ap (λ (b : List ℕ). 45 ∷ b) parts, inr (digits, refl, numeral, omega (arith, small, value), ap (λ (k : ℕ). neg_ℤ (pos k)) value))
+
+pub above_begins : (bytes : List ℕ) (n : ℕ) (rest : List ℕ) → n ≤ last_above → BeginsDigits 10 bytes n rest → BeginsSigned bytes (pos n) rest
+above_begins bytes n rest small (digits, parts, numeral, value) = (digits, parts, inl (numeral, omega (arith, small, value), ap (λ (k : ℕ). pos k) value))
+
+pub ret_begins : (before bytes : List ℕ) (error : ℤ) (middle : List ℕ) (value : ℕ) (rest : List ℕ) → before ≡ codes " ret " ++ bytes → BeginsSigned bytes error middle → BeginsNumber middle value rest → BeginsSaid before (Ret error value) rest
+ret_begins before bytes error middle value rest at (word, parts, is_error) (next, more, is_value) = (
+  codes "ret" ∷ word ∷ next ∷ [],
+  at ∙ ap (λ (b : List ℕ). codes " ret " ++ b) (parts ∙ ap (λ (b : List ℕ). word ++ b) (more ∙ ap (λ (b : List ℕ). 32 ∷ (b ++ rest)) (sym (append-nil next))) ∙ sym (append_assoc word (32 ∷ (next ++ [])) rest)),
+  inl (record { error_word = word; value_word = next; error = error; value = value; parts = refl; is_error = is_error; is_value = is_value; made = refl }),
+)
+
+-- ---- lines
+
+pub line_begins : (n : ℕ) (bytes : List ℕ) (actor : Actor) (middle : List ℕ) (op : Op) (rest after : List ℕ) → BeginsActor bytes actor middle → BeginsOp middle op rest → rest ≡ codes "\n" ++ after
+    → BeginsLine n false bytes (record { number = n; actor = actor; op = op; said = None }) after
+line_begins n bytes actor middle op rest after (first, parts, is_actor) (words, more, is_op) at = (
+  first,
+  words,
+  parts ∙ ap (λ (b : List ℕ). first ++ b) (more ∙ ap (λ (b : List ℕ). behind words ++ b) at),
+  (refl, refl, record { first = first; others = words; parts = refl; is_actor = is_actor; is_op = is_op }),
+)
+
+pub told_begins : (n : ℕ) (bytes : List ℕ) (actor : Actor) (middle : List ℕ) (op : Op) (rest told : List ℕ) (said : Said) (end after : List ℕ) → BeginsActor bytes actor middle → BeginsOp middle op rest → rest ≡ codes " ->" ++ told
+    → BeginsSaid told said end → end ≡ codes "\n" ++ after → BeginsLine n true bytes (record { number = n; actor = actor; op = op; said = Some said }) after
+told_begins n bytes actor middle op rest told said end after (first, parts, is_actor) (words, more, is_op) arrow (replies, last, is_said) at = (
+  first,
+  words ++ codes "->" ∷ replies,
+  parts
+      ∙ ap (λ (b : List ℕ). first ++ b) (
+      more
+      ∙ ap (λ (b : List ℕ). behind words ++ b) (arrow ∙ ap (λ (b : List ℕ). codes " ->" ++ b) (last ∙ ap (λ (b : List ℕ). behind replies ++ b) at))
+      ∙ sym (append_assoc (behind words) (codes " ->" ++ behind replies) (10 ∷ after))
+      ∙ ap (λ (b : List ℕ). b ++ 10 ∷ after) (sym (behind-append words (codes "->" ∷ replies)))
+      ),
+  (first ∷ words, replies, said, refl, refl, refl, record { first = first; others = words; parts = refl; is_actor = is_actor; is_op = is_op }, is_said),
+)

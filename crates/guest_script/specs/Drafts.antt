@@ -1,0 +1,10 @@
+-- A body that is being read, as the lines so far.
+use Rattle.guest_script.specs.declared.draft.BodyDraft.{BodyDraft}
+use Rattle.guest_script.specs.declared.draft.BodyDraft.TheVariants as drafts
+use Rattle.guest_script.specs.Grammar.{Draft, Nothing, Blocked, Stepped, Traced}
+
+abbrev pub draft_of : BodyDraft → Draft
+draft_of drafts.Nothing = Nothing
+draft_of (drafts.Blocks blocks) = Blocked blocks
+draft_of (drafts.Steps lines) = Stepped lines
+draft_of (drafts.Trace lines) = Traced lines

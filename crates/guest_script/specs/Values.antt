@@ -1,0 +1,241 @@
+-- What words say, where no test of them holds.
+use Rattle.std.specs.Prelude.{ℕ, ℤ, pos, neg_ℤ, ◌+◌, Bool, true, false, ◌&&◌, ◌||◌, nat_le, if◌then◌else◌, List, [], ◌∷◌, ◌++◌, drop, take, map, slice_index, slice_index_or, codes, Option, Some, None, unwrap_or}
+use Rattle.std.specs.Char.{is_digit}
+use Rattle.std.specs.List.{filter, list_any, list_all, slice_split}
+use Rattle.std.specs.Str.{bytes_eq}
+use Rattle.std.specs.Str.Parse.{digits_value}
+use Rattle.board_core.specs.declared.config.Config.{Config}
+use Rattle.board_core.specs.declared.event.Actor.{Actor}
+use Rattle.board_core.specs.declared.event.Actor.TheVariants.{Hart, Clock}
+use Rattle.board_core.specs.declared.event.Op.{Op}
+use Rattle.board_core.specs.declared.event.Op.TheVariants.{Advance}
+use Rattle.guest_script.specs.declared.kind.Kind.{Kind}
+use Rattle.guest_script.specs.declared.kind.Kind.TheVariants.{Head, Step, Operation}
+use Rattle.guest_script.specs.declared.said.Said.{Said}
+use Rattle.guest_script.specs.declared.said.Said.TheVariants.{Ret, Done}
+use Rattle.guest_script.specs.declared.script.Line.{Line}
+use Rattle.guest_script.specs.Words.{is_blank, is_hash, last_above, last_below, last_hart, last_number}
+use Rattle.guest_script.specs.Forms.{Form, form_of, guest_form_of, number_at, said_form_of}
+use Rattle.guest_script.specs.Grammar.{clock_of, content_of, Draft, Nothing, Blocked, Stepped, Traced, guest_at, Guest, guests_of, Open, OfClock, OfGuest, opened, with_op, with_tick, Written}
+
+-- ---- words
+
+-- a text up to its comment
+abbrev pub before_comment : List ℕ → List ℕ
+before_comment [] = []
+before_comment (b ∷ text) = if is_hash b then [] else b ∷ before_comment text
+
+-- whether a list has an element
+abbrev pub is_filled : {A : Type 0} → List A → Bool
+is_filled [] = false
+is_filled (x ∷ xs) = true
+
+-- what stands between blanks, up to the comment
+unfoldable pub words_in : List ℕ → List (List ℕ)
+words_in text = filter is_filled (slice_split is_blank (before_comment text))
+
+-- ---- numbers
+
+-- at least one digit and nothing else, which say a number up to the limit
+abbrev pub is_numeral : (radix limit : ℕ) → List ℕ → Bool
+is_numeral radix limit digits =
+    is_filled digits && list_all (λ b. is_digit b radix) digits && nat_le (digits_value radix digits) limit
+
+-- whether a word begins as hexadecimal digits do
+abbrev pub is_hexadecimal : List ℕ → Bool
+is_hexadecimal word = bytes_eq (take 2 word) (codes "0x")
+
+-- whether a word spells a number up to the limit
+unfoldable pub is_number : (limit : ℕ) → List ℕ → Bool
+is_number limit word = if is_hexadecimal word then is_numeral 16 limit (drop 2 word) else is_numeral 10 limit word
+
+-- the number that a word spells
+abbrev pub word_value : List ℕ → ℕ
+word_value word = if is_hexadecimal word then digits_value 16 (drop 2 word) else digits_value 10 word
+
+-- that number, if it is one and within the limit
+unfoldable pub number_in : (limit : ℕ) → List ℕ → Option ℕ
+number_in limit word = if is_number limit word then Some (word_value word) else None
+
+-- whether a word begins with a `-`
+abbrev pub is_below : List ℕ → Bool
+is_below word = bytes_eq (take 1 word) (codes "-")
+
+-- whether a word spells a signed number
+abbrev pub is_signed : List ℕ → Bool
+is_signed word = if is_below word then is_numeral 10 last_below (drop 1 word) else is_numeral 10 last_above word
+
+-- the signed number that a word spells
+abbrev pub signed_value : List ℕ → ℤ
+signed_value word = if is_below word then neg_ℤ (pos (digits_value 10 (drop 1 word))) else pos (digits_value 10 word)
+
+-- that number, if it is one
+unfoldable pub signed_in : List ℕ → Option ℤ
+signed_in word = if is_signed word then Some (signed_value word) else None
+
+-- ---- names with arguments
+
+-- the arguments that the words are: their numbers, and none for a word that spells none, as a dash does
+unfoldable pub arguments_in : (limit : ℕ) → List (List ℕ) → List (Option ℕ)
+arguments_in limit words = map (number_in limit) words
+
+-- what the form makes of words
+abbrev pub made_by : {A : Type 0} → (otherwise : A) → Option (Form A) → List (List ℕ) → A
+made_by otherwise None words = otherwise
+made_by otherwise (Some form) words = form.makes (arguments_in form.limit words)
+
+-- what a name and the words behind it make
+abbrev pub named_in : {A : Type 0} → (List ℕ → Option (Form A)) → (otherwise : A) → List (List ℕ) → A
+named_in form_of otherwise [] = otherwise
+named_in form_of otherwise (name ∷ words) = made_by otherwise (form_of name) words
+
+-- the operation that words are
+abbrev pub op_in : List (List ℕ) → Op
+op_in words = named_in form_of Advance words
+
+-- what `ret` says
+abbrev pub ret_in : List (List ℕ) → Said
+ret_in words = Ret (unwrap_or (signed_in (slice_index_or words 0 [])) (pos 0)) (unwrap_or (number_in last_number (slice_index_or words 1 [])) 0)
+
+-- whether a word is `ret`
+abbrev pub is_ret : List ℕ → Bool
+is_ret word = bytes_eq word (codes "ret")
+
+-- what the words of a reply or a refusal say
+abbrev pub said_in : List (List ℕ) → Said
+said_in [] = Done
+said_in (name ∷ words) = if is_ret name then ret_in words else made_by Done (said_form_of name) words
+
+-- the number that the first word is
+abbrev pub first_number : List (List ℕ) → ℕ
+first_number words = number_at (arguments_in last_number words) 0
+
+-- ---- lines
+
+-- whether a word is the clock's
+abbrev pub is_clock : List ℕ → Bool
+is_clock word = bytes_eq word (codes "c")
+
+-- the actor that a word is
+abbrev pub actor_in : List ℕ → Actor
+actor_in word = if is_clock word then Clock else Hart (unwrap_or (number_in last_hart word) 0)
+
+-- An actor's line begins with `c` or a digit.
+abbrev pub begins_actor_line : List ℕ → Bool
+begins_actor_line first = is_clock first || is_digit (slice_index first 0) 10
+
+abbrev pub is_arrow : List ℕ → Bool
+is_arrow word = bytes_eq word (codes "->")
+
+-- whether one of the words is an arrow
+abbrev pub has_arrow : List (List ℕ) → Bool
+has_arrow words = list_any is_arrow words
+
+-- the words before the first arrow, and those after it
+abbrev pub before_arrow : List (List ℕ) → List (List ℕ)
+before_arrow [] = []
+before_arrow (word ∷ words) = if is_arrow word then [] else word ∷ before_arrow words
+
+abbrev pub after_arrow : List (List ℕ) → List (List ℕ)
+after_arrow [] = []
+after_arrow (word ∷ words) = if is_arrow word then words else after_arrow words
+
+-- whether a word opens a guest's block, and whether it opens the clock's
+abbrev pub is_at : List ℕ → Bool
+is_at word = bytes_eq word (codes "at")
+
+abbrev pub is_clock_head : List ℕ → Bool
+is_clock_head word = bytes_eq word (codes "clock")
+
+-- what a line is by its first word, and whether it has an arrow
+abbrev pub kind_of : (first : List ℕ) → List (List ℕ) → Kind
+kind_of first words =
+    if is_at first || is_clock_head first then Head else if begins_actor_line first then Step (has_arrow words) else Operation
+
+-- line n of a schedule, and of a trace
+abbrev pub line_in : (n : ℕ) → (in_trace : Bool) → (first : List ℕ) → List (List ℕ) → Line
+line_in n false first words = record { number = n; actor = actor_in first; op = op_in words; said = None }
+line_in n true first words = record { number = n; actor = actor_in first; op = op_in (before_arrow words); said = Some (said_in (after_arrow words)) }
+
+-- the guests' blocks so far, and the clock's ticks
+abbrev pub guests_in : Draft → List Guest
+guests_in (Blocked p) = guests_of p
+guests_in draft = []
+
+abbrev pub clock_in : Draft → Option (List ℕ)
+clock_in (Blocked p) = clock_of p
+clock_in draft = None
+
+-- the schedule's lines so far, and the trace's
+abbrev pub stepped_in : Draft → List Line
+stepped_in (Stepped lines) = lines
+stepped_in draft = []
+
+abbrev pub traced_in : Draft → List Line
+traced_in (Traced lines) = lines
+traced_in draft = []
+
+-- the lines so far
+abbrev pub lines_in : Draft → List Line
+lines_in draft = stepped_in draft ++ traced_in draft
+
+-- the block that a head opens
+abbrev pub opened_by : (first : List ℕ) → List (List ℕ) → Open
+opened_by first words = if is_at first then guest_at (first_number words) else OfClock []
+
+-- the open block with a line more
+abbrev pub in_block : Open → List (List ℕ) → Open
+in_block (OfGuest guest) words = with_op guest (named_in guest_form_of Advance words)
+in_block (OfClock ticks) words = with_tick ticks (first_number (drop 1 words))
+
+abbrev pub with_operation : Draft → List (List ℕ) → Draft
+with_operation (Blocked p) words = Blocked (record p { current = in_block p.current words })
+with_operation draft words = draft
+
+-- a step more
+abbrev pub with_step : (in_trace : Bool) → Draft → Line → Draft
+with_step false draft line = Stepped (stepped_in draft ++ line ∷ [])
+with_step true draft line = Traced (traced_in draft ++ line ∷ [])
+
+abbrev pub next_of : Kind → (n : ℕ) → Draft → (first : List ℕ) → List (List ℕ) → Draft
+next_of Head n draft first words = Blocked (opened (guests_in draft) (clock_in draft) (opened_by first words))
+next_of (Step in_trace) n draft first words = with_step in_trace draft (line_in n in_trace first words)
+next_of Operation n draft first words = with_operation draft (first ∷ words)
+
+-- what the lines say with line n
+abbrev pub next_in : (n : ℕ) → Draft → List (List ℕ) → Draft
+next_in n draft [] = draft
+next_in n draft (first ∷ words) = next_of (kind_of first words) n draft first words
+
+-- what the lines say with those from line n on
+abbrev pub draft_in : (n : ℕ) → Draft → List (List ℕ) → Draft
+draft_in n draft [] = draft
+draft_in n draft (text ∷ texts) = draft_in (n + 1) (next_in n draft (words_in text)) texts
+
+-- ---- the script
+
+-- a board by its numbers
+unfoldable pub config_of : List (Option ℕ) → Config
+config_of ns = record {
+  harts = number_at ns 0;
+  pages = number_at ns 1;
+  limit = number_at ns 2;
+  boot_hart = number_at ns 3;
+  boot_addr = number_at ns 4;
+  boot_opaque = number_at ns 5;
+}
+
+-- the board of a line, if it has words
+abbrev pub board_in : List (List ℕ) → Option Config
+board_in [] = None
+board_in (first ∷ words) = Some (config_of (arguments_in last_number words))
+
+-- a board and what the lines after it say, or what comes later
+abbrev pub script_with : Option Config → Draft → (later : Written) → Written
+script_with None draft later = later
+script_with (Some config) draft later = record { config = config; content = content_of draft }
+
+-- the script of the lines from line n on
+abbrev pub script_in : (n : ℕ) → List (List ℕ) → Written
+script_in n [] = record { config = config_of []; content = content_of Nothing }
+script_in n (text ∷ texts) = script_with (board_in (words_in text)) (draft_in (n + 1) Nothing texts) (script_in (n + 1) texts)

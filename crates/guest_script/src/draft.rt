@@ -1,0 +1,252 @@
+ghost use Rattle.std.specs.Prelude.{◌≡◌, ◌⊎◌, ◌∷◌, [], ◌++◌, Bool, List, true, false, is_some, None, IfOk, OnOk, Err, MatchOption, MatchResult, ◌+◌, ◌<◌, ◌≤◌, ◌^◌, length};
+ghost use Rattle.std.specs.Str.Lines.{lines};
+ghost use Rattle.guest_script.specs.Packing.{FitsKept};
+ghost use Rattle.guest_script.specs.declared.fault.Fault.TheVariants.{NoMemory, SecondBlock};
+ghost use Rattle.guest_script.specs.declared.kind.Kind.TheVariants.{Head, Operation, Step};
+ghost use Rattle.guest_script.specs.Drafts.{draft_of};
+ghost use Rattle.guest_script.specs.FirstFault.{byte_test, kind_tests, line_tests, may_follow, no_memory};
+ghost use Rattle.guest_script.specs.Grammar.{Blocked, content, content_of, guest_at, has_block, OfClock, opened};
+ghost use Rattle.guest_script.specs.PlainLines.{BeginsLine};
+ghost use Rattle.guest_script.specs.Reading.{GivesOrLacks, GivesOrWants, line_from, lines_from, tested};
+ghost use Rattle.guest_script.specs.Values.{clock_in, guests_in, lines_in, next_in, next_of, words_in, with_step};
+
+use crate::blocks::BlocksDraft;
+use crate::fault::{Fault, NO_MEMORY, ScriptFault};
+use crate::kind::Kind;
+use crate::lines::Lines;
+use crate::plain::plain_line;
+use crate::script::{Body, Line};
+use crate::step::{one_number, step_line};
+use crate::text::{is_clean, next_line};
+use crate::words::next_word;
+use std::alloc::{AllocError, Global};
+
+/// What the lines so far say.
+#[derive(Drop)]
+pub enum BodyDraft {
+    /// Nothing: there was no line with words.
+    Nothing,
+    /// Blocks of a program.
+    Blocks(BlocksDraft),
+    /// Steps of a schedule.
+    Steps(Lines),
+    /// Steps of a trace.
+    Trace(Lines),
+}
+
+impl BodyDraft {
+    /// Reads line `n`.
+    pub fn read_line(&mut self, alloc: Global, n: u64, text: &[u8]) -> Result<(), ScriptFault>
+        requires number { n < 2 ^ 28 }
+        requires few { length (lines_in (draft_of self.old)) < 2 ^ 28 }
+        ensures { GivesOrLacks (λ _. draft_of self.new) result (line_from n (draft_of self.old) text.now) }
+    {
+        match self.line(alloc, n, text) {
+            Ok(()) => Ok(()),
+            Err(fault) => Err(ScriptFault::at(n, fault)),
+        }
+    }
+
+    /// Reads line `n`, which the bytes begin with, and answers the bytes after it.
+    pub fn read_first<'a>(
+        &mut self,
+        alloc: Global,
+        n: u64,
+        bytes: &'a [u8],
+    ) -> Result<&'a [u8], ScriptFault>
+        requires some { 0 < length bytes.now }
+        requires number { n < 2 ^ 28 }
+        requires few { length (lines_in (draft_of self.old)) < 2 ^ 28 }
+        ensures read { MatchResult result
+            (λ after. lines_from n (draft_of self.old) (lines bytes.now) ≡ lines_from (n + 1) (draft_of self.new) (lines after.now))
+            (λ e. (e ≡ no_memory) ⊎ (lines_from n (draft_of self.old) (lines bytes.now) ≡ Err e)) }
+        ensures shorter { IfOk result (λ after. length after.now < length bytes.now) }
+        ensures few { OnOk result (length (lines_in (draft_of self.new)) ≤ length (lines_in (draft_of self.old)) + 1) }
+    {
+        match self.read_plain(n, bytes) {
+            Ok(Some(after)) => Ok(after),
+            Ok(None) => {
+                let (text, after) = next_line(bytes);
+                self.read_line(alloc, n, text)?;
+                Ok(after)
+            }
+            Err(_) => Err(NO_MEMORY),
+        }
+    }
+
+    /// Reads line `n` of a schedule or a trace, which the bytes begin with, if it stands in the form in which steps are
+    /// printed, and answers the bytes after it. Else nothing is read.
+    fn read_plain<'a>(&mut self, n: u64, bytes: &'a [u8]) -> Result<Option<&'a [u8]>, AllocError>
+        requires number { n < 2 ^ 28 }
+        requires few { length (lines_in (draft_of self.old)) < 2 ^ 28 }
+        ensures read { IfOk result (λ found. MatchOption found (draft_of self.new ≡ draft_of self.old)
+            (λ after. (in_trace : Bool) × (line : Line) × BeginsLine n in_trace bytes.now line after.now × (may_follow (draft_of self.old) (Step in_trace) ≡ true)
+            × (draft_of self.new ≡ with_step in_trace (draft_of self.old) line) × (length after.now < length bytes.now))) }
+    {
+        match self {
+            BodyDraft::Steps(steps) => match plain_line(n, false, bytes) {
+                Some((line, after)) => {
+                    steps.push(&line)?;
+                    Ok(Some(after))
+                }
+                None => Ok(None),
+            },
+            BodyDraft::Trace(steps) => match plain_line(n, true, bytes) {
+                Some((line, after)) => {
+                    steps.push(&line)?;
+                    Ok(Some(after))
+                }
+                None => Ok(None),
+            },
+            _ => Ok(None),
+        }
+    }
+
+    fn line(&mut self, alloc: Global, n: u64, text: &[u8]) -> Result<(), Fault>
+        requires number { n < 2 ^ 28 }
+        requires few { length (lines_in (draft_of self.old)) < 2 ^ 28 }
+        ensures { GivesOrWants (λ _. draft_of self.new) result
+            (tested (byte_test text.now ∷ line_tests (draft_of self.old) (words_in text.now)) (next_in n (draft_of self.old) (words_in text.now))) }
+    {
+        if !is_clean(text) {
+            return Err(Fault::BadByte);
+        }
+        match next_word(text) {
+            None => Ok(()),
+            Some((first, rest)) => self.words(alloc, n, first, rest),
+        }
+    }
+
+    /// Reads the words of line `n`.
+    fn words(&mut self, alloc: Global, n: u64, first: &[u8], rest: &[u8]) -> Result<(), Fault>
+        requires number { n < 2 ^ 28 }
+        requires few { length (lines_in (draft_of self.old)) < 2 ^ 28 }
+        ensures { GivesOrWants (λ _. draft_of self.new) result
+            (tested (line_tests (draft_of self.old) (first.now ∷ words_in rest.now)) (next_in n (draft_of self.old) (first.now ∷ words_in rest.now))) }
+    {
+        let kind = Kind::of(first, rest);
+        if !self.may_follow(kind) {
+            return Err(Fault::OtherKind);
+        }
+        match kind {
+            Kind::Head => self.head(alloc, first, rest),
+            Kind::Step { in_trace } => {
+                let line = step_line(n, in_trace, first, rest)?;
+                self.step(alloc, in_trace, &line)?;
+                Ok(())
+            }
+            Kind::Operation => self.operation(first, rest),
+        }
+    }
+
+    /// Whether a line of this kind may follow.
+    fn may_follow(&self, kind: Kind) -> bool
+        ensures { result ≡ may_follow (draft_of self.now) kind }
+    {
+        match self {
+            BodyDraft::Nothing => !matches!(kind, Kind::Operation),
+            BodyDraft::Blocks(_) => !matches!(kind, Kind::Step { .. }),
+            BodyDraft::Steps(_) => matches!(kind, Kind::Step { in_trace: false }),
+            BodyDraft::Trace(_) => matches!(kind, Kind::Step { in_trace: true }),
+        }
+    }
+
+    /// Reads a block's head.
+    fn head(&mut self, alloc: Global, first: &[u8], rest: &[u8]) -> Result<(), Fault>
+        requires { may_follow (draft_of self.old) Head ≡ true }
+        ensures { GivesOrWants (λ _. draft_of self.new) result
+            (tested (kind_tests Head (draft_of self.old) first.now (words_in rest.now)) (next_of Head 0 (draft_of self.old) first.now (words_in rest.now))) }
+    {
+        if first == b"at".as_slice() {
+            let addr = one_number(rest)?;
+            self.open_guest(alloc, addr)
+        } else if next_word(rest).is_some() {
+            Err(Fault::WordCount)
+        } else {
+            self.open_clock(alloc)
+        }
+    }
+
+    fn open_guest(&mut self, alloc: Global, addr: u64) -> Result<(), Fault>
+        requires { may_follow (draft_of self.old) Head ≡ true }
+        ensures { MatchResult result
+            (λ _. (has_block (guests_in (draft_of self.old)) addr ≡ false)
+            × (draft_of self.new ≡ Blocked (opened (guests_in (draft_of self.old)) (clock_in (draft_of self.old)) (guest_at addr))))
+            (λ fault. (fault ≡ NoMemory) ⊎ ((fault ≡ SecondBlock) × (has_block (guests_in (draft_of self.old)) addr ≡ true))) }
+    {
+        match self {
+            BodyDraft::Blocks(blocks) => blocks.open_guest(alloc, addr),
+            _ => {
+                *self = BodyDraft::Blocks(BlocksDraft::of_guest(alloc, addr)?);
+                Ok(())
+            }
+        }
+    }
+
+    fn open_clock(&mut self, alloc: Global) -> Result<(), Fault>
+        requires { may_follow (draft_of self.old) Head ≡ true }
+        ensures { MatchResult result
+            (λ _. (clock_in (draft_of self.old) ≡ None) × (draft_of self.new ≡ Blocked (opened (guests_in (draft_of self.old)) None (OfClock []))))
+            (λ fault. (fault ≡ NoMemory) ⊎ ((fault ≡ SecondBlock) × (is_some (clock_in (draft_of self.old)) ≡ true))) }
+    {
+        match self {
+            BodyDraft::Blocks(blocks) => blocks.open_clock(alloc),
+            _ => {
+                *self = BodyDraft::Blocks(BlocksDraft::of_clock(alloc));
+                Ok(())
+            }
+        }
+    }
+
+    /// A step more.
+    fn step(&mut self, alloc: Global, in_trace: bool, line: &Line) -> Result<(), AllocError>
+        requires kind { may_follow (draft_of self.old) (Step in_trace) ≡ true }
+        requires number { line.now.number < 2 ^ 28 }
+        requires actor { FitsKept line.now.actor }
+        requires few { length (lines_in (draft_of self.old)) < 2 ^ 28 }
+        ensures { OnOk result (draft_of self.new ≡ with_step in_trace (draft_of self.old) line.now) }
+    {
+        match self {
+            BodyDraft::Steps(lines) => lines.push(line),
+            BodyDraft::Trace(lines) => lines.push(line),
+            _ => {
+                let mut lines = Lines::new(alloc);
+                lines.push(line)?;
+                *self = if in_trace {
+                    BodyDraft::Trace(lines)
+                } else {
+                    BodyDraft::Steps(lines)
+                };
+                Ok(())
+            }
+        }
+    }
+
+    /// Reads an operation of the open block.
+    fn operation(&mut self, first: &[u8], rest: &[u8]) -> Result<(), Fault>
+        requires { may_follow (draft_of self.old) Operation ≡ true }
+        ensures { GivesOrWants (λ _. draft_of self.new) result
+            (tested (kind_tests Operation (draft_of self.old) first.now (words_in rest.now)) (next_of Operation 0 (draft_of self.old) first.now (words_in rest.now))) }
+    {
+        match self {
+            BodyDraft::Blocks(blocks) => blocks.line(first, rest),
+            _ => Err(Fault::OtherKind),
+        }
+    }
+
+    /// All that the lines say.
+    ///
+    /// # Errors
+    ///
+    /// Memory was refused.
+    pub fn body(self, alloc: Global) -> Result<Body, AllocError>
+        ensures { IfOk result (λ body. content body ≡ content_of (draft_of self)) }
+    {
+        match self {
+            BodyDraft::Nothing => Ok(Body::Empty),
+            BodyDraft::Blocks(blocks) => blocks.body(alloc),
+            BodyDraft::Steps(lines) => Ok(Body::Schedule(lines)),
+            BodyDraft::Trace(lines) => Ok(Body::Trace(lines)),
+        }
+    }
+}

@@ -1,0 +1,67 @@
+ghost use Rattle.std.specs.Prelude.{◌≡◌, length};
+ghost use Rattle.guest_script.specs.KeptLines.{IsWithin, line_of};
+ghost use Rattle.guest_script.specs.Packing.{FitsKept, actor_made, actor_number};
+
+use crate::op_shape::OpShape;
+use crate::said_shape::SaidShape;
+use crate::script::Line;
+use board_core::Actor;
+
+/// The actor's number that stands for the clock.
+const CLOCK: u8 = 128;
+
+/// A line without its numbers, which stand among those of all lines.
+#[derive(Clone, Copy, Debug)]
+pub struct Kept {
+    /// The line's number.
+    pub number: u32,
+    /// Where the line's numbers begin.
+    pub from: u32,
+    /// The hart's number, or 128 for the clock.
+    pub actor: u8,
+    /// The operation.
+    pub op: OpShape,
+    /// How many numbers the operation has.
+    pub op_count: u8,
+    /// What is said of it, whose numbers stand behind the operation's.
+    pub said: SaidShape,
+}
+
+impl Kept {
+    /// The line.
+    pub fn line(&self, numbers: &[u64]) -> Line
+        requires { IsWithin (length numbers.now) self.now }
+        ensures { result ≡ line_of numbers.now self.now }
+    {
+        let from = self.from as usize;
+        let middle = from + self.op_count as usize;
+        let end = middle + self.said.count();
+        Line {
+            number: u64::from(self.number),
+            actor: actor(self.actor),
+            op: self.op.op(&numbers[from..middle]),
+            said: self.said.said(&numbers[middle..end]),
+        }
+    }
+}
+
+/// The number that stands for an actor.
+pub fn actor_number(actor: Actor) -> u8
+    requires { FitsKept actor }
+    ensures { result ≡ actor_number actor }
+{
+    match actor {
+        Actor::Hart(hart) => hart as u8,
+        Actor::Clock => CLOCK,
+    }
+}
+
+fn actor(number: u8) -> Actor
+    ensures { result ≡ actor_made number }
+{
+    if number == CLOCK {
+        Actor::Clock
+    } else {
+        Actor::Hart(u64::from(number))
+    }
+}

@@ -1,0 +1,45 @@
+ghost use Rattle.std.specs.Prelude.{◌≡◌};
+ghost use Rattle.guest_script.specs.Values.{begins_actor_line, kind_of, words_in};
+
+use crate::words::has_arrow;
+
+/// What a line is.
+#[derive(Clone, Copy)]
+pub enum Kind {
+    /// A block's head.
+    Head,
+    /// An actor's step, of a schedule or of a trace.
+    Step {
+        /// Whether it says what the step gave.
+        in_trace: bool,
+    },
+    /// An operation alone.
+    Operation,
+}
+
+impl Kind {
+    /// What a line is by its first word, and whether an arrow stands behind that.
+    pub fn of(first: &[u8], rest: &[u8]) -> Kind
+        ensures { result ≡ kind_of first.now (words_in rest.now) }
+    {
+        match first {
+            b"at" | b"clock" => Kind::Head,
+            _ => {
+                if begins_actor_line(first) {
+                    Kind::Step {
+                        in_trace: has_arrow(rest),
+                    }
+                } else {
+                    Kind::Operation
+                }
+            }
+        }
+    }
+}
+
+/// Whether a line with this first word is an actor's.
+fn begins_actor_line(first: &[u8]) -> bool
+    ensures { result ≡ begins_actor_line first.now }
+{
+    matches!(first, b"c" | [b'0'..=b'9', ..])
+}

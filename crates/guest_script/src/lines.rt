@@ -1,0 +1,133 @@
+ghost use Rattle.std.specs.Prelude.{◌≡◌, ◌==◌, ◌++◌, ◌∷◌, [], ◌*◌, ◌+◌, ◌<◌, ◌≤◌, ◌^◌, List, OnOk, length, slice_get, vec_len};
+ghost use Rattle.std.specs.Iterator.{YieldsFirst, item_count};
+ghost use Rattle.guest_script.specs.declared.script.Line.{Line};
+ghost use Rattle.guest_script.specs.KeptLines.{AreWithin, lines_of};
+ghost use Rattle.guest_script.specs.Packing.{FitsKept};
+
+use crate::kept::{Kept, actor_number};
+use crate::op_shape::{OP_NUMBERS, OpShape};
+use crate::said_shape::{SAID_NUMBERS, SaidShape};
+use crate::script::Line;
+use std::alloc::{AllocError, Global};
+use std::marker::Model;
+
+/// How many numbers a line has at most.
+const LINE_NUMBERS: usize = OP_NUMBERS + SAID_NUMBERS;
+
+/// The lines of a schedule or a trace. A line takes 12 bytes, and 8 for each of its numbers.
+#[derive(Debug, Drop)]
+pub struct Lines {
+    kept: Vec<Kept>,
+    numbers: Vec<u64>,
+}
+
+impl Model for Lines {
+    ghost Value = { List Line };
+
+    ghost view = { λ l. lines_of l.numbers.items l.kept.items };
+
+    ghost invariant = { λ l. AreWithin (length l.numbers.items) l.kept.items × (vec_len l.numbers ≤ 11 * vec_len l.kept) };
+}
+
+impl Lines {
+    /// No lines.
+    pub fn new(alloc: Global) -> Lines
+        ensures { result ≡ [] }
+    {
+        Lines {
+            kept: Vec::new(alloc),
+            numbers: Vec::new(alloc),
+        }
+    }
+
+    /// A line more at the end.
+    ///
+    /// # Errors
+    ///
+    /// Memory was refused.
+    pub(crate) fn push(&mut self, line: &Line) -> Result<(), AllocError>
+        requires number { line.now.number < 2 ^ 28 }
+        requires actor { FitsKept line.now.actor }
+        requires few { length self.old < 2 ^ 28 }
+        ensures { OnOk result (self.new ≡ self.old ++ line.now ∷ []) }
+    {
+        self.kept.reserve(1)?;
+        self.numbers.reserve(LINE_NUMBERS)?;
+        let from = self.numbers.len();
+        let op = OpShape::put(line.op, &mut self.numbers);
+        let middle = self.numbers.len();
+        let said = SaidShape::put(line.said, &mut self.numbers);
+        self.kept.push_reserved(Kept {
+            number: line.number as u32,
+            from: from as u32,
+            actor: actor_number(line.actor),
+            op,
+            op_count: (middle - from) as u8,
+            said,
+        });
+        Ok(())
+    }
+
+    /// How many lines there are.
+    pub fn len(&self) -> usize
+        ensures { result ≡ length self.now }
+    {
+        self.kept.len()
+    }
+
+    /// Whether there is no line.
+    pub fn is_empty(&self) -> bool
+        ensures { result ≡ (length self.now == 0) }
+    {
+        self.kept.is_empty()
+    }
+
+    /// The line in a place, from 0, if there is one.
+    pub fn get(&self, place: usize) -> Option<Line>
+        ensures { result ≡ slice_get self.now place }
+    {
+        match self.kept.get(place) {
+            Some(kept) => Some(kept.line(&self.numbers)),
+            None => None,
+        }
+    }
+
+    /// The lines in their order.
+    pub fn iter(&self) -> LinesIter<'_>
+        ensures { result ≡ self.now }
+    {
+        LinesIter {
+            left: &self.kept,
+            numbers: &self.numbers,
+        }
+    }
+}
+
+/// The lines that are still to come, in their order.
+#[derive(Drop)]
+pub struct LinesIter<'a> {
+    left: &'a [Kept],
+    numbers: &'a [u64],
+}
+
+impl<'a> Model for LinesIter<'a> {
+    ghost Value = { List Line };
+
+    ghost view = { λ l. lines_of l.numbers.now l.left.now };
+
+    ghost invariant = { λ l. AreWithin (length l.numbers.now) l.left.now };
+}
+
+impl<'a> Iterator for LinesIter<'a> {
+    type Item = Line;
+
+    ghost next_gives = { YieldsFirst (λ lines. lines) };
+
+    ghost remaining = { item_count (λ lines. lines) };
+
+    fn next(&mut self) -> Option<Line> {
+        let (first, left) = self.left.split_first()?;
+        self.left = left;
+        Some(first.line(self.numbers))
+    }
+}

@@ -1,0 +1,225 @@
+ghost use Rattle.std.specs.Prelude.{◌≡◌, ◌+◌, ◌≤◌, ◌++◌, ◌∷◌, [], take, length, vec_len, vec_capacity};
+ghost use Rattle.guest_script.specs.Packing.{number_from, op_made, op_numbers, shape_of, used};
+
+use board_core::Op;
+use sbi_abi::Regs;
+
+/// How many numbers an operation has at most.
+pub const OP_NUMBERS: usize = 8;
+
+/// An operation without its numbers.
+#[derive(Clone, Copy, Debug)]
+pub enum OpShape {
+    Ecall,
+    Load,
+    Store,
+    Fetch,
+    WriteSatp,
+    WriteSie,
+    SstatusOff,
+    SstatusOn,
+    ReadSip,
+    ClearSsip,
+    SfenceAll,
+    SfenceAddress,
+    SfenceAsid,
+    SfenceBoth,
+    FenceI,
+    Wfi,
+    Poll,
+    Serve,
+    Advance,
+    Tick,
+}
+
+impl OpShape {
+    /// An operation's shape. Its numbers are put behind the others; the arguments of a call that are 0 to its end are
+    /// left out.
+    pub fn put(op: Op, numbers: &mut Vec<u64>) -> OpShape
+        requires { vec_len numbers.old + OP_NUMBERS ≤ vec_capacity numbers.old }
+        ensures shape { result ≡ shape_of op }
+        ensures numbers { numbers.new.items ≡ numbers.old.items ++ op_numbers op }
+        ensures made { op_made result (op_numbers op) ≡ op }
+        ensures len { vec_len numbers.new ≤ vec_len numbers.old + OP_NUMBERS }
+        ensures more { vec_len numbers.old ≤ vec_len numbers.new }
+        ensures capacity { vec_capacity numbers.new ≡ vec_capacity numbers.old }
+    {
+        match op {
+            Op::Ecall(regs) => {
+                put_call(regs, numbers);
+                OpShape::Ecall
+            }
+            Op::Load(va) => {
+                numbers.push_reserved(va);
+                OpShape::Load
+            }
+            Op::Store(va, value) => {
+                put_two(va, value, numbers);
+                OpShape::Store
+            }
+            Op::Fetch(va) => {
+                numbers.push_reserved(va);
+                OpShape::Fetch
+            }
+            Op::WriteSatp(value) => {
+                numbers.push_reserved(value);
+                OpShape::WriteSatp
+            }
+            Op::WriteSie(value) => {
+                numbers.push_reserved(value);
+                OpShape::WriteSie
+            }
+            Op::WriteSstatusSie(false) => OpShape::SstatusOff,
+            Op::WriteSstatusSie(true) => OpShape::SstatusOn,
+            Op::ReadSip => OpShape::ReadSip,
+            Op::ClearSsip => OpShape::ClearSsip,
+            Op::Sfence(va, asid) => put_fence(va, asid, numbers),
+            Op::FenceI => OpShape::FenceI,
+            Op::Wfi => OpShape::Wfi,
+            Op::Poll => OpShape::Poll,
+            Op::Serve => OpShape::Serve,
+            Op::Advance => OpShape::Advance,
+            Op::Tick(n) => {
+                numbers.push_reserved(n);
+                OpShape::Tick
+            }
+        }
+    }
+
+    /// The operation of this shape, with its numbers.
+    pub fn op(self, numbers: &[u64]) -> Op
+        ensures { result ≡ op_made self numbers.now }
+    {
+        match self {
+            OpShape::Ecall => Op::Ecall(regs(numbers)),
+            OpShape::Load => Op::Load(number_from(numbers, 0)),
+            OpShape::Store => Op::Store(number_from(numbers, 0), number_from(numbers, 1)),
+            OpShape::Fetch => Op::Fetch(number_from(numbers, 0)),
+            OpShape::WriteSatp => Op::WriteSatp(number_from(numbers, 0)),
+            OpShape::WriteSie => Op::WriteSie(number_from(numbers, 0)),
+            OpShape::SstatusOff => Op::WriteSstatusSie(false),
+            OpShape::SstatusOn => Op::WriteSstatusSie(true),
+            OpShape::ReadSip => Op::ReadSip,
+            OpShape::ClearSsip => Op::ClearSsip,
+            OpShape::SfenceAll => Op::Sfence(None, None),
+            OpShape::SfenceAddress => Op::Sfence(Some(number_from(numbers, 0)), None),
+            OpShape::SfenceAsid => Op::Sfence(None, Some(number_from(numbers, 0))),
+            OpShape::SfenceBoth => Op::Sfence(
+                Some(number_from(numbers, 0)),
+                Some(number_from(numbers, 1)),
+            ),
+            OpShape::FenceI => Op::FenceI,
+            OpShape::Wfi => Op::Wfi,
+            OpShape::Poll => Op::Poll,
+            OpShape::Serve => Op::Serve,
+            OpShape::Advance => Op::Advance,
+            OpShape::Tick => Op::Tick(number_from(numbers, 0)),
+        }
+    }
+}
+
+/// The number in a place, which is 0 where there is none.
+pub fn number_from(numbers: &[u64], place: usize) -> u64
+    ensures { result ≡ number_from numbers.now place }
+{
+    match numbers.get(place) {
+        Some(number) => *number,
+        None => 0,
+    }
+}
+
+/// The registers of a call.
+fn regs(numbers: &[u64]) -> Regs
+    ensures { Op.Ecall result ≡ op_made OpShape.Ecall numbers.now }
+{
+    Regs {
+        eid: number_from(numbers, 0),
+        fid: number_from(numbers, 1),
+        a: [
+            number_from(numbers, 2),
+            number_from(numbers, 3),
+            number_from(numbers, 4),
+            number_from(numbers, 5),
+            number_from(numbers, 6),
+            number_from(numbers, 7),
+        ],
+    }
+}
+
+fn put_two(first: u64, second: u64, numbers: &mut Vec<u64>)
+    requires { vec_len numbers.old + 2 ≤ vec_capacity numbers.old }
+    ensures numbers { numbers.new.items ≡ numbers.old.items ++ first ∷ second ∷ [] }
+    ensures len { vec_len numbers.new ≡ vec_len numbers.old + 2 }
+    ensures capacity { vec_capacity numbers.new ≡ vec_capacity numbers.old }
+{
+    numbers.push_reserved(first);
+    numbers.push_reserved(second);
+}
+
+fn put_fence(va: Option<u64>, asid: Option<u64>, numbers: &mut Vec<u64>) -> OpShape
+    requires { vec_len numbers.old + 2 ≤ vec_capacity numbers.old }
+    ensures shape { result ≡ shape_of (Op.Sfence va asid) }
+    ensures numbers { numbers.new.items ≡ numbers.old.items ++ op_numbers (Op.Sfence va asid) }
+    ensures made { op_made result (op_numbers (Op.Sfence va asid)) ≡ Op.Sfence va asid }
+    ensures len { vec_len numbers.new ≤ vec_len numbers.old + 2 }
+    ensures more { vec_len numbers.old ≤ vec_len numbers.new }
+    ensures capacity { vec_capacity numbers.new ≡ vec_capacity numbers.old }
+{
+    match (va, asid) {
+        (None, None) => OpShape::SfenceAll,
+        (Some(va), None) => {
+            numbers.push_reserved(va);
+            OpShape::SfenceAddress
+        }
+        (None, Some(asid)) => {
+            numbers.push_reserved(asid);
+            OpShape::SfenceAsid
+        }
+        (Some(va), Some(asid)) => {
+            put_two(va, asid, numbers);
+            OpShape::SfenceBoth
+        }
+    }
+}
+
+fn put_call(regs: Regs, numbers: &mut Vec<u64>)
+    requires { vec_len numbers.old + OP_NUMBERS ≤ vec_capacity numbers.old }
+    ensures numbers { numbers.new.items ≡ numbers.old.items ++ op_numbers (Op.Ecall regs) }
+    ensures made { op_made OpShape.Ecall (op_numbers (Op.Ecall regs)) ≡ Op.Ecall regs }
+    ensures len { vec_len numbers.new ≤ vec_len numbers.old + OP_NUMBERS }
+    ensures more { vec_len numbers.old ≤ vec_len numbers.new }
+    ensures capacity { vec_capacity numbers.new ≡ vec_capacity numbers.old }
+{
+    put_two(regs.eid, regs.fid, numbers);
+    let count = used(&regs.a);
+    put_all(&regs.a[..count], numbers);
+}
+
+fn put_all(more: &[u64], numbers: &mut Vec<u64>)
+    requires { vec_len numbers.old + length more.now ≤ vec_capacity numbers.old }
+    ensures numbers { numbers.new.items ≡ numbers.old.items ++ more.now }
+    ensures len { vec_len numbers.new ≡ vec_len numbers.old + length more.now }
+    ensures capacity { vec_capacity numbers.new ≡ vec_capacity numbers.old }
+{
+    for number in more {
+        numbers.push_reserved(*number);
+    }
+}
+
+/// How many numbers stand before the zeros at the end.
+fn used(numbers: &[u64]) -> usize
+    ensures count { result ≡ used numbers.now }
+    ensures bound { result ≤ length numbers.now }
+{
+    match numbers {
+        [] => 0,
+        [first, rest @ ..] => {
+            let count = used(rest);
+            if count == 0 && *first == 0 {
+                0
+            } else {
+                count + 1
+            }
+        }
+    }
+}

@@ -1,0 +1,312 @@
+ghost use Rattle.std.specs.Prelude.{◌≡◌, ◌+◌, ◌≤◌, ◌<◌, ◌++◌, ◌^◌, [], ℕ, List, None, Some, codes, IfSome, length};
+ghost use Rattle.guest_script.specs.PlainLines.{BeginsActor, BeginsDigits, BeginsLine, BeginsName, BeginsNumber, BeginsNumbers, BeginsOp, BeginsSaid, BeginsSaidName, BeginsSigned};
+ghost use Rattle.guest_script.specs.Packing.{FitsKept};
+
+use crate::number::{LAST_ABOVE, LAST_BELOW, below_zero, push_digit};
+use crate::numbers::MOST_ARGUMENTS;
+use crate::op_name::OpName;
+use crate::said::Said;
+use crate::said_name::SaidName;
+use crate::script::Line;
+use arrayvec::ArrayVec;
+use board_core::{Actor, Op};
+
+/// The largest number of a hart.
+const LAST_HART: u64 = 127;
+
+/// Line `n` of a schedule or of a trace, which the bytes begin with, and the bytes after it, if it stands in the form in
+/// which steps are printed, and has no dash. It is read in one pass; each other form is for the reader of words.
+pub fn plain_line(n: u64, in_trace: bool, bytes: &[u8]) -> Option<(Line, &[u8])>
+    ensures number { IfSome result (λ found. found.0.number ≡ n) }
+    ensures actor { IfSome result (λ found. FitsKept found.0.actor) }
+    ensures line { IfSome result (λ found. BeginsLine n in_trace bytes.now found.0 found.1.now) }
+    ensures shorter { IfSome result (λ found. length found.1.now < length bytes.now) }
+{
+    let (actor, rest) = plain_actor(bytes)?;
+    let (op, rest) = plain_op(rest)?;
+    if in_trace {
+        let replies = after(rest, b" ->")?;
+        let (said, end) = plain_said(replies)?;
+        let after = after(end, b"\n")?;
+        Some((told(n, actor, op, said), after))
+    } else {
+        let after = after(rest, b"\n")?;
+        Some((step(n, actor, op), after))
+    }
+}
+
+fn step(number: u64, actor: Actor, op: Op) -> Line
+    ensures { result ≡ record { number = number; actor = actor; op = op; said = None } }
+{
+    Line {
+        number,
+        actor,
+        op,
+        said: None,
+    }
+}
+
+fn told(number: u64, actor: Actor, op: Op, said: Said) -> Line
+    ensures { result ≡ record { number = number; actor = actor; op = op; said = Some said } }
+{
+    Line {
+        number,
+        actor,
+        op,
+        said: Some(said),
+    }
+}
+
+fn plain_actor(bytes: &[u8]) -> Option<(Actor, &[u8])>
+    ensures actor { IfSome result (λ found. BeginsActor bytes.now found.0 found.1.now) }
+    ensures fits { IfSome result (λ found. FitsKept found.0) }
+    ensures shorter { IfSome result (λ found. length found.1.now ≤ length bytes.now) }
+{
+    match bytes {
+        [b'c', rest @ ..] => Some((Actor::Clock, rest)),
+        _ => {
+            let (hart, rest) = plain_digits(bytes, 10)?;
+            if hart <= LAST_HART {
+                Some((Actor::Hart(hart), rest))
+            } else {
+                None
+            }
+        }
+    }
+}
+
+/// A blank, an operation's name, and its numbers, of which none is a dash and none has a limit of its own.
+fn plain_op(bytes: &[u8]) -> Option<(Op, &[u8])>
+    ensures op { IfSome result (λ found. BeginsOp bytes.now found.0 found.1.now) }
+    ensures shorter { IfSome result (λ found. length found.1.now ≤ length bytes.now) }
+{
+    let (name, rest) = plain_name(bytes)?;
+    let places = name.places();
+    if places.limit != u64::MAX {
+        return None;
+    }
+    let mut arguments = ArrayVec::new();
+    let rest = plain_numbers(rest, &mut arguments);
+    if arguments.len() < places.least || places.most < arguments.len() {
+        return None;
+    }
+    Some((name.op(&arguments), rest))
+}
+
+fn plain_name(bytes: &[u8]) -> Option<(OpName, &[u8])>
+    ensures name { IfSome result (λ found. BeginsName bytes.now found.0 found.1.now) }
+    ensures shorter { IfSome result (λ found. length found.1.now ≤ length bytes.now) }
+{
+    let name = likely_name(bytes)?;
+    let rest = after_name(name, bytes)?;
+    Some((name, rest))
+}
+
+/// The one name that may stand behind a blank, by its letters that tell it from the others. A wrong guess costs no more
+/// than its time.
+fn likely_name(bytes: &[u8]) -> Option<OpName> {
+    match bytes {
+        [_, b'e', ..] => Some(OpName::Ecall),
+        [_, b'l', ..] => Some(OpName::Load),
+        [_, b't', ..] => Some(OpName::Tick),
+        [_, b'a', ..] => Some(OpName::Advance),
+        [_, b'p', ..] => Some(OpName::Poll),
+        [_, b'w', ..] => Some(OpName::Wfi),
+        [_, b'c', ..] => Some(OpName::Clearssip),
+        [_, b'f', b'e', b't', ..] => Some(OpName::Fetch),
+        [_, b'f', ..] => Some(OpName::Fencei),
+        [_, b's', b'i', b'p', ..] => Some(OpName::Sip),
+        [_, b's', b'i', ..] => Some(OpName::Sie),
+        [_, b's', b't', ..] => Some(OpName::Store),
+        [_, b's', b'a', ..] => Some(OpName::Satp),
+        [_, b's', b'f', ..] => Some(OpName::Sfence),
+        [_, b's', b'e', ..] => Some(OpName::Serve),
+        [_, b's', ..] => Some(OpName::Sstatus),
+        _ => None,
+    }
+}
+
+/// What follows a blank and a name.
+fn after_name(name: OpName, bytes: &[u8]) -> Option<&[u8]>
+    ensures name { IfSome result (λ rest. BeginsName bytes.now name rest.now) }
+    ensures shorter { IfSome result (λ rest. length rest.now ≤ length bytes.now) }
+{
+    match name {
+        OpName::Ecall => after(bytes, b" ecall"),
+        OpName::Load => after(bytes, b" load"),
+        OpName::Store => after(bytes, b" store"),
+        OpName::Fetch => after(bytes, b" fetch"),
+        OpName::Satp => after(bytes, b" satp"),
+        OpName::Sie => after(bytes, b" sie"),
+        OpName::Sstatus => after(bytes, b" sstatus"),
+        OpName::Sip => after(bytes, b" sip"),
+        OpName::Clearssip => after(bytes, b" clearssip"),
+        OpName::Sfence => after(bytes, b" sfence"),
+        OpName::Fencei => after(bytes, b" fencei"),
+        OpName::Wfi => after(bytes, b" wfi"),
+        OpName::Poll => after(bytes, b" poll"),
+        OpName::Serve => after(bytes, b" serve"),
+        OpName::Advance => after(bytes, b" advance"),
+        OpName::Tick => after(bytes, b" tick"),
+    }
+}
+
+/// What follows a front, which the bytes may have.
+#[tactic(auto, using(crate::proofs::PlainParts::stripped))]
+fn after<'a>(bytes: &'a [u8], front: &[u8]) -> Option<&'a [u8]>
+    ensures front { IfSome result (λ rest. bytes.now ≡ front.now ++ rest.now) }
+    ensures shorter { IfSome result (λ rest. length rest.now + length front.now ≡ length bytes.now) }
+{
+    bytes.strip_prefix(front)
+}
+
+/// Gathers the numbers that come next, a blank before each, as many as there is room for.
+#[tactic(auto, using(crate::proofs::PlainParts::no_numbers, crate::proofs::PlainParts::numbers_more))]
+fn plain_numbers<'a>(bytes: &'a [u8], found: &mut ArrayVec<Option<u64>, MOST_ARGUMENTS>) -> &'a [u8]
+    requires { found.old.items ≡ [] }
+    ensures numbers { BeginsNumbers bytes.now found.new.items result.now }
+    ensures shorter { length result.now ≤ length bytes.now }
+{
+    let mut rest = bytes;
+    while found.len() < MOST_ARGUMENTS {
+        let Some((n, after)) = plain_number(rest) else {
+            return rest;
+        };
+        found.push(Some(n));
+        rest = after;
+    }
+    rest
+}
+
+#[tactic(auto, using(crate::proofs::PlainParts::hex_begin, crate::proofs::PlainParts::decimal_begin))]
+fn plain_number(bytes: &[u8]) -> Option<(u64, &[u8])>
+    ensures number { IfSome result (λ found. BeginsNumber bytes.now found.0 found.1.now) }
+    ensures shorter { IfSome result (λ found. length found.1.now < length bytes.now) }
+{
+    match after(bytes, b" 0x") {
+        Some(rest) => {
+            let (n, rest) = plain_digits(rest, 16)?;
+            Some((n, rest))
+        }
+        None => {
+            let (n, rest) = plain_digits(after(bytes, b" ")?, 10)?;
+            Some((n, rest))
+        }
+    }
+}
+
+/// The number that the digits spell which the bytes begin with. Bytes that end with a digit have none.
+fn plain_digits(bytes: &[u8], radix: u32) -> Option<(u64, &[u8])>
+    requires low { 2 ≤ radix }
+    requires high { radix ≤ 36 }
+    ensures number { IfSome result (λ found. BeginsDigits radix bytes.now found.0 found.1.now) }
+    ensures small { IfSome result (λ found. found.0 < 2 ^ 64) }
+    ensures shorter { IfSome result (λ found. length found.1.now ≤ length bytes.now) }
+{
+    let mut n = 0;
+    for (i, byte) in bytes.iter().enumerate() {
+        match push_digit(n, *byte, radix) {
+            Some(more) => n = more,
+            None if i == 0 => return None,
+            None => return Some((n, &bytes[i..])),
+        }
+    }
+    None
+}
+
+/// A reply or a refusal, a blank before each of its words.
+fn plain_said(bytes: &[u8]) -> Option<(Said, &[u8])>
+    ensures said { IfSome result (λ found. BeginsSaid bytes.now found.0 found.1.now) }
+    ensures shorter { IfSome result (λ found. length found.1.now ≤ length bytes.now) }
+{
+    match after(bytes, b" ret ") {
+        Some(rest) => plain_ret(rest),
+        None => plain_named_said(bytes),
+    }
+}
+
+/// The error and the value behind `ret`.
+fn plain_ret(bytes: &[u8]) -> Option<(Said, &[u8])>
+    ensures said { (before : List ℕ) → before ≡ codes " ret " ++ bytes.now → IfSome result (λ found. BeginsSaid before found.0 found.1.now) }
+    ensures shorter { IfSome result (λ found. length found.1.now ≤ length bytes.now) }
+{
+    let (error, rest) = plain_signed(bytes)?;
+    let (value, rest) = plain_number(rest)?;
+    Some((Said::Ret { error, value }, rest))
+}
+
+fn plain_signed(bytes: &[u8]) -> Option<(i64, &[u8])>
+    ensures error { IfSome result (λ found. BeginsSigned bytes.now found.0 found.1.now) }
+    ensures shorter { IfSome result (λ found. length found.1.now ≤ length bytes.now) }
+{
+    match after(bytes, b"-") {
+        Some(digits) => {
+            let (n, rest) = plain_digits(digits, 10)?;
+            if n <= LAST_BELOW {
+                Some((below_zero(n), rest))
+            } else {
+                None
+            }
+        }
+        None => {
+            let (n, rest) = plain_digits(bytes, 10)?;
+            if n <= LAST_ABOVE {
+                Some((n as i64, rest))
+            } else {
+                None
+            }
+        }
+    }
+}
+
+fn plain_named_said(bytes: &[u8]) -> Option<(Said, &[u8])>
+    ensures said { IfSome result (λ found. BeginsSaid bytes.now found.0 found.1.now) }
+    ensures shorter { IfSome result (λ found. length found.1.now ≤ length bytes.now) }
+{
+    let name = likely_said(bytes)?;
+    let rest = after_said(name, bytes)?;
+    let places = name.places();
+    if places.limit != u64::MAX {
+        return None;
+    }
+    let mut arguments = ArrayVec::new();
+    let rest = plain_numbers(rest, &mut arguments);
+    if arguments.len() < places.least || places.most < arguments.len() {
+        return None;
+    }
+    Some((name.said(&arguments), rest))
+}
+
+/// The one name that may stand behind a blank, by its first letter. A wrong guess costs no more than its time.
+fn likely_said(bytes: &[u8]) -> Option<SaidName> {
+    match bytes {
+        [_, b'w', ..] => Some(SaidName::Waiting),
+        [_, b'g', ..] => Some(SaidName::Gone),
+        [_, b's', ..] => Some(SaidName::Served),
+        [_, b'd', ..] => Some(SaidName::Done),
+        [_, b'e', ..] => Some(SaidName::Entry),
+        [_, b'v', ..] => Some(SaidName::Value),
+        [_, b'f', ..] => Some(SaidName::Fault),
+        [_, b'm', ..] => Some(SaidName::Moved),
+        [_, b'r', ..] => Some(SaidName::Refused),
+        _ => None,
+    }
+}
+
+/// What follows a blank and a name.
+fn after_said(name: SaidName, bytes: &[u8]) -> Option<&[u8]>
+    ensures name { IfSome result (λ rest. BeginsSaidName bytes.now name rest.now) }
+    ensures shorter { IfSome result (λ rest. length rest.now ≤ length bytes.now) }
+{
+    match name {
+        SaidName::Waiting => after(bytes, b" waiting"),
+        SaidName::Gone => after(bytes, b" gone"),
+        SaidName::Served => after(bytes, b" served"),
+        SaidName::Done => after(bytes, b" done"),
+        SaidName::Entry => after(bytes, b" entry"),
+        SaidName::Value => after(bytes, b" value"),
+        SaidName::Fault => after(bytes, b" fault"),
+        SaidName::Moved => after(bytes, b" moved"),
+        SaidName::Refused => after(bytes, b" refused"),
+    }
+}

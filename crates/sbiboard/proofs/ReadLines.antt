@@ -1,0 +1,102 @@
+-- What is read of a script may be written in a trace.
+use Rattle.std.proofs.Common.{◌≡◌, ℕ, ◌+◌, ◌≤◌, Bool, true, false, List, [], ◌∷◌, ◌++◌, Some, subst, sym, inl, inr}
+use Rattle.std.specs.Prelude.{Result}
+use Rattle.std.specs.List.{AllByRecursion}
+use Rattle.std.specs.Str.Lines.{lines}
+use Rattle.board_core.specs.declared.event.Actor.{Actor}
+use Rattle.board_core.specs.declared.event.Actor.TheVariants.{Hart, Clock}
+use Rattle.board_core.specs.declared.event.Refusal.{Refusal}
+use Rattle.board_core.specs.declared.event.Reply.{Reply}
+use Rattle.board_core.specs.Course.{Course}
+use Rattle.board_core.specs.Limits.{IsGood}
+use Rattle.guest_script.specs.declared.script.Line.{Line}
+use Rattle.guest_script.specs.Grammar.{AreLines, AreScript, Content, content_of, Draft, Empty, Nothing, Blocked, IsActor, IsNext, IsStepLine, numbers_of, Program, Reads, Schedule, Stepped, Trace, Traced, Written}
+use Rattle.guest_script.specs.Words.{AreNumbers}
+use Rattle.sbiboard.specs.declared.running.Job.{Job}
+use Rattle.sbiboard.specs.declared.running.Job.TheVariants.{Check, Replay}
+use Rattle.sbiboard.specs.Fitting.{ActorsFit, AllFit, AreRead}
+use Rattle.sbiboard.specs.Jobs.{lines_for}
+use Rattle.sbiboard.specs.PrintedScripts.{FitsActor, FitsAnswer, FitsConfig, FitsOp}
+use Rattle.sbiboard.specs.Running.{after_line, answer_of}
+use Rattle.guest_script.proofs.PlainWords.{append_all}
+
+actor_read : (word : List ℕ) (actor : Actor) → IsActor word actor → FitsActor actor
+actor_read word (Hart h) is = is.0
+actor_read word Clock is = tt
+
+step_read : (n : ℕ) (in_trace : Bool) (words : List (List ℕ)) (line : Line) → IsStepLine n in_trace words line → FitsActor line.actor
+step_read n false words line is = actor_read is.2.first line.actor is.2.is_actor
+step_read n true words line is = actor_read is.6.first line.actor is.6.is_actor
+
+abbrev DraftFits : Draft → Type 0
+DraftFits Nothing = Unit {0}
+DraftFits (Blocked p) = Unit {0}
+DraftFits (Stepped lines) = ActorsFit lines
+DraftFits (Traced lines) = ActorsFit lines
+
+more_read : (before lines : List Line) (line : Line) → lines ≡ before ++ line ∷ [] → ActorsFit before → FitsActor line.actor → ActorsFit lines
+more_read before lines line are fits more = subst ActorsFit (sym are) (append_all (λ l. FitsActor l.actor) before (line ∷ []) fits (more, tt))
+
+next_read : (n : ℕ) (draft : Draft) (words : List (List ℕ)) (next : Draft) → DraftFits draft → IsNext n draft words next → DraftFits next
+next_read n draft words Nothing fits is = tt
+next_read n draft words (Blocked next) fits is = tt
+next_read n Nothing words (Stepped lines) fits is = more_read [] lines is.0 is.2 tt (step_read n false words is.0 is.1)
+next_read n (Blocked p) words (Stepped lines) fits is = absurd is
+next_read n (Stepped before) words (Stepped lines) fits is = more_read before lines is.0 is.2 fits (step_read n false words is.0 is.1)
+next_read n (Traced before) words (Stepped lines) fits is = absurd is
+next_read n Nothing words (Traced lines) fits is = more_read [] lines is.0 is.2 tt (step_read n true words is.0 is.1)
+next_read n (Blocked p) words (Traced lines) fits is = absurd is
+next_read n (Stepped before) words (Traced lines) fits is = absurd is
+next_read n (Traced before) words (Traced lines) fits is = more_read before lines is.0 is.2 fits (step_read n true words is.0 is.1)
+
+lines_read : (n : ℕ) (draft : Draft) (texts : List (List ℕ)) (last : Draft) → DraftFits draft → AreLines n draft texts last → DraftFits last
+lines_read n draft [] last fits are = subst DraftFits (sym are) fits
+lines_read n draft (text ∷ texts) last fits (inl empty) = lines_read (n + 1) draft texts last fits empty.1
+lines_read n draft (text ∷ texts) last fits (inr line) = lines_read (n + 1) line.1 texts last (next_read n draft line.0 line.1 fits line.3) line.4
+
+numbers_read : (limit : ℕ) (words : List (List ℕ)) (ns : List ℕ) → AreNumbers limit words ns → AllByRecursion (λ n. n ≤ limit) ns
+numbers_read limit [] [] are = tt
+numbers_read limit [] (n ∷ ns) are = absurd are
+numbers_read limit (word ∷ words) [] are = absurd are
+numbers_read limit (word ∷ words) (n ∷ ns) are = (are.0.0, numbers_read limit words ns are.1)
+
+abbrev ContentFits : Content → Type 0
+ContentFits Empty = Unit {0}
+ContentFits (Program blocks clock) = Unit {0}
+ContentFits (Schedule lines) = ActorsFit lines
+ContentFits (Trace lines) = ActorsFit lines
+
+content_read : (draft : Draft) → DraftFits draft → ContentFits (content_of draft)
+content_read Nothing fits = tt
+content_read (Blocked p) fits = tt
+content_read (Stepped lines) fits = fits
+content_read (Traced lines) fits = fits
+
+script_read : (n : ℕ) (texts : List (List ℕ)) (s : Written) → AreScript n texts s → FitsConfig s.config × ContentFits s.content
+script_read n [] s are = absurd are
+script_read n (text ∷ texts) s (inl empty) = script_read (n + 1) texts s empty.1
+script_read n (text ∷ texts) s (inr board) = (
+  numbers_read _ board.3.arguments (numbers_of s.config) board.3.are_numbers,
+  subst ContentFits (sym board.5) (content_read board.1 (lines_read (n + 1) Nothing texts board.1 tt board.4)),
+)
+
+job_read : (job : Job) (content : Content) (lines : List Line) → Some lines ≡ lines_for job content → ContentFits content → ActorsFit lines
+job_read Replay Empty lines are fits = let e : lines ≡ [] = cc in rw e tt
+job_read Replay (Program blocks clock) lines are fits = absurd cc
+job_read Replay (Schedule steps) lines are fits = let e : lines ≡ steps = cc in rw e fits
+job_read Replay (Trace steps) lines are fits = absurd cc
+job_read Check Empty lines are fits = let e : lines ≡ [] = cc in rw e tt
+job_read Check (Program blocks clock) lines are fits = absurd cc
+job_read Check (Schedule steps) lines are fits = absurd cc
+job_read Check (Trace steps) lines are fits = let e : lines ≡ steps = cc in rw e fits
+
+-- a script's lines are as they are read
+pub are_read : (job : Job) (bytes : List ℕ) (s : Written) (lines : List Line) → Reads bytes s → Some lines ≡ lines_for job s.content → IsGood s.config → AreRead s.config lines
+are_read job bytes s found reads are good =
+    let fits = script_read 1 (lines bytes) s reads.1 in record { good = good; config = fits.0; actors = job_read job s.content found are fits.1 }
+
+-- the lines from a line on fit, if it and those after it do
+pub all_fit-more : (b next : Course) (others rest : List Line) (line : Line) → others ≡ line ∷ rest → next ≡ after_line b line
+    → (answer : Result Reply Refusal) → answer ≡ answer_of b line → FitsOp line.op → FitsAnswer answer → AllFit next rest → AllFit b others
+all_fit-more b next others rest line are next_is answer is op fits later =
+    subst (AllFit b) (sym are) (op, subst FitsAnswer is fits, subst (λ c. AllFit c rest) next_is later)

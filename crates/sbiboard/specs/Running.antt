@@ -1,0 +1,93 @@
+-- How a task over a script ends, whichever it is (profile).
+use Rattle.std.specs.Prelude.{◌≡◌, ◌⊎◌, ℕ, ◌+◌, ◌<◌, Bool, true, List, [], ◌∷◌, Option, Some, None, is_some, Result}
+use Rattle.std.specs.Io.KnownBytes.{Appends, IsAtEnd}
+use Rattle.board_core.specs.declared.config.Config.{Config}
+use Rattle.board_core.specs.declared.event.Refusal.{Refusal}
+use Rattle.board_core.specs.declared.event.Reply.{Reply}
+use Rattle.board_core.specs.Course.{Course}
+use Rattle.board_core.specs.Limits.{IsGood}
+use Rattle.board_core.specs.Replies.{answer, stepped}
+use Rattle.guest_script.specs.declared.fault.Fault.{Fault}
+use Rattle.guest_script.specs.declared.fault.Fault.TheVariants as faults
+use Rattle.guest_script.specs.declared.fault.ScriptFault.{ScriptFault}
+use Rattle.guest_script.specs.declared.script.Line.{Line}
+use Rattle.guest_script.specs.FirstFault.{fault_number, first_fault}
+use Rattle.guest_script.specs.Grammar.{Content, Reads, Written, most_bytes}
+use Rattle.sbiboard.specs.declared.outcome.Outcome.{Outcome}
+use Rattle.sbiboard.specs.declared.outcome.Outcome.TheVariants.{Good, Script, BadBoard, WrongKind, HistoryFull, Differs, NoMemory, Io}
+
+-- how many bytes are read at most: one more than a script may have
+abbrev pub read_limit : ℕ
+read_limit = most_bytes + 1
+
+-- ---- a board and its lines
+
+-- a board at its opening
+abbrev pub opening_of : Config → Course
+opening_of c = record { config = c; past = [] }
+
+abbrev pub answer_of : Course → Line → Result Reply Refusal
+answer_of b line = answer b.config b.past line.actor line.op
+
+-- the course after a line, whatever it was answered
+abbrev pub after_line : Course → Line → Course
+after_line b line = stepped b line.actor line.op
+
+-- the course after a list of lines, whatever was refused
+abbrev pub course_after : Course → List Line → Course
+course_after b [] = b
+course_after b (line ∷ lines) = course_after (after_line b line) lines
+
+-- ---- the end of a task
+
+-- The bytes are a script of the kind that is wanted, with these lines, and its board can be made.
+pub record Runs (lines_of : Content → Option (List Line)) (bytes : List ℕ) (config : Config) (lines : List Line) : Type 0 where
+  pub script : Written
+  pub reads : Reads bytes script
+  pub config_is : script.config ≡ config
+  pub lines_are : lines_of script.content ≡ Some lines
+  pub good : IsGood config
+
+-- Why no line was run: the bytes have a fault, or are a script of another kind, or its board can't be made; or memory was refused.
+abbrev pub Stops : (lines_of : Content → Option (List Line)) → List ℕ → Outcome → Type 0
+Stops lines_of bytes (Script line number) = (f : ScriptFault) × (first_fault bytes ≡ Some f) × (f.line ≡ line) × (fault_number f.fault ≡ number)
+Stops lines_of bytes WrongKind = (s : Written) × Reads bytes s × (lines_of s.content ≡ None)
+Stops lines_of bytes BadBoard = (s : Written) × Reads bytes s × (is_some (lines_of s.content) ≡ true) × (¬ IsGood s.config)
+Stops lines_of bytes NoMemory = Unit {0}
+Stops lines_of bytes outcome = ⊥
+
+-- What is written with each outcome, of the bytes that were read. Where the lines were run, `Ends` says it of the board and its lines;
+-- else nothing is written.
+abbrev pub EndsAs : (lines_of : Content → Option (List Line)) → (Ends : Config → List Line → Outcome → List ℕ → Type 0)
+    → List ℕ → Outcome → List ℕ → Type 0
+EndsAs lines_of Ends bytes outcome text =
+    ((config : Config) × (lines : List Line) × Runs lines_of bytes config lines × Ends config lines outcome text)
+    ⊎ (Stops lines_of bytes outcome × (text ≡ []))
+
+-- what a sink was given with each outcome; after a failed call nothing is said of it
+abbrev pub Writes : (Ends : Outcome → List ℕ → Type 0) → Outcome → Option (List ℕ) → Option (List ℕ) → Type 0
+Writes Ends Io old new = Unit {0}
+Writes Ends outcome old new = (text : List ℕ) × Ends outcome text × Appends old new text
+
+-- a source whose script was run was read to its end
+abbrev pub EndsRead : Outcome → Option (List ℕ) → Type 0
+EndsRead Good left = IsAtEnd left
+EndsRead HistoryFull left = IsAtEnd left
+EndsRead Differs left = IsAtEnd left
+EndsRead outcome left = Unit {0}
+
+-- what the text was written to holds nothing of it back
+abbrev pub EndsFlushed : Outcome → (is_flushed : Bool) → Type 0
+EndsFlushed Good is_flushed = is_flushed ≡ true
+EndsFlushed HistoryFull is_flushed = is_flushed ≡ true
+EndsFlushed Differs is_flushed = is_flushed ≡ true
+EndsFlushed outcome is_flushed = Unit {0}
+
+-- the counts of failed calls of a reader and of a writer: one is higher exactly where the outcome says so
+abbrev pub CountsEnd : Outcome → (reader reader' writer writer' : ℕ) → Type 0
+CountsEnd Io reader reader' writer writer' = (reader < reader') ⊎ (writer < writer')
+CountsEnd outcome reader reader' writer writer' = (reader' ≡ reader) × (writer' ≡ writer)
+
+abbrev pub ended_as : ℕ → Fault → Outcome
+ended_as line faults.NoMemory = NoMemory
+ended_as line fault = Script line (fault_number fault)

@@ -1,0 +1,38 @@
+//! The numbers of operations and answers fit registers, by their types. These functions do nothing: their clauses say
+//! it where a proof needs it.
+
+ghost use Rattle.std.specs.Prelude.{◌≡◌, ◌≤◌, length};
+ghost use Rattle.std.specs.List.{AllByRecursion};
+ghost use Rattle.guest_script.specs.Words.{last_number};
+ghost use Rattle.sbiboard.specs.PrintedScripts.{FitsAnswer, FitsOp};
+
+use board_core::{Op, Refusal, Reply};
+
+pub fn op_fits(op: Op)
+    ensures { FitsOp op }
+{
+    match op {
+        Op::Ecall(regs) => regs_fit(regs.eid, regs.fid, regs.a),
+        Op::Load(_) => {}
+        Op::Store(_, _) => {}
+        Op::Fetch(_) => {}
+        Op::WriteSatp(_) => {}
+        Op::WriteSie(_) => {}
+        Op::Sfence(_, _) => {}
+        Op::Tick(_) => {}
+        _ => {}
+    }
+}
+
+fn regs_fit(eid: u64, fid: u64, a: [u64; 6])
+    ensures eid { eid ≤ last_number }
+    ensures fid { fid ≤ last_number }
+    ensures six { length a ≡ 6 }
+    ensures all { AllByRecursion (λ n. n ≤ last_number) a }
+{
+    let [_a0, _a1, _a2, _a3, _a4, _a5] = a;
+}
+
+pub fn answer_fits(answer: Result<Reply, Refusal>)
+    ensures { FitsAnswer answer }
+{}
