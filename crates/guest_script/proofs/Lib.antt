@@ -10,6 +10,7 @@ pub mod Numerals
 pub mod Packed
 pub mod PlainParts
 pub mod PlainRead
+pub mod PlainShapes
 pub mod PlainWords
 pub mod ScriptLines
 pub mod Spacing

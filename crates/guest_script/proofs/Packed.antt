@@ -1,5 +1,5 @@
 -- A line that is kept is the line.
-use Rattle.std.proofs.Common.{◌≡◌, ℕ, zero, suc, ◌+◌, ◌-◌, ◌≤◌, ◌&&◌, eqb, List, [], ◌∷◌, ◌++◌, take, drop, length, get_or, Option, Some, None, refl, sym, ap, ◌∙◌, inl, inr, arith}
+use Rattle.std.proofs.Common.{false, ◌≡◌, ◌≢◌, ◌⊎◌, ℕ, zero, suc, ◌+◌, ◌-◌, ◌≤◌, ◌&&◌, eqb, List, [], ◌∷◌, ◌++◌, take, drop, length, get_or, Option, Some, None, refl, sym, ap, ◌∙◌, inl, inr, arith}
 use Rattle.std.proofs.lemmas.Bool.{cases_Bool, cases_lt, and_parts, eqb-true}
 use Rattle.std.proofs.lemmas.List.{append_assoc, drop-append-le, get_or-take, length-append, length-drop, length-take, map-append, take-append-le, take_all}
 use Rattle.std.proofs.lemmas.List.FromFn.{fill_by_all}
@@ -16,7 +16,7 @@ use Rattle.guest_script.specs.declared.said.Said.TheVariants as says
 use Rattle.guest_script.specs.declared.said_shape.SaidShape.{SaidShape}
 use Rattle.guest_script.specs.declared.script.Line.{Line}
 use Rattle.guest_script.specs.KeptLines.{AreWithin, IsWithin, line_of, lines_of, part}
-use Rattle.guest_script.specs.Packing.{actor_made, actor_number, FitsKept, number_from, op_made, op_numbers, said_count, said_made, said_numbers, said_shape_of, shape_of, used}
+use Rattle.guest_script.specs.Packing.{actor_made, actor_number, FitsKept, number_from, op_made, op_numbers, said_count, said_made, said_numbers, said_shape_of, used}
 
 -- ---- a part of longer lists
 
@@ -69,34 +69,31 @@ length_said (Some (says.Moved state)) = refl
 length_said (Some says.Done) = refl
 length_said (Some (says.Refused n)) = refl
 
--- what is kept of a line behind so many numbers
-abbrev pub kept_as : (from : ℕ) → Line → Kept
-kept_as from line = record { number = line.number; from = from; actor = actor_number line.actor; op = shape_of line.op; op_count = length (op_numbers line.op); said = said_shape_of line.said }
+-- what is kept of a line behind so many numbers, by its operation's shape and numbers
+abbrev pub kept_as : (from : ℕ) → Line → OpShape → List ℕ → Kept
+kept_as from line shape ns = record { number = line.number; from = from; actor = actor_number line.actor; op = shape; op_count = length ns; said = said_shape_of line.said }
 
-abbrev pub numbers_of : Line → List ℕ
-numbers_of line = op_numbers line.op ++ said_numbers line.said
+module _ (numbers : List ℕ) (line : Line) (shape : OpShape) (ns : List ℕ) where
+  kept_within : IsWithin (length (numbers ++ (ns ++ said_numbers line.said))) (kept_as (length numbers) line shape ns)
+  kept_within = omega (arith, length-append numbers (ns ++ said_numbers line.said), length-append ns (said_numbers line.said), length_said line.said)
 
-module _ (numbers : List ℕ) (line : Line) where
-  pub kept_within : IsWithin (length (numbers ++ numbers_of line)) (kept_as (length numbers) line)
-  kept_within = omega (arith, length-append numbers (numbers_of line), length-append (op_numbers line.op) (said_numbers line.said), length_said line.said)
-
-  line_kept : FitsKept line.actor → op_made (shape_of line.op) (op_numbers line.op) ≡ line.op → said_made (said_shape_of line.said) (said_numbers line.said) ≡ line.said
-      → line_of (numbers ++ numbers_of line) (kept_as (length numbers) line) ≡ line
+  line_kept : FitsKept line.actor → op_made shape ns ≡ line.op → said_made (said_shape_of line.said) (said_numbers line.said) ≡ line.said
+      → line_of (numbers ++ (ns ++ said_numbers line.said)) (kept_as (length numbers) line shape ns) ≡ line
   line_kept fits op said =
       rw (
-        part_first numbers (op_numbers line.op) (said_numbers line.said),
+        part_first numbers ns (said_numbers line.said),
         ← length_said line.said,
-        part_second numbers (op_numbers line.op) (said_numbers line.said),
+        part_second numbers ns (said_numbers line.said),
         actor_kept line.actor fits,
         op,
         said,
       ) refl
 
-  pub lines_pushed : (kept : List Kept) → AreWithin (length numbers) kept → FitsKept line.actor → op_made (shape_of line.op) (op_numbers line.op) ≡ line.op → said_made (said_shape_of line.said) (said_numbers line.said) ≡ line.said
-      → lines_of (numbers ++ numbers_of line) (kept ++ kept_as (length numbers) line ∷ []) ≡ lines_of numbers kept ++ line ∷ []
+  lines_pushed : (kept : List Kept) → AreWithin (length numbers) kept → FitsKept line.actor → op_made shape ns ≡ line.op → said_made (said_shape_of line.said) (said_numbers line.said) ≡ line.said
+      → lines_of (numbers ++ (ns ++ said_numbers line.said)) (kept ++ kept_as (length numbers) line shape ns ∷ []) ≡ lines_of numbers kept ++ line ∷ []
   lines_pushed kept within fits op said =
-      map-append (line_of (numbers ++ numbers_of line)) kept (kept_as (length numbers) line ∷ [])
-      ∙ rw (lines_more numbers (numbers_of line) kept within, line_kept fits op said) refl
+      map-append (line_of (numbers ++ (ns ++ said_numbers line.said))) kept (kept_as (length numbers) line shape ns ∷ [])
+      ∙ rw (lines_more numbers (ns ++ said_numbers line.said) kept within, line_kept fits op said) refl
 
 pub within_both : (n : ℕ) (kept more : List Kept) → AreWithin n kept → AreWithin n more → AreWithin n (kept ++ more)
 within_both n [] more within later = later
@@ -125,7 +122,7 @@ past_end [] i past = refl
 past_end (n ∷ ns) zero past = absurd (omega (arith, past))
 past_end (n ∷ ns) (suc i) past = past_end ns i (omega (arith, past))
 
-taken : (ns : List ℕ) (i : ℕ) → get_or (take (used ns) ns) i 0 ≡ get_or ns i 0
+pub taken : (ns : List ℕ) (i : ℕ) → get_or (take (used ns) ns) i 0 ≡ get_or ns i 0
 taken ns i = elim (cases_lt i (used ns)) [
   | inl within ↦ get_or-take (used ns) ns i 0 within
   | inr past ↦ past_end (take (used ns) ns) i (omega (arith, past, length-take (used ns) ns)) ∙ sym (zeros ns i past)
@@ -139,36 +136,70 @@ call_made regs six =
 
 -- a line that is put behind others
 pub record IsPut (old new : List ℕ) (line : Line) (kept : Kept) : Type 0 where
-  pub numbers : new ≡ old ++ numbers_of line
-  pub is : kept ≡ kept_as (length old) line
+  pub shape : OpShape
+  pub ns : List ℕ
+  pub numbers : new ≡ old ++ (ns ++ said_numbers line.said)
+  pub is : kept ≡ kept_as (length old) line shape ns
   pub fits : FitsKept line.actor
-  pub op : op_made (shape_of line.op) (op_numbers line.op) ≡ line.op
+  pub op : op_made shape ns ≡ line.op
   pub said : said_made (said_shape_of line.said) (said_numbers line.said) ≡ line.said
 
-put_is : (old middle new : List ℕ) (line : Line) (kept : Kept) → middle ≡ old ++ op_numbers line.op → new ≡ middle ++ said_numbers line.said → (new ≡ old ++ numbers_of line) × (length middle ≡ length old + length (op_numbers line.op))
-put_is old middle new line kept first second =
-    (second ∙ rw first (append_assoc old (op_numbers line.op) (said_numbers line.said)), ap length first ∙ length-append old (op_numbers line.op))
-
-pub put_from : (old middle new : List ℕ) (line : Line) (op : OpShape) (said : SaidShape) (actor from count : ℕ) → middle ≡ old ++ op_numbers line.op → new ≡ middle ++ said_numbers line.said
-    → op ≡ shape_of line.op → said ≡ said_shape_of line.said → actor ≡ actor_number line.actor → from ≡ length old → count ≡ length middle - length old
-    → FitsKept line.actor → op_made op (op_numbers line.op) ≡ line.op → said_made said (said_numbers line.said) ≡ line.said
-    → IsPut old new line (record { number = line.number; from = from; actor = actor; op = op; op_count = count; said = said })
-put_from old middle new line op said actor from count first second is_op is_said is_actor is_from is_count fits op_is said_is =
-    let put = put_is old middle new line (kept_as 0 line) first second in
-    let counted : count ≡ length (op_numbers line.op) = omega (arith, is_count, put.1) in
+pub put_from : (old middle new : List ℕ) (line : Line) (shape : OpShape) (ns : List ℕ) (said : SaidShape) (actor from count : ℕ) → middle ≡ old ++ ns → new ≡ middle ++ said_numbers line.said
+    → said ≡ said_shape_of line.said → actor ≡ actor_number line.actor → from ≡ length old → count ≡ length middle - length old
+    → FitsKept line.actor → op_made shape ns ≡ line.op → said_made said (said_numbers line.said) ≡ line.said
+    → IsPut old new line (record { number = line.number; from = from; actor = actor; op = shape; op_count = count; said = said })
+put_from old middle new line shape ns said actor from count first second is_said is_actor is_from is_count fits op said_is =
+    let counted : count ≡ length ns = omega (arith, is_count, ap length first, length-append old ns) in
     record {
-      numbers = put.0;
-      is = rw (is_op, is_said, is_actor, is_from, counted) refl;
+      shape = shape;
+      ns = ns;
+      numbers = second ∙ rw first (append_assoc old ns (said_numbers line.said));
+      is = rw (is_said, is_actor, is_from, counted) refl;
       fits = fits;
-      op = rw is_op at op_is;
+      op = op;
       said = rw is_said at said_is;
     }
 
 module _ {old new : List ℕ} {line : Line} {first : Kept} (put : IsPut old new line first) (kept : List Kept) (within : AreWithin (length old) kept) where
   pub put_lines : lines_of new (kept ++ first ∷ []) ≡ lines_of old kept ++ line ∷ []
-  put_lines = rw (put.numbers, put.is) (lines_pushed old line kept within put.fits put.op put.said)
+  put_lines = rw (put.numbers, put.is) (lines_pushed old line put.shape put.ns kept within put.fits put.op put.said)
 
   pub put_within : AreWithin (length new) (kept ++ first ∷ [])
   put_within =
+      let more : List ℕ = put.ns ++ said_numbers line.said in
       rw (put.numbers, put.is)
-      (within_both (length (old ++ numbers_of line)) kept (kept_as (length old) line ∷ []) (within_more (length old) _ kept (omega (arith, length-append old (numbers_of line))) within) (kept_within old line, tt))
+      (within_both (length (old ++ more)) kept (kept_as (length old) line put.shape put.ns ∷ []) (within_more (length old) _ kept (omega (arith, length-append old more)) within) (kept_within old line put.shape put.ns, tt))
+
+-- ---- zeros at the end
+
+last_used : (ns : List ℕ) (k : ℕ) → used ns ≡ suc k → get_or ns k 0 ≡ 0 → ⊥
+last_used [] k is zero_there = cc
+last_used (n ∷ ns) k is zero_there = elim (cases_Bool (eqb (used ns) 0 && eqb n 0)) [
+  | inl none ↦ let e = rw none at is in cc
+  | inr some ↦ last_of n ns k some (rw some at is) zero_there (λ j. last_used ns j)
+] where
+  last_of : (n : ℕ) (ns : List ℕ) (k : ℕ) → (eqb (used ns) 0 && eqb n 0) ≡ false → suc (used ns) ≡ suc k → get_or (n ∷ ns) k 0 ≡ 0 → ((j : ℕ) → used ns ≡ suc j → get_or ns j 0 ≡ 0 → ⊥) → ⊥
+  last_of n ns zero some is there rest = let none : used ns ≡ 0 = omega (arith, is) in let both = rw (none, there) at some in cc
+  last_of n ns (suc k) some is there rest = rest k (omega (arith, is)) there
+
+-- a number that is 0 isn't the last of those
+pub used_before : (ns : List ℕ) (k : ℕ) → used ns ≤ k + 1 → get_or ns k 0 ≡ 0 → used ns ≤ k
+used_before ns k within there = elim (cases_lt k (used ns)) [
+  | inl past ↦ absurd (last_used ns k (omega (arith, within, past)) there)
+  | inr done ↦ done
+]
+
+-- where no zero is left there
+pub used_is : (ns : List ℕ) (k : ℕ) → used ns ≤ k → (k ≡ 0) ⊎ (get_or ns (k - 1) 0 ≢ 0) → used ns ≡ k
+used_is ns k within (inl none) = omega (arith, within, none)
+used_is ns k within (inr there) = elim (cases_lt (used ns) k) [
+  | inl past ↦ absurd (there (zeros ns (k - 1) (omega (arith, past))))
+  | inr same ↦ omega (arith, within, same)
+]
+
+pub used_le : (ns : List ℕ) → used ns ≤ length ns
+used_le [] = omega arith
+used_le (n ∷ ns) = elim (cases_Bool (eqb (used ns) 0 && eqb n 0)) [
+  | inl none ↦ rw none (omega arith)
+  | inr some ↦ let later = used_le ns in rw some (omega (arith, later))
+]

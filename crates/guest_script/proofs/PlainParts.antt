@@ -1,10 +1,10 @@
 -- The parts of a line that is read as it is printed.
-use Rattle.std.proofs.Common.{◌≡◌, ℕ, ℤ, pos, neg_ℤ, zero, suc, ◌+◌, ◌-◌, ◌*◌, ◌<◌, ◌≤◌, ◌^◌, Bool, true, false, cond, ltb, ◌&&◌, List, [], ◌∷◌, ◌++◌, length, get_or, take, drop, map, codes, Option, Some, None, refl, sym, ap, ◌∙◌, inl, inr, arith}
+use Rattle.std.proofs.Common.{◌≡◌, ℕ, ℤ, pos, neg_ℤ, zero, suc, ◌+◌, ◌-◌, ◌*◌, ◌<◌, ◌≤◌, ◌^◌, Bool, true, false, cond, ltb, ◌&&◌, List, [], ◌∷◌, ◌++◌, length, get_or, take, drop, codes, Option, Some, None, refl, sym, ap, ◌∙◌, inl, inr, arith}
 use Rattle.std.specs.Char.{digit_value, is_digit}
 use Rattle.std.specs.Str.{bytes_eq}
 use Rattle.std.specs.Str.Parse.{digits_value, IsNumeral}
 use Rattle.std.proofs.lemmas.Bool.{le-leb, ltb-true}
-use Rattle.std.proofs.lemmas.List.{append_assoc, append-nil, length-drop, length-map, map-append, take-append-drop, take_all}
+use Rattle.std.proofs.lemmas.List.{append_assoc, append-nil, length-drop, take-append-drop, take_all}
 use Rattle.std.proofs.Math.Seq.{take-suc}
 use Rattle.std.proofs.lemmas.Slice.Eq.{bytes_eq-Decides}
 use Rattle.board_core.specs.declared.event.Actor.{Actor}
@@ -18,6 +18,7 @@ use Rattle.guest_script.specs.Reading.{IsFormAt, made_from}
 use Rattle.guest_script.specs.Values.{is_numeral}
 use Rattle.guest_script.specs.Scanning.{digit_after, digits_after, and_digits, numeral_of}
 use Rattle.guest_script.specs.PlainLines.{behind, BeginsActor, BeginsDigits, BeginsLine, BeginsNumber, BeginsNumbers, BeginsOp, BeginsSaid, BeginsSigned}
+use Rattle.guest_script.proofs.PlainShapes.{some_all}
 use Rattle.guest_script.proofs.LineWords.{length_numbers}
 use Rattle.guest_script.proofs.Numerals.{at_most, numeral_at_most}
 use Rattle.guest_script.proofs.Spelling.{numeral_tested}
@@ -100,25 +101,17 @@ numbers_append [] ys (n ∷ ns) ms numbers later = absurd numbers
 numbers_append (x ∷ xs) ys [] ms numbers later = absurd numbers
 numbers_append (x ∷ xs) ys (n ∷ ns) ms numbers later = (numbers.0, numbers_append xs ys ns ms numbers.1 later)
 
-pub no_numbers : (bytes : List ℕ) (found : List (Option ℕ)) → found ≡ [] → BeginsNumbers bytes found bytes
-no_numbers bytes found none = ([], [], refl, tt, none)
+pub no_numbers : (bytes ns : List ℕ) → ns ≡ [] → BeginsNumbers bytes ns bytes
+no_numbers bytes ns none = ([], refl, rw none tt)
 
-pub numbers_more : (bytes : List ℕ) (found : List (Option ℕ)) (rest : List ℕ) (n : ℕ) (after : List ℕ) → BeginsNumbers bytes found rest → BeginsNumber rest n after → BeginsNumbers bytes (found ++ Some n ∷ []) after
-numbers_more bytes found rest n after (words, ns, parts, numbers, is) (word, at, number) = (
+pub numbers_more : (bytes ns rest : List ℕ) (n : ℕ) (after : List ℕ) → BeginsNumbers bytes ns rest → BeginsNumber rest n after → BeginsNumbers bytes (ns ++ n ∷ []) after
+numbers_more bytes ns rest n after (words, parts, numbers) (word, at, number) = (
   words ++ word ∷ [],
-  ns ++ n ∷ [],
   parts ∙ rw at (sym (append_assoc (behind words) (32 ∷ (word ++ [])) after ∙ ap (λ (b : List ℕ). behind words ++ 32 ∷ b) (append_assoc word [] after))) ∙ ap (λ (b : List ℕ). b ++ after) (sym (behind-append words (word ∷ []))),
   numbers_append words (word ∷ []) ns (n ∷ []) numbers (number, tt),
-  ap (λ (xs : List (Option ℕ)). xs ++ Some n ∷ []) is ∙ sym (map-append (λ k. Some k) ns (n ∷ [])),
 )
 
 -- ---- operations
-
-abbrev some_all : List ℕ → List (Option ℕ)
-some_all ns = map (λ n. Some n) ns
-
-length_words : (words : List (List ℕ)) (ns : List ℕ) → AreNumbers last_number words ns → length words ≡ length (some_all ns)
-length_words words ns numbers = length_numbers last_number words ns numbers ∙ sym (length-map ns (λ n. Some n))
 
 any_arguments : (dash : Bool) (limit : ℕ) (words : List (List ℕ)) (ns : List ℕ) → AreNumbers limit words ns → AreArguments dash limit words (some_all ns)
 any_arguments dash limit [] [] numbers = tt
@@ -128,7 +121,7 @@ any_arguments dash limit (word ∷ words) (n ∷ ns) numbers = (numbers.0, any_a
 
 module _ {A : Type 0} (form_of : List ℕ → Option (Form A)) (otherwise : A) where
   named_by : (name : List ℕ) (places : Places) (form : Option (Form A)) (words : List (List ℕ)) (ns : List ℕ) → form_of name ≡ form → IsFormAt places form → places.limit ≡ last_number
-      → AreNumbers last_number words ns → places.least ≤ length (some_all ns) → length (some_all ns) ≤ places.most → IsNamed form_of (name ∷ words) (made_from otherwise form (some_all ns))
+      → AreNumbers last_number words ns → places.least ≤ length ns → length ns ≤ places.most → IsNamed form_of (name ∷ words) (made_from otherwise form (some_all ns))
   named_by name places None words ns at is limit numbers enough not_more = absurd is
   named_by name places (Some form) words ns at is limit numbers enough not_more = record {
     name = name;
@@ -137,20 +130,20 @@ module _ {A : Type 0} (form_of : List ℕ → Option (Form A)) (otherwise : A) w
     arguments = some_all ns;
     parts = refl;
     has_form = at;
-    enough = omega (arith, is.0, enough, length_words words ns numbers);
-    not_more = omega (arith, is.1, not_more, length_words words ns numbers);
+    enough = omega (arith, is.0, enough, length_numbers last_number words ns numbers);
+    not_more = omega (arith, is.1, not_more, length_numbers last_number words ns numbers);
     are_arguments = rw (is.2, limit) (any_arguments form.may_be_absent last_number words ns numbers);
     made = refl;
   }
 
   -- a name and its numbers
-  pub named_begins : (bytes name middle : List ℕ) (places : Places) (arguments : List (Option ℕ)) (rest : List ℕ) (value : A) → bytes ≡ 32 ∷ (name ++ middle) → IsFormAt places (form_of name) → places.limit ≡ last_number
-      → BeginsNumbers middle arguments rest → places.least ≤ length arguments → length arguments ≤ places.most → value ≡ made_from otherwise (form_of name) arguments
+  pub named_begins : (bytes name middle : List ℕ) (places : Places) (ns rest : List ℕ) (value : A) → bytes ≡ 32 ∷ (name ++ middle) → IsFormAt places (form_of name) → places.limit ≡ last_number
+      → BeginsNumbers middle ns rest → places.least ≤ length ns → length ns ≤ places.most → value ≡ made_from otherwise (form_of name) (some_all ns)
       → (words : List (List ℕ)) × (bytes ≡ behind words ++ rest) × IsNamed form_of words value
-  named_begins bytes name middle places arguments rest value at is limit (words, ns, parts, numbers, given) enough not_more made = (
+  named_begins bytes name middle places ns rest value at is limit (words, parts, numbers) enough not_more made = (
     name ∷ words,
     at ∙ ap (λ (b : List ℕ). 32 ∷ (name ++ b)) parts ∙ ap (λ (b : List ℕ). 32 ∷ b) (sym (append_assoc name (behind words) rest)),
-    rw (made, given) (named_by name places (form_of name) words ns refl is limit numbers (rw given at enough) (rw given at not_more)),
+    rw made (named_by name places (form_of name) words ns refl is limit numbers enough not_more),
   )
 
 -- ---- what is said

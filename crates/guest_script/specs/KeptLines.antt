@@ -2,6 +2,7 @@
 use Rattle.std.specs.Prelude.{ℕ, ◌+◌, ◌≤◌, List, take, drop, map}
 use Rattle.std.specs.List.{AllByRecursion}
 use Rattle.guest_script.specs.declared.kept.Kept.{Kept}
+use Rattle.guest_script.specs.declared.plain.Plain.{Plain}
 use Rattle.guest_script.specs.declared.script.Line.{Line}
 use Rattle.guest_script.specs.Packing.{actor_made, op_made, said_count, said_made}
 
@@ -27,3 +28,7 @@ IsWithin count kept = kept.from + (kept.op_count + said_count kept.said) ≤ cou
 
 abbrev pub AreWithin : (count : ℕ) → List Kept → Type 0
 AreWithin count kept = AllByRecursion (IsWithin count) kept
+
+-- the line that parts make
+abbrev pub plain_line : (number : ℕ) → Plain → (numbers : List ℕ) → Line
+plain_line number plain numbers = record { number = number; actor = plain.actor; op = op_made plain.op numbers; said = plain.said }

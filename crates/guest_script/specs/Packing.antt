@@ -1,14 +1,18 @@
 -- How a line is kept: its shape, and its numbers among those of all lines.
-use Rattle.std.specs.Prelude.{ℕ, suc, ◌<◌, true, false, ◌&&◌, if◌then◌else◌, ◌==◌, List, [], ◌∷◌, ◌++◌, take, slice_index_or, Option, Some, None}
+use Rattle.std.specs.Prelude.{ℕ, suc, ◌<◌, true, false, ◌&&◌, if◌then◌else◌, ◌==◌, List, [], ◌∷◌, ◌++◌, take, length, slice_index_or, Option, Some, None}
 use Rattle.std.specs.Int.{w64, cast_signed, cast_unsigned}
 use Rattle.board_core.specs.declared.event.Actor.{Actor}
 use Rattle.board_core.specs.declared.event.Actor.TheVariants.{Hart, Clock}
 use Rattle.board_core.specs.declared.event.Op.{Op}
 use Rattle.board_core.specs.declared.event.Op.TheVariants as ops
+use Rattle.guest_script.specs.declared.op_name.OpName.{OpName}
+use Rattle.guest_script.specs.declared.op_name.OpName.TheVariants as names
 use Rattle.guest_script.specs.declared.op_shape.OpShape.{OpShape}
 use Rattle.guest_script.specs.declared.op_shape.OpShape.TheVariants.{Ecall, Load, Store, Fetch, WriteSatp, WriteSie, SstatusOff, SstatusOn, ReadSip, ClearSsip, SfenceAll, SfenceAddress, SfenceAsid, SfenceBoth, FenceI, Wfi, Poll, Serve, Advance, Tick}
 use Rattle.guest_script.specs.declared.said.Said.{Said}
 use Rattle.guest_script.specs.declared.said.Said.TheVariants as says
+use Rattle.guest_script.specs.declared.said_name.SaidName.{SaidName}
+use Rattle.guest_script.specs.declared.said_name.SaidName.TheVariants as said_names
 use Rattle.guest_script.specs.declared.said_shape.SaidShape.{SaidShape}
 use Rattle.guest_script.specs.declared.said_shape.SaidShape.TheVariants as shapes
 
@@ -96,6 +100,30 @@ op_made Serve ns = ops.Serve
 op_made Advance ns = ops.Advance
 op_made Tick ns = ops.Tick (number_from ns 0)
 
+-- the shape of an operation of this name, with a number in each place
+abbrev pub plain_shape : OpName → OpShape
+plain_shape names.Ecall = Ecall
+plain_shape names.Load = Load
+plain_shape names.Store = Store
+plain_shape names.Fetch = Fetch
+plain_shape names.Satp = WriteSatp
+plain_shape names.Sie = WriteSie
+plain_shape names.Sstatus = SstatusOff
+plain_shape names.Sip = ReadSip
+plain_shape names.Clearssip = ClearSsip
+plain_shape names.Sfence = SfenceBoth
+plain_shape names.Fencei = FenceI
+plain_shape names.Wfi = Wfi
+plain_shape names.Poll = Poll
+plain_shape names.Serve = Serve
+plain_shape names.Advance = Advance
+plain_shape names.Tick = Tick
+
+-- how many of its numbers are kept: of a call those before the zeros at the end
+abbrev pub kept_count : OpShape → List ℕ → ℕ
+kept_count Ecall ns = used ns
+kept_count shape ns = length ns
+
 -- ---- what is said
 
 abbrev pub said_shape_of : Option Said → SaidShape
@@ -137,6 +165,18 @@ said_made shapes.Served ns = Some says.Served
 said_made shapes.Moved ns = Some (says.Moved (number_from ns 0))
 said_made shapes.Done ns = Some says.Done
 said_made shapes.Refused ns = Some (says.Refused (number_from ns 0))
+
+-- the shape of what is said under this name
+abbrev pub plain_said_shape : SaidName → SaidShape
+plain_said_shape said_names.Waiting = shapes.Waiting
+plain_said_shape said_names.Gone = shapes.Gone
+plain_said_shape said_names.Served = shapes.Served
+plain_said_shape said_names.Done = shapes.Done
+plain_said_shape said_names.Entry = shapes.Entry
+plain_said_shape said_names.Value = shapes.Value
+plain_said_shape said_names.Fault = shapes.Fault
+plain_said_shape said_names.Moved = shapes.Moved
+plain_said_shape said_names.Refused = shapes.Refused
 
 -- how many numbers that is
 abbrev pub said_count : SaidShape → ℕ

@@ -1,5 +1,5 @@
 -- Lines as steps are printed: words of letters, digits and marks, one blank between each two, and a line feed.
-use Rattle.std.specs.Prelude.{◌≡◌, ℕ, ℤ, Bool, List, [], ◌∷◌, ◌++◌, map, Option, Some}
+use Rattle.std.specs.Prelude.{◌≡◌, ℕ, ℤ, Bool, List, [], ◌∷◌, ◌++◌}
 use Rattle.std.specs.Str.Parse.{IsNumeral, digits_value}
 use Rattle.board_core.specs.declared.event.Actor.{Actor}
 use Rattle.board_core.specs.declared.event.Op.{Op}
@@ -34,9 +34,8 @@ abbrev pub BeginsNumber : List ℕ → ℕ → List ℕ → Type 0
 BeginsNumber bytes n rest = (word : List ℕ) × (bytes ≡ 32 ∷ (word ++ rest)) × IsNumber last_number word n
 
 -- the bytes begin with numbers, a blank before each
-abbrev pub BeginsNumbers : List ℕ → List (Option ℕ) → List ℕ → Type 0
-BeginsNumbers bytes arguments rest =
-    (words : List (List ℕ)) × (ns : List ℕ) × (bytes ≡ behind words ++ rest) × AreNumbers last_number words ns × (arguments ≡ map (λ n. Some n) ns)
+abbrev pub BeginsNumbers : List ℕ → List ℕ → List ℕ → Type 0
+BeginsNumbers bytes ns rest = (words : List (List ℕ)) × (bytes ≡ behind words ++ rest) × AreNumbers last_number words ns
 
 -- the bytes begin with an operation
 abbrev pub BeginsOp : List ℕ → Op → List ℕ → Type 0

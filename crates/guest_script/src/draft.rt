@@ -19,6 +19,7 @@ use crate::script::{Body, Line};
 use crate::step::{one_number, step_line};
 use crate::text::{is_clean, next_line};
 use crate::words::next_word;
+use arrayvec::ArrayVec;
 use std::alloc::{AllocError, Global};
 
 /// What the lines so far say.
@@ -83,17 +84,18 @@ impl BodyDraft {
             (λ after. (in_trace : Bool) × (line : Line) × BeginsLine n in_trace bytes.now line after.now × (may_follow (draft_of self.old) (Step in_trace) ≡ true)
             × (draft_of self.new ≡ with_step in_trace (draft_of self.old) line) × (length after.now < length bytes.now))) }
     {
+        let mut numbers = ArrayVec::new();
         match self {
-            BodyDraft::Steps(steps) => match plain_line(n, false, bytes) {
-                Some((line, after)) => {
-                    steps.push(&line)?;
+            BodyDraft::Steps(steps) => match plain_line(false, bytes, &mut numbers) {
+                Some((plain, after)) => {
+                    steps.push_plain(n, plain, &numbers)?;
                     Ok(Some(after))
                 }
                 None => Ok(None),
             },
-            BodyDraft::Trace(steps) => match plain_line(n, true, bytes) {
-                Some((line, after)) => {
-                    steps.push(&line)?;
+            BodyDraft::Trace(steps) => match plain_line(true, bytes, &mut numbers) {
+                Some((plain, after)) => {
+                    steps.push_plain(n, plain, &numbers)?;
                     Ok(Some(after))
                 }
                 None => Ok(None),

@@ -1,11 +1,12 @@
 ghost use Rattle.std.specs.Prelude.{◌≡◌, ◌==◌, ◌++◌, ◌∷◌, [], ◌*◌, ◌+◌, ◌<◌, ◌≤◌, ◌^◌, List, OnOk, length, slice_get, vec_len};
 ghost use Rattle.std.specs.Iterator.{YieldsFirst, item_count};
 ghost use Rattle.guest_script.specs.declared.script.Line.{Line};
-ghost use Rattle.guest_script.specs.KeptLines.{AreWithin, lines_of};
+ghost use Rattle.guest_script.specs.KeptLines.{AreWithin, lines_of, plain_line};
 ghost use Rattle.guest_script.specs.Packing.{FitsKept};
 
 use crate::kept::{Kept, actor_number};
-use crate::op_shape::{OP_NUMBERS, OpShape};
+use crate::op_shape::{OP_NUMBERS, OpShape, put_all};
+use crate::plain::Plain;
 use crate::said_shape::{SAID_NUMBERS, SaidShape};
 use crate::script::Line;
 use std::alloc::{AllocError, Global};
@@ -63,6 +64,40 @@ impl Lines {
             actor: actor_number(line.actor),
             op,
             op_count: (middle - from) as u8,
+            said,
+        });
+        Ok(())
+    }
+
+    /// A line more at the end, whose operation is of a shape and has these numbers.
+    ///
+    /// # Errors
+    ///
+    /// Memory was refused.
+    pub(crate) fn push_plain(
+        &mut self,
+        number: u64,
+        plain: Plain,
+        numbers: &[u64],
+    ) -> Result<(), AllocError>
+        requires number { number < 2 ^ 28 }
+        requires actor { FitsKept plain.actor }
+        requires numbers { length numbers.now ≤ OP_NUMBERS }
+        requires few { length self.old < 2 ^ 28 }
+        ensures { OnOk result (self.new ≡ self.old ++ plain_line number plain numbers.now ∷ []) }
+    {
+        self.kept.reserve(1)?;
+        self.numbers.reserve(LINE_NUMBERS)?;
+        let from = self.numbers.len();
+        let count = plain.op.kept_count(numbers);
+        put_all(&numbers[..count], &mut self.numbers);
+        let said = SaidShape::put(plain.said, &mut self.numbers);
+        self.kept.push_reserved(Kept {
+            number: number as u32,
+            from: from as u32,
+            actor: actor_number(plain.actor),
+            op: plain.op,
+            op_count: count as u8,
             said,
         });
         Ok(())

@@ -1,6 +1,7 @@
 ghost use Rattle.std.specs.Prelude.{◌≡◌, ◌+◌, ◌≤◌, ◌++◌, ◌∷◌, [], take, length, vec_len, vec_capacity};
-ghost use Rattle.guest_script.specs.Packing.{number_from, op_made, op_numbers, shape_of, used};
+ghost use Rattle.guest_script.specs.Packing.{kept_count, number_from, op_made, op_numbers, plain_shape, shape_of, used};
 
+use crate::op_name::OpName;
 use board_core::Op;
 use sbi_abi::Regs;
 
@@ -83,6 +84,48 @@ impl OpShape {
                 numbers.push_reserved(n);
                 OpShape::Tick
             }
+        }
+    }
+
+    /// The shape of an operation of this name, with a number in each place.
+    pub fn of_name(name: OpName) -> OpShape
+        ensures { result ≡ plain_shape name }
+    {
+        match name {
+            OpName::Ecall => OpShape::Ecall,
+            OpName::Load => OpShape::Load,
+            OpName::Store => OpShape::Store,
+            OpName::Fetch => OpShape::Fetch,
+            OpName::Satp => OpShape::WriteSatp,
+            OpName::Sie => OpShape::WriteSie,
+            OpName::Sstatus => OpShape::SstatusOff,
+            OpName::Sip => OpShape::ReadSip,
+            OpName::Clearssip => OpShape::ClearSsip,
+            OpName::Sfence => OpShape::SfenceBoth,
+            OpName::Fencei => OpShape::FenceI,
+            OpName::Wfi => OpShape::Wfi,
+            OpName::Poll => OpShape::Poll,
+            OpName::Serve => OpShape::Serve,
+            OpName::Advance => OpShape::Advance,
+            OpName::Tick => OpShape::Tick,
+        }
+    }
+
+    /// How many of an operation's numbers are kept: of a call those before the zeros at the end.
+    pub fn kept_count(self, numbers: &[u64]) -> usize
+        ensures count { result ≡ kept_count self numbers.now }
+        ensures bound { result ≤ length numbers.now }
+    {
+        match self {
+            OpShape::Ecall => used(numbers),
+            OpShape::Load | OpShape::Store | OpShape::Fetch => numbers.len(),
+            OpShape::WriteSatp | OpShape::WriteSie => numbers.len(),
+            OpShape::SstatusOff | OpShape::SstatusOn => numbers.len(),
+            OpShape::ReadSip | OpShape::ClearSsip => numbers.len(),
+            OpShape::SfenceAll | OpShape::SfenceAddress => numbers.len(),
+            OpShape::SfenceAsid | OpShape::SfenceBoth => numbers.len(),
+            OpShape::FenceI | OpShape::Wfi | OpShape::Poll => numbers.len(),
+            OpShape::Serve | OpShape::Advance | OpShape::Tick => numbers.len(),
         }
     }
 
@@ -195,7 +238,7 @@ fn put_call(regs: Regs, numbers: &mut Vec<u64>)
     put_all(&regs.a[..count], numbers);
 }
 
-fn put_all(more: &[u64], numbers: &mut Vec<u64>)
+pub fn put_all(more: &[u64], numbers: &mut Vec<u64>)
     requires { vec_len numbers.old + length more.now ≤ vec_capacity numbers.old }
     ensures numbers { numbers.new.items ≡ numbers.old.items ++ more.now }
     ensures len { vec_len numbers.new ≡ vec_len numbers.old + length more.now }
@@ -211,15 +254,9 @@ fn used(numbers: &[u64]) -> usize
     ensures count { result ≡ used numbers.now }
     ensures bound { result ≤ length numbers.now }
 {
-    match numbers {
-        [] => 0,
-        [first, rest @ ..] => {
-            let count = used(rest);
-            if count == 0 && *first == 0 {
-                0
-            } else {
-                count + 1
-            }
-        }
+    let mut count = numbers.len();
+    while count > 0 && numbers[count - 1] == 0 {
+        count -= 1;
     }
+    count
 }

@@ -1,56 +1,72 @@
 ghost use Rattle.std.specs.Prelude.{◌≡◌, ◌+◌, ◌≤◌, ◌<◌, ◌++◌, ◌^◌, [], ℕ, List, None, Some, codes, IfSome, length};
 ghost use Rattle.guest_script.specs.PlainLines.{BeginsActor, BeginsDigits, BeginsLine, BeginsName, BeginsNumber, BeginsNumbers, BeginsOp, BeginsSaid, BeginsSaidName, BeginsSigned};
-ghost use Rattle.guest_script.specs.Packing.{FitsKept};
+ghost use Rattle.guest_script.specs.KeptLines.{plain_line};
+ghost use Rattle.guest_script.specs.Packing.{FitsKept, op_made};
 
 use crate::number::{LAST_ABOVE, LAST_BELOW, below_zero, push_digit};
 use crate::numbers::MOST_ARGUMENTS;
 use crate::op_name::OpName;
+use crate::op_shape::OpShape;
 use crate::said::Said;
 use crate::said_name::SaidName;
-use crate::script::Line;
+use crate::said_shape::SaidShape;
 use arrayvec::ArrayVec;
-use board_core::{Actor, Op};
+use board_core::Actor;
 
 /// The largest number of a hart.
 const LAST_HART: u64 = 127;
 
-/// Line `n` of a schedule or of a trace, which the bytes begin with, and the bytes after it, if it stands in the form in
-/// which steps are printed, and has no dash. It is read in one pass; each other form is for the reader of words.
-pub fn plain_line(n: u64, in_trace: bool, bytes: &[u8]) -> Option<(Line, &[u8])>
-    ensures number { IfSome result (λ found. found.0.number ≡ n) }
+/// The parts of a line, but for its number and its operation's numbers.
+#[derive(Clone, Copy)]
+pub struct Plain {
+    /// Who makes the step.
+    pub actor: Actor,
+    /// What it does.
+    pub op: OpShape,
+    /// What it gave, in a trace.
+    pub said: Option<Said>,
+}
+
+/// A line of a schedule or of a trace, which the bytes begin with, and the bytes after it, if it stands in the form in which
+/// steps are printed, and has no dash. Its operation's numbers are gathered. It is read in one pass; each other form is for
+/// the reader of words.
+pub fn plain_line<'a>(
+    in_trace: bool,
+    bytes: &'a [u8],
+    numbers: &mut ArrayVec<u64, MOST_ARGUMENTS>,
+) -> Option<(Plain, &'a [u8])>
+    requires { numbers.old.items ≡ [] }
     ensures actor { IfSome result (λ found. FitsKept found.0.actor) }
-    ensures line { IfSome result (λ found. BeginsLine n in_trace bytes.now found.0 found.1.now) }
+    ensures line { IfSome result (λ found. (n : ℕ) → BeginsLine n in_trace bytes.now (plain_line n found.0 numbers.new.items) found.1.now) }
     ensures shorter { IfSome result (λ found. length found.1.now < length bytes.now) }
 {
     let (actor, rest) = plain_actor(bytes)?;
-    let (op, rest) = plain_op(rest)?;
+    let (op, rest) = plain_op(rest, numbers)?;
     if in_trace {
         let replies = after(rest, b" ->")?;
         let (said, end) = plain_said(replies)?;
         let after = after(end, b"\n")?;
-        Some((told(n, actor, op, said), after))
+        Some((told(actor, op, said), after))
     } else {
         let after = after(rest, b"\n")?;
-        Some((step(n, actor, op), after))
+        Some((step(actor, op), after))
     }
 }
 
-fn step(number: u64, actor: Actor, op: Op) -> Line
-    ensures { result ≡ record { number = number; actor = actor; op = op; said = None } }
+fn step(actor: Actor, op: OpShape) -> Plain
+    ensures { result ≡ record { actor = actor; op = op; said = None } }
 {
-    Line {
-        number,
+    Plain {
         actor,
         op,
         said: None,
     }
 }
 
-fn told(number: u64, actor: Actor, op: Op, said: Said) -> Line
-    ensures { result ≡ record { number = number; actor = actor; op = op; said = Some said } }
+fn told(actor: Actor, op: OpShape, said: Said) -> Plain
+    ensures { result ≡ record { actor = actor; op = op; said = Some said } }
 {
-    Line {
-        number,
+    Plain {
         actor,
         op,
         said: Some(said),
@@ -76,8 +92,12 @@ fn plain_actor(bytes: &[u8]) -> Option<(Actor, &[u8])>
 }
 
 /// A blank, an operation's name, and its numbers, of which none is a dash and none has a limit of its own.
-fn plain_op(bytes: &[u8]) -> Option<(Op, &[u8])>
-    ensures op { IfSome result (λ found. BeginsOp bytes.now found.0 found.1.now) }
+fn plain_op<'a>(
+    bytes: &'a [u8],
+    numbers: &mut ArrayVec<u64, MOST_ARGUMENTS>,
+) -> Option<(OpShape, &'a [u8])>
+    requires { numbers.old.items ≡ [] }
+    ensures op { IfSome result (λ found. BeginsOp bytes.now (op_made found.0 numbers.new.items) found.1.now) }
     ensures shorter { IfSome result (λ found. length found.1.now ≤ length bytes.now) }
 {
     let (name, rest) = plain_name(bytes)?;
@@ -85,12 +105,11 @@ fn plain_op(bytes: &[u8]) -> Option<(Op, &[u8])>
     if places.limit != u64::MAX {
         return None;
     }
-    let mut arguments = ArrayVec::new();
-    let rest = plain_numbers(rest, &mut arguments);
-    if arguments.len() < places.least || places.most < arguments.len() {
+    let rest = plain_numbers(rest, numbers);
+    if numbers.len() < places.least || places.most < numbers.len() {
         return None;
     }
-    Some((name.op(&arguments), rest))
+    Some((OpShape::of_name(name), rest))
 }
 
 fn plain_name(bytes: &[u8]) -> Option<(OpName, &[u8])>
@@ -162,7 +181,7 @@ fn after<'a>(bytes: &'a [u8], front: &[u8]) -> Option<&'a [u8]>
 
 /// Gathers the numbers that come next, a blank before each, as many as there is room for.
 #[tactic(auto, using(crate::proofs::PlainParts::no_numbers, crate::proofs::PlainParts::numbers_more))]
-fn plain_numbers<'a>(bytes: &'a [u8], found: &mut ArrayVec<Option<u64>, MOST_ARGUMENTS>) -> &'a [u8]
+fn plain_numbers<'a>(bytes: &'a [u8], found: &mut ArrayVec<u64, MOST_ARGUMENTS>) -> &'a [u8]
     requires { found.old.items ≡ [] }
     ensures numbers { BeginsNumbers bytes.now found.new.items result.now }
     ensures shorter { length result.now ≤ length bytes.now }
@@ -172,7 +191,7 @@ fn plain_numbers<'a>(bytes: &'a [u8], found: &mut ArrayVec<Option<u64>, MOST_ARG
         let Some((n, after)) = plain_number(rest) else {
             return rest;
         };
-        found.push(Some(n));
+        found.push(n);
         rest = after;
     }
     rest
@@ -269,12 +288,13 @@ fn plain_named_said(bytes: &[u8]) -> Option<(Said, &[u8])>
     if places.limit != u64::MAX {
         return None;
     }
-    let mut arguments = ArrayVec::new();
-    let rest = plain_numbers(rest, &mut arguments);
-    if arguments.len() < places.least || places.most < arguments.len() {
+    let mut numbers = ArrayVec::new();
+    let rest = plain_numbers(rest, &mut numbers);
+    if numbers.len() < places.least || places.most < numbers.len() {
         return None;
     }
-    Some((name.said(&arguments), rest))
+    let said = SaidShape::of_name(name).said(&numbers)?;
+    Some((said, rest))
 }
 
 /// The one name that may stand behind a blank, by its first letter. A wrong guess costs no more than its time.

@@ -1,8 +1,9 @@
 ghost use Rattle.std.specs.Prelude.{◌≡◌, ◌+◌, ◌≤◌, ◌++◌, vec_len, vec_capacity};
-ghost use Rattle.guest_script.specs.Packing.{said_count, said_made, said_numbers, said_shape_of};
+ghost use Rattle.guest_script.specs.Packing.{plain_said_shape, said_count, said_made, said_numbers, said_shape_of};
 
 use crate::op_shape::number_from;
 use crate::said::Said;
+use crate::said_name::SaidName;
 
 /// How many numbers a reply has at most.
 pub const SAID_NUMBERS: usize = 3;
@@ -67,6 +68,23 @@ impl SaidShape {
                 numbers.push_reserved(n);
                 SaidShape::Refused
             }
+        }
+    }
+
+    /// The shape of what is said under this name.
+    pub fn of_name(name: SaidName) -> SaidShape
+        ensures { result ≡ plain_said_shape name }
+    {
+        match name {
+            SaidName::Waiting => SaidShape::Waiting,
+            SaidName::Gone => SaidShape::Gone,
+            SaidName::Served => SaidShape::Served,
+            SaidName::Done => SaidShape::Done,
+            SaidName::Entry => SaidShape::Entry,
+            SaidName::Value => SaidShape::Value,
+            SaidName::Fault => SaidShape::Fault,
+            SaidName::Moved => SaidShape::Moved,
+            SaidName::Refused => SaidShape::Refused,
         }
     }
 

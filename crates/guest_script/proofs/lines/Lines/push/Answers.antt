@@ -1,4 +1,5 @@
 use Rattle.std.proofs.Common.{◌-◌, arith}
+use Rattle.guest_script.specs.Packing.{op_numbers}
 use Rattle.guest_script.proofs.Packed.{IsPut, put_from, put_lines, put_within}
 use Rattle.guest_script.proofs.lines.Lines.push.Goals as goal
 
@@ -8,9 +9,9 @@ Put c = IsPut c.self.inside.numbers.items c.put-said.new.numbers.items c.args.li
 
 put : (c : goal.After-push_reserved) → Put c
 put c =
-    put_from c.self.inside.numbers.items c.put-op.new.numbers.items c.put-said.new.numbers.items c.args.line.now c.put-op.result c.put-said.result c.actor_number.result c.len-from.result
+    put_from c.self.inside.numbers.items c.put-op.new.numbers.items c.put-said.new.numbers.items c.args.line.now c.put-op.result (op_numbers c.args.line.now.op) c.put-said.result c.actor_number.result c.len-from.result
     (c.len-middle.result - c.len-from.result)
-    (rw c.reserve-2.ensures.items at c.put-op.ensures.numbers) c.put-said.ensures.numbers c.put-op.ensures.shape c.put-said.ensures.shape c.actor_number.ensures (omega arith) (omega arith) c.requires.actor
+    (rw c.reserve-2.ensures.items at c.put-op.ensures.numbers) c.put-said.ensures.numbers c.put-said.ensures.shape c.actor_number.ensures (omega arith) (omega arith) c.requires.actor
     c.put-op.ensures.made c.put-said.ensures.made
 
 pub invariant_of-self-2 : goal.invariant_of-self-2
