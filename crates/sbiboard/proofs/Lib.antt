@@ -1,5 +1,7 @@
+pub mod Asked
 pub mod Checked
 pub mod Comments
+pub mod FileWords
 pub mod ReadBack
 pub mod ReadLines
 pub mod Replayed

@@ -1,4 +1,5 @@
 pub mod Check
+pub mod CommandLine
 pub mod Devices
 pub mod Fitting
 pub mod Jobs

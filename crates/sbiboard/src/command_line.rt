@@ -1,3 +1,11 @@
+ghost use Rattle.std.specs.Prelude.{◌≡◌, IfErr, IfOk, List, Some, false, is_some, map, true};
+ghost use Rattle.std.specs.List.{All};
+ghost use Rattle.std.specs.Str.{IsUtf8};
+ghost use Rattle.std.specs.String.{string_bytes};
+ghost use Rattle.clap.specs.Words.{Text, app_of, kind_of, shape_of};
+ghost use Rattle.clap.specs.declared.builder.command.Command.TheViews.{out-Command as fields_of};
+ghost use Rattle.sbiboard.specs.CommandLine.{asked, of_one_file, sbiboard, task_words, written};
+
 use clap::error::ErrorKind;
 use clap::{Arg, Command, Error};
 use std::alloc::{AllocError, Global};
@@ -5,11 +13,15 @@ use std::alloc::{AllocError, Global};
 /// What the program is asked to do.
 #[derive(Clone, Copy, Debug, PartialEq, Eq)]
 pub enum Task<'a> {
+    /// Run the program in this file on threads.
+    Run(&'a str),
     /// Replay the schedule in this file.
     Replay(&'a str),
     /// Check the trace in this file.
     Check(&'a str),
 }
+
+const RUN: &str = "run";
 
 const REPLAY: &str = "replay";
 
@@ -21,19 +33,23 @@ const VERSION: &str = "0.1.0";
 
 const EXAMPLE: &str = "\
 Examples:
+  sbiboard run examples/three-harts.program
   sbiboard replay examples/version.sched
   sbiboard check examples/version.trace
 
-A schedule is one board line and then a line for each step:
+A program is one board line and then what each hart does, from an address on:
   board 1 1 10 0 0x80000000 0x0   # harts, pages, limit, boot hart, address, opaque
+  at 0x80000000                   # what a hart does that is entered here
+  ecall 0x10 0                    # it asks for the specification's version
+A schedule is one board line and then a line for each step:
   0 advance                       # hart 0 enters its start
   0 ecall 0x10 0                  # and asks for the specification's version
-A trace says of each step what it gave, as a replay prints it:
+A trace says of each step what it gave, as a run and a replay print it:
   0 advance -> entry 0x80000000 0 0x0
 docs/FORMATS.md describes scripts and what is printed.
 
-Exit status: 0 good, 1 bad script or board, 2 usage, 3 history full, 5 a trace differs,
-6 no memory, 7 input or output failed.";
+Exit status: 0 good, 1 bad script or board, 2 usage, 3 history full, 4 stuck,
+5 a trace differs, 6 no memory or no thread, 7 input or output failed.";
 
 const NUMBERS: &str = "\
 Faults of a script, of which the first is said as `line L: fault N` (line 0 is the whole):
@@ -46,7 +62,8 @@ Faults of a script, of which the first is said as `line L: fault N` (line 0 is t
   7  a second block with the same address, or a second block of the clock
   8  more than 16,777,216 bytes
 
-Refusals of a step, printed as `refused N`; a refused step changes nothing:
+Refusals of a step, printed as `refused N`; a refused step changes nothing, and a run's record
+has none:
   1  the power is off
   2  the hart isn't there, or isn't in a state for this operation, or it is another actor's;
      inside a fence call a hart's guest does nothing
@@ -56,23 +73,31 @@ Refusals of a step, printed as `refused N`; a refused step changes nothing:
   5  the time would pass 2^64-2
 
 Exit status:
-  0  all was replayed, whatever was refused but for a full history; all lines agree
+  0  all was replayed, whatever was refused but for a full history; all lines agree; a run
+     ended with the power off, or quiet: each hart is stopped, or started with nothing to do
   1  a fault of the script, another kind of script, or a bad board: nothing is printed
   2  a fault of usage
-  3  a line of a replay was refused since the history was full
+  3  a step of a run or a line of a replay was refused since the history was full
+  4  a run ended stuck: not quiet, and yet no hart could go on
   5  a line of a trace differs
-  6  no memory
+  6  no memory, or no thread
   7  the file could not be opened, or a read or a write failed";
 
 /// The task that the words of a command line name, the program's own name first, or what clap says of
-/// them: a fault of usage, or the help or the version that was asked for.
-pub fn command<'a>(alloc: Global, words: &'a [String]) -> Result<Task<'a>, Error> {
+/// them: a fault of usage, or the help or the version that was asked for. Words that name a task are refused
+/// for want of memory alone.
+pub fn command<'a>(alloc: Global, words: &'a [String]) -> Result<Task<'a>, Error>
+    ensures task { IfOk result (λ task. asked (map string_bytes words.entry.now) ≡ Some (task_words task)) }
+    ensures refused { IfErr result (λ e. is_some (asked (map string_bytes words.entry.now)) ≡ true
+        → kind_of e ≡ ErrorKind.OutOfMemory) }
+{
     let mut sbiboard = described(alloc)?;
     let matches = sbiboard.try_get_matches_from_mut(words)?;
     if let Some((name, found)) = matches.subcommand()
         && let Some(file) = found.get_str(FILE)
     {
         return Ok(match name {
+            RUN => Task::Run(file),
             CHECK => Task::Check(file),
             _ => Task::Replay(file),
         });
@@ -83,27 +108,52 @@ pub fn command<'a>(alloc: Global, words: &'a [String]) -> Result<Task<'a>, Error
     )?)
 }
 
+/// What clap finds in the words of a command line is what is written there: the program's own name, a subcommand's, and
+/// FILE.
+pub fn asked_as_written()
+    ensures { (words : List Text) → All IsUtf8 words → asked words ≡ written words }
+{}
+
 /// The command line, as clap reads it.
-fn described<'a>(alloc: Global) -> Result<Command<'a>, AllocError> {
-    let replay = of_file(alloc, REPLAY, "The file of the schedule")?.about(
-        "Replay a schedule on a new board, and print each reply and the board",
+fn described<'a>(alloc: Global) -> Result<Command<'a>, AllocError>
+    ensures { IfOk result (λ c. app_of c ≡ sbiboard) }
+{
+    let run = of_file(
+        alloc,
+        RUN,
+        "The file of the program, such as examples/three-harts.program",
+    )?
+    .about(
+        "Run a program's blocks on threads, one for each hart and one for the clock, and print the record, the board and how it ended",
     );
-    let check = of_file(alloc, CHECK, "The file of the trace")?.about(
-        "Check a trace on a new board, and print the first reply that differs",
-    );
+    let replay = of_file(
+        alloc,
+        REPLAY,
+        "The file of the schedule, such as examples/version.sched",
+    )?
+    .about("Replay a schedule on a new board, and print each reply and the board");
+    let check = of_file(
+        alloc,
+        CHECK,
+        "The file of the trace, such as examples/version.trace",
+    )?
+    .about("Check a trace on a new board, and print the first reply that differs");
     Command::new(alloc, "sbiboard")
         .version(VERSION)
         .about(
-            "Replay schedules and check traces on a proved SBI 1.0 firmware of a modelled RV64 board",
+            "Run programs, replay schedules and check traces on a proved SBI 1.0 firmware of a modelled RV64 board",
         )
         .after_help(EXAMPLE)
         .subcommand_required(true)
+        .subcommand(run)?
         .subcommand(replay)?
         .subcommand(check)
 }
 
 /// A subcommand of one file.
-fn of_file<'a>(alloc: Global, name: &'a str, help: &'a str) -> Result<Command<'a>, AllocError> {
+fn of_file<'a>(alloc: Global, name: &'a str, help: &'a str) -> Result<Command<'a>, AllocError>
+    ensures { IfOk result (λ c. (shape_of c ≡ of_one_file name.entry.now) × ((fields_of c).has_globals ≡ false)) }
+{
     let file = Arg::new(alloc, FILE).required(true).help(help);
     Command::new(alloc, name).after_help(NUMBERS).arg(file)
 }

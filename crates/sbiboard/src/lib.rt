@@ -12,7 +12,7 @@ mod replaying;
 mod running;
 
 pub use checking::check;
-pub use command_line::{Task, command};
+pub use command_line::{Task, asked_as_written, command};
 pub use device::{Device, ReadFault, Source, read_whole};
 pub use ending::{Stop, ended};
 pub use laws::read_back;

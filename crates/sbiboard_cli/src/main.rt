@@ -17,11 +17,12 @@ fn main(rt: HostRuntime) -> ExitCode {
 fn run<R: AllocGlobal + Env + Files + Print>(rt: &R) -> Result<Outcome, Stop> {
     let words = env::args(rt)?.collect::<Vec<String>>(rt.alloc())?;
     let task = command(rt.alloc(), words.as_slice())?;
-    let (Task::Replay(file) | Task::Check(file)) = task;
+    let (Task::Run(file) | Task::Replay(file) | Task::Check(file)) = task;
     let mut reader = Device::new(fs::open(rt, file)?);
     let output = BufWriter::with_capacity(rt.alloc(), BUFFER, io::writer(rt))?;
     let mut writer = Device::new(output);
     Ok(match task {
+        Task::Run(_) => Outcome::WrongKind,
         Task::Replay(_) => replay(rt.alloc(), &mut reader, &mut writer),
         Task::Check(_) => check(rt.alloc(), &mut reader, &mut writer),
     })
