@@ -1,0 +1,5 @@
+pub mod Following
+pub mod InCalls
+pub mod Quiet
+pub mod NewSeats
+pub mod Kept

@@ -1,0 +1,9 @@
+use Rattle.std.proofs.Common.{◌≡◌, ◌++◌, length, map}
+use Rattle.std.specs.Vec.Iter.{into_iter_items, into_iter_len}
+use Rattle.hart_threads.proofs.running.parted.Given as goal
+
+abbrev pub invariant-loop-worked : goal.invariant-loop-worked
+invariant-loop-worked g l =
+    (l.yielded ++ into_iter_items l.worked-iterator ≡ into_iter_items l.initial.worked-iterator)
+    × (into_iter_len l.worked-iterator ≡ length (into_iter_items l.worked-iterator))
+    × (map (λ seat. seat.actor) l.seats.items ≡ map (λ worked. worked.seat.actor) l.yielded)

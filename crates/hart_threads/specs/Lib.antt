@@ -1,0 +1,5 @@
+pub mod Programs
+pub mod Guests
+pub mod Choices
+pub mod Ends
+pub mod Faults

@@ -1,0 +1,42 @@
+ghost use Rattle.std.specs.Prelude.{◌≡◌, IfSome, None};
+ghost use Rattle.board_core.specs.Refusals.{IsAccepted, Situation};
+ghost use Rattle.hart_threads.specs.Choices.{CallsAreMadeStarted, HasNothing, Sees, goes};
+
+use crate::guests::is_guest;
+use board_core::Op;
+use board_lock::HartNow;
+
+/// The next operation of a hart by what its thread sees and what its guest does next, if it has one: a fence is served
+/// before all else, and a fence call is ended as soon as it waits for no hart.
+pub(crate) fn choice(now: &HartNow, guest: Option<Op>) -> Option<Op>
+    ensures happens { (s : Situation) → Sees s now.now → IfSome result (λ op. IsAccepted op s) }
+    ensures rests { (s : Situation) → Sees s now.now → CallsAreMadeStarted s → result ≡ None → HasNothing guest s }
+{
+    if now.waiting > 0 && now.state.is_interruptible() {
+        return Some(Op::Serve);
+    }
+    if let Some(harts) = now.outstanding {
+        return if harts.is_empty() {
+            Some(Op::Poll)
+        } else {
+            None
+        };
+    }
+    if now.state.goes_on(now.wake) {
+        return Some(Op::Advance);
+    }
+    match guest {
+        Some(op) if now.state.is_started() && goes(op, now.wake) => Some(op),
+        _ => None,
+    }
+}
+
+/// Whether an operation of a block is a guest's that doesn't wait.
+fn goes(op: Op, wake: bool) -> bool
+    ensures { result ≡ goes op wake }
+{
+    match op {
+        Op::Wfi => wake,
+        op => is_guest(op),
+    }
+}

@@ -1,0 +1,80 @@
+ghost use Rattle.std.specs.Prelude.{◌≡◌, ◌↔◌, ◌∷◌, ◌++◌, ℕ, true, List, [], Some, map};
+ghost use Rattle.std.specs.Option.{option_map};
+ghost use Rattle.board_core.specs.declared.event.Actor.TheVariants.{Hart};
+ghost use Rattle.board_core.specs.History.{Event};
+ghost use Rattle.guest_script.specs.Grammar.{guest};
+ghost use Rattle.hart_threads.specs.Guests.{AreLeft, IsLeft, is_guest, left_of, next_of};
+
+use crate::blocks::block_at;
+use board_core::{Op, Reply};
+use guest_script::Block;
+
+/// How far a hart's guest is in its block.
+#[derive(Clone, Copy)]
+pub(crate) struct Guest<'a> {
+    /// The operations of its block that it hasn't done; None where it did others than its block's.
+    left: Option<&'a [Op]>,
+}
+
+impl<'a> Guest<'a> {
+    /// The guest of a hart that wasn't entered yet.
+    pub(crate) fn new() -> Guest<'a>
+        ensures { left_of result ≡ Some [] }
+    {
+        Guest { left: Some(&[]) }
+    }
+
+    /// The next operation of its block, if there is one.
+    pub(crate) fn next(&self) -> Option<Op>
+        ensures { result ≡ next_of (left_of self.now) }
+    {
+        self.left?.first().copied()
+    }
+
+    /// Whether it did its whole block.
+    pub(crate) fn has_done(&self) -> bool
+        ensures { (result ≡ true) ↔ (left_of self.now ≡ Some []) }
+    {
+        matches!(self.left, Some([]))
+    }
+
+    /// An operation of its hart was accepted.
+    pub(crate) fn sees(&mut self, blocks: &'a [Block], op: Op, reply: Reply)
+        ensures { (past : List Event) (h : ℕ) (e : Event) → e.actor ≡ Hart h → e.op ≡ op → e.reply ≡ reply
+            → IsLeft (map guest blocks.now) (left_of self.old) past h → IsLeft (map guest blocks.now) (left_of self.new) (e ∷ past) h }
+    {
+        if let Reply::Entry { addr, .. } = reply {
+            self.left = Some(block_at(blocks, addr));
+        } else if is_guest(op) {
+            self.left = self.without(op);
+        }
+    }
+
+    /// What is left after an operation of the guest.
+    #[tactic(auto, using(crate::proofs::Following::left_next, crate::proofs::Following::left_other, crate::proofs::Following::left_over, crate::proofs::Following::left_never))]
+    fn without(&self, op: Op) -> Option<&'a [Op]>
+        ensures { (done whole : List _) → AreLeft (left_of self.now) done whole → AreLeft (option_map (λ ops. ops.now) result) (done ++ op ∷ []) whole }
+    {
+        let Some((next, rest)) = self.left?.split_first() else {
+            return None;
+        };
+        if !is_same(next, &op) {
+            return None;
+        }
+        Some(rest)
+    }
+}
+
+/// Whether an operation is a guest's, and neither the firmware's own nor the clock's.
+pub(crate) fn is_guest(op: Op) -> bool
+    ensures { result ≡ is_guest op }
+{
+    !matches!(op, Op::Poll | Op::Serve | Op::Advance | Op::Tick(_))
+}
+
+/// Whether two operations are the same.
+fn is_same(a: &Op, b: &Op) -> bool
+    ensures { (result ≡ true) ↔ (a.now ≡ b.now) }
+{
+    a == b
+}

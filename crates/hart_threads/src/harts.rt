@@ -1,0 +1,54 @@
+ghost use Rattle.std.specs.Prelude.{◌≡◌};
+
+use crate::choosing::choice;
+use crate::gate::Gate;
+use crate::guests::Guest;
+use crate::met::Met;
+use crate::work::{Work, Worked};
+use board_core::{Op, Refusal};
+use board_lock::{HartView, Rest, Room, Seat};
+use std::sync::Wait;
+
+/// A hart's thread: by what it sees it serves, polls, advances, does the next operation of its guest's block, or rests, until
+/// every seat rests.
+pub(crate) fn follow<K: Room, G: Gate, R: Wait>(
+    rt: &R,
+    work: &Work<'_, K, G>,
+    seat: Seat<K>,
+) -> Worked<K>
+    ensures { result.seat.actor ≡ seat.actor }
+{
+    let mut seat = seat;
+    let mut guest = Guest::new();
+    let mut met = Met::Nothing;
+    for _ in rt.forever() {
+        let view = work.board.view(rt, &seat);
+        let Some(op) = next(&view, met, &guest) else {
+            if work.board.rest(rt, &seat, view.events) == Rest::AllRest {
+                break;
+            }
+            continue;
+        };
+        if !work.is_let(&seat) {
+            met = Met::ClosedGate;
+            continue;
+        }
+        match work.board.call(rt, &mut seat, op) {
+            Ok(receipt) => guest.sees(work.program.blocks, op, receipt.reply()),
+            Err(Refusal::HistoryFull) => met = Met::FullHistory,
+            Err(_) => {}
+        }
+    }
+    Worked { seat, met }
+}
+
+/// What a hart's thread does by what it sees, if there is something: nothing without power, nor after it met something.
+fn next(view: &HartView, met: Met, guest: &Guest<'_>) -> Option<Op> {
+    if view.is_off || met != Met::Nothing {
+        return None;
+    }
+    match &view.hart {
+        Some(now) => choice(now, guest.next()),
+        None => None,
+    }
+}

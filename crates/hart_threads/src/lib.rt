@@ -1,0 +1,19 @@
+//! Guests' programs on threads: one for each hart of a board and one for its clock, round one lock; and how they ended.
+#![tactic(auto)]
+
+mod blocks;
+mod choosing;
+mod clock;
+mod ends;
+mod finding;
+mod gate;
+mod guests;
+mod harts;
+mod met;
+mod running;
+mod starting;
+mod work;
+
+pub use ends::{End, RunEnd, RunFault};
+pub use gate::{Gate, Open};
+pub use running::run;

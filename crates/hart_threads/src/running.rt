@@ -1,0 +1,82 @@
+ghost use Rattle.std.specs.Prelude.{◌≡◌, ◌↔◌, IfOk, IsErrOf, map};
+ghost use Rattle.board_core.specs.Limits.{IsGood};
+ghost use Rattle.board_core.specs.Replies.{IsLegal};
+ghost use Rattle.guest_script.specs.Grammar.{content, guest};
+ghost use Rattle.hart_threads.specs.Ends.{IsEnd};
+ghost use Rattle.hart_threads.specs.Programs.{IsProgram, blocks_of};
+ghost use Rattle.hart_threads.specs.declared.ends.RunFault.TheVariants.{BadConfig};
+
+use crate::blocks::{Program, program_in};
+use crate::ends::{RunEnd, RunFault};
+use crate::finding::end_of;
+use crate::gate::Gate;
+use crate::met::Met;
+use crate::starting::work_all;
+use crate::work::{Work, Worked};
+use board_core::Board;
+use board_lock::{NewRoom, Room, Seat, SharedBoard};
+use guest_script::Script;
+use std::alloc::{AllocError, Global};
+use std::marker::Brand;
+use std::sync::Wait;
+use std::thread::Threads;
+
+/// Runs a program on a new board behind a lock: one thread for each hart, which follows the blocks of its entries, and one for
+/// the clock, which ticks. Each asks the gate before each of its operations, with no lock held. It ends when none goes on.
+pub fn run<G: Gate + Sync, R: AllocGlobal + Threads + Wait + Sync>(
+    rt: &R,
+    script: &Script,
+    gate: &G,
+) -> Result<RunEnd, RunFault>
+    requires { IsProgram (content script.now.body) }
+    ensures bad { IsErrOf result BadConfig ↔ ¬ IsGood script.now.config }
+    ensures opening { IfOk result (λ run. run.board.config ≡ script.now.config) }
+    ensures legal { IfOk result (λ run. IsLegal run.board.config run.board.past) }
+    ensures end { IfOk result (λ run. IsEnd run.end run.board.config run.board.past (blocks_of (content script.now.body))) }
+{
+    let program = program_in(&script.body);
+    let (board, met) = run_in::<Brand, G, R>(rt, NewRoom::new(&script.config), program, gate)?;
+    let end = end_of(rt.alloc(), &board, program.blocks, met)?;
+    let _legal = board.history();
+    Ok(RunEnd { end, board })
+}
+
+/// Runs a program on the board of this room, and gives back the board, and what the threads met.
+fn run_in<K: Room + Send + Sync, G: Gate + Sync, R: AllocGlobal + Threads + Wait + Sync>(
+    rt: &R,
+    room: NewRoom,
+    program: Program<'_>,
+    gate: &G,
+) -> Result<(Board, Met), RunFault>
+    requires room { (room.opening ≡ K.opening) × (room.log ≡ K.log) }
+    requires ledger { (room.ledger ≡ K.name) × (room.parts ≡ K.parts) × (K.all ≡ K.parts) }
+    ensures bad { IsErrOf result BadConfig ↔ ¬ IsGood K.opening }
+    ensures opening { IfOk result (λ r. r.0.config ≡ K.opening) }
+{
+    let (board, seats) = SharedBoard::<K>::open(rt.alloc(), room)?;
+    let work = Work {
+        board: &board,
+        gate,
+        program,
+        harts: seats.len() as u64 - 1,
+    };
+    let all = work_all(rt, &work, seats)?;
+    let (seats, met) = parted(rt.alloc(), all)?;
+    match board.close(seats) {
+        Ok(record) => Ok((record.into_board(), met)),
+        Err(_) => unreachable!(),
+    }
+}
+
+/// The seats of the threads, and what they met.
+fn parted<K: Room>(alloc: Global, all: Vec<Worked<K>>) -> Result<(Vec<Seat<K>>, Met), AllocError>
+    ensures { IfOk result (λ r. map (λ seat. seat.actor) r.0.items ≡ map (λ worked. worked.seat.actor) all.items) }
+{
+    let mut seats = Vec::with_capacity(alloc, all.len())?;
+    let mut met = Met::Nothing;
+    for worked in all {
+        met = met.and(worked.met);
+        seats.push(worked.seat)?;
+    }
+    Ok((seats, met))
+}

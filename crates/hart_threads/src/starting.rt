@@ -1,0 +1,71 @@
+ghost use Rattle.std.specs.Prelude.{◌≡◌, IfOk, IsErrOf, map};
+ghost use Rattle.hart_threads.specs.declared.ends.RunFault.TheVariants.{BadConfig};
+
+use crate::clock::tick;
+use crate::ends::RunFault;
+use crate::gate::Gate;
+use crate::harts::follow;
+use crate::met::Met;
+use crate::work::{Work, Worked};
+use board_core::Actor;
+use board_lock::{Room, Seat};
+use std::alloc::{AllocError, Global};
+use std::sync::Wait;
+use std::thread::{self, Promise, Threads};
+
+/// Whose seat a thread gives back.
+#[derive(Clone, Copy)]
+struct SeatOf(Actor);
+
+impl<K: Room> Promise<Worked<K>> for SeatOf {
+    ghost kept_by = { λ p worked. worked.seat.actor ≡ p.0 };
+}
+
+/// Runs a thread for each seat, and gives back what they did once all have ended. Where a thread is refused, those that run are
+/// ended.
+pub(crate) fn work_all<
+    K: Room + Send + Sync,
+    G: Gate + Sync,
+    R: AllocGlobal + Threads + Wait + Sync,
+>(rt: &R, work: &Work<'_, K, G>, seats: Vec<Seat<K>>) -> Result<Vec<Worked<K>>, RunFault>
+    ensures seats { IfOk result (λ all. map (λ worked. worked.seat.actor) all.items ≡ map (λ seat. seat.actor) seats.items) }
+    ensures board { ¬ IsErrOf result BadConfig }
+{
+    thread::scope(
+        thread::scope_env(),
+        rt,
+        |scope| -> Result<Vec<Worked<K>>, RunFault>
+            ensures board { ¬ IsErrOf result BadConfig }
+            ensures seats { IfOk result (λ all. map (λ worked. worked.seat.actor) all.items ≡ map (λ seat. seat.actor) seats.items) }
+        {
+            let mut threads = Vec::new(rt.alloc());
+            for seat in seats {
+                let Ok(thread) = scope.spawn_with(
+                    SeatOf(seat.actor()),
+                    move || work_at(rt, work, seat),
+                ) else {
+                    work.board.end(rt);
+                    return Err(RunFault::NoThread);
+                };
+                if threads.push(thread).is_err() {
+                    work.board.end(rt);
+                    return Err(RunFault::NoMemory);
+                }
+            }
+            match thread::join_promised(rt, threads) {
+                Ok(all) => Ok(all),
+                Err(_) => Err(RunFault::NoMemory),
+            }
+        },
+    )
+}
+
+/// The work of a seat's thread.
+fn work_at<K: Room, G: Gate, R: Wait>(rt: &R, work: &Work<'_, K, G>, seat: Seat<K>) -> Worked<K>
+    ensures { result.seat.actor ≡ seat.actor }
+{
+    match seat.actor() {
+        Actor::Hart(_) => follow(rt, work, seat),
+        Actor::Clock => tick(rt, work, seat),
+    }
+}
