@@ -5,6 +5,8 @@ pub mod FileWords
 pub mod ReadBack
 pub mod ReadLines
 pub mod Replayed
+pub mod Ran
+pub mod Recorded
 pub mod Retraced
 pub mod Stopped
 pub mod UpTo

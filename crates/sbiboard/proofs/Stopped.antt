@@ -6,21 +6,21 @@ use Rattle.board_core.specs.declared.config.Config.{Config}
 use Rattle.board_core.specs.Limits.{IsGood}
 use Rattle.guest_script.specs.declared.fault.Fault.{Fault}
 use Rattle.guest_script.specs.declared.fault.Fault.TheVariants.{BadByte, NoBoardLine, UnknownWord, BadNumber, WordCount, OtherKind, SecondBlock, TooLong, NoMemory}
-use Rattle.guest_script.specs.declared.script.Line.{Line}
 use Rattle.guest_script.specs.FirstFault.{first_fault}
 use Rattle.guest_script.specs.Grammar.{Content, Reads, Written}
 use Rattle.sbiboard.specs.declared.outcome.Outcome.{Outcome}
 use Rattle.sbiboard.specs.declared.outcome.Outcome.TheVariants as outcomes
 use Rattle.sbiboard.specs.Running.{ended_as, EndsAs, Stops, Writes}
 
-module _ (lines_of : Content → Option (List Line)) (bytes : List ℕ) where
-  pub writes_stopped : (Ends : Config → List Line → Outcome → List ℕ → Type 0) (known : Option (List ℕ)) (outcome : Outcome)
+module _ {A : Type 0} (lines_of : Content → Option A) (bytes : List ℕ) where
+  pub writes_stopped : (Ends : Config → A → Outcome → List ℕ → Type 0) (known : Option (List ℕ)) (outcome : Outcome)
       → Stops lines_of bytes outcome → Writes (EndsAs lines_of Ends bytes) outcome known known
   writes_stopped Ends known outcomes.Good stops = absurd stops
   writes_stopped Ends known (outcomes.Script line number) stops = ([], inr (stops, refl), Appends-nil known)
   writes_stopped Ends known outcomes.BadBoard stops = ([], inr (stops, refl), Appends-nil known)
   writes_stopped Ends known outcomes.WrongKind stops = ([], inr (stops, refl), Appends-nil known)
   writes_stopped Ends known outcomes.HistoryFull stops = absurd stops
+  writes_stopped Ends known outcomes.Stuck stops = absurd stops
   writes_stopped Ends known outcomes.Differs stops = absurd stops
   writes_stopped Ends known outcomes.NoMemory stops = ([], inr (stops, refl), Appends-nil known)
   writes_stopped Ends known outcomes.Io stops = tt
@@ -37,6 +37,6 @@ module _ (lines_of : Content → Option (List Line)) (bytes : List ℕ) where
   stops_at line TooLong first = (record { line = line; fault = TooLong }, first (λ e. cc), refl, refl)
   stops_at line NoMemory first = tt
 
-  pub bad_board : (script : Written) (lines : List Line) → Reads bytes script → lines_of script.content ≡ Some lines → ¬ IsGood script.config
+  pub bad_board : (script : Written) (lines : A) → Reads bytes script → lines_of script.content ≡ Some lines → ¬ IsGood script.config
       → Stops lines_of bytes outcomes.BadBoard
   bad_board script lines reads are bad = (script, reads, ap is_some are, bad)

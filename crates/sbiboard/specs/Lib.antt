@@ -8,3 +8,4 @@ pub mod PrintedScripts
 pub mod Replay
 pub mod Running
 pub mod Sources
+pub mod Threaded

@@ -9,7 +9,7 @@ use Rattle.clap.specs.declared.error.kind.ErrorKind.TheVariants as clap_kinds
 use Rattle.sbiboard.specs.declared.ending.Stop.{Stop}
 use Rattle.sbiboard.specs.declared.ending.Stop.TheVariants.{Usage, System}
 use Rattle.sbiboard.specs.declared.outcome.Outcome.{Outcome}
-use Rattle.sbiboard.specs.declared.outcome.Outcome.TheVariants.{Good, Script, BadBoard, WrongKind, HistoryFull, Differs, NoMemory, Io}
+use Rattle.sbiboard.specs.declared.outcome.Outcome.TheVariants.{Good, Script, BadBoard, WrongKind, HistoryFull, Stuck, Differs, NoMemory, Io}
 
 abbrev pub status_of : Outcome → ℕ
 status_of Good = 0
@@ -17,6 +17,7 @@ status_of (Script line number) = 1
 status_of BadBoard = 1
 status_of WrongKind = 1
 status_of HistoryFull = 3
+status_of Stuck = 4
 status_of Differs = 5
 status_of NoMemory = 6
 status_of Io = 7
@@ -28,6 +29,7 @@ is_told (Script line number) = true
 is_told BadBoard = true
 is_told WrongKind = true
 is_told HistoryFull = true
+is_told Stuck = true
 is_told Differs = false
 is_told NoMemory = true
 is_told Io = true

@@ -14,7 +14,7 @@ use Rattle.guest_script.specs.declared.script.Line.{Line}
 use Rattle.guest_script.specs.FirstFault.{fault_number, first_fault}
 use Rattle.guest_script.specs.Grammar.{Content, Reads, Written, most_bytes}
 use Rattle.sbiboard.specs.declared.outcome.Outcome.{Outcome}
-use Rattle.sbiboard.specs.declared.outcome.Outcome.TheVariants.{Good, Script, BadBoard, WrongKind, HistoryFull, Differs, NoMemory, Io}
+use Rattle.sbiboard.specs.declared.outcome.Outcome.TheVariants.{Good, Script, BadBoard, WrongKind, HistoryFull, Stuck, Differs, NoMemory, Io}
 
 -- how many bytes are read at most: one more than a script may have
 abbrev pub read_limit : ℕ
@@ -40,8 +40,8 @@ course_after b (line ∷ lines) = course_after (after_line b line) lines
 
 -- ---- the end of a task
 
--- The bytes are a script of the kind that is wanted, with these lines, and its board can be made.
-pub record Runs (lines_of : Content → Option (List Line)) (bytes : List ℕ) (config : Config) (lines : List Line) : Type 0 where
+-- The bytes are a script of the kind that is wanted, with these lines or blocks, and its board can be made.
+pub record Runs {A : Type 0} (lines_of : Content → Option A) (bytes : List ℕ) (config : Config) (lines : A) : Type 0 where
   pub script : Written
   pub reads : Reads bytes script
   pub config_is : script.config ≡ config
@@ -49,7 +49,7 @@ pub record Runs (lines_of : Content → Option (List Line)) (bytes : List ℕ) (
   pub good : IsGood config
 
 -- Why no line was run: the bytes have a fault, or are a script of another kind, or its board can't be made; or memory was refused.
-abbrev pub Stops : (lines_of : Content → Option (List Line)) → List ℕ → Outcome → Type 0
+abbrev pub Stops : {A : Type 0} (lines_of : Content → Option A) → List ℕ → Outcome → Type 0
 Stops lines_of bytes (Script line number) = (f : ScriptFault) × (first_fault bytes ≡ Some f) × (f.line ≡ line) × (fault_number f.fault ≡ number)
 Stops lines_of bytes WrongKind = (s : Written) × Reads bytes s × (lines_of s.content ≡ None)
 Stops lines_of bytes BadBoard = (s : Written) × Reads bytes s × (is_some (lines_of s.content) ≡ true) × (¬ IsGood s.config)
@@ -58,10 +58,10 @@ Stops lines_of bytes outcome = ⊥
 
 -- What is written with each outcome, of the bytes that were read. Where the lines were run, `Ends` says it of the board and its lines;
 -- else nothing is written.
-abbrev pub EndsAs : (lines_of : Content → Option (List Line)) → (Ends : Config → List Line → Outcome → List ℕ → Type 0)
+abbrev pub EndsAs : {A : Type 0} (lines_of : Content → Option A) (Ends : Config → A → Outcome → List ℕ → Type 0)
     → List ℕ → Outcome → List ℕ → Type 0
-EndsAs lines_of Ends bytes outcome text =
-    ((config : Config) × (lines : List Line) × Runs lines_of bytes config lines × Ends config lines outcome text)
+EndsAs {A} lines_of Ends bytes outcome text =
+    ((config : Config) × (lines : A) × Runs lines_of bytes config lines × Ends config lines outcome text)
     ⊎ (Stops lines_of bytes outcome × (text ≡ []))
 
 -- what a sink was given with each outcome; after a failed call nothing is said of it
@@ -73,6 +73,7 @@ Writes Ends outcome old new = (text : List ℕ) × Ends outcome text × Appends 
 abbrev pub EndsRead : Outcome → Option (List ℕ) → Type 0
 EndsRead Good left = IsAtEnd left
 EndsRead HistoryFull left = IsAtEnd left
+EndsRead Stuck left = IsAtEnd left
 EndsRead Differs left = IsAtEnd left
 EndsRead outcome left = Unit {0}
 
@@ -80,6 +81,7 @@ EndsRead outcome left = Unit {0}
 abbrev pub EndsFlushed : Outcome → (is_flushed : Bool) → Type 0
 EndsFlushed Good is_flushed = is_flushed ≡ true
 EndsFlushed HistoryFull is_flushed = is_flushed ≡ true
+EndsFlushed Stuck is_flushed = is_flushed ≡ true
 EndsFlushed Differs is_flushed = is_flushed ≡ true
 EndsFlushed outcome is_flushed = Unit {0}
 

@@ -10,6 +10,7 @@ mod laws;
 mod outcome;
 mod replaying;
 mod running;
+mod threaded;
 
 pub use checking::check;
 pub use command_line::{Task, asked_as_written, command};
@@ -18,3 +19,4 @@ pub use ending::{Stop, ended};
 pub use laws::read_back;
 pub use outcome::Outcome;
 pub use replaying::replay;
+pub use threaded::run_script;

@@ -25,13 +25,16 @@ pub enum Outcome {
     /// The script is of another kind.
     #[error("wrong kind of script")]
     WrongKind,
-    /// A line was refused since the history was full.
+    /// A step was refused since the history was full.
     #[error("history full")]
     HistoryFull,
+    /// A run ended with a hart that is neither STOPPED nor through with its block.
+    #[error("stuck")]
+    Stuck,
     /// A trace differs from what the board answers.
     #[error("differs")]
     Differs,
-    /// Memory was refused.
+    /// Memory was refused, or a thread.
     #[error("no memory")]
     NoMemory,
     /// A read or a write failed.
@@ -48,6 +51,7 @@ impl Outcome {
             Outcome::Good => 0,
             Outcome::Script { .. } | Outcome::BadBoard | Outcome::WrongKind => 1,
             Outcome::HistoryFull => 3,
+            Outcome::Stuck => 4,
             Outcome::Differs => 5,
             Outcome::NoMemory => 6,
             Outcome::Io => 7,

@@ -17,7 +17,7 @@ use monitor::Sink;
 use std::alloc::Global;
 
 /// One byte more than a script may have.
-const READ_LIMIT: usize = 16_777_217;
+pub const READ_LIMIT: usize = 16_777_217;
 
 /// What is done with a script.
 #[derive(Clone, Copy)]
@@ -83,7 +83,7 @@ fn lines_for(job: Job, alloc: Global, body: Body) -> Option<Lines>
 }
 
 /// How a run ends that found no script.
-fn ended(fault: ScriptFault) -> Outcome
+pub fn ended(fault: ScriptFault) -> Outcome
     ensures { result ≡ ended_as fault.line fault.fault }
 {
     match fault.fault {

@@ -1,11 +1,14 @@
-//! The program: `sbiboard replay FILE` and `sbiboard check FILE`. It opens the file and standard output, lends them to
-//! the library, and ends with the status that the library answers.
+//! The program: `sbiboard replay FILE`, `sbiboard check FILE` and `sbiboard run FILE`. It opens the file and standard output,
+//! lends them to the library, and ends with the status that the library answers.
 #![tactic(auto)]
 
-use sbiboard::{Device, Outcome, Stop, Task, check, command, ended, replay};
+use hart_threads::Open;
+use sbiboard::{Device, Outcome, Stop, Task, check, command, ended, replay, run_script};
 use std::io::BufWriter;
 use std::process::ExitCode;
 use std::rt::{Env, Files};
+use std::sync::Wait;
+use std::thread::Threads;
 use std::{env, fs, io};
 
 const BUFFER: usize = 65_536;
@@ -14,7 +17,9 @@ fn main(rt: HostRuntime) -> ExitCode {
     ExitCode::from(ended(&rt, run(&rt)))
 }
 
-fn run<R: AllocGlobal + Env + Files + Print>(rt: &R) -> Result<Outcome, Stop> {
+fn run<R: AllocGlobal + Env + Files + Print + Threads + Wait + Sync>(
+    rt: &R,
+) -> Result<Outcome, Stop> {
     let words = env::args(rt)?.collect::<Vec<String>>(rt.alloc())?;
     let task = command(rt.alloc(), words.as_slice())?;
     let (Task::Run(file) | Task::Replay(file) | Task::Check(file)) = task;
@@ -22,7 +27,7 @@ fn run<R: AllocGlobal + Env + Files + Print>(rt: &R) -> Result<Outcome, Stop> {
     let output = BufWriter::with_capacity(rt.alloc(), BUFFER, io::writer(rt))?;
     let mut writer = Device::new(output);
     Ok(match task {
-        Task::Run(_) => Outcome::WrongKind,
+        Task::Run(_) => run_script(rt, &mut reader, &mut writer, &Open),
         Task::Replay(_) => replay(rt.alloc(), &mut reader, &mut writer),
         Task::Check(_) => check(rt.alloc(), &mut reader, &mut writer),
     })

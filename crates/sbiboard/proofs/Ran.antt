@@ -1,0 +1,45 @@
+-- A program that ran has written its record and its end.
+use Rattle.std.proofs.Common.{◌≡◌, ℕ, Bool, true, false, List, [], refl, sym, ap, subst, ◌∙◌, inl}
+use Rattle.std.specs.Prelude.{Option, Some, None, is_some}
+use Rattle.std.specs.Io.KnownBytes.{Appends}
+use Rattle.board_core.specs.declared.config.Config.{Config}
+use Rattle.board_core.specs.History.{Event}
+use Rattle.board_core.specs.Limits.{IsGood}
+use Rattle.board_core.specs.Replies.{IsLegal}
+use Rattle.guest_script.specs.Grammar.{Content, Empty, Program, Reads, Schedule, Trace, Written}
+use Rattle.hart_threads.specs.declared.ends.End.{End}
+use Rattle.hart_threads.specs.declared.ends.End.TheVariants.{GateLimit, Off, HistoryFull, Quiet, Stuck}
+use Rattle.hart_threads.specs.Ends.{IsEnd}
+use Rattle.hart_threads.specs.Programs.{blocks_of}
+use Rattle.sbiboard.specs.Running.{EndsAs, Writes}
+use Rattle.sbiboard.specs.Threaded.{EndsRun, RunsOnThreads, outcome_of, programmed, run_text}
+
+pub blocks-are : (content : Content) → is_some (programmed content) ≡ true → programmed content ≡ Some (blocks_of content)
+blocks-are Empty is = refl
+blocks-are (Program blocks clock) is = refl
+blocks-are (Schedule lines) is = absurd (let t = is in cc)
+blocks-are (Trace lines) is = absurd (let t = is in cc)
+
+pub no-blocks : (content : Content) → is_some (programmed content) ≡ false → programmed content ≡ None
+no-blocks Empty is = absurd (let t = is in cc)
+no-blocks (Program blocks clock) is = absurd (let t = is in cc)
+no-blocks (Schedule lines) is = refl
+no-blocks (Trace lines) is = refl
+
+module _ (bytes : List ℕ) (script : Written) (reads : Reads bytes script) (program : is_some (programmed script.content) ≡ true)
+    (c : Config) (opened : c ≡ script.config) (good : IsGood c) (past : List Event) (legal : IsLegal c past)
+    (old new : Option (List ℕ)) where
+  ran : (end : End) → IsEnd end c past (blocks_of script.content) → EndsRun bytes (outcome_of end) (run_text c past end)
+  ran end ended = inl (
+    c,
+    blocks_of script.content,
+    record { script = script; reads = reads; config_is = sym opened; lines_are = blocks-are script.content program; good = good },
+    record { past = past; end = end; legal = legal; ended = ended; outcome_is = refl; text_is = refl },
+  )
+
+  pub has_run : (end : End) → IsEnd end c past (blocks_of script.content) → Appends old new (run_text c past end) → Writes (EndsRun bytes) (outcome_of end) old new
+  has_run GateLimit ended put = (run_text c past GateLimit, ran GateLimit ended, put)
+  has_run Off ended put = (run_text c past Off, ran Off ended, put)
+  has_run HistoryFull ended put = (run_text c past HistoryFull, ran HistoryFull ended, put)
+  has_run Quiet ended put = (run_text c past Quiet, ran Quiet ended, put)
+  has_run Stuck ended put = (run_text c past Stuck, ran Stuck ended, put)

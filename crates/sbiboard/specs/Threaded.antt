@@ -1,0 +1,63 @@
+-- What the run of a program on threads writes, and how it ends (profile).
+use Rattle.std.specs.Prelude.{◌≡◌, ℕ, List, [], ◌∷◌, ◌++◌, codes, reverse, Option, Some, None, Ok}
+use Rattle.board_core.specs.declared.config.Config.{Config}
+use Rattle.board_core.specs.History.{Event}
+use Rattle.board_core.specs.Replies.{IsLegal}
+use Rattle.guest_script.specs.Grammar.{Content, Empty, Guest, Program, Schedule, Trace}
+use Rattle.hart_threads.specs.declared.ends.End.{End}
+use Rattle.hart_threads.specs.declared.ends.End.TheVariants as ends
+use Rattle.hart_threads.specs.Ends.{IsEnd}
+use Rattle.monitor.specs.Table.{table}
+use Rattle.monitor.specs.Words.{board_words, event_words, line_of}
+use Rattle.sbiboard.specs.declared.outcome.Outcome.{Outcome}
+use Rattle.sbiboard.specs.declared.outcome.Outcome.TheVariants.{Good, HistoryFull, Stuck}
+use Rattle.sbiboard.specs.Running.{EndsAs}
+
+-- the blocks of a program; an empty script is one without blocks
+abbrev pub programmed : Content → Option (List Guest)
+programmed Empty = Some []
+programmed (Program blocks clock) = Some blocks
+programmed (Schedule lines) = None
+programmed (Trace lines) = None
+
+-- each event with its reply
+abbrev pub events_text : List Event → List ℕ
+events_text [] = []
+events_text (e ∷ es) = line_of (event_words e.actor e.op (Ok e.reply)) ++ events_text es
+
+-- the name of an end
+abbrev pub end_name : End → List ℕ
+end_name ends.GateLimit = codes "gate-limit"
+end_name ends.Off = codes "off"
+end_name ends.HistoryFull = codes "history-full"
+end_name ends.Quiet = codes "quiet"
+end_name ends.Stuck = codes "stuck"
+
+-- a comment of a trace that names the end
+abbrev pub end_line : End → List ℕ
+end_line end = codes "# end " ++ (end_name end ++ 10 ∷ [])
+
+-- The board line, the record's events in their order, the table of the board after them, and the end.
+abbrev pub run_text : Config → List Event → End → List ℕ
+run_text c past end = line_of (board_words c) ++ (events_text (reverse past) ++ (table c past ++ end_line end))
+
+-- The outcome with each end. The program's own gate is always open.
+abbrev pub outcome_of : End → Outcome
+outcome_of ends.GateLimit = Stuck
+outcome_of ends.Off = Good
+outcome_of ends.HistoryFull = HistoryFull
+outcome_of ends.Quiet = Good
+outcome_of ends.Stuck = Stuck
+
+-- What the run of a program writes with each outcome: a record that is a legal history, and how it ended.
+pub record RunsOnThreads (c : Config) (blocks : List Guest) (outcome : Outcome) (text : List ℕ) : Type 0 where
+  pub past : List Event
+  pub end : End
+  pub legal : IsLegal c past
+  pub ended : IsEnd end c past blocks
+  pub outcome_is : outcome ≡ outcome_of end
+  pub text_is : text ≡ run_text c past end
+
+-- What the run of bytes writes with each outcome.
+abbrev pub EndsRun : List ℕ → Outcome → List ℕ → Type 0
+EndsRun bytes outcome text = EndsAs programmed RunsOnThreads bytes outcome text

@@ -1,0 +1,144 @@
+ghost use Rattle.std.specs.Prelude.{◌≡◌, ◌^◌, ◌<◌, true, IfSome, OnOk, is_some, take};
+ghost use Rattle.board_core.specs.Limits.{IsGood};
+ghost use Rattle.guest_script.specs.Grammar.{content};
+ghost use Rattle.monitor.specs.Sinks.{Puts};
+ghost use Rattle.sbiboard.specs.Running.{CountsEnd, EndsFlushed, EndsRead, Writes, read_limit};
+ghost use Rattle.sbiboard.specs.Sources.{ReadsUpTo};
+ghost use Rattle.sbiboard.specs.Threaded.{EndsRun, end_line, end_name, events_text, outcome_of, programmed, run_text};
+
+use crate::device::{ReadFault, Source, read_whole};
+use crate::outcome::Outcome;
+use crate::running::{READ_LIMIT, ended};
+use board_core::Event;
+use guest_script::{Body, parse};
+use hart_threads::{End, Gate, RunEnd, RunFault, run};
+use monitor::{Failed, Sink, print, print_event, print_head, write_all};
+use std::sync::Wait;
+use std::thread::Threads;
+
+/// Reads a program to its end, runs it on threads, one for each hart and one for the clock, and writes the board line, the
+/// events of the record, the board's table and how it ended. Where this has at most 16,777,216 bytes, it is a trace with
+/// which `check` agrees. Nothing is written before the threads have ended; at most 16,777,217 bytes are read, and after a
+/// failed read the writer is as it was. An empty script is a program without blocks; a schedule or a trace is of the wrong
+/// kind. Each thread asks the gate before each of its operations.
+pub fn run_script<S: Source, W: Sink, G: Gate + Sync, R: AllocGlobal + Threads + Wait + Sync>(
+    rt: &R,
+    reader: &mut S,
+    writer: &mut W,
+    gate: &G,
+) -> Outcome
+    requires reader_counts { S.failures reader.old < 2 ^ 63 }
+    requires writer_counts { W.failures writer.old < 2 ^ 63 }
+    ensures writes { IfSome (S.left reader.old) (λ bytes.
+        Writes (EndsRun (take read_limit bytes)) result (W.written writer.old) (W.written writer.new)) }
+    ensures to_the_end { EndsRead result (S.left reader.new) }
+    ensures at_most { ReadsUpTo read_limit (S.left reader.old) (S.left reader.new) }
+    ensures untouched { S.failures reader.old < S.failures reader.new → writer.new ≡ writer.old }
+    ensures flushed { EndsFlushed result (W.is_flushed writer.new) }
+    ensures failed { CountsEnd result (S.failures reader.old) (S.failures reader.new)
+        (W.failures writer.old) (W.failures writer.new) }
+{
+    let bytes = match read_whole(rt.alloc(), reader, READ_LIMIT) {
+        Ok(bytes) => bytes,
+        Err(ReadFault::Failed) => return Outcome::Io,
+        Err(ReadFault::NoMemory) => return Outcome::NoMemory,
+    };
+    run_bytes(rt, &bytes, writer, gate)
+}
+
+fn run_bytes<W: Sink, G: Gate + Sync, R: AllocGlobal + Threads + Wait + Sync>(
+    rt: &R,
+    bytes: &[u8],
+    writer: &mut W,
+    gate: &G,
+) -> Outcome
+    requires { W.failures writer.old < 2 ^ 63 }
+    ensures writes { Writes (EndsRun bytes.now) result (W.written writer.old) (W.written writer.new) }
+    ensures flushed { EndsFlushed result (W.is_flushed writer.new) }
+    ensures failed { CountsEnd result 0 0 (W.failures writer.old) (W.failures writer.new) }
+{
+    let script = match parse(rt.alloc(), bytes) {
+        Ok(script) => script,
+        Err(fault) => return ended(fault),
+    };
+    if !is_program(&script.body) {
+        return Outcome::WrongKind;
+    }
+    match run(rt, &script, gate) {
+        Ok(run) => match print_run(&run, writer) {
+            Ok(()) => outcome_of(run.end),
+            Err(Failed) => Outcome::Io,
+        },
+        Err(RunFault::BadConfig) => Outcome::BadBoard,
+        Err(RunFault::NoMemory | RunFault::NoThread) => Outcome::NoMemory,
+    }
+}
+
+/// Whether a script is a program. An empty script is of each kind.
+fn is_program(body: &Body) -> bool
+    ensures { result ≡ is_some (programmed (content body.now)) }
+{
+    match body {
+        Body::Empty | Body::Program { .. } => true,
+        Body::Schedule(_) | Body::Trace(_) => false,
+    }
+}
+
+/// The outcome with an end (profile).
+fn outcome_of(end: End) -> Outcome
+    ensures { result ≡ outcome_of end }
+{
+    match end {
+        End::Off | End::Quiet => Outcome::Good,
+        End::HistoryFull => Outcome::HistoryFull,
+        End::GateLimit | End::Stuck => Outcome::Stuck,
+    }
+}
+
+/// Writes all that a run prints.
+fn print_run<W: Sink>(run: &RunEnd, writer: &mut W) -> Result<(), Failed>
+    requires { W.failures writer.old < 2 ^ 63 }
+    ensures text { Puts W.written W.failures writer.old writer.new result (run_text run.now.board.config run.now.board.past run.now.end) }
+    ensures flushed { OnOk result (W.is_flushed writer.new ≡ true) }
+    ensures good { IsGood run.now.board.config }
+{
+    print_head(run.board.config(), writer)?;
+    print_events(run.board.history(), writer)?;
+    print(&run.board, writer)?;
+    print_end(run.end, writer)?;
+    writer.flush()
+}
+
+/// Writes each event with its reply.
+fn print_events<W: Sink>(events: &[Event], writer: &mut W) -> Result<(), Failed>
+    requires { W.failures writer.old < 2 ^ 63 }
+    ensures { Puts W.written W.failures writer.old writer.new result (events_text events.now) }
+{
+    for event in events {
+        print_event(event, writer)?;
+    }
+    Ok(())
+}
+
+/// Writes how a run ended, as a comment of a trace.
+fn print_end<W: Sink>(end: End, writer: &mut W) -> Result<(), Failed>
+    requires { W.failures writer.old < 2 ^ 63 }
+    ensures { Puts W.written W.failures writer.old writer.new result (end_line end) }
+{
+    write_all(writer, b"# end ")?;
+    write_all(writer, end_name(end))?;
+    write_all(writer, b"\n")
+}
+
+/// The name of an end (profile).
+fn end_name(end: End) -> &'static [u8]
+    ensures { result.now ≡ end_name end }
+{
+    match end {
+        End::GateLimit => b"gate-limit",
+        End::Off => b"off",
+        End::HistoryFull => b"history-full",
+        End::Quiet => b"quiet",
+        End::Stuck => b"stuck",
+    }
+}
