@@ -17,9 +17,8 @@ both, and the ratio is the program's time over plain Rust's, both with it.
 
 A step should be constant work, so a row's speed should depend neither on the number of harts nor on how long the
 history is: rows of 100,000 lines differ in their harts, and rows of 128 harts in their lines. (Of 10,000 lines a large
-part is the start of the process.) The exception is a queue of fences that wait: see "crossing fences". --harts and
---lines choose other ones. A script has at most 16,777,216 bytes, so workloads of longer lines end at 500,000 lines,
-and of a longer trace the lines that fit are checked.
+part is the start of the process.) --harts and --lines choose other ones. A script has at most 16,777,216 bytes, so
+workloads of longer lines end at 500,000 lines, and of a longer trace the lines that fit are checked.
 --instructions counts instructions by valgrind in the place of time, in some minutes: a busy machine doesn't change them.
 """
 import argparse

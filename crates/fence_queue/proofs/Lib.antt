@@ -1,3 +1,3 @@
 pub mod Tables
 pub mod Queue
-pub mod Stored
+pub mod Kept

@@ -1,7 +1,6 @@
-//! The fences that wait at a board's harts, in a queue for each hart.
+//! The fences that wait at a board's harts, in a ring for each hart.
 #![tactic(auto)]
 
-mod placed;
 mod queues;
 mod request;
 mod waiting;

@@ -1,32 +1,30 @@
 ghost use Rattle.std.specs.Prelude.{◌≡◌, ◌<◌, ◌≤◌, ◌==◌, false, length, drop, IfOk, replicate, sum_by, [], slice_get};
 ghost use Rattle.fence_queue.specs.Queues.{IsQueue, drained, has_from, popped, pushed, queue_at};
 
-use crate::placed::{Placed, count_at, first_at, remove_at};
 use crate::request::Request;
 use crate::waiting::Waiting;
+use circular_buffer::HeapCircularBuffer;
 use std::alloc::{AllocError, Global};
 use std::marker::Model;
 
 /// For each hart of a board, by its id, the requests that wait there, in the order in which they came (profile).
 #[derive(Drop)]
 pub struct Queues<F> {
-    harts: u64,
-    placed: Vec<Placed<F>>,
+    rings: Vec<HeapCircularBuffer<Request<F>>>,
+    total: u64,
 }
 
 impl<F> Model for Queues<F> {
-    ghost use Rattle.std.specs.Prelude.{List, map};
-    ghost use Rattle.std.specs.List.{range_with_len};
+    ghost use Rattle.std.specs.Prelude.{List};
     ghost use Rattle.fence_queue.specs.declared.request.Request.{Request};
 
     ghost Value = { List (List (Request F)) };
 
-    ghost use Rattle.std.specs.Prelude.{vec_capacity};
-    ghost use Rattle.fence_queue.specs.Placed.{IsKept, queue_of};
+    ghost use Rattle.fence_queue.specs.Rings.{AreKept, queues_of};
 
-    ghost view = { λ q. map (queue_of q.placed.items) (range_with_len 0 q.harts) };
+    ghost view = { λ q. queues_of q.rings.items };
 
-    ghost invariant = { λ q. IsKept q.harts q.placed.items (vec_capacity q.placed) };
+    ghost invariant = { λ q. AreKept q.rings.items q.total };
 }
 
 impl<F: Copy> Queues<F> {
@@ -35,9 +33,12 @@ impl<F: Copy> Queues<F> {
         requires { harts ≤ 128 }
         ensures { IfOk result (λ queues. queues ≡ replicate harts []) }
     {
-        let room = harts * harts.saturating_sub(1);
-        let placed = Vec::with_capacity(alloc, room as usize)?;
-        Ok(Queues { harts, placed })
+        let room = harts.saturating_sub(1) as usize;
+        let mut rings = Vec::with_capacity(alloc, harts as usize)?;
+        for _ in 0..harts {
+            rings.push(HeapCircularBuffer::with_capacity(alloc, room)?)?;
+        }
+        Ok(Queues { rings, total: 0 })
     }
 
     /// Puts a request at the end of hart `t`'s queue. It comes from another hart, of which no request waits there, so
@@ -49,7 +50,8 @@ impl<F: Copy> Queues<F> {
         requires once { has_from request.from (queue_at self.old t) ≡ false }
         ensures { self.new ≡ pushed self.old t request }
     {
-        self.placed.push_reserved(Placed { at: t, request });
+        self.rings[t as usize].push_back(request);
+        self.total += 1;
     }
 
     /// The first request that waits at hart `t`.
@@ -57,7 +59,7 @@ impl<F: Copy> Queues<F> {
         requires { t < length self.now }
         ensures { result ≡ slice_get (queue_at self.now t) 0 }
     {
-        self.iter(t).next()
+        self.rings[t as usize].front().copied()
     }
 
     /// Takes the first request out of hart `t`'s queue, where one waits.
@@ -67,8 +69,9 @@ impl<F: Copy> Queues<F> {
         ensures after { self.new ≡ popped self.old t }
         ensures queue { IsQueue (length self.old) t (queue_at self.old t) }
     {
-        let place = first_at(&self.placed, t)?;
-        Some(self.placed.remove(place).request)
+        let request = self.rings[t as usize].pop_front()?;
+        self.total -= 1;
+        Some(request)
     }
 
     /// Takes all requests out of hart `t`'s queue.
@@ -76,14 +79,18 @@ impl<F: Copy> Queues<F> {
         requires { t < length self.old }
         ensures { self.new ≡ drained self.old t }
     {
-        remove_at(&mut self.placed, t);
+        self.total -= self.len(t);
+        self.rings[t as usize].clear();
     }
 
     /// Takes all requests out of all queues.
     pub fn clear(&mut self)
         ensures { self.new ≡ replicate (length self.old) [] }
     {
-        self.placed.clear();
+        for ring in self.rings.iter_mut() {
+            ring.clear();
+        }
+        self.total = 0;
     }
 
     /// The requests that wait at hart `t`, the first of them first. They come from distinct other harts.
@@ -92,7 +99,7 @@ impl<F: Copy> Queues<F> {
         ensures requests { result ≡ queue_at self.now t }
         ensures queue { IsQueue (length self.now) t (queue_at self.now t) }
     {
-        Waiting::of(&self.placed, t)
+        Waiting::of(&self.rings[t as usize])
     }
 
     /// How many requests wait at hart `t`: fewer than there are harts.
@@ -101,14 +108,14 @@ impl<F: Copy> Queues<F> {
         ensures count { result ≡ length (queue_at self.now t) }
         ensures limit { result < length self.now }
     {
-        count_at(&self.placed, t) as u64
+        self.rings[t as usize].len() as u64
     }
 
     /// How many requests wait, at all harts together.
     pub fn total(&self) -> u64
         ensures { result ≡ sum_by length self.now }
     {
-        self.placed.len() as u64
+        self.total
     }
 
     /// How many harts there are; at most 128 (profile).
@@ -116,6 +123,6 @@ impl<F: Copy> Queues<F> {
         ensures count { result ≡ length self.now }
         ensures limit { length self.now ≤ 128 }
     {
-        self.harts
+        self.rings.len() as u64
     }
 }

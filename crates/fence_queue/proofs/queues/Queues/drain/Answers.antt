@@ -1,14 +1,12 @@
-use Rattle.std.proofs.Common.{[], set, ap, ◌∙◌}
-use Rattle.fence_queue.proofs.Stored.{IsKept-out, queue_of-out, queue_of-out_other, queues-set}
+use Rattle.fence_queue.proofs.Kept.{after-drain}
 use Rattle.fence_queue.proofs.queues.Queues.drain.Goals as goal
 
 pub invariant_of-self : goal.invariant_of-self
 invariant_of-self g c =
-    rw (c.remove_at.ensures.items, c.remove_at.ensures.capacity)
-    (IsKept-out c.self.inside.harts c.args.t _ c.self.inside.placed.items c.self.invariant)
+    (after-drain c.self.inside.rings.items c.self.inside.total c.self.invariant _ c.self.view_is c.args.t c.requires c.index_mut.result.now c.index_mut.ensures.value
+    _ c.len.result c.len.ensures.count c.clear.ensures).0
 
 pub returns : goal.returns
-returns g c = rw c.remove_at.ensures.items (
-    queues-set c.self.inside.harts c.args.t c.self.inside.placed.items _ (λ j differ. queue_of-out_other c.self.inside.placed.items c.args.t j differ)
-    ∙ ap (set _ c.args.t) (queue_of-out c.self.inside.placed.items c.args.t)
-    ∙ ap (λ queues. set queues c.args.t []) c.self.view_is)
+returns g c =
+    (after-drain c.self.inside.rings.items c.self.inside.total c.self.invariant _ c.self.view_is c.args.t c.requires c.index_mut.result.now c.index_mut.ensures.value
+    _ c.len.result c.len.ensures.count c.clear.ensures).1
