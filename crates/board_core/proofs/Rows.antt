@@ -69,6 +69,26 @@ unrefused op s is_full none = let fails = all_fail (is_out_of_phase op s) (has_n
     all_fail false false true none = cc
     all_fail false false false none = (refl, refl, refl)
 
+-- what is refused while the history has room is refused for the same cause when it is full, and what isn't is refused then
+pub refused_with_room : (op : Op) (s : Situation) (full : Bool) (refusal : Refusal) → first_that_holds (refusals_in s op false) ≡ Some refusal
+    → first_that_holds (refusals_in s op full) ≡ Some refusal
+refused_with_room op s full refusal some = by_tests (is_out_of_phase op s) (has_nothing_to_do op s) some
+  where
+    by_tests : (first second : Bool) → first_that_holds ((first, WrongPhase) ∷ (second, Nothing) ∷ (false, HistoryFull) ∷ []) ≡ Some refusal
+        → first_that_holds ((first, WrongPhase) ∷ (second, Nothing) ∷ (full, HistoryFull) ∷ []) ≡ Some refusal
+    by_tests true second some = some
+    by_tests false true some = some
+    by_tests false false some = cc
+
+pub refused_by_room : (op : Op) (s : Situation) → first_that_holds (refusals_in s op false) ≡ None → first_that_holds (refusals_in s op true) ≡ Some HistoryFull
+refused_by_room op s none = by_tests (is_out_of_phase op s) (has_nothing_to_do op s) none
+  where
+    by_tests : (first second : Bool) → first_that_holds ((first, WrongPhase) ∷ (second, Nothing) ∷ (false, HistoryFull) ∷ []) ≡ None
+        → first_that_holds ((first, WrongPhase) ∷ (second, Nothing) ∷ (true, HistoryFull) ∷ []) ≡ Some HistoryFull
+    by_tests true second none = cc
+    by_tests false true none = cc
+    by_tests false false none = refl
+
 -- an accepted operation was not refused, and has its reply
 pub accepted : (off missing : Bool) (s : Situation) (op : Op) (is_full : Bool) (r r' : Reply)
     → refused_or (first_that_holds ((off, Off) ∷ (missing, WrongPhase) ∷ refusals_in s op is_full)) r ≡ Ok r' → IsAccepted op s × (r ≡ r')

@@ -83,13 +83,15 @@ module _ (c : Config) (past : List Event) (m : Machine) (most : c.harts ≤ 128)
       let queue = queue-read c past m.fences stands.fences h inside in
       λ i. record { state = (own i).state; wake = wake i; call = call i; fences = queue i }
 
--- the machine refuses what the past refuses
-pub refusal-read : (b : Course) (c : Config) (past : List Event) {m : Machine} → record { config = c; past = past } ≡ b → c.harts ≤ 128 → StandsFor c past m → (h : ℕ) → h < c.harts → (op : Op)
-    (full : Bool) → full ≡ is_full b.config b.past → first_that_holds (refusals_in (situation_in m h) op full) ≡ first_that_holds (refusals_in (situation c past h) op (is_full c past))
-refusal-read b c past {m} is most stands h inside op full full_is =
-    let s = situation-read c past m most stands h inside in
-    let same : full ≡ is_full c past = full_is ∙ sym (ap (λ (b : Course). is_full b.config b.past) is) in
-    λ i. first_that_holds (refusals_in (s i) op (same i))
+-- what the machine doesn't refuse while there is room, the past doesn't refuse
+pub unrefused-read : (b : Course) (c : Config) (past : List Event) {m : Machine} → record { config = c; past = past } ≡ b → c.harts ≤ 128 → StandsFor c past m → (h : ℕ) → h < c.harts → (op : Op)
+    → first_that_holds (refusals_in (situation_in m h) op false) ≡ None → is_full b.config b.past ≡ false
+    → first_that_holds (refusals_in (situation b.config b.past h) op (is_full b.config b.past)) ≡ None
+unrefused-read b c past {m} is most stands h inside op none room =
+    ap (λ full. first_that_holds (refusals_in (situation b.config b.past h) op full)) room
+    ∙ sym (ap (λ (b : Course). first_that_holds (refusals_in (situation b.config b.past h) op false)) is)
+    ∙ sym (ap (λ s. first_that_holds (refusals_in s op false)) (situation-read c past m most stands h inside))
+    ∙ none
 
 module _ (c : Config) (m : Machine) (good : IsGood c) (standing : IsStanding c m) where
   pub counts-room : HasRoom m.counts

@@ -3,18 +3,21 @@ use Rattle.std.proofs.Common.{◌≡◌, ◌≢◌, ℕ, ◌+◌, ◌<◌, ◌�
 use Rattle.std.specs.Prelude.{Option, Some, None, Ok, Err, is_some, unwrap_or, nat_le, nat_lt}
 use Rattle.std.proofs.lemmas.Bool.{cases_Bool, le-ltb, leb-true, lt-leb}
 use Rattle.std.proofs.lemmas.List.{reverse-append}
+use Rattle.std.proofs.lemmas.Option.{same_Some}
 use Rattle.interrupts.specs.Timing.{Timing, last_time, ticked}
 use Rattle.tlb_model.specs.declared.entry.Entry.{Entry}
 use Rattle.board_core.specs.declared.config.Config.{Config}
 use Rattle.board_core.specs.declared.event.Actor.TheVariants.{Hart, Clock}
-use Rattle.board_core.specs.History.{Event, Reach, access_of, entry_of, using}
+use Rattle.hart_access.specs.declared.operation.Access.{Access}
+use Rattle.hart_access.specs.declared.operation.Access.TheVariants as accesses
+use Rattle.board_core.specs.History.{Event, Reach, access_of, access_op, entry_of, using}
 use Rattle.board_core.specs.declared.event.Op.{Op}
-use Rattle.board_core.specs.declared.event.Op.TheVariants.{Tick}
+use Rattle.board_core.specs.declared.event.Op.TheVariants.{Load, Store, Fetch, Tick}
 use Rattle.board_core.specs.declared.event.Refusal.{Refusal}
 use Rattle.board_core.specs.declared.event.Refusal.TheVariants.{Off, WrongPhase}
 use Rattle.board_core.specs.declared.event.Reply.{Reply}
 use Rattle.board_core.specs.declared.event.Reply.TheVariants.{Done}
-use Rattle.board_core.specs.Accesses.{used, used_by_access, used_by_actor}
+use Rattle.board_core.specs.Accesses.{access_reply, used, used_by_access, used_by_actor}
 use Rattle.board_core.specs.Interrupts.{time}
 use Rattle.board_core.specs.Refusals.{first_that_holds, is_full, refusals_in, situation}
 use Rattle.board_core.specs.Replies.{answer, refused_or, reply, stepped}
@@ -62,6 +65,18 @@ pub recorded_as : (c : Config) (past : List Event) (x : ℕ) (op : Op) (reply : 
 recorded_as c past x op reply entry is =
     let same = ap (entry_of (access_of op)) is ∙ entry_used c past x op ∙ sym is in
     λ i. record { actor = Hart x; op = op; reply = reply; translation = same i }
+
+-- an operation that is an access is the one of its address, and has its reply
+pub access_is : (op : Op) (va : ℕ) (what : Access) → access_of op ≡ Some (record { va = va; access = what }) → op ≡ access_op va what
+access_is (Load at) va what is = ap (λ (reach : Reach). access_op reach.va reach.access) (same_Some _ _ is)
+access_is (Store at value) va what is = ap (λ (reach : Reach). access_op reach.va reach.access) (same_Some _ _ is)
+access_is (Fetch at) va what is = ap (λ (reach : Reach). access_op reach.va reach.access) (same_Some _ _ is)
+access_is op va what is = absurd cc
+
+pub access_replied : (c : Config) (past : List Event) (h va : ℕ) (what : Access) → access_reply c past h va what ≡ reply c past h (access_op va what)
+access_replied c past h va accesses.Load = refl
+access_replied c past h va (accesses.Store value) = refl
+access_replied c past h va accesses.Fetch = refl
 
 -- a history that isn't full has room
 pub room-left : (c : Config) (past : List Event) → is_full c past ≡ false → length past ≤ c.limit → length past < c.limit

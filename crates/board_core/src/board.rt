@@ -1,4 +1,4 @@
-ghost use Rattle.std.specs.Prelude.{◌≡◌, ◌<◌, ◌≤◌, ◌↔◌, List, [], ◌∷◌, true, false, IfOk, IsErrOf, length, reverse};
+ghost use Rattle.std.specs.Prelude.{◌≡◌, ◌<◌, ◌≤◌, ◌↔◌, List, [], ◌∷◌, true, false, IfOk, IsErrOf, None, Ok, Some, length, reverse};
 ghost use Rattle.hsm.specs.declared.hart.HartState.{HartState};
 ghost use Rattle.interrupts.specs.Timing.{last_time};
 ghost use Rattle.tlb_model.specs.Acts.{cache_after};
@@ -6,7 +6,7 @@ ghost use Rattle.tlb_model.specs.Entries.{covers_entry};
 ghost use Rattle.tlb_model.specs.Words.{covers_word};
 ghost use Rattle.board_core.specs.declared.config.BuildFault.TheVariants.{BadConfig};
 ghost use Rattle.board_core.specs.declared.config.Config.{Config};
-ghost use Rattle.board_core.specs.History.{Event};
+ghost use Rattle.board_core.specs.History.{Event, access_of};
 ghost use Rattle.board_core.specs.declared.event.Actor.TheVariants.{Hart, Clock};
 ghost use Rattle.board_core.specs.Csrs.{sie, sstatus_sie};
 ghost use Rattle.board_core.specs.ErrorLaw.{LooksSame, is_error};
@@ -14,7 +14,7 @@ ghost use Rattle.board_core.specs.Interrupts.{deadline, ssip, stip, time, wake};
 ghost use Rattle.board_core.specs.Limits.{IsGood};
 ghost use Rattle.board_core.specs.Memory.{memory, satp, tlb_acts, word_acts};
 ghost use Rattle.board_core.specs.Fences.{outstanding, waiting};
-ghost use Rattle.board_core.specs.Refusals.{is_full};
+ghost use Rattle.board_core.specs.Refusals.{first_that_holds, is_full, refusals_in, situation};
 ghost use Rattle.board_core.specs.Resets.{is_off, last_reset};
 ghost use Rattle.board_core.specs.States.{state};
 ghost use Rattle.board_core.specs.Starts.{kept, StartsAreEntered};
@@ -26,11 +26,12 @@ use crate::calls::is_shutdown;
 use crate::config::{BuildFault, Config};
 use crate::counts::Counts;
 use crate::csrs::{Csrs, Sie};
-use crate::event::{Actor, Event, Op, Refusal, Reply};
+use crate::event::{Actor, Event, Op, Refusal, Reply, access_of};
 use crate::interrupt_state::Interrupts;
 use crate::machine::Machine;
 use crate::memory::Memory;
 use fence_queue::Waiting;
+use hart_access::Access;
 use hart_mask::HartSet;
 use hsm::{HartState, Hsm, Kept};
 use interrupts::{Ipis, Timers};
@@ -125,13 +126,48 @@ impl Board {
         if h >= self.config.harts {
             return Err(Refusal::WrongPhase);
         }
-        if let Some(refusal) = self.machine.refusal(h, op, self.is_full()) {
+        if let Some(refusal) = self.machine.refusal(h, op) {
             return Err(refusal);
         }
-        let (reply, used) = self.machine.perform(&self.config, h, op);
+        if self.is_full() {
+            return Err(Refusal::HistoryFull);
+        }
+        Ok(match access_of(op) {
+            Some((va, what)) => self.access(h, op, va, what),
+            None => self.perform(h, op),
+        })
+    }
+
+    /// Carries out an access of hart `h` that isn't refused, and records it: the reply.
+    #[inline(always)]
+    fn access(&mut self, h: u64, op: Op, va: u64, what: Access) -> Reply
+        requires on { is_off self.old.past ≡ false }
+        requires in_range { h < self.old.config.harts }
+        requires unrefused { first_that_holds (refusals_in (situation self.old.config self.old.past h) op (is_full self.old.config self.old.past)) ≡ None }
+        requires same { access_of op ≡ Some (record { va = va; access = what }) }
+        ensures answer { Ok result ≡ answer self.old.config self.old.past (Hart h) op }
+        ensures after { self.new ≡ stepped self.old (Hart h) op }
+    {
+        let (reply, used) = self.machine.access(h, va, what);
         self.events
             .push_reserved(Event::new(Actor::Hart(h), op, reply, used));
-        Ok(reply)
+        reply
+    }
+
+    /// Carries out an operation of hart `h` that isn't refused, and is no access, and records it: the reply.
+    #[inline(always)]
+    fn perform(&mut self, h: u64, op: Op) -> Reply
+        requires on { is_off self.old.past ≡ false }
+        requires in_range { h < self.old.config.harts }
+        requires unrefused { first_that_holds (refusals_in (situation self.old.config self.old.past h) op (is_full self.old.config self.old.past)) ≡ None }
+        requires other { access_of op ≡ None }
+        ensures answer { Ok result ≡ answer self.old.config self.old.past (Hart h) op }
+        ensures after { self.new ≡ stepped self.old (Hart h) op }
+    {
+        let reply = self.machine.perform(&self.config, h, op);
+        self.events
+            .push_reserved(Event::other(Actor::Hart(h), op, reply));
+        reply
     }
 
     /// One step of the clock, which only ticks, while the power is on.

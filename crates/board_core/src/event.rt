@@ -1,7 +1,8 @@
-ghost use Rattle.std.specs.Prelude.{◌≡◌};
+ghost use Rattle.std.specs.Prelude.{◌≡◌, None, option_map};
 ghost use Rattle.board_core.specs.History.{access_of, entry_of};
 ghost use Rattle.board_core.specs.Refusals.{refusal_number};
 
+use hart_access::Access;
 use hsm::HartState;
 use sbi_abi::{Regs, Sbiret};
 use std::marker::Model;
@@ -166,6 +167,18 @@ impl Event {
         Event { actor, reply, what }
     }
 
+    /// An accepted step that is no access.
+    pub(crate) fn other(actor: Actor, op: Op, reply: Reply) -> Event
+        requires { access_of op ≡ None }
+        ensures { result ≡ record { actor = actor; op = op; reply = reply; translation = None } }
+    {
+        Event {
+            actor,
+            reply,
+            what: What::Other(op),
+        }
+    }
+
     /// Who made it.
     pub fn actor(&self) -> Actor
         ensures { result ≡ self.now.actor }
@@ -200,5 +213,17 @@ impl Event {
             What::Load(_, used) | What::Store(_, _, used) | What::Fetch(_, used) => used,
             What::Other(_) => None,
         }
+    }
+}
+
+/// The access that an operation is, with its address, if it is one.
+pub fn access_of(op: Op) -> Option<(u64, Access)>
+    ensures { option_map (λ at. record { va = at.0; access = at.1 }) result ≡ access_of op }
+{
+    match op {
+        Op::Load(va) => Some((va, Access::Load)),
+        Op::Store(va, value) => Some((va, Access::Store(value))),
+        Op::Fetch(va) => Some((va, Access::Fetch)),
+        _ => None,
     }
 }

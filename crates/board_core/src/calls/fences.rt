@@ -24,6 +24,7 @@ use tlb_model::{Fence, Flush, is_wrong_range};
 impl Machine {
     /// Asks a fence of the harts of a hart list, for hart `h`, which calls, and skips those that aren't in an
     /// interruptible state (SBI 8; that it skips them: profile).
+    #[inline(always)]
     pub fn remote_fence(
         &mut self,
         config: &Config,

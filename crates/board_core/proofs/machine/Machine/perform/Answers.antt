@@ -10,7 +10,7 @@ use Rattle.std.specs.Vec.{with_items}
 use Rattle.rfence.specs.Turns as fence_turns
 use Rattle.board_core.specs.Fences.{turns}
 use Rattle.board_core.proofs.Rows.{accepted_goes_on, running_parts}
-use Rattle.board_core.proofs.Situations.{counts-room, fences-room, fills-room, poll-right, serve-right, takes}
+use Rattle.board_core.proofs.Situations.{counts-room, fences-room, poll-right, serve-right, takes}
 use Rattle.board_core.proofs.Tables.{tabulated-items}
 use Rattle.sv39.specs.Satp.{satp_written}
 use Rattle.board_core.specs.declared.event.Op.TheVariants.{ClearSsip, FenceI, Poll, ReadSip, Serve, Sfence, Wfi, WriteSatp, WriteSie, WriteSstatusSie}
@@ -129,15 +129,6 @@ call-requires-clause-started c = (running_parts (situation_in c.args.self.now c.
 pub call-requires-clause-outside : goal.call-requires-clause-outside
 call-requires-clause-outside c = (running_parts (situation_in c.args.self.now c.args.h) (rw c.in-Ecall.is at c.requires.accepted).in_phase).1
 
-pub access-requires : goal.access-requires
-access-requires c = fills-room c.args.config.now c.args.self.now c.requires.good c.requires.standing c.args.h c.requires.in_range
-
-pub access-requires-in-Store : goal.access-requires-in-Store
-access-requires-in-Store c = fills-room c.args.config.now c.args.self.now c.requires.good c.requires.standing c.args.h c.requires.in_range
-
-pub access-requires-in-Fetch : goal.access-requires-in-Fetch
-access-requires-in-Fetch c = fills-room c.args.config.now c.args.self.now c.requires.good c.requires.standing c.args.h c.requires.in_range
-
 pub advance-requires-clause-accepted : goal.advance-requires-clause-accepted
 advance-requires-clause-accepted c = accepted_goes_on (situation_in c.args.self.now c.args.h) (rw c.in-Advance.is at c.requires.accepted)
 
@@ -202,12 +193,3 @@ returns-in-Wfi-clause-after c = λ past stands.
     let config = c.args.config.now in
     let event = by_hart c.args.h Wfi Done in
     rw c.in-Wfi.is (stands-quiet config past event (deed config past event) refl c.args.self.now refl stands)
-
-pub returns-in-Load-clause-after : goal.returns-in-Load-clause-after
-returns-in-Load-clause-after c = λ past stands. rw c.in-Load.is (c.access.ensures.after c.args.config.now past c.requires.in_range stands)
-
-pub returns-in-Store-clause-after : goal.returns-in-Store-clause-after
-returns-in-Store-clause-after c = λ past stands. rw c.in-Store.is (c.access-in-Store.ensures.after c.args.config.now past c.requires.in_range stands)
-
-pub returns-in-Fetch-clause-after : goal.returns-in-Fetch-clause-after
-returns-in-Fetch-clause-after c = λ past stands. rw c.in-Fetch.is (c.access-in-Fetch.ensures.after c.args.config.now past c.requires.in_range stands)
