@@ -9,6 +9,9 @@
 //! that wait there, sets of harts are words of 128 bits, lines are composed in one buffer of 64 KiB, and no
 //! line or step takes memory. As in the program, the whole script is read before the first byte is written, every
 //! fault is told with its line, and the history owns what it holds. Want of memory isn't told: it aborts.
+//!
+//! `lock HARTS CALLS sip|ipi` does what `lock_rows` does with such words: so many of eight harts make so many calls each on
+//! a board behind a lock. `bench/lock.py` times both.
 
 #[path = "baseline/board.rs"]
 mod board;
@@ -16,6 +19,8 @@ mod board;
 mod faults;
 #[path = "baseline/fences.rs"]
 mod fences;
+#[path = "baseline/lock.rs"]
+mod lock;
 #[path = "baseline/memory.rs"]
 mod memory;
 #[path = "baseline/printing.rs"]
@@ -129,12 +134,29 @@ fn run(path: &str, kind: Kind, task: impl Fn(&Script, &mut Board) -> Ended) -> (
     ended.map_or_else(|_| failed(), |(status, text)| (status, text.to_string()))
 }
 
+/// Has threads make calls on a board behind a lock, and prints how many events there were, and the nanoseconds.
+fn make_calls(words: &[String]) -> (i32, String) {
+    let usage = (2, "lock HARTS CALLS sip|ipi".to_string());
+    let [harts, calls, op] = words else {
+        return usage;
+    };
+    let (Ok(harts), Ok(calls), Some(op)) = (harts.parse(), calls.parse(), lock::Op::of(op)) else {
+        return usage;
+    };
+    let Some((events, took)) = lock::run(harts, calls, op) else {
+        return (1, "bad board".to_string());
+    };
+    println!("{events} {took}");
+    (0, String::new())
+}
+
 fn main() {
     let words: Vec<String> = std::env::args().skip(1).collect();
     let (status, text) = match words.as_slice() {
         [word, path] if word == "replay" => run(path, Kind::Schedule, replay),
         [word, path] if word == "check" => run(path, Kind::Trace, check),
-        _ => (2, "replay FILE, or check FILE".to_string()),
+        [word, rest @ ..] if word == "lock" => make_calls(rest),
+        _ => (2, "replay FILE, check FILE, or lock".to_string()),
     };
     if !text.is_empty() {
         eprintln!("sbiboard: {text}");

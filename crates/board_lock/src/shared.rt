@@ -67,13 +67,13 @@ impl<K: Room> SharedBoard<K> {
         ensures refused { OnErr result (seat.new ≡ seat.old) }
     {
         let mut desk = self.desk.lock(rt);
-        let receipt = desk.call(seat, op)?;
-        let rested = desk.wake();
+        let told = desk.call(seat, op);
+        let rested = told.is_ok() && desk.wake();
         drop(desk);
         if rested {
             self.changed.notify_all();
         }
-        Ok(receipt)
+        told
     }
 
     /// What the seat's hart may do next. It is a hint.

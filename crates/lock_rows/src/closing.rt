@@ -1,21 +1,17 @@
-//! Closes that lack a seat, and one whose seats are in another order.
+//! Closes with all seats, and before it closes that lack some.
 
 ghost use Rattle.std.specs.Prelude.{◌≡◌};
 
-use crate::seen::{Seen, Why};
-use board_lock::{Room, Seat, SharedBoard};
-use std::alloc::Global;
+use crate::seen::Why;
+use board_lock::{NotAll, Record, Room, Seat, SharedBoard};
 
-/// A close that lacks a seat: the board is back, and so many seats.
-fn refused<K: Room>(
-    shared: SharedBoard<K>,
-    seats: Vec<Seat<K>>,
-) -> Result<(SharedBoard<K>, Vec<Seat<K>>), Why>
+/// A close that lacks a seat: board and seats are back.
+fn refused<K: Room>(open: NotAll<K>) -> Result<NotAll<K>, Why>
     requires { K.all ≡ K.parts }
 {
-    match shared.close(seats) {
+    match open.board.close(open.seats) {
         Ok(_) => Err(Why::Accepted),
-        Err(not_all) => Ok((not_all.board, not_all.seats)),
+        Err(not_all) => Ok(not_all),
     }
 }
 
@@ -27,27 +23,45 @@ fn hand<K: Room>(from: &mut Vec<Seat<K>>, to: &mut Vec<Seat<K>>) -> Result<(), W
     }
 }
 
-/// Closes with no seat, with the clock's, with the clock's and one hart's, and then with all, from the last to the first.
-/// The board has two harts.
-pub fn closes<K: Room>(
-    alloc: Global,
+/// Closes, each refused, as long as seats are missing, of which the last is handed in after each: and how many seats came
+/// back of the first three.
+fn refusals<K: Room>(
+    open: NotAll<K>,
+    missing: &mut Vec<Seat<K>>,
+) -> Result<(NotAll<K>, [usize; 3]), Why>
+    requires { K.all ≡ K.parts }
+{
+    let mut open = open;
+    let mut back = [0; 3];
+    for turn in 0..missing.len() {
+        open = refused(open)?;
+        if let Some(count) = back.get_mut(turn) {
+            *count = open.seats.len();
+        }
+        hand(missing, &mut open.seats)?;
+    }
+    Ok((open, back))
+}
+
+/// Closes that lack so many of the last seats, and fewer and fewer, from the last, and then the one with all: the record, and
+/// how many seats came back of the first three that were refused.
+pub fn closed<K: Room>(
     shared: SharedBoard<K>,
     seats: Vec<Seat<K>>,
-) -> Result<Seen, Why>
+    lacking: usize,
+) -> Result<(Record<K>, [usize; 3]), Why>
     requires { K.all ≡ K.parts }
 {
     let mut seats = seats;
-    let (shared, mut back) = refused(shared, Vec::new(alloc))?;
-    let none = back.len();
-    hand(&mut seats, &mut back)?;
-    let (shared, mut back) = refused(shared, back)?;
-    let one = back.len();
-    hand(&mut seats, &mut back)?;
-    let (shared, mut back) = refused(shared, back)?;
-    let two = back.len();
-    hand(&mut seats, &mut back)?;
-    match shared.close(back) {
-        Ok(_) => Ok(Seen::Closes(none, one, two)),
+    let given = seats.len().saturating_sub(lacking);
+    let mut missing = seats.split_off(given)?;
+    let open = NotAll {
+        board: shared,
+        seats,
+    };
+    let (open, back) = refusals(open, &mut missing)?;
+    match open.board.close(open.seats) {
+        Ok(record) => Ok((record, back)),
         Err(_) => Err(Why::Seats),
     }
 }

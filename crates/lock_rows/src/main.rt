@@ -1,5 +1,8 @@
 //! Rows of boards behind a lock: real threads make calls by their seats, and keep their receipts. The program prints what
 //! holds of every schedule alone, and its file stdout has all that it must print.
+//!
+//! With the words `HARTS CALLS sip` or `HARTS CALLS ipi` it does no row: so many of eight harts read sip so often, or send
+//! IPIs to all, and it prints how long that took. `bench/lock.py` runs it so.
 #![tactic(auto)]
 
 ghost use Rattle.std.specs.Prelude.{◌≡◌};
@@ -10,14 +13,20 @@ mod record;
 mod resting;
 mod seen;
 mod single;
+mod working;
 
-use crate::seen::{Seen, Why};
-use board_core::Config;
-use board_lock::{NewRoom, Room, Seat, SharedBoard};
-use std::io;
+use crate::closing::closed;
+use crate::seen::{Noted, Seen, Why};
+use crate::working::{Work, ipi};
+use board_core::{Config, Op};
+use board_lock::{NewRoom, Receipt, Room, Seat, SharedBoard};
+use std::alloc::Global;
 use std::marker::Brand;
+use std::rt::Env;
 use std::sync::Wait;
 use std::thread::Threads;
+use std::time::Clock;
+use std::{env, io};
 
 /// What is done on a board.
 #[derive(Clone, Copy, Debug)]
@@ -27,18 +36,52 @@ enum Row {
     IpiStorm,
     AllFence,
     EndOfRests,
+    Repeat { harts: u64, calls: u64, op: Op },
 }
 
+/// The rows: the harts of a board, the limit of its history, and what is done on it.
+const ROWS: [(u64, u64, Row); 9] = [
+    (1, 3, Row::LockReceipts),
+    (2, 3, Row::SeatsMissing),
+    (8, 1000, Row::IpiStorm),
+    (4, 10, Row::EndOfRests),
+    (3, 10_000, Row::AllFence),
+    (128, 100_000, Row::AllFence),
+    (0, 1, Row::LockReceipts),
+    (129, 1, Row::LockReceipts),
+    (u64::MAX, 1, Row::LockReceipts),
+];
+
 fn main(rt: HostRuntime) -> io::Result<()> {
-    show(&rt, &board(1, 3), Row::LockReceipts)?;
-    show(&rt, &board(2, 3), Row::SeatsMissing)?;
-    show(&rt, &board(8, 1000), Row::IpiStorm)?;
-    show(&rt, &board(4, 10), Row::EndOfRests)?;
-    show(&rt, &board(3, 10_000), Row::AllFence)?;
-    show(&rt, &board(128, 100_000), Row::AllFence)?;
-    show(&rt, &board(0, 1), Row::LockReceipts)?;
-    show(&rt, &board(129, 1), Row::LockReceipts)?;
-    show(&rt, &board(u64::MAX, 1), Row::LockReceipts)
+    let words = env::args(&rt)?.collect::<Vec<String>>(rt.alloc())?;
+    match asked(&words) {
+        Some(row) => show(&rt, &board(8, 1_000_000), row),
+        None => show_rows(&rt),
+    }
+}
+
+/// The calls that the words ask for.
+fn asked(words: &[String]) -> Option<Row> {
+    let [_, harts, calls, op] = words else {
+        return None;
+    };
+    let op = match op.as_str() {
+        "sip" => Op::ReadSip,
+        "ipi" => ipi(),
+        _ => return None,
+    };
+    Some(Row::Repeat {
+        harts: harts.parse().ok()?,
+        calls: calls.parse().ok()?,
+        op,
+    })
+}
+
+fn show_rows<R: AllocGlobal + Clock + Print + Threads + Wait + Sync>(rt: &R) -> io::Result<()> {
+    for (harts, limit, row) in ROWS {
+        show(rt, &board(harts, limit), row)?;
+    }
+    Ok(())
 }
 
 /// A board of one page, whose hart 0 is the boot hart.
@@ -54,7 +97,7 @@ fn board(harts: u64, limit: u64) -> Config {
 }
 
 /// Does the row on a board, and prints what was seen.
-fn show<R: AllocGlobal + Print + Threads + Wait + Sync>(
+fn show<R: AllocGlobal + Clock + Print + Threads + Wait + Sync>(
     rt: &R,
     config: &Config,
     row: Row,
@@ -66,7 +109,7 @@ fn show<R: AllocGlobal + Print + Threads + Wait + Sync>(
 }
 
 /// Opens a board behind a lock, in a room of its own, and does the row on it.
-fn done<R: AllocGlobal + Threads + Wait + Sync>(
+fn done<R: AllocGlobal + Clock + Threads + Wait + Sync>(
     rt: &R,
     config: &Config,
     row: Row,
@@ -75,7 +118,7 @@ fn done<R: AllocGlobal + Threads + Wait + Sync>(
 }
 
 /// Does the row on the board of this room.
-fn in_room<K: Room + Send + Sync, R: AllocGlobal + Threads + Wait + Sync>(
+fn in_room<K: Room + Send + Sync, R: AllocGlobal + Clock + Threads + Wait + Sync>(
     rt: &R,
     room: NewRoom,
     config: &Config,
@@ -88,7 +131,8 @@ fn in_room<K: Room + Send + Sync, R: AllocGlobal + Threads + Wait + Sync>(
     do_row(rt, shared, seats, config, row)
 }
 
-fn do_row<K: Room + Send + Sync, R: AllocGlobal + Threads + Wait + Sync>(
+/// Does the row, and closes its board.
+fn do_row<K: Room + Send + Sync, R: AllocGlobal + Clock + Threads + Wait + Sync>(
     rt: &R,
     shared: SharedBoard<K>,
     seats: Vec<Seat<K>>,
@@ -97,11 +141,44 @@ fn do_row<K: Room + Send + Sync, R: AllocGlobal + Threads + Wait + Sync>(
 ) -> Result<Seen, Why>
     requires { K.all ≡ K.parts }
 {
+    let mut seats = seats;
+    let mut receipts = Vec::new(rt.alloc());
+    let noted = work(rt, &shared, &mut seats, &mut receipts, row)?;
+    end(rt.alloc(), config, shared, seats, &receipts, noted)
+}
+
+/// What comes before the close.
+fn work<K: Room + Send + Sync, R: AllocGlobal + Clock + Threads + Wait + Sync>(
+    rt: &R,
+    shared: &SharedBoard<K>,
+    seats: &mut Vec<Seat<K>>,
+    receipts: &mut Vec<Receipt<K>>,
+    row: Row,
+) -> Result<Noted, Why> {
     match row {
-        Row::LockReceipts => single::calls(rt, shared, seats),
-        Row::SeatsMissing => closing::closes(rt.alloc(), shared, seats),
-        Row::IpiStorm => many::storm(rt, shared, seats, config),
-        Row::AllFence => many::fences(rt, shared, seats, config),
-        Row::EndOfRests => resting::rests(rt, shared, seats),
+        Row::LockReceipts => single::calls(rt, shared, seats, receipts),
+        Row::SeatsMissing => Ok(Noted::Closes),
+        Row::IpiStorm => many::storm(rt, shared, seats, receipts, Work::SendIpis),
+        Row::AllFence => many::storm(rt, shared, seats, receipts, Work::Fence),
+        Row::EndOfRests => resting::rests(rt, shared, seats, receipts),
+        Row::Repeat { harts, calls, op } => {
+            let todo = Work::Repeat { harts, calls, op };
+            many::timed(rt, shared, seats, receipts, todo)
+        }
     }
+}
+
+/// The close, and what the record says.
+fn end<K: Room>(
+    alloc: Global,
+    config: &Config,
+    shared: SharedBoard<K>,
+    seats: Vec<Seat<K>>,
+    receipts: &[Receipt<K>],
+    noted: Noted,
+) -> Result<Seen, Why>
+    requires { K.all ≡ K.parts }
+{
+    let (record, back) = closed(shared, seats, noted.lacking())?;
+    Seen::of(alloc, config, &record, receipts, noted, back)
 }

@@ -1,33 +1,14 @@
-//! Every hart and the clock on a thread of its own: rows in which harts interrupt each other, and fence each other.
+//! Every hart and the clock on a thread of its own.
 
-ghost use Rattle.std.specs.Prelude.{◌≡◌};
-
-use crate::record::check;
-use crate::seen::{Seen, Why};
-use board_core::{Config, Op, Refusal};
-use board_lock::{HartView, Receipt, Record, Rest, Room, Seat, SharedBoard};
-use sbi_abi::Regs;
-use std::alloc::{AllocError, Global};
+use crate::seen::{Noted, Why};
+use crate::working::{Work, Worked, call, do_work};
+use board_core::{Actor, Op, Refusal};
+use board_lock::{Receipt, Room, Seat, SharedBoard};
+use std::alloc::AllocError;
 use std::sync::Wait;
-use std::thread;
 use std::thread::Threads;
-
-const IPIS: u64 = 100;
-
-/// How often each hart fences all, and the clock ticks.
-const FENCES: u64 = 1;
-
-/// A seat that is back, with the receipts of its calls.
-#[derive(Drop)]
-pub struct Worked<K: Room> {
-    seat: Seat<K>,
-    receipts: Vec<Receipt<K>>,
-}
-
-/// A call of the firmware.
-fn call(eid: u64, fid: u64, a: [u64; 6]) -> Op {
-    Op::Ecall(Regs { eid, fid, a })
-}
+use std::time::{Clock, Instant};
+use std::{mem, thread};
 
 /// Starts all harts: hart 0 by its pending start, and it the others. The last seat is the clock's.
 fn start<K: Room, R: Wait>(
@@ -35,158 +16,110 @@ fn start<K: Room, R: Wait>(
     shared: &SharedBoard<K>,
     seats: &mut [Seat<K>],
 ) -> Result<(), Refusal> {
-    let Some((_, harts)) = seats.split_last_mut() else {
-        return Ok(());
-    };
-    let Some((boot, others)) = harts.split_first_mut() else {
+    let Some((boot, others)) = seats.split_first_mut() else {
         return Ok(());
     };
     shared.call(rt, boot, Op::Advance)?;
-    for (h, seat) in others.iter_mut().enumerate() {
-        let hart = h as u64 + 1;
-        shared.call(rt, boot, call(0x48534D, 0, [hart, 0x8000_0000, 0, 0, 0, 0]))?;
-        shared.call(rt, seat, Op::Advance)?;
+    start_others(rt, shared, boot, others)
+}
+
+/// Starts the harts from 1 on. The last seat is the clock's.
+fn start_others<K: Room, R: Wait>(
+    rt: &R,
+    shared: &SharedBoard<K>,
+    boot: &mut Seat<K>,
+    seats: &mut [Seat<K>],
+) -> Result<(), Refusal> {
+    for seat in seats {
+        if let Actor::Hart(hart) = seat.actor() {
+            start_hart(rt, shared, boot, seat, hart)?;
+        }
     }
     Ok(())
 }
 
-/// Sends its IPIs to all harts. The clock does nothing.
-fn send<K: Room, R: Wait>(
+/// Starts a hart, and enters it by its seat.
+fn start_hart<K: Room, R: Wait>(
     rt: &R,
-    alloc: Global,
     shared: &SharedBoard<K>,
-    seat: Seat<K>,
-) -> Result<Worked<K>, AllocError> {
-    let mut seat = seat;
-    let mut receipts = Vec::new(alloc);
-    for _ in 0..IPIS {
-        let ipi = call(0x735049, 0, [0, u64::MAX, 0, 0, 0, 0]);
-        if let Ok(receipt) = shared.call(rt, &mut seat, ipi) {
-            receipts.push(receipt)?;
-        }
-    }
-    Ok(Worked { seat, receipts })
+    boot: &mut Seat<K>,
+    seat: &mut Seat<K>,
+    hart: u64,
+) -> Result<(), Refusal> {
+    shared.call(rt, boot, call(0x48534D, 0, [hart, 0x8000_0000, 0, 0, 0, 0]))?;
+    shared.call(rt, seat, Op::Advance)?;
+    Ok(())
 }
 
-/// What a seat can do now, if there is something, of which so many fences or ticks are left.
-fn next(view: &HartView, left: u64) -> Option<Op> {
-    let Some(hart) = view.hart else {
-        return if left > 0 { Some(Op::Tick(1)) } else { None };
-    };
-    if hart.waiting > 0 {
-        return Some(Op::Serve);
-    }
-    match hart.outstanding {
-        Some(harts) if harts.is_empty() => Some(Op::Poll),
-        Some(_) => None,
-        None if left > 0 => Some(call(0x52464E43, 1, [0, u64::MAX, 0, 0, 0, 0])),
-        None => None,
-    }
+/// Puts back a seat, and its receipts.
+fn put<K: Room>(
+    worked: Result<Worked<K>, AllocError>,
+    seats: &mut Vec<Seat<K>>,
+    receipts: &mut Vec<Receipt<K>>,
+) -> Result<(), AllocError> {
+    let mut worked = worked?;
+    receipts.append(&mut worked.receipts)?;
+    seats.push(worked.seat)?;
+    Ok(())
 }
 
-/// Works until every seat rests.
-fn fence<K: Room, R: Wait>(
-    rt: &R,
-    alloc: Global,
-    shared: &SharedBoard<K>,
-    seat: Seat<K>,
-) -> Result<Worked<K>, AllocError> {
-    let mut seat = seat;
-    let mut receipts = Vec::new(alloc);
-    let mut left = FENCES;
-    for _ in rt.forever() {
-        let view = shared.view(rt, &seat);
-        let Some(op) = next(&view, left) else {
-            if shared.rest(rt, &seat, view.events) == Rest::AllRest {
-                break;
-            }
-            continue;
-        };
-        if let Ok(receipt) = shared.call(rt, &mut seat, op) {
-            if matches!(op, Op::Ecall(_) | Op::Tick(_)) {
-                left = left.saturating_sub(1);
-            }
-            if receipts.push(receipt).is_err() {
-                shared.end(rt);
-                return Err(AllocError);
-            }
-        }
-    }
-    Ok(Worked { seat, receipts })
-}
-
-/// The seats, and the receipts of all.
+/// Puts back the seats, and the receipts of all.
 fn gather<K: Room>(
-    alloc: Global,
     worked: Vec<Result<Worked<K>, AllocError>>,
-) -> Result<(Vec<Seat<K>>, Vec<Receipt<K>>), AllocError> {
-    let mut seats = Vec::new(alloc);
-    let mut all = Vec::new(alloc);
+    seats: &mut Vec<Seat<K>>,
+    receipts: &mut Vec<Receipt<K>>,
+) -> Result<(), AllocError> {
     for one in worked {
-        let Worked { seat, mut receipts } = one?;
-        seats.push(seat)?;
-        all.append(&mut receipts)?;
+        put(one, seats, receipts)?;
     }
-    Ok((seats, all))
+    Ok(())
 }
 
-/// What the record says.
-fn seen<K: Room>(record: &Record<K>, receipts: usize) -> Seen {
-    let totals = record.board().totals();
-    Seen::Many {
-        receipts,
-        events: record.events().len(),
-        asked: totals.asked,
-        applied: totals.applied,
-        time: record.board().time(),
-    }
+/// Each seat works on a thread of its own.
+pub fn at_once<K: Room + Send + Sync, R: AllocGlobal + Threads + Wait + Sync>(
+    rt: &R,
+    shared: &SharedBoard<K>,
+    seats: &mut Vec<Seat<K>>,
+    receipts: &mut Vec<Receipt<K>>,
+    todo: Work,
+) -> Result<(), AllocError> {
+    let alloc = rt.alloc();
+    let all = mem::replace(seats, Vec::new(alloc));
+    let worked = thread::map_vec(rt, all, &|seat| do_work(rt, alloc, shared, seat, todo))?;
+    gather(worked, seats, receipts)
 }
 
-/// Closes the board, looks each receipt up, and replays the record by one thread.
-fn close<K: Room>(
-    alloc: Global,
-    config: &Config,
-    shared: SharedBoard<K>,
-    worked: Vec<Result<Worked<K>, AllocError>>,
-) -> Result<Seen, Why>
-    requires { K.all ≡ K.parts }
-{
-    let (seats, receipts) = gather(alloc, worked)?;
-    let Ok(record) = shared.close(seats) else {
-        return Err(Why::Seats);
-    };
-    check(alloc, config, &record, &receipts)?;
-    Ok(seen(&record, receipts.len()))
-}
-
-/// Row ipi-storm: each hart sends its IPIs on a thread of its own.
+/// The same, where all harts are started first.
 pub fn storm<K: Room + Send + Sync, R: AllocGlobal + Threads + Wait + Sync>(
     rt: &R,
-    shared: SharedBoard<K>,
-    seats: Vec<Seat<K>>,
-    config: &Config,
-) -> Result<Seen, Why>
-    requires { K.all ≡ K.parts }
-{
-    let mut seats = seats;
-    let alloc = rt.alloc();
-    start(rt, &shared, &mut seats)?;
-    let worked = thread::map_vec(rt, seats, &|seat| send(rt, alloc, &shared, seat))?;
-    close(alloc, config, shared, worked)
+    shared: &SharedBoard<K>,
+    seats: &mut Vec<Seat<K>>,
+    receipts: &mut Vec<Receipt<K>>,
+    todo: Work,
+) -> Result<Noted, Why> {
+    start(rt, shared, seats)?;
+    at_once(rt, shared, seats, receipts, todo)?;
+    Ok(Noted::Receipts)
 }
 
-/// Each hart fences all, on a thread of its own, and the clock ticks.
-pub fn fences<K: Room + Send + Sync, R: AllocGlobal + Threads + Wait + Sync>(
+fn now<R: Clock>(rt: &R) -> Result<Instant, Why> {
+    match Instant::now(rt) {
+        Ok(now) => Ok(now),
+        Err(_) => Err(Why::Clock),
+    }
+}
+
+/// All harts are started, and then work: how long that took, from before the first thread is started until after the last
+/// has ended.
+pub fn timed<K: Room + Send + Sync, R: AllocGlobal + Clock + Threads + Wait + Sync>(
     rt: &R,
-    shared: SharedBoard<K>,
-    seats: Vec<Seat<K>>,
-    config: &Config,
-) -> Result<Seen, Why>
-    requires { K.all ≡ K.parts }
-{
-    let mut seats = seats;
-    let alloc = rt.alloc();
-    start(rt, &shared, &mut seats)?;
-    let worked = thread::map_vec(rt, seats, &|seat| fence(rt, alloc, &shared, seat))?;
-    close(alloc, config, shared, worked)
+    shared: &SharedBoard<K>,
+    seats: &mut Vec<Seat<K>>,
+    receipts: &mut Vec<Receipt<K>>,
+    todo: Work,
+) -> Result<Noted, Why> {
+    start(rt, shared, seats)?;
+    let began = now(rt)?;
+    at_once(rt, shared, seats, receipts, todo)?;
+    Ok(Noted::Nanoseconds(now(rt)?.duration_since(began).as_nanos()))
 }

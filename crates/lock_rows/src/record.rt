@@ -10,16 +10,20 @@ pub fn events_of(events: &[Event], actor: Actor) -> usize {
     events.iter().filter(|event| event.actor() == actor).count()
 }
 
+/// Where the actor's count stands.
+fn number(actor: Actor) -> usize {
+    match actor {
+        Actor::Hart(h) => h as usize,
+        Actor::Clock => 128,
+    }
+}
+
 /// For each event, how many events its actor has before it.
 fn ordinals(alloc: Global, events: &[Event]) -> Result<Vec<u64>, AllocError> {
-    let mut counts = vec![in alloc; 0u64; 129]?;
+    let mut counts = [0u64; 129];
     let mut ordinals = Vec::with_capacity(alloc, events.len())?;
     for event in events {
-        let number = match event.actor() {
-            Actor::Hart(h) => h as usize,
-            Actor::Clock => 128,
-        };
-        if let Some(count) = counts.get_mut(number) {
+        if let Some(count) = counts.get_mut(number(event.actor())) {
             ordinals.push(*count)?;
             *count = count.saturating_add(1);
         }
@@ -27,26 +31,36 @@ fn ordinals(alloc: Global, events: &[Event]) -> Result<Vec<u64>, AllocError> {
     Ok(ordinals)
 }
 
+/// Whether an event is what the receipt says.
+fn tells<K: Room>(receipt: &Receipt<K>, event: &Event) -> bool {
+    event.actor() == receipt.actor()
+        && event.op() == receipt.op()
+        && event.reply() == receipt.reply()
+}
+
 /// Whether the receipt's event is what it says, and stands where it says.
 fn stands<K: Room>(record: &Record<K>, ordinals: &[u64], receipt: &Receipt<K>) -> bool {
     let event = record.look(receipt);
     let place = receipt.place() as usize;
-    event.actor() == receipt.actor()
-        && event.op() == receipt.op()
-        && event.reply() == receipt.reply()
+    tells(receipt, event)
         && record.events().get(place) == Some(event)
         && ordinals.get(place) == Some(&receipt.ordinal())
+}
+
+/// Whether the board makes the same steps with the same replies.
+fn steps_again(board: &mut Board, events: &[Event]) -> bool {
+    for event in events {
+        if board.step(event.actor(), event.op()) != Ok(event.reply()) {
+            return false;
+        }
+    }
+    true
 }
 
 /// Whether one thread that makes the same steps on a new board gets the same events.
 fn is_replayed(alloc: Global, config: &Config, events: &[Event]) -> Result<bool, BuildFault> {
     let mut board = Board::new(alloc, config)?;
-    for event in events {
-        if board.step(event.actor(), event.op()) != Ok(event.reply()) {
-            return Ok(false);
-        }
-    }
-    Ok(board.history() == events)
+    Ok(steps_again(&mut board, events) && board.history() == events)
 }
 
 /// Looks each receipt up, and replays the record by one thread.

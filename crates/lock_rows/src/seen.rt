@@ -1,8 +1,10 @@
 //! What a row has seen.
 
-use board_core::{Actor, BuildFault, Op, Refusal, Reply};
-use board_lock::{Receipt, Rest, Room};
-use std::alloc::AllocError;
+use crate::record::check;
+use crate::single;
+use board_core::{Actor, BuildFault, Config, Op, Refusal, Reply};
+use board_lock::{Receipt, Record, Rest, Room};
+use std::alloc::{AllocError, Global};
 use thiserror::Error;
 
 /// What a row has seen: it is the same whatever the schedule was.
@@ -22,6 +24,85 @@ pub enum Seen {
     },
     /// Rests that were over at once, and how many events there were.
     Rests(Rest, Rest, Rest, usize),
+    /// How many events there were, and how long the calls took. (This alone is of the schedule.)
+    Repeats {
+        events: usize,
+        nanoseconds: u128,
+    },
+}
+
+/// What a row notes before its close.
+#[derive(Clone, Copy)]
+pub enum Noted {
+    /// The refusal of the call that is refused.
+    Refusal(Refusal),
+    /// Nothing: the row is of its closes.
+    Closes,
+    /// Nothing: the row is of its receipts.
+    Receipts,
+    /// What rests were told.
+    Rests([Rest; 3]),
+    /// How long the calls took.
+    Nanoseconds(u128),
+}
+
+impl Noted {
+    /// How many of the last seats the first close lacks.
+    pub fn lacking(self) -> usize {
+        match self {
+            Noted::Refusal(_) => 1,
+            Noted::Closes => 3,
+            Noted::Receipts | Noted::Rests(_) | Noted::Nanoseconds(_) => 0,
+        }
+    }
+}
+
+impl Noted {
+    fn is_timed(self) -> bool {
+        match self {
+            Noted::Nanoseconds(_) => true,
+            _ => false,
+        }
+    }
+}
+
+impl Seen {
+    /// What the record and the receipts say, with what was noted, and how many seats came back of refused closes. Each receipt
+    /// is looked up, and the record replayed by one thread, but for calls that are timed.
+    pub fn of<K: Room>(
+        alloc: Global,
+        config: &Config,
+        record: &Record<K>,
+        receipts: &[Receipt<K>],
+        noted: Noted,
+        back: [usize; 3],
+    ) -> Result<Seen, Why> {
+        let events = record.events().len();
+        if !noted.is_timed() {
+            check(alloc, config, record, receipts)?;
+        }
+        match noted {
+            Noted::Refusal(refusal) => single::seen(record, receipts, refusal),
+            Noted::Closes => Ok(Seen::Closes(back[0], back[1], back[2])),
+            Noted::Rests(told) => Ok(Seen::Rests(told[0], told[1], told[2], events)),
+            Noted::Receipts => Ok(Seen::of_many(record, receipts.len())),
+            Noted::Nanoseconds(nanoseconds) => Ok(Seen::Repeats {
+                events,
+                nanoseconds,
+            }),
+        }
+    }
+
+    fn of_many<K: Room>(record: &Record<K>, receipts: usize) -> Seen {
+        let totals = record.board().totals();
+        Seen::Many {
+            receipts,
+            events: record.events().len(),
+            asked: totals.asked,
+            applied: totals.applied,
+            time: record.board().time(),
+        }
+    }
 }
 
 /// What a receipt says.
@@ -63,4 +144,6 @@ pub enum Why {
     Receipt,
     #[error("one thread gets other replies")]
     Replies,
+    #[error("no clock")]
+    Clock,
 }

@@ -1,24 +1,25 @@
-//! Row lock-receipts: what one thread is told by receipts, a close with a seat missing, and the look of a receipt.
-
-ghost use Rattle.std.specs.Prelude.{◌≡◌};
+//! Row lock-receipts: what one thread is told by receipts, and the look of a receipt.
 
 use crate::record::events_of;
-use crate::seen::{Seen, Told, Why};
+use crate::seen::{Noted, Seen, Told, Why};
 use board_core::{Actor, Op, Refusal};
 use board_lock::{Receipt, Record, Room, Seat, SharedBoard};
+use std::alloc::AllocError;
 use std::sync::Wait;
 
-/// Three calls.
-fn three<K: Room, R: Wait>(
+/// A call that is accepted, and its receipt kept.
+fn accepted<K: Room, R: Wait>(
     rt: &R,
     shared: &SharedBoard<K>,
-    hart: &mut Seat<K>,
-    clock: &mut Seat<K>,
-) -> Result<(Told, Told, Receipt<K>), Refusal> {
-    let first = Told::of(&shared.call(rt, hart, Op::Advance)?);
-    let second = Told::of(&shared.call(rt, clock, Op::Tick(3))?);
-    let third = shared.call(rt, hart, Op::ReadSip)?;
-    Ok((first, second, third))
+    seat: &mut Seat<K>,
+    receipts: &mut Vec<Receipt<K>>,
+    op: Op,
+) -> Result<(), Why> {
+    let receipt = shared.call(rt, seat, op)?;
+    match receipts.push(receipt) {
+        Ok(()) => Ok(()),
+        Err(_) => Err(Why::Memory(AllocError)),
+    }
 }
 
 /// A poll outside of a call, which is refused.
@@ -26,51 +27,43 @@ fn refused<K: Room, R: Wait>(
     rt: &R,
     shared: &SharedBoard<K>,
     hart: &mut Seat<K>,
-) -> Result<Refusal, Why> {
+) -> Result<Noted, Why> {
     match shared.call(rt, hart, Op::Poll) {
         Ok(_) => Err(Why::Accepted),
-        Err(refusal) => Ok(refusal),
+        Err(refusal) => Ok(Noted::Refusal(refusal)),
     }
 }
 
-/// A close without the clock's seat, and one with it.
-fn close<K: Room>(
-    shared: SharedBoard<K>,
-    seats: Vec<Seat<K>>,
-    clock: Seat<K>,
-) -> Result<Record<K>, Why>
-    requires { K.all ≡ K.parts }
-{
-    let Err(not_all) = shared.close(seats) else {
-        return Err(Why::Accepted);
-    };
-    let mut seats = not_all.seats;
-    if seats.push(clock).is_err() {
-        return Err(Why::Seats);
-    }
-    not_all.board.close(seats).map_err(|_| Why::Seats)
-}
-
-/// A hart and the clock of one thread. The board has one hart.
+/// Three calls of a hart and the clock by one thread, and one that is refused. The board has one hart.
 pub fn calls<K: Room, R: Wait>(
     rt: &R,
-    shared: SharedBoard<K>,
-    seats: Vec<Seat<K>>,
-) -> Result<Seen, Why>
-    requires { K.all ≡ K.parts }
-{
-    let mut seats = seats;
-    let Some(mut clock) = seats.pop() else {
+    shared: &SharedBoard<K>,
+    seats: &mut [Seat<K>],
+    receipts: &mut Vec<Receipt<K>>,
+) -> Result<Noted, Why> {
+    let Some((clock, harts)) = seats.split_last_mut() else {
         return Err(Why::Seats);
     };
-    let Some(hart) = seats.get_mut(0) else {
+    let Some(hart) = harts.first_mut() else {
         return Err(Why::Seats);
     };
-    let (first, second, third) = three(rt, &shared, hart, &mut clock)?;
-    let refusal = refused(rt, &shared, hart)?;
-    let record = close(shared, seats, clock)?;
-    let event = record.look(&third);
-    let told = [first, second, Told::of(&third)];
+    accepted(rt, shared, hart, receipts, Op::Advance)?;
+    accepted(rt, shared, clock, receipts, Op::Tick(3))?;
+    accepted(rt, shared, hart, receipts, Op::ReadSip)?;
+    refused(rt, shared, hart)
+}
+
+/// What the receipts and the record say of the calls, and what the look of the last receipt finds.
+pub fn seen<K: Room>(
+    record: &Record<K>,
+    receipts: &[Receipt<K>],
+    refusal: Refusal,
+) -> Result<Seen, Why> {
+    let [first, second, third] = receipts else {
+        return Err(Why::Receipt);
+    };
+    let event = record.look(third);
+    let told = [Told::of(first), Told::of(second), Told::of(third)];
     let of_hart = events_of(record.events(), Actor::Hart(0));
     let of_clock = events_of(record.events(), Actor::Clock);
     let found = (event.actor(), event.op(), event.reply());
