@@ -9,15 +9,17 @@ use Rattle.std.proofs.Math.Seq.{take-suc}
 use Rattle.std.proofs.lemmas.Slice.Eq.{bytes_eq-Decides}
 use Rattle.board_core.specs.declared.event.Actor.{Actor}
 use Rattle.board_core.specs.declared.event.Op.{Op}
+use Rattle.board_core.specs.declared.event.Op.TheVariants.{Sfence}
+use Rattle.guest_script.specs.declared.op_name.OpName.TheVariants as names
 use Rattle.guest_script.specs.declared.places.Places.{Places}
 use Rattle.guest_script.specs.declared.said.Said.{Said}
 use Rattle.guest_script.specs.declared.said.Said.TheVariants.{Ret}
 use Rattle.guest_script.specs.Words.{last_above, last_below, AreNumbers, last_number}
-use Rattle.guest_script.specs.Forms.{AreArguments, Form, IsNamed}
+use Rattle.guest_script.specs.Forms.{AreArguments, argument_at, Form, form_of, IsNamed}
 use Rattle.guest_script.specs.Reading.{IsFormAt, made_from}
 use Rattle.guest_script.specs.Values.{is_numeral}
 use Rattle.guest_script.specs.Scanning.{digit_after, digits_after, and_digits, numeral_of}
-use Rattle.guest_script.specs.PlainLines.{behind, BeginsActor, BeginsDigits, BeginsLine, BeginsNumber, BeginsNumbers, BeginsOp, BeginsSaid, BeginsSigned}
+use Rattle.guest_script.specs.PlainLines.{behind, BeginsActor, BeginsArgument, BeginsDigits, BeginsLine, BeginsName, BeginsNumber, BeginsNumbers, BeginsOp, BeginsSaid, BeginsSigned}
 use Rattle.guest_script.proofs.PlainShapes.{some_all}
 use Rattle.guest_script.proofs.LineWords.{length_numbers}
 use Rattle.guest_script.proofs.Numerals.{at_most, numeral_at_most}
@@ -145,6 +147,32 @@ module _ {A : Type 0} (form_of : List ℕ → Option (Form A)) (otherwise : A) w
     at ∙ ap (λ (b : List ℕ). 32 ∷ (name ++ b)) parts ∙ ap (λ (b : List ℕ). 32 ∷ b) (sym (append_assoc name (behind words) rest)),
     rw made (named_by name places (form_of name) words ns refl is limit numbers enough not_more),
   )
+
+-- a fence with its arguments
+pub fence_begins : (before bytes : List ℕ) (va : Option ℕ) (middle : List ℕ) (asid : Option ℕ) (rest : List ℕ) (op : Op) → BeginsName before names.Sfence bytes
+    → BeginsArgument bytes va middle → BeginsArgument middle asid rest → op ≡ Sfence va asid → BeginsOp before op rest
+unfolding form_of
+fence_begins before bytes va middle asid rest op at (first, parts, is_va) (second, more, is_asid) made = (
+  codes "sfence" ∷ first ∷ second ∷ [],
+  at
+      ∙ ap (λ (b : List ℕ). codes " sfence" ++ b) (
+      parts
+      ∙ ap (λ (b : List ℕ). 32 ∷ (first ++ b)) (more ∙ ap (λ (b : List ℕ). 32 ∷ (b ++ rest)) (sym (append-nil second)))
+      ∙ ap (λ (b : List ℕ). 32 ∷ b) (sym (append_assoc first (32 ∷ (second ++ [])) rest))
+      ),
+  record {
+    name = codes "sfence";
+    others = first ∷ second ∷ [];
+    form = record { least = 2; most = 2; limit = last_number; may_be_absent = true; makes = λ ns. Sfence (argument_at ns 0) (argument_at ns 1) };
+    arguments = va ∷ asid ∷ [];
+    parts = refl;
+    has_form = refl;
+    enough = omega arith;
+    not_more = omega arith;
+    are_arguments = (is_va, (is_asid, tt));
+    made = made;
+  },
+)
 
 -- ---- what is said
 
