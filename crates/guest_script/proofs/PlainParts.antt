@@ -14,7 +14,7 @@ use Rattle.guest_script.specs.declared.op_name.OpName.TheVariants as names
 use Rattle.guest_script.specs.declared.places.Places.{Places}
 use Rattle.guest_script.specs.declared.said.Said.{Said}
 use Rattle.guest_script.specs.declared.said.Said.TheVariants.{Ret}
-use Rattle.guest_script.specs.Words.{last_above, last_below, AreNumbers, last_number}
+use Rattle.guest_script.specs.Words.{last_below, AreNumbers, last_number}
 use Rattle.guest_script.specs.Forms.{AreArguments, argument_at, Form, form_of, IsNamed}
 use Rattle.guest_script.specs.Reading.{IsFormAt, made_from}
 use Rattle.guest_script.specs.Values.{is_numeral}
@@ -180,9 +180,6 @@ pub below_begins : (bytes front : List ℕ) (n : ℕ) (rest : List ℕ) → byte
 below_begins bytes front n rest at small (digits, parts, numeral, value) =
     (codes "-" ++ digits, at ∙ ap (λ (b : List ℕ). 45 ∷ b) parts, inr (digits, refl, numeral, omega (arith, small, value), ap (λ (k : ℕ). neg_ℤ (pos k)) value))
 
-pub above_begins : (bytes : List ℕ) (n : ℕ) (rest : List ℕ) → n ≤ last_above → BeginsDigits 10 bytes n rest → BeginsSigned bytes (pos n) rest
-above_begins bytes n rest small (digits, parts, numeral, value) = (digits, parts, inl (numeral, omega (arith, small, value), ap (λ (k : ℕ). pos k) value))
-
 pub ret_begins : (before bytes : List ℕ) (error : ℤ) (middle : List ℕ) (value : ℕ) (rest : List ℕ) → before ≡ codes " ret " ++ bytes → BeginsSigned bytes error middle → BeginsNumber middle value rest → BeginsSaid before (Ret error value) rest
 ret_begins before bytes error middle value rest at (word, parts, is_error) (next, more, is_value) = (
   codes "ret" ∷ word ∷ next ∷ [],
@@ -191,15 +188,6 @@ ret_begins before bytes error middle value rest at (word, parts, is_error) (next
 )
 
 -- ---- lines
-
-pub line_begins : (n : ℕ) (bytes : List ℕ) (actor : Actor) (middle : List ℕ) (op : Op) (rest after : List ℕ) → BeginsActor bytes actor middle → BeginsOp middle op rest → rest ≡ codes "\n" ++ after
-    → BeginsLine n false bytes (record { number = n; actor = actor; op = op; said = None }) after
-line_begins n bytes actor middle op rest after (first, parts, is_actor) (words, more, is_op) at = (
-  first,
-  words,
-  parts ∙ ap (λ (b : List ℕ). first ++ b) (more ∙ ap (λ (b : List ℕ). behind words ++ b) at),
-  (refl, refl, record { first = first; others = words; parts = refl; is_actor = is_actor; is_op = is_op }),
-)
 
 pub told_begins : (n : ℕ) (bytes : List ℕ) (actor : Actor) (middle : List ℕ) (op : Op) (rest told : List ℕ) (said : Said) (end after : List ℕ) → BeginsActor bytes actor middle → BeginsOp middle op rest → rest ≡ codes " ->" ++ told
     → BeginsSaid told said end → end ≡ codes "\n" ++ after → BeginsLine n true bytes (record { number = n; actor = actor; op = op; said = Some said }) after
