@@ -19,7 +19,7 @@ use Rattle.guest_script.specs.Forms.{AreArguments, argument_at, Form, form_of, I
 use Rattle.guest_script.specs.Reading.{IsFormAt, made_from}
 use Rattle.guest_script.specs.Values.{is_numeral}
 use Rattle.guest_script.specs.Scanning.{digit_after, digits_after, and_digits, numeral_of}
-use Rattle.guest_script.specs.PlainLines.{behind, BeginsActor, BeginsArgument, BeginsDigits, BeginsLine, BeginsName, BeginsNumber, BeginsNumbers, BeginsOp, BeginsSaid, BeginsSigned}
+use Rattle.guest_script.specs.PlainLines.{behind, BeginsActor, BeginsArgument, BeginsDigits, BeginsLine, BeginsName, BeginsNumber, BeginsNumbers, BeginsOp, BeginsSaid, BeginsSigned, BeginsWord}
 use Rattle.guest_script.proofs.PlainShapes.{some_all}
 use Rattle.guest_script.proofs.LineWords.{length_numbers}
 use Rattle.guest_script.proofs.Numerals.{at_most, numeral_at_most}
@@ -85,13 +85,12 @@ digit_small radix n b more read = small (is_digit b radix) (ltb (n * radix + dig
 
 -- ---- numbers
 
-pub hex_begin : (bytes front : List ℕ) (n : ℕ) (rest : List ℕ) → bytes ≡ codes " 0x" ++ front → n < 2 ^ 64 → BeginsDigits 16 front n rest → BeginsNumber bytes n rest
-hex_begin bytes front n rest at small (digits, parts, numeral, value) =
-    (codes "0x" ++ digits, at ∙ ap (λ (xs : List ℕ). codes " 0x" ++ xs) parts, (omega arith, inr (digits, refl, numeral, value)))
+pub hex_begins : (bytes front : List ℕ) (n : ℕ) (rest : List ℕ) → bytes ≡ codes "0x" ++ front → n < 2 ^ 64 → BeginsDigits 16 front n rest → BeginsWord bytes n rest
+hex_begins bytes front n rest at small (digits, parts, numeral, value) =
+    (codes "0x" ++ digits, at ∙ ap (λ (xs : List ℕ). codes "0x" ++ xs) parts, (omega arith, inr (digits, refl, numeral, value)))
 
-pub decimal_begin : (bytes front : List ℕ) (n : ℕ) (rest : List ℕ) → bytes ≡ codes " " ++ front → n < 2 ^ 64 → BeginsDigits 10 front n rest → BeginsNumber bytes n rest
-decimal_begin bytes front n rest at small (digits, parts, numeral, value) =
-    (digits, at ∙ ap (λ (xs : List ℕ). 32 ∷ xs) parts, (omega arith, inl (numeral, value)))
+pub decimal_begins : (bytes : List ℕ) (n : ℕ) (rest : List ℕ) → n < 2 ^ 64 → BeginsDigits 10 bytes n rest → BeginsWord bytes n rest
+decimal_begins bytes n rest small (digits, parts, numeral, value) = (digits, parts, (omega arith, inl (numeral, value)))
 
 behind-append : (xs ys : List (List ℕ)) → behind (xs ++ ys) ≡ behind xs ++ behind ys
 behind-append [] ys = refl

@@ -29,6 +29,10 @@ BeginsActor bytes actor rest = (word : List ℕ) × (bytes ≡ word ++ rest) × 
 abbrev pub BeginsName : List ℕ → OpName → List ℕ → Type 0
 BeginsName bytes name rest = bytes ≡ 32 ∷ (op_spelling name ++ rest)
 
+-- the bytes begin with a number
+abbrev pub BeginsWord : List ℕ → ℕ → List ℕ → Type 0
+BeginsWord bytes n rest = (word : List ℕ) × (bytes ≡ word ++ rest) × IsNumber last_number word n
+
 -- the bytes begin with a blank and a number
 abbrev pub BeginsNumber : List ℕ → ℕ → List ℕ → Type 0
 BeginsNumber bytes n rest = (word : List ℕ) × (bytes ≡ 32 ∷ (word ++ rest)) × IsNumber last_number word n

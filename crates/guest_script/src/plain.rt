@@ -1,7 +1,7 @@
 ghost use Rattle.std.specs.Prelude.{◌≡◌, ◌+◌, ◌≤◌, ◌<◌, ◌++◌, ◌^◌, [], ℕ, List, None, Some, codes, IfSome, length};
 ghost use Rattle.board_core.specs.declared.event.Op.TheVariants.{Sfence};
 ghost use Rattle.guest_script.specs.Words.{last_number};
-ghost use Rattle.guest_script.specs.PlainLines.{BeginsActor, BeginsArgument, BeginsDigits, BeginsLine, BeginsName, BeginsNumber, BeginsNumbers, BeginsOp, BeginsSaid, BeginsSaidName, BeginsSigned};
+ghost use Rattle.guest_script.specs.PlainLines.{BeginsActor, BeginsArgument, BeginsDigits, BeginsLine, BeginsName, BeginsNumber, BeginsNumbers, BeginsOp, BeginsSaid, BeginsSaidName, BeginsSigned, BeginsWord};
 ghost use Rattle.guest_script.specs.KeptLines.{plain_line};
 ghost use Rattle.guest_script.specs.Packing.{FitsKept, op_made};
 
@@ -283,24 +283,42 @@ fn plain_numbers<'a>(
     rest
 }
 
-#[tactic(auto, using(crate::proofs::PlainParts::hex_begin, crate::proofs::PlainParts::decimal_begin))]
+/// A blank and a number.
+#[inline(always)]
 fn plain_number(bytes: &[u8]) -> Option<(u64, &[u8])>
     ensures number { IfSome result (λ found. BeginsNumber bytes.now found.0 found.1.now) }
     ensures shorter { IfSome result (λ found. length found.1.now < length bytes.now) }
 {
-    match after(bytes, b" 0x") {
-        Some(rest) => {
-            let (n, rest) = plain_digits(rest, 16)?;
+    match bytes {
+        [b' ', word @ ..] => {
+            let (n, rest) = plain_word(word)?;
+            Some((n, rest))
+        }
+        _ => None,
+    }
+}
+
+/// A number: decimal digits, or `0x` and hexadecimal ones.
+#[inline(always)]
+#[tactic(auto, using(crate::proofs::PlainParts::hex_begins, crate::proofs::PlainParts::decimal_begins))]
+fn plain_word(bytes: &[u8]) -> Option<(u64, &[u8])>
+    ensures number { IfSome result (λ found. BeginsWord bytes.now found.0 found.1.now) }
+    ensures shorter { IfSome result (λ found. length found.1.now ≤ length bytes.now) }
+{
+    match after(bytes, b"0x") {
+        Some(digits) => {
+            let (n, rest) = plain_digits(digits, 16)?;
             Some((n, rest))
         }
         None => {
-            let (n, rest) = plain_digits(after(bytes, b" ")?, 10)?;
+            let (n, rest) = plain_digits(bytes, 10)?;
             Some((n, rest))
         }
     }
 }
 
 /// The number that the digits spell which the bytes begin with. Bytes that end with a digit have none.
+#[inline(always)]
 fn plain_digits(bytes: &[u8], radix: u32) -> Option<(u64, &[u8])>
     requires low { 2 ≤ radix }
     requires high { radix ≤ 36 }
