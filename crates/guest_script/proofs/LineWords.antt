@@ -278,13 +278,6 @@ splits_at (word ∷ before) after none =
       rest = rw (parts.0, others.rest) refl;
     }
 
--- before_arrow of words without one
-pub before_no_arrow : (words : List (List ℕ)) → has_arrow words ≡ false → before_arrow words ≡ words
-before_no_arrow [] none = refl
-before_no_arrow (word ∷ words) none =
-    let parts = or_parts (is_arrow word) (has_arrow words) none in
-    rw parts.0 (ap (λ (ws : List (List ℕ)). word ∷ ws) (before_no_arrow words parts.1))
-
 -- ---- kinds
 
 is_head : (first : List ℕ) (words : List (List ℕ)) → kind_of first words ≡ Head → (is_at first || is_clock_head first) ≡ true

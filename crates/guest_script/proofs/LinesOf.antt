@@ -1,12 +1,12 @@
 -- The lines of bytes, from the first on.
-use Rattle.std.proofs.Common.{◌≡◌, ℕ, ◌+◌, ◌<◌, ◌≤◌, Bool, true, false, not, cond, eqb, ltb, List, [], ◌∷◌, ◌++◌, length, take, drop, Some, None, refl, sym, ap, ◌∙◌, inl, inr, arith}
-use Rattle.std.specs.List.{slice_split, onto_first, position, position_or_len, after_first, count_by, All}
+use Rattle.std.proofs.Common.{◌≡◌, ℕ, ◌+◌, ◌<◌, Bool, true, false, not, cond, eqb, ltb, List, [], ◌∷◌, ◌++◌, length, take, drop, Some, None, refl, sym, ap, ◌∙◌, inl, inr, arith}
+use Rattle.std.specs.List.{slice_split, onto_first, position, position_or_len, after_first, All}
 use Rattle.std.specs.Str.Lines.{lines, lines_of_parts, strip_carriage_return}
 use Rattle.std.proofs.lemmas.Bool.{cases_Bool, ltb-true, ltb-false, ne_eqb, not-true}
 use Rattle.std.proofs.lemmas.List.{drop_all}
 use Rattle.std.proofs.lemmas.Option.{cond_some}
 use Rattle.std.proofs.lemmas.List.Sums.{prefix_len_passes}
-use Rattle.std.proofs.lemmas.List.Splits.{slice_split_first, slice_split_at, slice_split_none, length-slice_split}
+use Rattle.std.proofs.lemmas.List.Splits.{slice_split_first, slice_split_at, slice_split_none}
 
 abbrev IsFilled : List (List ℕ) → Type 0
 IsFilled parts = (part : List ℕ) × (others : List (List ℕ)) × (parts ≡ part ∷ others)
@@ -51,11 +51,3 @@ lines_last bytes none some =
     let others : All (λ b. p b ≡ false) bytes = λ k d h. not-true _ (prefix_len_passes (λ b. not (p b)) bytes k d (omega arith)) in
     let split : slice_split p bytes ≡ bytes ∷ [] = slice_split_none p bytes others in
     rw (drop_all (length bytes) bytes (omega arith)) (ap lines_of_parts split ∙ lines_whole bytes some)
-
-length_lines_of_parts : (parts : List (List ℕ)) → length (lines_of_parts parts) ≤ length parts
-length_lines_of_parts [] = omega arith
-length_lines_of_parts (part ∷ []) = elim (cases_Bool (eqb (length part) 0)) [ inl nothing ↦ rw nothing (omega arith) | inr some ↦ rw some (omega arith) ]
-length_lines_of_parts (part ∷ next ∷ parts) = let others = length_lines_of_parts (next ∷ parts) in omega arith
-
-pub length_lines_le : (bytes : List ℕ) → length (lines bytes) ≤ count_by (λ b. eqb b 10) bytes + 1
-length_lines_le bytes = omega (arith, length_lines_of_parts (slice_split (λ b. eqb b 10) bytes), length-slice_split (λ b. eqb b 10) bytes)

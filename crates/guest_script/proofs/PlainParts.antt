@@ -9,15 +9,17 @@ use Rattle.std.proofs.Math.Seq.{take-suc}
 use Rattle.std.proofs.lemmas.Slice.Eq.{bytes_eq-Decides}
 use Rattle.board_core.specs.declared.event.Actor.{Actor}
 use Rattle.board_core.specs.declared.event.Op.{Op}
+use Rattle.board_core.specs.declared.event.Op.TheVariants.{Sfence}
+use Rattle.guest_script.specs.declared.op_name.OpName.TheVariants as names
 use Rattle.guest_script.specs.declared.places.Places.{Places}
 use Rattle.guest_script.specs.declared.said.Said.{Said}
 use Rattle.guest_script.specs.declared.said.Said.TheVariants.{Ret}
-use Rattle.guest_script.specs.Words.{last_above, last_below, AreNumbers, last_number}
-use Rattle.guest_script.specs.Forms.{AreArguments, Form, IsNamed}
+use Rattle.guest_script.specs.Words.{last_below, AreNumbers, last_number}
+use Rattle.guest_script.specs.Forms.{AreArguments, argument_at, Form, form_of, IsNamed}
 use Rattle.guest_script.specs.Reading.{IsFormAt, made_from}
 use Rattle.guest_script.specs.Values.{is_numeral}
 use Rattle.guest_script.specs.Scanning.{digit_after, digits_after, and_digits, numeral_of}
-use Rattle.guest_script.specs.PlainLines.{behind, BeginsActor, BeginsDigits, BeginsLine, BeginsNumber, BeginsNumbers, BeginsOp, BeginsSaid, BeginsSigned}
+use Rattle.guest_script.specs.PlainLines.{behind, BeginsActor, BeginsArgument, BeginsDigits, BeginsLine, BeginsName, BeginsNumber, BeginsNumbers, BeginsOp, BeginsSaid, BeginsSigned, BeginsWord}
 use Rattle.guest_script.proofs.PlainShapes.{some_all}
 use Rattle.guest_script.proofs.LineWords.{length_numbers}
 use Rattle.guest_script.proofs.Numerals.{at_most, numeral_at_most}
@@ -83,13 +85,12 @@ digit_small radix n b more read = small (is_digit b radix) (ltb (n * radix + dig
 
 -- ---- numbers
 
-pub hex_begin : (bytes front : List ℕ) (n : ℕ) (rest : List ℕ) → bytes ≡ codes " 0x" ++ front → n < 2 ^ 64 → BeginsDigits 16 front n rest → BeginsNumber bytes n rest
-hex_begin bytes front n rest at small (digits, parts, numeral, value) =
-    (codes "0x" ++ digits, at ∙ ap (λ (xs : List ℕ). codes " 0x" ++ xs) parts, (omega arith, inr (digits, refl, numeral, value)))
+pub hex_begins : (bytes front : List ℕ) (n : ℕ) (rest : List ℕ) → bytes ≡ codes "0x" ++ front → n < 2 ^ 64 → BeginsDigits 16 front n rest → BeginsWord bytes n rest
+hex_begins bytes front n rest at small (digits, parts, numeral, value) =
+    (codes "0x" ++ digits, at ∙ ap (λ (xs : List ℕ). codes "0x" ++ xs) parts, (omega arith, inr (digits, refl, numeral, value)))
 
-pub decimal_begin : (bytes front : List ℕ) (n : ℕ) (rest : List ℕ) → bytes ≡ codes " " ++ front → n < 2 ^ 64 → BeginsDigits 10 front n rest → BeginsNumber bytes n rest
-decimal_begin bytes front n rest at small (digits, parts, numeral, value) =
-    (digits, at ∙ ap (λ (xs : List ℕ). 32 ∷ xs) parts, (omega arith, inl (numeral, value)))
+pub decimal_begins : (bytes : List ℕ) (n : ℕ) (rest : List ℕ) → n < 2 ^ 64 → BeginsDigits 10 bytes n rest → BeginsWord bytes n rest
+decimal_begins bytes n rest small (digits, parts, numeral, value) = (digits, parts, (omega arith, inl (numeral, value)))
 
 behind-append : (xs ys : List (List ℕ)) → behind (xs ++ ys) ≡ behind xs ++ behind ys
 behind-append [] ys = refl
@@ -146,14 +147,37 @@ module _ {A : Type 0} (form_of : List ℕ → Option (Form A)) (otherwise : A) w
     rw made (named_by name places (form_of name) words ns refl is limit numbers enough not_more),
   )
 
+-- a fence with its arguments
+pub fence_begins : (before bytes : List ℕ) (va : Option ℕ) (middle : List ℕ) (asid : Option ℕ) (rest : List ℕ) (op : Op) → BeginsName before names.Sfence bytes
+    → BeginsArgument bytes va middle → BeginsArgument middle asid rest → op ≡ Sfence va asid → BeginsOp before op rest
+unfolding form_of
+fence_begins before bytes va middle asid rest op at (first, parts, is_va) (second, more, is_asid) made = (
+  codes "sfence" ∷ first ∷ second ∷ [],
+  at
+      ∙ ap (λ (b : List ℕ). codes " sfence" ++ b) (
+      parts
+      ∙ ap (λ (b : List ℕ). 32 ∷ (first ++ b)) (more ∙ ap (λ (b : List ℕ). 32 ∷ (b ++ rest)) (sym (append-nil second)))
+      ∙ ap (λ (b : List ℕ). 32 ∷ b) (sym (append_assoc first (32 ∷ (second ++ [])) rest))
+      ),
+  record {
+    name = codes "sfence";
+    others = first ∷ second ∷ [];
+    form = record { least = 2; most = 2; limit = last_number; may_be_absent = true; makes = λ ns. Sfence (argument_at ns 0) (argument_at ns 1) };
+    arguments = va ∷ asid ∷ [];
+    parts = refl;
+    has_form = refl;
+    enough = omega arith;
+    not_more = omega arith;
+    are_arguments = (is_va, (is_asid, tt));
+    made = made;
+  },
+)
+
 -- ---- what is said
 
 pub below_begins : (bytes front : List ℕ) (n : ℕ) (rest : List ℕ) → bytes ≡ codes "-" ++ front → n ≤ last_below → BeginsDigits 10 front n rest → BeginsSigned bytes (neg_ℤ (pos n)) rest
 below_begins bytes front n rest at small (digits, parts, numeral, value) =
     (codes "-" ++ digits, at ∙ ap (λ (b : List ℕ). 45 ∷ b) parts, inr (digits, refl, numeral, omega (arith, small, value), ap (λ (k : ℕ). neg_ℤ (pos k)) value))
-
-pub above_begins : (bytes : List ℕ) (n : ℕ) (rest : List ℕ) → n ≤ last_above → BeginsDigits 10 bytes n rest → BeginsSigned bytes (pos n) rest
-above_begins bytes n rest small (digits, parts, numeral, value) = (digits, parts, inl (numeral, omega (arith, small, value), ap (λ (k : ℕ). pos k) value))
 
 pub ret_begins : (before bytes : List ℕ) (error : ℤ) (middle : List ℕ) (value : ℕ) (rest : List ℕ) → before ≡ codes " ret " ++ bytes → BeginsSigned bytes error middle → BeginsNumber middle value rest → BeginsSaid before (Ret error value) rest
 ret_begins before bytes error middle value rest at (word, parts, is_error) (next, more, is_value) = (
@@ -163,15 +187,6 @@ ret_begins before bytes error middle value rest at (word, parts, is_error) (next
 )
 
 -- ---- lines
-
-pub line_begins : (n : ℕ) (bytes : List ℕ) (actor : Actor) (middle : List ℕ) (op : Op) (rest after : List ℕ) → BeginsActor bytes actor middle → BeginsOp middle op rest → rest ≡ codes "\n" ++ after
-    → BeginsLine n false bytes (record { number = n; actor = actor; op = op; said = None }) after
-line_begins n bytes actor middle op rest after (first, parts, is_actor) (words, more, is_op) at = (
-  first,
-  words,
-  parts ∙ ap (λ (b : List ℕ). first ++ b) (more ∙ ap (λ (b : List ℕ). behind words ++ b) at),
-  (refl, refl, record { first = first; others = words; parts = refl; is_actor = is_actor; is_op = is_op }),
-)
 
 pub told_begins : (n : ℕ) (bytes : List ℕ) (actor : Actor) (middle : List ℕ) (op : Op) (rest told : List ℕ) (said : Said) (end after : List ℕ) → BeginsActor bytes actor middle → BeginsOp middle op rest → rest ≡ codes " ->" ++ told
     → BeginsSaid told said end → end ≡ codes "\n" ++ after → BeginsLine n true bytes (record { number = n; actor = actor; op = op; said = Some said }) after

@@ -1,5 +1,5 @@
 -- Lines as steps are printed: words of letters, digits and marks, one blank between each two, and a line feed.
-use Rattle.std.specs.Prelude.{◌≡◌, ℕ, ℤ, Bool, List, [], ◌∷◌, ◌++◌}
+use Rattle.std.specs.Prelude.{◌≡◌, ℕ, ℤ, Bool, true, List, [], ◌∷◌, ◌++◌, Option}
 use Rattle.std.specs.Str.Parse.{IsNumeral, digits_value}
 use Rattle.board_core.specs.declared.event.Actor.{Actor}
 use Rattle.board_core.specs.declared.event.Op.{Op}
@@ -8,7 +8,7 @@ use Rattle.guest_script.specs.declared.said.Said.{Said}
 use Rattle.guest_script.specs.declared.said_name.SaidName.{SaidName}
 use Rattle.guest_script.specs.declared.script.Line.{Line}
 use Rattle.guest_script.specs.Words.{AreNumbers, IsNumber, IsSigned, last_number}
-use Rattle.guest_script.specs.Forms.{form_of, IsNamed, IsSaid}
+use Rattle.guest_script.specs.Forms.{form_of, IsArgument, IsNamed, IsSaid}
 use Rattle.guest_script.specs.Grammar.{IsActor, IsStepLine}
 use Rattle.guest_script.specs.Reading.{op_spelling, said_spelling}
 
@@ -29,9 +29,17 @@ BeginsActor bytes actor rest = (word : List ℕ) × (bytes ≡ word ++ rest) × 
 abbrev pub BeginsName : List ℕ → OpName → List ℕ → Type 0
 BeginsName bytes name rest = bytes ≡ 32 ∷ (op_spelling name ++ rest)
 
+-- the bytes begin with a number
+abbrev pub BeginsWord : List ℕ → ℕ → List ℕ → Type 0
+BeginsWord bytes n rest = (word : List ℕ) × (bytes ≡ word ++ rest) × IsNumber last_number word n
+
 -- the bytes begin with a blank and a number
 abbrev pub BeginsNumber : List ℕ → ℕ → List ℕ → Type 0
 BeginsNumber bytes n rest = (word : List ℕ) × (bytes ≡ 32 ∷ (word ++ rest)) × IsNumber last_number word n
+
+-- the bytes begin with a blank, and a number or the dash that stands for none
+abbrev pub BeginsArgument : List ℕ → Option ℕ → List ℕ → Type 0
+BeginsArgument bytes argument rest = (word : List ℕ) × (bytes ≡ 32 ∷ (word ++ rest)) × IsArgument true last_number word argument
 
 -- the bytes begin with numbers, a blank before each
 abbrev pub BeginsNumbers : List ℕ → List ℕ → List ℕ → Type 0

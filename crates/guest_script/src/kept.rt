@@ -1,10 +1,8 @@
-ghost use Rattle.std.specs.Prelude.{◌≡◌, length};
-ghost use Rattle.guest_script.specs.KeptLines.{IsWithin, line_of};
+ghost use Rattle.std.specs.Prelude.{◌≡◌};
 ghost use Rattle.guest_script.specs.Packing.{FitsKept, actor_made, actor_number};
 
 use crate::op_shape::OpShape;
 use crate::said_shape::SaidShape;
-use crate::script::Line;
 use board_core::Actor;
 
 /// The actor's number that stands for the clock.
@@ -27,24 +25,6 @@ pub struct Kept {
     pub said: SaidShape,
 }
 
-impl Kept {
-    /// The line.
-    pub fn line(&self, numbers: &[u64]) -> Line
-        requires { IsWithin (length numbers.now) self.now }
-        ensures { result ≡ line_of numbers.now self.now }
-    {
-        let from = self.from as usize;
-        let middle = from + self.op_count as usize;
-        let end = middle + self.said.count();
-        Line {
-            number: u64::from(self.number),
-            actor: actor(self.actor),
-            op: self.op.op(&numbers[from..middle]),
-            said: self.said.said(&numbers[middle..end]),
-        }
-    }
-}
-
 /// The number that stands for an actor.
 pub fn actor_number(actor: Actor) -> u8
     requires { FitsKept actor }
@@ -56,7 +36,8 @@ pub fn actor_number(actor: Actor) -> u8
     }
 }
 
-fn actor(number: u8) -> Actor
+/// The actor that a number stands for.
+pub fn actor(number: u8) -> Actor
     ensures { result ≡ actor_made number }
 {
     if number == CLOCK {

@@ -5,6 +5,7 @@ mod blocks;
 mod draft;
 mod fault;
 mod kept;
+mod kept_line;
 mod kind;
 mod laws;
 mod lines;
@@ -24,6 +25,7 @@ mod text;
 mod words;
 
 pub use fault::{Fault, ScriptFault};
+pub use kept_line::KeptLine;
 pub use laws::one_reading;
 pub use lines::{Lines, LinesIter};
 pub use parsing::parse;

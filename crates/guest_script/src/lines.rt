@@ -5,6 +5,7 @@ ghost use Rattle.guest_script.specs.KeptLines.{AreWithin, lines_of, plain_line};
 ghost use Rattle.guest_script.specs.Packing.{FitsKept};
 
 use crate::kept::{Kept, actor_number};
+use crate::kept_line::KeptLine;
 use crate::op_shape::{OP_NUMBERS, OpShape, put_all};
 use crate::plain::Plain;
 use crate::said_shape::{SAID_NUMBERS, SaidShape};
@@ -122,7 +123,13 @@ impl Lines {
         ensures { result ≡ slice_get self.now place }
     {
         match self.kept.get(place) {
-            Some(kept) => Some(kept.line(&self.numbers)),
+            Some(kept) => {
+                let found = KeptLine {
+                    kept,
+                    numbers: &self.numbers,
+                };
+                Some(found.line())
+            }
             None => None,
         }
     }
@@ -154,15 +161,18 @@ impl<'a> Model for LinesIter<'a> {
 }
 
 impl<'a> Iterator for LinesIter<'a> {
-    type Item = Line;
+    type Item = KeptLine<'a>;
 
     ghost next_gives = { YieldsFirst (λ lines. lines) };
 
     ghost remaining = { item_count (λ lines. lines) };
 
-    fn next(&mut self) -> Option<Line> {
-        let (first, left) = self.left.split_first()?;
+    fn next(&mut self) -> Option<KeptLine<'a>> {
+        let (kept, left) = self.left.split_first()?;
         self.left = left;
-        Some(first.line(self.numbers))
+        Some(KeptLine {
+            kept,
+            numbers: self.numbers,
+        })
     }
 }

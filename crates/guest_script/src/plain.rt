@@ -1,5 +1,7 @@
 ghost use Rattle.std.specs.Prelude.{◌≡◌, ◌+◌, ◌≤◌, ◌<◌, ◌++◌, ◌^◌, [], ℕ, List, None, Some, codes, IfSome, length};
-ghost use Rattle.guest_script.specs.PlainLines.{BeginsActor, BeginsDigits, BeginsLine, BeginsName, BeginsNumber, BeginsNumbers, BeginsOp, BeginsSaid, BeginsSaidName, BeginsSigned};
+ghost use Rattle.board_core.specs.declared.event.Op.TheVariants.{Sfence};
+ghost use Rattle.guest_script.specs.Words.{last_number};
+ghost use Rattle.guest_script.specs.PlainLines.{BeginsActor, BeginsArgument, BeginsDigits, BeginsLine, BeginsName, BeginsNumber, BeginsNumbers, BeginsOp, BeginsSaid, BeginsSaidName, BeginsSigned, BeginsWord};
 ghost use Rattle.guest_script.specs.KeptLines.{plain_line};
 ghost use Rattle.guest_script.specs.Packing.{FitsKept, op_made};
 
@@ -7,6 +9,7 @@ use crate::number::{LAST_ABOVE, LAST_BELOW, below_zero, push_digit};
 use crate::numbers::MOST_ARGUMENTS;
 use crate::op_name::OpName;
 use crate::op_shape::OpShape;
+use crate::places::Places;
 use crate::said::Said;
 use crate::said_name::SaidName;
 use crate::said_shape::SaidShape;
@@ -28,8 +31,8 @@ pub struct Plain {
 }
 
 /// A line of a schedule or of a trace, which the bytes begin with, and the bytes after it, if it stands in the form in which
-/// steps are printed, and has no dash. Its operation's numbers are gathered. It is read in one pass; each other form is for
-/// the reader of words.
+/// steps are printed, and no number of it has a limit of its own. Its operation's numbers are gathered. It is read in one
+/// pass; each other form is for the reader of words.
 pub fn plain_line<'a>(
     in_trace: bool,
     bytes: &'a [u8],
@@ -91,7 +94,7 @@ fn plain_actor(bytes: &[u8]) -> Option<(Actor, &[u8])>
     }
 }
 
-/// A blank, an operation's name, and its numbers, of which none is a dash and none has a limit of its own.
+/// A blank, an operation's name, and its numbers, of which none has a limit of its own; of a fence those that are there.
 fn plain_op<'a>(
     bytes: &'a [u8],
     numbers: &mut ArrayVec<u64, MOST_ARGUMENTS>,
@@ -101,15 +104,92 @@ fn plain_op<'a>(
     ensures shorter { IfSome result (λ found. length found.1.now ≤ length bytes.now) }
 {
     let (name, rest) = plain_name(bytes)?;
-    let places = name.places();
+    match name {
+        OpName::Sfence => plain_fence(rest, numbers),
+        _ => {
+            let rest = plain_places(name.places(), rest, numbers)?;
+            Some((OpShape::of_name(name), rest))
+        }
+    }
+}
+
+/// The address and the address space behind `sfence`, each a number or a dash.
+fn plain_fence<'a>(
+    bytes: &'a [u8],
+    numbers: &mut ArrayVec<u64, MOST_ARGUMENTS>,
+) -> Option<(OpShape, &'a [u8])>
+    requires { numbers.old.items ≡ [] }
+    ensures op { IfSome result (λ found. (before : List ℕ) → BeginsName before OpName.Sfence bytes.now → BeginsOp before (op_made found.0 numbers.new.items) found.1.now) }
+    ensures shorter { IfSome result (λ found. length found.1.now ≤ length bytes.now) }
+{
+    let (va, rest) = plain_argument(bytes)?;
+    let (asid, rest) = plain_argument(rest)?;
+    Some((gather_fence(va, asid, numbers), rest))
+}
+
+/// The shape of a fence. Its numbers are gathered.
+fn gather_fence(
+    va: Option<u64>,
+    asid: Option<u64>,
+    numbers: &mut ArrayVec<u64, MOST_ARGUMENTS>,
+) -> OpShape
+    requires { numbers.old.items ≡ [] }
+    ensures { op_made result numbers.new.items ≡ Sfence va asid }
+{
+    match (va, asid) {
+        (None, None) => OpShape::SfenceAll,
+        (Some(va), None) => {
+            numbers.push(va);
+            OpShape::SfenceAddress
+        }
+        (None, Some(asid)) => {
+            numbers.push(asid);
+            OpShape::SfenceAsid
+        }
+        (Some(va), Some(asid)) => {
+            numbers.push(va);
+            numbers.push(asid);
+            OpShape::SfenceBoth
+        }
+    }
+}
+
+/// A blank, and a number or the dash that stands for none.
+fn plain_argument(bytes: &[u8]) -> Option<(Option<u64>, &[u8])>
+    ensures argument { IfSome result (λ found. BeginsArgument bytes.now found.0 found.1.now) }
+    ensures shorter { IfSome result (λ found. length found.1.now ≤ length bytes.now) }
+{
+    match bytes {
+        [b' ', b'-', rest @ ..] => Some((None, rest)),
+        _ => {
+            let (n, rest) = plain_number(bytes)?;
+            Some((Some(n), rest))
+        }
+    }
+}
+
+/// The numbers in these places, if none of them has a limit of its own.
+fn plain_places<'a>(
+    places: Places,
+    bytes: &'a [u8],
+    numbers: &mut ArrayVec<u64, MOST_ARGUMENTS>,
+) -> Option<&'a [u8]>
+    requires none { numbers.old.items ≡ [] }
+    requires fits { places.most ≤ MOST_ARGUMENTS }
+    ensures any { IfSome result (λ _. places.limit ≡ last_number) }
+    ensures numbers { IfSome result (λ rest. BeginsNumbers bytes.now numbers.new.items rest.now) }
+    ensures least { IfSome result (λ _. places.least ≤ length numbers.new.items) }
+    ensures most { IfSome result (λ _. length numbers.new.items ≤ places.most) }
+    ensures shorter { IfSome result (λ rest. length rest.now ≤ length bytes.now) }
+{
     if places.limit != u64::MAX {
         return None;
     }
-    let rest = plain_numbers(rest, numbers);
-    if numbers.len() < places.least || places.most < numbers.len() {
+    let rest = plain_numbers(bytes, places.most, numbers);
+    if numbers.len() < places.least {
         return None;
     }
-    Some((OpShape::of_name(name), rest))
+    Some(rest)
 }
 
 fn plain_name(bytes: &[u8]) -> Option<(OpName, &[u8])>
@@ -179,15 +259,21 @@ fn after<'a>(bytes: &'a [u8], front: &[u8]) -> Option<&'a [u8]>
     bytes.strip_prefix(front)
 }
 
-/// Gathers the numbers that come next, a blank before each, as many as there is room for.
+/// Gathers the numbers that come next, a blank before each, at most so many.
 #[tactic(auto, using(crate::proofs::PlainParts::no_numbers, crate::proofs::PlainParts::numbers_more))]
-fn plain_numbers<'a>(bytes: &'a [u8], found: &mut ArrayVec<u64, MOST_ARGUMENTS>) -> &'a [u8]
-    requires { found.old.items ≡ [] }
+fn plain_numbers<'a>(
+    bytes: &'a [u8],
+    most: usize,
+    found: &mut ArrayVec<u64, MOST_ARGUMENTS>,
+) -> &'a [u8]
+    requires none { found.old.items ≡ [] }
+    requires fits { most ≤ MOST_ARGUMENTS }
     ensures numbers { BeginsNumbers bytes.now found.new.items result.now }
+    ensures most { length found.new.items ≤ most }
     ensures shorter { length result.now ≤ length bytes.now }
 {
     let mut rest = bytes;
-    while found.len() < MOST_ARGUMENTS {
+    while found.len() < most {
         let Some((n, after)) = plain_number(rest) else {
             return rest;
         };
@@ -197,24 +283,42 @@ fn plain_numbers<'a>(bytes: &'a [u8], found: &mut ArrayVec<u64, MOST_ARGUMENTS>)
     rest
 }
 
-#[tactic(auto, using(crate::proofs::PlainParts::hex_begin, crate::proofs::PlainParts::decimal_begin))]
+/// A blank and a number.
+#[inline(always)]
 fn plain_number(bytes: &[u8]) -> Option<(u64, &[u8])>
     ensures number { IfSome result (λ found. BeginsNumber bytes.now found.0 found.1.now) }
     ensures shorter { IfSome result (λ found. length found.1.now < length bytes.now) }
 {
-    match after(bytes, b" 0x") {
-        Some(rest) => {
-            let (n, rest) = plain_digits(rest, 16)?;
+    match bytes {
+        [b' ', word @ ..] => {
+            let (n, rest) = plain_word(word)?;
+            Some((n, rest))
+        }
+        _ => None,
+    }
+}
+
+/// A number: decimal digits, or `0x` and hexadecimal ones.
+#[inline(always)]
+#[tactic(auto, using(crate::proofs::PlainParts::hex_begins, crate::proofs::PlainParts::decimal_begins))]
+fn plain_word(bytes: &[u8]) -> Option<(u64, &[u8])>
+    ensures number { IfSome result (λ found. BeginsWord bytes.now found.0 found.1.now) }
+    ensures shorter { IfSome result (λ found. length found.1.now ≤ length bytes.now) }
+{
+    match after(bytes, b"0x") {
+        Some(digits) => {
+            let (n, rest) = plain_digits(digits, 16)?;
             Some((n, rest))
         }
         None => {
-            let (n, rest) = plain_digits(after(bytes, b" ")?, 10)?;
+            let (n, rest) = plain_digits(bytes, 10)?;
             Some((n, rest))
         }
     }
 }
 
 /// The number that the digits spell which the bytes begin with. Bytes that end with a digit have none.
+#[inline(always)]
 fn plain_digits(bytes: &[u8], radix: u32) -> Option<(u64, &[u8])>
     requires low { 2 ≤ radix }
     requires high { radix ≤ 36 }
@@ -284,15 +388,8 @@ fn plain_named_said(bytes: &[u8]) -> Option<(Said, &[u8])>
 {
     let name = likely_said(bytes)?;
     let rest = after_said(name, bytes)?;
-    let places = name.places();
-    if places.limit != u64::MAX {
-        return None;
-    }
     let mut numbers = ArrayVec::new();
-    let rest = plain_numbers(rest, &mut numbers);
-    if numbers.len() < places.least || places.most < numbers.len() {
-        return None;
-    }
+    let rest = plain_places(name.places(), rest, &mut numbers)?;
     let said = SaidShape::of_name(name).said(&numbers)?;
     Some((said, rest))
 }

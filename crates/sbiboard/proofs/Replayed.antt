@@ -4,6 +4,8 @@ use Rattle.std.specs.Prelude.{Option, Result}
 use Rattle.std.specs.Io.KnownBytes.{Appends, Keeps}
 use Rattle.std.proofs.KnownBytes.{Appends-kept, Appends-trans}
 use Rattle.board_core.specs.declared.config.Config.{Config}
+use Rattle.board_core.specs.declared.event.Actor.{Actor}
+use Rattle.board_core.specs.declared.event.Op.{Op}
 use Rattle.board_core.specs.declared.event.Refusal.{Refusal}
 use Rattle.board_core.specs.declared.event.Reply.{Reply}
 use Rattle.board_core.specs.Course.{Course}
@@ -48,12 +50,14 @@ module _ (b next : Course) (others rest : List Line) (line : Line) (are : others
         ∙ ap (λ ls. met || meets_full b ls) (sym are) ∙ so_far.full;
   }
 
-  pub lines_text-more : (answer : Result Reply Refusal) → answer ≡ answer_of b line
-      → lines_text b others ≡ line_of (event_words line.actor line.op answer) ++ lines_text next rest
-  lines_text-more answer is =
+  pub lines_text-more : (actor : Actor) (op : Op) (answer : Result Reply Refusal) → actor ≡ line.actor → op ≡ line.op → answer ≡ answer_of b line
+      → lines_text b others ≡ line_of (event_words actor op answer) ++ lines_text next rest
+  lines_text-more actor op answer is_actor is_op is =
       ap (lines_text b) are
       ∙ ap (λ a. line_of (event_words line.actor line.op a) ++ lines_text (stepped b line.actor line.op) rest) (sym is)
       ∙ ap (λ c. line_of (event_words line.actor line.op answer) ++ lines_text c rest) (sym stepped_is)
+      ∙ ap (λ by. line_of (event_words by line.op answer) ++ lines_text next rest) (sym is_actor)
+      ∙ ap (λ does. line_of (event_words actor does answer) ++ lines_text next rest) (sym is_op)
 
 -- the board line, the lines and the table, one after the other, are the schedule's text
 pub text_of-printed : (config : Config) (first last : Course) (lines : List Line)

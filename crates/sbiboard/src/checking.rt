@@ -9,7 +9,7 @@ use crate::device::Source;
 use crate::outcome::Outcome;
 use crate::running::{Job, run};
 use board_core::{Board, Config, Refusal, Reply};
-use guest_script::{Line, Lines};
+use guest_script::{KeptLine, Lines};
 use itoa::Buffer;
 use monitor::{Failed, Sink, print_reply, write_all};
 use std::alloc::Global;
@@ -74,10 +74,10 @@ fn first_difference(lines: &Lines, board: &mut Board) -> Option<Difference>
         (λ difference. DiffersFirst board.old lines.now difference.number difference.answer) }
 {
     for line in lines.iter() {
-        let answer = board.step(line.actor, line.op);
+        let answer = board.step(line.actor(), line.op());
         if !agrees(&line, &answer) {
             return Some(Difference {
-                number: line.number,
+                number: line.number(),
                 answer,
             });
         }
@@ -86,10 +86,10 @@ fn first_difference(lines: &Lines, board: &mut Board) -> Option<Difference>
 }
 
 /// Whether a line says this answer.
-fn agrees(line: &Line, answer: &Result<Reply, Refusal>) -> bool
+fn agrees(line: &KeptLine, answer: &Result<Reply, Refusal>) -> bool
     ensures { (result ≡ true) ↔ (line.now.said ≡ Some (said_of answer.now)) }
 {
-    match line.said {
+    match line.said() {
         Some(said) => said.agrees(answer),
         None => false,
     }

@@ -86,11 +86,13 @@ fn print_lines<W: Sink>(lines: &Lines, board: &mut Board, writer: &mut W) -> Res
 {
     let mut met_full = false;
     for line in lines.iter() {
-        let answer = board.step(line.actor, line.op);
-        op_fits(line.op);
+        let actor = line.actor();
+        let op = line.op();
+        let answer = board.step(actor, op);
+        op_fits(op);
         answer_fits(answer);
         met_full |= is_history_full(&answer);
-        print_line(line.actor, line.op, answer, writer)?;
+        print_line(actor, op, answer, writer)?;
     }
     Ok(met_full)
 }

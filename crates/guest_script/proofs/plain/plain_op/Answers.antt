@@ -1,4 +1,3 @@
-use Rattle.std.proofs.Common.{arith}
 use Rattle.board_core.specs.declared.event.Op.TheVariants.{Advance}
 use Rattle.guest_script.specs.Forms.{form_of}
 use Rattle.guest_script.specs.Packing.{op_made, plain_shape}
@@ -7,10 +6,11 @@ use Rattle.guest_script.proofs.PlainParts.{named_begins}
 use Rattle.guest_script.proofs.PlainShapes.{name_makes}
 use Rattle.guest_script.proofs.plain.plain_op.Goals as goal
 
-pub returns-clause-op : goal.returns-clause-op
-returns-clause-op c =
+pub returns-in_ok-rest-in_default-clause-op : goal.returns-in_ok-rest-in_default-clause-op
+returns-in_ok-rest-in_default-clause-op c =
     let name = c.in_ok-name.name in
-    let ns = c.plain_numbers-rest.new.found.items in
+    let ns = c.plain_places.new.numbers.items in
     rw c.of_name.ensures
-    (named_begins form_of Advance c.args.bytes.now (op_spelling name) c.in_ok-name.rest.now c.places-places.result ns c.plain_numbers-rest.result.now (op_made (plain_shape name) ns) c.in_ok-name.ensures.name c.places-places.ensures.form
-    c.if-places.false c.plain_numbers-rest.ensures.numbers (omega arith) (omega arith) (name_makes name c.places-places.result ns c.places-places.ensures.form c.if-places.false (omega arith) (omega arith)))
+    (named_begins form_of Advance c.args.bytes.now (op_spelling name) c.in_ok-name.rest.now c.places.result ns c.in_ok-rest-in_default.rest.now (op_made (plain_shape name) ns) c.in_ok-name.ensures.name c.places.ensures.form
+    c.in_ok-rest-in_default.ensures.any c.in_ok-rest-in_default.ensures.numbers c.in_ok-rest-in_default.ensures.least c.in_ok-rest-in_default.ensures.most
+    (name_makes name c.places.result ns c.places.ensures.form c.in_ok-rest-in_default.ensures.any c.in_ok-rest-in_default.ensures.least c.in_ok-rest-in_default.ensures.most))
