@@ -15,8 +15,8 @@ pub enum Fault {
     /// The first line with words isn't a board line, or no line has words.
     #[error("the first line with words isn't a board line, or no line has words")]
     NoBoardLine,
-    /// No operation has this name.
-    #[error("no operation has this name")]
+    /// No operation or reply has this name, or its block doesn't allow the operation.
+    #[error("no operation or reply has this name, or its block doesn't allow the operation")]
     UnknownWord,
     /// A word that should be a number and isn't, or a number too large for its place.
     #[error("not a number, or a number too large for its place")]
@@ -24,8 +24,8 @@ pub enum Fault {
     /// Too few or too many words.
     #[error("too few or too many words")]
     WordCount,
-    /// A line of another kind of script.
-    #[error("a line of another kind of script")]
+    /// A line of another kind of script, or an operation before any block.
+    #[error("a line of another kind of script, or an operation before any block")]
     OtherKind,
     /// A second block with the same address, or a second block of the clock.
     #[error("a second block with the same address, or a second block of the clock")]
