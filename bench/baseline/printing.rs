@@ -215,6 +215,13 @@ impl Out {
         self.end_line()
     }
 
+    /// How a run ended, as a comment of a trace.
+    pub fn end(&mut self, name: &[u8]) -> io::Result<()> {
+        self.text(b"# end ");
+        self.text(name);
+        self.end_line()
+    }
+
     pub fn table(&mut self, board: &Board) -> io::Result<()> {
         self.text(b"# time ");
         self.hex_digits(board.time, 16);
