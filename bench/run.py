@@ -19,10 +19,11 @@ threads are started, and the record is written in it. The processor's time, in u
 it, in microseconds an event. The ratios are the program's time over plain Rust's. Look at the load that is printed: on a
 busy machine the threads wait for processors.
 
---wakes counts in the place of time, a run of each. Calls of futex with FUTEX_WAKE, and how many threads they woke, are
-counted by `strace -f -e trace=futex`, which slows each call down and so changes who rests when: the events of that run are
-beside them. How often threads gave their processor up to wait is what the system counts for the process (ru_nvcsw), in a run
-of its own without strace.
+--wakes counts in the place of time. Calls of futex with FUTEX_WAKE are counted by `strace -f -e trace=futex`, in a run of each:
+those that wake everyone, which the condvar's notify_all makes, how many threads they woke, and those that wake one, which a
+lock makes that is given back while others wait for it. strace slows each call down and so changes who rests when; the events of
+that run stand beside them. How often threads gave their processor up to wait is what the system counts for the process
+(ru_nvcsw), for each event, in a run without strace.
 """
 import argparse
 import os
@@ -33,6 +34,7 @@ import subprocess
 import sys
 import tempfile
 import time
+from collections import Counter
 
 from replay import BUILT, HUGE_PAGES, numbers, plain_rust, words
 
@@ -40,6 +42,8 @@ ALL = "0xffffffffffffffff"
 BASE = 0x8000_0000
 # A page of blocks' addresses, and one of words.
 PAGES, WORDS = 2, BASE + 4096
+# How many threads FUTEX_WAKE wakes at most where it wakes everyone.
+EVERYONE = "2147483647"
 # A run that takes longer hangs.
 MOST_SECONDS = 300
 
@@ -138,25 +142,34 @@ def times_row(folder, pair, path, is_exact, most, chosen):
             f"{own_micros:.2f}", f"{plain_micros:.2f}", f"{own_micros / plain_micros:.2f}"]
 
 
-def wakes(folder, program, checker, path, is_exact, most):
-    """Events of a run, its calls of FUTEX_WAKE, and how many threads these woke."""
-    output, calls = os.path.join(folder, "record.trace"), os.path.join(folder, "calls")
-    ran(["strace", "-f", "-qq", "-e", "trace=futex", "-e", "signal=none", "-o", calls, program, "run", path], output)
-    asked = woken = 0
-    with open(calls) as file:
+def counted(path):
+    """Of a log of futex: calls that wake all who wait, how many threads these woke, and calls that wake one."""
+    calls, woken, pending = Counter(), Counter(), {}
+    with open(path) as file:
         for line in file:
-            if "FUTEX_WAKE" in line and "resumed" not in line:
-                asked += 1
-            result = re.search(r"FUTEX_WAKE.*= (\d+)$|<\.\.\. futex resumed>\) += (\d+)$", line)
-            woken += int(result.group(1) or 0) if result else 0
-    return events_of(checker, output, is_exact, most), asked, woken
+            thread = line.split(maxsplit=1)[0]
+            if wake := re.search(r"FUTEX_WAKE_PRIVATE, (\d+)", line):
+                pending[thread] = wake.group(1) == EVERYONE
+                calls[pending[thread]] += 1
+            if "futex" in line and "<unfinished" not in line:
+                done = re.search(r"= (\d+)$", line)
+                woken[pending.pop(thread, None)] += int(done.group(1)) if done else 0
+    return calls[True], woken[True], calls[False]
+
+
+def wakes(folder, program, checker, path, is_exact, most):
+    """The events of a run, and what is counted of its log of futex."""
+    output, log = os.path.join(folder, "record.trace"), os.path.join(folder, "log")
+    ran(["strace", "-f", "-qq", "-e", "trace=futex", "-e", "signal=none", "-o", log, program, "run", path], output)
+    return events_of(checker, output, is_exact, most), *counted(log)
 
 
 def wakes_row(folder, pair, path, is_exact, most, chosen):
-    waits = [voluntary for _, _, _, voluntary in each_run(folder, pair, path, is_exact, most)]
+    runs = list(each_run(folder, pair, path, is_exact, most))
     row = []
-    for program, waited in zip(pair, waits):
-        row += [f"{n:,}" for n in (*wakes(folder, program, pair[0], path, is_exact, most), waited)]
+    for program, (events, _, _, waits) in zip(pair, runs):
+        traced, notified, woken, handed = wakes(folder, program, pair[0], path, is_exact, most)
+        row += [f"{traced:,}", f"{notified:,}", f"{woken:,}", f"{handed:,}", f"{waits / events:.2f}"]
     return row
 
 
@@ -164,7 +177,8 @@ def wakes_row(folder, pair, path, is_exact, most, chosen):
 
 
 TIMES = ("events a second", "plain Rust", "ratio", "µs of processor an event", "plain Rust", "ratio")
-WAKES = ("events", "FUTEX_WAKE", "woken", "waits") + ("plain Rust: events", "FUTEX_WAKE", "woken", "waits")
+COUNTS = ("notified", "woken", "lock handed on", "waits an event")
+WAKES = ("events", *COUNTS, "plain Rust: events", *COUNTS)
 
 
 def print_rows(folder, pair, chosen):

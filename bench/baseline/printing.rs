@@ -125,6 +125,7 @@ impl Out {
         self.end_line()
     }
 
+    #[inline(always)]
     pub fn line(
         &mut self,
         line: Line,
