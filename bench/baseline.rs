@@ -10,6 +10,10 @@
 //! line or step takes memory. As in the program, the whole script is read before the first byte is written, every
 //! fault is told with its line, and the history owns what it holds. Want of memory isn't told: it aborts.
 //!
+//! `run FILE` does what `sbiboard run FILE` does: a thread for each hart and one for the clock, round one std::sync::Mutex, with
+//! a condvar, take views, choose and rest as the program's do. A run's end is read off what the threads have left to do, where
+//! the program goes through the history. `bench/run.py` times both.
+//!
 //! `lock HARTS CALLS sip|ipi` does what `lock_rows` does with such words: so many of eight harts make so many calls each on
 //! a board behind a lock. `bench/lock.py` times both.
 
@@ -27,6 +31,10 @@ mod memory;
 mod printing;
 #[path = "baseline/script.rs"]
 mod script;
+#[path = "baseline/shared.rs"]
+mod shared;
+#[path = "baseline/threads.rs"]
+mod threads;
 
 use board::{Board, Refusal, Reply};
 use printing::Out;
@@ -35,6 +43,7 @@ use std::fs::File;
 use std::io::{self, Read};
 use std::os::fd::AsFd;
 use std::process::exit;
+use threads::End;
 
 fn read(path: &str) -> io::Result<Vec<u8>> {
     let file = File::open(path)?;
@@ -111,10 +120,33 @@ fn agrees(name: SaidName, numbers: &[u64], actor: u8, answer: Result<Reply, Refu
     }
 }
 
+/// Runs a program on threads and prints its record.
+fn run_on_threads(script: &Script) -> Ended {
+    let Some((board, end)) = threads::run(script) else {
+        return Ok((1, "bad board"));
+    };
+    let mut out = output()?;
+    out.board_line(&script.config)?;
+    for (line, numbers, reply) in board.history() {
+        out.line(line, numbers, Ok(reply))?;
+    }
+    out.table(&board)?;
+    let (name, ended) = match end {
+        End::Off => ("off", (0, "")),
+        End::HistoryFull => ("history-full", (3, "history full")),
+        End::Quiet => ("quiet", (0, "")),
+        End::Stuck => ("stuck", (4, "stuck")),
+    };
+    out.end(name.as_bytes())?;
+    out.flush()?;
+    std::hint::black_box(&board);
+    Ok(ended)
+}
+
 type Ended = io::Result<(i32, &'static str)>;
 
 /// Runs a task on the script of a file, which must be of this kind, or without lines.
-fn run(path: &str, kind: Kind, task: impl Fn(&Script, &mut Board) -> Ended) -> (i32, String) {
+fn run(path: &str, kind: Kind, task: impl Fn(&Script) -> Ended) -> (i32, String) {
     let failed = || (7, "input or output failed".to_string());
     let Ok(mut bytes) = read(path) else {
         return failed();
@@ -126,12 +158,19 @@ fn run(path: &str, kind: Kind, task: impl Fn(&Script, &mut Board) -> Ended) -> (
     if script.kind != kind && script.kind != Kind::Empty {
         return (1, "wrong kind of script".to_string());
     }
-    let Some(mut board) = Board::new(&script.config) else {
-        return (1, "bad board".to_string());
-    };
-    let ended = task(&script, &mut board);
-    std::hint::black_box(&board);
-    ended.map_or_else(|_| failed(), |(status, text)| (status, text.to_string()))
+    task(&script).map_or_else(|_| failed(), |(status, text)| (status, text.to_string()))
+}
+
+/// The same, of a task that steps a board.
+fn step_by(path: &str, kind: Kind, task: impl Fn(&Script, &mut Board) -> Ended) -> (i32, String) {
+    run(path, kind, |script| {
+        let Some(mut board) = Board::new(&script.config) else {
+            return Ok((1, "bad board"));
+        };
+        let ended = task(script, &mut board);
+        std::hint::black_box(&board);
+        ended
+    })
 }
 
 /// Has threads make calls on a board behind a lock, and prints how many events there were, and the nanoseconds.
@@ -140,7 +179,7 @@ fn make_calls(words: &[String]) -> (i32, String) {
     let [harts, calls, op] = words else {
         return usage;
     };
-    let (Ok(harts), Ok(calls), Some(op)) = (harts.parse(), calls.parse(), lock::Op::of(op)) else {
+    let (Ok(harts), Ok(calls), Some(op)) = (harts.parse(), calls.parse(), lock::op_of(op)) else {
         return usage;
     };
     let Some((events, took)) = lock::run(harts, calls, op) else {
@@ -153,10 +192,11 @@ fn make_calls(words: &[String]) -> (i32, String) {
 fn main() {
     let words: Vec<String> = std::env::args().skip(1).collect();
     let (status, text) = match words.as_slice() {
-        [word, path] if word == "replay" => run(path, Kind::Schedule, replay),
-        [word, path] if word == "check" => run(path, Kind::Trace, check),
+        [word, path] if word == "replay" => step_by(path, Kind::Schedule, replay),
+        [word, path] if word == "check" => step_by(path, Kind::Trace, check),
+        [word, path] if word == "run" => run(path, Kind::Program, run_on_threads),
         [word, rest @ ..] if word == "lock" => make_calls(rest),
-        _ => (2, "replay FILE, check FILE, or lock".to_string()),
+        _ => (2, "replay FILE, check FILE, run FILE, or lock".to_string()),
     };
     if !text.is_empty() {
         eprintln!("sbiboard: {text}");

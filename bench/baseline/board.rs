@@ -18,7 +18,7 @@ pub enum State {
 }
 
 impl State {
-    fn is_interruptible(self) -> bool {
+    pub fn is_interruptible(self) -> bool {
         matches!(
             self,
             State::Started | State::Suspended | State::SuspendPending | State::ResumePending
@@ -60,8 +60,7 @@ pub enum Refusal {
     TimeFull = 5,
 }
 
-/// An accepted step, with its numbers in the board's own list. Nothing here reads it, as nothing of a replay does.
-#[allow(dead_code)]
+/// An accepted step, with its numbers in the board's own list.
 struct Event {
     line: Line,
     reply: Reply,
@@ -165,6 +164,15 @@ impl Board {
         self.events.len()
     }
 
+    /// The events, each with its numbers and its reply.
+    pub fn history(&self) -> impl Iterator<Item = (Line, &[u64], Reply)> {
+        self.events.iter().map(|event| {
+            let numbers = &self.numbers[event.line.first as usize..];
+            let count = usize::from(event.line.count);
+            (event.line, &numbers[..count], event.reply)
+        })
+    }
+
     fn start(&mut self, h: usize, addr: u64, opaque: u64) {
         self.harts[h].kept = Some((addr, opaque));
         self.starts += 1;
@@ -182,7 +190,7 @@ impl Board {
             .is_some_and(|deadline| deadline <= self.time)
     }
 
-    fn wake(&self, h: usize) -> bool {
+    pub fn wake(&self, h: usize) -> bool {
         has(self.ssip & self.ssie, h) || has(self.stie, h) && self.stip(h)
     }
 

@@ -1,4 +1,4 @@
-//! What isn't a line of a schedule or a trace: a line of a program, or one with a fault. It is cut into words.
+//! Scripts with a fault: their lines are cut into words.
 
 use crate::script::{Fault, Kind, Name, SaidName, is_allowed};
 use std::collections::BTreeSet;
@@ -72,7 +72,8 @@ fn said(words: Words) -> Result<(), u8> {
     Ok(())
 }
 
-fn is_guests(name: Name) -> bool {
+/// Whether an operation is a guest's.
+pub fn is_guests(name: Name) -> bool {
     !matches!(name, Name::Poll | Name::Serve | Name::Advance | Name::Tick)
 }
 
@@ -148,8 +149,8 @@ pub fn of_board_line(bytes: &[u8]) -> u8 {
     if words.len() != 7 { 5 } else { 4 }
 }
 
-/// Reads the lines of these bytes, of which the first is line `first` and isn't one that the quick reader takes: a
-/// program's, if there is no fault.
+/// The first fault of these bytes, of which the first line is line `first`. Somewhere in them is a line that the quick
+/// reader doesn't take.
 pub fn of_rest(bytes: &[u8], first: u64, kind: Kind) -> Result<(), Fault> {
     let mut before = Before {
         kind,

@@ -125,6 +125,7 @@ impl Out {
         self.end_line()
     }
 
+    #[inline(always)]
     pub fn line(
         &mut self,
         line: Line,
@@ -212,6 +213,13 @@ impl Out {
         self.decimal(u64::from(line));
         self.text(b": ");
         self.answer(actor, answer);
+        self.end_line()
+    }
+
+    /// How a run ended, as a comment of a trace.
+    pub fn end(&mut self, name: &[u8]) -> io::Result<()> {
+        self.text(b"# end ");
+        self.text(name);
         self.end_line()
     }
 

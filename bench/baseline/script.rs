@@ -1,7 +1,9 @@
-//! Reads a script. A line of a schedule or a trace is looked at once; only where it is none is it looked through for its
-//! fault, or for blocks of a program, which nothing here runs.
+//! Reads a script. A line of a schedule, a trace or a program is looked at once; only where it is none is it looked
+//! through for its fault.
 
 use crate::faults;
+use std::collections::BTreeSet;
+use std::ops::Range;
 
 /// The most bytes that a script has.
 pub const MOST_BYTES: usize = 16_777_216;
@@ -160,10 +162,19 @@ pub enum Kind {
     Trace,
 }
 
+/// What a hart's guest does that is entered at this address: so many of the script's lines.
+pub struct Block {
+    pub addr: u64,
+    pub lines: Range<usize>,
+}
+
 pub struct Script {
     pub config: [u64; 6],
     pub kind: Kind,
     pub lines: Vec<Line>,
+    /// Those of a program, and the lines of its clock.
+    pub blocks: Vec<Block>,
+    pub ticks: Range<usize>,
     /// One for each line of a trace.
     pub said: Vec<Said>,
     pub numbers: Vec<u64>,
@@ -364,6 +375,22 @@ impl<'a> Reader<'a> {
         (self.numbers(left, u64::MAX, into)? == left && self.is_at_end()).then_some(name)
     }
 
+    /// An operation: its name, where its numbers begin, and how many there are.
+    #[inline(always)]
+    fn operation(&mut self, into: &mut Vec<u64>) -> Option<(Name, u32, u8)> {
+        let mut name = Name::of(self.word())?;
+        let first = into.len();
+        if name == Name::Sfence {
+            name = self.fence_numbers(into)?;
+        } else {
+            let (least, most, limit) = name.places();
+            if self.numbers(most, limit, into)? < least {
+                return None;
+            }
+        }
+        Some((name, first as u32, (into.len() - first) as u8))
+    }
+
     /// Adds the step of a line, if it has words and is of the script's kind.
     #[inline(always)]
     fn step_line(&mut self, number: u64, script: &mut Script) -> Option<()> {
@@ -376,17 +403,7 @@ impl<'a> Reader<'a> {
             _ => self.number().filter(|n| *n < 128)? as u8,
         };
         self.skip_gap();
-        let mut name = Name::of(self.word())?;
-        let first = script.numbers.len() as u32;
-        if name == Name::Sfence {
-            name = self.fence_numbers(&mut script.numbers)?;
-        } else {
-            let (least, most, limit) = name.places();
-            if self.numbers(most, limit, &mut script.numbers)? < least {
-                return None;
-            }
-        }
-        let count = (script.numbers.len() - first as usize) as u8;
+        let (name, first, count) = self.operation(&mut script.numbers)?;
         if self.peek() != b'-' {
             script.must_be(Kind::Schedule, self.end)?;
         } else {
@@ -407,6 +424,67 @@ impl<'a> Reader<'a> {
         });
         Some(())
     }
+
+    /// Adds the blocks of a program.
+    fn program(&mut self, script: &mut Script) -> Option<()> {
+        let mut seen = Heads::default();
+        script.kind = Kind::Program;
+        // An operation of a program has at least three bytes and its line feed.
+        script.lines.reserve(self.end / 4 + 1);
+        while self.at < self.end {
+            if !matches!(self.skip_gap(), b'\n' | b'\r' | b'#') {
+                self.program_line(script, &mut seen)?;
+                self.is_at_end().then_some(())?;
+            }
+            self.end_line()?;
+        }
+        Some(())
+    }
+
+    /// Adds the head of a block, or an operation to the last one.
+    fn program_line(&mut self, script: &mut Script, seen: &mut Heads) -> Option<()> {
+        let (start, end) = (self.at, script.lines.len());
+        let word = self.word();
+        if word == b"clock" {
+            self.skip_gap();
+            script.ticks = end..end;
+            seen.is_in_clock = true;
+            return (!std::mem::replace(&mut seen.clock, true)).then_some(());
+        }
+        if word == b"at" {
+            self.skip_gap();
+            let addr = self.number()?;
+            self.skip_gap();
+            let lines = end..end;
+            script.blocks.push(Block { addr, lines });
+            seen.is_in_clock = false;
+            return seen.addresses.insert(addr).then_some(());
+        }
+        self.at = start;
+        let (name, first, count) = self.operation(&mut script.numbers)?;
+        let (actor, lines, is_right) = if seen.is_in_clock {
+            (CLOCK, &mut script.ticks, name == Name::Tick)
+        } else {
+            let block = script.blocks.last_mut()?;
+            (0, &mut block.lines, faults::is_guests(name))
+        };
+        lines.end += 1;
+        script.lines.push(Line {
+            first,
+            count,
+            actor,
+            name,
+        });
+        is_right.then_some(())
+    }
+}
+
+/// The blocks that a program has so far.
+#[derive(Default)]
+struct Heads {
+    addresses: BTreeSet<u64>,
+    clock: bool,
+    is_in_clock: bool,
 }
 
 impl Script {
@@ -451,6 +529,8 @@ pub fn parse(bytes: &mut Vec<u8>) -> Result<Script, Fault> {
         config,
         kind: Kind::Empty,
         lines: Vec::with_capacity(end / 6 + 1),
+        blocks: Vec::new(),
+        ticks: 0..0,
         said: Vec::new(),
         numbers: Vec::with_capacity(end / 2),
     };
@@ -458,8 +538,11 @@ pub fn parse(bytes: &mut Vec<u8>) -> Result<Script, Fault> {
         number += 1;
         let (start, kind) = (reader.at, script.kind);
         if reader.step_line(number, &mut script).is_none() {
-            faults::of_rest(&bytes[start..end], number, kind)?;
-            script.kind = Kind::Program;
+            reader.at = start;
+            if kind != Kind::Empty || reader.program(&mut script).is_none() {
+                faults::of_rest(&bytes[start..end], number, kind)?;
+                unreachable!("a line that isn't read has a fault");
+            }
             return Ok(script);
         }
     }
