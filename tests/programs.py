@@ -1,4 +1,5 @@
 """Programs for `tests/program`, with what holds of each record, in whatever order the threads go."""
+import random
 from collections import namedtuple
 
 # A program, how its run ends, and lines of the table after it.
@@ -142,3 +143,79 @@ def is_shot_down(lines):
 
 # What is wrong of an example's record, by its lines, beyond its end and its table.
 WRONG_OF = {"shootdown.program": is_shot_down}
+
+
+# ---- random programs, and what holds of each record
+
+CALLS = {"start": (0x48534D, 0), "stop": (0x48534D, 1), "suspend": (0x48534D, 3), "ipi": (0x735049, 0)}
+CALLS |= {"timer": (0x54494D45, 0), "fence_i": (0x52464E43, 0), "fence": (0x52464E43, 1), "reset": (0x53525354, 0)}
+
+
+def call(name, *arguments):
+    """A call, spelled as it is printed."""
+    numbers = [*CALLS[name], *arguments, *[0] * (6 - len(arguments))]
+    return "ecall " + " ".join(f"{it:#x}" for it in numbers)
+
+
+def some_operation(some, harts):
+    """An operation of a guest, mostly one that waits for other harts, or that they wait for."""
+    block, everybody = address(some.randrange(harts + 1)), (0, 2**64 - 1)
+    named = some.choice([everybody, (some.randrange(1 << harts), 0)])
+    return some.choice([
+        *[call("start", some.randrange(harts), block, 7)] * 4,
+        *[call("ipi", *named)] * 3,
+        *[call("fence", *named)] * 3,
+        call("fence_i", *named),
+        *[call("suspend", 0)] * 2,
+        call("suspend", 0x80000000, block, 9),
+        *[call("stop")] * (some.random() < 0.5),
+        *["wfi", "wfi", "clearssip", "sip", "fencei", "sfence - -", "load 0x80000000", "sie 0x0"],
+        *[f"sie {it}" for it in ("0x2", "0x22", "0x22")],
+        f"sstatus {some.randrange(2)}",
+        call("timer", some.choice([0, 1, 3, 5, 2**64 - 1])),
+        *([call("reset", some.randrange(3))] if some.random() < 0.3 else []),
+    ])
+
+
+class RandomProgram:
+    """Blocks for a few harts by their addresses, and the clock's ticks. Those that go on for ever fill the history."""
+
+    def __init__(self, seed):
+        some = random.Random(seed)
+        self.harts = some.randint(1, 6)
+        self.limit = some.choice([10, 60, 200, 200, 200])
+        some_block = lambda: ["sie 0x22"] * some.randrange(2) + [some_operation(some, self.harts) for _ in range(some.randrange(13))]
+        self.blocks = {address(it): some_block() for it in range(self.harts)}
+        first = [call("start", it, address(it), it) for it in range(1, self.harts)]
+        self.blocks[BOOT] = first + self.blocks[BOOT]
+        self.ticks = [f"tick {some.choice([0, 1, 2, 2**64 - 3]):#x}" for _ in range(some.randrange(4))]
+
+    def text(self):
+        heads = [(f"at {it:#x}", block) for it, block in self.blocks.items()]
+        return program(self.harts, self.limit, [*heads, ("clock", self.ticks)], None, []).text
+
+    def left(self, events):
+        """What each hart and the clock have still to do after these events. Raises ValueError where one did something else."""
+        left = {str(it): [] for it in range(self.harts)} | {"c": self.ticks}
+        for event in events:
+            step, _, reply = event.partition(" -> ")
+            actor, _, operation = step.partition(" ")
+            if reply.startswith("entry "):
+                left[actor] = self.blocks.get(int(reply.split()[1], 0), [])
+            elif operation not in ("advance", "poll", "serve"):
+                if operation != next(iter(left[actor]), None):
+                    raise ValueError(f"{event!r}, where {left[actor][:1]} is next")
+                left[actor] = left[actor][1:]
+        return left
+
+    def tries(self, left):
+        """The steps that each actor could still do, of which each must be refused where none goes on."""
+        for actor, operations in left.items():
+            firmware = ["advance", "poll", "serve"] if actor != "c" else []
+            yield from (f"{actor} {it}" for it in [*firmware, *operations[:1]])
+
+    def is_quiet(self, left, table):
+        """By the rows of the table: hart, state, waiting fences, and harts that its own call waits for."""
+        harts = {it[1]: (it[2], it[4]) for it in map(str.split, table) if len(it) == 13 and it[1].isdecimal()}
+        done = lambda it: harts[it][0] == "STOPPED" or harts[it] == ("STARTED", "-") and not left[it]
+        return all(done(str(it)) for it in range(self.harts))
