@@ -184,7 +184,8 @@ class RandomProgram:
         some = random.Random(seed)
         self.harts = some.randint(1, 6)
         self.limit = some.choice([10, 60, 200, 200, 200])
-        some_block = lambda: ["sie 0x22"] * some.randrange(2) + [some_operation(some, self.harts) for _ in range(some.randrange(13))]
+        some_operations = lambda: [some_operation(some, self.harts) for _ in range(some.randrange(13))]
+        some_block = lambda: ["sie 0x22"] * some.randrange(2) + some_operations()
         self.blocks = {address(it): some_block() for it in range(self.harts)}
         first = [call("start", it, address(it), it) for it in range(1, self.harts)]
         self.blocks[BOOT] = first + self.blocks[BOOT]
