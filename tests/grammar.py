@@ -233,7 +233,7 @@ def judged(text):
 
 
 # The kinds that each subcommand takes.
-TAKEN = {"replay": (EMPTY, SCHEDULE), "check": (EMPTY, TRACE)}
+TAKEN = {"run": (EMPTY, PROGRAM), "replay": (EMPTY, SCHEDULE), "check": (EMPTY, TRACE)}
 
 
 def said_of(text, subcommand):

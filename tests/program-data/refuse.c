@@ -1,6 +1,7 @@
 /* Loaded before the program's libraries: writes the size of each allocation, a line each, to the descriptor
-   SIZES, and refuses the one whose number, from 1, is REFUSED. Of the calls that open, read and write, the one whose
-   number is FAILED fails with the error ERROR, and none moves more than MOST bytes, if that is given. */
+   SIZES, and refuses the one whose number, from 1, is REFUSED, and the thread whose number is THREAD. Of the calls that
+   open, read and write, the one whose number is FAILED fails with the error ERROR, and none moves more than MOST bytes,
+   if that is given. */
 typedef __SIZE_TYPE__ size_t;
 
 /* (no headers, which the toolchain's own compiler lacks) */
@@ -16,9 +17,10 @@ void *__libc_malloc(size_t size);
 void *__libc_calloc(size_t count, size_t size);
 void *__libc_realloc(void *old, size_t size);
 void *__libc_memalign(size_t alignment, size_t size);
+void *dlsym(void *library, const char *name);
 
-/* ENOMEM */
-enum { NO_MEMORY = 12 };
+/* EAGAIN, ENOMEM */
+enum { NO_THREAD = 11, NO_MEMORY = 12 };
 
 static int number_in(const char *name)
 {
@@ -34,7 +36,7 @@ static int is_refused(size_t size)
     if (__write(number_in("SIZES"), line, length) != length)
         abort();
     *__errno_location() = NO_MEMORY;
-    return ++allocations == number_in("REFUSED");
+    return __sync_add_and_fetch(&allocations, 1) == number_in("REFUSED");
 }
 
 void *malloc(size_t size)
@@ -63,6 +65,18 @@ int posix_memalign(void **made, size_t alignment, size_t size)
         return NO_MEMORY;
     *made = __libc_memalign(alignment, size);
     return *made ? 0 : NO_MEMORY;
+}
+
+typedef int create_thread(unsigned long *, const void *, void *(*)(void *), void *);
+
+int pthread_create(unsigned long *made, const void *with, void *(*run)(void *), void *argument)
+{
+    static int threads;
+    /* (RTLD_NEXT) */
+    create_thread *create = (create_thread *)dlsym((void *)-1, "pthread_create");
+    if (!create || __sync_add_and_fetch(&threads, 1) == number_in("THREAD"))
+        return NO_THREAD;
+    return create(made, with, run, argument);
 }
 
 static int fails(void)
