@@ -1,5 +1,6 @@
 pub mod ArgumentsIn
 pub mod BoardLine
+pub mod DigitValues
 pub mod Drafted
 pub mod FaultsFound
 pub mod LineWords

@@ -14,12 +14,11 @@ use crate::blocks::BlocksDraft;
 use crate::fault::{Fault, NO_MEMORY, ScriptFault};
 use crate::kind::Kind;
 use crate::lines::Lines;
-use crate::plain::plain_line;
+use crate::plain::read_plain;
 use crate::script::{Body, Line};
 use crate::step::{one_number, step_line};
 use crate::text::{is_clean, next_line};
 use crate::words::next_word;
-use arrayvec::ArrayVec;
 use std::alloc::{AllocError, Global};
 
 /// What the lines so far say.
@@ -84,22 +83,9 @@ impl BodyDraft {
             (λ after. (in_trace : Bool) × (line : Line) × BeginsLine n in_trace bytes.now line after.now × (may_follow (draft_of self.old) (Step in_trace) ≡ true)
             × (draft_of self.new ≡ with_step in_trace (draft_of self.old) line) × (length after.now < length bytes.now))) }
     {
-        let mut numbers = ArrayVec::new();
         match self {
-            BodyDraft::Steps(steps) => match plain_line(false, bytes, &mut numbers) {
-                Some((plain, after)) => {
-                    steps.push_plain(n, plain, &numbers)?;
-                    Ok(Some(after))
-                }
-                None => Ok(None),
-            },
-            BodyDraft::Trace(steps) => match plain_line(true, bytes, &mut numbers) {
-                Some((plain, after)) => {
-                    steps.push_plain(n, plain, &numbers)?;
-                    Ok(Some(after))
-                }
-                None => Ok(None),
-            },
+            BodyDraft::Steps(steps) => read_plain(steps, n, false, bytes),
+            BodyDraft::Trace(steps) => read_plain(steps, n, true, bytes),
             _ => Ok(None),
         }
     }

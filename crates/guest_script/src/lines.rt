@@ -75,6 +75,7 @@ impl Lines {
     /// # Errors
     ///
     /// Memory was refused.
+    #[inline(always)]
     pub(crate) fn push_plain(
         &mut self,
         number: u64,

@@ -1,4 +1,5 @@
 ghost use Rattle.std.specs.Prelude.{◌≡◌, ◌≤◌, neg_ℤ, pos, IfSome};
+ghost use Rattle.std.specs.Char.{digit_value};
 ghost use Rattle.guest_script.specs.Words.{last_below};
 ghost use Rattle.guest_script.specs.Values.{number_in, signed_in};
 ghost use Rattle.guest_script.specs.Scanning.{decimal_in, digit_after, numeral_of, spelled_of};
@@ -8,6 +9,21 @@ pub const LAST_BELOW: u64 = 1 << 63;
 
 /// The largest signed number.
 pub const LAST_ABOVE: u64 = LAST_BELOW - 1;
+
+/// The value of each byte as a digit: up to 35 for a digit or a letter, and 36 for any other.
+static DIGIT_VALUES: [u8; 256] = [
+    36, 36, 36, 36, 36, 36, 36, 36, 36, 36, 36, 36, 36, 36, 36, 36, 36, 36, 36, 36, 36, 36, 36, 36,
+    36, 36, 36, 36, 36, 36, 36, 36, 36, 36, 36, 36, 36, 36, 36, 36, 36, 36, 36, 36, 36, 36, 36, 36,
+    0, 1, 2, 3, 4, 5, 6, 7, 8, 9, 36, 36, 36, 36, 36, 36, 36, 10, 11, 12, 13, 14, 15, 16, 17, 18,
+    19, 20, 21, 22, 23, 24, 25, 26, 27, 28, 29, 30, 31, 32, 33, 34, 35, 36, 36, 36, 36, 36, 36, 10,
+    11, 12, 13, 14, 15, 16, 17, 18, 19, 20, 21, 22, 23, 24, 25, 26, 27, 28, 29, 30, 31, 32, 33, 34,
+    35, 36, 36, 36, 36, 36, 36, 36, 36, 36, 36, 36, 36, 36, 36, 36, 36, 36, 36, 36, 36, 36, 36, 36,
+    36, 36, 36, 36, 36, 36, 36, 36, 36, 36, 36, 36, 36, 36, 36, 36, 36, 36, 36, 36, 36, 36, 36, 36,
+    36, 36, 36, 36, 36, 36, 36, 36, 36, 36, 36, 36, 36, 36, 36, 36, 36, 36, 36, 36, 36, 36, 36, 36,
+    36, 36, 36, 36, 36, 36, 36, 36, 36, 36, 36, 36, 36, 36, 36, 36, 36, 36, 36, 36, 36, 36, 36, 36,
+    36, 36, 36, 36, 36, 36, 36, 36, 36, 36, 36, 36, 36, 36, 36, 36, 36, 36, 36, 36, 36, 36, 36, 36,
+    36, 36, 36, 36, 36, 36, 36, 36, 36, 36, 36, 36, 36, 36,
+];
 
 /// The number that a word spells, if it is at most `limit`.
 #[tactic(auto, using(crate::proofs::Numerals::of_spelled))]
@@ -80,13 +96,26 @@ fn numeral(digits: &[u8], radix: u32) -> Option<u64>
 }
 
 /// The number whose digits are those of `n` and one more.
+#[inline(always)]
 #[tactic(auto, unfolding(crate::specs::Scanning::digit_after))]
 pub fn push_digit(n: u64, digit: u8, radix: u32) -> Option<u64>
     requires low { 2 ≤ radix }
     requires high { radix ≤ 36 }
     ensures { result ≡ digit_after radix n digit }
 {
-    let value = (digit as char).to_digit(radix)?;
+    let value = digit_value(digit);
+    if value >= radix {
+        return None;
+    }
     n.checked_mul(u64::from(radix))?
         .checked_add(u64::from(value))
+}
+
+/// The value of a byte as a digit.
+#[inline(always)]
+#[tactic(auto, using(crate::proofs::DigitValues::digit_value_at))]
+fn digit_value(digit: u8) -> u32
+    ensures { result ≡ digit_value digit }
+{
+    u32::from(DIGIT_VALUES[usize::from(digit)])
 }

@@ -88,6 +88,7 @@ impl OpShape {
     }
 
     /// The shape of an operation of this name, with a number in each place.
+    #[inline(always)]
     pub fn of_name(name: OpName) -> OpShape
         ensures { result ≡ plain_shape name }
     {
@@ -112,6 +113,7 @@ impl OpShape {
     }
 
     /// How many of an operation's numbers are kept: of a call those before the zeros at the end.
+    #[inline(always)]
     pub fn kept_count(self, numbers: &[u64]) -> usize
         ensures count { result ≡ kept_count self numbers.now }
         ensures bound { result ≤ length numbers.now }

@@ -1,10 +1,12 @@
-ghost use Rattle.std.specs.Prelude.{◌≡◌, ◌+◌, ◌≤◌, ◌<◌, ◌++◌, ◌^◌, [], ℕ, List, None, Some, codes, IfSome, length};
+ghost use Rattle.std.specs.Prelude.{◌≡◌, ◌+◌, ◌≤◌, ◌<◌, ◌++◌, ◌^◌, ◌∷◌, [], ℕ, List, None, Some, codes, IfOk, IfSome, MatchOption, length};
 ghost use Rattle.board_core.specs.declared.event.Op.TheVariants.{Sfence};
+ghost use Rattle.guest_script.specs.declared.script.Line.{Line};
 ghost use Rattle.guest_script.specs.Words.{last_number};
 ghost use Rattle.guest_script.specs.PlainLines.{BeginsActor, BeginsArgument, BeginsDigits, BeginsLine, BeginsName, BeginsNumber, BeginsNumbers, BeginsOp, BeginsSaid, BeginsSaidName, BeginsSigned, BeginsWord};
 ghost use Rattle.guest_script.specs.KeptLines.{plain_line};
 ghost use Rattle.guest_script.specs.Packing.{FitsKept, op_made};
 
+use crate::lines::Lines;
 use crate::number::{LAST_ABOVE, LAST_BELOW, below_zero, push_digit};
 use crate::numbers::MOST_ARGUMENTS;
 use crate::op_name::OpName;
@@ -15,6 +17,7 @@ use crate::said_name::SaidName;
 use crate::said_shape::SaidShape;
 use arrayvec::ArrayVec;
 use board_core::Actor;
+use std::alloc::AllocError;
 
 /// The largest number of a hart.
 const LAST_HART: u64 = 127;
@@ -30,10 +33,38 @@ pub struct Plain {
     pub said: Option<Said>,
 }
 
+/// Puts line `n`, which the bytes begin with, behind the lines, if it stands in the form in which steps are printed, and
+/// answers the bytes after it. Else nothing is read.
+///
+/// # Errors
+///
+/// Memory was refused.
+pub fn read_plain<'a>(
+    lines: &mut Lines,
+    n: u64,
+    in_trace: bool,
+    bytes: &'a [u8],
+) -> Result<Option<&'a [u8]>, AllocError>
+    requires number { n < 2 ^ 28 }
+    requires few { length lines.old < 2 ^ 28 }
+    ensures { IfOk result (λ found. MatchOption found (lines.new ≡ lines.old)
+        (λ after. (line : Line) × BeginsLine n in_trace bytes.now line after.now × (lines.new ≡ lines.old ++ line ∷ []) × (length after.now < length bytes.now))) }
+{
+    let mut numbers = ArrayVec::new();
+    match plain_line(in_trace, bytes, &mut numbers) {
+        Some((plain, after)) => {
+            lines.push_plain(n, plain, &numbers)?;
+            Ok(Some(after))
+        }
+        None => Ok(None),
+    }
+}
+
 /// A line of a schedule or of a trace, which the bytes begin with, and the bytes after it, if it stands in the form in which
 /// steps are printed, and no number of it has a limit of its own. Its operation's numbers are gathered. It is read in one
 /// pass; each other form is for the reader of words.
-pub fn plain_line<'a>(
+#[inline(always)]
+fn plain_line<'a>(
     in_trace: bool,
     bytes: &'a [u8],
     numbers: &mut ArrayVec<u64, MOST_ARGUMENTS>,
@@ -56,6 +87,7 @@ pub fn plain_line<'a>(
     }
 }
 
+#[inline(always)]
 fn step(actor: Actor, op: OpShape) -> Plain
     ensures { result ≡ record { actor = actor; op = op; said = None } }
 {
@@ -66,6 +98,7 @@ fn step(actor: Actor, op: OpShape) -> Plain
     }
 }
 
+#[inline(always)]
 fn told(actor: Actor, op: OpShape, said: Said) -> Plain
     ensures { result ≡ record { actor = actor; op = op; said = Some said } }
 {
@@ -76,6 +109,7 @@ fn told(actor: Actor, op: OpShape, said: Said) -> Plain
     }
 }
 
+#[inline(always)]
 fn plain_actor(bytes: &[u8]) -> Option<(Actor, &[u8])>
     ensures actor { IfSome result (λ found. BeginsActor bytes.now found.0 found.1.now) }
     ensures fits { IfSome result (λ found. FitsKept found.0) }
@@ -95,6 +129,7 @@ fn plain_actor(bytes: &[u8]) -> Option<(Actor, &[u8])>
 }
 
 /// A blank, an operation's name, and its numbers, of which none has a limit of its own; of a fence those that are there.
+#[inline(always)]
 fn plain_op<'a>(
     bytes: &'a [u8],
     numbers: &mut ArrayVec<u64, MOST_ARGUMENTS>,
@@ -114,6 +149,7 @@ fn plain_op<'a>(
 }
 
 /// The address and the address space behind `sfence`, each a number or a dash.
+#[inline(always)]
 fn plain_fence<'a>(
     bytes: &'a [u8],
     numbers: &mut ArrayVec<u64, MOST_ARGUMENTS>,
@@ -128,6 +164,7 @@ fn plain_fence<'a>(
 }
 
 /// The shape of a fence. Its numbers are gathered.
+#[inline(always)]
 fn gather_fence(
     va: Option<u64>,
     asid: Option<u64>,
@@ -155,6 +192,7 @@ fn gather_fence(
 }
 
 /// A blank, and a number or the dash that stands for none.
+#[inline(always)]
 fn plain_argument(bytes: &[u8]) -> Option<(Option<u64>, &[u8])>
     ensures argument { IfSome result (λ found. BeginsArgument bytes.now found.0 found.1.now) }
     ensures shorter { IfSome result (λ found. length found.1.now ≤ length bytes.now) }
@@ -169,6 +207,7 @@ fn plain_argument(bytes: &[u8]) -> Option<(Option<u64>, &[u8])>
 }
 
 /// The numbers in these places, if none of them has a limit of its own.
+#[inline(always)]
 fn plain_places<'a>(
     places: Places,
     bytes: &'a [u8],
@@ -192,6 +231,7 @@ fn plain_places<'a>(
     Some(rest)
 }
 
+#[inline(always)]
 fn plain_name(bytes: &[u8]) -> Option<(OpName, &[u8])>
     ensures name { IfSome result (λ found. BeginsName bytes.now found.0 found.1.now) }
     ensures shorter { IfSome result (λ found. length found.1.now ≤ length bytes.now) }
@@ -203,6 +243,7 @@ fn plain_name(bytes: &[u8]) -> Option<(OpName, &[u8])>
 
 /// The one name that may stand behind a blank, by its letters that tell it from the others. A wrong guess costs no more
 /// than its time.
+#[inline(always)]
 fn likely_name(bytes: &[u8]) -> Option<OpName> {
     match bytes {
         [_, b'e', ..] => Some(OpName::Ecall),
@@ -226,6 +267,7 @@ fn likely_name(bytes: &[u8]) -> Option<OpName> {
 }
 
 /// What follows a blank and a name.
+#[inline(always)]
 fn after_name(name: OpName, bytes: &[u8]) -> Option<&[u8]>
     ensures name { IfSome result (λ rest. BeginsName bytes.now name rest.now) }
     ensures shorter { IfSome result (λ rest. length rest.now ≤ length bytes.now) }
@@ -260,6 +302,7 @@ fn after<'a>(bytes: &'a [u8], front: &[u8]) -> Option<&'a [u8]>
 }
 
 /// Gathers the numbers that come next, a blank before each, at most so many.
+#[inline(always)]
 #[tactic(auto, using(crate::proofs::PlainParts::no_numbers, crate::proofs::PlainParts::numbers_more))]
 fn plain_numbers<'a>(
     bytes: &'a [u8],
@@ -338,6 +381,7 @@ fn plain_digits(bytes: &[u8], radix: u32) -> Option<(u64, &[u8])>
 }
 
 /// A reply or a refusal, a blank before each of its words.
+#[inline(always)]
 fn plain_said(bytes: &[u8]) -> Option<(Said, &[u8])>
     ensures said { IfSome result (λ found. BeginsSaid bytes.now found.0 found.1.now) }
     ensures shorter { IfSome result (λ found. length found.1.now ≤ length bytes.now) }
@@ -349,6 +393,7 @@ fn plain_said(bytes: &[u8]) -> Option<(Said, &[u8])>
 }
 
 /// The error and the value behind `ret`.
+#[inline(always)]
 fn plain_ret(bytes: &[u8]) -> Option<(Said, &[u8])>
     ensures said { (before : List ℕ) → before ≡ codes " ret " ++ bytes.now → IfSome result (λ found. BeginsSaid before found.0 found.1.now) }
     ensures shorter { IfSome result (λ found. length found.1.now ≤ length bytes.now) }
@@ -358,6 +403,7 @@ fn plain_ret(bytes: &[u8]) -> Option<(Said, &[u8])>
     Some((Said::Ret { error, value }, rest))
 }
 
+#[inline(always)]
 fn plain_signed(bytes: &[u8]) -> Option<(i64, &[u8])>
     ensures error { IfSome result (λ found. BeginsSigned bytes.now found.0 found.1.now) }
     ensures shorter { IfSome result (λ found. length found.1.now ≤ length bytes.now) }
@@ -382,6 +428,7 @@ fn plain_signed(bytes: &[u8]) -> Option<(i64, &[u8])>
     }
 }
 
+#[inline(always)]
 fn plain_named_said(bytes: &[u8]) -> Option<(Said, &[u8])>
     ensures said { IfSome result (λ found. BeginsSaid bytes.now found.0 found.1.now) }
     ensures shorter { IfSome result (λ found. length found.1.now ≤ length bytes.now) }
@@ -395,6 +442,7 @@ fn plain_named_said(bytes: &[u8]) -> Option<(Said, &[u8])>
 }
 
 /// The one name that may stand behind a blank, by its first letter. A wrong guess costs no more than its time.
+#[inline(always)]
 fn likely_said(bytes: &[u8]) -> Option<SaidName> {
     match bytes {
         [_, b'w', ..] => Some(SaidName::Waiting),
@@ -411,6 +459,7 @@ fn likely_said(bytes: &[u8]) -> Option<SaidName> {
 }
 
 /// What follows a blank and a name.
+#[inline(always)]
 fn after_said(name: SaidName, bytes: &[u8]) -> Option<&[u8]>
     ensures name { IfSome result (λ rest. BeginsSaidName bytes.now name rest.now) }
     ensures shorter { IfSome result (λ rest. length rest.now ≤ length bytes.now) }

@@ -26,6 +26,7 @@ pub enum SaidShape {
 
 impl SaidShape {
     /// The shape of what is said. Its numbers are put behind the others.
+    #[inline(always)]
     pub fn put(said: Option<Said>, numbers: &mut Vec<u64>) -> SaidShape
         requires { vec_len numbers.old + SAID_NUMBERS ≤ vec_capacity numbers.old }
         ensures shape { result ≡ said_shape_of said }
@@ -72,6 +73,7 @@ impl SaidShape {
     }
 
     /// The shape of what is said under this name.
+    #[inline(always)]
     pub fn of_name(name: SaidName) -> SaidShape
         ensures { result ≡ plain_said_shape name }
     {
