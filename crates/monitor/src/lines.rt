@@ -25,6 +25,7 @@ pub fn print_head<W: Sink>(config: &Config, sink: &mut W) -> Result<(), Failed>
 }
 
 /// Prints the line of a step and of what it answered.
+#[inline(always)]
 pub fn print_line<W: Sink>(
     actor: Actor,
     op: Op,
@@ -35,11 +36,25 @@ pub fn print_line<W: Sink>(
     ensures { Puts W.written W.failures sink.old sink.new result
         (line_of (event_words actor op answer)) }
 {
+    print_step(actor, &op, &answer, sink)
+}
+
+/// The same, of an operation and an answer where they stand: copies of them cost more than their words.
+fn print_step<W: Sink>(
+    actor: Actor,
+    op: &Op,
+    answer: &Result<Reply, Refusal>,
+    sink: &mut W,
+) -> Result<(), Failed>
+    requires { W.failures sink.old < 2 ^ 63 }
+    ensures { Puts W.written W.failures sink.old sink.new result
+        (line_of (event_words actor op.now answer.now)) }
+{
     let mut line = LineText::new();
     actor_onto(&mut line, actor);
-    op_onto(&mut line, &op);
+    op_onto(&mut line, op);
     line.word(b"->");
-    reply_onto(&mut line, &answer);
+    reply_onto(&mut line, answer);
     line.put(sink)
 }
 
