@@ -18,9 +18,16 @@ pub words-as_line : (line ended : List ℕ) (words : List (List ℕ)) → 0 < le
 words-as_line line ended [] some e is = absurd (omega (arith, ap length is))
 words-as_line line ended (word ∷ words) some e is = ap (drop 1) (e ∙ ap (λ l. l ++ 10 ∷ []) (is ∙ with_words-join [] word words))
 
--- the words of a step, an arrow and the words of its answer, one after the other
-pub step-words : (actor arrow : List ℕ) (op reply : List (List ℕ)) (empty own stepped parted whole : List ℕ) → empty ≡ []
-    → own ≡ empty ++ 32 ∷ actor → stepped ≡ with_words own op → parted ≡ stepped ++ 32 ∷ arrow → whole ≡ with_words parted reply
-    → whole ≡ with_words [] (actor ∷ (op ++ arrow ∷ reply))
-step-words actor arrow op reply empty own stepped parted whole e0 e1 e2 e3 e4 =
-    rw (e4, e3, e2, e1, e0, with_words-append ([] ++ 32 ∷ actor) op (arrow ∷ reply)) refl
+-- words behind a line's first word
+words-behind : (line first : List ℕ) (words : List (List ℕ)) → with_words (line ++ first) words ≡ line ++ join_with_byte 32 (first ∷ words)
+words-behind line first [] = refl
+words-behind line first (word ∷ words) =
+    with_words-join (line ++ first) word words ∙ append_assoc line first (32 ∷ join_with_byte 32 (word ∷ words))
+
+-- an actor, the words of a step, an arrow, the words of its answer, and the line's end
+pub step-line : (line actor arrow : List ℕ) (op reply : List (List ℕ)) (own stepped parted told whole : List ℕ) → own ≡ line ++ actor
+    → stepped ≡ with_words own op → parted ≡ stepped ++ 32 ∷ arrow → told ≡ with_words parted reply → whole ≡ told ++ 10 ∷ []
+    → whole ≡ line ++ line_of (actor ∷ (op ++ arrow ∷ reply))
+step-line line actor arrow op reply own stepped parted told whole e1 e2 e3 e4 e5 =
+    let words = op ++ arrow ∷ reply in
+    rw (e5, e4, e3, e2, e1, ← with_words-append (line ++ actor) op (arrow ∷ reply), words-behind line actor words, append_assoc line (join_with_byte 32 (actor ∷ words)) (10 ∷ [])) refl

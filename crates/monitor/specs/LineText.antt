@@ -10,6 +10,10 @@ with_words line (word ∷ words) = with_words (line ++ 32 ∷ word) words
 abbrev pub line_room : ℕ
 line_room = 256
 
+-- the room of a page of lines
+abbrev pub page_room : ℕ
+page_room = 1024
+
 -- a blank, and the digits of the largest number
 abbrev pub decimal_room : ℕ
 decimal_room = 21
@@ -30,21 +34,17 @@ hex_column_room = 17
 abbrev pub hex_column_work : ℕ
 hex_column_work = 33
 
--- an actor, the word `ecall`, an extension and a function
+-- the word `ecall`, an extension and a function
 abbrev pub call_room : ℕ
-call_room = decimal_room + 6 + 2 * hex_room
+call_room = 6 + 2 * hex_room
 
 -- the six arguments of a call
 abbrev pub arguments_room : ℕ
 arguments_room = 6 * hex_room
 
--- an actor and what it does, of which a call is the longest
-abbrev pub step_room : ℕ
-step_room = call_room + arguments_room
-
--- a step and the arrow after it
-abbrev pub arrow_room : ℕ
-arrow_room = step_room + 3
+-- an operation, of which a call is the longest
+abbrev pub op_room : ℕ
+op_room = call_room + arguments_room
 
 -- `#`, `time`, the time, `events`, their count, `power`, `off` and `reset`
 abbrev pub power_room : ℕ

@@ -1,7 +1,7 @@
 ghost use Rattle.std.specs.Prelude.{◌≡◌, ℕ, ◌+◌, ◌/◌, ◌%◌, ◌^◌, ◌<◌, ◌≤◌, List, [], ◌∷◌, ◌++◌, false, length, set, max, take, drop, replicate, decimal};
 ghost use Rattle.std.specs.Fmt.{digit_glyph, digits, signed_decimal};
 ghost use Rattle.monitor.specs.Table.{right, left, hex_column};
-ghost use Rattle.monitor.specs.LineText.{decimal_room, hex_column_room, hex_column_work, hex_room, line_room, signed_room, with_words};
+ghost use Rattle.monitor.specs.LineText.{decimal_room, hex_column_room, hex_column_work, hex_room, page_room, signed_room, with_words};
 ghost use Rattle.monitor.specs.Sinks.{Puts};
 ghost use Rattle.monitor.specs.Words.{hex, line_of};
 
@@ -9,7 +9,8 @@ use crate::sink::{Failed, Sink, write_all};
 use itoa::Buffer;
 use std::marker::Model;
 
-const CAPACITY: usize = 256;
+/// How many bytes a page of lines may have.
+pub const CAPACITY: usize = 1024;
 
 static HEX_DIGITS: [u8; 16] = *b"0123456789abcdef";
 
@@ -21,7 +22,7 @@ static DECIMAL_PAIRS: [u8; 200] =
 static HEX_PAIRS: [u8; 512] =
     *b"000102030405060708090a0b0c0d0e0f101112131415161718191a1b1c1d1e1f202122232425262728292a2b2c2d2e2f303132333435363738393a3b3c3d3e3f404142434445464748494a4b4c4d4e4f505152535455565758595a5b5c5d5e5f606162636465666768696a6b6c6d6e6f707172737475767778797a7b7c7d7e7f808182838485868788898a8b8c8d8e8f909192939495969798999a9b9c9d9e9fa0a1a2a3a4a5a6a7a8a9aaabacadaeafb0b1b2b3b4b5b6b7b8b9babbbcbdbebfc0c1c2c3c4c5c6c7c8c9cacbcccdcecfd0d1d2d3d4d5d6d7d8d9dadbdcdddedfe0e1e2e3e4e5e6e7e8e9eaebecedeeeff0f1f2f3f4f5f6f7f8f9fafbfcfdfeff";
 
-/// A line that is being composed.
+/// A line, or several, that are being composed.
 #[derive(Drop)]
 pub struct LineText {
     bytes: [u8; CAPACITY],
@@ -33,7 +34,7 @@ impl Model for LineText {
 
     ghost view = { λ l. take l.len l.bytes };
 
-    ghost invariant = { λ l. l.len ≤ line_room };
+    ghost invariant = { λ l. l.len ≤ page_room };
 }
 
 impl LineText {
@@ -46,6 +47,30 @@ impl LineText {
             bytes: [0; CAPACITY],
             len: 0,
         }
+    }
+
+    /// How many bytes there are.
+    #[inline(always)]
+    pub fn len(&self) -> usize
+        ensures { result ≡ length self.now }
+    {
+        self.len
+    }
+
+    /// All bytes.
+    #[inline(always)]
+    pub fn all(&self) -> &[u8]
+        ensures { result.now ≡ self.now }
+    {
+        &self.bytes[..self.len]
+    }
+
+    /// No bytes are left.
+    #[inline(always)]
+    pub fn clear(&mut self)
+        ensures { self.new ≡ [] }
+    {
+        self.len = 0;
     }
 
     /// The bytes after the first one, which is the blank before the first word.
@@ -193,7 +218,7 @@ impl LineText {
 
     /// Appends the decimal digits of `n`.
     #[inline(always)]
-    fn decimal_digits(&mut self, n: u64)
+    pub fn decimal_digits(&mut self, n: u64)
         requires { length self.old + 20 ≤ CAPACITY }
         ensures text { self.new ≡ self.old ++ decimal n }
         ensures len { length self.new ≤ length self.old + 20 }

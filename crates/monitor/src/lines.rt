@@ -1,6 +1,6 @@
 ghost use Rattle.std.specs.Prelude.{◌≡◌, ◌+◌, ◌^◌, ◌<◌, ◌≤◌, ◌∷◌, ◌++◌, length, map, decimal, Ok};
 ghost use Rattle.std.specs.List.{join_with_byte};
-ghost use Rattle.monitor.specs.LineText.{arguments_room, arrow_room, call_room, decimal_room, hex_room, reply_room, step_room, with_words};
+ghost use Rattle.monitor.specs.LineText.{arguments_room, decimal_room, hex_room, line_room, op_room, page_room, reply_room, with_words};
 ghost use Rattle.monitor.specs.Sinks.{Puts};
 ghost use Rattle.monitor.specs.Words.{bit_of, hex, hex_or_dash, actor_word, board_words, event_words, line_of, op_words, reply_words};
 
@@ -25,7 +25,6 @@ pub fn print_head<W: Sink>(config: &Config, sink: &mut W) -> Result<(), Failed>
 }
 
 /// Prints the line of a step and of what it answered.
-#[inline(always)]
 pub fn print_line<W: Sink>(
     actor: Actor,
     op: Op,
@@ -36,26 +35,9 @@ pub fn print_line<W: Sink>(
     ensures { Puts W.written W.failures sink.old sink.new result
         (line_of (event_words actor op answer)) }
 {
-    print_step(actor, &op, &answer, sink)
-}
-
-/// The same, of an operation and an answer where they stand: copies of them cost more than their words.
-fn print_step<W: Sink>(
-    actor: Actor,
-    op: &Op,
-    answer: &Result<Reply, Refusal>,
-    sink: &mut W,
-) -> Result<(), Failed>
-    requires { W.failures sink.old < 2 ^ 63 }
-    ensures { Puts W.written W.failures sink.old sink.new result
-        (line_of (event_words actor op.now answer.now)) }
-{
     let mut line = LineText::new();
-    actor_onto(&mut line, actor);
-    op_onto(&mut line, op);
-    line.word(b"->");
-    reply_onto(&mut line, answer);
-    line.put(sink)
+    step_onto(&mut line, actor, &op, &answer);
+    write_all(sink, line.all())
 }
 
 /// Prints the line of an accepted step.
@@ -78,21 +60,36 @@ pub fn print_reply<W: Sink>(answer: Result<Reply, Refusal>, sink: &mut W) -> Res
     write_all(sink, line.as_bytes())
 }
 
+/// Appends the line of a step and of what it answered.
+pub fn step_onto(line: &mut LineText, actor: Actor, op: &Op, answer: &Result<Reply, Refusal>)
+    requires { length line.old + line_room ≤ page_room }
+    ensures text { line.new ≡ line.old ++ line_of (event_words actor op.now answer.now) }
+    ensures len { length line.new ≤ length line.old + line_room }
+{
+    actor_onto(line, actor);
+    op_onto(line, op);
+    line.word(b"->");
+    reply_onto(line, answer);
+    line.text(b"\n");
+}
+
+#[inline(always)]
 fn actor_onto(line: &mut LineText, actor: Actor)
-    requires { length line.old ≡ 0 }
-    ensures text { line.new ≡ line.old ++ 32 ∷ actor_word actor }
-    ensures len { length line.new ≤ decimal_room }
+    requires { length line.old + decimal_room ≤ page_room }
+    ensures text { line.new ≡ line.old ++ actor_word actor }
+    ensures len { length line.new ≤ length line.old + decimal_room }
 {
     match actor {
-        Actor::Hart(hart) => line.decimal(hart),
-        Actor::Clock => line.word(b"c"),
+        Actor::Hart(hart) => line.decimal_digits(hart),
+        Actor::Clock => line.text(b"c"),
     }
 }
 
+#[inline(always)]
 fn op_onto(line: &mut LineText, op: &Op)
-    requires { length line.old ≤ decimal_room }
+    requires { length line.old + op_room ≤ page_room }
     ensures text { line.new ≡ with_words line.old (op_words op.now) }
-    ensures len { length line.new ≤ step_room }
+    ensures len { length line.new ≤ length line.old + op_room }
 {
     match *op {
         Op::Ecall(regs) => {
@@ -130,7 +127,7 @@ fn op_onto(line: &mut LineText, op: &Op)
 #[inline(always)]
 fn hex_onto(line: &mut LineText, name: &[u8], n: u64)
     requires name { length name.now ≤ 8 }
-    requires room { length line.old ≤ arrow_room }
+    requires room { length line.old + 9 + hex_room ≤ page_room }
     ensures text { line.new ≡ (line.old ++ 32 ∷ name.now) ++ 32 ∷ hex n }
     ensures len { length line.new ≤ length line.old + 9 + hex_room }
 {
@@ -142,7 +139,7 @@ fn hex_onto(line: &mut LineText, name: &[u8], n: u64)
 #[inline(always)]
 fn decimal_onto(line: &mut LineText, name: &[u8], n: u64)
     requires name { length name.now ≤ 8 }
-    requires room { length line.old ≤ arrow_room }
+    requires room { length line.old + 9 + decimal_room ≤ page_room }
     ensures text { line.new ≡ (line.old ++ 32 ∷ name.now) ++ 32 ∷ decimal n }
     ensures len { length line.new ≤ length line.old + 9 + decimal_room }
 {
@@ -152,7 +149,7 @@ fn decimal_onto(line: &mut LineText, name: &[u8], n: u64)
 
 /// Appends a number, or a dash where it is absent.
 fn hex_or_dash_onto(line: &mut LineText, n: Option<u64>)
-    requires { length line.old ≤ call_room }
+    requires { length line.old + hex_room ≤ page_room }
     ensures text { line.new ≡ line.old ++ 32 ∷ hex_or_dash n }
     ensures len { length line.new ≤ length line.old + hex_room }
 {
@@ -163,7 +160,7 @@ fn hex_or_dash_onto(line: &mut LineText, n: Option<u64>)
 }
 
 fn reply_onto(line: &mut LineText, answer: &Result<Reply, Refusal>)
-    requires { length line.old ≤ arrow_room }
+    requires { length line.old + reply_room ≤ page_room }
     ensures text { line.new ≡ with_words line.old (reply_words answer.now) }
     ensures len { length line.new ≤ length line.old + reply_room }
     ensures some { 0 < length line.new }
@@ -200,7 +197,7 @@ pub fn bit(value: bool) -> u64
 
 /// Appends the arguments of a call. Most calls have at most two, and the others are 0.
 fn arguments_onto(line: &mut LineText, arguments: &[u64; 6])
-    requires { length line.old ≤ call_room }
+    requires { length line.old + arguments_room ≤ page_room }
     ensures text { line.new ≡ with_words line.old (map hex arguments.now) }
     ensures len { length line.new ≤ length line.old + arguments_room }
 {

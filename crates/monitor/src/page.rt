@@ -1,0 +1,75 @@
+ghost use Rattle.std.specs.Prelude.{◌≡◌, ℕ, ◌^◌, ◌<◌, List, [], OnOk};
+ghost use Rattle.monitor.specs.Sinks.{Passes, Puts};
+ghost use Rattle.monitor.specs.Words.{event_words, line_of};
+
+use crate::line_text::{CAPACITY, LineText};
+use crate::lines::step_onto;
+use crate::sink::{Failed, Sink, write_all};
+use board_core::{Actor, Op, Refusal, Reply};
+use std::marker::Model;
+
+/// The most bytes of a line.
+const LINE_ROOM: usize = 256;
+
+/// Lines on their way to a sink, which takes them some at a time. Those that wait are lost with the page.
+#[derive(Drop)]
+pub struct Page {
+    text: LineText,
+}
+
+impl Model for Page {
+    ghost Value = { List ℕ };
+
+    ghost view = { λ p. p.text };
+}
+
+impl Page {
+    /// A page on which nothing waits.
+    #[inline(always)]
+    pub fn new() -> Page
+        ensures { result ≡ [] }
+    {
+        Page {
+            text: LineText::new(),
+        }
+    }
+
+    /// Prints the line of a step and of what it answered, behind the lines that wait.
+    ///
+    /// # Errors
+    ///
+    /// A write of the lines that waited failed.
+    #[inline(always)]
+    pub fn print_step<W: Sink>(
+        &mut self,
+        actor: Actor,
+        op: &Op,
+        answer: &Result<Reply, Refusal>,
+        sink: &mut W,
+    ) -> Result<(), Failed>
+        requires { W.failures sink.old < 2 ^ 63 }
+        ensures { Passes W.written W.failures sink.old sink.new result self.old self.new
+            (line_of (event_words actor op.now answer.now)) }
+    {
+        if self.text.len() > CAPACITY - LINE_ROOM {
+            self.put(sink)?;
+        }
+        step_onto(&mut self.text, actor, op, answer);
+        Ok(())
+    }
+
+    /// Writes the lines that wait.
+    ///
+    /// # Errors
+    ///
+    /// A write failed.
+    pub fn put<W: Sink>(&mut self, sink: &mut W) -> Result<(), Failed>
+        requires { W.failures sink.old < 2 ^ 63 }
+        ensures text { Puts W.written W.failures sink.old sink.new result self.old }
+        ensures none { OnOk result (self.new ≡ []) }
+    {
+        write_all(sink, self.text.all())?;
+        self.text.clear();
+        Ok(())
+    }
+}
