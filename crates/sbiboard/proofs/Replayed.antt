@@ -38,6 +38,14 @@ has_written-more before middle after others piece rest whole are so_far more = r
   whole_is = append_assoc so_far.done piece rest ∙ ap (λ text. so_far.done ++ text) (sym are) ∙ so_far.whole_is;
 }
 
+-- what waits on a page behind what was written, and then the text of the other lines, are the whole text
+pub has_written-passed : (before middle after : Option (List ℕ)) (taken waiting later line others rest whole : List ℕ) → others ≡ line ++ rest
+    → taken ++ later ≡ waiting ++ line → HasWritten before middle (waiting ++ others) whole → Appends middle after taken → HasWritten before after (later ++ rest) whole
+has_written-passed before middle after taken waiting later line others rest whole are passes so_far more =
+    has_written-more before middle after (waiting ++ others) taken (later ++ rest) whole
+    (ap (λ text. waiting ++ text) are ∙ sym (append_assoc waiting line rest) ∙ ap (λ text. text ++ rest) (sym passes) ∙ append_assoc taken later rest)
+    so_far more
+
 module _ (b next : Course) (others rest : List Line) (line : Line) (are : others ≡ line ∷ rest)
     (stepped_is : next ≡ stepped b line.actor line.op) where
   pub replaying-more : (first : Course) (lines : List Line) (met full : Bool) → full ≡ is_history_full (answer_of b line)

@@ -11,7 +11,7 @@ use crate::outcome::Outcome;
 use crate::running::{Job, run};
 use board_core::{Board, Config, Refusal, Reply};
 use guest_script::Lines;
-use monitor::{Failed, Sink, print, print_head, print_line};
+use monitor::{Failed, Page, Sink, print, print_head};
 use std::alloc::Global;
 
 /// Reads a schedule to its end, makes its board, and writes the board line, each line with its reply, and
@@ -85,6 +85,7 @@ fn print_lines<W: Sink>(lines: &Lines, board: &mut Board, writer: &mut W) -> Res
     ensures course { IfOk result (λ _. board.new ≡ course_after board.old lines.now) }
 {
     let mut met_full = false;
+    let mut page = Page::new();
     for line in lines.iter() {
         let actor = line.actor();
         let op = line.op();
@@ -92,8 +93,9 @@ fn print_lines<W: Sink>(lines: &Lines, board: &mut Board, writer: &mut W) -> Res
         op_fits(op);
         answer_fits(answer);
         met_full |= is_history_full(&answer);
-        print_line(actor, op, answer, writer)?;
+        page.print_step(actor, &op, &answer, writer)?;
     }
+    page.put(writer)?;
     Ok(met_full)
 }
 
