@@ -5,6 +5,7 @@ ghost use Rattle.monitor.specs.Sinks.{Puts};
 ghost use Rattle.monitor.specs.Words.{bit_of, hex, hex_or_dash, actor_word, board_words, event_words, line_of, op_words, reply_words};
 
 use crate::line_text::LineText;
+use crate::page::Page;
 use crate::sink::{Failed, Sink, write_all};
 use board_core::{Actor, Config, Event, Op, Refusal, Reply};
 
@@ -35,9 +36,9 @@ pub fn print_line<W: Sink>(
     ensures { Puts W.written W.failures sink.old sink.new result
         (line_of (event_words actor op answer)) }
 {
-    let mut line = LineText::new();
-    step_onto(&mut line, actor, &op, &answer);
-    write_all(sink, line.all())
+    let mut page = Page::new();
+    page.print_step(actor, op, answer, sink)?;
+    page.put(sink)
 }
 
 /// Prints the line of an accepted step.
@@ -56,14 +57,15 @@ pub fn print_reply<W: Sink>(answer: Result<Reply, Refusal>, sink: &mut W) -> Res
         (join_with_byte 32 (reply_words answer)) }
 {
     let mut line = LineText::new();
-    reply_onto(&mut line, &answer);
+    reply_onto(&mut line, answer);
     write_all(sink, line.as_bytes())
 }
 
 /// Appends the line of a step and of what it answered.
-pub fn step_onto(line: &mut LineText, actor: Actor, op: &Op, answer: &Result<Reply, Refusal>)
+#[inline(always)]
+pub fn step_onto(line: &mut LineText, actor: Actor, op: Op, answer: Result<Reply, Refusal>)
     requires { length line.old + line_room ≤ page_room }
-    ensures text { line.new ≡ line.old ++ line_of (event_words actor op.now answer.now) }
+    ensures text { line.new ≡ line.old ++ line_of (event_words actor op answer) }
     ensures len { length line.new ≤ length line.old + line_room }
 {
     actor_onto(line, actor);
@@ -86,12 +88,12 @@ fn actor_onto(line: &mut LineText, actor: Actor)
 }
 
 #[inline(always)]
-fn op_onto(line: &mut LineText, op: &Op)
+fn op_onto(line: &mut LineText, op: Op)
     requires { length line.old + op_room ≤ page_room }
-    ensures text { line.new ≡ with_words line.old (op_words op.now) }
+    ensures text { line.new ≡ with_words line.old (op_words op) }
     ensures len { length line.new ≤ length line.old + op_room }
 {
-    match *op {
+    match op {
         Op::Ecall(regs) => {
             line.word(b"ecall");
             line.hex(regs.eid);
@@ -159,13 +161,14 @@ fn hex_or_dash_onto(line: &mut LineText, n: Option<u64>)
     }
 }
 
-fn reply_onto(line: &mut LineText, answer: &Result<Reply, Refusal>)
+#[inline(always)]
+fn reply_onto(line: &mut LineText, answer: Result<Reply, Refusal>)
     requires { length line.old + reply_room ≤ page_room }
-    ensures text { line.new ≡ with_words line.old (reply_words answer.now) }
+    ensures text { line.new ≡ with_words line.old (reply_words answer) }
     ensures len { length line.new ≤ length line.old + reply_room }
     ensures some { 0 < length line.new }
 {
-    match *answer {
+    match answer {
         Ok(Reply::Ret(answer)) => {
             line.word(b"ret");
             line.signed(answer.error);

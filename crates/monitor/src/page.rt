@@ -39,17 +39,17 @@ impl Page {
     /// # Errors
     ///
     /// A write of the lines that waited failed.
-    #[inline(always)]
+    #[inline(never)]
     pub fn print_step<W: Sink>(
         &mut self,
         actor: Actor,
-        op: &Op,
-        answer: &Result<Reply, Refusal>,
+        op: Op,
+        answer: Result<Reply, Refusal>,
         sink: &mut W,
     ) -> Result<(), Failed>
         requires { W.failures sink.old < 2 ^ 63 }
         ensures { Passes W.written W.failures sink.old sink.new result self.old self.new
-            (line_of (event_words actor op.now answer.now)) }
+            (line_of (event_words actor op answer)) }
     {
         if self.text.len() > CAPACITY - LINE_ROOM {
             self.put(sink)?;

@@ -93,7 +93,7 @@ fn print_lines<W: Sink>(lines: &Lines, board: &mut Board, writer: &mut W) -> Res
         op_fits(op);
         answer_fits(answer);
         met_full |= is_history_full(&answer);
-        page.print_step(actor, &op, &answer, writer)?;
+        page.print_step(actor, op, answer, writer)?;
     }
     page.put(writer)?;
     Ok(met_full)
