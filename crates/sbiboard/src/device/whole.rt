@@ -9,7 +9,13 @@ use monitor::Failed;
 use std::alloc::{AllocError, Global};
 use thiserror::Error;
 
+/// The most bytes of one read.
 const PIECE: usize = 131_072;
+
+const LARGE_PAGE: usize = 2_097_152;
+
+/// What an allocator may keep in front of a block that it has from the system.
+const KEPT_IN_FRONT: usize = 4_096;
 
 /// Why bytes were not read.
 #[derive(Clone, Copy, Debug, PartialEq, Eq, Error)]
@@ -52,8 +58,7 @@ pub fn read_whole<S: Source>(
     ensures end { IfOk result (λ v. length v.items < limit → IsAtEnd (S.left source.new)) }
     ensures failed { CountsReading (S.failures source.old) (S.failures source.new) result }
 {
-    // (one byte more, so that the read which finds the end has room)
-    let room = limit.min(source.expected().saturating_add(1));
+    let room = limit.min(room_for(source.expected()));
     let mut bytes = with_room(alloc, room);
     let mut filled = 0;
     while filled < limit {
@@ -67,6 +72,19 @@ pub fn read_whole<S: Source>(
         filled += count;
     }
     Ok(bytes)
+}
+
+/// Room for so many bytes, and for one more, so that the read that finds the end has room. Large room takes up whole
+/// large pages, which systems give only to memory that begins and ends with them.
+fn room_for(expected: usize) -> usize {
+    let wanted = expected.saturating_add(1);
+    if wanted < LARGE_PAGE {
+        return wanted;
+    }
+    let pages = wanted.saturating_add(KEPT_IN_FRONT).div_ceil(LARGE_PAGE);
+    pages
+        .saturating_mul(LARGE_PAGE)
+        .saturating_sub(KEPT_IN_FRONT)
 }
 
 fn with_room(alloc: Global, room: usize) -> Vec<u8>
