@@ -74,9 +74,12 @@ pub fn read_whole<S: Source>(
     Ok(bytes)
 }
 
-/// Room for so many bytes, and for one more, so that the read that finds the end has room. Large room takes up whole
-/// large pages, which systems give only to memory that begins and ends with them.
+/// Room for as many bytes as are expected, if any are, and for one more, so that the read that finds the end has room.
+/// Large room takes up whole large pages, which systems give only to memory that begins and ends with them.
 fn room_for(expected: usize) -> usize {
+    if expected == 0 {
+        return 0;
+    }
     let wanted = expected.saturating_add(1);
     if wanted < LARGE_PAGE {
         return wanted;
