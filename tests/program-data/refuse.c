@@ -1,13 +1,15 @@
 /* Loaded before the program's libraries: writes the size of each allocation, a line each, to the descriptor
    SIZES, and refuses the one whose number, from 1, is REFUSED, and the thread whose number is THREAD. Of the calls that
    open, read and write, the one whose number is FAILED fails with the error ERROR, and none moves more than MOST bytes,
-   if that is given. */
+   if that is given. LENGTH is what every file's length is said to be, if that is given; where it is "none", the length can't be
+   asked. */
 typedef __SIZE_TYPE__ size_t;
 
 /* (no headers, which the toolchain's own compiler lacks) */
 int *__errno_location(void);
 char *getenv(const char *name);
 int atoi(const char *text);
+unsigned long long strtoull(const char *text, char **end, int base);
 int snprintf(char *to, size_t room, const char *form, ...);
 long __write(int to, const void *from, size_t size);
 long __read(int from, void *to, size_t size);
@@ -19,8 +21,8 @@ void *__libc_realloc(void *old, size_t size);
 void *__libc_memalign(size_t alignment, size_t size);
 void *dlsym(void *library, const char *name);
 
-/* EAGAIN, ENOMEM */
-enum { NO_THREAD = 11, NO_MEMORY = 12 };
+/* EAGAIN, ENOMEM, ENOSYS */
+enum { NO_THREAD = 11, NO_MEMORY = 12, NO_CALL = 38 };
 
 static int number_in(const char *name)
 {
@@ -107,4 +109,22 @@ long read(int from, void *to, size_t size)
 long write(int to, const void *from, size_t size)
 {
     return fails() ? -1 : __write(to, from, moved(size));
+}
+
+typedef int ask_status(int, const char *, int, unsigned, void *);
+
+int statx(int from, const char *name, int flags, unsigned wanted, void *told)
+{
+    const char *length = getenv("LENGTH");
+    /* (RTLD_NEXT) */
+    ask_status *ask = (ask_status *)dlsym((void *)-1, "statx");
+    if (!ask || (length && *length == 'n')) {
+        *__errno_location() = NO_CALL;
+        return -1;
+    }
+    int status = ask(from, name, flags, wanted, told);
+    /* (stx_size) */
+    if (!status && length)
+        *(unsigned long long *)((char *)told + 40) = strtoull(length, 0, 10);
+    return status;
 }

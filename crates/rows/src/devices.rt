@@ -244,11 +244,16 @@ pub fn check_writes(alloc: Global, task: Task) -> Result<u64> {
     Ok(last)
 }
 
-/// Shows how much is read within limits, of the schedule and of what has no end.
+/// Shows how much is read within limits, of the schedule, however much is expected of it, and of what has no end.
 pub fn show_limits<R: AllocGlobal + Print>(rt: &R) -> Result<()> {
     for limit in [0, 1, 61, 62, 63] {
         let bytes = read_whole(rt.alloc(), &mut Device::new(SCHEDULE), limit)?;
         println!(rt; "{limit}: {} {}", bytes.len(), SCHEDULE.starts_with(&bytes))?;
+        for expected in [1, 61, 62, 63, usize::MAX] {
+            let mut device = Device::expecting(SCHEDULE, expected);
+            let same = read_whole(rt.alloc(), &mut device, limit)? == bytes;
+            ensure!(same, "{limit}, {expected}: other bytes");
+        }
     }
     let mut endless = Device::new(io::repeat(b'#'));
     let bytes = read_whole(rt.alloc(), &mut endless, 1_000_001)?;

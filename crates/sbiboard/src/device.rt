@@ -21,6 +21,7 @@ pub struct Device<T> {
     inner: T,
     failures: u64,
     flushed: bool,
+    expected: usize,
 }
 
 impl<T> Model for Device<T> {
@@ -34,10 +35,18 @@ impl<T> Device<T> {
     pub fn new(inner: T) -> Device<T>
         ensures { result ≡ record { inner = inner; failures = 0; flushed = false } }
     {
+        Device::expecting(inner, 0)
+    }
+
+    /// The same, of a reader that has about so many bytes.
+    pub fn expecting(inner: T, expected: usize) -> Device<T>
+        ensures { result ≡ record { inner = inner; failures = 0; flushed = false } }
+    {
         Device {
             inner,
             failures: 0,
             flushed: false,
+            expected,
         }
     }
 
@@ -49,6 +58,7 @@ impl<T> Device<T> {
             inner,
             failures: _,
             flushed: _,
+            expected: _,
         } = self;
         inner
     }
@@ -125,5 +135,9 @@ impl<T: Read> Source for Device<T> {
     fn read(&mut self, buffer: &mut [u8]) -> Result<usize, Failed> {
         let answer = self.inner.read(buffer);
         self.hand_on(answer)
+    }
+
+    fn expected(&self) -> usize {
+        self.expected
     }
 }

@@ -4,6 +4,7 @@
 
 use hart_threads::Open;
 use sbiboard::{Device, Outcome, Stop, Task, check, command, ended, replay, run_script};
+use std::fs::OpenFile;
 use std::io::BufWriter;
 use std::process::ExitCode;
 use std::rt::{Env, Files};
@@ -23,7 +24,9 @@ fn run<R: AllocGlobal + Env + Files + Print + Threads + Wait + Sync>(
     let words = env::args(rt)?.collect::<Vec<String>>(rt.alloc())?;
     let task = command(rt.alloc(), words.as_slice())?;
     let (Task::Run(file) | Task::Replay(file) | Task::Check(file)) = task;
-    let mut reader = Device::new(fs::open(rt, file)?);
+    let script = fs::open(rt, file)?;
+    let expected = length_of(&script);
+    let mut reader = Device::expecting(script, expected);
     let output = BufWriter::with_capacity(rt.alloc(), BUFFER, io::writer(rt))?;
     let mut writer = Device::new(output);
     Ok(match task {
@@ -31,4 +34,12 @@ fn run<R: AllocGlobal + Env + Files + Print + Threads + Wait + Sync>(
         Task::Replay(_) => replay(rt.alloc(), &mut reader, &mut writer),
         Task::Check(_) => check(rt.alloc(), &mut reader, &mut writer),
     })
+}
+
+/// The length of a file, as the system tells it: a pipe's is 0.
+fn length_of(file: &impl OpenFile) -> usize {
+    match file.metadata() {
+        Ok(found) => usize::try_from(found.len()).unwrap_or(0),
+        Err(_) => 0,
+    }
 }

@@ -19,4 +19,10 @@ pub trait Source {
         ensures bound { IfOk result (λ n. n ≤ length buffer.new) }
         ensures bytes { ReadConsumes (left self.old) (left self.new) result buffer.new }
         ensures failed { CountsCall (failures self.old) (failures self.new) result };
+
+    /// About how many bytes are still to come, where that is known, and else 0. Nothing rests on it but how much
+    /// memory is taken at once.
+    fn expected(&self) -> usize {
+        0
+    }
 }
