@@ -1,5 +1,5 @@
 -- Programs: what a script has its board's threads do (profile).
-use Rattle.std.specs.Prelude.{ℕ, List, []}
+use Rattle.std.specs.Prelude.{List, []}
 use Rattle.guest_script.specs.Grammar.{Content, Guest, Empty, Program, Schedule, Trace}
 
 -- A script is a program, or an empty script, which serves as one.
