@@ -4,6 +4,7 @@ pub mod Leaves
 pub mod Lives
 pub mod Gone
 pub mod Right
+pub mod InCalls
 pub mod Reached
 pub mod Once
 pub mod Counted

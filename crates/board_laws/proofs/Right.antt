@@ -40,13 +40,13 @@ use Rattle.board_core.specs.States.{One, move_by, move_by_call, move_of, moved_t
 -- ---- what an answer says of its step
 
 -- an operation that isn't refused is of a hart that is there, in its phase, and has something to do
-record IsTaken (c : Config) (past : List Event) (x : ℕ) (op : Op) (r : Reply) : Type 0 where
-  inside : x < c.harts
-  in_phase : is_out_of_phase op (situation c past x) ≡ false
-  to_do : has_nothing_to_do op (situation c past x) ≡ false
-  replied : reply c past x op ≡ r
+pub record IsTaken (c : Config) (past : List Event) (x : ℕ) (op : Op) (r : Reply) : Type 0 where
+  pub inside : x < c.harts
+  pub in_phase : is_out_of_phase op (situation c past x) ≡ false
+  pub to_do : has_nothing_to_do op (situation c past x) ≡ false
+  pub replied : reply c past x op ≡ r
 
-taken : (c : Config) (past : List Event) (x : ℕ) (op : Op) (r : Reply) → answer c past (Hart x) op ≡ Ok r → IsTaken c past x op r
+pub taken : (c : Config) (past : List Event) (x : ℕ) (op : Op) (r : Reply) → answer c past (Hart x) op ≡ Ok r → IsTaken c past x op r
 taken c past x op r e = by_tests (is_off past) (nat_le c.harts x) (is_out_of_phase op (situation c past x)) (has_nothing_to_do op (situation c past x)) (is_full c past) refl refl refl e
   where
     by_tests : (off missing out idle full : Bool) → nat_le c.harts x ≡ missing → is_out_of_phase op (situation c past x) ≡ out → has_nothing_to_do op (situation c past x) ≡ idle

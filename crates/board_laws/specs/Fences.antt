@@ -1,5 +1,6 @@
 -- The fences that have reached a hart, its own and those of others (SBI 8; Privileged 4.2.1; Zifencei).
 use Rattle.std.specs.Prelude.{◌≡◌, ℕ, ◌+◌, ◌<◌, true, List, [], if◌then◌else◌, Option, Some, None, Ok}
+use Rattle.hsm.specs.declared.hart.HartState.TheVariants.{Started}
 use Rattle.sbi_abi.specs.declared.call.Call.TheVariants.{HartStop}
 use Rattle.sbi_abi.specs.declared.call.Regs.{Regs}
 use Rattle.sbi_abi.specs.Calls.{call_of}
@@ -13,9 +14,10 @@ use Rattle.board_core.specs.declared.event.Actor.TheVariants.{Hart}
 use Rattle.board_core.specs.declared.event.Op.{Op}
 use Rattle.board_core.specs.declared.event.Op.TheVariants.{Ecall, FenceI, Poll, Sfence}
 use Rattle.board_core.specs.declared.event.Reply.TheVariants.{Gone, Waiting}
-use Rattle.board_core.specs.Fences.{Remote, is_asked_by, remote_of, turn_of, turns, waiting}
+use Rattle.board_core.specs.Fences.{Remote, is_asked_by, outstanding, remote_of, turn_of, turns, waiting}
 use Rattle.board_core.specs.History.{Event}
 use Rattle.board_core.specs.Resets.{reset_by}
+use Rattle.board_core.specs.States.{state}
 use Rattle.board_laws.specs.Lives.{live_entries, live_words}
 use Rattle.board_laws.specs.Places.{IsAt, past_at}
 
@@ -83,3 +85,7 @@ pub record LeavesNothing (c : Config) (past : List Event) (t : ℕ) : Type 0 whe
   pub entries : live_entries c past t ≡ []
   pub words : live_words c past t ≡ []
   pub waiting : waiting c past t ≡ []
+
+-- Each hart inside a fence call is STARTED: it made the call, and waits for the call's end (SBI 8; that a call waits: profile).
+abbrev pub CallsAreMadeStarted : Config → List Event → Type 0
+CallsAreMadeStarted c past = (h : ℕ) (harts : List ℕ) → outstanding c past h ≡ Some harts → state c past h ≡ Started

@@ -9,7 +9,7 @@ ghost use Rattle.board_core.specs.History.{Event};
 ghost use Rattle.board_core.specs.Limits.{IsGood};
 ghost use Rattle.board_core.specs.Replies.{IsLegal};
 ghost use Rattle.board_core.specs.Totals.{totals};
-ghost use Rattle.board_laws.specs.Fences.{AppliedOnce, Asks, LeavesNothing, Stops};
+ghost use Rattle.board_laws.specs.Fences.{AppliedOnce, Asks, CallsAreMadeStarted, LeavesNothing, Stops};
 ghost use Rattle.board_laws.specs.Places.{IsAt};
 
 /// In every legal history of a good board a hart asks for fences outside of a call, and of harts that are there; it
@@ -39,4 +39,9 @@ pub fn fences_are_counted()
 /// After a hart's stop nothing lives in its caches, and no fence waits there (profile).
 pub fn stops_leave_nothing()
     ensures { (c : Config) (event : Event) (past : List Event) (t : ℕ) → Stops event t → LeavesNothing c (event ∷ past) t }
+{}
+
+/// In every legal history a hart inside a fence call is STARTED (SBI 8; that a call waits: profile).
+pub fn calls_are_made_started()
+    ensures { (c : Config) (past : List Event) → IsLegal c past → CallsAreMadeStarted c past }
 {}

@@ -1,4 +1,5 @@
 pub mod Actors
 pub mod Places
 pub mod Growing
+pub mod Ops
 pub mod Sums

@@ -8,10 +8,11 @@ use Rattle.std.proofs.lemmas.List.{length-append, take_more}
 use Rattle.board_core.specs.declared.config.Config.{Config}
 use Rattle.board_core.specs.declared.event.Actor.{Actor}
 use Rattle.board_core.specs.History.{Event}
-use Rattle.board_lock.specs.Events.{IsActor, events_of, is_same}
+use Rattle.board_lock.specs.Events.{IsActor, events_of, is_same, ops_of}
 use Rattle.board_lock.specs.Kept.{count_of}
 use Rattle.board_lock.specs.Seats.{IsOneEach, Sitting, seats_of}
-use Rattle.board_lock.specs.Settling.{IsSettling, Within, counts}
+use Rattle.board_lock.specs.Settling.{IsSettling, Knows, Within, counts}
+use Rattle.board_lock.proofs.Ops.{knows-more}
 use Rattle.board_lock.proofs.Places.{count_of-append, length-events}
 
 pub seats_of-append : (a : Actor) (xs ys : List Sitting) → seats_of a (xs ++ ys) ≡ seats_of a xs + seats_of a ys
@@ -86,12 +87,13 @@ saw-within es seen a count prefix saw =
     omega arith
 
 pub settling-more : (es : List Event) (ss : List Sitting) (parts parts' amount amount' : ℕ) (s : Sitting) → IsSettling es ss parts amount → parts' ≡ parts + 1 → amount' ≡ amount + s.count
-    → s.count ≤ count_of s.actor es → IsSettling es (ss ++ s ∷ []) parts' amount'
-settling-more es ss parts parts' amount amount' s at part more within =
+    → s.count ≤ count_of s.actor es → (s.count ≡ count_of s.actor es → ops_of s.actor es ≡ s.ops) → IsSettling es (ss ++ s ∷ []) parts' amount'
+settling-more es ss parts parts' amount amount' s at part more within knows =
     record {
       parts_are = (let many = at.parts_are in omega (arith, length-append ss (s ∷ [])));
       amount_is = more ∙ ap (λ (n : ℕ). n + s.count) at.amount_is ∙ sym (counts-more ss s);
       within = within-more es ss s at.within within;
+      knows = knows-more es ss s at.knows knows;
     }
 
 -- what holds of each holds at each place
@@ -99,6 +101,12 @@ pub equal-at : (es : List Event) (ss : List Sitting) → Equal es ss → (k : �
 equal-at es [] all k d inside = absurd (omega arith)
 equal-at es (s ∷ ss) all zero d inside = all.0
 equal-at es (s ∷ ss) all (suc k) d inside = equal-at es ss all.1 k d (omega arith)
+
+-- a seat that counts all events of its actor knows their operations, so each does
+pub known-at : (es : List Event) (ss : List Sitting) → Equal es ss → Knows es ss → (k : ℕ) (d : Sitting) → k < length ss → ops_of (get_or ss k d).actor es ≡ (get_or ss k d).ops
+known-at es [] all knows k d inside = absurd (omega arith)
+known-at es (s ∷ ss) all knows zero d inside = knows.0 (sym all.0 ∙ length-events 0 s.actor es)
+known-at es (s ∷ ss) all knows (suc k) d inside = known-at es ss all.1 knows.1 k d (omega arith)
 
 pub closes : (c : Config) (es : List Event) (ss : List Sitting) → IsOneEach c ss → AllByRecursion (λ (e : Event). IsActor c e.actor) es → Within es ss
     → counts ss ≡ length es → Equal es ss

@@ -1,8 +1,9 @@
 -- The events of one actor.
-use Rattle.std.specs.Prelude.{ℕ, ◌+◌, ◌<◌, ◌==◌, Bool, true, false, if◌then◌else◌, List, [], ◌∷◌, reverse}
+use Rattle.std.specs.Prelude.{ℕ, ◌+◌, ◌<◌, ◌==◌, Bool, true, false, if◌then◌else◌, List, [], ◌∷◌, map, reverse}
 use Rattle.board_core.specs.declared.config.Config.{Config}
 use Rattle.board_core.specs.declared.event.Actor.{Actor}
 use Rattle.board_core.specs.declared.event.Actor.TheVariants.{Hart, Clock}
+use Rattle.board_core.specs.declared.event.Op.{Op}
 use Rattle.board_core.specs.Course.{Course}
 use Rattle.board_core.specs.History.{Event}
 
@@ -30,3 +31,7 @@ events_from n a (e ∷ es) = if is_same a e.actor then (n, e) ∷ events_from (n
 -- The events of an actor in order, with their places.
 abbrev pub events_of : Actor → List Event → List (ℕ × Event)
 events_of a es = events_from 0 a es
+
+-- The operations of an actor's events, in order.
+abbrev pub ops_of : Actor → List Event → List Op
+ops_of a es = map (λ placed. placed.1.op) (events_of a es)

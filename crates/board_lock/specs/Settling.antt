@@ -2,6 +2,7 @@
 use Rattle.std.specs.Prelude.{◌≡◌, ℕ, ◌+◌, ◌≤◌, List, [], ◌∷◌, length}
 use Rattle.std.specs.List.{AllByRecursion}
 use Rattle.board_core.specs.History.{Event}
+use Rattle.board_lock.specs.Events.{ops_of}
 use Rattle.board_lock.specs.Kept.{count_of}
 use Rattle.board_lock.specs.Seats.{Sitting}
 
@@ -14,8 +15,13 @@ counts (s ∷ ss) = s.count + counts ss
 abbrev pub Within : List Event → List Sitting → Type 0
 Within es ss = AllByRecursion (λ (s : Sitting). s.count ≤ count_of s.actor es) ss
 
+-- a seat that counts all events of its actor knows their operations
+abbrev pub Knows : List Event → List Sitting → Type 0
+Knows es ss = AllByRecursion (λ (s : Sitting). s.count ≡ count_of s.actor es → ops_of s.actor es ≡ s.ops) ss
+
 -- These seats gave back their parts of the ledger, with their counts, and none counts more than its events.
 pub record IsSettling (es : List Event) (ss : List Sitting) (parts amount : ℕ) : Type 0 where
   pub parts_are : parts ≡ length ss
   pub amount_is : amount ≡ counts ss
   pub within : Within es ss
+  pub knows : Knows es ss

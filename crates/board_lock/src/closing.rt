@@ -2,7 +2,7 @@ ghost use Rattle.std.specs.Prelude.{◌≡◌, ◌+◌, ◌↔◌, ℕ, All, IsT
 ghost use Rattle.board_core.specs.declared.config.Config.{Config};
 ghost use Rattle.board_core.specs.Replies.{IsLegal};
 ghost use Rattle.board_core.specs.Limits.{IsGood};
-ghost use Rattle.board_lock.specs.Events.{events_in, events_of};
+ghost use Rattle.board_lock.specs.Events.{events_in, events_of, ops_of};
 ghost use Rattle.board_lock.specs.Seats.{IsOneEach, seats_of};
 
 use crate::desk::Desk;
@@ -48,6 +48,7 @@ pub(crate) fn settle<K: Room>(desk: Desk<K>, seats: Vec<Seat<K>>) -> Record<K>
     ensures opening { result.config ≡ K.opening }
     ensures legal { IsLegal result.config result.past }
     ensures counts { All (λ s. length (events_of s.actor (events_in result)) ≡ s.count) seats.items }
+    ensures ops { All (λ s. ops_of s.actor (events_in result) ≡ s.ops) seats.items }
 {
     let Desk {
         board,

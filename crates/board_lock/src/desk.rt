@@ -1,4 +1,4 @@
-ghost use Rattle.std.specs.Prelude.{◌≡◌, ℕ, ◌+◌, ◌<◌, IfOk, OnOk, OnErr, Ok, MatchOption, length};
+ghost use Rattle.std.specs.Prelude.{◌≡◌, ℕ, ◌+◌, ◌<◌, ◌∷◌, ◌++◌, [], IfOk, OnOk, OnErr, Ok, MatchOption, length};
 ghost use Rattle.board_core.specs.declared.event.Actor.TheVariants.{Hart, Clock};
 ghost use Rattle.board_core.specs.Resets.{is_off};
 ghost use Rattle.board_core.specs.Replies.{answer, stepped};
@@ -59,6 +59,7 @@ impl<K: Room> Desk<K> {
         ensures after { OnOk result (self.new ≡ stepped self.old seat.old.actor op) }
         ensures actor { seat.new.actor ≡ seat.old.actor }
         ensures accepted { OnOk result (seat.new.count ≡ seat.old.count + 1) }
+        ensures ops { OnOk result (seat.new.ops ≡ seat.old.ops ++ op ∷ []) }
         ensures refused { OnErr result ((seat.new ≡ seat.old) × (self.new ≡ self.old)) }
     {
         let number = self.number(seat.actor);
@@ -67,6 +68,7 @@ impl<K: Room> Desk<K> {
         }
         let place = self.board.history().len();
         let reply = self.board.step(seat.actor, op)?;
+        self.log.begins_with(&seat.seen);
         self.log.push(&self.board.history()[place]);
         self.counts[number] += 1;
         self.book.add(&mut seat.share, 1);

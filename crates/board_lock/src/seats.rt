@@ -17,12 +17,13 @@ pub struct Seat<K: Room> {
 }
 
 impl<K: Room> Model for Seat<K> {
+    ghost use Rattle.board_lock.specs.Events.{ops_of};
     ghost use Rattle.board_lock.specs.Kept.{IsSeated};
     ghost use Rattle.board_lock.specs.Seats.{Sitting, sitting};
 
     ghost Value = { Sitting };
 
-    ghost view = { λ s. sitting s.actor s.count };
+    ghost view = { λ s. sitting s.actor s.count (ops_of s.actor s.seen.list) };
 
     ghost invariant = { λ s. IsSeated K.opening K.log s.actor s.count s.share.parts s.share.amount s.seen.name s.seen.list };
 }

@@ -1,8 +1,8 @@
-ghost use Rattle.std.specs.Prelude.{◌≡◌, ◌+◌, ◌↔◌, All, IfOk, IfErr, IsOk, IsErrOf, OnOk, OnErr, length};
+ghost use Rattle.std.specs.Prelude.{◌≡◌, ◌+◌, ◌↔◌, ◌∷◌, ◌++◌, [], All, IfOk, IfErr, IsOk, IsErrOf, OnOk, OnErr, length};
 ghost use Rattle.board_core.specs.declared.config.BuildFault.TheVariants.{BadConfig};
 ghost use Rattle.board_core.specs.Limits.{IsGood};
 ghost use Rattle.board_core.specs.Replies.{IsLegal};
-ghost use Rattle.board_lock.specs.Events.{events_in, events_of};
+ghost use Rattle.board_lock.specs.Events.{events_in, events_of, ops_of};
 ghost use Rattle.board_lock.specs.Seats.{IsOneEach, new_seats};
 
 use crate::closing::{is_one_each, settle};
@@ -64,6 +64,7 @@ impl<K: Room> SharedBoard<K> {
         ensures receipt { IfOk result (λ r. (r.actor ≡ seat.old.actor) × (r.op ≡ op) × (r.ordinal ≡ seat.old.count)) }
         ensures actor { seat.new.actor ≡ seat.old.actor }
         ensures accepted { OnOk result (seat.new.count ≡ seat.old.count + 1) }
+        ensures ops { OnOk result (seat.new.ops ≡ seat.old.ops ++ op ∷ []) }
         ensures refused { OnErr result (seat.new ≡ seat.old) }
     {
         let mut desk = self.desk.lock(rt);
@@ -111,6 +112,7 @@ impl<K: Room> SharedBoard<K> {
         ensures opening { IfOk result (λ r. r.config ≡ K.opening) }
         ensures legal { IfOk result (λ r. IsLegal r.config r.past) }
         ensures counts { IfOk result (λ r. All (λ s. length (events_of s.actor (events_in r)) ≡ s.count) seats.items) }
+        ensures ops { IfOk result (λ r. All (λ s. ops_of s.actor (events_in r) ≡ s.ops) seats.items) }
         ensures back { IfErr result (λ n. n.seats.items ≡ seats.items) }
     {
         if !is_one_each(&self.config, &seats) {

@@ -10,7 +10,7 @@ use base.Growing.{latest, at_least}
 use types.Logic.{Logic, sem}
 use types.Owned.{basic}
 use types.Growing.{latest_new, latest_grows, latest_shows, latest_bounds, at_least_dup}
-use types.Kit.{‵, ◌⊛◌, given, ◌$◌, ◌∵◌, !, qed, move, drop, split, learn, suffices, done, use2, check, assume, frame}
+use types.Kit.{‵, ◌⊛◌, given, ◌$◌, ◌∵◌, !, qed, move, keep, drop, split, learn, suffices, done, use2, check, assume, frame}
 use Rattle.chronicle.specs.Kept.{lists, latest_owns, begun_owns, whole_owns}
 
 module _ {E : Type 0} (cv : Coded E) where
@@ -60,6 +60,14 @@ module _ {E : Type 0} (cv : Coded E) where
     pub shows : (γ : ℕ) (list : List E) → ⟦ latest_owns cv.code γ list ⟧ ⊢ ⟦ latest_owns cv.code γ list ⟧ ∗ ⟦ begun_owns cv.code γ list ⟧
     unfolding latest_owns begun_owns
     shows γ list = latest_shows lists 𝓛 full_share γ (map cv.code list) (map cv.code list) (lists.same (map cv.code list))
+
+    -- what was reached begins what it is now
+    pub reaches : (γ : ℕ) (list begun : List E) → ⟦ latest_owns cv.code γ list ⟧ ∗ ⟦ begun_owns cv.code γ begun ⟧ ⊢ guard 𝓤 (IsPrefix begun list) ⟦ latest_owns cv.code γ list ⟧
+    unfolding latest_owns begun_owns
+    reaches γ list begun =
+        let I : Fml = latest lists full_share γ (map cv.code list) in let P : Fml = at_least lists γ (map cv.code begun) in
+        qed 𝓛 (‵ I ∷ ‵ P ∷ []) ∵ use2 𝓛 (given (IsPrefix (map cv.code begun) (map cv.code list)) (‵ I ⊛ ‵ P)) (latest_bounds lists 𝓛 full_share γ (map cv.code list) (map cv.code begun)) $
+        learn ! (λ p. split ! $ keep ! (0 ∷ []) $ check ! (uncoded begun list p.0 p.1) $ done !)
 
     -- it grows no more
     pub closes : (γ : ℕ) (list : List E) → ⟦ latest_owns cv.code γ list ⟧ ⊢ H.⇛ ⟦ whole_owns cv.code γ list ⟧

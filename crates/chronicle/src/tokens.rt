@@ -67,6 +67,12 @@ impl<E> Chronicle<E> {
         }
     }
 
+    /// Each glimpse of a list is a beginning of what it is now.
+    pub fn begins_with(&mut self, glimpse: &Glimpse<E>)
+        requires { glimpse.now.name ≡ self.old.name }
+        ensures { (self.new ≡ self.old) × IsPrefix glimpse.now.list self.old.list }
+    {}
+
     /// Ends the list.
     pub fn close(self) -> Whole<E>
         ensures { (result.name ≡ self.name) × (result.list ≡ self.list) }

@@ -1,13 +1,14 @@
 -- Nothing of a hart's own happens where it waits inside a fence call.
-use Rattle.std.proofs.Common.{◌≡◌, ◌≢◌, ◌⊎◌, ℕ, ◌<◌, Bool, true, false, List, [], ◌∷◌, length, refl, sym, ap, ◌∙◌, inl, inr, arith}
-use Rattle.std.specs.Prelude.{◌==◌, Option, Some, None, is_some, not}
+use Rattle.std.proofs.Common.{◌≡◌, ◌⊎◌, ℕ, Bool, true, false, List, [], ◌∷◌, length, refl, sym, ap, ◌∙◌, inl, inr, arith}
+use Rattle.std.specs.Prelude.{◌==◌, Option, Some, not}
 use Rattle.fence_queue.specs.declared.request.Request.{Request}
 use Rattle.tlb_model.specs.declared.fence.Flush.{Flush}
 use Rattle.board_core.specs.declared.event.Op.{Op}
 use Rattle.board_core.specs.declared.event.Op.TheVariants.{Ecall, Load, Store, Fetch, WriteSatp, WriteSie, WriteSstatusSie, ReadSip, ClearSsip, Wfi, Sfence, FenceI, Poll, Serve, Advance, Tick}
 use Rattle.board_core.specs.Refusals.{IsAccepted, Situation, is_empty, is_running, waits_for_some}
+use Rattle.hsm.specs.declared.hart.HartState.TheVariants.{Started}
 use Rattle.hsm.specs.States.{is_interruptible, is_started}
-use Rattle.hart_threads.specs.Choices.{CallsAreMadeStarted, HasNothing}
+use Rattle.hart_threads.specs.Choices.{HasNothing}
 
 none-wait : (fences : List (Request Flush)) → length fences ≡ 0 → is_empty fences ≡ true
 none-wait [] none = refl
@@ -24,7 +25,7 @@ not-true : (b : Bool) → not b ≡ false → b ≡ true
 not-true true is = refl
 not-true false is = absurd (let t = is in cc)
 
-module _ (s : Situation) (harts : List ℕ) (inside : s.call ≡ Some harts) (some : (length harts == 0) ≡ false) (started : is_started s.state ≡ true)
+module _ (s : Situation) (harts : List ℕ) (inside : s.call ≡ Some harts) (some : (length harts == 0) ≡ false) (started : s.state ≡ Started)
     (unserved : (length s.fences ≡ 0) ⊎ (is_interruptible s.state ≡ false)) where
   not-running : not (is_running s) ≡ true
   not-running = rw inside rw started refl
@@ -47,10 +48,10 @@ module _ (s : Situation) (harts : List ℕ) (inside : s.call ≡ Some harts) (so
     | inl none ↦ apart (none-wait s.fences none) accepted.to_do
     | inr closed ↦ apart (not-true (is_interruptible s.state) accepted.in_phase) closed
   ]
-  nothing-happens Advance accepted = apart started accepted.in_phase
+  nothing-happens Advance accepted = apart (ap is_started started) accepted.in_phase
   nothing-happens (Tick n) accepted = apart refl accepted.in_phase
 
-pub waits_in_call : (s : Situation) (guest : Option Op) (harts : List ℕ) → s.call ≡ Some harts → (length harts == 0) ≡ false → CallsAreMadeStarted s
+pub waits_in_call : (s : Situation) (guest : Option Op) (harts : List ℕ) → s.call ≡ Some harts → (length harts == 0) ≡ false → s.state ≡ Started
     → ((length s.fences ≡ 0) ⊎ (is_interruptible s.state ≡ false)) → HasNothing guest s
 waits_in_call s guest harts inside some started unserved op own accepted =
-    nothing-happens s harts inside some (started (ap is_some inside)) unserved op accepted
+    nothing-happens s harts inside some started unserved op accepted

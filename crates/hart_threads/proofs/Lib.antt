@@ -3,3 +3,4 @@ pub mod InCalls
 pub mod Quiet
 pub mod NewSeats
 pub mod Kept
+pub mod Ticked

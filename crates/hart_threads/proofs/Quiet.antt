@@ -1,14 +1,14 @@
 -- A hart that is STARTED, outside of a fence call, is quiet exactly where its guest did its block.
-use Rattle.std.proofs.Common.{◌≡◌, ◌↔◌, ℕ, Bool, true, false, List, [], refl, sym, ap, ◌∙◌, inl, inr}
+use Rattle.std.proofs.Common.{◌≡◌, ◌↔◌, ℕ, Bool, true, false, List, [], refl, sym, ◌∙◌, inl, inr}
 use Rattle.std.specs.Prelude.{Option, Some, None, is_some}
-use Rattle.hsm.specs.declared.hart.HartState.TheVariants.{Started, Stopped}
+use Rattle.hsm.specs.declared.hart.HartState.TheVariants.{Started}
 use Rattle.board_core.specs.declared.config.Config.{Config}
 use Rattle.board_core.specs.declared.event.Op.{Op}
 use Rattle.board_core.specs.Fences.{outstanding}
 use Rattle.board_core.specs.History.{Event}
 use Rattle.board_core.specs.States.{state}
 use Rattle.guest_script.specs.Grammar.{Guest}
-use Rattle.hart_threads.specs.Ends.{IsQuiet, IsThrough}
+use Rattle.hart_threads.specs.Ends.{IsQuiet}
 use Rattle.hart_threads.specs.Guests.{IsLeft}
 use Rattle.hart_threads.proofs.Following.{nothing-left}
 

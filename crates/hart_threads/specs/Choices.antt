@@ -1,6 +1,5 @@
 -- What a hart's thread may choose (profile).
-use Rattle.std.specs.Prelude.{◌≡◌, ◌⊎◌, Bool, true, length, Option, Some, is_some}
-use Rattle.hsm.specs.States.{is_started}
+use Rattle.std.specs.Prelude.{◌≡◌, ◌⊎◌, Bool, length, Option, Some}
 use Rattle.board_core.specs.declared.event.Op.{Op}
 use Rattle.board_core.specs.declared.event.Op.TheVariants.{Poll, Serve, Advance, Wfi}
 use Rattle.board_core.specs.Refusals.{IsAccepted, Situation}
@@ -13,10 +12,6 @@ pub record Sees (s : Situation) (now : HartNow) : Type 0 where
   pub wake : now.wake ≡ s.wake
   pub call : now.outstanding ≡ s.call
   pub fences : now.waiting ≡ length s.fences
-
--- a hart inside a fence call is STARTED
-abbrev pub CallsAreMadeStarted : Situation → Type 0
-CallsAreMadeStarted s = is_some s.call ≡ true → is_started s.state ≡ true
 
 -- an operation of a hart's own: the firmware's, or the next one of its guest
 abbrev pub IsOwn : Option Op → Op → Type 0

@@ -1,7 +1,7 @@
 ghost use Rattle.std.specs.Prelude.{◌≡◌, map};
 ghost use Rattle.guest_script.specs.Grammar.{content, guest};
 ghost use Rattle.hart_threads.specs.Guests.{block_at};
-ghost use Rattle.hart_threads.specs.Programs.{IsProgram, blocks_of};
+ghost use Rattle.hart_threads.specs.Programs.{IsProgram, blocks_of, ticks_of};
 
 use board_core::Op;
 use guest_script::{Block, Body};
@@ -30,7 +30,8 @@ pub(crate) fn block_at<'a>(blocks: &'a [Block], addr: u64) -> &'a [Op]
 /// The program that a script is.
 pub(crate) fn program_in(body: &Body) -> Program<'_>
     requires { IsProgram (content body.now) }
-    ensures { map guest result.blocks.now ≡ blocks_of (content body.now) }
+    ensures blocks { map guest result.blocks.now ≡ blocks_of (content body.now) }
+    ensures ticks { result.ticks.now ≡ ticks_of (content body.now) }
 {
     match body {
         Body::Empty => Program {

@@ -1,16 +1,20 @@
-ghost use Rattle.std.specs.Prelude.{◌≡◌, IfSome, None};
-ghost use Rattle.board_core.specs.Refusals.{IsAccepted, Situation};
-ghost use Rattle.hart_threads.specs.Choices.{CallsAreMadeStarted, HasNothing, Sees, goes};
+ghost use Rattle.std.specs.Prelude.{◌≡◌, ℕ, List, IfSome, None};
+ghost use Rattle.board_core.specs.declared.config.Config.{Config};
+ghost use Rattle.board_core.specs.History.{Event};
+ghost use Rattle.board_core.specs.Refusals.{IsAccepted, Situation, situation};
+ghost use Rattle.board_core.specs.Replies.{IsLegal};
+ghost use Rattle.hart_threads.specs.Choices.{HasNothing, Sees, goes};
 
 use crate::guests::is_guest;
 use board_core::Op;
+use board_laws::calls_are_made_started;
 use board_lock::HartNow;
 
 /// The next operation of a hart by what its thread sees and what its guest does next, if it has one: a fence is served
 /// before all else, and a fence call is ended as soon as it waits for no hart.
 pub(crate) fn choice(now: &HartNow, guest: Option<Op>) -> Option<Op>
     ensures happens { (s : Situation) → Sees s now.now → IfSome result (λ op. IsAccepted op s) }
-    ensures rests { (s : Situation) → Sees s now.now → CallsAreMadeStarted s → result ≡ None → HasNothing guest s }
+    ensures rests { (c : Config) (past : List Event) (h : ℕ) → IsLegal c past → Sees (situation c past h) now.now → result ≡ None → HasNothing guest (situation c past h) }
 {
     if now.waiting > 0 && now.state.is_interruptible() {
         return Some(Op::Serve);
@@ -19,6 +23,7 @@ pub(crate) fn choice(now: &HartNow, guest: Option<Op>) -> Option<Op>
         return if harts.is_empty() {
             Some(Op::Poll)
         } else {
+            calls_are_made_started();
             None
         };
     }

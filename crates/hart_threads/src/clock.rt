@@ -1,18 +1,21 @@
-ghost use Rattle.std.specs.Prelude.{◌≡◌};
+ghost use Rattle.std.specs.Prelude.{◌≡◌, []};
+ghost use Rattle.hart_threads.specs.Programs.{AreFirst};
 
 use crate::gate::Gate;
 use crate::met::Met;
+use crate::plans::Plan;
 use crate::work::{Work, Worked};
 use board_core::{Op, Refusal};
-use board_lock::{Rest, Room, Seat};
+use board_lock::{Rest, Seat};
 use std::sync::Wait;
 
 /// The clock's thread: its ticks in order, up to one that is refused, and then rest.
-pub(crate) fn tick<K: Room, G: Gate, R: Wait>(
+pub(crate) fn tick<K: Plan, G: Gate, R: Wait>(
     rt: &R,
     work: &Work<'_, K, G>,
     seat: Seat<K>,
 ) -> Worked<K>
+    requires { seat.ops ≡ [] }
     ensures { result.seat.actor ≡ seat.actor }
 {
     let mut seat = seat;
@@ -27,8 +30,10 @@ pub(crate) fn tick<K: Room, G: Gate, R: Wait>(
 }
 
 /// Ticks in order, up to one that is refused.
-fn tick_all<K: Room, G: Gate, R: Wait>(rt: &R, work: &Work<'_, K, G>, seat: &mut Seat<K>) -> Met
-    ensures { seat.new.actor ≡ seat.old.actor }
+fn tick_all<K: Plan, G: Gate, R: Wait>(rt: &R, work: &Work<'_, K, G>, seat: &mut Seat<K>) -> Met
+    requires { seat.old.ops ≡ [] }
+    ensures actor { seat.new.actor ≡ seat.old.actor }
+    ensures ticks { AreFirst K.ticks seat.new.ops }
 {
     for n in work.program.ticks {
         if !work.is_let(seat) {

@@ -1,21 +1,24 @@
-ghost use Rattle.std.specs.Prelude.{◌≡◌};
+ghost use Rattle.std.specs.Prelude.{◌≡◌, ◌≢◌};
+ghost use Rattle.board_core.specs.declared.event.Actor.TheVariants.{Clock};
 
 use crate::choosing::choice;
 use crate::gate::Gate;
 use crate::guests::Guest;
 use crate::met::Met;
+use crate::plans::Plan;
 use crate::work::{Work, Worked};
 use board_core::{Op, Refusal};
-use board_lock::{HartView, Rest, Room, Seat};
+use board_lock::{HartView, Rest, Seat};
 use std::sync::Wait;
 
 /// A hart's thread: by what it sees it serves, polls, advances, does the next operation of its guest's block, or rests, until
 /// every seat rests.
-pub(crate) fn follow<K: Room, G: Gate, R: Wait>(
+pub(crate) fn follow<K: Plan, G: Gate, R: Wait>(
     rt: &R,
     work: &Work<'_, K, G>,
     seat: Seat<K>,
 ) -> Worked<K>
+    requires { seat.actor ≢ Clock }
     ensures { result.seat.actor ≡ seat.actor }
 {
     let mut seat = seat;

@@ -10,6 +10,7 @@ mod gate;
 mod guests;
 mod harts;
 mod met;
+mod plans;
 mod running;
 mod starting;
 mod work;

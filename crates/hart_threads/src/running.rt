@@ -1,9 +1,11 @@
-ghost use Rattle.std.specs.Prelude.{◌≡◌, ◌↔◌, IfOk, IsErrOf, map};
+ghost use Rattle.std.specs.Prelude.{◌≡◌, ◌↔◌, All, IfOk, IsErrOf, map};
+ghost use Rattle.board_core.specs.declared.event.Actor.TheVariants.{Clock};
 ghost use Rattle.board_core.specs.Limits.{IsGood};
 ghost use Rattle.board_core.specs.Replies.{IsLegal};
+ghost use Rattle.board_lock.specs.Events.{events_in, ops_of};
 ghost use Rattle.guest_script.specs.Grammar.{content, guest};
 ghost use Rattle.hart_threads.specs.Ends.{IsEnd};
-ghost use Rattle.hart_threads.specs.Programs.{IsProgram, blocks_of};
+ghost use Rattle.hart_threads.specs.Programs.{AreFirst, IsProgram, blocks_of, ticks_of};
 ghost use Rattle.hart_threads.specs.declared.ends.RunFault.TheVariants.{BadConfig};
 
 use crate::blocks::{Program, program_in};
@@ -11,10 +13,11 @@ use crate::ends::{RunEnd, RunFault};
 use crate::finding::end_of;
 use crate::gate::Gate;
 use crate::met::Met;
+use crate::plans::Plan;
 use crate::starting::work_all;
 use crate::work::{Work, Worked};
 use board_core::Board;
-use board_lock::{NewRoom, Room, Seat, SharedBoard};
+use board_lock::{NewRoom, Seat, SharedBoard};
 use guest_script::Script;
 use std::alloc::{AllocError, Global};
 use std::marker::Brand;
@@ -32,6 +35,7 @@ pub fn run<G: Gate + Sync, R: AllocGlobal + Threads + Wait + Sync>(
     ensures bad { IsErrOf result BadConfig ↔ ¬ IsGood script.now.config }
     ensures opening { IfOk result (λ run. run.board.config ≡ script.now.config) }
     ensures legal { IfOk result (λ run. IsLegal run.board.config run.board.past) }
+    ensures ticks { IfOk result (λ run. AreFirst (ticks_of (content script.now.body)) (ops_of Clock (events_in run.board))) }
     ensures end { IfOk result (λ run. IsEnd run.end run.board.config run.board.past (blocks_of (content script.now.body))) }
 {
     let program = program_in(&script.body);
@@ -42,7 +46,7 @@ pub fn run<G: Gate + Sync, R: AllocGlobal + Threads + Wait + Sync>(
 }
 
 /// Runs a program on the board of this room, and gives back the board, and what the threads met.
-fn run_in<K: Room + Send + Sync, G: Gate + Sync, R: AllocGlobal + Threads + Wait + Sync>(
+fn run_in<K: Plan + Send + Sync, G: Gate + Sync, R: AllocGlobal + Threads + Wait + Sync>(
     rt: &R,
     room: NewRoom,
     program: Program<'_>,
@@ -50,8 +54,10 @@ fn run_in<K: Room + Send + Sync, G: Gate + Sync, R: AllocGlobal + Threads + Wait
 ) -> Result<(Board, Met), RunFault>
     requires room { (room.opening ≡ K.opening) × (room.log ≡ K.log) }
     requires ledger { (room.ledger ≡ K.name) × (room.parts ≡ K.parts) × (K.all ≡ K.parts) }
+    requires ticks { program.ticks.now ≡ K.ticks }
     ensures bad { IsErrOf result BadConfig ↔ ¬ IsGood K.opening }
     ensures opening { IfOk result (λ r. r.0.config ≡ K.opening) }
+    ensures ticks { IfOk result (λ r. AreFirst K.ticks (ops_of Clock (events_in r.0))) }
 {
     let (board, seats) = SharedBoard::<K>::open(rt.alloc(), room)?;
     let work = Work {
@@ -69,8 +75,9 @@ fn run_in<K: Room + Send + Sync, G: Gate + Sync, R: AllocGlobal + Threads + Wait
 }
 
 /// The seats of the threads, and what they met.
-fn parted<K: Room>(alloc: Global, all: Vec<Worked<K>>) -> Result<(Vec<Seat<K>>, Met), AllocError>
-    ensures { IfOk result (λ r. map (λ seat. seat.actor) r.0.items ≡ map (λ worked. worked.seat.actor) all.items) }
+fn parted<K: Plan>(alloc: Global, all: Vec<Worked<K>>) -> Result<(Vec<Seat<K>>, Met), AllocError>
+    ensures seats { IfOk result (λ r. map (λ seat. seat.actor) r.0.items ≡ map (λ worked. worked.seat.actor) all.items) }
+    ensures ticks { IfOk result (λ r. All (λ seat. seat.actor ≡ Clock → AreFirst K.ticks seat.ops) r.0.items) }
 {
     let mut seats = Vec::with_capacity(alloc, all.len())?;
     let mut met = Met::Nothing;

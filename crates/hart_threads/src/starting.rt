@@ -1,4 +1,4 @@
-ghost use Rattle.std.specs.Prelude.{◌≡◌, IfOk, IsErrOf, map};
+ghost use Rattle.std.specs.Prelude.{◌≡◌, All, IfOk, IsErrOf, [], map};
 ghost use Rattle.hart_threads.specs.declared.ends.RunFault.TheVariants.{BadConfig};
 
 use crate::clock::tick;
@@ -6,9 +6,10 @@ use crate::ends::RunFault;
 use crate::gate::Gate;
 use crate::harts::follow;
 use crate::met::Met;
+use crate::plans::Plan;
 use crate::work::{Work, Worked};
 use board_core::Actor;
-use board_lock::{Room, Seat};
+use board_lock::Seat;
 use std::alloc::{AllocError, Global};
 use std::sync::Wait;
 use std::thread::{self, Promise, Threads};
@@ -17,17 +18,18 @@ use std::thread::{self, Promise, Threads};
 #[derive(Clone, Copy)]
 struct SeatOf(Actor);
 
-impl<K: Room> Promise<Worked<K>> for SeatOf {
+impl<K: Plan> Promise<Worked<K>> for SeatOf {
     ghost kept_by = { λ p worked. worked.seat.actor ≡ p.0 };
 }
 
 /// Runs a thread for each seat, and gives back what they did once all have ended. Where a thread is refused, those that run are
 /// ended.
 pub(crate) fn work_all<
-    K: Room + Send + Sync,
+    K: Plan + Send + Sync,
     G: Gate + Sync,
     R: AllocGlobal + Threads + Wait + Sync,
 >(rt: &R, work: &Work<'_, K, G>, seats: Vec<Seat<K>>) -> Result<Vec<Worked<K>>, RunFault>
+    requires { All (λ seat. seat.ops ≡ []) seats.items }
     ensures seats { IfOk result (λ all. map (λ worked. worked.seat.actor) all.items ≡ map (λ seat. seat.actor) seats.items) }
     ensures board { ¬ IsErrOf result BadConfig }
 {
@@ -35,6 +37,7 @@ pub(crate) fn work_all<
         thread::scope_env(),
         rt,
         |scope| -> Result<Vec<Worked<K>>, RunFault>
+            requires { All (λ seat. seat.ops ≡ []) seats.items }
             ensures board { ¬ IsErrOf result BadConfig }
             ensures seats { IfOk result (λ all. map (λ worked. worked.seat.actor) all.items ≡ map (λ seat. seat.actor) seats.items) }
         {
@@ -42,7 +45,9 @@ pub(crate) fn work_all<
             for seat in seats {
                 let Ok(thread) = scope.spawn_with(
                     SeatOf(seat.actor()),
-                    move || work_at(rt, work, seat),
+                    move ||
+                        requires { seat.ops ≡ [] }
+                    { work_at(rt, work, seat) },
                 ) else {
                     work.board.end(rt);
                     return Err(RunFault::NoThread);
@@ -61,7 +66,8 @@ pub(crate) fn work_all<
 }
 
 /// The work of a seat's thread.
-fn work_at<K: Room, G: Gate, R: Wait>(rt: &R, work: &Work<'_, K, G>, seat: Seat<K>) -> Worked<K>
+fn work_at<K: Plan, G: Gate, R: Wait>(rt: &R, work: &Work<'_, K, G>, seat: Seat<K>) -> Worked<K>
+    requires { seat.ops ≡ [] }
     ensures { result.seat.actor ≡ seat.actor }
 {
     match seat.actor() {

@@ -1,22 +1,26 @@
 ghost use Rattle.std.specs.Prelude.{◌≡◌};
+ghost use Rattle.board_core.specs.declared.event.Actor.TheVariants.{Clock};
+ghost use Rattle.hart_threads.specs.Programs.{AreFirst};
 
 use crate::blocks::Program;
 use crate::gate::Gate;
 use crate::met::Met;
+use crate::plans::Plan;
 use board_core::Actor;
-use board_lock::{Room, Seat, SharedBoard};
+use board_lock::{Seat, SharedBoard};
 
 /// What all threads of a run share.
 #[derive(Drop)]
-pub(crate) struct Work<'a, K: Room, G: Gate> {
+pub(crate) struct Work<'a, K: Plan, G: Gate> {
     pub(crate) board: &'a SharedBoard<K>,
     pub(crate) gate: &'a G,
     pub(crate) program: Program<'a>,
     /// How many harts the board has.
     pub(crate) harts: u64,
+    ghost planned: { program.ticks.now ≡ K.ticks },
 }
 
-impl<'a, K: Room, G: Gate> Work<'a, K, G> {
+impl<'a, K: Plan, G: Gate> Work<'a, K, G> {
     /// Whether the gate lets the seat's actor go on. No lock is held.
     pub(crate) fn is_let(&self, seat: &Seat<K>) -> bool {
         let number = match seat.actor() {
@@ -27,9 +31,10 @@ impl<'a, K: Room, G: Gate> Work<'a, K, G> {
     }
 }
 
-/// A thread's seat after its work, and what it met.
+/// A thread's seat after its work, and what it met. The clock did a beginning of its ticks, in order.
 #[derive(Drop)]
-pub(crate) struct Worked<K: Room> {
+pub(crate) struct Worked<K: Plan> {
     pub(crate) seat: Seat<K>,
     pub(crate) met: Met,
+    ghost ticked: { seat.actor ≡ Clock → AreFirst K.ticks seat.ops },
 }

@@ -2,11 +2,12 @@ use Rattle.std.proofs.Common.{◌≡◌, ℕ, ◌+◌, ◌<◌, ◌≤◌, List,
 use Rattle.std.specs.Vec.Iter.{into_iter_items}
 use mathlib.Core.List.{IsPrefix}
 use Rattle.board_core.specs.History.{Event}
-use Rattle.board_lock.specs.Events.{events_in, events_of}
+use Rattle.board_lock.specs.Events.{events_in, events_of, ops_of}
 use Rattle.board_lock.specs.Kept.{count_of}
 use Rattle.board_lock.specs.Seats.{Sitting, sitting}
-use Rattle.board_lock.specs.Settling.{IsSettling, Within, counts}
-use Rattle.board_lock.proofs.Sums.{closes, equal-at, saw-within, settling-more}
+use Rattle.board_lock.specs.Settling.{IsSettling, Knows, Within, counts}
+use Rattle.board_lock.proofs.Ops.{ops-same}
+use Rattle.board_lock.proofs.Sums.{closes, equal-at, known-at, saw-within, settling-more}
 use Rattle.board_lock.proofs.closing.settle.Goals as goal
 
 nothing_left : (ss : List Sitting) → length ss ≡ 0 → ss ≡ []
@@ -18,19 +19,22 @@ loop-seat-preserved g c =
     let at = c.loop-seat in
     let s : Sitting = c.in-Some.seat in
     let steps : into_iter_items at.seat-iterator ≡ s ∷ into_iter_items c.next.new.self = c.in-Some.ensures.steps.0 in
-    let seen : sitting c.seat.inside.actor c.seat.inside.count ≡ s = c.seat.view_is in
+    let seen : sitting c.seat.inside.actor c.seat.inside.count (ops_of c.seat.inside.actor c.seat.inside.seen.list) ≡ s = c.seat.view_is in
     let prefix : IsPrefix c.seat.inside.seen.list c.close-log.result.list = c.begins_with.ensures in
     let within : c.seat.inside.count ≤ count_of c.seat.inside.actor c.close-log.result.list = saw-within c.close-log.result.list c.seat.inside.seen.list c.seat.inside.actor c.seat.inside.count prefix c.seat.invariant.saw in
+    let knows : c.seat.inside.count ≡ count_of c.seat.inside.actor c.close-log.result.list → ops_of c.seat.inside.actor c.close-log.result.list ≡ ops_of c.seat.inside.actor c.seat.inside.seen.list =
+    λ all. ops-same c.seat.inside.actor c.seat.inside.seen.list c.close-log.result.list prefix (c.seat.invariant.saw ∙ all) in
     let part : c.merge.new.self.parts ≡ at.all.parts + 1 = c.merge.ensures.parts ∙ ap (λ (n : ℕ). at.all.parts + n) c.seat.invariant.one_part in
     let more : c.merge.new.self.amount ≡ at.all.amount + s.count = c.merge.ensures.amount ∙ ap (λ (n : ℕ). at.all.amount + n) (c.seat.invariant.counted ∙ ap (λ (x : Sitting). x.count) seen) in (
       append_assoc at.yielded (s ∷ []) _ ∙ rw (← steps) at.invariant.0,
       (let was = at.invariant.1 in let gone = c.in-Some.ensures.steps.1 in let short = ap length steps in omega arith),
       settling-more c.close-log.result.list at.yielded at.all.parts c.merge.new.self.parts at.all.amount c.merge.new.self.amount s at.invariant.2 part more
-          (subst (λ (x : Sitting). x.count ≤ count_of x.actor c.close-log.result.list) seen within),
+          (subst (λ (x : Sitting). x.count ≤ count_of x.actor c.close-log.result.list) seen within)
+          (subst (λ (x : Sitting). x.count ≡ count_of x.actor c.close-log.result.list → ops_of x.actor c.close-log.result.list ≡ x.ops) seen knows),
     )
 
-pub returns-clause-counts : goal.returns-clause-counts
-returns-clause-counts g c =
+pub returns : goal.returns
+returns g c =
     let at = c.loop-seat in
     let none = c.in-None.ensures.steps in
     let empty : into_iter_items at.seat-iterator ≡ [] = nothing_left _ (sym at.invariant.1 ∙ none.0) in
@@ -43,7 +47,14 @@ returns-clause-counts g c =
     let whole : at.all.parts ≡ g.K.Ledger.parts = settled.parts_are ∙ many ∙ sym c.requires.parts.1 ∙ c.requires.parts.0 in
     let sums : counts c.args.seats.items ≡ length c.desk.inside.log.list = sym settled.amount_is ∙ c.audit.ensures.whole whole ∙ d.summed in
     let within = subst (λ (es : List Event). Within es c.args.seats.items) list settled.within in
+    let knows = subst (λ (es : List Event). Knows es c.args.seats.items) list settled.knows in
     let equal = closes g.K.Room.opening c.desk.inside.log.list c.args.seats.items c.requires.all d.acted within sums in
     let events : c.desk.inside.log.list ≡ events_in c.desk.inside.board = d.logged in
-    subst (λ (es : List Event). (k : ℕ) (x : Sitting) → k < length c.args.seats.items → length (events_of (get_or c.args.seats.items k x).actor es) ≡ (get_or c.args.seats.items k x).count) events
-    (equal-at c.desk.inside.log.list c.args.seats.items equal)
+    record {
+      opening = d.opened;
+      legal = c.history-legal.ensures.legal;
+      counts = subst (λ (es : List Event). (k : ℕ) (x : Sitting) → k < length c.args.seats.items → length (events_of (get_or c.args.seats.items k x).actor es) ≡ (get_or c.args.seats.items k x).count) events
+          (equal-at c.desk.inside.log.list c.args.seats.items equal);
+      ops = subst (λ (es : List Event). (k : ℕ) (x : Sitting) → k < length c.args.seats.items → ops_of (get_or c.args.seats.items k x).actor es ≡ (get_or c.args.seats.items k x).ops) events
+          (known-at c.desk.inside.log.list c.args.seats.items equal knows);
+    }

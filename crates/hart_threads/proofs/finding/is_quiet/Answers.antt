@@ -1,4 +1,4 @@
-use Rattle.std.proofs.Common.{◌≡◌, ◌∙◌, sym, ap}
+use Rattle.std.proofs.Common.{◌∙◌, sym, ap}
 use Rattle.std.specs.Prelude.{not}
 use Rattle.hart_threads.proofs.Quiet.{is-quiet}
 use Rattle.hart_threads.proofs.finding.is_quiet.Goals as goal

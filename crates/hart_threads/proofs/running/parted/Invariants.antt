@@ -1,5 +1,8 @@
 use Rattle.std.proofs.Common.{◌≡◌, ◌++◌, length, map}
+use Rattle.std.specs.List.{All}
 use Rattle.std.specs.Vec.Iter.{into_iter_items, into_iter_len}
+use Rattle.board_core.specs.declared.event.Actor.TheVariants.{Clock}
+use Rattle.hart_threads.specs.Programs.{AreFirst}
 use Rattle.hart_threads.proofs.running.parted.Given as goal
 
 abbrev pub invariant-loop-worked : goal.invariant-loop-worked
@@ -7,3 +10,4 @@ invariant-loop-worked g l =
     (l.yielded ++ into_iter_items l.worked-iterator ≡ into_iter_items l.initial.worked-iterator)
     × (into_iter_len l.worked-iterator ≡ length (into_iter_items l.worked-iterator))
     × (map (λ seat. seat.actor) l.seats.items ≡ map (λ worked. worked.seat.actor) l.yielded)
+    × All (λ seat. seat.actor ≡ Clock → AreFirst g.K.Plan.ticks seat.ops) l.seats.items

@@ -4,5 +4,8 @@ use Rattle.hart_threads.proofs.running.run.Given as goal
 abbrev pub ghosts-run_in-K-Ledger : goal.ghosts-run_in-K-Ledger
 ghosts-run_in-K-Ledger g a = record { name = a.room.ledger; parts = a.room.parts }
 
+abbrev pub ghosts-run_in-K-Plan : goal.ghosts-run_in-K-Plan
+ghosts-run_in-K-Plan g a = record { ticks = a.program.ticks.now }
+
 abbrev pub ghosts-run_in-K-Room : goal.ghosts-run_in-K-Room
 ghosts-run_in-K-Room g a = record { opening = a.room.opening; log = a.room.log; all = a.room.parts }

@@ -5,8 +5,12 @@ use Rattle.chronicle.specs.declared.tokens.Chronicle.{Chronicle}
 use Rattle.board_core.specs.Course.{Course}
 use Rattle.board_core.specs.History.{Event}
 use Rattle.board_core.specs.Replies.{answer, stepped}
-use Rattle.board_lock.specs.Kept.{number_of}
-use Rattle.board_lock.proofs.Actors.{number-within}
+use Rattle.board_core.specs.declared.event.Op.{Op}
+use Rattle.board_lock.specs.Events.{ops_of}
+use Rattle.board_lock.specs.Kept.{count_of, number_of}
+use Rattle.board_lock.specs.Seats.{Sitting}
+use Rattle.board_lock.proofs.Actors.{number-within, same-itself}
+use Rattle.board_lock.proofs.Ops.{ops-more, ops-same}
 use Rattle.board_lock.proofs.Growing.{event, longer-by-one, last, desk-more, seat-more, told, read, small, as-long}
 use Rattle.board_lock.proofs.desk.Desk.call.Goals as goal
 
@@ -74,9 +78,9 @@ invariant_of-self-2 g c =
     let here = read g.K.Room.opening g.K.Room.log b _ _ _ _ _ _ a c.number-number.result c.index_mut.result.now d c.seat.invariant.acting number c.index_mut.ensures.value in
     let sum : c.add.new.self.total ≡ c.self.inside.book.total + 1 = c.add.ensures.total in
     let named : c.glimpse-2.new.self.name ≡ c.self.inside.log.name =
-    ap (λ (l : Chronicle Event). l.name) c.glimpse-2.ensures.0 ∙ ap (λ (l : Chronicle Event). l.name) c.glimpse.ensures.0 ∙ c.push.ensures.0 in
+    ap (λ (l : Chronicle Event). l.name) c.glimpse-2.ensures.0 ∙ ap (λ (l : Chronicle Event). l.name) c.glimpse.ensures.0 ∙ c.push.ensures.0 ∙ ap (λ (l : Chronicle Event). l.name) c.begins_with.ensures.0 in
     let list : c.glimpse-2.new.self.list ≡ c.self.inside.log.list ++ event b b' a c.args.op c.in_ok-reply.reply answered went ∷ [] =
-    ap (λ (l : Chronicle Event). l.list) c.glimpse-2.ensures.0 ∙ ap (λ (l : Chronicle Event). l.list) c.glimpse.ensures.0 ∙ c.push.ensures.1
+    ap (λ (l : Chronicle Event). l.list) c.glimpse-2.ensures.0 ∙ ap (λ (l : Chronicle Event). l.list) c.glimpse.ensures.0 ∙ c.push.ensures.1 ∙ ap (λ (l : Chronicle Event). l.list ++ c.index-history-place.result ∷ []) c.begins_with.ensures.0
     ∙ ap (λ (e : Event). c.self.inside.log.list ++ e ∷ []) at in
     desk-more b b' a c.args.op c.in_ok-reply.reply answered went g.K.Room.opening c.seat.invariant.acting g.K.Room.log c.self.inside.counts.items
     c.self.inside.book.total c.add.new.self.total c.self.inside.left.parts c.self.inside.left.amount c.self.inside.log.name c.glimpse-2.new.self.name c.self.inside.log.list c.glimpse-2.new.self.list
@@ -97,10 +101,10 @@ invariant_of-seat g c =
     let part : c.add.new.share.parts ≡ c.seat.inside.share.parts = c.add.ensures.parts in
     let more : c.add.new.share.amount ≡ c.seat.inside.share.amount + 1 = c.add.ensures.amount in
     let saw : c.glimpse.result.list ≡ c.self.inside.log.list ++ event b b' a c.args.op c.in_ok-reply.reply answered went ∷ [] =
-    c.glimpse.ensures.2 ∙ c.push.ensures.1 ∙ ap (λ (e : Event). c.self.inside.log.list ++ e ∷ []) at in
+    c.glimpse.ensures.2 ∙ c.push.ensures.1 ∙ ap (λ (l : Chronicle Event). l.list ++ c.index-history-place.result ∷ []) c.begins_with.ensures.0 ∙ ap (λ (e : Event). c.self.inside.log.list ++ e ∷ []) at in
     seat-more b b' a c.args.op c.in_ok-reply.reply answered went g.K.Room.opening c.seat.invariant.acting g.K.Room.log c.self.inside.log.name c.glimpse.result.name c.self.inside.log.list c.glimpse.result.list
     c.seat.inside.count c.seat.inside.share.parts c.add.new.share.parts c.seat.inside.share.amount c.add.new.share.amount c.seat.inside.seen.name c.seat.inside.seen.list
-    c.seat.invariant d.named (sym same ∙ here.1) part more (c.glimpse.ensures.1 ∙ c.push.ensures.0) saw
+    c.seat.invariant d.named (sym same ∙ here.1) part more (c.glimpse.ensures.1 ∙ c.push.ensures.0 ∙ ap (λ (l : Chronicle Event). l.name) c.begins_with.ensures.0) saw
 
 pub invariant_of-result : goal.invariant_of-result
 invariant_of-result g c =
@@ -114,9 +118,29 @@ invariant_of-result g c =
     last b b' a c.args.op c.in_ok-reply.reply answered went c.history-place.result.now c.history.result.now c.index-history-place.result c.history-place.ensures.events c.history.ensures.events c.index-history-place.is in
     let here = read g.K.Room.opening g.K.Room.log b _ _ _ _ _ _ a c.number-number.result c.index.result.now d c.seat.invariant.acting c.number-number.ensures c.index.ensures in
     let same : c.index.result.now ≡ c.seat.inside.count = c.if-index-seat.false in
-    let named : c.glimpse-2.result.name ≡ c.self.inside.log.name = c.glimpse-2.ensures.1 ∙ ap (λ (l : Chronicle Event). l.name) c.glimpse.ensures.0 ∙ c.push.ensures.0 in
+    let named : c.glimpse-2.result.name ≡ c.self.inside.log.name = c.glimpse-2.ensures.1 ∙ ap (λ (l : Chronicle Event). l.name) c.glimpse.ensures.0 ∙ c.push.ensures.0 ∙ ap (λ (l : Chronicle Event). l.name) c.begins_with.ensures.0 in
     let saw : c.glimpse-2.result.list ≡ c.self.inside.log.list ++ event b b' a c.args.op c.in_ok-reply.reply answered went ∷ [] =
-    c.glimpse-2.ensures.2 ∙ ap (λ (l : Chronicle Event). l.list) c.glimpse.ensures.0 ∙ c.push.ensures.1 ∙ ap (λ (e : Event). c.self.inside.log.list ++ e ∷ []) at in
+    c.glimpse-2.ensures.2 ∙ ap (λ (l : Chronicle Event). l.list) c.glimpse.ensures.0 ∙ c.push.ensures.1 ∙ ap (λ (l : Chronicle Event). l.list ++ c.index-history-place.result ∷ []) c.begins_with.ensures.0 ∙ ap (λ (e : Event). c.self.inside.log.list ++ e ∷ []) at in
     told b b' a c.args.op c.in_ok-reply.reply answered went g.K.Room.log c.self.inside.log.name c.glimpse-2.result.name c.self.inside.log.list c.glimpse-2.result.list
     c.seat.inside.count (length c.history-place.result.now) d.named (sym same ∙ here.1)
     (as-long g.K.Room.opening g.K.Room.log b _ _ _ _ _ _ _ d c.history-place.ensures.events) named saw
+
+pub returns-clause-ops : goal.returns-clause-ops
+returns-clause-ops g c =
+    let d = c.self.invariant in
+    let b : Course = c.self.inside.board in
+    let b' : Course = c.step.new.self in
+    let a : Actor = c.seat.inside.actor in
+    let answered : Ok c.in_ok-reply.reply ≡ answer b.config b.past a c.args.op = c.in_ok-reply.ensures.answer in
+    let went : b' ≡ stepped b a c.args.op = c.step.ensures.after in
+    let new : Event = event b b' a c.args.op c.in_ok-reply.reply answered went in
+    let at : c.index-history-place.result ≡ new =
+    last b b' a c.args.op c.in_ok-reply.reply answered went c.history-place.result.now c.history.result.now c.index-history-place.result c.history-place.ensures.events c.history.ensures.events c.index-history-place.is in
+    let here = read g.K.Room.opening g.K.Room.log b _ _ _ _ _ _ a c.number-number.result c.index.result.now d c.seat.invariant.acting c.number-number.ensures c.index.ensures in
+    let same : c.index.result.now ≡ c.seat.inside.count = c.if-index-seat.false in
+    let saw : c.glimpse.result.list ≡ c.self.inside.log.list ++ new ∷ [] =
+    c.glimpse.ensures.2 ∙ c.push.ensures.1 ∙ ap (λ (l : Chronicle Event). l.list ++ c.index-history-place.result ∷ []) c.begins_with.ensures.0 ∙ ap (λ (e : Event). c.self.inside.log.list ++ e ∷ []) at in
+    let none-since : count_of a c.seat.inside.seen.list ≡ count_of a c.self.inside.log.list = c.seat.invariant.saw ∙ sym same ∙ here.1 in
+    ap (ops_of a) saw ∙ ops-more a c.self.inside.log.list new (same-itself a)
+    ∙ ap (λ (ops : List Op). ops ++ c.args.op ∷ []) (ops-same a c.seat.inside.seen.list c.self.inside.log.list c.begins_with.ensures.1 none-since)
+    ∙ ap (λ (s : Sitting). s.ops ++ c.args.op ∷ []) c.seat.view_is

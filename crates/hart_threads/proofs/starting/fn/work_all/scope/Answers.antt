@@ -1,6 +1,5 @@
 use Rattle.std.proofs.Common.{◌≡◌, List, [], ◌∷◌, ◌∙◌, sym, ap, map, append-nil, length, refl, arith}
 use Rattle.std.specs.Vec.Iter.{into_iter_items}
-use Rattle.hart_threads.specs.declared.ends.RunFault.TheVariants.{BadConfig}
 use Rattle.hart_threads.proofs.Kept.{kept_all}
 use Rattle.hart_threads.proofs.starting.fn.work_all.scope.Goals as goal
 
