@@ -1,3 +1,4 @@
+pub mod KeptEvents
 pub mod Tables
 pub mod Events
 pub mod Accessing

@@ -1,5 +1,5 @@
 -- What a board records of an accepted step.
-use Rattle.std.specs.Prelude.{◌≡◌, ℕ, Option, Some, None}
+use Rattle.std.specs.Prelude.{ℕ, Option, Some, None}
 use Rattle.tlb_model.specs.declared.entry.Entry.{Entry}
 use Rattle.hart_access.specs.declared.operation.Access.{Access}
 use Rattle.hart_access.specs.declared.operation.Access.TheVariants as accesses
@@ -8,8 +8,6 @@ use Rattle.board_core.specs.declared.event.Actor.TheVariants.{Hart, Clock}
 use Rattle.board_core.specs.declared.event.Op.{Op}
 use Rattle.board_core.specs.declared.event.Op.TheVariants.{Load, Store, Fetch}
 use Rattle.board_core.specs.declared.event.Reply.{Reply}
-use Rattle.board_core.specs.declared.event.What.{What}
-use Rattle.board_core.specs.declared.event.What.TheVariants as kept
 
 -- who, what, what was answered, and for an access by Sv39 the TLB entry that it used, found or filled
 pub record Event : Type 0 where
@@ -52,27 +50,3 @@ abbrev pub access_op : (va : ℕ) → Access → Op
 access_op va accesses.Load = Load va
 access_op va (accesses.Store value) = Store va value
 access_op va accesses.Fetch = Fetch va
-
--- ---- how it is kept: private
-
-abbrev pub op_of : What → Op
-op_of (kept.Load va used) = Load va
-op_of (kept.Store va value used) = Store va value
-op_of (kept.Fetch va used) = Fetch va
-op_of (kept.Other op) = op
-
-abbrev pub translation_of : What → Option Entry
-translation_of (kept.Load va used) = used
-translation_of (kept.Store va value used) = used
-translation_of (kept.Fetch va used) = used
-translation_of (kept.Other op) = None
-
-abbrev pub what_of : Op → Option Entry → What
-what_of (Load va) used = kept.Load va used
-what_of (Store va value) used = kept.Store va value used
-what_of (Fetch va) used = kept.Fetch va used
-what_of op used = kept.Other op
-
--- accesses alone are kept with an entry
-abbrev pub IsKeptWell : What → Type 0
-IsKeptWell what = what_of (op_of what) (translation_of what) ≡ what

@@ -3,6 +3,7 @@ pub mod Course
 pub mod States
 pub mod Csrs
 pub mod History
+pub mod Keeping
 pub mod Resets
 pub mod Writes
 pub mod Fences

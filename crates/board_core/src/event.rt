@@ -2,6 +2,7 @@ ghost use Rattle.std.specs.Prelude.{◌≡◌, None, option_map};
 ghost use Rattle.board_core.specs.History.{access_of, entry_of};
 ghost use Rattle.board_core.specs.Refusals.{refusal_number};
 
+use crate::keeping::{Head, Maker, Numbers, Said, What};
 use hart_access::Access;
 use hsm::HartState;
 use sbi_abi::{Regs, Sbiret};
@@ -125,94 +126,76 @@ impl Refusal {
 /// An accepted step: who made it, what it did, what was answered, and the TLB entry that an access used.
 #[derive(Clone, Copy, Debug, PartialEq, Eq)]
 pub struct Event {
-    actor: Actor,
-    reply: Reply,
     what: What,
-}
-
-/// What a step did. An access's entry and a call's six arguments never occur together, which keeps events small.
-#[derive(Clone, Copy, Debug, PartialEq, Eq)]
-enum What {
-    Load(u64, Option<Entry>),
-    Store(u64, u64, Option<Entry>),
-    Fetch(u64, Option<Entry>),
-    Other(Op),
+    hart: u64,
+    numbers: Numbers,
 }
 
 impl Model for Event {
-    ghost use Rattle.board_core.specs.History.{Event as Seen, IsKeptWell, op_of, translation_of, what_of};
+    ghost use Rattle.board_core.specs.History.{Event as Seen};
+    ghost use Rattle.board_core.specs.Keeping.{IsKeptWell, actor_in, hart_of, head_of, numbers_of, op_in, reply_in, used_in, what_of};
 
     ghost Value = { Seen };
 
-    ghost view = { λ e. record { actor = e.actor; op = op_of e.what; reply = e.reply; translation = translation_of e.what } };
+    ghost view = { λ e. record { actor = actor_in e.what e.hart; op = op_in e.what; reply = reply_in e.what e.numbers; translation = used_in e.what } };
 
-    ghost invariant = { λ e. IsKeptWell e.what };
+    ghost invariant = { λ e. IsKeptWell e.what e.hart e.numbers };
 
-    ghost inverse = { λ e. record { actor = e.actor; reply = e.reply; what = what_of e.op e.translation } };
+    ghost inverse = { λ e. record { what = what_of (head_of e.actor e.reply) e.op e.translation; hart = hart_of e.actor; numbers = numbers_of e.reply } };
 
-    ghost inverse_ok = { λ e well i. record { actor = e.actor; reply = e.reply; what = well i } };
+    ghost inverse_ok = { λ e well i. record { what = well.what_again i; hart = well.hart_again i; numbers = well.numbers_again i } };
 }
 
 impl Event {
     /// An accepted step; of accesses alone the entry is kept.
+    #[inline(always)]
     pub fn new(actor: Actor, op: Op, reply: Reply, used: Option<Entry>) -> Event
         ensures { result ≡ record { actor = actor; op = op; reply = reply; translation = entry_of (access_of op) used } }
     {
-        let what = match op {
-            Op::Load(va) => What::Load(va, used),
-            Op::Store(va, value) => What::Store(va, value, used),
-            Op::Fetch(va) => What::Fetch(va, used),
-            _ => What::Other(op),
-        };
-        Event { actor, reply, what }
+        let (maker, hart) = Maker::of(actor);
+        let (said, numbers) = Said::of(reply);
+        Event {
+            what: What::of(Head { maker, said }, op, used),
+            hart,
+            numbers,
+        }
     }
 
     /// An accepted step that is no access.
+    #[inline(always)]
     pub(crate) fn other(actor: Actor, op: Op, reply: Reply) -> Event
         requires { access_of op ≡ None }
         ensures { result ≡ record { actor = actor; op = op; reply = reply; translation = None } }
     {
-        Event {
-            actor,
-            reply,
-            what: What::Other(op),
-        }
+        Event::new(actor, op, reply, None)
     }
 
     /// Who made it.
     pub fn actor(&self) -> Actor
         ensures { result ≡ self.now.actor }
     {
-        self.actor
+        self.what.head().maker.actor(self.hart)
     }
 
     /// What it did.
     pub fn op(&self) -> Op
         ensures { result ≡ self.now.op }
     {
-        match self.what {
-            What::Load(va, _) => Op::Load(va),
-            What::Store(va, value, _) => Op::Store(va, value),
-            What::Fetch(va, _) => Op::Fetch(va),
-            What::Other(op) => op,
-        }
+        self.what.op()
     }
 
     /// What was answered.
     pub fn reply(&self) -> Reply
         ensures { result ≡ self.now.reply }
     {
-        self.reply
+        self.what.head().said.reply(self.numbers)
     }
 
     /// The TLB entry that an access by Sv39 used, found or filled (profile); None of every other step.
     pub fn translation(&self) -> Option<Entry>
         ensures { result ≡ self.now.translation }
     {
-        match self.what {
-            What::Load(_, used) | What::Store(_, _, used) | What::Fetch(_, used) => used,
-            What::Other(_) => None,
-        }
+        self.what.used()
     }
 }
 

@@ -10,6 +10,7 @@ mod counts;
 mod csrs;
 mod event;
 mod interrupt_state;
+mod keeping;
 mod machine;
 mod memory;
 
