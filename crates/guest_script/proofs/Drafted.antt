@@ -80,10 +80,10 @@ drafted true steps = Traced steps
 -- a step that was read behind the others, if one was
 pub step_read : {A E : Type 0} (now : A → List ℕ) (in_trace : Bool) (n : ℕ) (bytes : List ℕ) (old new : List Line) (answer : Result (Option A) E)
     → IfOk answer (λ found. MatchOption found (new ≡ old)
-        (λ after. (line : Line) × BeginsLine n in_trace bytes line (now after) × (new ≡ old ++ line ∷ []) × (length (now after) < length bytes)))
+    (λ after. (line : Line) × BeginsLine n in_trace bytes line (now after) × (new ≡ old ++ line ∷ []) × (length (now after) < length bytes)))
     → IfOk answer (λ found. MatchOption found (drafted in_trace new ≡ drafted in_trace old)
-        (λ after. (in_trace' : Bool) × (line : Line) × BeginsLine n in_trace' bytes line (now after) × (may_follow (drafted in_trace old) (Step in_trace') ≡ true)
-        × (drafted in_trace new ≡ with_step in_trace' (drafted in_trace old) line) × (length (now after) < length bytes)))
+    (λ after. (in_trace' : Bool) × (line : Line) × BeginsLine n in_trace' bytes line (now after) × (may_follow (drafted in_trace old) (Step in_trace') ≡ true)
+    × (drafted in_trace new ≡ with_step in_trace' (drafted in_trace old) line) × (length (now after) < length bytes)))
 step_read now in_trace n bytes old new (Err e) read = tt
 step_read now in_trace n bytes old new (Ok None) read = ap (drafted in_trace) read
 step_read now false n bytes old new (Ok (Some after)) read = (false, read.0, read.1, refl, ap Stepped read.2, read.3)
