@@ -1,40 +1,46 @@
 -- A program that ran has written its record and its end.
-use Rattle.std.proofs.Common.{◌≡◌, ℕ, Bool, true, false, List, [], refl, sym, ap, subst, ◌∙◌, inl}
-use Rattle.std.specs.Prelude.{Option, Some, None, is_some}
+use Rattle.std.proofs.Common.{◌≡◌, ℕ, true, false, List, refl, sym, inl}
+use Rattle.std.specs.Prelude.{Option, Some, None, is_some, reverse}
 use Rattle.std.specs.Io.KnownBytes.{Appends}
 use Rattle.board_core.specs.declared.config.Config.{Config}
+use Rattle.board_core.specs.declared.event.Actor.TheVariants.{Clock}
 use Rattle.board_core.specs.History.{Event}
 use Rattle.board_core.specs.Limits.{IsGood}
 use Rattle.board_core.specs.Replies.{IsLegal}
+use Rattle.board_lock.specs.Events.{ops_of}
 use Rattle.guest_script.specs.Grammar.{Content, Empty, Program, Reads, Schedule, Trace, Written}
 use Rattle.hart_threads.specs.declared.ends.End.{End}
 use Rattle.hart_threads.specs.declared.ends.End.TheVariants.{GateLimit, Off, HistoryFull, Quiet, Stuck}
 use Rattle.hart_threads.specs.Ends.{IsEnd}
-use Rattle.hart_threads.specs.Programs.{blocks_of}
-use Rattle.sbiboard.specs.Running.{EndsAs, Writes}
-use Rattle.sbiboard.specs.Threaded.{EndsRun, RunsOnThreads, outcome_of, programmed, run_text}
+use Rattle.hart_threads.specs.Programs.{AreFirst, blocks_of, ticks_of}
+use Rattle.sbiboard.specs.Running.{Writes}
+use Rattle.sbiboard.specs.Threaded.{EndsRun, Tasks, outcome_of, programmed, run_text}
 
-pub blocks-are : (content : Content) → is_some (programmed content) ≡ true → programmed content ≡ Some (blocks_of content)
-blocks-are Empty is = refl
-blocks-are (Program blocks clock) is = refl
-blocks-are (Schedule lines) is = absurd (let t = is in cc)
-blocks-are (Trace lines) is = absurd (let t = is in cc)
+abbrev tasks : Content → Tasks
+tasks content = record { blocks = blocks_of content; ticks = ticks_of content }
 
-pub no-blocks : (content : Content) → is_some (programmed content) ≡ false → programmed content ≡ None
-no-blocks Empty is = absurd (let t = is in cc)
-no-blocks (Program blocks clock) is = absurd (let t = is in cc)
-no-blocks (Schedule lines) is = refl
-no-blocks (Trace lines) is = refl
+pub tasks-are : (content : Content) → is_some (programmed content) ≡ true → programmed content ≡ Some (tasks content)
+tasks-are Empty is = refl
+tasks-are (Program blocks clock) is = refl
+tasks-are (Schedule lines) is = absurd (let t = is in cc)
+tasks-are (Trace lines) is = absurd (let t = is in cc)
+
+pub no-tasks : (content : Content) → is_some (programmed content) ≡ false → programmed content ≡ None
+no-tasks Empty is = absurd (let t = is in cc)
+no-tasks (Program blocks clock) is = absurd (let t = is in cc)
+no-tasks (Schedule lines) is = refl
+no-tasks (Trace lines) is = refl
 
 module _ (bytes : List ℕ) (script : Written) (reads : Reads bytes script) (program : is_some (programmed script.content) ≡ true)
     (c : Config) (opened : c ≡ script.config) (good : IsGood c) (past : List Event) (legal : IsLegal c past)
+    (ticked : AreFirst (ticks_of script.content) (ops_of Clock (reverse past)))
     (old new : Option (List ℕ)) where
   ran : (end : End) → IsEnd end c past (blocks_of script.content) → EndsRun bytes (outcome_of end) (run_text c past end)
   ran end ended = inl (
     c,
-    blocks_of script.content,
-    record { script = script; reads = reads; config_is = sym opened; lines_are = blocks-are script.content program; good = good },
-    record { past = past; end = end; legal = legal; ended = ended; outcome_is = refl; text_is = refl },
+    tasks script.content,
+    record { script = script; reads = reads; config_is = sym opened; lines_are = tasks-are script.content program; good = good },
+    record { past = past; end = end; legal = legal; ticked = ticked; ended = ended; outcome_is = refl; text_is = refl },
   )
 
   pub has_run : (end : End) → IsEnd end c past (blocks_of script.content) → Appends old new (run_text c past end) → Writes (EndsRun bytes) (outcome_of end) old new

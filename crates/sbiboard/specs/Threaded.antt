@@ -1,22 +1,30 @@
 -- What the run of a program on threads writes, and how it ends (profile).
 use Rattle.std.specs.Prelude.{◌≡◌, ℕ, List, [], ◌∷◌, ◌++◌, codes, reverse, Option, Some, None, Ok}
 use Rattle.board_core.specs.declared.config.Config.{Config}
+use Rattle.board_core.specs.declared.event.Actor.TheVariants.{Clock}
 use Rattle.board_core.specs.History.{Event}
 use Rattle.board_core.specs.Replies.{IsLegal}
+use Rattle.board_lock.specs.Events.{ops_of}
 use Rattle.guest_script.specs.Grammar.{Content, Empty, Guest, Program, Schedule, Trace}
 use Rattle.hart_threads.specs.declared.ends.End.{End}
 use Rattle.hart_threads.specs.declared.ends.End.TheVariants as ends
 use Rattle.hart_threads.specs.Ends.{IsEnd}
+use Rattle.hart_threads.specs.Programs.{AreFirst}
 use Rattle.monitor.specs.Table.{table}
 use Rattle.monitor.specs.Words.{board_words, event_words, line_of}
 use Rattle.sbiboard.specs.declared.outcome.Outcome.{Outcome}
 use Rattle.sbiboard.specs.declared.outcome.Outcome.TheVariants.{Good, HistoryFull, Stuck}
 use Rattle.sbiboard.specs.Running.{EndsAs}
 
--- the blocks of a program; an empty script is one without blocks
-abbrev pub programmed : Content → Option (List Guest)
-programmed Empty = Some []
-programmed (Program blocks clock) = Some blocks
+-- what a run takes of a program: its guests' blocks, and the clock's ticks
+pub record Tasks : Type 0 where
+  pub blocks : List Guest
+  pub ticks : List ℕ
+
+-- the tasks of a program; an empty script is one without any
+abbrev pub programmed : Content → Option Tasks
+programmed Empty = Some (record { blocks = []; ticks = [] })
+programmed (Program blocks clock) = Some (record { blocks = blocks; ticks = clock })
 programmed (Schedule lines) = None
 programmed (Trace lines) = None
 
@@ -49,12 +57,14 @@ outcome_of ends.HistoryFull = HistoryFull
 outcome_of ends.Quiet = Good
 outcome_of ends.Stuck = Stuck
 
--- What the run of a program writes with each outcome: a record that is a legal history, and how it ended.
-pub record RunsOnThreads (c : Config) (blocks : List Guest) (outcome : Outcome) (text : List ℕ) : Type 0 where
+-- What the run of a program writes with each outcome: a record that is a legal history, in which the clock did the first of
+-- its ticks in order, and how it ended.
+pub record RunsOnThreads (c : Config) (tasks : Tasks) (outcome : Outcome) (text : List ℕ) : Type 0 where
   pub past : List Event
   pub end : End
   pub legal : IsLegal c past
-  pub ended : IsEnd end c past blocks
+  pub ticked : AreFirst tasks.ticks (ops_of Clock (reverse past))
+  pub ended : IsEnd end c past tasks.blocks
   pub outcome_is : outcome ≡ outcome_of end
   pub text_is : text ≡ run_text c past end
 

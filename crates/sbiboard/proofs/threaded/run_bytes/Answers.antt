@@ -1,11 +1,10 @@
 use Rattle.std.proofs.Common.{Err, sym, ap, subst, ◌∙◌, rules}
 use Rattle.guest_script.specs.Grammar.{content, written}
-use Rattle.hart_threads.specs.Programs.{blocks_of}
 use Rattle.sbiboard.specs.declared.outcome.Outcome.{Outcome}
 use Rattle.sbiboard.specs.declared.outcome.Outcome.TheVariants.{BadBoard, WrongKind}
 use Rattle.sbiboard.specs.Running.{Writes, ended_as}
-use Rattle.sbiboard.specs.Threaded.{EndsRun, RunsOnThreads, outcome_of, programmed}
-use Rattle.sbiboard.proofs.Ran.{blocks-are, has_run, no-blocks}
+use Rattle.sbiboard.specs.Threaded.{EndsRun, RunsOnThreads, programmed}
+use Rattle.sbiboard.proofs.Ran.{tasks-are, has_run, no-tasks}
 use Rattle.sbiboard.proofs.Stopped.{bad_board, stops_at, writes_stopped}
 use Rattle.sbiboard.proofs.threaded.run_bytes.Goals as goal
 
@@ -20,7 +19,7 @@ returns-in-Err-clause-writes g c =
 pub returns-then-not-is_program-clause-writes : goal.returns-then-not-is_program-clause-writes
 returns-then-not-is_program-clause-writes g c =
     writes_stopped programmed c.args.bytes.now RunsOnThreads (g.W.Sink.written c.args.writer.now) WrongKind
-    (written c.in-Ok.script, c.in-Ok.ensures.script, no-blocks (content c.in-Ok.script.body) (sym c.is_program.ensures ∙ (search rules)))
+    (written c.in-Ok.script, c.in-Ok.ensures.script, no-tasks (content c.in-Ok.script.body) (sym c.is_program.ensures ∙ (search rules)))
 
 pub returns-in-Ok-print_run-clause-writes : goal.returns-in-Ok-print_run-clause-writes
 returns-in-Ok-print_run-clause-writes g c =
@@ -28,11 +27,11 @@ returns-in-Ok-print_run-clause-writes g c =
     let run = c.in-Ok-run.ensures in
     subst (λ (outcome : Outcome). Writes (EndsRun c.args.bytes.now) outcome known (g.W.Sink.written c.print_run.new.writer)) (sym c.outcome_of.ensures)
     (has_run c.args.bytes.now (written c.in-Ok.script) c.in-Ok.ensures.script (sym c.is_program.ensures ∙ (search rules))
-    c.in-Ok-run.run'.board.config run.opening c.print_run.ensures.good c.in-Ok-run.run'.board.past run.legal
+    c.in-Ok-run.run'.board.config run.opening c.print_run.ensures.good c.in-Ok-run.run'.board.past run.legal run.ticks
     known (g.W.Sink.written c.print_run.new.writer) c.in-Ok-run.run'.end run.end c.in-Ok-print_run.ensures.text.0)
 
 pub returns-in-Err-BadConfig-clause-writes : goal.returns-in-Err-BadConfig-clause-writes
 returns-in-Err-BadConfig-clause-writes g c =
     writes_stopped programmed c.args.bytes.now RunsOnThreads (g.W.Sink.written c.args.writer.now) BadBoard
-    (bad_board programmed c.args.bytes.now (written c.in-Ok.script) (blocks_of (content c.in-Ok.script.body)) c.in-Ok.ensures.script
-    (blocks-are (content c.in-Ok.script.body) (sym c.is_program.ensures ∙ (search rules))) (c.in-Err-BadConfig.ensures.bad.0 (ap (λ f. Err f) c.in-Err-BadConfig.field-0-is)))
+    (bad_board programmed c.args.bytes.now (written c.in-Ok.script) _ c.in-Ok.ensures.script
+    (tasks-are (content c.in-Ok.script.body) (sym c.is_program.ensures ∙ (search rules))) (c.in-Err-BadConfig.ensures.bad.0 (ap (λ f. Err f) c.in-Err-BadConfig.field-0-is)))
