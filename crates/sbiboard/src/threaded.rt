@@ -12,7 +12,7 @@ use crate::running::{READ_LIMIT, ended};
 use board_core::Event;
 use guest_script::{Body, parse};
 use hart_threads::{End, Gate, RunEnd, RunFault, run};
-use monitor::{Failed, Sink, print, print_event, print_head, write_all};
+use monitor::{Failed, Page, Sink, print, print_head, write_all};
 use std::sync::Wait;
 use std::thread::Threads;
 
@@ -114,10 +114,11 @@ fn print_events<W: Sink>(events: &[Event], writer: &mut W) -> Result<(), Failed>
     requires { W.failures writer.old < 2 ^ 63 }
     ensures { Puts W.written W.failures writer.old writer.new result (events_text events.now) }
 {
+    let mut page = Page::new();
     for event in events {
-        print_event(event, writer)?;
+        page.print_step(event.actor(), event.op(), Ok(event.reply()), writer)?;
     }
-    Ok(())
+    page.put(writer)
 }
 
 /// Writes how a run ended, as a comment of a trace.

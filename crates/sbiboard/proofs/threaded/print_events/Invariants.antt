@@ -1,9 +1,9 @@
-use Rattle.std.proofs.Common.{◌≡◌, take}
-use Rattle.std.specs.Io.KnownBytes.{Appends}
+use Rattle.std.proofs.Common.{◌≡◌, ◌++◌, drop}
 use Rattle.sbiboard.specs.Threaded.{events_text}
+use Rattle.sbiboard.proofs.Replayed.{HasWritten}
 use Rattle.sbiboard.proofs.threaded.print_events.Given as goal
 
 abbrev pub invariant-loop-event : goal.invariant-loop-event
 invariant-loop-event g l =
-    Appends (g.W.Sink.written l.initial.writer) (g.W.Sink.written l.writer) (events_text (take l.event-index l.events))
+    HasWritten (g.W.Sink.written l.initial.writer) (g.W.Sink.written l.writer) (l.page ++ events_text (drop l.event-index l.events)) (events_text l.events)
     × (g.W.Sink.failures l.writer ≡ g.W.Sink.failures l.initial.writer)
