@@ -1,5 +1,5 @@
 -- The table of the values of digits.
-use Rattle.std.proofs.Common.{◌≡◌, ℕ, zero, suc, ◌-◌, ◌<◌, Bool, true, ◌&&◌, T, eqb, List, get_or, arith, inl, inr, eq-zero-or-pos, eqb→eq}
+use Rattle.std.proofs.Common.{◌≡◌, ℕ, zero, suc, ◌-◌, ◌<◌, Bool, true, ◌&&◌, T, eqb, get_or, arith, inl, inr, eq-zero-or-pos, eqb→eq}
 use Rattle.std.specs.Char.{digit_value}
 use lib.Ieee.Fits.{and_l, and_r}
 use Rattle.guest_script.specs.declared.number.TheConstants.{DIGIT_VALUES}

@@ -1,15 +1,16 @@
 -- What a line gave, with its number.
-use Rattle.std.proofs.Common.{◌≡◌, ◌⊎◌, ℕ, ◌+◌, ◌≤◌, Bool, true, false, List, [], ◌∷◌, ◌++◌, length, Option, Some, None, Result, Ok, Err, IfOk, MatchOption, ◌<◌, refl, ap, inl, inr, arith, length-append}
+use Rattle.std.proofs.Common.{◌≡◌, ◌⊎◌, ℕ, ◌+◌, ◌≤◌, Bool, true, false, List, [], ◌∷◌, ◌++◌, length, Option, Some, None, Ok, Err, refl, ap, inl, inr, arith, length-append}
+use Rattle.std.proofs.lemmas.List.{append-nil}
 use Rattle.board_core.specs.Refusals.{first_that_holds}
 use Rattle.guest_script.specs.declared.fault.Fault.{Fault}
 use Rattle.guest_script.specs.declared.fault.Fault.TheVariants.{BadByte, NoBoardLine, UnknownWord, BadNumber, WordCount, OtherKind, SecondBlock, TooLong, NoMemory}
 use Rattle.guest_script.specs.declared.kind.Kind.TheVariants.{Head, Operation, Step}
 use Rattle.guest_script.specs.declared.kind.Kind.{Kind}
 use Rattle.guest_script.specs.declared.script.Line.{Line}
+use Rattle.guest_script.specs.Drafts.{steps_of}
 use Rattle.guest_script.specs.Grammar.{Blocked, Draft, Nothing, Stepped, Traced}
 use Rattle.guest_script.specs.Values.{kind_of, line_in, lines_in, next_in, next_of, with_operation, with_step, words_in}
-use Rattle.guest_script.specs.FirstFault.{byte_test, line_tests, may_follow, no_memory}
-use Rattle.guest_script.specs.PlainLines.{BeginsLine}
+use Rattle.guest_script.specs.FirstFault.{byte_test, line_tests, no_memory}
 use Rattle.guest_script.specs.Reading.{line_from, located, located_fault, or_fault, tested}
 
 module _ (n : ℕ) (draft : Draft) (text : List ℕ) where
@@ -72,19 +73,7 @@ lines_grow n draft text next read =
     let is = is_read n (first_that_holds (byte_test text ∷ line_tests draft (words_in text))) (next_in n draft (words_in text)) next read in
     rw (← is) (next_grows n draft (words_in text))
 
--- steps so far, of a trace or of a schedule
-abbrev drafted : (in_trace : Bool) → List Line → Draft
-drafted false steps = Stepped steps
-drafted true steps = Traced steps
-
--- a step that was read behind the others, if one was
-pub step_read : {A E : Type 0} (now : A → List ℕ) (in_trace : Bool) (n : ℕ) (bytes : List ℕ) (old new : List Line) (answer : Result (Option A) E)
-    → IfOk answer (λ found. MatchOption found (new ≡ old)
-    (λ after. (line : Line) × BeginsLine n in_trace bytes line (now after) × (new ≡ old ++ line ∷ []) × (length (now after) < length bytes)))
-    → IfOk answer (λ found. MatchOption found (drafted in_trace new ≡ drafted in_trace old)
-    (λ after. (in_trace' : Bool) × (line : Line) × BeginsLine n in_trace' bytes line (now after) × (may_follow (drafted in_trace old) (Step in_trace') ≡ true)
-    × (drafted in_trace new ≡ with_step in_trace' (drafted in_trace old) line) × (length (now after) < length bytes)))
-step_read now in_trace n bytes old new (Err e) read = tt
-step_read now in_trace n bytes old new (Ok None) read = ap (drafted in_trace) read
-step_read now false n bytes old new (Ok (Some after)) read = (false, read.0, read.1, refl, ap Stepped read.2, read.3)
-step_read now true n bytes old new (Ok (Some after)) read = (true, read.0, read.1, refl, ap Traced read.2, read.3)
+-- the steps so far
+pub steps_in : (in_trace : Bool) (steps : List Line) → lines_in (steps_of in_trace steps) ≡ steps
+steps_in false steps = append-nil steps
+steps_in true steps = refl

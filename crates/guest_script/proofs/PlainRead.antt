@@ -1,5 +1,5 @@
 -- A line that is read as it is printed is what the reader of words reads.
-use Rattle.std.proofs.Common.{◌≡◌, ℕ, ℤ, ◌+◌, ◌<◌, Bool, true, false, not, ◌&&◌, List, [], ◌∷◌, ◌++◌, length, Option, Some, None, Ok, codes, refl, sym, ap, ◌∙◌, inl, inr}
+use Rattle.std.proofs.Common.{◌≡◌, ℕ, ℤ, ◌+◌, Bool, true, false, not, ◌&&◌, List, [], ◌∷◌, ◌++◌, Option, Some, None, Ok, codes, refl, sym, ap, ◌∙◌, inl, inr}
 use Rattle.std.specs.List.{AllByRecursion, join_with_byte, list_all}
 use Rattle.std.specs.Str.Lines.{lines}
 use Rattle.std.specs.Str.{bytes_eq}
@@ -14,10 +14,11 @@ use Rattle.guest_script.specs.declared.fault.Fault.{Fault}
 use Rattle.guest_script.specs.declared.kind.Kind.TheVariants.{Step}
 use Rattle.guest_script.specs.declared.said.Said.{Said}
 use Rattle.guest_script.specs.declared.script.Line.{Line}
+use Rattle.guest_script.specs.Drafts.{steps_of}
 use Rattle.guest_script.specs.Forms.{Form, form_of, guest_forms, IsSaid, named, other_forms, said_form_of, said_forms}
 use Rattle.board_core.specs.declared.event.Op.{Op}
 use Rattle.guest_script.specs.Words.{is_allowed, is_blank, is_hash, IsSigned}
-use Rattle.guest_script.specs.Grammar.{Draft, IsActor, IsStep, IsStepLine}
+use Rattle.guest_script.specs.Grammar.{Draft, Stepped, Traced, IsActor, IsStep, IsStepLine}
 use Rattle.guest_script.specs.Values.{is_filled, next_in, with_step, words_in}
 use Rattle.guest_script.specs.FirstFault.{byte_test, line_tests, may_follow}
 use Rattle.guest_script.specs.Reading.{line_from, lines_from, located, or_fault}
@@ -122,7 +123,8 @@ plain_read n in_trace draft bytes line after (first, others, parts, is) may =
     parts ∙ sym (append_assoc first (behind others) (10 ∷ after)) ∙ ap (λ (b : List ℕ). b ++ 10 ∷ after) (joined_behind first others) ∙ sym (append_assoc (join_with_byte 32 words) (10 ∷ []) after) in
     good_line n draft bytes (join_with_byte 32 words) after (ap lines whole ∙ lines_printed words after plain) (with_step in_trace draft line) (line_read n in_trace draft words line plain is may)
 
-pub found_read : (n : ℕ) (draft next : Draft) (bytes after : List ℕ)
-    → (in_trace : Bool) × (line : Line) × BeginsLine n in_trace bytes line after × (may_follow draft (Step in_trace) ≡ true) × (next ≡ with_step in_trace draft line) × (length after < length bytes)
-    → lines_from n draft (lines bytes) ≡ lines_from (n + 1) next (lines after)
-found_read n draft next bytes after (in_trace, line, begins, may, made, shorter) = rw made (plain_read n in_trace draft bytes line after begins may)
+-- a step more of a schedule or a trace
+pub step_read : (n : ℕ) (in_trace : Bool) (old new : List Line) (bytes after : List ℕ) → (line : Line) × BeginsLine n in_trace bytes line after × (new ≡ old ++ line ∷ [])
+    → lines_from n (steps_of in_trace old) (lines bytes) ≡ lines_from (n + 1) (steps_of in_trace new) (lines after)
+step_read n false old new bytes after (line, begins, grown) = rw grown (plain_read n false (Stepped old) bytes line after begins refl)
+step_read n true old new bytes after (line, begins, grown) = rw grown (plain_read n true (Traced old) bytes line after begins refl)

@@ -1,6 +1,8 @@
 -- A body that is being read, as the lines so far.
+use Rattle.std.specs.Prelude.{Bool, true, false, List}
 use Rattle.guest_script.specs.declared.draft.BodyDraft.{BodyDraft}
 use Rattle.guest_script.specs.declared.draft.BodyDraft.TheVariants as drafts
+use Rattle.guest_script.specs.declared.script.Line.{Line}
 use Rattle.guest_script.specs.Grammar.{Draft, Nothing, Blocked, Stepped, Traced}
 
 abbrev pub draft_of : BodyDraft → Draft
@@ -8,3 +10,8 @@ draft_of drafts.Nothing = Nothing
 draft_of (drafts.Blocks blocks) = Blocked blocks
 draft_of (drafts.Steps lines) = Stepped lines
 draft_of (drafts.Trace lines) = Traced lines
+
+-- steps of a trace or of a schedule
+abbrev pub steps_of : (in_trace : Bool) → List Line → Draft
+steps_of false lines = Stepped lines
+steps_of true lines = Traced lines

@@ -14,7 +14,7 @@ use crate::blocks::BlocksDraft;
 use crate::fault::{Fault, NO_MEMORY, ScriptFault};
 use crate::kind::Kind;
 use crate::lines::Lines;
-use crate::plain::read_plain;
+use crate::plain::read_plain_lines;
 use crate::script::{Body, Line};
 use crate::step::{one_number, step_line};
 use crate::text::{is_clean, next_line};
@@ -47,46 +47,49 @@ impl BodyDraft {
         }
     }
 
-    /// Reads line `n`, which the bytes begin with, and answers the bytes after it.
-    pub fn read_first<'a>(
+    /// Reads line `n`, which the bytes begin with, or more lines from it on: all that stand in the form in which steps are
+    /// printed, and one more. It answers the next line's number, and the bytes from it on.
+    pub fn read_some<'a>(
         &mut self,
         alloc: Global,
         n: u64,
         bytes: &'a [u8],
-    ) -> Result<&'a [u8], ScriptFault>
+    ) -> Result<(u64, &'a [u8]), ScriptFault>
         requires some { 0 < length bytes.now }
-        requires number { n < 2 ^ 28 }
-        requires few { length (lines_in (draft_of self.old)) < 2 ^ 28 }
+        requires number { n + length bytes.now < 2 ^ 28 }
+        requires few { length (lines_in (draft_of self.old)) ≤ n }
         ensures read { MatchResult result
-            (λ after. lines_from n (draft_of self.old) (lines bytes.now) ≡ lines_from (n + 1) (draft_of self.new) (lines after.now))
+            (λ found. lines_from n (draft_of self.old) (lines bytes.now) ≡ lines_from found.0 (draft_of self.new) (lines found.1.now))
             (λ e. (e ≡ no_memory) ⊎ (lines_from n (draft_of self.old) (lines bytes.now) ≡ Err e)) }
-        ensures shorter { IfOk result (λ after. length after.now < length bytes.now) }
-        ensures few { OnOk result (length (lines_in (draft_of self.new)) ≤ length (lines_in (draft_of self.old)) + 1) }
+        ensures within { IfOk result (λ found. found.0 + length found.1.now ≤ n + length bytes.now) }
+        ensures shorter { IfOk result (λ found. length found.1.now < length bytes.now) }
+        ensures few { IfOk result (λ found. length (lines_in (draft_of self.new)) ≤ found.0) }
     {
-        match self.read_plain(n, bytes) {
-            Ok(Some(after)) => Ok(after),
-            Ok(None) => {
-                let (text, after) = next_line(bytes);
-                self.read_line(alloc, n, text)?;
-                Ok(after)
-            }
-            Err(_) => Err(NO_MEMORY),
+        let Ok((next, rest)) = self.read_plain(n, bytes) else {
+            return Err(NO_MEMORY);
+        };
+        if rest.is_empty() {
+            return Ok((next, rest));
         }
+        let (text, after) = next_line(rest);
+        self.read_line(alloc, next, text)?;
+        Ok((next + 1, after))
     }
 
-    /// Reads line `n` of a schedule or a trace, which the bytes begin with, if it stands in the form in which steps are
-    /// printed, and answers the bytes after it. Else nothing is read.
-    fn read_plain<'a>(&mut self, n: u64, bytes: &'a [u8]) -> Result<Option<&'a [u8]>, AllocError>
-        requires number { n < 2 ^ 28 }
-        requires few { length (lines_in (draft_of self.old)) < 2 ^ 28 }
-        ensures read { IfOk result (λ found. MatchOption found (draft_of self.new ≡ draft_of self.old)
-            (λ after. (in_trace : Bool) × (line : Line) × BeginsLine n in_trace bytes.now line after.now × (may_follow (draft_of self.old) (Step in_trace) ≡ true)
-            × (draft_of self.new ≡ with_step in_trace (draft_of self.old) line) × (length after.now < length bytes.now))) }
+    /// Reads the lines of a schedule or a trace from number `n` on, as long as they stand in the form in which steps are
+    /// printed, and answers the next line's number, and the bytes from it on.
+    fn read_plain<'a>(&mut self, n: u64, bytes: &'a [u8]) -> Result<(u64, &'a [u8]), AllocError>
+        requires number { n + length bytes.now < 2 ^ 28 }
+        requires few { length (lines_in (draft_of self.old)) ≤ n }
+        ensures read { IfOk result (λ found. lines_from n (draft_of self.old) (lines bytes.now) ≡ lines_from found.0 (draft_of self.new) (lines found.1.now)) }
+        ensures within { IfOk result (λ found. found.0 + length found.1.now ≤ n + length bytes.now) }
+        ensures shorter { IfOk result (λ found. length found.1.now ≤ length bytes.now) }
+        ensures few { IfOk result (λ found. length (lines_in (draft_of self.new)) ≤ found.0) }
     {
         match self {
-            BodyDraft::Steps(steps) => read_plain(steps, n, false, bytes),
-            BodyDraft::Trace(steps) => read_plain(steps, n, true, bytes),
-            _ => Ok(None),
+            BodyDraft::Steps(steps) => read_plain_lines(steps, n, false, bytes),
+            BodyDraft::Trace(steps) => read_plain_lines(steps, n, true, bytes),
+            _ => Ok((n, bytes)),
         }
     }
 

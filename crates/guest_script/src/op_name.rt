@@ -74,6 +74,7 @@ impl OpName {
 
     /// What may follow the name.
     #[tactic(auto, unfolding(crate::specs::Forms::form_of))]
+    #[inline(always)]
     pub fn places(self) -> Places
         ensures form { IsFormAt result (form_of (op_spelling self)) }
         ensures fits { result.most ≤ MOST_ARGUMENTS }

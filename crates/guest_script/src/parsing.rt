@@ -116,8 +116,7 @@ fn read_lines(alloc: Global, bytes: &[u8], first: u64) -> Result<BodyDraft, Scri
     let mut rest = bytes;
     let mut number = first;
     while !rest.is_empty() {
-        rest = draft.read_first(alloc, number, rest)?;
-        number += 1;
+        (number, rest) = draft.read_some(alloc, number, rest)?;
     }
     Ok(draft)
 }

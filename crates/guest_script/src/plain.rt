@@ -1,7 +1,10 @@
 ghost use Rattle.std.specs.Prelude.{◌≡◌, ◌+◌, ◌≤◌, ◌<◌, ◌++◌, ◌^◌, ◌∷◌, [], ℕ, List, None, Some, codes, IfOk, IfSome, MatchOption, length};
+ghost use Rattle.std.specs.Str.Lines.{lines};
 ghost use Rattle.board_core.specs.declared.event.Op.TheVariants.{Sfence};
 ghost use Rattle.guest_script.specs.declared.script.Line.{Line};
 ghost use Rattle.guest_script.specs.Words.{last_number};
+ghost use Rattle.guest_script.specs.Drafts.{steps_of};
+ghost use Rattle.guest_script.specs.Reading.{lines_from};
 ghost use Rattle.guest_script.specs.PlainLines.{BeginsActor, BeginsArgument, BeginsDigits, BeginsLine, BeginsName, BeginsNumber, BeginsNumbers, BeginsOp, BeginsSaid, BeginsSaidName, BeginsSigned, BeginsWord};
 ghost use Rattle.guest_script.specs.KeptLines.{plain_line};
 ghost use Rattle.guest_script.specs.Packing.{FitsKept, op_made};
@@ -33,13 +36,42 @@ pub struct Plain {
     pub said: Option<Said>,
 }
 
+/// Puts the lines from number `first` on, which the bytes are, behind the others, as long as they stand in the form in which
+/// steps are printed, and answers the next line's number, and the bytes from it on.
+///
+/// # Errors
+///
+/// Memory was refused.
+pub fn read_plain_lines<'a>(
+    steps: &mut Lines,
+    first: u64,
+    in_trace: bool,
+    bytes: &'a [u8],
+) -> Result<(u64, &'a [u8]), AllocError>
+    requires number { first + length bytes.now < 2 ^ 28 }
+    requires few { length steps.old ≤ first }
+    ensures read { IfOk result (λ found. lines_from first (steps_of in_trace steps.old) (lines bytes.now) ≡ lines_from found.0 (steps_of in_trace steps.new) (lines found.1.now)) }
+    ensures within { IfOk result (λ found. found.0 + length found.1.now ≤ first + length bytes.now) }
+    ensures shorter { IfOk result (λ found. length found.1.now ≤ length bytes.now) }
+    ensures few { IfOk result (λ found. length steps.new ≤ found.0) }
+{
+    let mut number = first;
+    let mut rest = bytes;
+    while let Some(after) = read_plain(steps, number, in_trace, rest)? {
+        rest = after;
+        number += 1;
+    }
+    Ok((number, rest))
+}
+
 /// Puts line `n`, which the bytes begin with, behind the lines, if it stands in the form in which steps are printed, and
 /// answers the bytes after it. Else nothing is read.
 ///
 /// # Errors
 ///
 /// Memory was refused.
-pub fn read_plain<'a>(
+#[inline(always)]
+fn read_plain<'a>(
     lines: &mut Lines,
     n: u64,
     in_trace: bool,
@@ -128,7 +160,8 @@ fn plain_actor(bytes: &[u8]) -> Option<(Actor, &[u8])>
     }
 }
 
-/// A blank, an operation's name, and its numbers, of which none has a limit of its own; of a fence those that are there.
+/// A blank, an operation's name, and its numbers, of which none has a limit of its own; of a fence those that are there. The
+/// one name that may stand there is told by its letters; a wrong guess costs no more than its time.
 #[inline(always)]
 fn plain_op<'a>(
     bytes: &'a [u8],
@@ -138,7 +171,39 @@ fn plain_op<'a>(
     ensures op { IfSome result (λ found. BeginsOp bytes.now (op_made found.0 numbers.new.items) found.1.now) }
     ensures shorter { IfSome result (λ found. length found.1.now ≤ length bytes.now) }
 {
-    let (name, rest) = plain_name(bytes)?;
+    match bytes {
+        [_, b'e', ..] => plain_named(OpName::Ecall, bytes, numbers),
+        [_, b'l', ..] => plain_named(OpName::Load, bytes, numbers),
+        [_, b't', ..] => plain_named(OpName::Tick, bytes, numbers),
+        [_, b'a', ..] => plain_named(OpName::Advance, bytes, numbers),
+        [_, b'p', ..] => plain_named(OpName::Poll, bytes, numbers),
+        [_, b'w', ..] => plain_named(OpName::Wfi, bytes, numbers),
+        [_, b'c', ..] => plain_named(OpName::Clearssip, bytes, numbers),
+        [_, b'f', b'e', b't', ..] => plain_named(OpName::Fetch, bytes, numbers),
+        [_, b'f', ..] => plain_named(OpName::Fencei, bytes, numbers),
+        [_, b's', b'i', b'p', ..] => plain_named(OpName::Sip, bytes, numbers),
+        [_, b's', b'i', ..] => plain_named(OpName::Sie, bytes, numbers),
+        [_, b's', b't', ..] => plain_named(OpName::Store, bytes, numbers),
+        [_, b's', b'a', ..] => plain_named(OpName::Satp, bytes, numbers),
+        [_, b's', b'f', ..] => plain_named(OpName::Sfence, bytes, numbers),
+        [_, b's', b'e', ..] => plain_named(OpName::Serve, bytes, numbers),
+        [_, b's', ..] => plain_named(OpName::Sstatus, bytes, numbers),
+        _ => None,
+    }
+}
+
+/// The same of one name.
+#[inline(always)]
+fn plain_named<'a>(
+    name: OpName,
+    bytes: &'a [u8],
+    numbers: &mut ArrayVec<u64, MOST_ARGUMENTS>,
+) -> Option<(OpShape, &'a [u8])>
+    requires { numbers.old.items ≡ [] }
+    ensures op { IfSome result (λ found. BeginsOp bytes.now (op_made found.0 numbers.new.items) found.1.now) }
+    ensures shorter { IfSome result (λ found. length found.1.now ≤ length bytes.now) }
+{
+    let rest = after_name(name, bytes)?;
     match name {
         OpName::Sfence => plain_fence(rest, numbers),
         _ => {
@@ -229,41 +294,6 @@ fn plain_places<'a>(
         return None;
     }
     Some(rest)
-}
-
-#[inline(always)]
-fn plain_name(bytes: &[u8]) -> Option<(OpName, &[u8])>
-    ensures name { IfSome result (λ found. BeginsName bytes.now found.0 found.1.now) }
-    ensures shorter { IfSome result (λ found. length found.1.now ≤ length bytes.now) }
-{
-    let name = likely_name(bytes)?;
-    let rest = after_name(name, bytes)?;
-    Some((name, rest))
-}
-
-/// The one name that may stand behind a blank, by its letters that tell it from the others. A wrong guess costs no more
-/// than its time.
-#[inline(always)]
-fn likely_name(bytes: &[u8]) -> Option<OpName> {
-    match bytes {
-        [_, b'e', ..] => Some(OpName::Ecall),
-        [_, b'l', ..] => Some(OpName::Load),
-        [_, b't', ..] => Some(OpName::Tick),
-        [_, b'a', ..] => Some(OpName::Advance),
-        [_, b'p', ..] => Some(OpName::Poll),
-        [_, b'w', ..] => Some(OpName::Wfi),
-        [_, b'c', ..] => Some(OpName::Clearssip),
-        [_, b'f', b'e', b't', ..] => Some(OpName::Fetch),
-        [_, b'f', ..] => Some(OpName::Fencei),
-        [_, b's', b'i', b'p', ..] => Some(OpName::Sip),
-        [_, b's', b'i', ..] => Some(OpName::Sie),
-        [_, b's', b't', ..] => Some(OpName::Store),
-        [_, b's', b'a', ..] => Some(OpName::Satp),
-        [_, b's', b'f', ..] => Some(OpName::Sfence),
-        [_, b's', b'e', ..] => Some(OpName::Serve),
-        [_, b's', ..] => Some(OpName::Sstatus),
-        _ => None,
-    }
 }
 
 /// What follows a blank and a name.

@@ -5,9 +5,9 @@ use Rattle.guest_script.proofs.parsing.read_lines.Goals as goal
 
 pub loop-rest-preserved : goal.loop-rest-preserved
 loop-rest-preserved c = (
-  sym c.in_ok-rest.ensures.read ∙ c.loop-rest.invariant.0,
-  omega (arith, c.in_ok-rest.ensures.shorter, c.loop-rest.invariant.1),
-  omega (arith, c.in_ok-rest.ensures.few, c.loop-rest.invariant.2),
+  sym c.in_ok-number.ensures.read ∙ c.loop-rest.invariant.0,
+  omega (arith, c.in_ok-number.ensures.within, c.loop-rest.invariant.1),
+  c.in_ok-number.ensures.few,
 )
 
 pub returns : goal.returns

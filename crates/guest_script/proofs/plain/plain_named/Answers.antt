@@ -4,13 +4,13 @@ use Rattle.guest_script.specs.Packing.{op_made, plain_shape}
 use Rattle.guest_script.specs.Reading.{op_spelling}
 use Rattle.guest_script.proofs.PlainParts.{named_begins}
 use Rattle.guest_script.proofs.PlainShapes.{name_makes}
-use Rattle.guest_script.proofs.plain.plain_op.Goals as goal
+use Rattle.guest_script.proofs.plain.plain_named.Goals as goal
 
 pub returns-in_ok-rest-in_default-clause-op : goal.returns-in_ok-rest-in_default-clause-op
 returns-in_ok-rest-in_default-clause-op c =
-    let name = c.in_ok-name.name in
+    let name = c.args.name in
     let ns = c.plain_places.new.numbers.items in
     rw c.of_name.ensures
-    (named_begins form_of Advance c.args.bytes.now (op_spelling name) c.in_ok-name.rest.now c.places.result ns c.in_ok-rest-in_default.rest.now (op_made (plain_shape name) ns) c.in_ok-name.ensures.name c.places.ensures.form
+    (named_begins form_of Advance c.args.bytes.now (op_spelling name) c.in_ok-rest.rest.now c.places.result ns c.in_ok-rest-in_default.rest.now (op_made (plain_shape name) ns) c.in_ok-rest.ensures.name c.places.ensures.form
     c.in_ok-rest-in_default.ensures.any c.in_ok-rest-in_default.ensures.numbers c.in_ok-rest-in_default.ensures.least c.in_ok-rest-in_default.ensures.most
     (name_makes name c.places.result ns c.places.ensures.form c.in_ok-rest-in_default.ensures.any c.in_ok-rest-in_default.ensures.least c.in_ok-rest-in_default.ensures.most))
