@@ -42,6 +42,7 @@ pub struct Plain {
 /// # Errors
 ///
 /// Memory was refused.
+#[inline(always)]
 pub fn read_plain_lines<'a>(
     steps: &mut Lines,
     first: u64,
@@ -458,34 +459,37 @@ fn plain_signed(bytes: &[u8]) -> Option<(i64, &[u8])>
     }
 }
 
+/// Told by its letters, as an operation's name is.
 #[inline(always)]
 fn plain_named_said(bytes: &[u8]) -> Option<(Said, &[u8])>
     ensures said { IfSome result (λ found. BeginsSaid bytes.now found.0 found.1.now) }
     ensures shorter { IfSome result (λ found. length found.1.now ≤ length bytes.now) }
 {
-    let name = likely_said(bytes)?;
+    match bytes {
+        [_, b'w', ..] => plain_said_as(SaidName::Waiting, bytes),
+        [_, b'g', ..] => plain_said_as(SaidName::Gone, bytes),
+        [_, b's', ..] => plain_said_as(SaidName::Served, bytes),
+        [_, b'd', ..] => plain_said_as(SaidName::Done, bytes),
+        [_, b'e', ..] => plain_said_as(SaidName::Entry, bytes),
+        [_, b'v', ..] => plain_said_as(SaidName::Value, bytes),
+        [_, b'f', ..] => plain_said_as(SaidName::Fault, bytes),
+        [_, b'm', ..] => plain_said_as(SaidName::Moved, bytes),
+        [_, b'r', ..] => plain_said_as(SaidName::Refused, bytes),
+        _ => None,
+    }
+}
+
+/// The same of one name.
+#[inline(always)]
+fn plain_said_as(name: SaidName, bytes: &[u8]) -> Option<(Said, &[u8])>
+    ensures said { IfSome result (λ found. BeginsSaid bytes.now found.0 found.1.now) }
+    ensures shorter { IfSome result (λ found. length found.1.now ≤ length bytes.now) }
+{
     let rest = after_said(name, bytes)?;
     let mut numbers = ArrayVec::new();
     let rest = plain_places(name.places(), rest, &mut numbers)?;
     let said = SaidShape::of_name(name).said(&numbers)?;
     Some((said, rest))
-}
-
-/// The one name that may stand behind a blank, by its first letter. A wrong guess costs no more than its time.
-#[inline(always)]
-fn likely_said(bytes: &[u8]) -> Option<SaidName> {
-    match bytes {
-        [_, b'w', ..] => Some(SaidName::Waiting),
-        [_, b'g', ..] => Some(SaidName::Gone),
-        [_, b's', ..] => Some(SaidName::Served),
-        [_, b'd', ..] => Some(SaidName::Done),
-        [_, b'e', ..] => Some(SaidName::Entry),
-        [_, b'v', ..] => Some(SaidName::Value),
-        [_, b'f', ..] => Some(SaidName::Fault),
-        [_, b'm', ..] => Some(SaidName::Moved),
-        [_, b'r', ..] => Some(SaidName::Refused),
-        _ => None,
-    }
 }
 
 /// What follows a blank and a name.

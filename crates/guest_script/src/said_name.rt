@@ -52,6 +52,7 @@ impl SaidName {
 
     /// What may follow the name.
     #[tactic(auto, unfolding(crate::specs::Forms::said_form_of))]
+    #[inline(always)]
     pub fn places(self) -> Places
         ensures form { IsFormAt result (said_form_of (said_spelling self)) }
         ensures fits { result.most ≤ MOST_ARGUMENTS }

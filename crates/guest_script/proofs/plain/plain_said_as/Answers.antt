@@ -4,11 +4,11 @@ use Rattle.guest_script.specs.Forms.{said_form_of}
 use Rattle.guest_script.specs.Reading.{said_spelling}
 use Rattle.guest_script.proofs.PlainParts.{named_begins}
 use Rattle.guest_script.proofs.PlainShapes.{said_makes}
-use Rattle.guest_script.proofs.plain.plain_named_said.Goals as goal
+use Rattle.guest_script.proofs.plain.plain_said_as.Goals as goal
 
 pub returns-clause-said : goal.returns-clause-said
 returns-clause-said c =
-    let name = c.in_ok-name.name in
+    let name = c.args.name in
     let ns = c.plain_places.new.numbers.items in
     let made = sym (rw (c.of_name.ensures, c.deref.ensures.0) at c.said.ensures) ∙ c.in_ok-said.was in
     let named =
