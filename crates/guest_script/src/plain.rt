@@ -42,7 +42,6 @@ pub struct Plain {
 /// # Errors
 ///
 /// Memory was refused.
-#[inline(always)]
 pub fn read_plain_lines<'a>(
     steps: &mut Lines,
     first: u64,
@@ -274,6 +273,7 @@ fn plain_argument(bytes: &[u8]) -> Option<(Option<u64>, &[u8])>
 
 /// The numbers in these places, if none of them has a limit of its own.
 #[inline(always)]
+#[tactic(auto, using(crate::proofs::PlainParts::no_numbers))]
 fn plain_places<'a>(
     places: Places,
     bytes: &'a [u8],
@@ -290,7 +290,11 @@ fn plain_places<'a>(
     if places.limit != u64::MAX {
         return None;
     }
-    let rest = plain_numbers(bytes, places.most, numbers);
+    let rest = if places.most == 0 {
+        bytes
+    } else {
+        plain_numbers(bytes, places.most, numbers)
+    };
     if numbers.len() < places.least {
         return None;
     }
@@ -333,7 +337,7 @@ fn after<'a>(bytes: &'a [u8], front: &[u8]) -> Option<&'a [u8]>
 }
 
 /// Gathers the numbers that come next, a blank before each, at most so many.
-#[inline(always)]
+#[inline(never)]
 #[tactic(auto, using(crate::proofs::PlainParts::no_numbers, crate::proofs::PlainParts::numbers_more))]
 fn plain_numbers<'a>(
     bytes: &'a [u8],
@@ -412,7 +416,7 @@ fn plain_digits(bytes: &[u8], radix: u32) -> Option<(u64, &[u8])>
 }
 
 /// A reply or a refusal, a blank before each of its words.
-#[inline(always)]
+#[inline(never)]
 fn plain_said(bytes: &[u8]) -> Option<(Said, &[u8])>
     ensures said { IfSome result (λ found. BeginsSaid bytes.now found.0 found.1.now) }
     ensures shorter { IfSome result (λ found. length found.1.now ≤ length bytes.now) }
