@@ -416,7 +416,7 @@ fn plain_digits(bytes: &[u8], radix: u32) -> Option<(u64, &[u8])>
 }
 
 /// A reply or a refusal, a blank before each of its words.
-#[inline(never)]
+#[inline(always)]
 fn plain_said(bytes: &[u8]) -> Option<(Said, &[u8])>
     ensures said { IfSome result (λ found. BeginsSaid bytes.now found.0 found.1.now) }
     ensures shorter { IfSome result (λ found. length found.1.now ≤ length bytes.now) }
