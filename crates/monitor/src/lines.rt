@@ -1,13 +1,17 @@
-ghost use Rattle.std.specs.Prelude.{◌≡◌, ◌+◌, ◌^◌, ◌<◌, ◌≤◌, ◌∷◌, ◌++◌, length, map, decimal, Ok};
+ghost use Rattle.std.specs.Prelude.{◌≡◌, ◌+◌, ◌^◌, ◌<◌, ◌≤◌, ◌∷◌, ◌++◌, length, map, codes, decimal, Ok};
+ghost use Rattle.std.specs.Fmt.{signed_decimal};
 ghost use Rattle.std.specs.List.{join_with_byte};
-ghost use Rattle.monitor.specs.LineText.{arguments_room, decimal_room, hex_room, line_room, op_room, page_room, reply_room, with_words};
+ghost use Rattle.monitor.specs.LineText.{arguments_room, decimal_room, hex_room, line_room, op_room, page_room, reply_room, signed_room, with_words};
 ghost use Rattle.monitor.specs.Sinks.{Puts};
 ghost use Rattle.monitor.specs.Words.{bit_of, hex, hex_or_dash, actor_word, board_words, event_words, line_of, op_words, reply_words};
+ghost use Rattle.board_core.specs.declared.event.Op.TheVariants.{Ecall};
+ghost use Rattle.board_core.specs.declared.event.Reply.TheVariants.{Entry};
 
 use crate::line_text::LineText;
 use crate::page::Page;
 use crate::sink::{Failed, Sink, write_all};
 use board_core::{Actor, Config, Event, Op, Refusal, Reply};
+use sbi_abi::Regs;
 
 /// Prints the board line.
 pub fn print_head<W: Sink>(config: &Config, sink: &mut W) -> Result<(), Failed>
@@ -69,7 +73,7 @@ pub fn step_onto(line: &mut LineText, actor: Actor, op: Op, answer: Result<Reply
     ensures len { length line.new ≤ length line.old + line_room }
 {
     actor_onto(line, actor);
-    op_onto(line, op);
+    op_onto(line, &op);
     line.word(b"->");
     reply_onto(line, answer);
     line.text(b"\n");
@@ -88,41 +92,49 @@ fn actor_onto(line: &mut LineText, actor: Actor)
 }
 
 #[inline(always)]
-fn op_onto(line: &mut LineText, op: Op)
+fn op_onto(line: &mut LineText, op: &Op)
     requires { length line.old + op_room ≤ page_room }
-    ensures text { line.new ≡ with_words line.old (op_words op) }
+    ensures text { line.new ≡ with_words line.old (op_words op.now) }
     ensures len { length line.new ≤ length line.old + op_room }
 {
     match op {
-        Op::Ecall(regs) => {
-            line.word(b"ecall");
-            line.hex(regs.eid);
-            line.hex(regs.fid);
-            arguments_onto(line, &regs.a);
-        }
-        Op::Load(va) => hex_onto(line, b"load", va),
+        Op::Ecall(regs) => ecall_onto(line, regs),
+        Op::Load(va) => hex_onto(line, b"load", *va),
         Op::Store(va, value) => {
-            hex_onto(line, b"store", va);
-            line.hex(value);
+            hex_onto(line, b"store", *va);
+            line.hex(*value);
         }
-        Op::Fetch(va) => hex_onto(line, b"fetch", va),
-        Op::WriteSatp(value) => hex_onto(line, b"satp", value),
-        Op::WriteSie(value) => hex_onto(line, b"sie", value),
-        Op::WriteSstatusSie(value) => decimal_onto(line, b"sstatus", bit(value)),
+        Op::Fetch(va) => hex_onto(line, b"fetch", *va),
+        Op::WriteSatp(value) => hex_onto(line, b"satp", *value),
+        Op::WriteSie(value) => hex_onto(line, b"sie", *value),
+        Op::WriteSstatusSie(value) => decimal_onto(line, b"sstatus", bit(*value)),
         Op::ReadSip => line.word(b"sip"),
         Op::ClearSsip => line.word(b"clearssip"),
         Op::Sfence(va, asid) => {
             line.word(b"sfence");
-            hex_or_dash_onto(line, va);
-            hex_or_dash_onto(line, asid);
+            hex_or_dash_onto(line, *va);
+            hex_or_dash_onto(line, *asid);
         }
         Op::FenceI => line.word(b"fencei"),
         Op::Wfi => line.word(b"wfi"),
         Op::Poll => line.word(b"poll"),
         Op::Serve => line.word(b"serve"),
         Op::Advance => line.word(b"advance"),
-        Op::Tick(n) => hex_onto(line, b"tick", n),
+        Op::Tick(n) => hex_onto(line, b"tick", *n),
     }
+}
+
+/// Appends a call. It is apart, so that the registers are read here alone.
+#[inline(never)]
+fn ecall_onto(line: &mut LineText, regs: &Regs)
+    requires { length line.old + op_room ≤ page_room }
+    ensures text { line.new ≡ with_words line.old (op_words (Ecall regs.now)) }
+    ensures len { length line.new ≤ length line.old + op_room }
+{
+    line.word(b"ecall");
+    line.hex(regs.eid);
+    line.hex(regs.fid);
+    arguments_onto(line, &regs.a);
 }
 
 /// Appends a name and a number in hexadecimal digits.
@@ -169,26 +181,52 @@ fn reply_onto(line: &mut LineText, answer: Result<Reply, Refusal>)
     ensures some { 0 < length line.new }
 {
     match answer {
-        Ok(Reply::Ret(answer)) => {
-            line.word(b"ret");
-            line.signed(answer.error);
-            line.hex(answer.value);
-        }
+        Ok(Reply::Ret(answer)) => ret_onto(line, answer.error, answer.value),
         Ok(Reply::Waiting) => line.word(b"waiting"),
         Ok(Reply::Gone) => line.word(b"gone"),
-        Ok(Reply::Entry { addr, hart, opaque }) => {
-            line.word(b"entry");
-            line.hex(addr);
-            line.decimal(hart);
-            line.hex(opaque);
-        }
-        Ok(Reply::Value(value)) => hex_onto(line, b"value", value),
+        Ok(Reply::Entry { addr, hart, opaque }) => entry_onto(line, addr, hart, opaque),
+        Ok(Reply::Value(value)) => value_onto(line, value),
         Ok(Reply::Fault(cause)) => decimal_onto(line, b"fault", cause.number()),
         Ok(Reply::Served) => line.word(b"served"),
         Ok(Reply::Moved(state)) => decimal_onto(line, b"moved", state.number()),
         Ok(Reply::Done) => line.word(b"done"),
         Err(refusal) => decimal_onto(line, b"refused", refusal.number()),
     }
+}
+
+/// Appends what a call returned. It is apart, as each reply of long numbers, so that the others are written in place.
+#[inline(never)]
+fn ret_onto(line: &mut LineText, error: i64, value: u64)
+    requires { length line.old + 4 + signed_room + hex_room ≤ page_room }
+    ensures text { line.new ≡ ((line.old ++ 32 ∷ codes "ret") ++ 32 ∷ signed_decimal error) ++ 32 ∷ hex value }
+    ensures len { length line.new ≤ length line.old + 4 + signed_room + hex_room }
+{
+    line.word(b"ret");
+    line.signed(error);
+    line.hex(value);
+}
+
+/// Appends what was read.
+#[inline(never)]
+fn value_onto(line: &mut LineText, value: u64)
+    requires { length line.old + 9 + hex_room ≤ page_room }
+    ensures text { line.new ≡ (line.old ++ 32 ∷ codes "value") ++ 32 ∷ hex value }
+    ensures len { length line.new ≤ length line.old + 9 + hex_room }
+{
+    hex_onto(line, b"value", value);
+}
+
+/// Appends an entry.
+#[inline(never)]
+fn entry_onto(line: &mut LineText, addr: u64, hart: u64, opaque: u64)
+    requires { length line.old + reply_room ≤ page_room }
+    ensures text { line.new ≡ with_words line.old (reply_words (Ok (Entry addr hart opaque))) }
+    ensures len { length line.new ≤ length line.old + reply_room }
+{
+    line.word(b"entry");
+    line.hex(addr);
+    line.decimal(hart);
+    line.hex(opaque);
 }
 
 /// A bit: 1 for true.

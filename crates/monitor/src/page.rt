@@ -1,4 +1,5 @@
-ghost use Rattle.std.specs.Prelude.{◌≡◌, ℕ, ◌^◌, ◌<◌, List, [], OnOk};
+ghost use Rattle.std.specs.Prelude.{◌≡◌, ℕ, ◌+◌, ◌^◌, ◌<◌, ◌≤◌, List, [], OnOk, length};
+ghost use Rattle.monitor.specs.LineText.{line_room, page_room};
 ghost use Rattle.monitor.specs.Sinks.{Passes, Puts};
 ghost use Rattle.monitor.specs.Words.{event_words, line_of};
 
@@ -21,6 +22,9 @@ impl Model for Page {
     ghost Value = { List ℕ };
 
     ghost view = { λ p. p.text };
+
+    // a line has room
+    ghost invariant = { λ p. length p.text + line_room ≤ page_room };
 }
 
 impl Page {
@@ -51,10 +55,10 @@ impl Page {
         ensures { Passes W.written W.failures sink.old sink.new result self.old self.new
             (line_of (event_words actor op answer)) }
     {
-        if self.text.len() > CAPACITY - LINE_ROOM {
-            self.put(sink)?;
-        }
         step_onto(&mut self.text, actor, op, answer);
+        if self.text.len() > CAPACITY - LINE_ROOM {
+            return put_all(&mut self.text, sink);
+        }
         Ok(())
     }
 
@@ -68,8 +72,19 @@ impl Page {
         ensures text { Puts W.written W.failures sink.old sink.new result self.old }
         ensures none { OnOk result (self.new ≡ []) }
     {
-        write_all(sink, self.text.all())?;
-        self.text.clear();
-        Ok(())
+        put_all(&mut self.text, sink)
     }
+}
+
+/// Writes the text, and leaves none of it, also where a write failed.
+#[cold]
+#[inline(never)]
+fn put_all<W: Sink>(text: &mut LineText, sink: &mut W) -> Result<(), Failed>
+    requires { W.failures sink.old < 2 ^ 63 }
+    ensures puts { Puts W.written W.failures sink.old sink.new result text.old }
+    ensures none { text.new ≡ [] }
+{
+    let written = write_all(sink, text.all());
+    text.clear();
+    written
 }
