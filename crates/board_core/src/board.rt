@@ -1,4 +1,4 @@
-ghost use Rattle.std.specs.Prelude.{◌≡◌, ◌<◌, ◌≤◌, ◌↔◌, List, [], ◌∷◌, true, false, IfOk, IsErrOf, None, Ok, Some, length, reverse};
+ghost use Rattle.std.specs.Prelude.{◌≡◌, ◌<◌, ◌≤◌, ◌↔◌, ◌++◌, List, [], ◌∷◌, vec_capacity, vec_len, true, false, IfOk, IsErrOf, None, Ok, Some, length, reverse};
 ghost use Rattle.hsm.specs.declared.hart.HartState.{HartState};
 ghost use Rattle.interrupts.specs.Timing.{last_time};
 ghost use Rattle.tlb_model.specs.Acts.{cache_after};
@@ -6,7 +6,7 @@ ghost use Rattle.tlb_model.specs.Entries.{covers_entry};
 ghost use Rattle.tlb_model.specs.Words.{covers_word};
 ghost use Rattle.board_core.specs.declared.config.BuildFault.TheVariants.{BadConfig};
 ghost use Rattle.board_core.specs.declared.config.Config.{Config};
-ghost use Rattle.board_core.specs.History.{Event, access_of};
+ghost use Rattle.board_core.specs.History.{Event, access_of, by_hart};
 ghost use Rattle.board_core.specs.declared.event.Actor.TheVariants.{Hart, Clock};
 ghost use Rattle.board_core.specs.Csrs.{sie, sstatus_sie};
 ghost use Rattle.board_core.specs.ErrorLaw.{LooksSame, is_error};
@@ -165,8 +165,7 @@ impl Board {
         ensures after { self.new ≡ stepped self.old (Hart h) op }
     {
         let reply = self.machine.perform(&self.config, h, op);
-        self.events
-            .push_reserved(Event::other(Actor::Hart(h), op, reply));
+        record(&mut self.events, h, op, reply);
         reply
     }
 
@@ -389,6 +388,23 @@ pub fn starts_are_entered()
 pub fn errors_change_nothing()
     ensures { (c : Config) (event : Event) (past : List Event) → IsLegal c (event ∷ past) → is_error event.reply ≡ true → LooksSame c past (event ∷ past) }
 {}
+
+/// Puts an operation of hart `h` that is no access at the end of the history, where there is room.
+#[inline(always)]
+fn record(events: &mut Vec<Event>, h: u64, op: Op, reply: Reply)
+    requires room { vec_len events.old < vec_capacity events.old }
+    requires other { access_of op ≡ None }
+    ensures items { events.new.items ≡ events.old.items ++ by_hart h op reply ∷ [] }
+    ensures capacity { vec_capacity events.new ≡ vec_capacity events.old }
+{
+    // (the commonest by themselves, so that each writes only what it has)
+    let actor = Actor::Hart(h);
+    match op {
+        Op::Ecall(regs) => events.push_reserved(Event::other(actor, Op::Ecall(regs), reply)),
+        Op::Serve => events.push_reserved(Event::other(actor, Op::Serve, reply)),
+        _ => events.push_reserved(Event::other(actor, op, reply)),
+    }
+}
 
 /// The machine of a board at its opening.
 fn opening(alloc: Global, config: &Config) -> Result<Machine, AllocError>

@@ -1,4 +1,4 @@
-ghost use Rattle.std.specs.Prelude.{◌≡◌, ◌<◌, ◌≤◌, ◌+◌, ◌-◌, ◌^◌, Bool, [], IfOk, filter, length, reverse, vec_len, vec_capacity};
+ghost use Rattle.std.specs.Prelude.{◌≡◌, ◌<◌, ◌≤◌, ◌+◌, ◌-◌, ◌^◌, Bool, [], IfOk, filter, length, not, reverse, vec_len, vec_capacity};
 ghost use Rattle.tlb_model.specs.Contents.{IsRecent, cleared, empty, fenced, filled, hit, is_young};
 
 use crate::fence::Flush;
@@ -85,10 +85,14 @@ impl<E: Cached> Cache<E> {
     }
 
     /// Drops exactly what this covers.
+    #[inline(always)]
     pub fn apply(&mut self, flush: Flush)
         ensures { self.new ≡ fenced E.covers self.old flush }
     {
-        self.fills.retain(|fill| !fill.item.is_covered_by(flush));
+        // (most often nothing lives here)
+        if !self.fills.is_empty() {
+            drop_covered(&mut self.fills, flush);
+        }
     }
 
     /// Drops everything, as a stop of the hart or a reset does (profile).
@@ -112,6 +116,14 @@ impl<E: Cached> Cache<E> {
     {
         &self.fills
     }
+}
+
+/// Drops exactly the fills of items that this covers.
+fn drop_covered<E: Cached>(fills: &mut Vec<Numbered<E>>, flush: Flush)
+    ensures kept { fills.new.items ≡ filter (λ fill. not (E.covers flush fill.item)) fills.old.items }
+    ensures capacity { vec_capacity fills.new ≡ vec_capacity fills.old }
+{
+    fills.retain(|fill| !fill.item.is_covered_by(flush));
 }
 
 /// Drops what was filled sixteen fills before this number, if it is still there.

@@ -1,4 +1,4 @@
-use Rattle.std.proofs.Common.{◌≡◌, ◌<◌, false, List, [], ◌∷◌, ◌++◌, ap, sym, ◌∙◌, arith, reverse, subst}
+use Rattle.std.proofs.Common.{◌≡◌, ◌<◌, false, List, ap, sym, ◌∙◌, arith, reverse, subst}
 use Rattle.std.proofs.lemmas.List.{length-reverse}
 use Rattle.board_core.specs.Accesses.{used_by_access}
 use Rattle.board_core.specs.declared.event.Actor.TheVariants.{Hart}
@@ -24,8 +24,8 @@ perform-reply-requires-clause-accepted c =
     let ready = (unrefused c.args.op (situation config past c.args.h) (is_full config past) none).0 in
     subst (IsAccepted c.args.op) (sym (situation-read config past c.self.inside.machine c.self.invariant.0.good.at_most_128_harts c.self.invariant.1 c.args.h inside)) ready
 
-pub push_reserved-requires : goal.push_reserved-requires
-push_reserved-requires c =
+pub record-requires-clause-room : goal.record-requires-clause-room
+record-requires-clause-room c =
     let config = c.self.inside.config in
     let past = reverse c.self.inside.events.items in
     let none = ap (λ (b : Course). first_that_holds (refusals_in (situation b.config b.past c.args.h) c.args.op (is_full b.config b.past))) c.self.view_is ∙ c.requires.unrefused in
@@ -48,8 +48,8 @@ invariant_of-self c =
     let on : is_off past ≡ false = ap (λ (b : Course). is_off b.past) c.self.view_is ∙ c.requires.on in
     let answered = hart_answered config past h op c.perform-reply.result on inside none r in
     let room = (unrefused op (situation config past h) (is_full config past) none).1 in
-    rw (past-more c.self.inside.events.items _ event (c.push_reserved.ensures.items ∙ ap (λ (e : Event). c.self.inside.events.items ++ e ∷ []) c.other.ensures))
-    (kept-more config past event answered u room c.self.invariant.0, c.perform-reply.ensures.after past c.self.invariant.1, let capacity = c.push_reserved.ensures.capacity in let enough = c.self.invariant.2 in omega arith)
+    rw (past-more c.self.inside.events.items _ event c.record.ensures.items)
+    (kept-more config past event answered u room c.self.invariant.0, c.perform-reply.ensures.after past c.self.invariant.1, let capacity = c.record.ensures.capacity in let enough = c.self.invariant.2 in omega arith)
 
 pub returns-clause-answer : goal.returns-clause-answer
 returns-clause-answer c =
@@ -76,6 +76,6 @@ returns-clause-after c =
     let on : is_off past ≡ false = ap (λ (b : Course). is_off b.past) c.self.view_is ∙ c.requires.on in
     let answered = hart_answered config past h op c.perform-reply.result on inside none (c.perform-reply.ensures.answered past c.self.invariant.1) in
     ap (λ (events : List Event). record { config = config; past = events })
-    (past-more c.self.inside.events.items _ event (c.push_reserved.ensures.items ∙ ap (λ (e : Event). c.self.inside.events.items ++ e ∷ []) c.other.ensures))
+    (past-more c.self.inside.events.items _ event c.record.ensures.items)
     ∙ stepped-more config past event answered u
     ∙ ap (λ (b : Course). stepped b (Hart h) op) c.self.view_is
