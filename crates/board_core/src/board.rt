@@ -401,7 +401,11 @@ fn record(events: &mut Vec<Event>, h: u64, op: Op, reply: Reply)
     let actor = Actor::Hart(h);
     match op {
         Op::Ecall(regs) => events.push_reserved(Event::other(actor, Op::Ecall(regs), reply)),
+        Op::ReadSip => events.push_reserved(Event::other(actor, Op::ReadSip, reply)),
+        Op::ClearSsip => events.push_reserved(Event::other(actor, Op::ClearSsip, reply)),
+        Op::Poll => events.push_reserved(Event::other(actor, Op::Poll, reply)),
         Op::Serve => events.push_reserved(Event::other(actor, Op::Serve, reply)),
+        Op::Advance => events.push_reserved(Event::other(actor, Op::Advance, reply)),
         _ => events.push_reserved(Event::other(actor, op, reply)),
     }
 }
