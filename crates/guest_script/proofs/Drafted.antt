@@ -1,13 +1,11 @@
 -- What a line gave, with its number.
 use Rattle.std.proofs.Common.{◌≡◌, ◌⊎◌, ℕ, ◌+◌, ◌≤◌, Bool, true, false, List, [], ◌∷◌, ◌++◌, length, Option, Some, None, Ok, Err, refl, ap, inl, inr, arith, length-append}
-use Rattle.std.proofs.lemmas.List.{append-nil}
 use Rattle.board_core.specs.Refusals.{first_that_holds}
 use Rattle.guest_script.specs.declared.fault.Fault.{Fault}
 use Rattle.guest_script.specs.declared.fault.Fault.TheVariants.{BadByte, NoBoardLine, UnknownWord, BadNumber, WordCount, OtherKind, SecondBlock, TooLong, NoMemory}
 use Rattle.guest_script.specs.declared.kind.Kind.TheVariants.{Head, Operation, Step}
 use Rattle.guest_script.specs.declared.kind.Kind.{Kind}
 use Rattle.guest_script.specs.declared.script.Line.{Line}
-use Rattle.guest_script.specs.Drafts.{steps_of}
 use Rattle.guest_script.specs.Grammar.{Blocked, Draft, Nothing, Stepped, Traced}
 use Rattle.guest_script.specs.Values.{kind_of, line_in, lines_in, next_in, next_of, with_operation, with_step, words_in}
 use Rattle.guest_script.specs.FirstFault.{byte_test, line_tests, no_memory}
@@ -72,8 +70,3 @@ unfolding line_from
 lines_grow n draft text next read =
     let is = is_read n (first_that_holds (byte_test text ∷ line_tests draft (words_in text))) (next_in n draft (words_in text)) next read in
     rw (← is) (next_grows n draft (words_in text))
-
--- the steps so far
-pub steps_in : (in_trace : Bool) (steps : List Line) → lines_in (steps_of in_trace steps) ≡ steps
-steps_in false steps = append-nil steps
-steps_in true steps = refl
