@@ -1,4 +1,5 @@
 pub mod KeptEvents
+pub mod Room
 pub mod Tables
 pub mod Events
 pub mod Accessing

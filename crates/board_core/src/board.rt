@@ -7,6 +7,7 @@ ghost use Rattle.tlb_model.specs.Words.{covers_word};
 ghost use Rattle.board_core.specs.declared.config.BuildFault.TheVariants.{BadConfig};
 ghost use Rattle.board_core.specs.declared.config.Config.{Config};
 ghost use Rattle.board_core.specs.History.{Event, access_of, by_hart};
+ghost use Rattle.board_core.specs.Keeping.{IsShort};
 ghost use Rattle.board_core.specs.declared.event.Actor.TheVariants.{Hart, Clock};
 ghost use Rattle.board_core.specs.Csrs.{sie, sstatus_sie};
 ghost use Rattle.board_core.specs.ErrorLaw.{LooksSame, is_error};
@@ -394,19 +395,20 @@ pub fn errors_change_nothing()
 fn record(events: &mut Vec<Event>, h: u64, op: Op, reply: Reply)
     requires room { vec_len events.old < vec_capacity events.old }
     requires other { access_of op ≡ None }
+    requires short { IsShort (Hart h) op reply }
     ensures items { events.new.items ≡ events.old.items ++ by_hart h op reply ∷ [] }
     ensures capacity { vec_capacity events.new ≡ vec_capacity events.old }
 {
     // (the commonest by themselves, so that each writes only what it has)
     let actor = Actor::Hart(h);
     match op {
-        Op::Ecall(regs) => events.push_reserved(Event::other(actor, Op::Ecall(regs), reply)),
-        Op::ReadSip => events.push_reserved(Event::other(actor, Op::ReadSip, reply)),
-        Op::ClearSsip => events.push_reserved(Event::other(actor, Op::ClearSsip, reply)),
-        Op::Poll => events.push_reserved(Event::other(actor, Op::Poll, reply)),
-        Op::Serve => events.push_reserved(Event::other(actor, Op::Serve, reply)),
-        Op::Advance => events.push_reserved(Event::other(actor, Op::Advance, reply)),
-        _ => events.push_reserved(Event::other(actor, op, reply)),
+        Op::Ecall(regs) => events.push_reserved(Event::new(actor, Op::Ecall(regs), reply, None)),
+        Op::ReadSip => events.push_reserved(Event::new(actor, Op::ReadSip, reply, None)),
+        Op::ClearSsip => events.push_reserved(Event::new(actor, Op::ClearSsip, reply, None)),
+        Op::Poll => events.push_reserved(Event::new(actor, Op::Poll, reply, None)),
+        Op::Serve => events.push_reserved(Event::new(actor, Op::Serve, reply, None)),
+        Op::Advance => events.push_reserved(Event::new(actor, Op::Advance, reply, None)),
+        _ => events.push_reserved(Event::new(actor, op, reply, None)),
     }
 }
 

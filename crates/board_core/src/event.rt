@@ -1,8 +1,9 @@
 ghost use Rattle.std.specs.Prelude.{◌≡◌, None, option_map};
 ghost use Rattle.board_core.specs.History.{access_of, entry_of};
+ghost use Rattle.board_core.specs.Keeping.{IsShort};
 ghost use Rattle.board_core.specs.Refusals.{refusal_number};
 
-use crate::keeping::{Head, Maker, Numbers, Said, What};
+use crate::keeping::{By, Head, Said, What};
 use hart_access::Access;
 use hsm::HartState;
 use sbi_abi::{Regs, Sbiret};
@@ -126,55 +127,45 @@ impl Refusal {
 /// An accepted step: who made it, what it did, what was answered, and the TLB entry that an access used.
 #[derive(Clone, Copy, Debug, PartialEq, Eq)]
 pub struct Event {
+    first: u64,
     what: What,
-    hart: u64,
-    numbers: Numbers,
 }
 
 impl Model for Event {
     ghost use Rattle.board_core.specs.History.{Event as Seen};
-    ghost use Rattle.board_core.specs.Keeping.{IsKeptWell, actor_in, hart_of, head_of, numbers_of, op_in, reply_in, used_in, what_of};
+    ghost use Rattle.board_core.specs.Keeping.{IsKeptWell, actor_in, first_of, head_of, op_in, opaque_of, reply_in, used_in, what_of};
 
     ghost Value = { Seen };
 
-    ghost view = { λ e. record { actor = actor_in e.what e.hart; op = op_in e.what; reply = reply_in e.what e.numbers; translation = used_in e.what } };
+    ghost view = { λ e. record { actor = actor_in e.what; op = op_in e.what; reply = reply_in e.what e.first; translation = used_in e.what } };
 
-    ghost invariant = { λ e. IsKeptWell e.what e.hart e.numbers };
+    ghost invariant = { λ e. IsKeptWell e.what e.first };
 
-    ghost inverse = { λ e. record { what = what_of (head_of e.actor e.reply) e.op e.translation; hart = hart_of e.actor; numbers = numbers_of e.reply } };
+    ghost inverse = { λ e. record { what = what_of (head_of e.actor e.reply) e.op e.translation (opaque_of e.reply); first = first_of e.reply } };
 
-    ghost inverse_ok = { λ e well i. record { what = well.what_again i; hart = well.hart_again i; numbers = well.numbers_again i } };
+    ghost inverse_ok = { λ e well i. record { what = well.what_again i; first = well.first_again i } };
 }
 
 impl Event {
-    /// An accepted step; of accesses alone the entry is kept.
+    /// An accepted step, whose numbers have room; of accesses alone the entry is kept.
     #[inline(always)]
-    pub fn new(actor: Actor, op: Op, reply: Reply, used: Option<Entry>) -> Event
+    pub(crate) fn new(actor: Actor, op: Op, reply: Reply, used: Option<Entry>) -> Event
+        requires { IsShort actor op reply }
         ensures { result ≡ record { actor = actor; op = op; reply = reply; translation = entry_of (access_of op) used } }
     {
-        let (maker, hart) = Maker::of(actor);
-        let (said, numbers) = Said::of(reply);
+        let (said, first, opaque) = Said::of(reply);
+        let by = By::of(actor);
         Event {
-            what: What::of(Head { maker, said }, op, used),
-            hart,
-            numbers,
+            first,
+            what: What::of(Head { by, said }, op, used, opaque),
         }
-    }
-
-    /// An accepted step that is no access.
-    #[inline(always)]
-    pub(crate) fn other(actor: Actor, op: Op, reply: Reply) -> Event
-        requires { access_of op ≡ None }
-        ensures { result ≡ record { actor = actor; op = op; reply = reply; translation = None } }
-    {
-        Event::new(actor, op, reply, None)
     }
 
     /// Who made it.
     pub fn actor(&self) -> Actor
         ensures { result ≡ self.now.actor }
     {
-        self.what.head().maker.actor(self.hart)
+        self.what.head().by.actor()
     }
 
     /// What it did.
@@ -188,7 +179,7 @@ impl Event {
     pub fn reply(&self) -> Reply
         ensures { result ≡ self.now.reply }
     {
-        self.what.head().said.reply(self.numbers)
+        self.what.head().reply(self.first, self.what.opaque())
     }
 
     /// The TLB entry that an access by Sv39 used, found or filled (profile); None of every other step.

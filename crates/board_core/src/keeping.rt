@@ -1,8 +1,7 @@
 //! How an event keeps who made it, what was answered and what was done, in less room than the three have side by side.
 
 ghost use Rattle.std.specs.Prelude.{◌≡◌};
-ghost use Rattle.board_core.specs.History.{access_of, entry_of};
-ghost use Rattle.board_core.specs.Keeping.{actor_of, hart_of, head_in, maker_of, numbers_of, op_in, reply_of, said_of, used_in, what_of};
+ghost use Rattle.board_core.specs.Keeping.{IsByte, IsByteError, actor_of, by_of, first_of, head_in, hart_in, op_in, opaque_in, opaque_of, reply_of, said_of, used_in, what_of};
 
 use crate::event::{Actor, Op, Reply};
 use hsm::HartState;
@@ -10,17 +9,17 @@ use sbi_abi::{Regs, Sbiret};
 use sv39::Cause;
 use tlb_model::Entry;
 
-/// An actor without its number.
+/// Who made a step: an actor in two bytes.
 #[derive(Clone, Copy, Debug, PartialEq, Eq)]
-pub enum Maker {
-    Hart,
+pub enum By {
+    Hart(u8),
     Clock,
 }
 
-/// A reply without its numbers.
+/// A reply without its numbers of 64 bits: an error has one byte.
 #[derive(Clone, Copy, Debug, PartialEq, Eq)]
 pub enum Said {
-    Ret,
+    Ret(i8),
     Waiting,
     Gone,
     Entry,
@@ -31,23 +30,15 @@ pub enum Said {
     Done,
 }
 
-/// A reply's numbers, each 0 past its last.
-#[derive(Clone, Copy, Debug, PartialEq, Eq)]
-pub struct Numbers {
-    pub first: u64,
-    pub second: u64,
-    pub third: u64,
-}
-
-/// Who made a step and what was answered, without their numbers.
+/// Who made a step and what was answered, without the numbers of 64 bits.
 #[derive(Clone, Copy, Debug, PartialEq, Eq)]
 pub struct Head {
-    pub maker: Maker,
+    pub by: By,
     pub said: Said,
 }
 
-/// What a step did. An access's entry and a call's six arguments never occur together, and the head takes room beside the
-/// tag that would lie empty: both keep events small.
+/// What a step did. An access's entry, a call's eight registers and the opaque value of an advance that enters never occur
+/// together, and the head takes room beside the tag that would lie empty: both keep events small.
 #[derive(Clone, Copy, Debug, PartialEq, Eq)]
 pub enum What {
     Ecall(Head, Regs),
@@ -64,101 +55,85 @@ pub enum What {
     FenceI(Head),
     Poll(Head),
     Serve(Head),
-    Advance(Head),
+    Advance(Head, u64),
     Tick(Head, u64),
 }
 
-impl Maker {
-    /// An actor without its number, and the number.
+impl By {
+    /// An actor, a hart of which has a number below 256.
     #[inline(always)]
-    pub fn of(actor: Actor) -> (Maker, u64)
-        ensures maker { result.0 ≡ maker_of actor }
-        ensures hart { result.1 ≡ hart_of actor }
+    pub fn of(actor: Actor) -> By
+        requires { IsByte actor }
+        ensures { result ≡ by_of actor }
     {
         match actor {
-            Actor::Hart(h) => (Maker::Hart, h),
-            Actor::Clock => (Maker::Clock, 0),
+            Actor::Hart(h) => By::Hart(h as u8),
+            Actor::Clock => By::Clock,
         }
     }
 
-    /// The actor with this number.
-    pub fn actor(self, h: u64) -> Actor
-        ensures { result ≡ actor_of self h }
+    /// The actor.
+    pub fn actor(self) -> Actor
+        ensures { result ≡ actor_of self }
     {
         match self {
-            Maker::Hart => Actor::Hart(h),
-            Maker::Clock => Actor::Clock,
+            By::Hart(h) => Actor::Hart(u64::from(h)),
+            By::Clock => Actor::Clock,
         }
     }
-}
 
-impl Numbers {
-    /// The numbers of a reply that has none.
-    const NONE: Numbers = Numbers {
-        first: 0,
-        second: 0,
-        third: 0,
-    };
+    /// The hart's number, and 0 of the clock.
+    fn hart(self) -> u64
+        ensures { result ≡ hart_in self }
+    {
+        match self {
+            By::Hart(h) => u64::from(h),
+            By::Clock => 0,
+        }
+    }
 }
 
 impl Said {
-    /// A reply without its numbers, and the numbers.
+    /// A reply without its numbers, its first number, and the opaque value of an entry; each 0 where it has none.
     #[inline(always)]
-    pub fn of(reply: Reply) -> (Said, Numbers)
+    pub fn of(reply: Reply) -> (Said, u64, u64)
+        requires { IsByteError reply }
         ensures said { result.0 ≡ said_of reply }
-        ensures numbers { result.1 ≡ numbers_of reply }
-        ensures made { reply_of (said_of reply) (numbers_of reply) ≡ reply }
+        ensures first { result.1 ≡ first_of reply }
+        ensures opaque { result.2 ≡ opaque_of reply }
     {
         match reply {
-            Reply::Ret(ret) => {
-                let numbers = Numbers {
-                    first: ret.error.cast_unsigned(),
-                    second: ret.value,
-                    third: 0,
-                };
-                (Said::Ret, numbers)
-            }
-            Reply::Waiting => (Said::Waiting, Numbers::NONE),
-            Reply::Gone => (Said::Gone, Numbers::NONE),
-            Reply::Entry { addr, hart, opaque } => {
-                let numbers = Numbers {
-                    first: addr,
-                    second: hart,
-                    third: opaque,
-                };
-                (Said::Entry, numbers)
-            }
-            Reply::Value(value) => {
-                let numbers = Numbers {
-                    first: value,
-                    ..Numbers::NONE
-                };
-                (Said::Value, numbers)
-            }
-            Reply::Fault(cause) => (Said::Fault(cause), Numbers::NONE),
-            Reply::Served => (Said::Served, Numbers::NONE),
-            Reply::Moved(state) => (Said::Moved(state), Numbers::NONE),
-            Reply::Done => (Said::Done, Numbers::NONE),
+            Reply::Ret(ret) => (Said::Ret(ret.error as i8), ret.value, 0),
+            Reply::Waiting => (Said::Waiting, 0, 0),
+            Reply::Gone => (Said::Gone, 0, 0),
+            Reply::Entry { addr, opaque, .. } => (Said::Entry, addr, opaque),
+            Reply::Value(value) => (Said::Value, value, 0),
+            Reply::Fault(cause) => (Said::Fault(cause), 0, 0),
+            Reply::Served => (Said::Served, 0, 0),
+            Reply::Moved(state) => (Said::Moved(state), 0, 0),
+            Reply::Done => (Said::Done, 0, 0),
         }
     }
+}
 
+impl Head {
     /// The reply with these numbers.
-    pub fn reply(self, numbers: Numbers) -> Reply
-        ensures { result ≡ reply_of self numbers }
+    pub fn reply(self, first: u64, opaque: u64) -> Reply
+        ensures { result ≡ reply_of self.said (hart_in self.by) first opaque }
     {
-        match self {
-            Said::Ret => Reply::Ret(Sbiret {
-                error: numbers.first.cast_signed(),
-                value: numbers.second,
+        match self.said {
+            Said::Ret(error) => Reply::Ret(Sbiret {
+                error: i64::from(error),
+                value: first,
             }),
             Said::Waiting => Reply::Waiting,
             Said::Gone => Reply::Gone,
             Said::Entry => Reply::Entry {
-                addr: numbers.first,
-                hart: numbers.second,
-                opaque: numbers.third,
+                addr: first,
+                hart: self.by.hart(),
+                opaque,
             },
-            Said::Value => Reply::Value(numbers.first),
+            Said::Value => Reply::Value(first),
             Said::Fault(cause) => Reply::Fault(cause),
             Said::Served => Reply::Served,
             Said::Moved(state) => Reply::Moved(state),
@@ -168,10 +143,10 @@ impl Said {
 }
 
 impl What {
-    /// An operation, with its entry if it is an access.
+    /// An operation, with its entry if it is an access, and with the opaque value of an entry if it is an advance.
     #[inline(always)]
-    pub fn of(head: Head, op: Op, used: Option<Entry>) -> What
-        ensures { result ≡ what_of head op used }
+    pub fn of(head: Head, op: Op, used: Option<Entry>, opaque: u64) -> What
+        ensures { result ≡ what_of head op used opaque }
     {
         match op {
             Op::Ecall(regs) => What::Ecall(head, regs),
@@ -188,12 +163,12 @@ impl What {
             Op::FenceI => What::FenceI(head),
             Op::Poll => What::Poll(head),
             Op::Serve => What::Serve(head),
-            Op::Advance => What::Advance(head),
+            Op::Advance => What::Advance(head, opaque),
             Op::Tick(n) => What::Tick(head, n),
         }
     }
 
-    /// Who made the step and what was answered, without their numbers.
+    /// Who made the step and what was answered, without the numbers of 64 bits.
     pub fn head(&self) -> Head
         ensures { result ≡ head_in self.now }
     {
@@ -204,8 +179,8 @@ impl What {
             What::WriteSstatusSie(head, _) => *head,
             What::ReadSip(head) | What::ClearSsip(head) | What::Wfi(head) => *head,
             What::Sfence(head, ..) | What::FenceI(head) => *head,
-            What::Poll(head) | What::Serve(head) | What::Advance(head) => *head,
-            What::Tick(head, _) => *head,
+            What::Poll(head) | What::Serve(head) => *head,
+            What::Advance(head, _) | What::Tick(head, _) => *head,
         }
     }
 
@@ -228,7 +203,7 @@ impl What {
             What::FenceI(_) => Op::FenceI,
             What::Poll(_) => Op::Poll,
             What::Serve(_) => Op::Serve,
-            What::Advance(_) => Op::Advance,
+            What::Advance(..) => Op::Advance,
             What::Tick(_, n) => Op::Tick(n),
         }
     }
@@ -240,6 +215,16 @@ impl What {
         match *self {
             What::Load(_, _, used) | What::Store(_, _, _, used) | What::Fetch(_, _, used) => used,
             _ => None,
+        }
+    }
+
+    /// The opaque value of an entry.
+    pub fn opaque(&self) -> u64
+        ensures { result ≡ opaque_in self.now }
+    {
+        match *self {
+            What::Advance(_, opaque) => opaque,
+            _ => 0,
         }
     }
 }

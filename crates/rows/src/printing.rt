@@ -1,7 +1,7 @@
 //! Printed lines that no schedule gives.
 
 use anyhow::{Context, Result};
-use board_core::{Actor, Config, Event, Op, Refusal, Reply};
+use board_core::{Actor, Board, Config, Op, Refusal, Reply};
 use monitor::{print_event, print_head, print_line, print_reply};
 use sbi_abi::{Regs, Sbiret};
 use sbiboard::Device;
@@ -27,13 +27,11 @@ fn ret(error: i64, value: u64) -> Reply {
 pub fn show_lines<R: AllocGlobal + Print>(rt: &R) -> Result<()> {
     let mut out = Device::new(Vec::new(rt.alloc()));
     print_head(&CONFIG, &mut out)?;
-    let event = Event::new(
-        Actor::Hart(0),
-        ecall(0x10, [0; 6]),
-        ret(0, 0x100_0000),
-        None,
-    );
-    print_event(&event, &mut out)?;
+    let mut board = Board::new(rt.alloc(), &CONFIG)?;
+    board.step(Actor::Hart(0), Op::Advance)?;
+    board.step(Actor::Hart(0), ecall(0x10, [0; 6]))?;
+    let event = board.history().last().context("no event")?;
+    print_event(event, &mut out)?;
     let most = u64::MAX;
     let long = ecall(0xabcdef, [most, 1, 0x10, 0x9f, 0, 0xfedc_ba98_7654_3210]);
     let entry = Reply::Entry {

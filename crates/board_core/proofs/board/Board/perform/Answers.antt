@@ -4,9 +4,11 @@ use Rattle.board_core.specs.Accesses.{used_by_access}
 use Rattle.board_core.specs.declared.event.Actor.TheVariants.{Hart}
 use Rattle.board_core.specs.History.{Event, by_hart}
 use Rattle.board_core.specs.Course.{Course}
+use Rattle.board_core.specs.Keeping.{IsShort}
 use Rattle.board_core.specs.Refusals.{IsAccepted, first_that_holds, is_full, refusals_in, situation}
 use Rattle.board_core.specs.Replies.{answer, stepped}
 use Rattle.board_core.specs.Resets.{is_off}
+use Rattle.board_core.proofs.Room.{replies_are_short}
 use Rattle.board_core.proofs.Rows.{unrefused}
 use Rattle.board_core.proofs.Situations.{situation-read, sized}
 use Rattle.board_core.proofs.Steps.{hart_answered, kept-more, past-more, room-left, stepped-more}
@@ -32,6 +34,15 @@ record-requires-clause-room c =
     let room = room-left config past (unrefused c.args.op (situation config past c.args.h) (is_full config past) none).1 c.self.invariant.0.within in
     let enough = c.self.invariant.2 in
     omega (arith, length-reverse c.self.inside.events.items)
+
+pub record-requires-clause-short : goal.record-requires-clause-short
+record-requires-clause-short c =
+    let config = c.self.inside.config in
+    let past = reverse c.self.inside.events.items in
+    let h = c.args.h in
+    let op = c.args.op in
+    let inside : c.args.h < config.harts = omega (arith, c.requires.in_range, ap (λ (b : Course). b.config.harts) c.self.view_is) in
+    subst (IsShort (Hart h) op) (sym (c.perform-reply.ensures.answered past c.self.invariant.1)) (replies_are_short config past h op (omega (arith, inside, c.self.invariant.0.good.at_most_128_harts)))
 
 -- the operation is recorded with its reply
 pub invariant_of-self : goal.invariant_of-self

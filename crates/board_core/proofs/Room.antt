@@ -1,0 +1,135 @@
+-- What a board answers has room in an event.
+use Rattle.std.proofs.Common.{◌<◌, ℕ, Bool, true, false, List, refl, arith, FitsSigned, w8}
+use Rattle.std.specs.Prelude.{if◌then◌else◌, pos, Option, Some, None, Result, Ok, Err}
+use Rattle.sbi_abi.specs.declared.answer.SbiError.{SbiError}
+use Rattle.sbi_abi.specs.declared.answer.SbiError.TheVariants as errors
+use Rattle.sbi_abi.specs.declared.call.Call.{Call}
+use Rattle.sbi_abi.specs.declared.call.Call.TheVariants as calls
+use Rattle.sbi_abi.specs.declared.reset.Reset.{Reset}
+use Rattle.sbi_abi.specs.declared.suspend.SuspendKind.{SuspendKind}
+use Rattle.sbi_abi.specs.declared.suspend.SuspendKind.TheVariants.{Retentive, NonRetentive}
+use Rattle.sbi_abi.specs.Calls.{call_of}
+use Rattle.sbi_abi.specs.Errors.{error_number}
+use Rattle.hart_mask.specs.HartList.{targets_of}
+use Rattle.hart_access.specs.declared.operation.Access.{Access}
+use Rattle.hart_access.specs.declared.operation.Access.TheVariants as accesses
+use Rattle.hsm.specs.declared.hart.HartState.{HartState}
+use Rattle.hsm.specs.declared.hart.HartState.TheVariants as states
+use Rattle.hsm.specs.declared.hart.Kept.{Kept}
+use Rattle.hsm.specs.States.{state_number}
+use Rattle.sv39.specs.declared.cause.Cause.{Cause}
+use Rattle.tlb_model.specs.declared.fence.Flush.{Flush}
+use Rattle.tlb_model.specs.declared.fence.Flush.TheVariants.{Words}
+use Rattle.board_core.specs.declared.config.Config.{Config}
+use Rattle.board_core.specs.declared.event.Actor.TheVariants.{Hart}
+use Rattle.board_core.specs.declared.event.Op.{Op}
+use Rattle.board_core.specs.declared.event.Op.TheVariants as ops
+use Rattle.board_core.specs.declared.event.Reply.{Reply}
+use Rattle.board_core.specs.declared.event.Reply.TheVariants.{Ret, Gone}
+use Rattle.board_core.specs.Accesses.{access_reply_of}
+use Rattle.board_core.specs.Csrs.{sstatus_sie}
+use Rattle.board_core.specs.Fences.{flush_of_range}
+use Rattle.board_core.specs.History.{Event}
+use Rattle.board_core.specs.Keeping.{IsByteError, IsOwnEntry, IsShort}
+use Rattle.board_core.specs.Limits.{is_start_address}
+use Rattle.board_core.specs.Refusals.{first_that_holds}
+use Rattle.board_core.specs.Replies.{advance_reply, call_reply, failure, fence_reply_to, ipi_errors, reply, reset_reply, resume_reply, start_errors, status_errors, suspend_reply, unless}
+use Rattle.board_core.specs.Starts.{Start, last_start}
+use Rattle.board_core.specs.States.{state}
+use Rattle.board_core.specs.Suspends.{resume_point}
+
+error_short : (error : SbiError) → FitsSigned w8 (error_number error)
+error_short errors.Failed = record { sfits = omega arith }
+error_short errors.NotSupported = record { sfits = omega arith }
+error_short errors.InvalidParam = record { sfits = omega arith }
+error_short errors.Denied = record { sfits = omega arith }
+error_short errors.InvalidAddress = record { sfits = omega arith }
+error_short errors.AlreadyAvailable = record { sfits = omega arith }
+error_short errors.AlreadyStarted = record { sfits = omega arith }
+error_short errors.AlreadyStopped = record { sfits = omega arith }
+
+zero_short : FitsSigned w8 (pos 0)
+zero_short = record { sfits = omega arith }
+
+unless_short : (error : Option SbiError) (value : ℕ) → FitsSigned w8 (unless error value).error
+unless_short None value = zero_short
+unless_short (Some error) value = error_short error
+
+module _ (x : ℕ) (op : Op) where
+  -- a reply that isn't an entry, and whose error is short
+  abbrev HasRoom : Reply → Type 0
+  HasRoom r = IsByteError r × IsOwnEntry (Hart x) op r
+
+  fence_room : (targets : Option (List ℕ)) (flush : Result Flush SbiError) → HasRoom (fence_reply_to targets flush)
+  fence_room None flush = (error_short errors.InvalidParam, tt)
+  fence_room (Some harts) (Err error) = (error_short error, tt)
+  fence_room (Some harts) (Ok flush) = (tt, tt)
+
+  failure_or_gone : (b : Bool) (error : SbiError) → HasRoom (if b then Ret (failure error) else Gone)
+  failure_or_gone true error = (error_short error, tt)
+  failure_or_gone false error = (tt, tt)
+
+  gone_or_failure : (b : Bool) (error : SbiError) → HasRoom (if b then Gone else Ret (failure error))
+  gone_or_failure true error = (tt, tt)
+  gone_or_failure false error = (error_short error, tt)
+
+  suspend_room : (c : Config) (kind : Result SuspendKind SbiError) (addr : ℕ) → HasRoom (suspend_reply c kind addr)
+  suspend_room c (Err error) addr = (error_short error, tt)
+  suspend_room c (Ok Retentive) addr = (tt, tt)
+  suspend_room c (Ok NonRetentive) addr = gone_or_failure (is_start_address c.pages addr) errors.InvalidAddress
+
+  reset_room : (reset : Result Reset SbiError) → HasRoom (reset_reply reset)
+  reset_room (Err error) = (error_short error, tt)
+  reset_room (Ok reset) = (tt, tt)
+
+  access_room : (access : Access) (result : Result ℕ Cause) → HasRoom (access_reply_of access result)
+  access_room accesses.Load (Ok word) = (tt, tt)
+  access_room (accesses.Store value) (Ok word) = (tt, tt)
+  access_room accesses.Fetch (Ok word) = (tt, tt)
+  access_room access (Err cause) = (tt, tt)
+
+  call_room : (c : Config) (past : List Event) (call : Call) → HasRoom (call_reply c past x call)
+  call_room c past calls.GetSpecVersion = (zero_short, tt)
+  call_room c past calls.GetImplId = (zero_short, tt)
+  call_room c past calls.GetImplVersion = (zero_short, tt)
+  call_room c past (calls.ProbeExtension eid) = (zero_short, tt)
+  call_room c past calls.GetMvendorid = (zero_short, tt)
+  call_room c past calls.GetMarchid = (zero_short, tt)
+  call_room c past calls.GetMimpid = (zero_short, tt)
+  call_room c past (calls.SetTimer deadline) = (zero_short, tt)
+  call_room c past (calls.SendIpi mask base) = (unless_short (first_that_holds (ipi_errors c mask base)) 0, tt)
+  call_room c past (calls.RemoteFenceI mask base) = fence_room (targets_of mask base c.harts) (Ok Words)
+  call_room c past (calls.RemoteSfenceVma mask base start size) = fence_room (targets_of mask base c.harts) (flush_of_range start size None)
+  call_room c past (calls.RemoteSfenceVmaAsid mask base start size asid) = fence_room (targets_of mask base c.harts) (flush_of_range start size (Some asid))
+  call_room c past (calls.HartStart t addr opaque) = (unless_short (first_that_holds (start_errors c past t addr)) 0, tt)
+  call_room c past calls.HartStop = failure_or_gone (sstatus_sie past x) errors.Failed
+  call_room c past (calls.HartGetStatus t) = (unless_short (first_that_holds (status_errors c t)) (state_number (state c past t)), tt)
+  call_room c past (calls.HartSuspend kind addr opaque) = suspend_room c kind addr
+  call_room c past (calls.SystemReset reset) = reset_room reset
+  call_room c past calls.Unsupported = (error_short errors.NotSupported, tt)
+
+module _ (x : ℕ) where
+  resume_room : (resume : Option Kept) → HasRoom x ops.Advance (resume_reply x resume)
+  resume_room None = (zero_short, tt)
+  resume_room (Some resume) = (tt, (refl, refl))
+
+  advance_room : (s : HartState) (start : Start) (resume : Option Kept) → HasRoom x ops.Advance (advance_reply x s start resume)
+  advance_room states.StartPending start resume = (tt, (refl, refl))
+  advance_room states.StopPending start resume = (tt, tt)
+  advance_room states.SuspendPending start resume = (tt, tt)
+  advance_room states.Suspended start resume = (tt, tt)
+  advance_room states.ResumePending start resume = resume_room resume
+  advance_room s start resume = (tt, tt)
+
+  reply_room : (c : Config) (past : List Event) (op : Op) → HasRoom x op (reply c past x op)
+  reply_room c past (ops.Ecall regs) = call_room x (ops.Ecall regs) c past (call_of regs)
+  reply_room c past (ops.Load va) = access_room x (ops.Load va) accesses.Load _
+  reply_room c past (ops.Store va value) = access_room x (ops.Store va value) (accesses.Store value) _
+  reply_room c past (ops.Fetch va) = access_room x (ops.Fetch va) accesses.Fetch _
+  reply_room c past ops.Poll = (zero_short, tt)
+  reply_room c past ops.Advance = advance_room (state c past x) (last_start c past x) (resume_point past x)
+  reply_room c past op = (tt, tt)
+
+-- what a hart is answered has room
+pub replies_are_short : (c : Config) (past : List Event) (x : ℕ) (op : Op) → x < 256 → IsShort (Hart x) op (reply c past x op)
+replies_are_short c past x op inside = record { hart = inside; error = (reply_room x c past op).0; entry = (reply_room x c past op).1 }
