@@ -7,7 +7,8 @@ usage: bench/replay.py [--runs N] [--instructions] [--tasks replay,check] [--wor
 PROGRAM is a built `sbiboard` (default: the one that `./sbiboard` builds); plain Rust is `bench/baseline.rs`, which
 is built here with rustc. It does the same work: `bench/agree.py` compares the two byte for byte, on all examples, on
 random schedules and on their traces. Here, too, both first run each script once, and must print the same bytes. Then
-they take turns, --runs times (default 9), and of each the fastest run counts. A workload is a schedule, which is
+they take turns over all rows, --runs times (default 9), and of each the fastest run counts: the runs of a row lie far
+apart, so that none is slow alone where the machine is for a while. A workload is a schedule, which is
 replayed, and then what that prints, which is checked as a trace. Time is the processor's, of the whole process,
 in user and system: reading the file and writing the output are in it, waiting for a processor isn't. A busy machine
 still slows both by its caches, so look at the load that is printed. Memory is the peak, divided by the lines, so that
@@ -189,9 +190,9 @@ def schedule(folder, workload, harts, lines):
     return path
 
 
-def trace(folder, plain, path):
+def trace(plain, path):
     """The file of the trace that a schedule's replay prints, or of as many of its lines as a script may have, and their number."""
-    made = os.path.join(folder, "replayed.trace")
+    made = path + ".trace"
     run(plain, "replay", path, PLAIN_PAGES, made)
     with open(made, "rb") as file:
         text = file.read(MOST_BYTES)
@@ -232,11 +233,11 @@ def agree(programs, task, path):
         os.remove(output)
 
 
-def fastest(programs, task, path, runs):
-    """The fastest of the runs of each program, without huge pages and with them, in turns."""
+def fastest(programs, rows, runs):
+    """Of each row the fastest of the runs of each program, without huge pages and with them, in turns over all rows."""
     variants = [(program, pages) for program in programs for pages in (PLAIN_PAGES, HUGE_PAGES)]
-    rounds = [[run(program, task, path, pages) for program, pages in variants] for _ in range(runs)]
-    return [min(column) for column in zip(*rounds)]
+    rounds = [[[run(program, task, path, pages) for program, pages in variants] for _, task, path, _ in rows] for _ in range(runs)]
+    return [[min(column) for column in zip(*row)] for row in zip(*rounds)]
 
 
 def least_memory():
@@ -255,15 +256,15 @@ def instructions(program, task, path):
 # ---- tables
 
 
-def times_row(programs, task, path, lines, runs):
-    (own, memory), (own_huge, _), (plain, plain_memory), (plain_huge, _) = fastest(programs, task, path, runs)
+def times_cells(found, lines):
+    (own, memory), (own_huge, _), (plain, plain_memory), (plain_huge, _) = found
     speeds = [f"{lines / seconds:,.0f}" for seconds in (own, own_huge, plain, plain_huge)]
     least = least_memory() + (1 << 20)
     peaks = [("" if peak > least else "< ") + f"{max(peak, least) / lines:,.0f}" for peak in (memory, plain_memory)]
     return speeds + [f"{own_huge / plain_huge:.2f}"] + peaks
 
 
-def instructions_row(programs, task, path, lines):
+def instructions_cells(programs, task, path, lines):
     own, plain = (instructions(program, task, path) / lines for program in programs)
     return [f"{own:,.0f}", f"{plain:,.0f}", f"{own / plain:.2f}"]
 
@@ -280,17 +281,8 @@ def sizes(most, chosen):
     return dict.fromkeys([(1, 100_000), (64, 100_000), (128, 10_000), (128, 100_000), (128, most)])
 
 
-def cells(programs, task, path, lines, chosen):
-    agree(programs, task, path)
-    if chosen.instructions:
-        return instructions_row(programs, task, path, lines)
-    return times_row(programs, task, path, lines, chosen.runs)
-
-
-def print_rows(programs, folder, chosen):
-    heads = INSTRUCTIONS if chosen.instructions else TIMES
-    print("| workload | task | harts | lines | " + " | ".join(heads) + " |")
-    print("|---" * (4 + len(heads)) + "|")
+def rows_of(programs, folder, chosen):
+    """Each row's first cells, its task, its file and its lines; both programs print the same of it."""
     for workload, most in WORKLOADS:
         if chosen.workloads and workload.__name__ not in chosen.workloads:
             continue
@@ -298,10 +290,20 @@ def print_rows(programs, folder, chosen):
         for harts, lines in sizes(most, chosen):
             path = schedule(folder, workload, harts, lines)
             for task in chosen.tasks:
-                given, count = (path, lines) if task == "replay" else trace(folder, programs[1], path)
-                row = [name, task, str(harts), f"{count:,}", *cells(programs, task, given, count, chosen)]
-                print("| " + " | ".join(row) + " |", flush=True)
-            os.remove(path)
+                given, count = (path, lines) if task == "replay" else trace(programs[1], path)
+                agree(programs, task, given)
+                yield [name, task, str(harts), f"{count:,}"], task, given, count
+
+
+def print_rows(programs, folder, chosen):
+    rows = list(rows_of(programs, folder, chosen))
+    heads = INSTRUCTIONS if chosen.instructions else TIMES
+    print("| workload | task | harts | lines | " + " | ".join(heads) + " |")
+    print("|---" * (4 + len(heads)) + "|")
+    times = None if chosen.instructions else fastest(programs, rows, chosen.runs)
+    for place, (first, task, path, count) in enumerate(rows):
+        cells = times_cells(times[place], count) if times else instructions_cells(programs, task, path, count)
+        print("| " + " | ".join(first + cells) + " |", flush=True)
 
 
 def numbers(text):

@@ -1,4 +1,5 @@
 ghost use Rattle.std.specs.Prelude.{◌≡◌, ◌<◌, ◌≤◌, ◌==◌, false, length, drop, IfOk, replicate, sum_by, [], slice_get};
+ghost use Rattle.circular_buffer.specs.Buffer.{buffer};
 ghost use Rattle.fence_queue.specs.Queues.{IsQueue, drained, has_from, popped, pushed, queue_at};
 
 use crate::request::Request;
@@ -69,7 +70,7 @@ impl<F: Copy> Queues<F> {
         ensures after { self.new ≡ popped self.old t }
         ensures queue { IsQueue (length self.old) t (queue_at self.old t) }
     {
-        let request = self.rings[t as usize].pop_front()?;
+        let request = pop_first(&mut self.rings[t as usize])?;
         self.total -= 1;
         Some(request)
     }
@@ -124,5 +125,18 @@ impl<F: Copy> Queues<F> {
         ensures limit { length self.now ≤ 128 }
     {
         self.rings.len() as u64
+    }
+}
+
+/// Takes the first item of a ring. One that is alone is taken from the back, so that the next one comes into its place: a
+/// ring in which little waits touches little memory.
+fn pop_first<T>(ring: &mut HeapCircularBuffer<T>) -> Option<T>
+    ensures value { result ≡ slice_get ring.old.items 0 }
+    ensures items { ring.new ≡ buffer (drop 1 ring.old.items) ring.old.capacity }
+{
+    if ring.len() == 1 {
+        ring.pop_back()
+    } else {
+        ring.pop_front()
     }
 }
