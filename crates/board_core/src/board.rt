@@ -31,12 +31,11 @@ use crate::event::{Actor, Event, Op, Refusal, Reply, access_of};
 use crate::interrupt_state::Interrupts;
 use crate::machine::Machine;
 use crate::memory::Memory;
-use fence_queue::Waiting;
 use hart_access::Access;
 use hart_mask::HartSet;
 use hsm::{HartState, Hsm, Kept};
 use interrupts::{Ipis, Timers};
-use rfence::Fences;
+use rfence::{Fences, Waiting};
 use sbi_abi::Reset;
 use std::alloc::{AllocError, Global};
 use std::marker::Model;
@@ -428,7 +427,7 @@ fn opening(alloc: Global, config: &Config) -> Result<Machine, AllocError>
     let ipis = Ipis::new();
     let interrupts = Interrupts { csrs, ipis, timers };
     let memory = Memory::new(alloc, config)?;
-    let fences = Fences::new(alloc, config.harts)?;
+    let fences = Fences::new(alloc, config.harts, Flush::Words)?;
     Ok(Machine {
         hsm,
         interrupts,

@@ -1,5 +1,6 @@
 pub mod Tables
 pub mod Asking
+pub mod ByCaller
 pub mod Waits
 pub mod Callers
 pub mod Changes

@@ -5,6 +5,7 @@ pub mod Calls
 pub mod Effects
 pub mod Right
 pub mod Marks
+pub mod ByCaller
 pub mod HartCaches
 pub mod State
 pub mod Laws

@@ -5,8 +5,9 @@ ghost use Rattle.rfence.specs.Turns.{Ask, Serve, Poll, Stop, Reset};
 ghost use Rattle.rfence.specs.State.{AreAffected, HasRoom, IsTaken, StandsFor, Takes, call_at};
 
 use crate::caches::{Fenced, apply_at, apply_where, clear_all, clear_at};
-use crate::calls::{ask_each, close_all, forget, forget_all, no_calls};
-use fence_queue::{Queues, Request, Waiting};
+use crate::calls::{close_all, forget, forget_all, no_calls};
+use crate::pending::{Pending, Waiting};
+use fence_queue::Request;
 use hart_mask::HartSet;
 use std::alloc::{AllocError, Global};
 use std::marker::Model;
@@ -15,7 +16,7 @@ use std::marker::Model;
 /// it waits for, and how many were asked and applied (SBI 8).
 #[derive(Drop)]
 pub struct Fences<F> {
-    queues: Queues<F>,
+    queues: Pending<F>,
     calls: Vec<Option<HartSet>>,
     asked: u64,
     applied: u64,
@@ -30,12 +31,13 @@ impl<F> Model for Fences<F> {
 }
 
 impl<F: Copy> Fences<F> {
-    /// Nothing waits, and no hart is in a call. It fails where memory runs out; no other call takes memory.
-    pub fn new(alloc: Global, harts: u64) -> Result<Fences<F>, AllocError>
+    /// Nothing waits, and no hart is in a call; `idle` is any fence, which stands where a hart has asked none. It fails
+    /// where memory runs out; no other call takes memory.
+    pub fn new(alloc: Global, harts: u64, idle: F) -> Result<Fences<F>, AllocError>
         requires { harts ≤ 128 }
         ensures { IfOk result (λ fences. StandsFor harts [] fences) }
     {
-        let queues = Queues::new(alloc, harts)?;
+        let queues = Pending::new(alloc, harts, idle)?;
         let calls = no_calls(alloc, harts)?;
         Ok(Fences {
             queues,
@@ -60,7 +62,7 @@ impl<F: Copy> Fences<F> {
         self.asked += asked.len();
         let mut others = asked;
         others.remove(c);
-        ask_each(&mut self.queues, others, Request { from: c, flush });
+        self.queues.ask(others, Request { from: c, flush });
         self.calls[c as usize] = Some(others);
     }
 

@@ -5,6 +5,7 @@ mod caches;
 mod calls;
 mod fences;
 mod laws;
+mod pending;
 
 pub use caches::Fenced;
 pub use fences::Fences;
@@ -12,3 +13,4 @@ pub use laws::{
     applied_once, boards_are_small, counts_agree, others_change_nothing, success_strikes,
     waits_are_of_open_calls,
 };
+pub use pending::Waiting;

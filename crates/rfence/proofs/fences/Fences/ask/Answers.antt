@@ -1,7 +1,8 @@
-use Rattle.std.proofs.Common.{◌+◌, ap, ◌∙◌, arith}
+use Rattle.std.proofs.Common.{◌+◌, ◌<◌, ap, ◌∙◌, arith}
 use Rattle.std.specs.Prelude.{if◌then◌else◌}
+use Rattle.fence_queue.specs.Queues.{has_from}
 use Rattle.rfence.specs.Effects.{changed_at}
-use Rattle.rfence.proofs.Stands.{affected-ask, can-ask-others, length-calls, length-ids, one_or_none, stands-seen, taken-ask}
+use Rattle.rfence.proofs.Stands.{affected-ask, can-ask-others, length-calls, length-ids, length-queues, none-of, one_or_none, queue_at-stands, stands-seen, taken-ask}
 use Rattle.rfence.proofs.fences.Fences.ask.Goals as goal
 
 pub apply_where-requires : goal.apply_where-requires
@@ -16,8 +17,23 @@ remove-requires g c =
     let limit = c.requires.takes.stands.limit in
     omega arith
 
-pub ask_each-requires : goal.ask_each-requires
-ask_each-requires g c =
+pub ask-requires-clause-caller : goal.ask-requires-clause-caller
+ask-requires-clause-caller g c =
+    let takes = c.requires.takes in
+    let stands = stands-seen takes.n takes.turns _ _ c.self.view_is takes.stands in
+    let inside = takes.right.0.0 in
+    omega (arith, length-queues takes.n takes.turns _ stands)
+
+-- outside of its call a hart waits for none
+pub ask-requires-clause-out : goal.ask-requires-clause-out
+ask-requires-clause-out g c = λ t inside.
+    let takes = c.requires.takes in
+    let stands = stands-seen takes.n takes.turns _ _ c.self.view_is takes.stands in
+    let below : t < takes.n = omega (arith, inside, length-queues takes.n takes.turns _ stands) in
+    ap (has_from c.args.c) (queue_at-stands takes.n takes.turns _ stands t below) ∙ none-of takes.n takes.turns _ stands c.args.c c.args.asked c.args.flush c.contains-own.ensures.whole takes.right t
+
+pub ask-requires-clause-can : goal.ask-requires-clause-can
+ask-requires-clause-can g c =
     let takes = c.requires.takes in
     can-ask-others takes.n takes.turns _ (stands-seen takes.n takes.turns _ _ c.self.view_is takes.stands) c.args.c c.args.asked c.args.flush c.contains-own.ensures.whole takes.right _ c.remove.ensures
 
@@ -31,7 +47,7 @@ index_mut-requires g c =
 pub returns-clause-taken : goal.returns-clause-taken
 returns-clause-taken g c = λ n turns stands right.
     taken-ask n turns _ (stands-seen n turns _ _ c.self.view_is stands) c.args.c c.args.asked c.args.flush c.contains-own.ensures.whole right
-    _ _ _ _ c.remove.ensures c.ask_each.ensures
+    _ _ _ _ c.remove.ensures c.ask.ensures
     (ap (λ m. c.self.inside.asked + m) c.len.ensures)
     (ap (λ m. c.self.inside.applied + m) (c.one_if.ensures ∙ ap (λ b. if b then 1 else 0) c.contains-own.ensures.answer))
 
