@@ -87,8 +87,14 @@ impl BodyDraft {
         ensures few { IfOk result (λ found. length (lines_in (draft_of self.new)) ≤ found.0) }
     {
         match self {
-            BodyDraft::Steps(steps) => read_plain_lines(steps, n, false, bytes),
-            BodyDraft::Trace(steps) => read_plain_lines(steps, n, true, bytes),
+            BodyDraft::Steps(steps) => {
+                steps.expect(bytes.len());
+                read_plain_lines(steps, n, false, bytes)
+            }
+            BodyDraft::Trace(steps) => {
+                steps.expect(bytes.len());
+                read_plain_lines(steps, n, true, bytes)
+            }
             _ => Ok((n, bytes)),
         }
     }

@@ -16,6 +16,12 @@ use std::marker::Model;
 /// How many numbers a line has at most.
 const LINE_NUMBERS: usize = OP_NUMBERS + SAID_NUMBERS;
 
+/// How many bytes of a script are worth room of their own.
+const MANY_BYTES: usize = 1 << 20;
+
+/// How many bytes a short line has.
+const LINE_BYTES: usize = 8;
+
 /// The lines of a schedule or a trace. A line takes 12 bytes, and 8 for each of its numbers.
 #[derive(Debug, Drop)]
 pub struct Lines {
@@ -40,6 +46,20 @@ impl Lines {
             kept: Vec::new(alloc),
             numbers: Vec::new(alloc),
         }
+    }
+
+    /// Takes room for the lines of so many bytes at once, if they are many and there is memory: systems give large pages to
+    /// what is large from the beginning.
+    pub(crate) fn expect(&mut self, bytes: usize)
+        ensures { self.new ≡ self.old }
+    {
+        let lines = bytes / LINE_BYTES;
+        if bytes < MANY_BYTES || self.kept.capacity() >= lines {
+            return;
+        }
+        // (what is refused is asked for again when it is needed)
+        let _ = self.kept.reserve(lines);
+        let _ = self.numbers.reserve(lines);
     }
 
     /// A line more at the end.
