@@ -1,8 +1,8 @@
 #!/usr/bin/env python3
 """Times the program beside plain Rust, and prints the README's table.
 
-usage: bench/replay.py [--runs N] [--instructions] [--tasks replay,check] [--workloads NAME,..] [--harts N,..]
-                       [--lines N,..] [PROGRAM]
+usage: bench/replay.py [--runs N] [--instructions] [--whole] [--tasks replay,check] [--workloads NAME,..]
+                       [--harts N,..] [--lines N,..] [PROGRAM]
 
 PROGRAM is a built `sbiboard` (default: the one that `./sbiboard` builds); plain Rust is `bench/baseline.rs`, which
 is built here with rustc. It does the same work: `bench/agree.py` compares the two byte for byte, on all examples, on
@@ -20,6 +20,8 @@ A step should be constant work, so a row's speed should depend neither on the nu
 history is: rows of 100,000 lines differ in their harts, and rows of 128 harts in their lines. (Of 10,000 lines a large
 part is the start of the process.) --harts and --lines choose other ones. A script has at most 16,777,216 bytes, so
 workloads of longer lines end at 500,000 lines, and of a longer trace the lines that fit are checked.
+Plain Rust keeps an event in 32 bytes, and its numbers in a list beside it; with --whole in 80 with its numbers, as a
+history does that hands out events by reference, which the program's is.
 --instructions counts instructions by valgrind in the place of time, in some minutes: a busy machine doesn't change them.
 """
 import argparse
@@ -34,7 +36,7 @@ from itertools import count, islice
 
 ROOT = os.path.dirname(os.path.dirname(os.path.abspath(__file__)))
 BUILT = os.path.join(ROOT, "crates/sbiboard_cli/out/sbiboard_cli")
-RUSTC = ["rustc", "--edition", "2024", "-C", "opt-level=3", "-C", "codegen-units=1", "-C", "target-cpu=x86-64"]
+RUSTC = ["rustc", "--edition", "2024", "--check-cfg", "cfg(whole)", "-C", "opt-level=3", "-C", "codegen-units=1", "-C", "target-cpu=x86-64"]
 PLAIN_PAGES = {"GLIBC_TUNABLES": ""}
 HUGE_PAGES = {"GLIBC_TUNABLES": "glibc.malloc.hugetlb=1"}
 MOST_BYTES = 16_777_216
@@ -205,10 +207,11 @@ def trace(plain, path):
 # ---- runs
 
 
-def plain_rust(folder):
-    """Builds plain Rust in this folder."""
+def plain_rust(folder, whole=False):
+    """Builds plain Rust in this folder, with whole events if it is to be."""
     made = os.path.join(folder, "baseline")
-    subprocess.run([*RUSTC, "-o", made, os.path.join(ROOT, "bench/baseline.rs")], check=True)
+    chosen = ["--cfg", "whole"] * whole
+    subprocess.run([*RUSTC, *chosen, "-o", made, os.path.join(ROOT, "bench/baseline.rs")], check=True)
     return made
 
 
@@ -319,6 +322,7 @@ def options():
     parser.add_argument("program", nargs="?", default=BUILT)
     parser.add_argument("--runs", type=int, default=9, help="how many runs of each, of which the fastest counts")
     parser.add_argument("--instructions", action="store_true", help="count instructions by valgrind, not time")
+    parser.add_argument("--whole", action="store_true", help="plain Rust keeps events of 80 bytes, with their numbers")
     parser.add_argument("--tasks", type=words, default=words("replay,check"), help="as replay,check (the default)")
     parser.add_argument("--workloads", type=words, help="as calls,full_fences (default: all)")
     parser.add_argument("--harts", type=numbers, help="as 1,64,128 (the default), each 1 to 128")
@@ -336,7 +340,7 @@ def main():
         sys.exit(f"{' and '.join(missing)} not found")
     print(f"load {os.getloadavg()[0]:.1f} on {os.cpu_count()} processors", file=sys.stderr)
     with tempfile.TemporaryDirectory() as folder:
-        print_rows((os.path.abspath(chosen.program), plain_rust(folder)), folder, chosen)
+        print_rows((os.path.abspath(chosen.program), plain_rust(folder, chosen.whole)), folder, chosen)
 
 
 if __name__ == "__main__":

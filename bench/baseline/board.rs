@@ -60,10 +60,15 @@ pub enum Refusal {
     TimeFull = 5,
 }
 
-/// An accepted step, with its numbers in the board's own list.
+/// How many numbers an event has room for: of one that is whole, as a history of events by reference has them, so many
+/// that it takes 80 bytes.
+const ROOM: usize = if cfg!(whole) { 6 } else { 0 };
+
+/// An accepted step, with its numbers, or else these in the board's own list.
 struct Event {
     line: Line,
     reply: Reply,
+    numbers: [u64; ROOM],
 }
 
 pub struct Hart {
@@ -167,8 +172,12 @@ impl Board {
     /// The events, each with its numbers and its reply.
     pub fn history(&self) -> impl Iterator<Item = (Line, &[u64], Reply)> {
         self.events.iter().map(|event| {
-            let numbers = &self.numbers[event.line.first as usize..];
             let count = usize::from(event.line.count);
+            let numbers = if count <= ROOM {
+                &event.numbers[..]
+            } else {
+                &self.numbers[event.line.first as usize..]
+            };
             (event.line, &numbers[..count], event.reply)
         })
     }
@@ -205,10 +214,16 @@ impl Board {
             self.hart_step(usize::from(line.actor), line.name, numbers)?
         };
         let first = self.numbers.len() as u32;
-        self.numbers.extend_from_slice(numbers);
+        let mut kept = [0; ROOM];
+        if numbers.len() <= ROOM {
+            kept[..numbers.len()].copy_from_slice(numbers);
+        } else {
+            self.numbers.extend_from_slice(numbers);
+        }
         self.events.push(Event {
             line: Line { first, ..line },
             reply,
+            numbers: kept,
         });
         Ok(reply)
     }
