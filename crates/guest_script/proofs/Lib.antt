@@ -9,6 +9,7 @@ pub mod LinesOf
 pub mod Named
 pub mod Numerals
 pub mod Packed
+pub mod PiecesRead
 pub mod PlainParts
 pub mod PlainRead
 pub mod PlainShapes

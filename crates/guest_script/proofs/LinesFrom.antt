@@ -4,7 +4,6 @@ use Rattle.std.specs.Option.{option_map}
 use Rattle.std.specs.Str.Lines.{lines}
 use Rattle.std.proofs.lemmas.Bool.{cases_Bool, lt-ltb, le-ltb}
 use Rattle.std.proofs.lemmas.Option.{same_Some}
-use Rattle.std.proofs.lemmas.List.{nil_from_length}
 use Rattle.board_core.specs.declared.config.Config.{Config}
 use Rattle.board_core.specs.Refusals.{first_that_holds}
 use Rattle.guest_script.specs.declared.fault.Fault.{Fault}
@@ -13,7 +12,7 @@ use Rattle.guest_script.specs.declared.fault.ScriptFault.{ScriptFault}
 use Rattle.guest_script.specs.Grammar.{Draft, Nothing, content_of, most_bytes}
 use Rattle.guest_script.specs.Values.{board_in, draft_in, is_filled, next_in, script_in, words_in}
 use Rattle.guest_script.specs.FirstFault.{at_line, board_first_tests, board_tests, byte_test, line_tests, lines_tests, no_memory}
-use Rattle.guest_script.specs.Reading.{line_from, lines_from, located, or_fault, script_from, script_of, tested, with_config}
+use Rattle.guest_script.specs.Reading.{GoesOn, line_from, lines_from, located, or_fault, script_from, script_of, tested, with_config}
 
 -- ---- tests one after another
 
@@ -58,35 +57,43 @@ module _ {A B : Type 0} (n : ℕ) (tests : List (Bool × Fault)) (value : A) (mo
 
 -- ---- lines
 
-no_lines : (bytes : List ℕ) → length bytes ≡ 0 → lines bytes ≡ []
-no_lines bytes none = rw (nil_from_length bytes none) refl
-
--- the lines of bytes from line n on, the first of which is a text
-module _ (n : ℕ) (draft : Draft) (bytes text after : List ℕ) (at : lines bytes ≡ text ∷ lines after) where
-  pub good_line : (next : Draft) → line_from n draft text ≡ Ok next → lines_from n draft (lines bytes) ≡ lines_from (n + 1) next (lines after)
+-- lines from line n on, the first of which is a text
+module _ (n : ℕ) (draft : Draft) (texts : List (List ℕ)) (text : List ℕ) (others : List (List ℕ)) (at : texts ≡ text ∷ others) where
+  pub good_line : (next : Draft) → line_from n draft text ≡ Ok next → lines_from n draft texts ≡ lines_from (n + 1) next others
   unfolding line_from lines_from
   good_line next read =
-      let good = line_good n (byte_test text ∷ line_tests draft (words_in text)) (next_in n draft (words_in text)) (lines_tests (n + 1) (next_in n draft (words_in text)) (lines after)) (draft_in n draft (text ∷ lines after)) next (sym read) in
-      rw at (good.0 ∙ ap (λ (d : Draft). tested (lines_tests (n + 1) d (lines after)) (draft_in (n + 1) d (lines after))) good.1)
+      let good = line_good n (byte_test text ∷ line_tests draft (words_in text)) (next_in n draft (words_in text)) (lines_tests (n + 1) (next_in n draft (words_in text)) others) (draft_in n draft (text ∷ others)) next (sym read) in
+      rw at (good.0 ∙ ap (λ (d : Draft). tested (lines_tests (n + 1) d others) (draft_in (n + 1) d others)) good.1)
 
-  pub lines_from_bad : (e : ScriptFault) → line_from n draft text ≡ Err e → lines_from n draft (lines bytes) ≡ Err e
+  pub lines_from_bad : (e : ScriptFault) → line_from n draft text ≡ Err e → lines_from n draft texts ≡ Err e
   unfolding line_from lines_from
   lines_from_bad e read =
-      rw at (line_bad n (byte_test text ∷ line_tests draft (words_in text)) (next_in n draft (words_in text)) (lines_tests (n + 1) (next_in n draft (words_in text)) (lines after)) (draft_in n draft (text ∷ lines after)) e (sym read))
+      rw at (line_bad n (byte_test text ∷ line_tests draft (words_in text)) (next_in n draft (words_in text)) (lines_tests (n + 1) (next_in n draft (words_in text)) others) (draft_in n draft (text ∷ others)) e (sym read))
 
-  pub bad_line : (e : ScriptFault) → (e ≡ no_memory) ⊎ (line_from n draft text ≡ Err e) → (e ≡ no_memory) ⊎ (lines_from n draft (lines bytes) ≡ Err e)
+-- the same, whatever lines follow those of the bytes
+module _ (n : ℕ) (draft : Draft) (bytes text after : List ℕ) (at : lines bytes ≡ text ∷ lines after) where
+  pub goes_on : (next : Draft) → line_from n draft text ≡ Ok next → GoesOn n draft bytes (n + 1) next after
+  goes_on next read more = good_line n draft (lines bytes ++ more) text (lines after ++ more) (ap (λ (texts : List (List ℕ)). texts ++ more) at) next read
+
+  pub bad_line : (e : ScriptFault) → (e ≡ no_memory) ⊎ (line_from n draft text ≡ Err e) → (e ≡ no_memory) ⊎ ((more : List (List ℕ)) → lines_from n draft (lines bytes ++ more) ≡ Err e)
   bad_line e (inl memory) = inl memory
-  bad_line e (inr read) = inr (lines_from_bad e read)
+  bad_line e (inr read) = inr (λ more. lines_from_bad n draft (lines bytes ++ more) text (lines after ++ more) (ap (λ (texts : List (List ℕ)). texts ++ more) at) e read)
 
-pub lines_from_none : (n : ℕ) (draft : Draft) (bytes : List ℕ) → length bytes ≡ 0 → lines_from n draft (lines bytes) ≡ Ok draft
+-- a fault behind lines that were read
+pub bad_behind : (n : ℕ) (draft : Draft) (bytes : List ℕ) (n' : ℕ) (next : Draft) (rest : List ℕ) → GoesOn n draft bytes n' next rest → (e : ScriptFault)
+    → (e ≡ no_memory) ⊎ ((more : List (List ℕ)) → lines_from n' next (lines rest ++ more) ≡ Err e) → (e ≡ no_memory) ⊎ ((more : List (List ℕ)) → lines_from n draft (lines bytes ++ more) ≡ Err e)
+bad_behind n draft bytes n' next rest on e (inl memory) = inl memory
+bad_behind n draft bytes n' next rest on e (inr read) = inr (λ more. on more ∙ read more)
+
+pub lines_from_none : (n : ℕ) (draft : Draft) → lines_from n draft [] ≡ Ok draft
 unfolding lines_from
-lines_from_none n draft bytes none = rw (no_lines bytes none) refl
+lines_from_none n draft = refl
 
 -- ---- the board line
 
-pub no_board_line : (n : ℕ) (bytes : List ℕ) → length bytes ≡ 0 → script_from n (lines bytes) ≡ Err (record { line = 0; fault = NoBoardLine })
+pub no_board_line : (n : ℕ) → script_from n [] ≡ Err (record { line = 0; fault = NoBoardLine })
 unfolding script_from
-no_board_line n bytes none = rw (no_lines bytes none) refl
+no_board_line n = refl
 
 no_board : (words : List (List ℕ)) → board_in words ≡ None → is_filled words ≡ false
 no_board [] none = refl
@@ -127,13 +134,3 @@ script_of_long bytes long = rw (lt-ltb most_bytes (length bytes) long) refl
 pub script_of_short : (bytes : List ℕ) → length bytes ≤ most_bytes → script_of bytes ≡ script_from 1 (lines bytes)
 unfolding script_of script_from
 script_of_short bytes short = rw (le-ltb most_bytes (length bytes) short) refl
-
--- what the lines after the board's gave
-pub lacks_or_bad : (bytes : List ℕ) (config : Config) (read : Result Draft ScriptFault) (e : ScriptFault) → length bytes ≤ most_bytes → script_from 1 (lines bytes) ≡ with_config config read
-    → (e ≡ no_memory) ⊎ (read ≡ Err e) → (e ≡ no_memory) ⊎ (script_of bytes ≡ Err e)
-lacks_or_bad bytes config read e short at (inl memory) = inl memory
-lacks_or_bad bytes config read e short at (inr bad) = inr (script_of_short bytes short ∙ at ∙ ap (with_config config) bad)
-
-pub good_script : (bytes : List ℕ) (config : Config) (read : Result Draft ScriptFault) (draft : Draft) → length bytes ≤ most_bytes → script_from 1 (lines bytes) ≡ with_config config read
-    → read ≡ Ok draft → script_of bytes ≡ Ok (record { config = config; content = content_of draft })
-good_script bytes config read draft short at good = script_of_short bytes short ∙ at ∙ ap (with_config config) good

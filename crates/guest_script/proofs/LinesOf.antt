@@ -1,9 +1,10 @@
 -- The lines of bytes, from the first on.
-use Rattle.std.proofs.Common.{◌≡◌, ℕ, ◌+◌, ◌<◌, Bool, true, false, not, cond, eqb, ltb, List, [], ◌∷◌, ◌++◌, length, take, drop, Some, None, refl, sym, ap, ◌∙◌, inl, inr, arith}
+use Rattle.std.proofs.Common.{◌≡◌, ℕ, ◌+◌, ◌<◌, Bool, true, false, not, cond, eqb, ltb, List, [], ◌∷◌, ◌++◌, length, map, take, drop, Some, None, refl, sym, ap, ◌∙◌, inl, inr, arith}
 use Rattle.std.specs.List.{slice_split, onto_first, position, position_or_len, after_first, All}
 use Rattle.std.specs.Str.Lines.{lines, lines_of_parts, strip_carriage_return}
+use Rattle.guest_script.specs.Pieces.{AreWhole}
 use Rattle.std.proofs.lemmas.Bool.{cases_Bool, ltb-true, ltb-false, ne_eqb, not-true}
-use Rattle.std.proofs.lemmas.List.{drop_all}
+use Rattle.std.proofs.lemmas.List.{append-nil, append_assoc, drop_all}
 use Rattle.std.proofs.lemmas.Option.{cond_some}
 use Rattle.std.proofs.lemmas.List.Sums.{prefix_len_passes}
 use Rattle.std.proofs.lemmas.List.Splits.{slice_split_first, slice_split_at, slice_split_none}
@@ -51,3 +52,35 @@ lines_last bytes none some =
     let others : All (λ b. p b ≡ false) bytes = λ k d h. not-true _ (prefix_len_passes (λ b. not (p b)) bytes k d (omega arith)) in
     let split : slice_split p bytes ≡ bytes ∷ [] = slice_split_none p bytes others in
     rw (drop_all (length bytes) bytes (omega arith)) (ap lines_of_parts split ∙ lines_whole bytes some)
+
+-- ---- whole lines, and lines after them
+
+onto_first_of : (b : ℕ) (parts more : List (List ℕ)) → IsFilled parts → onto_first b (parts ++ more) ≡ onto_first b parts ++ more
+onto_first_of b parts more filled = rw filled.2 refl
+
+split_fed : (front bytes : List ℕ) → slice_split (λ b. eqb b 10) (front ++ 10 ∷ bytes) ≡ slice_split (λ b. eqb b 10) front ++ slice_split (λ b. eqb b 10) bytes
+split_fed [] bytes = refl
+split_fed (b ∷ front) bytes = elim (cases_Bool (eqb b 10)) [
+  | inl feed ↦ rw feed (ap (λ (parts : List (List ℕ)). [] ∷ parts) (split_fed front bytes))
+  | inr other ↦ rw (other, split_fed front bytes) (onto_first_of b (slice_split (λ x. eqb x 10) front) (slice_split (λ x. eqb x 10) bytes) (split_filled front))
+]
+
+filled_behind : (parts more : List (List ℕ)) → IsFilled more → IsFilled (parts ++ more)
+filled_behind [] more filled = filled
+filled_behind (part ∷ parts) more filled = (part, parts ++ more, refl)
+
+lines_of_both : (parts more : List (List ℕ)) → IsFilled more → lines_of_parts (parts ++ more) ≡ map strip_carriage_return parts ++ lines_of_parts more
+lines_of_both [] more filled = refl
+lines_of_both (part ∷ parts) more filled =
+    lines_of_more part (parts ++ more) (filled_behind parts more filled) ∙ ap (λ (texts : List (List ℕ)). strip_carriage_return part ∷ texts) (lines_of_both parts more filled)
+
+lines_behind_feed : (front bytes : List ℕ) → lines (front ++ 10 ∷ bytes) ≡ map strip_carriage_return (slice_split (λ b. eqb b 10) front) ++ lines bytes
+lines_behind_feed front bytes = ap lines_of_parts (split_fed front bytes) ∙ lines_of_both (slice_split (λ b. eqb b 10) front) (slice_split (λ b. eqb b 10) bytes) (split_filled bytes)
+
+pub lines_both : (whole bytes : List ℕ) → AreWhole whole → lines (whole ++ bytes) ≡ lines whole ++ lines bytes
+lines_both whole bytes (inl none) = rw none refl
+lines_both whole bytes (inr (front, ends)) =
+    rw ends (
+      ap lines (append_assoc front (10 ∷ []) bytes) ∙ lines_behind_feed front bytes
+      ∙ ap (λ (texts : List (List ℕ)). texts ++ lines bytes) (sym (lines_behind_feed front [] ∙ append-nil (map strip_carriage_return (slice_split (λ b. eqb b 10) front))))
+    )

@@ -21,10 +21,10 @@ use Rattle.guest_script.specs.Words.{is_allowed, is_blank, is_hash, IsSigned}
 use Rattle.guest_script.specs.Grammar.{Draft, Stepped, Traced, IsActor, IsStep, IsStepLine}
 use Rattle.guest_script.specs.Values.{is_filled, next_in, with_step, words_in}
 use Rattle.guest_script.specs.FirstFault.{byte_test, line_tests, may_follow}
-use Rattle.guest_script.specs.Reading.{line_from, lines_from, located, or_fault}
+use Rattle.guest_script.specs.Reading.{GoesOn, line_from, located, or_fault}
 use Rattle.guest_script.specs.PlainLines.{behind, BeginsLine}
 use Rattle.guest_script.proofs.LineWords.{none_cons, NoneHolds, step_follows}
-use Rattle.guest_script.proofs.LinesFrom.{good_line}
+use Rattle.guest_script.proofs.LinesFrom.{goes_on}
 use Rattle.guest_script.proofs.PlainWords.{append_all, arguments_plain, IsPlain, IsPlainByte, joined_line, lines_printed, spelled_plain}
 use Rattle.guest_script.proofs.Spacing.{line_allowed, line_words}
 
@@ -115,16 +115,16 @@ line_read n in_trace draft words line plain is may =
     read_by n draft (join_with_byte 32 words) follows.first follows.others (with_step in_trace draft line) (line_words (join_with_byte 32 words) words joined ∙ follows.parts) (line_allowed (join_with_byte 32 words) words joined) follows.none follows.value
 
 pub plain_read : (n : ℕ) (in_trace : Bool) (draft : Draft) (bytes : List ℕ) (line : Line) (after : List ℕ) → BeginsLine n in_trace bytes line after → may_follow draft (Step in_trace) ≡ true
-    → lines_from n draft (lines bytes) ≡ lines_from (n + 1) (with_step in_trace draft line) (lines after)
+    → GoesOn n draft bytes (n + 1) (with_step in_trace draft line) after
 plain_read n in_trace draft bytes line after (first, others, parts, is) may =
     let words : List (List ℕ) = first ∷ others in
     let plain = line_plain n in_trace words line is in
     let whole : bytes ≡ (join_with_byte 32 words ++ 10 ∷ []) ++ after =
     parts ∙ sym (append_assoc first (behind others) (10 ∷ after)) ∙ ap (λ (b : List ℕ). b ++ 10 ∷ after) (joined_behind first others) ∙ sym (append_assoc (join_with_byte 32 words) (10 ∷ []) after) in
-    good_line n draft bytes (join_with_byte 32 words) after (ap lines whole ∙ lines_printed words after plain) (with_step in_trace draft line) (line_read n in_trace draft words line plain is may)
+    goes_on n draft bytes (join_with_byte 32 words) after (ap lines whole ∙ lines_printed words after plain) (with_step in_trace draft line) (line_read n in_trace draft words line plain is may)
 
 -- a step more of a schedule or a trace
 pub step_read : (n : ℕ) (in_trace : Bool) (old new : List Line) (bytes after : List ℕ) → (line : Line) × BeginsLine n in_trace bytes line after × (new ≡ old ++ line ∷ [])
-    → lines_from n (steps_of in_trace old) (lines bytes) ≡ lines_from (n + 1) (steps_of in_trace new) (lines after)
+    → GoesOn n (steps_of in_trace old) bytes (n + 1) (steps_of in_trace new) after
 step_read n false old new bytes after (line, begins, grown) = rw grown (plain_read n false (Stepped old) bytes line after begins refl)
 step_read n true old new bytes after (line, begins, grown) = rw grown (plain_read n true (Traced old) bytes line after begins refl)

@@ -6,6 +6,7 @@ pub mod Grammar
 pub mod KeptLines
 pub mod OpenBlocks
 pub mod Packing
+pub mod Pieces
 pub mod PlainLines
 pub mod Reading
 pub mod Scanning

@@ -1,5 +1,5 @@
 -- What is read, where no test holds.
-use Rattle.std.specs.Prelude.{◌≡◌, ◌⊎◌, ℕ, List, ◌∷◌, codes, Option, Some, None, Result, Ok, Err, Bool}
+use Rattle.std.specs.Prelude.{◌≡◌, ◌⊎◌, ℕ, List, ◌∷◌, ◌++◌, codes, Option, Some, None, Result, Ok, Err, Bool}
 use Rattle.std.specs.Str.Lines.{lines}
 use Rattle.board_core.specs.declared.config.Config.{Config}
 use Rattle.board_core.specs.Refusals.{first_that_holds}
@@ -102,6 +102,11 @@ line_from n draft text = located n (tested (byte_test text ∷ line_tests draft 
 -- what the lines say with those from line n on, or their first fault
 unfoldable pub lines_from : ℕ → Draft → List (List ℕ) → Result Draft ScriptFault
 lines_from n draft texts = tested (lines_tests n draft texts) (draft_in n draft texts)
+
+-- Reading goes on: whatever lines follow, what the bytes give from line n on after a draft is what the rest gives from line n' on after the next.
+abbrev pub GoesOn : (n : ℕ) → Draft → List ℕ → (n' : ℕ) → (next : Draft) → (rest : List ℕ) → Type 0
+GoesOn n draft bytes n' next rest =
+    (more : List (List ℕ)) → lines_from n draft (lines bytes ++ more) ≡ lines_from n' next (lines rest ++ more)
 
 -- with the board's numbers
 abbrev pub with_config : Config → Result Draft ScriptFault → Result Written ScriptFault

@@ -1,4 +1,4 @@
-ghost use Rattle.std.specs.Prelude.{◌≡◌, ◌⊎◌, ◌∷◌, [], ◌++◌, Bool, List, true, false, is_some, None, IfOk, OnOk, Err, MatchOption, MatchResult, ◌+◌, ◌<◌, ◌≤◌, ◌^◌, length};
+ghost use Rattle.std.specs.Prelude.{◌≡◌, ◌⊎◌, ◌∷◌, [], ◌++◌, Bool, ℕ, List, true, false, is_some, None, IfOk, OnOk, Err, MatchOption, MatchResult, ◌+◌, ◌<◌, ◌≤◌, ◌^◌, length};
 ghost use Rattle.std.specs.Str.Lines.{lines};
 ghost use Rattle.guest_script.specs.Packing.{FitsKept};
 ghost use Rattle.guest_script.specs.declared.fault.Fault.TheVariants.{NoMemory, SecondBlock};
@@ -7,7 +7,7 @@ ghost use Rattle.guest_script.specs.Drafts.{draft_of};
 ghost use Rattle.guest_script.specs.FirstFault.{byte_test, kind_tests, line_tests, may_follow, no_memory};
 ghost use Rattle.guest_script.specs.Grammar.{Blocked, content, content_of, guest_at, has_block, OfClock, opened};
 ghost use Rattle.guest_script.specs.PlainLines.{BeginsLine};
-ghost use Rattle.guest_script.specs.Reading.{GivesOrLacks, GivesOrWants, line_from, lines_from, tested};
+ghost use Rattle.guest_script.specs.Reading.{GivesOrLacks, GivesOrWants, GoesOn, line_from, lines_from, tested};
 ghost use Rattle.guest_script.specs.Values.{clock_in, guests_in, lines_in, next_in, next_of, words_in, with_step};
 
 use crate::blocks::BlocksDraft;
@@ -48,10 +48,12 @@ impl BodyDraft {
     }
 
     /// Reads line `n`, which the bytes begin with, or more lines from it on: all that stand in the form in which steps are
-    /// printed, and one more. It answers the next line's number, and the bytes from it on.
+    /// printed, and one more. It answers the next line's number, and the bytes from it on. About so many bytes are expected
+    /// in all.
     pub fn read_some<'a>(
         &mut self,
         alloc: Global,
+        expected: usize,
         n: u64,
         bytes: &'a [u8],
     ) -> Result<(u64, &'a [u8]), ScriptFault>
@@ -59,13 +61,13 @@ impl BodyDraft {
         requires number { n + length bytes.now < 2 ^ 28 }
         requires few { length (lines_in (draft_of self.old)) ≤ n }
         ensures read { MatchResult result
-            (λ found. lines_from n (draft_of self.old) (lines bytes.now) ≡ lines_from found.0 (draft_of self.new) (lines found.1.now))
-            (λ e. (e ≡ no_memory) ⊎ (lines_from n (draft_of self.old) (lines bytes.now) ≡ Err e)) }
+            (λ found. GoesOn n (draft_of self.old) bytes.now found.0 (draft_of self.new) found.1.now)
+            (λ e. (e ≡ no_memory) ⊎ ((more : List (List ℕ)) → lines_from n (draft_of self.old) (lines bytes.now ++ more) ≡ Err e)) }
         ensures within { IfOk result (λ found. found.0 + length found.1.now ≤ n + length bytes.now) }
         ensures shorter { IfOk result (λ found. length found.1.now < length bytes.now) }
         ensures few { IfOk result (λ found. length (lines_in (draft_of self.new)) ≤ found.0) }
     {
-        let Ok((next, rest)) = self.read_plain(n, bytes) else {
+        let Ok((next, rest)) = self.read_plain(expected, n, bytes) else {
             return Err(NO_MEMORY);
         };
         if rest.is_empty() {
@@ -78,21 +80,26 @@ impl BodyDraft {
 
     /// Reads the lines of a schedule or a trace from number `n` on, as long as they stand in the form in which steps are
     /// printed, and answers the next line's number, and the bytes from it on.
-    fn read_plain<'a>(&mut self, n: u64, bytes: &'a [u8]) -> Result<(u64, &'a [u8]), AllocError>
+    fn read_plain<'a>(
+        &mut self,
+        expected: usize,
+        n: u64,
+        bytes: &'a [u8],
+    ) -> Result<(u64, &'a [u8]), AllocError>
         requires number { n + length bytes.now < 2 ^ 28 }
         requires few { length (lines_in (draft_of self.old)) ≤ n }
-        ensures read { IfOk result (λ found. lines_from n (draft_of self.old) (lines bytes.now) ≡ lines_from found.0 (draft_of self.new) (lines found.1.now)) }
+        ensures read { IfOk result (λ found. GoesOn n (draft_of self.old) bytes.now found.0 (draft_of self.new) found.1.now) }
         ensures within { IfOk result (λ found. found.0 + length found.1.now ≤ n + length bytes.now) }
         ensures shorter { IfOk result (λ found. length found.1.now ≤ length bytes.now) }
         ensures few { IfOk result (λ found. length (lines_in (draft_of self.new)) ≤ found.0) }
     {
         match self {
             BodyDraft::Steps(steps) => {
-                steps.expect(bytes.len());
+                steps.expect(expected);
                 read_plain_lines(steps, n, false, bytes)
             }
             BodyDraft::Trace(steps) => {
-                steps.expect(bytes.len());
+                steps.expect(expected);
                 read_plain_lines(steps, n, true, bytes)
             }
             _ => Ok((n, bytes)),

@@ -2,6 +2,7 @@
 #![tactic(auto)]
 
 mod blocks;
+mod board_line;
 mod draft;
 mod fault;
 mod kept;
@@ -16,6 +17,8 @@ mod op_shape;
 mod parsing;
 mod places;
 mod plain;
+mod progress;
+mod reader;
 mod said;
 mod said_name;
 mod said_shape;
@@ -29,5 +32,6 @@ pub use kept_line::KeptLine;
 pub use laws::one_reading;
 pub use lines::{Lines, LinesIter};
 pub use parsing::parse;
+pub use reader::Reader;
 pub use said::Said;
 pub use script::{Block, Body, Line, Script};

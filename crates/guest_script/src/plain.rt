@@ -1,10 +1,9 @@
 ghost use Rattle.std.specs.Prelude.{◌≡◌, ◌+◌, ◌≤◌, ◌<◌, ◌++◌, ◌^◌, ◌∷◌, [], ℕ, List, None, Some, codes, IfOk, IfSome, MatchOption, length};
-ghost use Rattle.std.specs.Str.Lines.{lines};
 ghost use Rattle.board_core.specs.declared.event.Op.TheVariants.{Sfence};
 ghost use Rattle.guest_script.specs.declared.script.Line.{Line};
 ghost use Rattle.guest_script.specs.Words.{last_number};
 ghost use Rattle.guest_script.specs.Drafts.{steps_of};
-ghost use Rattle.guest_script.specs.Reading.{lines_from};
+ghost use Rattle.guest_script.specs.Reading.{GoesOn};
 ghost use Rattle.guest_script.specs.PlainLines.{BeginsActor, BeginsArgument, BeginsDigits, BeginsLine, BeginsName, BeginsNumber, BeginsNumbers, BeginsOp, BeginsSaid, BeginsSaidName, BeginsSigned, BeginsWord};
 ghost use Rattle.guest_script.specs.KeptLines.{plain_line};
 ghost use Rattle.guest_script.specs.Packing.{FitsKept, op_made};
@@ -50,7 +49,7 @@ pub fn read_plain_lines<'a>(
 ) -> Result<(u64, &'a [u8]), AllocError>
     requires number { first + length bytes.now < 2 ^ 28 }
     requires few { length steps.old ≤ first }
-    ensures read { IfOk result (λ found. lines_from first (steps_of in_trace steps.old) (lines bytes.now) ≡ lines_from found.0 (steps_of in_trace steps.new) (lines found.1.now)) }
+    ensures read { IfOk result (λ found. GoesOn first (steps_of in_trace steps.old) bytes.now found.0 (steps_of in_trace steps.new) found.1.now) }
     ensures within { IfOk result (λ found. found.0 + length found.1.now ≤ first + length bytes.now) }
     ensures shorter { IfOk result (λ found. length found.1.now ≤ length bytes.now) }
     ensures few { IfOk result (λ found. length steps.new ≤ found.0) }

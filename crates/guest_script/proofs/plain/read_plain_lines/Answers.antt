@@ -1,11 +1,11 @@
-use Rattle.std.proofs.Common.{◌∷◌, [], sym, ◌∙◌, arith, length-append}
+use Rattle.std.proofs.Common.{◌∷◌, [], ◌∙◌, arith, length-append}
 use Rattle.guest_script.proofs.PlainRead.{step_read}
 use Rattle.guest_script.proofs.plain.read_plain_lines.Goals as goal
 
 pub loop-after-preserved : goal.loop-after-preserved
 loop-after-preserved c =
     let (line, begins, grown, shorter) = rw c.in-Some.is at c.in_ok-after.ensures in (
-      sym (step_read c.loop-after.number c.args.in_trace c.loop-after.steps c.read_plain.new.lines c.loop-after.rest.now c.in-Some.after.now (line, begins, grown)) ∙ c.loop-after.invariant.0,
+      λ more. c.loop-after.invariant.0 more ∙ step_read c.loop-after.number c.args.in_trace c.loop-after.steps c.read_plain.new.lines c.loop-after.rest.now c.in-Some.after.now (line, begins, grown) more,
       omega (arith, shorter, c.loop-after.invariant.1),
       omega (arith, shorter, c.loop-after.invariant.2),
       rw grown (omega (arith, length-append c.loop-after.steps (line ∷ []), c.loop-after.invariant.3)),

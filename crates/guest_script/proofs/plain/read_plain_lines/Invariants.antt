@@ -1,12 +1,11 @@
-use Rattle.std.proofs.Common.{◌≡◌, ◌+◌, ◌≤◌, length}
-use Rattle.std.specs.Str.Lines.{lines}
+use Rattle.std.proofs.Common.{◌+◌, ◌≤◌, length}
 use Rattle.guest_script.specs.Drafts.{steps_of}
-use Rattle.guest_script.specs.Reading.{lines_from}
+use Rattle.guest_script.specs.Reading.{GoesOn}
 use Rattle.guest_script.proofs.plain.read_plain_lines.Given as goal
 
 abbrev pub invariant-loop-after : goal.invariant-loop-after
 invariant-loop-after l =
-    (lines_from l.number (steps_of l.in_trace l.steps) (lines l.rest) ≡ lines_from l.first (steps_of l.in_trace l.fn.steps) (lines l.bytes))
+    GoesOn l.first (steps_of l.in_trace l.fn.steps) l.bytes l.number (steps_of l.in_trace l.steps) l.rest
     × (l.number + length l.rest ≤ l.first + length l.bytes)
     × (length l.rest ≤ length l.bytes)
     × (length l.steps ≤ l.number)

@@ -1,0 +1,129 @@
+ghost use Rattle.std.specs.Prelude.{◌≡◌, ◌+◌, ◌<◌, ◌≤◌, ◌^◌, ◌++◌, ◌∷◌, [], List, Ok, ℕ, length};
+ghost use Rattle.std.specs.Str.Lines.{lines};
+ghost use Rattle.guest_script.specs.Drafts.{draft_of};
+ghost use Rattle.guest_script.specs.Grammar.{written};
+ghost use Rattle.guest_script.specs.Pieces.{AgreesOrLacks, lines_of_stage, lines_so_far, script_after, stage_after};
+ghost use Rattle.guest_script.specs.Reading.{GivesOrLacks, script_from, with_config};
+
+use crate::board_line::board_words;
+use crate::draft::BodyDraft;
+use crate::fault::{Fault, NO_MEMORY, ScriptFault};
+use crate::script::Script;
+use crate::text::next_line;
+use board_core::Config;
+use std::alloc::Global;
+
+/// What the lines of a script so far say.
+#[derive(Drop)]
+pub enum Stage {
+    /// Nothing: there was no line with words.
+    Nothing,
+    /// The board's line, and lines after it.
+    Lines {
+        /// The board.
+        config: Config,
+        /// What the lines after its line say.
+        draft: BodyDraft,
+    },
+    /// There was a fault, or no memory.
+    Faulty(ScriptFault),
+}
+
+/// How far a script is read.
+#[derive(Drop)]
+pub struct Progress {
+    /// The next line's number.
+    pub next: u64,
+    /// What the lines before it say.
+    pub stage: Stage,
+}
+
+impl Progress {
+    /// Reads all lines of the bytes.
+    pub fn read_lines(&mut self, alloc: Global, expected: usize, bytes: &[u8])
+        requires number { self.old.next + length bytes.now < 2 ^ 28 }
+        requires few { length (lines_so_far self.old) ≤ self.old.next }
+        ensures read { (more : List (List ℕ)) → AgreesOrLacks (script_after self.old (lines bytes.now ++ more)) (script_after self.new more) }
+        ensures within { self.new.next ≤ self.old.next + length bytes.now }
+        ensures few { length (lines_so_far self.new) ≤ self.new.next }
+    {
+        let mut rest = bytes;
+        while !rest.is_empty() {
+            rest = self.read_some(alloc, expected, rest);
+        }
+    }
+
+    /// Reads the line that the bytes begin with, or more lines from it on, and answers the bytes after them. After a fault
+    /// nothing more is read.
+    fn read_some<'a>(&mut self, alloc: Global, expected: usize, bytes: &'a [u8]) -> &'a [u8]
+        requires some { 0 < length bytes.now }
+        requires number { self.old.next + length bytes.now < 2 ^ 28 }
+        requires few { length (lines_so_far self.old) ≤ self.old.next }
+        ensures read { (more : List (List ℕ)) → AgreesOrLacks (script_after self.old (lines bytes.now ++ more)) (script_after self.new (lines result.now ++ more)) }
+        ensures within { self.new.next + length result.now ≤ self.old.next + length bytes.now }
+        ensures shorter { length result.now < length bytes.now }
+        ensures few { length (lines_so_far self.new) ≤ self.new.next }
+    {
+        match &mut self.stage {
+            Stage::Nothing => {
+                let (text, rest) = next_line(bytes);
+                self.stage = first_stage(self.next, text);
+                self.next += 1;
+                rest
+            }
+            Stage::Lines { config: _, draft } => {
+                match draft.read_some(alloc, expected, self.next, bytes) {
+                    Ok((next, rest)) => {
+                        self.next = next;
+                        rest
+                    }
+                    Err(fault) => {
+                        self.stage = Stage::Faulty(fault);
+                        &bytes[bytes.len()..]
+                    }
+                }
+            }
+            Stage::Faulty(_) => &bytes[bytes.len()..],
+        }
+    }
+
+    /// The script, where no line follows.
+    pub fn script(self, alloc: Global) -> Result<Script, ScriptFault>
+        ensures { GivesOrLacks written result (script_after self []) }
+    {
+        let Progress { next: _, stage } = self;
+        match stage {
+            Stage::Nothing => Err(ScriptFault {
+                line: 0,
+                fault: Fault::NoBoardLine,
+            }),
+            Stage::Lines { config, draft } => script_with(alloc, config, draft),
+            Stage::Faulty(fault) => Err(fault),
+        }
+    }
+}
+
+/// What line `n` says, which is the board's if it has words.
+fn first_stage(n: u64, text: &[u8]) -> Stage
+    ensures read { (others : List (List ℕ)) → script_from n (text.now ∷ others) ≡ stage_after result (n + 1) others }
+    ensures none { lines_of_stage result ≡ [] }
+{
+    match board_words(text) {
+        Ok(None) => Stage::Nothing,
+        Ok(Some(config)) => Stage::Lines {
+            config,
+            draft: BodyDraft::Nothing,
+        },
+        Err(fault) => Stage::Faulty(ScriptFault { line: n, fault }),
+    }
+}
+
+/// The script of a board and all that its lines say.
+fn script_with(alloc: Global, config: Config, draft: BodyDraft) -> Result<Script, ScriptFault>
+    ensures { GivesOrLacks written result (with_config config (Ok (draft_of draft))) }
+{
+    match draft.body(alloc) {
+        Ok(body) => Ok(Script { config, body }),
+        Err(_) => Err(NO_MEMORY),
+    }
+}

@@ -1,0 +1,84 @@
+ghost use Rattle.std.specs.Prelude.{◌≡◌, ◌+◌, ◌≤◌, ◌++◌, [], ℕ, List, length};
+ghost use Rattle.guest_script.specs.declared.progress.Progress.{Progress};
+ghost use Rattle.guest_script.specs.Grammar.{most_bytes};
+ghost use Rattle.guest_script.specs.Pieces.{AreWhole, HasRead, IsAnswered, grown, lines_so_far};
+
+use crate::fault::{Fault, ScriptFault};
+use crate::progress::{Progress, Stage};
+use crate::script::Script;
+use std::alloc::Global;
+use std::marker::Model;
+
+/// How many bytes a script may have.
+const MOST_BYTES: usize = 16_777_216;
+
+/// A script that is read in pieces, so that its bytes need not be in memory at one time.
+#[derive(Drop)]
+pub struct Reader {
+    size: usize,
+    expected: usize,
+    progress: Progress,
+}
+
+impl Model for Reader {
+    // how many bytes were read, and what they say
+    ghost Value = { ℕ × Progress };
+
+    ghost view = { λ r. (r.size, r.progress) };
+
+    ghost invariant = { λ r. (r.size ≤ most_bytes + 1) × (r.progress.next ≤ r.size + 1) × (length (lines_so_far r.progress) ≤ r.progress.next) };
+}
+
+impl Reader {
+    /// Nothing was read. About so many bytes are to come, or any number, where that is 0; nothing rests on it but how much
+    /// memory is taken at once.
+    pub fn expecting(bytes: usize) -> Reader
+        ensures { HasRead result [] }
+    {
+        Reader {
+            size: 0,
+            expected: bytes,
+            progress: Progress {
+                next: 1,
+                stage: Stage::Nothing,
+            },
+        }
+    }
+
+    /// Reads the lines that come next, each with its line feed. A fault, or the want of memory, is told at the end.
+    pub fn read(&mut self, alloc: Global, lines: &[u8])
+        requires { AreWhole lines.now }
+        ensures { (before : List ℕ) → HasRead self.old before → HasRead self.new (before ++ lines.now) }
+    {
+        self.size = grown(self.size, lines.len());
+        if self.size <= MOST_BYTES {
+            self.progress.read_lines(alloc, self.expected, lines);
+        }
+    }
+
+    /// Reads the last bytes, and answers the script that all bytes are, or their first fault.
+    pub fn end(self, alloc: Global, rest: &[u8]) -> Result<Script, ScriptFault>
+        ensures { (before : List ℕ) → HasRead self before → IsAnswered (before ++ rest.now) result }
+    {
+        let Reader {
+            size,
+            expected,
+            mut progress,
+        } = self;
+        if grown(size, rest.len()) > MOST_BYTES {
+            return Err(ScriptFault {
+                line: 0,
+                fault: Fault::TooLong,
+            });
+        }
+        progress.read_lines(alloc, expected, rest);
+        progress.script(alloc)
+    }
+}
+
+/// The size with so many bytes more, or one byte more than a script may have.
+fn grown(size: usize, more: usize) -> usize
+    ensures { result ≡ grown size more }
+{
+    size.saturating_add(more).min(MOST_BYTES + 1)
+}
