@@ -59,11 +59,6 @@ pub piece_read : (reader : ℕ × Progress) (size size' : ℕ) (p p' : Progress)
 piece_read reader size size' p p' before whole is are grown on read more =
     rw grown (agrees_then _ _ _ (behind_piece size p before whole more (rw is at read)) (with_piece size p p' whole more are on))
 
-pub too_long : (reader : ℕ × Progress) (size size' : ℕ) (p : Progress) (before whole : List ℕ) → reader ≡ (size, p) → most_bytes < size + length whole → most_bytes < size'
-    → HasRead reader before → HasRead (size', p) (before ++ whole)
-too_long reader size size' p before whole is long long' read more =
-    agrees_then _ _ _ (behind_piece size p before whole more (rw is at read)) (inr (both_long size p p whole more size' (omega (arith, long)) (omega (arith, long'))))
-
 -- ---- the end
 
 given : (answer : Result Script ScriptFault) (x y : Result Written ScriptFault) → AgreesOrLacks x y → GivesOrLacks written answer y → GivesOrLacks written answer x

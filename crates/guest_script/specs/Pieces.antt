@@ -66,6 +66,10 @@ grown size more = min (size + more) (most_bytes + 1)
 
 -- ---- a reader
 
--- A reader, which so many bytes were given to, has read these: whatever follows, the script is what it makes of that.
-abbrev pub HasRead : (reader : ℕ × Progress) → List ℕ → Type 0
+-- the part of a script that a reader was given: how many bytes, and what they say
+abbrev pub Part : Type 0
+Part = ℕ × Progress
+
+-- A reader was given these bytes: whatever follows, the script is what it makes of that.
+abbrev pub HasRead : (reader : Part) → List ℕ → Type 0
 HasRead reader bytes = (more : List ℕ) → AgreesOrLacks (script_of (bytes ++ more)) (script_with reader.0 reader.1 more)

@@ -1,7 +1,6 @@
 ghost use Rattle.std.specs.Prelude.{◌≡◌, ◌+◌, ◌≤◌, ◌++◌, [], ℕ, List, length};
-ghost use Rattle.guest_script.specs.declared.progress.Progress.{Progress};
 ghost use Rattle.guest_script.specs.Grammar.{most_bytes};
-ghost use Rattle.guest_script.specs.Pieces.{AreWhole, HasRead, IsAnswered, grown, lines_so_far};
+ghost use Rattle.guest_script.specs.Pieces.{AreWhole, HasRead, IsAnswered, Part, grown, lines_so_far};
 
 use crate::fault::{Fault, ScriptFault};
 use crate::progress::{Progress, Stage};
@@ -22,7 +21,7 @@ pub struct Reader {
 
 impl Model for Reader {
     // how many bytes were read, and what they say
-    ghost Value = { ℕ × Progress };
+    ghost Value = { Part };
 
     ghost view = { λ r. (r.size, r.progress) };
 

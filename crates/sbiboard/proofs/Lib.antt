@@ -9,4 +9,5 @@ pub mod Ran
 pub mod Recorded
 pub mod Retraced
 pub mod Stopped
+pub mod Taken
 pub mod UpTo

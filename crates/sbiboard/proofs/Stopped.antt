@@ -1,16 +1,20 @@
 -- A task that ran no line wrote nothing.
-use Rattle.std.proofs.Common.{◌≡◌, ◌≢◌, ℕ, List, [], Option, Some, refl, ap, inr}
+use Rattle.std.proofs.Common.{◌≡◌, ◌≢◌, ℕ, List, [], take, Option, Some, None, IfSome, Ok, Err, refl, ap, subst, inr}
 use Rattle.std.specs.Prelude.{is_some}
 use Rattle.std.proofs.KnownBytes.{Appends-nil}
 use Rattle.board_core.specs.declared.config.Config.{Config}
 use Rattle.board_core.specs.Limits.{IsGood}
 use Rattle.guest_script.specs.declared.fault.Fault.{Fault}
 use Rattle.guest_script.specs.declared.fault.Fault.TheVariants.{BadByte, NoBoardLine, UnknownWord, BadNumber, WordCount, OtherKind, SecondBlock, TooLong, NoMemory}
+use Rattle.guest_script.specs.declared.script.Script.{Script}
 use Rattle.guest_script.specs.FirstFault.{first_fault}
-use Rattle.guest_script.specs.Grammar.{Content, Reads, Written}
+use Rattle.guest_script.specs.Grammar.{Content, Reads, Written, written}
+use Rattle.sbiboard.specs.declared.device.pieces.ReadFault.{ReadFault}
+use Rattle.sbiboard.specs.declared.device.pieces.ReadFault.TheVariants.{Failed, Script as NoScript}
+use Rattle.sbiboard.specs.Sources.{ReadsScript, read_limit}
 use Rattle.sbiboard.specs.declared.outcome.Outcome.{Outcome}
 use Rattle.sbiboard.specs.declared.outcome.Outcome.TheVariants as outcomes
-use Rattle.sbiboard.specs.Running.{ended_as, EndsAs, Stops, Writes}
+use Rattle.sbiboard.specs.Running.{ended_as, EndsAs, Stops, unread_as, Writes}
 
 module _ {A : Type 0} (lines_of : Content → Option A) (bytes : List ℕ) where
   pub writes_stopped : (Ends : Config → A → Outcome → List ℕ → Type 0) (known : Option (List ℕ)) (outcome : Outcome)
@@ -40,3 +44,21 @@ module _ {A : Type 0} (lines_of : Content → Option A) (bytes : List ℕ) where
   pub bad_board : (script : Written) (lines : A) → Reads bytes script → lines_of script.content ≡ Some lines → ¬ IsGood script.config
       → Stops lines_of bytes outcomes.BadBoard
   bad_board script lines reads are bad = (script, reads, ap is_some are, bad)
+
+-- ---- a source whose bytes may be known
+
+-- what a script's run ends with
+pub known_read : (P : List ℕ → Type 0) (old : Option (List ℕ)) (script : Script) → ReadsScript old (Ok script) → ((bytes : List ℕ) → Reads bytes (written script) → P bytes)
+    → IfSome old (λ bytes. P (take read_limit bytes))
+known_read P None script reads run = tt
+known_read P (Some all) script (bytes, answered, is) run = subst P is (run bytes answered.script)
+
+-- what is no script
+pub known_fault : {A : Type 0} (lines_of : Content → Option A) (Ends : Config → A → Outcome → List ℕ → Type 0) (known old : Option (List ℕ)) (fault : ReadFault)
+    (outcome : Outcome) → outcome ≡ unread_as fault → ReadsScript old (Err fault) → IfSome old (λ bytes. Writes (EndsAs lines_of Ends (take read_limit bytes)) outcome known known)
+known_fault lines_of Ends known None fault outcome ends reads = tt
+known_fault lines_of Ends known (Some all) Failed outcome ends reads = rw ends tt
+known_fault lines_of Ends known (Some all) (NoScript fault) outcome ends (bytes, answered, is) =
+    let stops = stops_at lines_of bytes fault.line fault.fault answered.fault in
+    rw ends (subst (λ (b : List ℕ). Writes (EndsAs lines_of Ends b) (ended_as fault.line fault.fault) known known) is
+    (writes_stopped lines_of bytes Ends known (ended_as fault.line fault.fault) stops))

@@ -13,12 +13,10 @@ use Rattle.guest_script.specs.declared.fault.ScriptFault.{ScriptFault}
 use Rattle.guest_script.specs.declared.script.Line.{Line}
 use Rattle.guest_script.specs.FirstFault.{fault_number, first_fault}
 use Rattle.guest_script.specs.Grammar.{Content, Reads, Written, most_bytes}
+use Rattle.sbiboard.specs.declared.device.pieces.ReadFault.{ReadFault}
+use Rattle.sbiboard.specs.declared.device.pieces.ReadFault.TheVariants.{Failed, Script as NoScript}
 use Rattle.sbiboard.specs.declared.outcome.Outcome.{Outcome}
 use Rattle.sbiboard.specs.declared.outcome.Outcome.TheVariants.{Good, Script, BadBoard, WrongKind, HistoryFull, Stuck, Differs, NoMemory, Io}
-
--- how many bytes are read at most: one more than a script may have
-abbrev pub read_limit : ℕ
-read_limit = most_bytes + 1
 
 -- ---- a board and its lines
 
@@ -93,3 +91,7 @@ CountsEnd outcome reader reader' writer writer' = (reader' ≡ reader) × (write
 abbrev pub ended_as : ℕ → Fault → Outcome
 ended_as line faults.NoMemory = NoMemory
 ended_as line fault = Script line (fault_number fault)
+
+abbrev pub unread_as : ReadFault → Outcome
+unread_as Failed = Io
+unread_as (NoScript fault) = ended_as fault.line fault.fault

@@ -1,13 +1,21 @@
--- What is known of a source after reads (profile).
-use Rattle.std.specs.Prelude.{◌≡◌, ℕ, ◌<◌, ◌≤◌, List, length, Option, Result, MatchResult}
-use Rattle.std.specs.Io.KnownBytes.{Consumes}
-use Rattle.sbiboard.specs.declared.device.whole.ReadFault.{ReadFault}
-use Rattle.sbiboard.specs.declared.device.whole.ReadFault.TheVariants.{Failed, NoMemory}
+-- What is known of a source after reads, and of the script that was read (profile).
+use Rattle.std.specs.Prelude.{◌≡◌, ℕ, ◌+◌, ◌<◌, ◌≤◌, List, ◌++◌, length, take, Option, Result, Ok, Err, IfSome, MatchResult}
+use Rattle.std.specs.Io.KnownBytes.{Consumes, IsAtEnd}
+use Rattle.guest_script.specs.declared.script.Script.{Script}
+use Rattle.guest_script.specs.FirstFault.{no_memory}
+use Rattle.guest_script.specs.Grammar.{most_bytes}
+use Rattle.guest_script.specs.Pieces.{HasRead, IsAnswered, Part}
+use Rattle.sbiboard.specs.declared.device.pieces.ReadFault.{ReadFault}
+use Rattle.sbiboard.specs.declared.device.pieces.ReadFault.TheVariants.{Failed, Script as NoScript}
 
--- A fault of reading is a call that failed, or memory that was refused while no call failed.
+-- how many bytes are read at most: one more than a script may have
+abbrev pub read_limit : ℕ
+read_limit = most_bytes + 1
+
+-- A fault of reading is a call that failed, or a fault of the script while no call failed.
 abbrev pub CountsFault : (old new : ℕ) → ReadFault → Type 0
 CountsFault old new Failed = old < new
-CountsFault old new NoMemory = new ≡ old
+CountsFault old new (NoScript fault) = new ≡ old
 
 -- What was read took no call that failed, and a fault has its cause.
 abbrev pub CountsReading : {T : Type 0} → (old new : ℕ) → Result T ReadFault → Type 0
@@ -16,3 +24,37 @@ CountsReading old new result = MatchResult result (λ _. new ≡ old) (CountsFau
 -- Of the bytes that were to come at most so many were read.
 abbrev pub ReadsUpTo : (limit : ℕ) → (old new : Option (List ℕ)) → Type 0
 ReadsUpTo limit old new = (bytes : List ℕ) × Consumes old new bytes × (length bytes ≤ limit)
+
+-- A read took so many bytes, and put them behind the first ones.
+pub record ReadsBehind (first : ℕ) (old new : Option (List ℕ)) (bytes bytes' : List ℕ) (count : ℕ) : Type 0 where
+  pub got : List ℕ
+  pub long : length got ≡ count
+  pub taken : Consumes old new got
+  pub behind : take (first + count) bytes' ≡ take first bytes ++ got
+
+-- The bytes that were taken from a source, so many, are those that a reader was given, and then those that are pending.
+pub record HasTaken (old new : Option (List ℕ)) (reader : Part) (pending : List ℕ) (count : ℕ) : Type 0 where
+  pub given : List ℕ
+  pub read : HasRead reader given
+  pub taken : Consumes old new (given ++ pending)
+  pub long : length (given ++ pending) ≡ count
+
+-- All bytes that were to come were taken, or as many as are read at most.
+abbrev pub HasTakenAll : (old new : Option (List ℕ)) → (reader : Part) → (pending : List ℕ) → Type 0
+HasTakenAll old new reader pending =
+    (count : ℕ) × HasTaken old new reader pending count × (count ≤ read_limit) × (count < read_limit → IsAtEnd new)
+
+-- A fault of a call, or the want of memory.
+abbrev pub Lacks : ReadFault → Type 0
+Lacks Failed = Unit {0}
+Lacks (NoScript fault) = fault ≡ no_memory
+
+-- What is read of bytes: the script that they are, or their fault, or the want of memory. After a failed call nothing is said of them.
+abbrev pub IsRead : List ℕ → Result Script ReadFault → Type 0
+IsRead bytes (Ok script) = IsAnswered bytes (Ok script)
+IsRead bytes (Err (NoScript fault)) = IsAnswered bytes (Err fault)
+IsRead bytes (Err Failed) = Unit {0}
+
+-- A script is read of bytes, which are those of the source up to the limit, where they are known.
+abbrev pub ReadsScript : (old : Option (List ℕ)) → Result Script ReadFault → Type 0
+ReadsScript old result = (bytes : List ℕ) × IsRead bytes result × IfSome old (λ all. bytes ≡ take read_limit all)

@@ -2,8 +2,8 @@ ghost use Rattle.std.specs.Prelude.{◌≡◌, ◌↔◌, ◌^◌, ◌<◌, true
 ghost use Rattle.guest_script.specs.Agreeing.{said_of};
 ghost use Rattle.monitor.specs.Sinks.{Puts};
 ghost use Rattle.sbiboard.specs.Check.{AllAgree, Checks, DiffersFirst, EndsCheck, agrees_text, differs_text};
-ghost use Rattle.sbiboard.specs.Running.{CountsEnd, EndsFlushed, EndsRead, Writes, opening_of, read_limit};
-ghost use Rattle.sbiboard.specs.Sources.{ReadsUpTo};
+ghost use Rattle.sbiboard.specs.Running.{CountsEnd, EndsFlushed, EndsRead, Writes, opening_of};
+ghost use Rattle.sbiboard.specs.Sources.{ReadsUpTo, read_limit};
 
 use crate::device::Source;
 use crate::outcome::Outcome;

@@ -4,14 +4,14 @@ ghost use Rattle.std.specs.Prelude.{◌≡◌, ℕ, ◌^◌, ◌<◌, Bool, fals
 ghost use Rattle.monitor.specs.Sinks.{CountsWrite};
 ghost use Rattle.sbiboard.specs.Devices.{Counted, HandsOn, HandsOnFlush, HandsOnWrite};
 
+mod pieces;
 mod source;
-mod whole;
 
 use monitor::{Failed, Sink};
+pub use pieces::{ReadFault, read_script};
 pub use source::Source;
 use std::io::{self, Read, Write};
 use std::marker::Model;
-pub use whole::{ReadFault, read_whole};
 
 /// A reader or a writer of the system. Each call is one call of it, whose answer is handed on. Failed calls are
 /// counted, one that a signal interrupted among them, and so is whether a writer was flushed since it was last

@@ -14,7 +14,7 @@ mod threaded;
 
 pub use checking::check;
 pub use command_line::{Task, asked_as_written, command};
-pub use device::{Device, ReadFault, Source, read_whole};
+pub use device::{Device, ReadFault, Source, read_script};
 pub use ending::{Stop, ended};
 pub use laws::read_back;
 pub use outcome::Outcome;

@@ -2,8 +2,8 @@ ghost use Rattle.std.specs.Prelude.{◌≡◌, ◌^◌, ◌<◌, true, IfOk, IfS
 ghost use Rattle.monitor.specs.Sinks.{Puts};
 ghost use Rattle.sbiboard.specs.Fitting.{AllFit, AreRead};
 ghost use Rattle.sbiboard.specs.Replay.{EndsReplay, Replays, is_history_full, lines_text, meets_full, text_of};
-ghost use Rattle.sbiboard.specs.Running.{CountsEnd, EndsFlushed, EndsRead, Writes, course_after, opening_of, read_limit};
-ghost use Rattle.sbiboard.specs.Sources.{ReadsUpTo};
+ghost use Rattle.sbiboard.specs.Running.{CountsEnd, EndsFlushed, EndsRead, Writes, course_after, opening_of};
+ghost use Rattle.sbiboard.specs.Sources.{ReadsUpTo, read_limit};
 
 use crate::device::Source;
 use crate::fitting::{answer_fits, op_fits};

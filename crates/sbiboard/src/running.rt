@@ -1,23 +1,20 @@
 //! What a replay and a check share: a script is read whole, and its lines are run on a new board.
 
-ghost use Rattle.std.specs.Prelude.{◌≡◌, ◌^◌, ◌<◌, IfSome, take};
-ghost use Rattle.guest_script.specs.Grammar.{content};
+ghost use Rattle.std.specs.Prelude.{◌≡◌, ◌^◌, ◌<◌, ℕ, IfSome, List, take};
+ghost use Rattle.guest_script.specs.Grammar.{Reads, content, written};
 ghost use Rattle.sbiboard.specs.Fitting.{AreRead};
 ghost use Rattle.sbiboard.specs.Jobs.{Does, lines_for};
-ghost use Rattle.sbiboard.specs.Running.{CountsEnd, EndsAs, EndsFlushed, EndsRead, Writes, ended_as, opening_of, read_limit};
-ghost use Rattle.sbiboard.specs.Sources.{ReadsUpTo};
+ghost use Rattle.sbiboard.specs.Running.{CountsEnd, EndsAs, EndsFlushed, EndsRead, Writes, ended_as, opening_of, unread_as};
+ghost use Rattle.sbiboard.specs.Sources.{ReadsUpTo, read_limit};
 
 use crate::checking::check_lines;
-use crate::device::{ReadFault, Source, read_whole};
+use crate::device::{ReadFault, Source, read_script};
 use crate::outcome::Outcome;
 use crate::replaying::replay_lines;
 use board_core::{Board, BuildFault, Config};
-use guest_script::{Body, Fault, Lines, ScriptFault, parse};
+use guest_script::{Body, Fault, Lines, Script, ScriptFault};
 use monitor::Sink;
 use std::alloc::Global;
-
-/// One byte more than a script may have.
-pub const READ_LIMIT: usize = 16_777_217;
 
 /// What is done with a script.
 #[derive(Clone, Copy)]
@@ -42,25 +39,20 @@ pub fn run<R: Source, W: Sink>(job: Job, alloc: Global, reader: &mut R, writer: 
     ensures failed { CountsEnd result (R.failures reader.old) (R.failures reader.new)
         (W.failures writer.old) (W.failures writer.new) }
 {
-    let bytes = match read_whole(alloc, reader, READ_LIMIT) {
-        Ok(bytes) => bytes,
-        Err(ReadFault::Failed) => return Outcome::Io,
-        Err(ReadFault::NoMemory) => return Outcome::NoMemory,
-    };
-    run_bytes(job, alloc, &bytes, writer)
+    match read_script(alloc, reader) {
+        Ok(script) => run_script(job, alloc, script, writer),
+        Err(fault) => unread(fault),
+    }
 }
 
-#[tactic(auto, using(crate::proofs::Stopped::writes_stopped, crate::proofs::Stopped::stops_at))]
-fn run_bytes<W: Sink>(job: Job, alloc: Global, bytes: &[u8], writer: &mut W) -> Outcome
-    requires { W.failures writer.old < 2 ^ 63 }
-    ensures writes { Writes (EndsAs (lines_for job) (Does job) bytes.now) result (W.written writer.old) (W.written writer.new) }
+fn run_script<W: Sink>(job: Job, alloc: Global, script: Script, writer: &mut W) -> Outcome
+    requires read { (bytes : List ℕ) × Reads bytes (written script) }
+    requires counts { W.failures writer.old < 2 ^ 63 }
+    ensures writes { (bytes : List ℕ) → Reads bytes (written script)
+        → Writes (EndsAs (lines_for job) (Does job) bytes) result (W.written writer.old) (W.written writer.new) }
     ensures flushed { EndsFlushed result (W.is_flushed writer.new) }
     ensures failed { CountsEnd result 0 0 (W.failures writer.old) (W.failures writer.new) }
 {
-    let script = match parse(alloc, bytes) {
-        Ok(script) => script,
-        Err(fault) => return ended(fault),
-    };
     let Some(lines) = lines_for(job, alloc, script.body) else {
         return Outcome::WrongKind;
     };
@@ -79,6 +71,16 @@ fn lines_for(job: Job, alloc: Global, body: Body) -> Option<Lines>
         (_, Body::Empty) => Some(Lines::new(alloc)),
         (Job::Replay, Body::Schedule(lines)) | (Job::Check, Body::Trace(lines)) => Some(lines),
         (_, _) => None,
+    }
+}
+
+/// How a run ends that read no script.
+pub fn unread(fault: ReadFault) -> Outcome
+    ensures { result ≡ unread_as fault }
+{
+    match fault {
+        ReadFault::Failed => Outcome::Io,
+        ReadFault::Script(fault) => ended(fault),
     }
 }
 

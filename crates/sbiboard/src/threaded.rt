@@ -1,16 +1,16 @@
-ghost use Rattle.std.specs.Prelude.{◌≡◌, ◌^◌, ◌<◌, true, IfSome, OnOk, is_some, take};
+ghost use Rattle.std.specs.Prelude.{◌≡◌, ◌^◌, ◌<◌, true, ℕ, IfSome, List, OnOk, is_some, take};
 ghost use Rattle.board_core.specs.Limits.{IsGood};
-ghost use Rattle.guest_script.specs.Grammar.{content};
+ghost use Rattle.guest_script.specs.Grammar.{Reads, content, written};
 ghost use Rattle.monitor.specs.Sinks.{Puts};
-ghost use Rattle.sbiboard.specs.Running.{CountsEnd, EndsFlushed, EndsRead, Writes, read_limit};
-ghost use Rattle.sbiboard.specs.Sources.{ReadsUpTo};
+ghost use Rattle.sbiboard.specs.Running.{CountsEnd, EndsFlushed, EndsRead, Writes};
+ghost use Rattle.sbiboard.specs.Sources.{ReadsUpTo, read_limit};
 ghost use Rattle.sbiboard.specs.Threaded.{EndsRun, end_line, end_name, events_text, outcome_of, programmed, run_text};
 
-use crate::device::{ReadFault, Source, read_whole};
+use crate::device::{Source, read_script};
 use crate::outcome::Outcome;
-use crate::running::{READ_LIMIT, ended};
+use crate::running::unread;
 use board_core::Event;
-use guest_script::{Body, parse};
+use guest_script::{Body, Script};
 use hart_threads::{End, Gate, RunEnd, RunFault, run};
 use monitor::{Failed, Page, Sink, print, print_head, write_all};
 use std::sync::Wait;
@@ -38,33 +38,28 @@ pub fn run_script<S: Source, W: Sink, G: Gate + Sync, R: AllocGlobal + Threads +
     ensures failed { CountsEnd result (S.failures reader.old) (S.failures reader.new)
         (W.failures writer.old) (W.failures writer.new) }
 {
-    let bytes = match read_whole(rt.alloc(), reader, READ_LIMIT) {
-        Ok(bytes) => bytes,
-        Err(ReadFault::Failed) => return Outcome::Io,
-        Err(ReadFault::NoMemory) => return Outcome::NoMemory,
-    };
-    run_bytes(rt, &bytes, writer, gate)
+    match read_script(rt.alloc(), reader) {
+        Ok(script) => run_read(rt, &script, writer, gate),
+        Err(fault) => unread(fault),
+    }
 }
 
-fn run_bytes<W: Sink, G: Gate + Sync, R: AllocGlobal + Threads + Wait + Sync>(
+fn run_read<W: Sink, G: Gate + Sync, R: AllocGlobal + Threads + Wait + Sync>(
     rt: &R,
-    bytes: &[u8],
+    script: &Script,
     writer: &mut W,
     gate: &G,
 ) -> Outcome
     requires { W.failures writer.old < 2 ^ 63 }
-    ensures writes { Writes (EndsRun bytes.now) result (W.written writer.old) (W.written writer.new) }
+    ensures writes { (bytes : List ℕ) → Reads bytes (written script.now)
+        → Writes (EndsRun bytes) result (W.written writer.old) (W.written writer.new) }
     ensures flushed { EndsFlushed result (W.is_flushed writer.new) }
     ensures failed { CountsEnd result 0 0 (W.failures writer.old) (W.failures writer.new) }
 {
-    let script = match parse(rt.alloc(), bytes) {
-        Ok(script) => script,
-        Err(fault) => return ended(fault),
-    };
     if !is_program(&script.body) {
         return Outcome::WrongKind;
     }
-    match run(rt, &script, gate) {
+    match run(rt, script, gate) {
         Ok(run) => match print_run(&run, writer) {
             Ok(()) => outcome_of(run.end),
             Err(Failed) => Outcome::Io,

@@ -1,6 +1,6 @@
 use Rattle.std.proofs.Common.{arith, length-take-le}
 use Rattle.sbiboard.proofs.UpTo.{reads-behind}
-use Rattle.sbiboard.proofs.device.whole.read_at.Goals as goal
+use Rattle.sbiboard.proofs.device.pieces.read_at.Goals as goal
 
 pub returns-clause-bytes : goal.returns-clause-bytes
 returns-clause-bytes g c =

@@ -1,0 +1,29 @@
+use Rattle.std.proofs.Common.{Err, sym, ap, subst, ◌∙◌, rules}
+use Rattle.guest_script.specs.Grammar.{content, written}
+use Rattle.sbiboard.specs.declared.outcome.Outcome.{Outcome}
+use Rattle.sbiboard.specs.declared.outcome.Outcome.TheVariants.{BadBoard, WrongKind}
+use Rattle.sbiboard.specs.Running.{Writes, ended_as}
+use Rattle.sbiboard.specs.Threaded.{EndsRun, RunsOnThreads, programmed}
+use Rattle.sbiboard.proofs.Ran.{tasks-are, has_run, no-tasks}
+use Rattle.sbiboard.proofs.Stopped.{bad_board, stops_at, writes_stopped}
+use Rattle.sbiboard.proofs.threaded.run_read.Goals as goal
+
+pub returns-then-not-is_program-clause-writes : goal.returns-then-not-is_program-clause-writes
+returns-then-not-is_program-clause-writes g c bytes reads =
+    writes_stopped programmed bytes RunsOnThreads (g.W.Sink.written c.args.writer.now) WrongKind
+    (written c.args.script.now, reads, no-tasks (content c.args.script.now.body) (sym c.is_program.ensures ∙ (search rules)))
+
+pub returns-in-Ok-print_run-clause-writes : goal.returns-in-Ok-print_run-clause-writes
+returns-in-Ok-print_run-clause-writes g c bytes reads =
+    let known = g.W.Sink.written c.args.writer.now in
+    let run = c.in-Ok.ensures in
+    subst (λ (outcome : Outcome). Writes (EndsRun bytes) outcome known (g.W.Sink.written c.print_run.new.writer)) (sym c.outcome_of.ensures)
+    (has_run bytes (written c.args.script.now) reads (sym c.is_program.ensures ∙ (search rules))
+    c.in-Ok.run'.board.config run.opening c.print_run.ensures.good c.in-Ok.run'.board.past run.legal run.ticks
+    known (g.W.Sink.written c.print_run.new.writer) c.in-Ok.run'.end run.end c.in-Ok-print_run.ensures.text.0)
+
+pub returns-in-Err-BadConfig-clause-writes : goal.returns-in-Err-BadConfig-clause-writes
+returns-in-Err-BadConfig-clause-writes g c bytes reads =
+    writes_stopped programmed bytes RunsOnThreads (g.W.Sink.written c.args.writer.now) BadBoard
+    (bad_board programmed bytes (written c.args.script.now) _ reads
+    (tasks-are (content c.args.script.now.body) (sym c.is_program.ensures ∙ (search rules))) (c.in-Err-BadConfig.ensures.bad.0 (ap (λ f. Err f) c.in-Err-BadConfig.field-0-is)))
