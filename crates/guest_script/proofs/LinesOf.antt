@@ -81,6 +81,6 @@ pub lines_both : (whole bytes : List ℕ) → AreWhole whole → lines (whole ++
 lines_both whole bytes (inl none) = rw none refl
 lines_both whole bytes (inr (front, ends)) =
     rw ends (
-      ap lines (append_assoc front (10 ∷ []) bytes) ∙ lines_behind_feed front bytes
-      ∙ ap (λ (texts : List (List ℕ)). texts ++ lines bytes) (sym (lines_behind_feed front [] ∙ append-nil (map strip_carriage_return (slice_split (λ b. eqb b 10) front))))
+    ap lines (append_assoc front (10 ∷ []) bytes) ∙ lines_behind_feed front bytes
+    ∙ ap (λ (texts : List (List ℕ)). texts ++ lines bytes) (sym (lines_behind_feed front [] ∙ append-nil (map strip_carriage_return (slice_split (λ b. eqb b 10) front))))
     )

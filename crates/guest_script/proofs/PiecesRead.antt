@@ -1,5 +1,5 @@
 -- A script that is read in pieces: what was read so far, and what follows.
-use Rattle.std.proofs.Common.{◌≡◌, ◌⊎◌, ℕ, ◌+◌, ◌<◌, ◌≤◌, ltb, List, [], ◌∷◌, ◌++◌, length, Result, Ok, Err, refl, sym, ap, subst, ◌∙◌, inl, inr, arith, length-append}
+use Rattle.std.proofs.Common.{◌≡◌, ℕ, ◌+◌, ◌<◌, ◌≤◌, ltb, List, [], ◌++◌, length, Result, Ok, Err, refl, sym, subst, ◌∙◌, inl, inr, arith, length-append}
 use Rattle.std.specs.Str.Lines.{lines}
 use Rattle.std.proofs.lemmas.Bool.{cases_Bool, le-ltb, lt-ltb, ltb-false, ltb-true}
 use Rattle.std.proofs.lemmas.List.{append-nil, append_assoc}
@@ -8,7 +8,6 @@ use Rattle.guest_script.specs.declared.fault.ScriptFault.{ScriptFault}
 use Rattle.guest_script.specs.declared.progress.Progress.{Progress}
 use Rattle.guest_script.specs.declared.progress.Stage.TheVariants.{Nothing}
 use Rattle.guest_script.specs.declared.script.Script.{Script}
-use Rattle.guest_script.specs.FirstFault.{no_memory}
 use Rattle.guest_script.specs.Grammar.{Written, most_bytes, written}
 use Rattle.guest_script.specs.Pieces.{AgreesOrLacks, AreWhole, HasRead, IsAnswered, script_after, script_with}
 use Rattle.guest_script.specs.Reading.{GivesOrLacks, script_of}
@@ -47,7 +46,7 @@ module _ (size : ℕ) (p p' : Progress) (whole : List ℕ) (more : List ℕ) whe
   with_piece are on = elim (cases_Bool (ltb most_bytes (size + length whole + length more))) [
     | inl long ↦ inr (both_long (size + length whole) (omega (arith, ltb-true _ _ long)) (ltb-true _ _ long))
     | inr short ↦
-      rw (with_short size p (whole ++ more) (omega (arith, ltb-false _ _ short, length-append whole more)), with_short (size + length whole) p' more (ltb-false _ _ short), lines_both whole more are) (on (lines more))
+        rw (with_short size p (whole ++ more) (omega (arith, ltb-false _ _ short, length-append whole more)), with_short (size + length whole) p' more (ltb-false _ _ short), lines_both whole more are) (on (lines more))
   ]
 
 -- what a reader makes of bytes, with what follows a piece

@@ -1,5 +1,5 @@
 -- A script that is read in pieces (profile).
-use Rattle.std.specs.Prelude.{◌≡◌, ◌≢◌, ◌⊎◌, ℕ, ◌+◌, nat_lt, if◌then◌else◌, min, List, [], ◌∷◌, ◌++◌, length, Some, Result, Ok, Err, IfErr, IfOk, MatchResult}
+use Rattle.std.specs.Prelude.{◌≡◌, ◌≢◌, ◌⊎◌, ℕ, ◌+◌, nat_lt, if◌then◌else◌, min, List, [], ◌∷◌, ◌++◌, length, Some, Result, Err, IfErr, IfOk, MatchResult}
 use Rattle.std.specs.Str.Lines.{lines}
 use Rattle.guest_script.specs.declared.fault.Fault.TheVariants.{NoMemory, TooLong}
 use Rattle.guest_script.specs.declared.fault.ScriptFault.{ScriptFault}

@@ -36,7 +36,7 @@ impl Reader {
     {
         Reader {
             size: 0,
-            expected: bytes,
+            expected: bytes.min(MOST_BYTES),
             progress: Progress {
                 next: 1,
                 stage: Stage::Nothing,

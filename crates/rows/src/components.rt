@@ -169,7 +169,11 @@ pub fn show_faults<R: Print>(rt: &R) -> io::Result<()> {
     ] {
         println!(rt; "{} {}", fault.number(), ScriptFault { line: 3, fault })?;
     }
-    println!(rt; "{Failed}; {}; {}", ReadFault::Failed, ReadFault::NoMemory)
+    let fault = ReadFault::Script(ScriptFault {
+        line: 3,
+        fault: Fault::BadByte,
+    });
+    println!(rt; "{Failed}; {}; {fault}", ReadFault::Failed)
 }
 
 /// The status and the text of each outcome, and of failures of the system. What is said of each stands on standard

@@ -5,7 +5,7 @@ ghost use Rattle.std.specs.Prelude.{◌^◌, ◌<◌};
 use crate::row::{checked, replayed};
 use anyhow::{Result, ensure};
 use monitor::{Failed, Sink};
-use sbiboard::{Device, Outcome, Source, read_whole};
+use sbiboard::{Device, Outcome, Source};
 use std::alloc::Global;
 use std::io::{self, ErrorKind, Read, Write};
 
@@ -244,19 +244,36 @@ pub fn check_writes(alloc: Global, task: Task) -> Result<u64> {
     Ok(last)
 }
 
-/// Shows how much is read within limits, of the schedule, however much is expected of it, and of what has no end.
-pub fn show_limits<R: AllocGlobal + Print>(rt: &R) -> Result<()> {
-    for limit in [0, 1, 61, 62, 63] {
-        let bytes = read_whole(rt.alloc(), &mut Device::new(SCHEDULE), limit)?;
-        println!(rt; "{limit}: {} {}", bytes.len(), SCHEDULE.starts_with(&bytes))?;
-        for expected in [1, 61, 62, 63, usize::MAX] {
-            let mut device = Device::expecting(SCHEDULE, expected);
-            let same = read_whole(rt.alloc(), &mut device, limit)? == bytes;
-            ensure!(same, "{limit}, {expected}: other bytes");
+/// The schedule with comments of a length, one behind its board line and one at its end.
+fn commented(alloc: Global, length: usize) -> Result<Vec<u8>> {
+    let mut comment = Vec::new(alloc);
+    comment.resize(length, b'#')?;
+    let mut script = Vec::new(alloc);
+    script.extend_from_slice(&SCHEDULE[..27])?;
+    script.extend_from_slice(&comment)?;
+    script.extend_from_slice(b"\n")?;
+    script.extend_from_slice(&SCHEDULE[27..])?;
+    script.extend_from_slice(&comment)?;
+    Ok(script)
+}
+
+/// A schedule is replayed alike whose second line is a comment of any length, as no fault is, behind its end, and however
+/// many bytes are expected. What has no end is too long.
+pub fn show_pieces<R: AllocGlobal + Print>(rt: &R) -> Result<()> {
+    let alloc = rt.alloc();
+    let text = Task::Replay.text(alloc);
+    for length in [0, 1, 65_000, 65_508, 65_509, 65_510, 65_536, 200_000] {
+        let script = commented(alloc, length)?;
+        for expected in [0, 1, 62, usize::MAX] {
+            let mut reader = Device::expecting(script.as_slice(), expected);
+            let mut writer = Device::new(Vec::new(alloc));
+            let outcome = sbiboard::replay(alloc, &mut reader, &mut writer);
+            let is_right = outcome == Outcome::Good && writer.into_inner() == text;
+            ensure!(is_right, "{length}, {expected}: {outcome}");
         }
     }
     let mut endless = Device::new(io::repeat(b'#'));
-    let bytes = read_whole(rt.alloc(), &mut endless, 1_000_001)?;
-    println!(rt; "endless: {}", bytes.len())?;
+    let outcome = sbiboard::replay(alloc, &mut endless, &mut Device::new(Vec::new(alloc)));
+    println!(rt; "endless: {outcome:?}")?;
     Ok(())
 }

@@ -44,7 +44,7 @@ fn show<R: AllocGlobal + Print + Eprint>(rt: &R) -> Result<()> {
     components::show_endings(rt)?;
     printing::show_lines(rt)?;
     devices::show_calls(rt)?;
-    devices::show_limits(rt)?;
+    devices::show_pieces(rt)?;
     show_failures(rt, Task::Replay, "replay")?;
     show_failures(rt, Task::Check, "check")
 }

@@ -93,8 +93,8 @@ lacking (Some all) (NoScript fault) lacks = (take read_limit all, rw lacks lacke
 all_taken : (all bytes rest : List ℕ) (count : ℕ) → length bytes ≡ count → count ≤ read_limit → (count < read_limit → rest ≡ []) → all ≡ bytes ++ rest → bytes ≡ take read_limit all
 all_taken all bytes rest count long within ended is = elim (cases_Bool (ltb count read_limit)) [
   | inl short ↦
-    let whole : all ≡ bytes = is ∙ ap (λ xs. bytes ++ xs) (ended (ltb-true _ _ short)) ∙ append-nil bytes in
-    sym (ap (take read_limit) whole ∙ take_all read_limit bytes (omega (arith, long, within)))
+      let whole : all ≡ bytes = is ∙ ap (λ xs. bytes ++ xs) (ended (ltb-true _ _ short)) ∙ append-nil bytes in
+      sym (ap (take read_limit) whole ∙ take_all read_limit bytes (omega (arith, long, within)))
   | inr full ↦ sym (ap (take read_limit) is ∙ take-append-le read_limit bytes rest (omega (arith, long, ltb-false _ _ full)) ∙ take_all read_limit bytes (omega (arith, long, within)))
 ]
 

@@ -1,5 +1,5 @@
 -- How a task over a script ends, whichever it is (profile).
-use Rattle.std.specs.Prelude.{◌≡◌, ◌⊎◌, ℕ, ◌+◌, ◌<◌, Bool, true, List, [], ◌∷◌, Option, Some, None, is_some, Result}
+use Rattle.std.specs.Prelude.{◌≡◌, ◌⊎◌, ℕ, ◌<◌, Bool, true, List, [], ◌∷◌, Option, Some, None, is_some, Result}
 use Rattle.std.specs.Io.KnownBytes.{Appends, IsAtEnd}
 use Rattle.board_core.specs.declared.config.Config.{Config}
 use Rattle.board_core.specs.declared.event.Refusal.{Refusal}
@@ -12,7 +12,7 @@ use Rattle.guest_script.specs.declared.fault.Fault.TheVariants as faults
 use Rattle.guest_script.specs.declared.fault.ScriptFault.{ScriptFault}
 use Rattle.guest_script.specs.declared.script.Line.{Line}
 use Rattle.guest_script.specs.FirstFault.{fault_number, first_fault}
-use Rattle.guest_script.specs.Grammar.{Content, Reads, Written, most_bytes}
+use Rattle.guest_script.specs.Grammar.{Content, Reads, Written}
 use Rattle.sbiboard.specs.declared.device.pieces.ReadFault.{ReadFault}
 use Rattle.sbiboard.specs.declared.device.pieces.ReadFault.TheVariants.{Failed, Script as NoScript}
 use Rattle.sbiboard.specs.declared.outcome.Outcome.{Outcome}

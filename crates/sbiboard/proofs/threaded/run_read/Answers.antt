@@ -2,10 +2,10 @@ use Rattle.std.proofs.Common.{Err, sym, ap, subst, ◌∙◌, rules}
 use Rattle.guest_script.specs.Grammar.{content, written}
 use Rattle.sbiboard.specs.declared.outcome.Outcome.{Outcome}
 use Rattle.sbiboard.specs.declared.outcome.Outcome.TheVariants.{BadBoard, WrongKind}
-use Rattle.sbiboard.specs.Running.{Writes, ended_as}
+use Rattle.sbiboard.specs.Running.{Writes}
 use Rattle.sbiboard.specs.Threaded.{EndsRun, RunsOnThreads, programmed}
 use Rattle.sbiboard.proofs.Ran.{tasks-are, has_run, no-tasks}
-use Rattle.sbiboard.proofs.Stopped.{bad_board, stops_at, writes_stopped}
+use Rattle.sbiboard.proofs.Stopped.{bad_board, writes_stopped}
 use Rattle.sbiboard.proofs.threaded.run_read.Goals as goal
 
 pub returns-then-not-is_program-clause-writes : goal.returns-then-not-is_program-clause-writes

@@ -24,7 +24,7 @@ loop-left-preserved g c =
     let read = read_taken _ _ _ c.loop-left.reader c.loop-left.pending _ c.in_ok-count.count _ _ c.loop-left.invariant.0 c.in_ok-count.ensures.bytes in
     let count : (read_limit - c.loop-left.left) + c.in_ok-count.count ≡ read_limit - (c.loop-left.left - c.in_ok-count.count) = omega (arith, c.in_ok-count.ensures.most, c.loop-left.invariant.3) in (
       subst (HasTaken (g.S.Source.left c.args.source.now) (g.S.Source.left c.read_behind.new.source) c.hand_on-pending.new.reader (take c.hand_on-pending.result c.hand_on-pending.new.bytes.items)) count
-      (c.hand_on-pending.ensures.taken _ _ _ read),
+          (c.hand_on-pending.ensures.taken _ _ _ read),
       c.in_ok-count.ensures.failed ∙ c.loop-left.invariant.1,
       omega (arith, c.hand_on-pending.ensures.len, c.hand_on-pending.ensures.fits, c.in_ok-count.ensures.fits),
       omega (arith, c.loop-left.invariant.3),

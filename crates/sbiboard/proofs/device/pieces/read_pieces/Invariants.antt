@@ -1,4 +1,4 @@
-use Rattle.std.proofs.Common.{◌≡◌, ◌-◌, ◌+◌, ◌<◌, ◌≤◌, take, vec_len}
+use Rattle.std.proofs.Common.{◌≡◌, ◌-◌, ◌<◌, ◌≤◌, take, vec_len}
 use Rattle.sbiboard.specs.Sources.{HasTaken, read_limit}
 use Rattle.sbiboard.proofs.device.pieces.read_pieces.Given as goal
 
