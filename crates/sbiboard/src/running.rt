@@ -1,4 +1,4 @@
-//! What a replay and a check share: a script is read whole, and its lines are run on a new board.
+//! What a replay and a check share: a script is read, and its lines are run on a new board.
 
 ghost use Rattle.std.specs.Prelude.{◌≡◌, ◌^◌, ◌<◌, ℕ, IfSome, List, take};
 ghost use Rattle.guest_script.specs.Grammar.{Reads, content, written};
