@@ -9,7 +9,8 @@ use Rattle.guest_script.specs.declared.progress.Progress.{Progress}
 use Rattle.guest_script.specs.declared.progress.Stage.TheVariants.{Nothing}
 use Rattle.guest_script.specs.declared.script.Script.{Script}
 use Rattle.guest_script.specs.Grammar.{Written, most_bytes, written}
-use Rattle.guest_script.specs.Pieces.{AgreesOrLacks, AreWhole, HasRead, IsAnswered, script_after, script_with}
+use Rattle.guest_script.specs.Pieces.{AgreesOrLacks, AreWhole, HasRead, IsAnswered, Part, script_with}
+use Rattle.guest_script.specs.Progress.{part_of, script_after}
 use Rattle.guest_script.specs.Reading.{GivesOrLacks, script_of}
 use Rattle.guest_script.proofs.FaultsFound.{answered_fault, answered_memory, answered_only, answered_script}
 use Rattle.guest_script.proofs.LinesFrom.{script_of_long, script_of_short}
@@ -23,13 +24,13 @@ agrees_then x y z (inr e) (inr e') = inr (e ∙ e')
 -- ---- bytes that follow so many others
 
 module _ (size : ℕ) (p : Progress) (bytes : List ℕ) where
-  with_long : most_bytes < size + length bytes → script_with size p bytes ≡ Err (record { line = 0; fault = TooLong })
+  with_long : most_bytes < size + length bytes → script_with (part_of size p) bytes ≡ Err (record { line = 0; fault = TooLong })
   with_long long = rw (lt-ltb most_bytes (size + length bytes) long) refl
 
-  with_short : size + length bytes ≤ most_bytes → script_with size p bytes ≡ script_after p (lines bytes)
+  with_short : size + length bytes ≤ most_bytes → script_with (part_of size p) bytes ≡ script_after p (lines bytes)
   with_short short = rw (le-ltb most_bytes (size + length bytes) short) refl
 
-pub nothing_read : (bytes : List ℕ) → script_of bytes ≡ script_with 0 (record { next = 1; stage = Nothing }) bytes
+pub nothing_read : (bytes : List ℕ) → script_of bytes ≡ script_with (part_of 0 (record { next = 1; stage = Nothing })) bytes
 nothing_read bytes = elim (cases_Bool (ltb most_bytes (length bytes))) [
   | inl long ↦ script_of_long bytes (ltb-true most_bytes (length bytes) long) ∙ sym (with_long 0 (record { next = 1; stage = Nothing }) bytes (omega (arith, ltb-true most_bytes (length bytes) long)))
   | inr short ↦ script_of_short bytes (ltb-false most_bytes (length bytes) short) ∙ sym (with_short 0 (record { next = 1; stage = Nothing }) bytes (omega (arith, ltb-false most_bytes (length bytes) short)))
@@ -38,11 +39,11 @@ nothing_read bytes = elim (cases_Bool (ltb most_bytes (length bytes))) [
 -- ---- a piece
 
 module _ (size : ℕ) (p p' : Progress) (whole : List ℕ) (more : List ℕ) where
-  both_long : (size' : ℕ) → most_bytes < size + (length whole + length more) → most_bytes < size' + length more → script_with size p (whole ++ more) ≡ script_with size' p' more
+  both_long : (size' : ℕ) → most_bytes < size + (length whole + length more) → most_bytes < size' + length more → script_with (part_of size p) (whole ++ more) ≡ script_with (part_of size' p') more
   both_long size' long long' = with_long size p (whole ++ more) (omega (arith, long, length-append whole more)) ∙ sym (with_long size' p' more long')
 
   with_piece : AreWhole whole → ((texts : List (List ℕ)) → AgreesOrLacks (script_after p (lines whole ++ texts)) (script_after p' texts))
-      → AgreesOrLacks (script_with size p (whole ++ more)) (script_with (size + length whole) p' more)
+      → AgreesOrLacks (script_with (part_of size p) (whole ++ more)) (script_with (part_of (size + length whole) p') more)
   with_piece are on = elim (cases_Bool (ltb most_bytes (size + length whole + length more))) [
     | inl long ↦ inr (both_long (size + length whole) (omega (arith, ltb-true _ _ long)) (ltb-true _ _ long))
     | inr short ↦
@@ -50,11 +51,11 @@ module _ (size : ℕ) (p p' : Progress) (whole : List ℕ) (more : List ℕ) whe
   ]
 
 -- what a reader makes of bytes, with what follows a piece
-behind_piece : (size : ℕ) (p : Progress) (before whole more : List ℕ) → HasRead (size, p) before → AgreesOrLacks (script_of ((before ++ whole) ++ more)) (script_with size p (whole ++ more))
+behind_piece : (size : ℕ) (p : Progress) (before whole more : List ℕ) → HasRead (part_of size p) before → AgreesOrLacks (script_of ((before ++ whole) ++ more)) (script_with (part_of size p) (whole ++ more))
 behind_piece size p before whole more read = rw (append_assoc before whole more) (read (whole ++ more))
 
-pub piece_read : (reader : ℕ × Progress) (size size' : ℕ) (p p' : Progress) (before whole : List ℕ) → reader ≡ (size, p) → AreWhole whole → size' ≡ size + length whole
-    → ((texts : List (List ℕ)) → AgreesOrLacks (script_after p (lines whole ++ texts)) (script_after p' texts)) → HasRead reader before → HasRead (size', p') (before ++ whole)
+pub piece_read : (reader : Part) (size size' : ℕ) (p p' : Progress) (before whole : List ℕ) → reader ≡ part_of size p → AreWhole whole → size' ≡ size + length whole
+    → ((texts : List (List ℕ)) → AgreesOrLacks (script_after p (lines whole ++ texts)) (script_after p' texts)) → HasRead reader before → HasRead (part_of size' p') (before ++ whole)
 piece_read reader size size' p p' before whole is are grown on read more =
     rw grown (agrees_then _ _ _ (behind_piece size p before whole more (rw is at read)) (with_piece size p p' whole more are on))
 
@@ -67,10 +68,10 @@ given (Err fault) x y agrees (inl memory) = inl memory
 given (Err fault) x y (inl memory) (inr bad) = inl (let e = sym bad ∙ memory in cc)
 given (Err fault) x y (inr e) (inr bad) = inr (e ∙ bad)
 
-pub answered : (reader : ℕ × Progress) (size : ℕ) (p : Progress) (before rest : List ℕ) (answer : Result Script ScriptFault) → reader ≡ (size, p) → HasRead reader before
-    → GivesOrLacks written answer (script_with size p rest) → IsAnswered (before ++ rest) answer
+pub answered : (reader : Part) (size : ℕ) (p : Progress) (before rest : List ℕ) (answer : Result Script ScriptFault) → reader ≡ part_of size p → HasRead reader before
+    → GivesOrLacks written answer (script_with (part_of size p) rest) → IsAnswered (before ++ rest) answer
 answered reader size p before rest answer is read gives =
-    let gave = given answer (script_of (before ++ rest)) (script_with size p rest) ((rw is at read) rest) gives in
+    let gave = given answer (script_of (before ++ rest)) (script_with (part_of size p) rest) ((rw is at read) rest) gives in
     record {
       script = answered_script (before ++ rest) answer gave;
       only = answered_only (before ++ rest) answer gave;
@@ -81,9 +82,9 @@ answered reader size p before rest answer is read gives =
 -- what all lines of the last bytes say
 pub all_read : (size : ℕ) (p p' : Progress) (rest : List ℕ) (answer : Result Script ScriptFault) → size + length rest ≤ most_bytes
     → ((texts : List (List ℕ)) → AgreesOrLacks (script_after p (lines rest ++ texts)) (script_after p' texts)) → GivesOrLacks written answer (script_after p' [])
-    → GivesOrLacks written answer (script_with size p rest)
+    → GivesOrLacks written answer (script_with (part_of size p) rest)
 all_read size p p' rest answer short on gives =
     rw (with_short size p rest short) (given answer (script_after p (lines rest)) (script_after p' []) (subst (λ (texts : List (List ℕ)). AgreesOrLacks (script_after p texts) (script_after p' [])) (append-nil (lines rest)) (on [])) gives)
 
-pub all_long : (size : ℕ) (p : Progress) (rest : List ℕ) → most_bytes < size + length rest → GivesOrLacks written (Err (record { line = 0; fault = TooLong })) (script_with size p rest)
+pub all_long : (size : ℕ) (p : Progress) (rest : List ℕ) → most_bytes < size + length rest → GivesOrLacks written (Err (record { line = 0; fault = TooLong })) (script_with (part_of size p) rest)
 all_long size p rest long = inr (with_long size p rest long)

@@ -8,6 +8,7 @@ pub mod OpenBlocks
 pub mod Packing
 pub mod Pieces
 pub mod PlainLines
+pub mod Progress
 pub mod Reading
 pub mod Scanning
 pub mod ScriptLaws

@@ -2,7 +2,8 @@ ghost use Rattle.std.specs.Prelude.{◌≡◌, ◌+◌, ◌<◌, ◌≤◌, ◌^
 ghost use Rattle.std.specs.Str.Lines.{lines};
 ghost use Rattle.guest_script.specs.Drafts.{draft_of};
 ghost use Rattle.guest_script.specs.Grammar.{written};
-ghost use Rattle.guest_script.specs.Pieces.{AgreesOrLacks, lines_of_stage, lines_so_far, script_after, stage_after};
+ghost use Rattle.guest_script.specs.Pieces.{AgreesOrLacks};
+ghost use Rattle.guest_script.specs.Progress.{lines_of_stage, lines_so_far, script_after, stage_after};
 ghost use Rattle.guest_script.specs.Reading.{GivesOrLacks, script_from, with_config};
 
 use crate::board_line::board_words;

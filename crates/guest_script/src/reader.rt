@@ -1,6 +1,7 @@
 ghost use Rattle.std.specs.Prelude.{◌≡◌, ◌+◌, ◌≤◌, ◌++◌, [], ℕ, List, length};
 ghost use Rattle.guest_script.specs.Grammar.{most_bytes};
-ghost use Rattle.guest_script.specs.Pieces.{AreWhole, HasRead, IsAnswered, Part, grown, lines_so_far};
+ghost use Rattle.guest_script.specs.Pieces.{AreWhole, HasRead, IsAnswered, Part};
+ghost use Rattle.guest_script.specs.Progress.{grown, lines_so_far, part_of};
 
 use crate::fault::{Fault, ScriptFault};
 use crate::progress::{Progress, Stage};
@@ -20,10 +21,9 @@ pub struct Reader {
 }
 
 impl Model for Reader {
-    // how many bytes were read, and what they say
     ghost Value = { Part };
 
-    ghost view = { λ r. (r.size, r.progress) };
+    ghost view = { λ r. part_of r.size r.progress };
 
     ghost invariant = { λ r. (r.size ≤ most_bytes + 1) × (r.progress.next ≤ r.size + 1) × (length (lines_so_far r.progress) ≤ r.progress.next) };
 }
