@@ -17,7 +17,7 @@ use std::marker::Model;
 const LINE_NUMBERS: usize = OP_NUMBERS + SAID_NUMBERS;
 
 /// How many bytes of a script are worth room of their own.
-const MANY_BYTES: usize = 1 << 20;
+const MANY_BYTES: usize = 1 << 16;
 
 /// How many bytes a short line has.
 const LINE_BYTES: usize = 8;
