@@ -1,5 +1,5 @@
 #!/usr/bin/env python3
-"""Times calls on a board behind a lock beside plain Rust, and prints the README's table.
+"""Times calls on a board behind a lock beside plain Rust, and prints the table of docs/SPEED.md.
 
 usage: bench/lock.py [--runs N] [--calls N] [--threads N,..] [--instructions] [PROGRAM]
 

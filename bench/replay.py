@@ -1,5 +1,5 @@
 #!/usr/bin/env python3
-"""Times the program beside plain Rust, and prints the README's table.
+"""Times the program beside plain Rust, and prints the table of docs/SPEED.md.
 
 usage: bench/replay.py [--runs N] [--instructions] [--whole] [--tasks replay,check] [--workloads NAME,..]
                        [--harts N,..] [--lines N,..] [PROGRAM]
@@ -318,7 +318,7 @@ def words(text):
 
 
 def options():
-    parser = argparse.ArgumentParser(description="Times the program beside plain Rust, and prints the README's table.")
+    parser = argparse.ArgumentParser(description="Times the program beside plain Rust, and prints the table of docs/SPEED.md.")
     parser.add_argument("program", nargs="?", default=BUILT)
     parser.add_argument("--runs", type=int, default=9, help="how many runs of each, of which the fastest counts")
     parser.add_argument("--instructions", action="store_true", help="count instructions by valgrind, not time")

@@ -1,5 +1,5 @@
 #!/usr/bin/env python3
-"""Times programs on threads beside plain Rust, and prints the README's table.
+"""Times programs on threads beside plain Rust, and prints the table of docs/SPEED.md.
 
 usage: bench/run.py [--runs N] [--programs NAME,..] [--harts N,..] [--wakes] [PROGRAM]
 
