@@ -1,0 +1,300 @@
+"""What the tests of the program share: how it is run, what a run must be, scripts that many of them use, and the library
+that refuses an allocation. A test is a function of a folder of its own; it raises Wrong, or Passed where it can't be run.
+"""
+import os
+import shutil
+import subprocess
+from concurrent.futures import ThreadPoolExecutor
+
+HERE = os.path.dirname(os.path.realpath(__file__))
+ROOT = os.path.dirname(HERE)
+CRATE = os.path.join(ROOT, "crates/sbiboard_cli")
+PROGRAM = os.path.join(CRATE, "out/sbiboard_cli")
+DATA = os.path.join(HERE, "program-data")
+EXAMPLES = os.path.join(ROOT, "examples")
+SHIM = os.path.join(DATA, "refuse.c")
+FAILED_IO = b"sbiboard: input or output failed\n"
+NO_MEMORY = b"sbiboard: no memory\n"
+FULL = b"sbiboard: history full\n"
+STUCK = b"sbiboard: stuck\n"
+WRONG_KIND = b"sbiboard: wrong kind of script\n"
+BAD_BOARD = b"sbiboard: bad board\n"
+BOARD = b"board 2 1 10 0 0x80000000 0\n"
+
+# One byte more than a script may have.
+TOO_LONG = 16_777_217
+
+TASKS = ("run", "replay", "check")
+
+# How many times a program is run whose threads may go in many orders, and the seconds that only a hang takes.
+RUNS_OF_EACH = 500
+
+HANG = 20
+
+
+class Wrong(Exception):
+    """What a test found that must not be."""
+
+
+class Passed(Exception):
+    """Why a test can't be run on this machine."""
+
+
+def ran(words, **how):
+    """Runs the program under the name that users know, with nothing of the caller's environment that could change it."""
+    how.setdefault("stdout", subprocess.PIPE)
+    how.setdefault("stderr", subprocess.PIPE)
+    how.setdefault("env", {"PATH": os.environ.get("PATH", "")})
+    how.setdefault("timeout", 60)
+    return subprocess.run(["sbiboard", *words], executable=PROGRAM, stdin=subprocess.DEVNULL, **how)
+
+
+def script(room, text):
+    """Returns the name of a file of this text."""
+    path = os.path.join(room, "a.sched")
+    with open(path, "wb") as file:
+        file.write(text)
+    return path
+
+
+def stored(name):
+    with open(os.path.join(DATA, name), "rb") as file:
+        return file.read()
+
+
+def shown(text):
+    return repr(text if len(text) <= 400 else text[:400] + b"..")
+
+
+def must_be(found, status, out, said):
+    """Raises Wrong where a run ended otherwise. None for a text: it isn't looked at."""
+    if found.returncode != status:
+        raise Wrong(f"status {found.returncode}, not {status}; it said {shown(found.stderr or b'')}")
+    for name, is_there, wanted in (("printed", found.stdout, out), ("said", found.stderr, said)):
+        if wanted is not None and is_there != wanted:
+            raise Wrong(f"it {name} {shown(is_there)}, not {shown(wanted)}")
+
+
+def must_have(text, *wanted):
+    for it in wanted:
+        if it not in text:
+            raise Wrong(f"{shown(text)} lacks {it!r}")
+
+
+def replayed(room, text, status, out, said, **how):
+    must_be(ran(["replay", script(room, text)], **how), status, out, said)
+
+
+def checked(room, text, status, out, said, **how):
+    must_be(ran(["check", script(room, text)], **how), status, out, said)
+
+
+def must_agree(room, printed):
+    """What a replay printed is a trace that agrees, with all lines that have a reply."""
+    checked(room, printed, 0, b"agrees %d\n" % printed.count(b" -> "), b"")
+
+# How a run ends with each end, and what it says.
+ENDS_OF_RUNS = {"quiet": (0, b""), "off": (0, b""), "history-full": (3, FULL), "stuck": (4, STUCK)}
+
+
+def must_run(room, path, end, place=0):
+    """
+    Runs the program of this file, which must have this end, if one is given. What it prints is a trace that agrees, with
+    its last line and without it; the same steps are replayed with the same answers, to the same board. Returns what it
+    printed.
+    """
+    found = ran(["run", path], timeout=HANG)
+    *lines, last = found.stdout.splitlines(keepends=True) or [b""]
+    if last not in [b"# end %s\n" % it.encode() for it in ENDS_OF_RUNS if end in (it, None)]:
+        raise Wrong(f"status {found.returncode}, and the last line is {last}, not the end {end}")
+    status, said = ENDS_OF_RUNS[last.decode().split()[2]]
+    must_be(found, status, None, said)
+    events = [it for it in lines if b" -> " in it]
+    record, steps = b"".join(lines), [it.partition(b" -> ")[0] + b"\n" for it in events]
+    agrees = b"agrees %d\n" % len(events)
+    own = os.path.join(room, str(place))
+    for task, text, out in (
+        ("check", record, agrees),
+        ("check", found.stdout, agrees),
+        ("replay", b"".join([lines[0], *steps]), record),
+    ):
+        with open(own, "wb") as file:
+            file.write(text)
+        must_be(ran([task, own]), 0, out, b"")
+    return found.stdout
+
+
+def many_runs(room, of, run):
+    """Runs it many times, some at once, with the number of each; the first that is wrong is told, with its program."""
+    with ThreadPoolExecutor(os.cpu_count()) as threads:
+        runs = [threads.submit(run, place) for place in range(RUNS_OF_EACH)]
+        try:
+            for it in runs:
+                it.result()
+        except (Wrong, subprocess.SubprocessError) as wrong:
+            threads.shutdown(cancel_futures=True)
+            raise Wrong(f"a run of {of}: {wrong}") from None
+
+ONE_BOARD = b"board 1 1 10 0 0x80000000 0x0\n"
+
+TWO_HARTS = b"""\
+board 2 4 100 0 0x80000000 0x0
+at 0x80000000
+ecall 0x48534d 0 1 0x80001000 0x7
+at 0x80001000
+ecall 0x48534d 1
+"""
+
+TRACE = b"board 1 1 10 0 0x80000000 0x0\n0 advance -> entry 0x80000000 0 0x0\n0 ecall 0x10 0 -> ret 0 0x1000000\n"
+
+# A trace that differs, of which the line on standard output is the news.
+DIFFERS = TRACE.replace(b"0x1000000", b"0x2000000")
+
+SHORT = BOARD + b"0 advance\n"
+
+# More than the program keeps before it writes.
+LONG = BOARD + b"0 advance\n" * 10_000
+
+# What is asked for goes to standard output, and what is wrong with it to standard error.
+ASKED = (["--help"], ["--version"], *[[task, "--help"] for task in TASKS])
+
+# Every operation, accepted and refused: calls, registers, starts, stops, suspends of both kinds, interrupts, the clock,
+# accesses, fences and reboots.
+EVERY = b"""\
+0 advance
+1 ecall 0x10 0
+1 ecall 0x10 3 0x10
+1 ecall 0x10 7
+1 ecall 0x9 0
+1 sie 0x22
+1 sstatus 1
+1 ecall 0x48534d 1
+1 sstatus 0
+1 sip
+1 wfi
+1 ecall 0x48534d 0 0 0x80000001 5
+1 ecall 0x48534d 0 9 0x80000100 5
+1 ecall 0x48534d 0 0 0x80000100 5
+1 ecall 0x48534d 0 0 0x80000100 5
+1 ecall 0x48534d 2 0
+1 ecall 0x735049 0 0x1 0
+0 advance
+0 sip
+0 sie 0x2
+1 ecall 0x735049 0 0xff 0
+1 ecall 0x735049 0 0 0xffffffffffffffff
+0 wfi
+0 clearssip
+1 clearssip
+1 ecall 0x54494d45 0 1
+c tick 1
+c tick 0xffffffffffffffff
+c advance
+1 wfi
+1 ecall 0x54494d45 0 0xffffffffffffffff
+0 ecall 0x48534d 3 5
+0 ecall 0x48534d 3 0x80000000 0x80000200 6
+0 advance
+0 advance
+1 ecall 0x735049 0 1 0
+0 advance
+0 advance
+0 ecall 0x48534d 3 0
+0 advance
+0 advance
+0 advance
+0 clearssip
+1 store 0x80000008 0x22
+1 store 0x80000004 0
+1 load 0x80000008
+1 load 0
+1 fetch 0x80000008
+1 fetch 0x80000008
+1 fencei
+1 satp 0x8000500000080000
+1 load 0x1000
+1 fetch 0x8000000000
+1 sfence 0x1000 5
+1 sfence - -
+1 satp 0
+0 ecall 0x52464e43 1 0x3 0 0x1000 0x1000
+0 poll
+0 load 0x80000008
+1 ecall 0x52464e43 0 0x1 0
+0 serve
+1 serve
+0 poll
+1 poll
+1 poll
+1 serve
+0 ecall 0x52464e43 2 0x2 0 0 0 0x10005
+1 serve
+0 poll
+1 ecall 0x52464e43 1 0x4 0
+1 ecall 0x52464e43 1 0x1 0 3 0xfffffffffffffffe
+1 ecall 0x52464e43 3 0x1 0
+1 ecall 0x52464e43 1 0 0xffffffffffffffff
+0 ecall 0x48534d 1
+1 poll
+0 sip
+0 load 0x80000008
+0 advance
+2 sip
+2 sfence - 1
+c fencei
+c poll
+c serve
+2 serve
+1 ecall 0x10 3 0x53525354
+1 ecall 0x53525354 1
+1 ecall 0x53525354 0 3
+1 ecall 0x53525354 0 0xf0000000
+1 ecall 0x53525354 0 0 2
+1 ecall 0x48534d 0 0 0x80000100 5
+0 advance
+0 ecall 0x52464e43 1 0x2 0
+1 ecall 0x53525354 0 1 1
+0 poll
+0 advance
+1 advance
+1 ecall 0x53525354 0 2 0xe0000000
+1 advance
+"""
+
+# The end of a board, after which each step is refused.
+LAST = b"1 advance\n1 ecall 0x53525354 0 0 0\n1 advance\n2 sip\nc tick 1\n"
+
+
+def every(steps, limit):
+    """A schedule of so many steps of every operation, which answer the same in each round."""
+    lines = EVERY.splitlines(keepends=True)
+    rounds = b"1 advance\n" + EVERY * (steps // len(lines) + 1)
+    return b"board 2 1 %d 1 0x80000000 7\n" % limit + b"".join(rounds.splitlines(keepends=True)[:steps])
+
+
+def compilers():
+    """The commands that could compile C here: the machine's, and the toolchain's, which has no C library's headers."""
+    yield ["cc"]
+    rt = subprocess.run(["rt", "doc"], capture_output=True, timeout=60) if shutil.which("rt") else None
+    if rt and rt.returncode == 0:
+        kit = os.path.dirname(os.fsdecode(rt.stdout.strip()))
+        yield [os.path.join(kit, "toolchain/bin/clang"), "--target=x86_64-unknown-linux-gnu", "-nostdlib", "-fuse-ld=lld"]
+
+
+def shim(room):
+    """Compiles what refuses a chosen allocation and lists the sizes of all."""
+    made = os.path.join(room, "refuse.so")
+    for words in compilers():
+        if shutil.which(words[0]):
+            subprocess.run([*words, "-shared", "-fPIC", "-O1", "-o", made, SHIM], check=True, timeout=60)
+            return made
+    raise Passed("there is no C compiler")
+
+
+def allocating(made, room, words, refused=0, thread=0, **told):
+    """Runs the program with that allocation or thread refused, and returns the run and the sizes of the allocations."""
+    with open(os.path.join(room, "sizes"), "w+b") as sizes:
+        env = {"LD_PRELOAD": made, "SIZES": str(sizes.fileno()), "REFUSED": str(refused), "THREAD": str(thread), **told}
+        found = ran(words, env=env, pass_fds=[sizes.fileno()], timeout=HANG)
+        sizes.seek(0)
+        return found, [int(it) for it in sizes.read().split()]

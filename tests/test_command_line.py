@@ -1,0 +1,144 @@
+"""Words of a command line, and what is said of each outcome."""
+import os
+import shutil
+import subprocess
+
+from harness import FAILED_IO, Passed, ROOT, TASKS, Wrong, must_be, ran, shown, stored
+
+# Words, with what the fault of usage says; every one shows how the program is called.
+USAGE = [
+    ([], b"'sbiboard' requires a subcommand but one was not provided\n  [subcommands: run, replay, check, help]", b"<COMMAND>"),
+    (["fly"], b"unrecognized subcommand 'fly'", b"<COMMAND>"),
+    (["run"], b"the following required arguments were not provided:\n  <FILE>", b"run <FILE>"),
+    (["run", "a", "b"], b"unexpected argument 'b' found", b"run <FILE>"),
+    (["replay"], b"the following required arguments were not provided:\n  <FILE>", b"replay <FILE>"),
+    (["replay", "a", "b"], b"unexpected argument 'b' found", b"replay <FILE>"),
+    (["check"], b"the following required arguments were not provided:\n  <FILE>", b"check <FILE>"),
+    (["check", "a", "b"], b"unexpected argument 'b' found", b"check <FILE>"),
+    (["--fly"], b"unexpected argument '--fly' found", b"<COMMAND>"),
+    (
+        ["run", "--fly"],
+        b"unexpected argument '--fly' found\n\n  tip: to pass '--fly' as a value, use '-- --fly'",
+        b"run <FILE>",
+    ),
+    (
+        ["replay", "--fly"],
+        b"unexpected argument '--fly' found\n\n  tip: to pass '--fly' as a value, use '-- --fly'",
+        b"replay <FILE>",
+    ),
+    (
+        ["check", "--fly"],
+        b"unexpected argument '--fly' found\n\n  tip: to pass '--fly' as a value, use '-- --fly'",
+        b"check <FILE>",
+    ),
+]
+
+
+def usage(room):
+    for words, said, called in USAGE:
+        said = b"error: %s\n\nUsage: sbiboard %s\n\nFor more information, try '--help'.\n" % (said, called)
+        must_be(ran(words, cwd=room), 2, b"", said)
+
+
+def helps(room):
+    """Help, of which the whole text is stored."""
+    for name, asked_by in (
+        ("help.txt", (["--help"], ["-h"], ["help"])),
+        ("help-run.txt", (["run", "--help"], ["run", "-h"], ["help", "run"])),
+        ("help-replay.txt", (["replay", "--help"], ["replay", "-h"], ["help", "replay"])),
+        ("help-check.txt", (["check", "--help"], ["check", "-h"], ["help", "check"])),
+    ):
+        for words in asked_by:
+            must_be(ran(words, cwd=room), 0, stored(name), b"")
+
+# The faults of a script by their numbers, as help names them.
+FAULT_TEXTS = {
+    1: b"a byte that is neither printable ASCII nor a tab",
+    2: b"the first line with words isn't a board line, or no line has words",
+    3: b"no operation or reply has this name, or its block doesn't allow the operation",
+    4: b"not a number, or a number too large for its place",
+    5: b"too few or too many words",
+    6: b"a line of another kind of script, or an operation before any block",
+    7: b"a second block with the same address, or a second block of the clock",
+    8: b"more than 16,777,216 bytes",
+}
+
+
+def help_names_faults(room):
+    wanted = [b"  %d  %s" % it for it in FAULT_TEXTS.items()]
+    for task in TASKS:
+        told = ran([task, "--help"], cwd=room).stdout
+        _, _, rest = told.partition(b"Faults of a script")
+        faults, _, _ = rest.partition(b"\n\n")
+        if faults.splitlines()[1:] != wanted:
+            raise Wrong(f"{task} names {shown(faults)}")
+
+
+def version(room):
+    for words in (["--version"], ["-V"]):
+        must_be(ran(words, cwd=room), 0, b"sbiboard 0.1.0\n", b"")
+
+# Words that the script answers as the program does, also before there is one.
+SAID_EARLY = [["--version"], [], ["fly"], ["fly", "a"], ["--fly"]]
+
+FAULTS_EARLY = ([], ["a", "b"], ["--fly"], ["--"], ["a", "--", "b"], ["--", "a", "b"], ["--", "--", "--"])
+
+
+def unbuilt(room):
+    """A copy of the script that runs the program, and of what it reads, where nothing is built."""
+    for name in ("sbiboard", "crates.txt", "HANDLES", "crates/sbiboard/src/command_line.rt"):
+        os.makedirs(os.path.dirname(os.path.join(room, name)), exist_ok=True)
+        shutil.copy(os.path.join(ROOT, name), os.path.join(room, name))
+    return os.path.join(room, "sbiboard")
+
+
+def before_the_build(room):
+    """The script answers help, the version, faults of usage and a missing file in the program's words, and builds nothing."""
+    front = unbuilt(room)
+    asked = lambda words: subprocess.run([front, *words], stdin=subprocess.DEVNULL, capture_output=True, timeout=30)
+    for words in SAID_EARLY:
+        wanted = ran(words, cwd=room)
+        must_be(asked(words), wanted.returncode, wanted.stdout, wanted.stderr)
+    told = ran(["--help"], cwd=room).stdout.splitlines()
+    short, _, own = asked(["--help"]).stdout.partition(b"\nBefore the program is built:\n")
+    lacking = [it for it in short.splitlines() if it not in told]
+    if lacking or not own:
+        raise Wrong(f"the program's help lacks what the script says of it: {lacking}")
+    for task in TASKS:
+        for words in ([task, "none"], [task, "none", "--"], [task, "--", "none"], [task, room], ["--try", task, "none"]):
+            must_be(asked(words), 7, b"", FAILED_IO)
+
+# What the program of the worked rows says, which ends runs of its own with each outcome and each failure in turn.
+ENDINGS = b"""\
+sbiboard: line 12: fault 5
+sbiboard: bad board
+sbiboard: wrong kind of script
+sbiboard: history full
+sbiboard: no memory
+sbiboard: input or output failed
+sbiboard: input or output failed
+sbiboard: input or output failed
+sbiboard: input or output failed
+sbiboard: input or output failed
+sbiboard: no memory
+sbiboard: no memory
+"""
+
+
+def endings(room):
+    """What is said of an outcome that no run of the program has yet, and of each other one."""
+    rows = os.path.join(ROOT, "crates/rows/out/rows")
+    if not os.access(rows, os.X_OK):
+        raise Passed("there is no built program of the rows: rt ci leaves it")
+    found = subprocess.run([rows], stdin=subprocess.DEVNULL, capture_output=True, timeout=60, cwd=room)
+    must_be(found, 0, None, ENDINGS)
+
+
+TESTS = [
+    ("faults of usage", usage),
+    ("help", helps),
+    ("help names the faults", help_names_faults),
+    ("version", version),
+    ("the script before the build", before_the_build),
+    ("what is said of each outcome", endings),
+]

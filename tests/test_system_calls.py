@@ -1,0 +1,48 @@
+"""Failing calls of the system."""
+import errno
+import os
+
+from harness import ASKED, DIFFERS, FAILED_IO, NO_MEMORY, SHORT, TRACE, TWO_HARTS, Wrong, must_be, ran, script, shim
+
+ERRORS = (errno.EIO, errno.EAGAIN, errno.ENOMEM, errno.EINTR)
+
+# The status that each of these errors ends with, by what was called, or None where it makes no difference: a call that
+# a signal interrupted is made again, but for a read.
+OF_OPEN, OF_READ, OF_WRITE, OF_PRINT = (7, 7, 6, None), (7, 7, 7, 7), (7, 7, 7, None), (7, 7, 6, None)
+
+
+def each_error(made, words, call, most, statuses):
+    """That call of the system fails with each error, and none moves more bytes than the given number, if any."""
+    with open(os.devnull, "wb") as sizes:
+        env = {"LD_PRELOAD": made, "SIZES": str(sizes.fileno()), "FAILED": str(call), "MOST": str(most)}
+        good = ran(words)
+        for number, status in zip(ERRORS, statuses):
+            found = ran(words, env={**env, "ERROR": str(number)}, pass_fds=[sizes.fileno()])
+            try:
+                if status is None:
+                    must_be(found, good.returncode, good.stdout, good.stderr)
+                else:
+                    out = None if statuses is OF_WRITE else b""
+                    must_be(found, status, out, NO_MEMORY if status == 6 else FAILED_IO)
+            except Wrong as wrong:
+                raise Wrong(f"{words}: call {call}, of {most} bytes at most, {errno.errorcode[number]}: {wrong}")
+
+
+def each_call_fails(room):
+    """Each call that opens, reads or writes fails in turn: a failed read ends all, and a task makes no call but these."""
+    made = shim(room)
+    for task, text in (("run", TWO_HARTS), ("replay", SHORT), ("check", TRACE), ("check", DIFFERS)):
+        path = script(room, text + b"# \n" * 20)
+        printed, size = len(ran([task, path]).stdout), os.path.getsize(path)
+        for most in (0, 7):
+            pieces = lambda size: -(-size // most) if most else 1
+            calls = [OF_OPEN, *[OF_READ] * (pieces(size) + 1), *[OF_WRITE] * pieces(printed), (None,) * 4]
+            for call, statuses in enumerate(calls, 1):
+                each_error(made, [task, path], call, most, statuses)
+    for words in (*ASKED, [], ["check"], ["--fly"]):
+        each_error(made, words, 1, 0, OF_PRINT)
+
+
+TESTS = [
+    ("each call of the system fails", each_call_fails),
+]
