@@ -39,7 +39,7 @@ use rfence::{Fences, Waiting};
 use sbi_abi::Reset;
 use std::alloc::{AllocError, Global};
 use std::marker::Model;
-use tlb_model::{Entry, FetchWord, Flush, Numbered};
+use tlb_model::{Entry, FetchWord, Flush, Live};
 
 /// The counts of the board's table: starts and entries since the last reset, fences since the opening.
 #[derive(Clone, Copy, Debug, PartialEq, Eq)]
@@ -290,17 +290,17 @@ impl Board {
     }
 
     /// The live entries of the TLB of hart `h`, in the order of filling.
-    pub fn tlb(&self, h: u64) -> &[Numbered<Entry>]
+    pub fn tlb(&self, h: u64) -> Live<'_, Entry>
         requires { h < self.now.config.harts }
-        ensures { reverse result.now ≡ (cache_after covers_entry (tlb_acts self.now.config self.now.past h)).live }
+        ensures { reverse result ≡ (cache_after covers_entry (tlb_acts self.now.config self.now.past h)).live }
     {
         self.machine.memory.caches[h as usize].tlb.live()
     }
 
     /// The live words of the instruction cache of hart `h`, in the order of filling.
-    pub fn fetched(&self, h: u64) -> &[Numbered<FetchWord>]
+    pub fn fetched(&self, h: u64) -> Live<'_, FetchWord>
         requires { h < self.now.config.harts }
-        ensures { reverse result.now ≡ (cache_after covers_word (word_acts self.now.config self.now.past h)).live }
+        ensures { reverse result ≡ (cache_after covers_word (word_acts self.now.config self.now.past h)).live }
     {
         self.machine.memory.caches[h as usize].words.live()
     }

@@ -24,4 +24,4 @@ pub use hsm::{HartState, Kept};
 pub use rfence::Waiting;
 pub use sbi_abi::{Reset, ResetKind};
 pub use sv39::Cause;
-pub use tlb_model::{Entry, Fence, FetchWord, Flush, Numbered, Range};
+pub use tlb_model::{Entry, Fence, FetchWord, Flush, Live, Numbered, Range};

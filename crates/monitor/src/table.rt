@@ -68,8 +68,7 @@ fn print_tlb<W: Sink>(board: &Board, h: u64, sink: &mut W) -> Result<(), Failed>
     ensures { Puts W.written W.failures sink.old sink.new result
         (flat_map (tlb_line h) (entries board.now.config board.now.past h)) }
 {
-    let fills = board.tlb(h);
-    for fill in fills {
+    for fill in board.tlb(h) {
         tlb_line(h, &fill.item).put(sink)?;
     }
     Ok(())
@@ -81,8 +80,7 @@ fn print_fetched<W: Sink>(board: &Board, h: u64, sink: &mut W) -> Result<(), Fai
     ensures { Puts W.written W.failures sink.old sink.new result
         (flat_map (word_line h) (words board.now.config board.now.past h)) }
 {
-    let fills = board.fetched(h);
-    for fill in fills {
+    for fill in board.fetched(h) {
         word_line(h, &fill.item).put(sink)?;
     }
     Ok(())

@@ -2,6 +2,7 @@ ghost use Rattle.std.specs.Prelude.{◌≡◌, ◌<◌, ◌≤◌, ◌+◌, ◌-
 ghost use Rattle.tlb_model.specs.Contents.{IsRecent, cleared, empty, fenced, filled, hit, is_young};
 
 use crate::fence::Flush;
+use crate::live::Live;
 use std::alloc::{AllocError, Global};
 use std::marker::Model;
 
@@ -110,11 +111,11 @@ impl<E: Cached> Cache<E> {
     }
 
     /// What is live, in the order of filling.
-    pub fn live(&self) -> &[Numbered<E>]
-        ensures live { reverse result.now ≡ self.now.live }
-        ensures room { length result.now ≤ 16 }
+    pub fn live(&self) -> Live<'_, E>
+        ensures live { reverse result ≡ self.now.live }
+        ensures room { length result ≤ 16 }
     {
-        &self.fills
+        Live::of(&self.fills)
     }
 }
 

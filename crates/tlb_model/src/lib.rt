@@ -7,6 +7,7 @@ mod caches;
 mod entry;
 mod fence;
 mod laws;
+mod live;
 mod word;
 
 pub use cache::{Cache, Cached, Numbered};
@@ -17,4 +18,5 @@ pub use laws::{
     caches_keep_what_lives, cleared_is_gone, common_address, covered_is_gone, hit_is_the_last,
     live_was_filled,
 };
+pub use live::Live;
 pub use word::FetchWord;

@@ -1,3 +1,4 @@
+use Rattle.std.proofs.Common.{◌∙◌}
 use Rattle.tlb_model.specs.Acts.{live}
 use Rattle.tlb_model.specs.Entries.{covers_entry}
 use Rattle.board_core.specs.Memory.{tlb_acts}
@@ -5,4 +6,4 @@ use Rattle.monitor.proofs.Caches.{count_kept}
 use Rattle.monitor.proofs.table.entry_count.Goals as goal
 
 pub returns : goal.returns
-returns c = count_kept _ (live covers_entry (tlb_acts c.args.board.now.config c.args.board.now.past c.args.h)) c.tlb.ensures
+returns c = c.len.ensures.value ∙ count_kept _ (live covers_entry (tlb_acts c.args.board.now.config c.args.board.now.past c.args.h)) c.tlb.ensures

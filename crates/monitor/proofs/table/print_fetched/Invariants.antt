@@ -1,10 +1,15 @@
-use Rattle.std.proofs.Common.{◌≡◌, take}
+use Rattle.std.proofs.Common.{◌≡◌, ◌++◌, map}
+use Rattle.std.specs.Prelude.{reverse}
 use Rattle.std.specs.Io.KnownBytes.{Appends}
 use Rattle.std.specs.List.{flat_map}
+use Rattle.tlb_model.specs.Acts.{live, numbered}
+use Rattle.tlb_model.specs.Words.{covers_word}
+use Rattle.board_core.specs.Memory.{word_acts}
 use Rattle.monitor.specs.Table.{word_line}
 use Rattle.monitor.proofs.table.print_fetched.Given as goal
 
 abbrev pub invariant-loop-fill : goal.invariant-loop-fill
 invariant-loop-fill g l =
-    Appends (g.W.Sink.written l.fn.sink) (g.W.Sink.written l.sink) (flat_map (λ fill. word_line l.h fill.item) (take l.fill-index l.fills))
+    (reverse (l.yielded ++ l.fill-iterator) ≡ map numbered (live covers_word (word_acts l.board.config l.board.past l.h)))
+    × Appends (g.W.Sink.written l.fn.sink) (g.W.Sink.written l.sink) (flat_map (λ fill. word_line l.h fill.item) l.yielded)
     × (g.W.Sink.failures l.sink ≡ g.W.Sink.failures l.fn.sink)

@@ -8,4 +8,4 @@ pub returns-clause-room : goal.returns-clause-room
 returns-clause-room g c =
     let fills = c.self.inside.fills.items in
     let few = length-recent (c.self.inside.next - 16) c.self.inside.next (reverse fills) c.self.invariant.0 in
-    rw c.deref.ensures.value (omega (arith, few, length-reverse fills))
+    rw (c.of.ensures, c.deref.ensures.value) (omega (arith, few, length-reverse fills))
