@@ -15,6 +15,7 @@ FAULTS = [
     (b"\x80" + BOARD, 1, 1),
     (BOARD + b"0 advance\x00\n", 2, 1),
     (BOARD + b"0 advance # caf\xc3\xa9\n", 2, 1),
+    (BOARD + b"0 advance\n# \x80\n0 advance\n", 3, 1),
     (BOARD + b"0 advance\n\r0 advance\n", 3, 1),
     (BOARD + b"\n0 fly\n", 3, 3),
     (BOARD + b"c Tick 1\n", 2, 3),
