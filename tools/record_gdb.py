@@ -28,6 +28,7 @@ class Recorder:
         self.stops_at = set()
         self.vectors = set()
         self.has_begun = False
+        self.calls = 0
         self.fresh()
 
     def fresh(self):
@@ -60,30 +61,31 @@ class Recorder:
         numbers = [register(name) for name in CALL_REGISTERS]
         behind = register("mepc") + 4
         self.stop_at(behind)
-        self.open[hart] = (behind, numbers)
+        self.calls += 1
+        self.open[hart] = (behind, numbers, self.calls)
         self.write(hart, "call", *(f"{number:#x}" for number in numbers))
         eid, fid, a0, a1 = numbers[:4]
         if (eid, fid) == (HSM, 0) and a0 & 0xFFFFFFFF < HARTS:
-            self.await_entry(a0 & 0xFFFFFFFF, a1, hart)
+            self.await_entry(a0 & 0xFFFFFFFF, a1)
         elif (eid, fid) == (HSM, 3) and a0 & NON_RETENTIVE:
-            self.await_entry(hart, a1, hart)
+            self.await_entry(hart, a1)
         elif (eid, fid) == (SRST, 0):
             self.is_resetting = True
 
-    def await_entry(self, hart, address, caller):
+    def await_entry(self, hart, address):
         self.stop_at(address & ~1)
-        self.awaited[hart].setdefault(address & ~1, caller)
+        self.awaited[hart].setdefault(address & ~1, self.calls)
 
     def returned(self, hart):
         error, value = register("a0"), register("a1")
         self.write(hart, "ret", str(error - (1 << 64) if error >> 63 else error), f"{value:#x}")
-        eid, fid = self.open.pop(hart)[1][:2]
+        _, (eid, fid, *_), number = self.open.pop(hart)
         if (eid, fid) == (SRST, 0):
             self.is_resetting = False
         if error:
             # (what this call alone had been waited for doesn't come)
             for awaited in self.awaited.values():
-                for address in [address for address, caller in awaited.items() if caller == hart]:
+                for address in [address for address, call in awaited.items() if call == number]:
                     del awaited[address]
 
     def entered(self, hart, pc):

@@ -1,0 +1,593 @@
+"""Follows a record on a board: puts in what the record shows only by its effects (the firmware's steps, ticks, what a guest
+wrote), orders calls that overlap so that the board answers what was recorded, and tells where it can't."""
+from bisect import bisect_right
+
+from board_model import (
+    ALL, BASE, GONE, HSM, IPI, LOW, RAM, RESUME_PENDING, RFENCE, SRST, SSI, START_PENDING, STARTED, STI, STOP_PENDING, SUSPEND_PENDING,
+    SUSPENDED, TIME, WAITING, Board, spelled_answer, spelled_step,
+)  # fmt: skip
+from records import Broken, is_reset, is_suspend
+from rules import ignored_as, rule_of, rule_of_entry, rule_of_wake
+
+# How many orders are tried at one place, and how many steps back and forth after a reply that no order at its place gives.
+ORDERS = 200
+TRIES = 500
+KEPT_CHOICES = 200
+PAGES = 256
+MOST_EVENTS = 1_000_000
+READ_SIE = SSI | STI
+
+
+class Step:
+    """One step of the board: `said` is what the record shows of it (None: nothing), `why` where it came from."""
+
+    def __init__(self, actor, op, answer, said, at, why):
+        self.actor, self.op, self.answer, self.said, self.at, self.why = actor, op, answer, said, at, why
+
+    def line(self):
+        said = self.answer if self.said is None else self.said
+        return f"{spelled_step(self.actor, self.op)} -> {spelled_answer(said)}  # {self.why}"
+
+
+class Difference:
+    """A place where the board does otherwise: the rule that says why, or the line from which it follows, or neither."""
+
+    def __init__(self, at, what, here, there, rule, follows):
+        self.at, self.what, self.here, self.there, self.rule, self.follows = at, what, here, there, rule, follows
+
+
+class Open:
+    """A call that hasn't returned: its place in the record, its operation, and the board's answer once it is done."""
+
+    def __init__(self, place, op, answer=None):
+        self.place, self.op, self.answer = place, op, answer
+
+
+class State:
+    """A board, and where a record stands on it. `out` is what came of it, newest first, as pairs."""
+
+    def __init__(self, board):
+        self.board, self.out = board, None
+        # `tainted`: harts whose life went on otherwise; `missed`: harts that an IPI reached there alone; each with the line.
+        self.calls, self.early, self.tainted, self.missed = {}, {}, {}, {}
+        self.offset, self.has_ticked = 0, False
+        # Which suspended harts were asked for a fence while they slept.
+        self.fenced = frozenset()
+
+    def copy(self):
+        other = State.__new__(State)
+        other.__dict__.update(self.__dict__)
+        other.board = self.board.copy()
+        other.calls, other.early = dict(self.calls), dict(self.early)
+        other.tainted, other.missed = dict(self.tainted), dict(self.missed)
+        return other
+
+    def forget(self):
+        """As after a reset."""
+        self.calls, self.early, self.tainted, self.missed, self.fenced = {}, {}, {}, {}, frozenset()
+
+    def key(self):
+        harts = tuple((x.state, x.kept, x.ssip, x.sie, x.deadline, x.outstanding) for x in self.board.harts)
+        return harts, frozenset((h, call.answer) for h, call in self.calls.items()), frozenset(self.early)
+
+    def put(self, item):
+        self.out = (self.out, item)
+
+    def do(self, actor, op, at, why, said=None):
+        answer = self.board.step(actor, op)
+        self.put(Step(actor, op, answer, said, at, why))
+        return answer
+
+    def items(self):
+        found, out = [], self.out
+        while out is not None:
+            out, item = out
+            found.append(item)
+        return found[::-1]
+
+
+class Follower:
+    def __init__(self, record, shift=(0, 0), ignored=()):
+        """shift: (A, B): what a record has at A, this board has at B. ignored: names of what is passed over."""
+        self.record, self.lines, self.shift, self.ignored = record, record.lines, shift, frozenset(ignored)
+        self.passed_over = {}
+        self.places = {h: [] for h in range(record.harts)}
+        for place, line in enumerate(self.lines):
+            if line.hart is not None:
+                self.places[line.hart].append(place)
+        self.ipis = {h: self.ipis_to(h) for h in range(record.harts)}
+
+    def ipis_to(self, h):
+        return [
+            place for place in range(len(self.lines))
+            if self.lines[place].kind == "call" and self.lines[place].numbers[:2] == (IPI, 0) and h in self.named(self.lines[place].numbers[2:4])
+        ]  # fmt: skip
+
+    def named(self, pair):
+        """The harts of a list, those of strange bits left out."""
+        mask, base = pair
+        if base == ALL:
+            return range(self.record.harts)
+        return [base + i for i in range(64) if mask >> i & 1 and base + i < self.record.harts]
+
+    # ---- numbers of the record on this board
+
+    def mapped(self, address):
+        a, b = self.shift
+        low = min(a, b)
+        return (address - a + b) & ALL if low <= address < low + (1 << 40) else address
+
+    def op_of(self, state, line):
+        eid, fid, *a = line.numbers
+        if (eid, fid) in ((HSM, 0), (HSM, 3)):
+            a[1] = self.mapped(a[1])
+        if (eid, fid) == (TIME, 0) and a[0] != ALL:
+            a[0] = min(a[0] + state.offset, ALL)
+        return ("ecall", eid, fid, *a)
+
+    def shown(self, place):
+        """What a call answered, in the words of a board; None where the record doesn't tell."""
+        line = self.lines[place]
+        eid, fid = line.numbers[:2]
+        if line.reply is None:
+            if (eid, fid) in ((HSM, 1), (SRST, 0)):
+                return GONE
+            if is_suspend(line.numbers):
+                return GONE if line.numbers[2] & 1 << 31 else WAITING
+            return None
+        error, value = self.lines[line.reply].numbers
+        if error == 0 and (eid == RFENCE and fid <= 2 or is_suspend(line.numbers)):
+            return WAITING
+        return ("ret", error, value)
+
+    def name(self, op):
+        return spelled_step(0, op)[2:]
+
+    # ---- the whole
+
+    def first(self):
+        """The state before the first line, with the board that its entry shows."""
+        if not self.lines:
+            raise Broken(1, "nothing was recorded")
+        line = self.lines[0]
+        pc, _, opaque = line.numbers
+        state = State(Board(self.record.harts, PAGES, MOST_EVENTS, line.hart, self.mapped(pc), opaque))
+        if not (RAM <= self.mapped(pc) < RAM + 4096 * PAGES and self.mapped(pc) % 2 == 0):
+            raise Broken(line.number, f"hart {line.hart} enters at {pc:#x}, which isn't in the board's RAM from {RAM:#x}: see --map")
+        return state
+
+    def follow(self):
+        """Goes through the record, and returns the last state."""
+        state, place, choices = self.first(), 0, []
+        furthest, tries = None, 0
+        while place < len(self.lines):
+            ways = self.ways(state, place)
+            following = next(ways, None)
+            if following is not None:
+                choices.append((place, ways))
+                del choices[:-KEPT_CHOICES]
+                state, place = self.settled(following), place + 1
+                tries += furthest is not None
+                if furthest is not None and place > furthest[0]:
+                    furthest = None
+                continue
+            if furthest is None or place > furthest[0]:
+                furthest, tries = (place, state), 0
+            state, place = self.back(choices, tries) or (None, None)
+            tries += 1
+            if state is not None:
+                state = self.settled(state)
+            else:
+                place, state = furthest
+                state = self.forced(state, place)
+                place, furthest, choices = place + 1, None, []
+        return self.ended(state)
+
+    def back(self, choices, tries):
+        """Another way at the last place that has one."""
+        while choices and tries < TRIES:
+            place, ways = choices[-1]
+            following = next(ways, None)
+            if following is not None:
+                return following, place + 1
+            choices.pop()
+        return None
+
+    def ended(self, state):
+        """What had begun when the record ended: a call that isn't to return is done."""
+        for hart, call in sorted(state.calls.items()):
+            if call.answer is None and self.shown(call.place) in (GONE, WAITING):
+                self.effect(state, hart)
+        return state
+
+    # ---- the ways in which a line can be
+
+    def ways(self, state, place):
+        line = self.lines[place]
+        if line.kind == "call":
+            name = ignored_as(line.numbers)
+            if name in self.ignored:
+                self.passed_over[place] = name
+                yield state
+                return
+            yield from self.ways_of_call(self.prepared(state, line), place)
+        elif line.kind == "ret":
+            if line.hart not in state.calls and self.is_passed_over(place):
+                yield state
+                return
+            yield from self.reached(self.prepared(state, line), place, self.returned)
+        elif line.kind == "entry":
+            yield from self.reached(self.prepared(state, line), place, self.entered)
+        else:
+            yield self.was_reset(state.copy(), line)
+
+    def is_passed_over(self, place):
+        places = self.places[self.lines[place].hart]
+        return places[bisect_right(places, place) - 2] in self.passed_over
+
+    def prepared(self, state, line):
+        """A copy, with the time of the line where that makes a difference."""
+        state = state.copy()
+        time = line.notes.get("time")
+        if time is None:
+            return state
+        board = state.board
+        if time + state.offset < board.time:
+            state.offset = board.time - time
+        now = time + state.offset
+        is_due = any(x.deadline is not None and board.time < x.deadline <= now for x in board.harts)
+        is_timer = line.kind == "call" and line.numbers[:2] == (TIME, 0)
+        if now > board.time and now < ALL and not board.is_off and (is_due or is_timer or not state.has_ticked):
+            state.has_ticked = True
+            state.do(None, ("tick", now - board.time), line.number, f"put in: the time at line {line.number}")
+        return state
+
+    def opened(self, state, place):
+        """The call has begun, and what its hart's guest had written before is written."""
+        line = self.lines[place]
+        self.write(state, place)
+        if not line.notes.get("sip", SSI) & SSI:
+            state.missed.pop(line.hart, None)
+        state.calls[line.hart] = Open(place, self.op_of(state, line))
+        return state
+
+    def write(self, state, place):
+        line = self.lines[place]
+        hart = state.board.harts[line.hart]
+        if hart.state != STARTED or hart.outstanding is not None or state.board.is_off:
+            return
+        why = f"put in: the guest wrote it before line {line.number}"
+        sie = line.notes.get("sie")
+        if sie is None and is_suspend(line.numbers) and not self.record.has_sie and line.then is not None:
+            sie, why = READ_SIE, f"put in: the record has no sie, and the hart woke after line {line.number}"
+        if sie is not None and sie & READ_SIE != hart.sie:
+            state.do(line.hart, ("sie", sie & READ_SIE), line.number, why)
+        sstatus = line.notes.get("sstatus")
+        if sstatus is not None and sstatus != hart.sstatus and sstatus <= 1:
+            state.do(line.hart, ("sstatus", sstatus), line.number, why)
+        if self.was_cleared(state, place):
+            state.do(line.hart, ("clearssip",), line.number, why)
+
+    def was_cleared(self, state, place):
+        """Whether the guest has cleared its SSIP: it is 0, and no IPI of before comes late."""
+        line = self.lines[place]
+        if line.notes.get("sip", SSI) & SSI or not state.board.harts[line.hart].ssip:
+            return False
+        places = self.places[line.hart]
+        later = places[bisect_right(places, place) :]
+        seen = next((at for at in later if self.lines[at].notes.get("sip", 0) & SSI), None)
+        if seen is None:
+            return True
+        ipis = self.ipis[line.hart]
+        at = bisect_right(ipis, place)
+        return at < len(ipis) and ipis[at] < seen
+
+    def ways_of_call(self, state, place):
+        hart, shown = self.lines[place].hart, self.shown(place)
+        leaves = shown == GONE or is_suspend(self.lines[place].numbers) and shown == WAITING
+        if leaves:
+            done = self.opened(state.copy(), place)
+            if self.effect(done, hart) != shown:
+                return
+            if done.board.harts[hart].state in (STOP_PENDING, SUSPEND_PENDING):
+                further = done.copy()
+                self.advance(further, hart)
+                yield further
+            yield done
+        yield self.opened(state, place)
+
+    def effect(self, state, hart):
+        """The call is done: in the moment that is chosen, between its line and its return."""
+        call = state.calls[hart]
+        line, shown = self.lines[call.place], self.shown(call.place)
+        until = "" if line.reply is None else f" to {self.lines[line.reply].number}"
+        why = f"line {line.number}{until}"
+        if call.op[1:3] == (TIME, 0) and state.offset and call.op[3] != ALL:
+            why += ", its time by the board's clock"
+        before = state.board
+        if shown is not None and is_suspend(call.op[1:]):
+            state.fenced -= {hart}
+        answer = state.do(hart, call.op, line.number, why, shown)
+        state.calls[hart] = Open(call.place, call.op, answer)
+        if answer == WAITING and call.op[1] == RFENCE:
+            state.fenced |= {t for t in before.harts[hart].outstanding or () if before.harts[t].state in (SUSPENDED, SUSPEND_PENDING)}
+        if answer == GONE and is_reset(call.op[1:]):
+            state.forget()
+        if shown is not None and answer != shown:
+            self.differs(state, hart, call, answer, shown)
+        return answer
+
+    def advance(self, state, hart, why=None):
+        return state.do(hart, ("advance",), None, why or "put in: the firmware goes on")
+
+    # ---- what is looked for at a return and at an entry
+
+    def reached(self, state, place, finish):
+        """Each state in which the line can be finished, by the fewest other steps before it."""
+        states, seen = [state], set()
+        while states and len(seen) < ORDERS:
+            following = []
+            for state in states:
+                done = finish(state.copy(), place)
+                if done is not None:
+                    yield done
+                for moved in map(self.settled, self.moves(state, place)):
+                    key = moved.key()
+                    if key not in seen:
+                        seen.add(key)
+                        following.append(moved)
+            states = following
+
+    def settled(self, state):
+        """The state, with each call done that answers what was recorded and changes nothing: no other moment is better."""
+        if len(state.calls) < 2:
+            return state
+        for hart, call in list(state.calls.items()):
+            shown = self.shown(call.place) if call.answer is None else None
+            if shown is not None and self.changes_nothing(state.board, hart, call.op, shown):
+                self.effect(state, hart)
+        return state
+
+    def changes_nothing(self, board, hart, op, shown):
+        if shown[0] != "ret" or shown[1] == 0 and op[1:3] != (HSM, 2):
+            return False
+        if op[1:3] == (HSM, 2) and shown[1] == 0:
+            it = board.harts[hart]
+            return it.state == STARTED and it.outstanding is None and op[3] < len(board.harts) and board.harts[op[3]].state == shown[2]
+        return board.copy().step(hart, op) == shown
+
+    def next_line(self, hart, place):
+        places = self.places[hart]
+        at = bisect_right(places, place - 1)
+        return self.lines[places[at]] if at < len(places) else None
+
+    def moves(self, state, place):
+        """What may have happened before the line: another call, or a step of a firmware."""
+        for hart, call in state.calls.items():
+            if call.answer is None and (hart != self.lines[place].hart or self.lines[place].kind == "entry"):
+                moved, shown = state.copy(), self.shown(call.place)
+                if self.effect(moved, hart) == shown or shown is None:
+                    yield moved
+        for hart, it in enumerate(state.board.harts):
+            if it.state in (STOP_PENDING, SUSPEND_PENDING):
+                moved = state.copy()
+                self.advance(moved, hart)
+                yield moved
+            elif it.state == SUSPENDED and state.board.wakes(hart) and hart != self.lines[place].hart and self.goes_on(state, hart, place):
+                moved = state.copy()
+                self.advance(moved, hart)
+                yield moved
+            elif it.state in (START_PENDING, RESUME_PENDING) and hart != self.lines[place].hart and self.goes_on(state, hart, place):
+                line = self.next_line(hart, place)
+                moved = state.copy()
+                moved.early[hart] = moved.do(hart, ("advance",), line.number, f"line {line.number}, seen before it")
+                if moved.early[hart] == (self.entry_of(line) if line.kind == "entry" else ("ret", *line.numbers)):
+                    yield moved
+
+    def goes_on(self, state, hart, place):
+        """Whether the hart's next line is the one to which its pending state leads."""
+        it, line = state.board.harts[hart], self.next_line(hart, place)
+        is_call = it.state != START_PENDING and it.is_retentive
+        return line is not None and line.kind == ("ret" if is_call else "entry")
+
+    def entry_of(self, line):
+        pc, a0, a1 = line.numbers
+        return ("entry", self.mapped(pc), a0, a1)
+
+    def returned(self, state, place):
+        """The call of this line returns as it was recorded; else None."""
+        line = self.lines[place]
+        call = state.calls.get(line.hart)
+        if call is None:
+            return None
+        if call.answer is None and self.effect_agrees(state, line.hart) is None:
+            return None
+        call = state.calls[line.hart]
+        if call.answer == WAITING:
+            answer = self.polled(state, line) if call.op[1] == RFENCE else self.woken(state, line)
+            if answer != ("ret", *line.numbers):
+                return None
+        elif call.answer != self.shown(call.place):
+            return None
+        del state.calls[line.hart]
+        return state
+
+    def effect_agrees(self, state, hart):
+        shown = self.shown(state.calls[hart].place)
+        return state if self.effect(state, hart) == shown else None
+
+    def polled(self, state, line):
+        """The fence is applied where it waits, and the call returns."""
+        hart = line.hart
+        for target in sorted(state.board.harts[hart].outstanding or ()):
+            while any(caller == hart for caller, _ in state.board.harts[target].waiting):
+                if state.do(target, ("serve",), line.number, f"put in: the fence has been applied, since line {line.number} returns") != ("served",):
+                    return None
+        return state.do(hart, ("poll",), line.number, f"line {line.number}", ("ret", *line.numbers))
+
+    def woken(self, state, line):
+        """The suspended hart goes on, if anything wakes it: its last answer."""
+        hart, it = line.hart, state.board.harts[line.hart]
+        if hart in state.early:
+            return state.early.pop(hart)
+        if it.state == SUSPEND_PENDING:
+            self.advance(state, hart)
+        if not state.board.wakes(hart) and not self.record.has_times and it.sie & STI and it.deadline not in (None, ALL):
+            state.do(None, ("tick", it.deadline - state.board.time), line.number, f"put in: the time has come, since the hart wakes at line {line.number}")
+        answer = None
+        for _ in range(2):
+            if state.board.harts[hart].state == SUSPENDED and not state.board.wakes(hart):
+                return None
+            if state.board.harts[hart].state == SUSPENDED:
+                answer = self.advance(state, hart)
+            elif state.board.harts[hart].state == RESUME_PENDING:
+                answer = state.do(hart, ("advance",), line.number, f"line {line.number}")
+        return answer
+
+    def entered(self, state, place, is_strict=True):
+        """The hart enters as it was recorded, where it is asked for with the same SSIP; else None."""
+        line = self.lines[place]
+        hart, it = line.hart, state.board.harts[line.hart]
+        is_start = True
+        if hart in state.early:
+            answer = state.early.pop(hart)
+        elif it.state == START_PENDING:
+            answer = state.do(hart, ("advance",), line.number, f"line {line.number}")
+        elif it.state in (SUSPEND_PENDING, SUSPENDED, RESUME_PENDING) and not it.is_retentive:
+            answer, is_start = self.woken(state, line), False
+        else:
+            return None
+        sip = line.notes.get("sip")
+        if answer != self.entry_of(line) or is_strict and sip is not None and (sip ^ state.board.sip(hart)) & SSI:
+            return None
+        state.calls.pop(hart, None)
+        state.tainted.pop(hart, None)
+        self.look_at_notes(state, line, is_start)
+        return state
+
+    def look_at_notes(self, state, line, is_start):
+        """What the hart's registers had at its entry, beside what the board's have."""
+        board, hart = state.board, line.hart
+        here = {"sie": board.harts[hart].sie, "sip": board.sip(hart), "sstatus": board.harts[hart].sstatus}
+        for name, value in here.items():
+            there = line.notes.get(name)
+            if there is None:
+                continue
+            there &= READ_SIE if name != "sstatus" else 1
+            if there != value:
+                rule = rule_of_entry(name, is_start, value, there)
+                state.put(Difference(line.number, f"{hart} entry: {name}", f"{value:#x}", f"{there:#x}", rule, None))
+
+    def was_reset(self, state, line):
+        actor = next((h for h, it in enumerate(state.board.harts) if it.state == STARTED and it.outstanding is None), None)
+        if actor is None:
+            raise Broken(line.number, "the machine is reset while no hart of the board could ask for it")
+        state.do(actor, ("ecall", SRST, 0, 1, 0), line.number, f"line {line.number}: a reset by no call, put in as a cold reboot")
+        state.forget()
+        return state
+
+    # ---- where nothing fits
+
+    def forced(self, state, place):
+        """The line happened, and the board does otherwise: the difference is kept, and the board goes on with its own answer."""
+        line = self.lines[place]
+        state = self.prepared(state, line)
+        hart = line.hart
+        if line.kind == "call":
+            self.opened(state, place)
+            self.effect(state, hart)
+        elif line.kind == "entry":
+            entered = next(self.reached(state, place, lambda *given: self.entered(*given, is_strict=False)), None)
+            if entered is not None:
+                return entered
+            self.forced_entry(state, line)
+            state.calls.pop(hart, None)
+        else:
+            self.forced_return(state, line)
+            state.calls.pop(hart, None)
+        return state
+
+    def forced_entry(self, state, line):
+        hart, it = line.hart, state.board.harts[line.hart]
+        self.catch_up(state, hart)
+        if it.state == SUSPEND_PENDING:
+            self.advance(state, hart)
+        said = self.entry_of(line)
+        is_asleep = state.board.harts[hart].state == SUSPENDED
+        while state.board.harts[hart].state == SUSPENDED and state.board.wakes(hart):
+            self.advance(state, hart)
+        answer = state.early.pop(hart, None) or state.do(hart, ("advance",), line.number, f"line {line.number}", said)
+        if answer != said:
+            rule = rule_of_wake(state, hart) if is_asleep and answer[0] == "refused" else None
+            self.found(state, line, f"{hart} entry", answer, said, rule, {hart})
+
+    def forced_return(self, state, line):
+        hart = line.hart
+        call = state.calls.get(hart)
+        if call is None:
+            return
+        if call.answer is None:
+            self.effect(state, hart)
+            call = state.calls.get(hart, call)
+        elif is_suspend(call.op[1:]) and call.answer == WAITING:
+            self.forced_wake(state, line)
+        if state.board.harts[hart].outstanding is not None:
+            self.polled(state, line)
+
+    def catch_up(self, state, hart):
+        """What had begun may have been the cause: it is done."""
+        for other in sorted(state.calls):
+            call = state.calls.get(other)
+            if call is not None and other != hart and call.answer is None and self.shown(call.place) in (WAITING, ("ret", 0, 0)):
+                self.effect(state, other)
+
+    def forced_wake(self, state, line):
+        hart, said = line.hart, ("ret", *line.numbers)
+        self.catch_up(state, hart)
+        if state.board.harts[hart].state == SUSPEND_PENDING:
+            self.advance(state, hart)
+        if state.board.harts[hart].state == SUSPENDED and state.board.wakes(hart):
+            self.advance(state, hart)
+        answer = state.do(hart, ("advance",), line.number, f"line {line.number}", said)
+        if answer != said:
+            rule = rule_of_wake(state, hart) if answer[0] == "refused" else None
+            self.found(state, line, f"{hart} resumes", answer, said, rule, {hart})
+
+    # ---- differences
+
+    def differs(self, state, hart, call, answer, shown):
+        rule = rule_of(state.board, hart, call.op, answer, shown)
+        line = self.lines[call.place]
+        self.found(state, line, f"{hart} {self.name(call.op)}", answer, shown, rule, self.touched(hart, call.op))
+        if call.op[1:3] == (IPI, 0):
+            state.missed |= {h: line.number for h in self.named(call.op[3:5])}
+
+    def touched(self, hart, op):
+        """The harts whose later answers may follow from this call's."""
+        eid, fid, a0, a1 = op[1:5]
+        if (eid, fid) == (HSM, 0):
+            return {a0, a0 & LOW}
+        if (eid, fid) in ((HSM, 1), (HSM, 3)):
+            return {hart}
+        return set(range(self.record.harts)) if is_reset(op[1:]) else set()
+
+    def asked(self, hart, op):
+        """The harts on whose states a call's answer hangs."""
+        eid, fid, a0 = op[1:4]
+        return [a0, hart] if (eid, fid) in ((HSM, 0), (HSM, 2)) else [hart]
+
+    def found(self, state, line, what, here, there, rule, touched):
+        follows = None
+        if rule is None:
+            op = state.calls[line.hart].op if line.hart in state.calls else ("ecall", BASE, 0, 0)
+            lines = [state.tainted[h] for h in self.asked(line.hart, op) if h in state.tainted]
+            if not lines and here == ("refused", 3) and line.hart in state.missed:
+                lines = [state.missed[line.hart]]
+            follows = lines[0] if lines else None
+        state.put(Difference(line.number, what, spelled_answer(here), spelled_answer(there), rule, follows))
+        if here[0] == there[0] == "ret" and here[1] and there[1]:
+            return
+        origin = follows or line.number
+        for h in touched:
+            if h < self.record.harts:
+                state.tainted.setdefault(h, origin)
