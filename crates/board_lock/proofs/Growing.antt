@@ -1,11 +1,11 @@
 -- What is under the lock, at a seat and in a receipt after one event more.
-use Rattle.std.proofs.Common.{◌≡◌, ℕ, ◌+◌, ◌<◌, ◌≤◌, ◌^◌, true, false, List, [], ◌∷◌, ◌++◌, length, reverse, set, get_or, refl, inl, inr, sym, ap, ◌∙◌, arith}
+use Rattle.std.proofs.Common.{◌≡◌, ◌≢◌, ℕ, ◌+◌, ◌<◌, ◌≤◌, ◌^◌, true, false, List, [], ◌∷◌, ◌++◌, length, reverse, set, get_or, refl, inl, inr, sym, ap, subst, ◌∙◌, append-nil, arith}
 use Rattle.std.specs.Prelude.{slice_index_or, Ok}
 use Rattle.std.specs.List.{AllByRecursion}
 use Rattle.std.proofs.lemmas.Bool.{cases_Bool}
 use Rattle.std.proofs.lemmas.List.{get_or-set_same, get_or-set_other, length-append, length-reverse, length-set, reverse-reverse}
 use Rattle.std.proofs.lemmas.Grind.{get_or_default_zero}
-use mathlib.Core.List.{reverse-cons}
+use mathlib.Core.List.{IsPrefix, reverse-cons}
 use Rattle.board_core.specs.declared.config.Config.{Config}
 use Rattle.board_core.specs.declared.event.Actor.{Actor}
 use Rattle.board_core.specs.declared.event.Op.{Op}
@@ -14,10 +14,13 @@ use Rattle.board_core.specs.Accesses.{used_by_actor}
 use Rattle.board_core.specs.Course.{Course}
 use Rattle.board_core.specs.History.{Event}
 use Rattle.board_core.specs.Replies.{answer, recorded, stepped}
-use Rattle.board_lock.specs.Events.{IsActor, events_in, is_same}
+use Rattle.board_lock.specs.Events.{IsActor, events_in, events_of, is_same}
 use Rattle.board_lock.specs.Kept.{IsDesk, IsSeated, IsTold, count_of, number_of}
+use Rattle.board_lock.specs.Seats.{Sitting}
+use Rattle.board_lock.specs.Views.{IsDone, board_after}
+use Rattle.board_lock.specs.declared.rests.Rests.{Rests}
 use Rattle.board_lock.proofs.Actors.{number-tells, number-within, same-is, same-itself}
-use Rattle.board_lock.proofs.Places.{after, slice_get-tells, count_of-append, count_of-within}
+use Rattle.board_lock.proofs.Places.{after, slice_get-tells, count_of-append, count_of-within, length-events}
 
 all-more : (P : Event → Type 0) (xs : List Event) (e : Event) → AllByRecursion P xs → P e → AllByRecursion P (xs ++ e ∷ [])
 all-more P [] e all more = (more, tt)
@@ -30,27 +33,31 @@ count-same : (a : Actor) (es : List Event) (e : Event) → is_same a e.actor ≡
 count-same a es e other = count_of-append a es (e ∷ []) ∙ rw other (omega arith)
 
 -- a count that is read
-pub read : (opening : Config) (room : ℕ) (b : Course) (counts : List ℕ) (total parts amount name : ℕ) (list : List Event) (a : Actor) (n v : ℕ)
-    → IsDesk opening room b counts total parts amount name list → IsActor opening a → n ≡ number_of opening a → v ≡ get_or counts n v
+pub read : (opening : Config) (room : ℕ) (b : Course) (counts : List ℕ) (rests : Rests) (total parts amount name : ℕ) (list : List Event) (a : Actor) (n v : ℕ)
+    → IsDesk opening room b counts rests total parts amount name list → IsActor opening a → n ≡ number_of opening a → v ≡ get_or counts n v
     → (v ≡ slice_index_or counts n 0) × (v ≡ count_of a list)
-read opening room b counts total parts amount name list a n v d acting number value =
+read opening room b counts rests total parts amount name list a n v d acting number value =
     let within : n < length counts = (let w = number-within opening a acting in let s = d.sized in omega arith) in
     let at : v ≡ slice_index_or counts n 0 = value ∙ get_or_default_zero counts n v within in
     (at, at ∙ ap (λ (k : ℕ). slice_index_or counts k 0) number ∙ d.counted a acting)
 
+-- a count that differs from the one that is kept isn't that of the events
+pub differs : (a : Actor) (es : List Event) (count value : ℕ) → value ≡ count_of a es → value ≢ count → length (events_of a es) ≢ count
+differs a es count value is other = λ e. other (is ∙ sym (length-events 0 a es) ∙ e)
+
 -- a count of events of a board is far from the end of numbers
-pub small : (opening : Config) (room : ℕ) (b : Course) (counts : List ℕ) (total parts amount name : ℕ) (list : List Event) (a : Actor) (count : ℕ)
-    → IsDesk opening room b counts total parts amount name list → count ≡ count_of a list → length list ≤ b.config.limit → count + 1 < 2 ^ 64
-small opening room b counts total parts amount name list a count d counted within =
+pub small : (opening : Config) (room : ℕ) (b : Course) (counts : List ℕ) (rests : Rests) (total parts amount name : ℕ) (list : List Event) (a : Actor) (count : ℕ)
+    → IsDesk opening room b counts rests total parts amount name list → count ≡ count_of a list → length list ≤ b.config.limit → count + 1 < 2 ^ 64
+small opening room b counts rests total parts amount name list a count d counted within =
     let most = count_of-within a list in
     let opened : b.config.limit ≡ opening.limit = ap (λ (c : Config). c.limit) d.opened in
     let limit = d.good.at_most_a_million_events in
     omega arith
 
 -- the log is as long as the history
-pub as-long : (opening : Config) (room : ℕ) (b : Course) (counts : List ℕ) (total parts amount name : ℕ) (list history : List Event)
-    → IsDesk opening room b counts total parts amount name list → reverse history ≡ b.past → length list ≡ length history
-as-long opening room b counts total parts amount name list history d old = ap length (d.logged ∙ ap reverse (sym old)) ∙ length-reverse (reverse history) ∙ length-reverse history
+pub as-long : (opening : Config) (room : ℕ) (b : Course) (counts : List ℕ) (rests : Rests) (total parts amount name : ℕ) (list history : List Event)
+    → IsDesk opening room b counts rests total parts amount name list → reverse history ≡ b.past → length list ≡ length history
+as-long opening room b counts rests total parts amount name list history d old = ap length (d.logged ∙ ap reverse (sym old)) ∙ length-reverse (reverse history) ∙ length-reverse history
 
 module _ (b b' : Course) (a : Actor) (op : Op) (reply : Reply) (answered : Ok reply ≡ answer b.config b.past a op) (went : b' ≡ stepped b a op) where
   abbrev pub event : Event
@@ -68,6 +75,27 @@ module _ (b b' : Course) (a : Actor) (op : Op) (reply : Reply) (answered : Ok re
   pub longer-by-one : (history history' : List Event) → reverse history ≡ b.past → reverse history' ≡ b'.past → length history' ≡ length history + 1
   longer-by-one history history' old new = ap length (longer history history' old new) ∙ length-append history (event ∷ [])
 
+  pub logs : (list list' : List Event) → list ≡ events_in b → list' ≡ list ++ event ∷ [] → list' ≡ events_in b'
+  logs list list' logged longer = longer ∙ ap (λ (es : List Event). es ++ event ∷ []) logged ∙ sym (reverse-cons event b.past) ∙ ap events_in (sym is)
+
+  -- a seat that saw the board before has seen it since with the event
+  pub done : (opening : Config) (old new : Sitting) (list list' : List Event) → b.config ≡ opening → list ≡ events_in b → list' ≡ list ++ event ∷ [] → a ≡ old.actor
+      → IsPrefix old.saw list → new.saw ≡ list' → IsDone opening old new op reply
+  done opening old new list list' opened logged longer by prefix saw =
+      record {
+        before = list;
+        later = prefix;
+        answered = subst (λ (x : Actor). answer opening (reverse list) x op ≡ Ok reply) by (ap (λ (x : Course). answer x.config x.past a op) there ∙ sym answered);
+        after = saw ∙ logs list list' logged longer ∙ ap events_in went ∙ ap (λ (x : Course). events_in (stepped x a op)) (sym there)
+            ∙ ap (λ (x : Actor). events_in (stepped (board_after opening list) x op)) by;
+      }
+    where
+      past : reverse list ≡ b.past
+      past = ap reverse logged ∙ reverse-reverse b.past
+
+      there : board_after opening list ≡ b
+      there = ap (λ (c : Config). record { config = c; past = reverse list }) (sym opened) ∙ ap (λ (es : List Event). record { config = b.config; past = es }) past
+
   -- which is what a look at it finds
   pub last : (history history' : List Event) (at : Event) → reverse history ≡ b.past → reverse history' ≡ b'.past → at ≡ get_or history' (length history) at → at ≡ event
   last history history' at old new is =
@@ -75,19 +103,20 @@ module _ (b b' : Course) (a : Actor) (op : Op) (reply : Reply) (answered : Ok re
       ∙ (let more = length-append history (event ∷ []) in let one : length (event ∷ []) ≡ 1 = refl in slice_get-tells (history ++ event ∷ []) (length history) event at (after history event []))
 
   module _ (opening : Config) (acting : IsActor opening a) where
-    pub desk-more : (room : ℕ) (counts : List ℕ) (total total' parts amount name name' : ℕ) (list list' : List Event) (n v : ℕ)
-        → IsDesk opening room b counts total parts amount name list → n ≡ number_of opening a → v ≡ slice_index_or counts n 0 → total' ≡ total + 1 → name' ≡ name
-        → list' ≡ list ++ event ∷ [] → IsDesk opening room b' (set counts n (v + 1)) total' parts amount name' list'
-    desk-more room counts total total' parts amount name name' list list' n v d number value sum named longer =
+    pub desk-more : (room : ℕ) (counts : List ℕ) (rests : Rests) (total total' parts amount name name' : ℕ) (list list' : List Event) (n v : ℕ)
+        → IsDesk opening room b counts rests total parts amount name list → n ≡ number_of opening a → v ≡ slice_index_or counts n 0 → total' ≡ total + 1 → name' ≡ name
+        → list' ≡ list ++ event ∷ [] → IsDesk opening room b' (set counts n (v + 1)) rests total' parts amount name' list'
+    desk-more room counts rests total total' parts amount name name' list list' n v d number value sum named longer =
         record {
           good = d.good;
           opened = ap (λ (c : Course). c.config) is ∙ d.opened;
           named = named ∙ d.named;
-          logged = longer ∙ ap (λ (es : List Event). es ++ event ∷ []) d.logged ∙ sym (reverse-cons event b.past) ∙ ap events_in (sym is);
+          logged = logs list list' d.logged longer;
           summed = sum ∙ (let s = d.summed in omega (arith, length-append list (event ∷ []))) ∙ ap length (sym longer);
           sized = length-set counts n (v + 1) ∙ d.sized;
           counted = each;
           acted = subst-acted;
+          at_rest = d.at_rest;
           no_parts = d.no_parts;
           no_amount = d.no_amount;
         }
@@ -113,16 +142,19 @@ module _ (b b' : Course) (a : Actor) (op : Op) (reply : Reply) (answered : Ok re
               ∙ d.counted x there ∙ sym (ap (count_of x) longer ∙ count-same x list event other)
         ]
 
-    pub seat-more : (room : ℕ) (list-name seen-name : ℕ) (list seen : List Event) (count parts parts' amount amount' old : ℕ) (before : List Event)
-        → IsSeated opening room a count parts amount old before → list-name ≡ room → count ≡ count_of a list → parts' ≡ parts → amount' ≡ amount + 1
-        → seen-name ≡ list-name → seen ≡ list ++ event ∷ [] → IsSeated opening room a (count + 1) parts' amount' seen-name seen
-    seat-more room list-name seen-name list seen count parts parts' amount amount' old before s listed counted part more named saw =
+    pub seat-more : (room : ℕ) (list-name seen-name last-name : ℕ) (list seen last : List Event) (count parts parts' amount amount' old : ℕ) (before : List Event) (old-last : ℕ) (looked : List Event)
+        → IsSeated opening room a count parts amount old before old-last looked → list-name ≡ room → count ≡ count_of a list → parts' ≡ parts → amount' ≡ amount + 1
+        → seen-name ≡ list-name → seen ≡ list ++ event ∷ [] → last-name ≡ list-name → last ≡ list ++ event ∷ []
+        → IsSeated opening room a (count + 1) parts' amount' seen-name seen last-name last
+    seat-more room list-name seen-name last-name list seen last count parts parts' amount amount' old before old-last looked s listed counted part more named saw last-named lasts =
         record {
           acting = s.acting;
           one_part = part ∙ s.one_part;
           counted = more ∙ ap (λ (k : ℕ). k + 1) s.counted;
           named = named ∙ listed;
           saw = ap (count_of a) saw ∙ count-more a list event (same-itself a) ∙ ap (λ (k : ℕ). k + 1) (sym counted);
+          last_named = last-named ∙ listed;
+          later = ([], append-nil seen ∙ saw ∙ sym lasts);
         }
 
   pub told : (room list-name seen-name : ℕ) (list seen : List Event) (count place : ℕ) → list-name ≡ room → count ≡ count_of a list → length list ≡ place

@@ -1,5 +1,6 @@
 pub mod Actors
 pub mod Places
+pub mod Resting
 pub mod Growing
 pub mod Ops
 pub mod Sums

@@ -11,7 +11,7 @@ use Rattle.board_core.specs.History.{Event}
 use Rattle.board_lock.specs.Events.{IsActor, events_of, is_same, ops_of}
 use Rattle.board_lock.specs.Kept.{count_of}
 use Rattle.board_lock.specs.Seats.{IsOneEach, Sitting, seats_of}
-use Rattle.board_lock.specs.Settling.{IsSettling, Knows, Within, counts}
+use Rattle.board_lock.specs.Settling.{IsSettling, Knows, Looked, Within, counts}
 use Rattle.board_lock.proofs.Ops.{knows-more}
 use Rattle.board_lock.proofs.Places.{count_of-append, length-events}
 
@@ -80,6 +80,10 @@ within-more : (es : List Event) (ss : List Sitting) (s : Sitting) → Within es 
 within-more es [] s all more = (more, tt)
 within-more es (x ∷ xs) s all more = (all.0, within-more es xs s all.1 more)
 
+looked-more : (es : List Event) (ss : List Sitting) (s : Sitting) → Looked es ss → IsPrefix s.saw es × (s.count ≤ count_of s.actor s.saw) → Looked es (ss ++ s ∷ [])
+looked-more es [] s all more = (more, tt)
+looked-more es (x ∷ xs) s all more = (all.0, looked-more es xs s all.1 more)
+
 -- a seat that saw a beginning of the events has no greater count than they give
 pub saw-within : (es seen : List Event) (a : Actor) (count : ℕ) → IsPrefix seen es → count_of a seen ≡ count → count ≤ count_of a es
 saw-within es seen a count prefix saw =
@@ -87,13 +91,15 @@ saw-within es seen a count prefix saw =
     omega arith
 
 pub settling-more : (es : List Event) (ss : List Sitting) (parts parts' amount amount' : ℕ) (s : Sitting) → IsSettling es ss parts amount → parts' ≡ parts + 1 → amount' ≡ amount + s.count
-    → s.count ≤ count_of s.actor es → (s.count ≡ count_of s.actor es → ops_of s.actor es ≡ s.ops) → IsSettling es (ss ++ s ∷ []) parts' amount'
-settling-more es ss parts parts' amount amount' s at part more within knows =
+    → s.count ≤ count_of s.actor es → (s.count ≡ count_of s.actor es → ops_of s.actor es ≡ s.ops) → IsPrefix s.saw es × (s.count ≤ count_of s.actor s.saw)
+    → IsSettling es (ss ++ s ∷ []) parts' amount'
+settling-more es ss parts parts' amount amount' s at part more within knows looked =
     record {
       parts_are = (let many = at.parts_are in omega (arith, length-append ss (s ∷ [])));
       amount_is = more ∙ ap (λ (n : ℕ). n + s.count) at.amount_is ∙ sym (counts-more ss s);
       within = within-more es ss s at.within within;
       knows = knows-more es ss s at.knows knows;
+      looked = looked-more es ss s at.looked looked;
     }
 
 -- what holds of each holds at each place
@@ -107,6 +113,18 @@ pub known-at : (es : List Event) (ss : List Sitting) → Equal es ss → Knows e
 known-at es [] all knows k d inside = absurd (omega arith)
 known-at es (s ∷ ss) all knows zero d inside = knows.0 (sym all.0 ∙ length-events 0 s.actor es)
 known-at es (s ∷ ss) all knows (suc k) d inside = known-at es ss all.1 knows.1 k d (omega arith)
+
+-- what each seat saw is a beginning of the events, with all of its own
+pub looked-at : (es : List Event) (ss : List Sitting) → Equal es ss → Looked es ss → (k : ℕ) (d : Sitting) → k < length ss
+    → IsPrefix (get_or ss k d).saw es × (length (events_of (get_or ss k d).actor (get_or ss k d).saw) ≡ (get_or ss k d).count)
+looked-at es [] all looked k d inside = absurd (omega arith)
+looked-at es (s ∷ ss) all looked zero d inside =
+    let prefix = looked.0.0 in
+    let most = saw-within es s.saw s.actor (count_of s.actor s.saw) prefix refl in
+    let least = looked.0.1 in
+    let whole = sym (length-events 0 s.actor es) ∙ all.0 in
+    (prefix, length-events 0 s.actor s.saw ∙ (omega arith))
+looked-at es (s ∷ ss) all looked (suc k) d inside = looked-at es ss all.1 looked.1 k d (omega arith)
 
 pub closes : (c : Config) (es : List Event) (ss : List Sitting) → IsOneEach c ss → AllByRecursion (λ (e : Event). IsActor c e.actor) es → Within es ss
     → counts ss ≡ length es → Equal es ss

@@ -5,20 +5,27 @@ use Rattle.board_core.specs.declared.event.Actor.{Actor}
 use Rattle.board_core.specs.declared.event.Actor.TheVariants.{Hart, Clock}
 use Rattle.board_core.specs.declared.event.Op.{Op}
 use Rattle.board_core.specs.Course.{harts_of}
+use Rattle.board_core.specs.History.{Event}
 use Rattle.board_lock.specs.Events.{IsActor, is_same}
 
--- A seat knows its actor, how many of its calls were accepted, and which operations these asked, in order.
+-- A seat knows its actor, how many of its calls were accepted, and which operations these asked, in order; and which events
+-- there were when it looked last, in a call, a view or a rest.
 pub record Sitting : Type 0 where
   pub actor : Actor
   pub count : ℕ
   pub ops : List Op
+  pub saw : List Event
 
-abbrev pub sitting : Actor → ℕ → List Op → Sitting
-sitting actor count ops = record { actor = actor; count = count; ops = ops }
+abbrev pub sitting : Actor → ℕ → List Op → List Event → Sitting
+sitting actor count ops saw = record { actor = actor; count = count; ops = ops; saw = saw }
+
+-- The seat has looked again.
+abbrev pub seeing : Sitting → List Event → Sitting
+seeing s saw = sitting s.actor s.count s.ops saw
 
 -- The seats of a new board: those of its harts in order, and then the clock's. No call was made.
 abbrev pub new_seats : Config → List Sitting
-new_seats c = map (λ h. sitting (Hart h) 0 []) (harts_of c) ++ sitting Clock 0 [] ∷ []
+new_seats c = map (λ h. sitting (Hart h) 0 [] []) (harts_of c) ++ sitting Clock 0 [] [] ∷ []
 
 -- how many of the seats are the actor's
 abbrev pub seats_of : Actor → List Sitting → ℕ

@@ -1,4 +1,5 @@
 ghost use Rattle.std.specs.Prelude.{◌≡◌, ◌+◌, ◌↔◌, ℕ, All, IsTrue, length};
+ghost use mathlib.Core.List.{IsPrefix};
 ghost use Rattle.board_core.specs.declared.config.Config.{Config};
 ghost use Rattle.board_core.specs.Replies.{IsLegal};
 ghost use Rattle.board_core.specs.Limits.{IsGood};
@@ -49,6 +50,8 @@ pub(crate) fn settle<K: Room>(desk: Desk<K>, seats: Vec<Seat<K>>) -> Record<K>
     ensures legal { IsLegal result.config result.past }
     ensures counts { All (λ s. length (events_of s.actor (events_in result)) ≡ s.count) seats.items }
     ensures ops { All (λ s. ops_of s.actor (events_in result) ≡ s.ops) seats.items }
+    ensures saw { All (λ s. IsPrefix s.saw (events_in result)) seats.items }
+    ensures own { All (λ s. length (events_of s.actor s.saw) ≡ s.count) seats.items }
 {
     let Desk {
         board,
@@ -61,6 +64,7 @@ pub(crate) fn settle<K: Room>(desk: Desk<K>, seats: Vec<Seat<K>>) -> Record<K>
     let mut all = left;
     for seat in seats {
         log.begins_with(&seat.seen);
+        log.begins_with(&seat.saw);
         all.merge(seat.share);
     }
     book.audit(&mut all);

@@ -1,11 +1,11 @@
-ghost use Rattle.std.specs.Prelude.{◌≡◌, ℕ, ◌+◌, ◌<◌, ◌∷◌, ◌++◌, [], IfOk, OnOk, OnErr, Ok, MatchOption, length};
-ghost use Rattle.board_core.specs.declared.event.Actor.TheVariants.{Hart, Clock};
-ghost use Rattle.board_core.specs.Resets.{is_off};
+ghost use Rattle.std.specs.Prelude.{◌≡◌, ◌+◌, ◌<◌, ◌∷◌, ◌++◌, [], IfOk, IfErr, OnOk, OnErr, Ok, length, true};
+ghost use mathlib.Core.List.{IsPrefix};
 ghost use Rattle.board_core.specs.Replies.{answer, stepped};
-ghost use Rattle.board_lock.specs.Events.{IsActor};
+ghost use Rattle.board_lock.specs.Events.{IsActor, events_in};
 ghost use Rattle.board_lock.specs.Kept.{number_of};
-ghost use Rattle.board_lock.specs.Rests.{IsPause};
-ghost use Rattle.board_lock.specs.Views.{Shows};
+ghost use Rattle.board_lock.specs.Rests.{IsPause, held, none_rest, some_rest};
+ghost use Rattle.board_lock.specs.Seats.{seeing};
+ghost use Rattle.board_lock.specs.Views.{IsDone, IsRefused, IsView, Shows};
 
 use crate::receipts::Receipt;
 use crate::rests::{Rest, Rests};
@@ -30,14 +30,15 @@ pub(crate) struct Desk<K: Room> {
 }
 
 impl<K: Room> Model for Desk<K> {
-    ghost use Rattle.board_core.specs.Course.{Course};
     ghost use Rattle.board_lock.specs.Kept.{IsDesk};
+    ghost use Rattle.board_lock.specs.Rests.{Held, held};
 
-    ghost Value = { Course };
+    ghost Value = { Held };
 
-    ghost view = { λ d. d.board };
+    ghost view = { λ d. held d.board d.rests d.ended };
 
-    ghost invariant = { λ d. IsDesk K.opening K.log d.board d.counts.items d.book.total d.left.parts d.left.amount d.log.name d.log.list };
+    ghost invariant = { λ d. IsDesk K.opening K.log d.board d.counts.items d.rests d.book.total d.left.parts d.left.amount
+        d.log.name d.log.list };
 }
 
 /// What comes of a seat that would rest.
@@ -55,26 +56,30 @@ impl<K: Room> Desk<K> {
     /// One step of the seat's actor, and a receipt for it.
     pub(crate) fn call(&mut self, seat: &mut Seat<K>, op: Op) -> Result<Receipt<K>, Refusal>
         ensures receipt { IfOk result (λ r. (r.actor ≡ seat.old.actor) × (r.op ≡ op) × (r.ordinal ≡ seat.old.count)) }
-        ensures reply { IfOk result (λ r. answer self.old.config self.old.past seat.old.actor op ≡ Ok r.reply) }
-        ensures after { OnOk result (self.new ≡ stepped self.old seat.old.actor op) }
+        ensures reply { IfOk result (λ r. answer self.old.board.config self.old.board.past seat.old.actor op ≡ Ok r.reply) }
+        ensures after { OnOk result (self.new ≡ held (stepped self.old.board seat.old.actor op) self.old.rests self.old.ended) }
         ensures actor { seat.new.actor ≡ seat.old.actor }
         ensures accepted { OnOk result (seat.new.count ≡ seat.old.count + 1) }
         ensures ops { OnOk result (seat.new.ops ≡ seat.old.ops ++ op ∷ []) }
-        ensures refused { OnErr result ((seat.new ≡ seat.old) × (self.new ≡ self.old)) }
+        ensures done { IfOk result (λ r. IsDone K.opening seat.old seat.new op r.reply) }
+        ensures refused { OnErr result ((seat.new ≡ seeing seat.old (events_in self.old.board)) × (self.new ≡ self.old)) }
+        ensures refusal { IfErr result (λ r. IsRefused K.opening seat.new op r) }
+        ensures later { IsPrefix seat.old.saw seat.new.saw }
     {
+        self.see(seat);
         let number = self.number(seat.actor);
         if self.counts[number] != seat.count {
             return Err(Refusal::WrongPhase);
         }
         let place = self.board.history().len();
         let reply = self.board.step(seat.actor, op)?;
-        self.log.begins_with(&seat.seen);
         self.log.push(&self.board.history()[place]);
         self.counts[number] += 1;
         self.book.add(&mut seat.share, 1);
         let ordinal = seat.count;
         seat.count += 1;
         seat.seen = self.log.glimpse();
+        seat.saw = self.log.glimpse();
         Ok(Receipt {
             actor: seat.actor,
             ordinal,
@@ -86,12 +91,26 @@ impl<K: Room> Desk<K> {
         })
     }
 
-    /// What the seat's hart may do next, and how far the board is.
-    pub(crate) fn view(&self, seat: &Seat<K>) -> HartView
-        ensures hart { MatchOption result.hart (seat.now.actor ≡ Clock) (λ now. (h : ℕ) × (seat.now.actor ≡ Hart h) × Shows self.now h now) }
-        ensures power { result.is_off ≡ is_off self.now.past }
-        ensures events { result.events ≡ length self.now.past }
+    /// The seat looks at the events as they are now.
+    fn see(&mut self, seat: &mut Seat<K>)
+        ensures seat { seat.new ≡ seeing seat.old (events_in self.old.board) }
+        ensures later { IsPrefix seat.old.saw seat.new.saw }
+        ensures opening { self.old.board.config ≡ K.opening }
+        ensures same { self.new ≡ self.old }
     {
+        self.log.begins_with(&seat.seen);
+        self.log.begins_with(&seat.saw);
+        seat.saw = self.log.glimpse();
+    }
+
+    /// What the seat's hart may do next, and how far the board is.
+    pub(crate) fn view(&mut self, seat: &mut Seat<K>) -> HartView
+        ensures view { IsView K.opening seat.new result }
+        ensures seat { seat.new ≡ seeing seat.old (events_in self.old.board) }
+        ensures later { IsPrefix seat.old.saw seat.new.saw }
+        ensures same { self.new ≡ self.old }
+    {
+        self.see(seat);
         let hart = match seat.actor {
             Actor::Hart(h) => Some(self.hart_now(h)),
             Actor::Clock => None,
@@ -106,7 +125,7 @@ impl<K: Room> Desk<K> {
     /// What hart `h` may do next.
     fn hart_now(&self, h: u64) -> HartNow
         requires { h < K.opening.harts }
-        ensures { Shows self.now h result }
+        ensures { Shows self.now.board h result }
     {
         HartNow {
             state: self.board.state(h),
@@ -118,16 +137,18 @@ impl<K: Room> Desk<K> {
 
     /// How many events there are.
     fn events(&self) -> u64
-        ensures { result ≡ length self.now.past }
+        ensures { result ≡ length self.now.board.past }
     {
         self.board.history().len() as u64
     }
 
     /// The seat would rest, and has seen so many events. No event happens.
-    pub(crate) fn rest(&mut self, seat: &Seat<K>, seen: u64) -> Pause
-        ensures pause { IsPause result (length self.old.past) seen }
-        ensures same { self.new ≡ self.old }
+    pub(crate) fn rest(&mut self, seat: &mut Seat<K>, seen: u64) -> Pause
+        ensures pause { IsPause result self.old self.new seat.old.actor seen }
+        ensures seat { seat.new ≡ seeing seat.old (events_in self.old.board) }
+        ensures later { IsPrefix seat.old.saw seat.new.saw }
     {
+        self.see(seat);
         if self.ended {
             return Pause::Over(Rest::AllRest);
         }
@@ -144,14 +165,15 @@ impl<K: Room> Desk<K> {
 
     /// Every rest is over, and stays so. No event happens.
     pub(crate) fn end(&mut self)
-        ensures { self.new ≡ self.old }
+        ensures { self.new ≡ held self.old.board self.old.rests true }
     {
         self.ended = true;
     }
 
     /// No seat rests any more, since there is another event; and whether one did. No event happens.
     pub(crate) fn wake(&mut self) -> bool
-        ensures { self.new ≡ self.old }
+        ensures answer { result ≡ some_rest self.old.rests }
+        ensures none { self.new ≡ held self.old.board none_rest self.old.ended }
     {
         self.rests.end()
     }

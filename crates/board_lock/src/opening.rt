@@ -83,7 +83,7 @@ fn seat<K: Room>(actor: Actor, left: &mut Share<K>, log: &mut Chronicle<Event>) 
     requires acting { IsActor K.opening actor }
     requires part { (0 < left.old.parts) × (left.old.amount ≡ 0) }
     requires log { (log.old.name ≡ K.log) × (log.old.list ≡ []) }
-    ensures seat { result ≡ sitting actor 0 [] }
+    ensures seat { result ≡ sitting actor 0 [] [] }
     ensures left { (left.new.parts + 1 ≡ left.old.parts) × (left.new.amount ≡ 0) }
     ensures log { log.new ≡ log.old }
 {
@@ -92,5 +92,6 @@ fn seat<K: Room>(actor: Actor, left: &mut Share<K>, log: &mut Chronicle<Event>) 
         count: 0,
         share: left.split_off(1, 0),
         seen: log.glimpse(),
+        saw: log.glimpse(),
     }
 }

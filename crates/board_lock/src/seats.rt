@@ -13,7 +13,10 @@ pub struct Seat<K: Room> {
     pub(crate) actor: Actor,
     pub(crate) count: u64,
     pub(crate) share: Share<K>,
+    /// The events after its last accepted call.
     pub(crate) seen: Glimpse<Event>,
+    /// The events when it looked last.
+    pub(crate) saw: Glimpse<Event>,
 }
 
 impl<K: Room> Model for Seat<K> {
@@ -23,9 +26,10 @@ impl<K: Room> Model for Seat<K> {
 
     ghost Value = { Sitting };
 
-    ghost view = { λ s. sitting s.actor s.count (ops_of s.actor s.seen.list) };
+    ghost view = { λ s. sitting s.actor s.count (ops_of s.actor s.seen.list) s.saw.list };
 
-    ghost invariant = { λ s. IsSeated K.opening K.log s.actor s.count s.share.parts s.share.amount s.seen.name s.seen.list };
+    ghost invariant = { λ s. IsSeated K.opening K.log s.actor s.count s.share.parts s.share.amount s.seen.name s.seen.list
+        s.saw.name s.saw.list };
 }
 
 impl<K: Room> Seat<K> {

@@ -1,9 +1,12 @@
-ghost use Rattle.std.specs.Prelude.{◌≡◌, ◌+◌, ◌↔◌, ◌∷◌, ◌++◌, [], All, IfOk, IfErr, IsOk, IsErrOf, OnOk, OnErr, length};
+ghost use Rattle.std.specs.Prelude.{◌≡◌, ◌≢◌, ◌+◌, ◌↔◌, ◌∷◌, ◌++◌, [], All, IfOk, IfErr, IsOk, IsErrOf, OnOk, OnErr, length};
+ghost use mathlib.Core.List.{IsPrefix};
 ghost use Rattle.board_core.specs.declared.config.BuildFault.TheVariants.{BadConfig};
 ghost use Rattle.board_core.specs.Limits.{IsGood};
 ghost use Rattle.board_core.specs.Replies.{IsLegal};
 ghost use Rattle.board_lock.specs.Events.{events_in, events_of, ops_of};
-ghost use Rattle.board_lock.specs.Seats.{IsOneEach, new_seats};
+ghost use Rattle.board_lock.specs.Seats.{IsOneEach, new_seats, seeing};
+ghost use Rattle.board_lock.specs.Views.{IsDone, IsRefused, IsView};
+ghost use Rattle.board_lock.specs.declared.rests.Rest.TheVariants.{Changed};
 
 use crate::closing::{is_one_each, settle};
 use crate::desk::{Desk, Pause};
@@ -58,14 +61,18 @@ impl<K: Room> SharedBoard<K> {
         Ok((shared, seats))
     }
 
-    /// One step of the seat's actor: a receipt for the event that it records, or a refusal that leaves all as it was. The lock
-    /// is held for this one step alone.
+    /// One step of the seat's actor: a receipt for the event that it records, or a refusal that leaves all as it was. Either is
+    /// the board's own answer after the events that there were at this moment, which the seat has seen since. The lock is held
+    /// for this one step alone.
     pub fn call(&self, rt: &impl Wait, seat: &mut Seat<K>, op: Op) -> Result<Receipt<K>, Refusal>
         ensures receipt { IfOk result (λ r. (r.actor ≡ seat.old.actor) × (r.op ≡ op) × (r.ordinal ≡ seat.old.count)) }
         ensures actor { seat.new.actor ≡ seat.old.actor }
         ensures accepted { OnOk result (seat.new.count ≡ seat.old.count + 1) }
         ensures ops { OnOk result (seat.new.ops ≡ seat.old.ops ++ op ∷ []) }
-        ensures refused { OnErr result (seat.new ≡ seat.old) }
+        ensures done { IfOk result (λ r. IsDone K.opening seat.old seat.new op r.reply) }
+        ensures refused { OnErr result (seat.new ≡ seeing seat.old seat.new.saw) }
+        ensures refusal { IfErr result (λ r. IsRefused K.opening seat.new op r) }
+        ensures later { IsPrefix seat.old.saw seat.new.saw }
     {
         let mut desk = self.desk.lock(rt);
         let told = desk.call(seat, op);
@@ -77,13 +84,22 @@ impl<K: Room> SharedBoard<K> {
         told
     }
 
-    /// What the seat's hart may do next. It is a hint.
-    pub fn view(&self, rt: &impl Wait, seat: &Seat<K>) -> HartView {
+    /// What the seat's hart may do next, after the events that there are at this moment, which the seat has seen since. It is
+    /// a hint: by the time that it is looked at, there may be more.
+    pub fn view(&self, rt: &impl Wait, seat: &mut Seat<K>) -> HartView
+        ensures view { IsView K.opening seat.new result }
+        ensures seat { seat.new ≡ seeing seat.old seat.new.saw }
+        ensures later { IsPrefix seat.old.saw seat.new.saw }
+    {
         self.desk.lock(rt).view(seat)
     }
 
     /// Waits until there is another number of events than the seat had seen, or every seat rests, or the end was called for.
-    pub fn rest<R: Wait>(&self, rt: &R, seat: &Seat<K>, seen: u64) -> Rest {
+    pub fn rest<R: Wait>(&self, rt: &R, seat: &mut Seat<K>, seen: u64) -> Rest
+        ensures changed { result ≡ Changed → length seat.new.saw ≢ seen }
+        ensures seat { seat.new ≡ seeing seat.old seat.new.saw }
+        ensures later { IsPrefix seat.old.saw seat.new.saw }
+    {
         let mut desk = self.desk.lock(rt);
         for _ in rt.forever() {
             match desk.rest(seat, seen) {
@@ -113,6 +129,8 @@ impl<K: Room> SharedBoard<K> {
         ensures legal { IfOk result (λ r. IsLegal r.config r.past) }
         ensures counts { IfOk result (λ r. All (λ s. length (events_of s.actor (events_in r)) ≡ s.count) seats.items) }
         ensures ops { IfOk result (λ r. All (λ s. ops_of s.actor (events_in r) ≡ s.ops) seats.items) }
+        ensures saw { IfOk result (λ r. All (λ s. IsPrefix s.saw (events_in r)) seats.items) }
+        ensures own { IfOk result (λ _. All (λ s. length (events_of s.actor s.saw) ≡ s.count) seats.items) }
         ensures back { IfErr result (λ n. n.seats.items ≡ seats.items) }
     {
         if !is_one_each(&self.config, &seats) {

@@ -12,10 +12,10 @@ use Rattle.board_lock.specs.Events.{IsActor, is_same}
 use Rattle.board_lock.specs.Seats.{IsOneEach, Sitting, new_seats, seats_of, sitting}
 
 abbrev harts : (from many : ℕ) → List Sitting
-harts from many = map (λ h. sitting (Hart h) 0 []) (range_with_len from many)
+harts from many = map (λ h. sitting (Hart h) 0 [] []) (range_with_len from many)
 
 abbrev clock : List Sitting
-clock = sitting Clock 0 [] ∷ []
+clock = sitting Clock 0 [] [] ∷ []
 
 none-below : (from many h : ℕ) → h < from → seats_of (Hart h) (harts from many ++ clock) ≡ 0
 none-below from zero h below = refl
@@ -36,7 +36,7 @@ one-clock from (suc many) = let rest = one-clock (from + 1) many in omega arith
 
 new-seats : (c : Config) → IsOneEach c (new_seats c)
 new-seats c = record {
-  as_many = length-append (harts 0 c.harts) clock ∙ ap (λ (n : ℕ). n + 1) (length-map-range_with_len (λ h. sitting (Hart h) 0 []) 0 c.harts);
+  as_many = length-append (harts 0 c.harts) clock ∙ ap (λ (n : ℕ). n + 1) (length-map-range_with_len (λ h. sitting (Hart h) 0 [] []) 0 c.harts);
   one_each = one;
 }
   where

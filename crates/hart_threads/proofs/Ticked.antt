@@ -11,19 +11,19 @@ use Rattle.board_lock.specs.Seats.{Sitting, new_seats, seats_of, sitting}
 use Rattle.hart_threads.specs.Programs.{AreFirst}
 
 -- no operation of a new board's seats was accepted
-harts-new : (from many : ℕ) → All (λ (s : Sitting). s.ops ≡ []) (map (λ h. sitting (Hart h) 0 []) (range_with_len from many))
+harts-new : (from many : ℕ) → All (λ (s : Sitting). s.ops ≡ []) (map (λ h. sitting (Hart h) 0 [] []) (range_with_len from many))
 harts-new from zero k d inside = absurd (omega arith)
 harts-new from (suc many) zero d inside = refl
 harts-new from (suc many) (suc k) d inside = harts-new (from + 1) many k d (omega arith)
 
-clock-new : All (λ (s : Sitting). s.ops ≡ []) (sitting Clock 0 [] ∷ [])
+clock-new : All (λ (s : Sitting). s.ops ≡ []) (sitting Clock 0 [] [] ∷ [])
 clock-new zero d inside = refl
 clock-new (suc k) d inside = absurd (omega arith)
 
 pub seats-new : (c : Config) (seats : List Sitting) → seats ≡ new_seats c → All (λ (s : Sitting). s.ops ≡ []) seats
 seats-new c seats are =
     subst (All (λ (s : Sitting). s.ops ≡ [])) (sym are)
-    (All-append (λ (s : Sitting). s.ops ≡ []) (map (λ h. sitting (Hart h) 0 []) (range_with_len 0 c.harts)) (sitting Clock 0 [] ∷ []) (harts-new 0 c.harts) clock-new)
+    (All-append (λ (s : Sitting). s.ops ≡ []) (map (λ h. sitting (Hart h) 0 [] []) (range_with_len 0 c.harts)) (sitting Clock 0 [] [] ∷ []) (harts-new 0 c.harts) clock-new)
 
 -- one seat more
 pub ticked-more : (ticks : List ℕ) (seats : List Sitting) (s : Sitting) → All (λ (x : Sitting). x.actor ≡ Clock → AreFirst ticks x.ops) seats → (s.actor ≡ Clock → AreFirst ticks s.ops)

@@ -21,8 +21,8 @@ pub(crate) fn tick<K: Plan, G: Gate, R: Wait>(
     let mut seat = seat;
     let met = tick_all(rt, work, &mut seat);
     for _ in rt.forever() {
-        let seen = work.board.view(rt, &seat).events;
-        if work.board.rest(rt, &seat, seen) == Rest::AllRest {
+        let seen = work.board.view(rt, &mut seat).events;
+        if work.board.rest(rt, &mut seat, seen) == Rest::AllRest {
             break;
         }
     }

@@ -25,9 +25,9 @@ pub(crate) fn follow<K: Plan, G: Gate, R: Wait>(
     let mut guest = Guest::new();
     let mut met = Met::Nothing;
     for _ in rt.forever() {
-        let view = work.board.view(rt, &seat);
+        let view = work.board.view(rt, &mut seat);
         let Some(op) = next(&view, met, &guest) else {
-            if work.board.rest(rt, &seat, view.events) == Rest::AllRest {
+            if work.board.rest(rt, &mut seat, view.events) == Rest::AllRest {
                 break;
             }
             continue;

@@ -11,10 +11,10 @@ use std::thread::Threads;
 fn rest<K: Room, R: Wait>(
     rt: &R,
     shared: &SharedBoard<K>,
-    seats: &[Seat<K>],
+    seats: &mut [Seat<K>],
     seen: u64,
 ) -> Result<Rest, Why> {
-    match seats.last() {
+    match seats.last_mut() {
         Some(clock) => Ok(shared.rest(rt, clock, seen)),
         None => Err(Why::Seats),
     }

@@ -135,7 +135,7 @@ fn fence<K: Room, R: Wait>(
 }
 
 /// Rests until every rest is over.
-fn rest<K: Room, R: Wait>(rt: &R, shared: &SharedBoard<K>, seat: &Seat<K>) {
+fn rest<K: Room, R: Wait>(rt: &R, shared: &SharedBoard<K>, seat: &mut Seat<K>) {
     for _ in rt.forever() {
         let seen = shared.view(rt, seat).events;
         if shared.rest(rt, seat, seen) == Rest::AllRest {
