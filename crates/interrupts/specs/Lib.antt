@@ -1,1 +1,3 @@
 pub mod Timing
+pub mod Ahead
+pub mod Listed

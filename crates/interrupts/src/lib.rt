@@ -1,6 +1,7 @@
 //! What is pending at a board's harts: software interrupts (SBI 7), and timer interrupts by their deadlines (SBI 6).
 #![tactic(auto)]
 
+mod ahead;
 mod ipis;
 mod timers;
 

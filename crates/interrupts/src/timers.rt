@@ -1,6 +1,12 @@
-ghost use Rattle.std.specs.Prelude.{◌≡◌, ◌<◌, ◌≤◌, ◌-◌, ◌^◌, false, length, nat_le, IfOk, Some, None, is_ok, is_some, unwrap_or};
+ghost use Rattle.std.specs.Prelude.{◌≡◌, ◌<◌, ◌≤◌, ◌-◌, ◌^◌, false, length, nat_le, IfOk, if◌then◌else◌, Some, None, is_ok, is_some, unwrap_or};
+ghost use Rattle.std.specs.List.{All};
+ghost use Rattle.interrupts.specs.declared.ahead.Member.{Member};
+ghost use Rattle.interrupts.specs.Ahead.{IsLater, without_hart};
+ghost use Rattle.interrupts.specs.Listed.{due_after, is_ahead, left_after};
 ghost use Rattle.interrupts.specs.Timing.{deadline_of, is_timer_pending, last_time, opening_timing, ticked, with_deadline, without_deadlines};
 
+use crate::ahead::Ahead;
+use hart_mask::HartSet;
 use std::alloc::{AllocError, Global};
 use std::marker::Model;
 use thiserror::Error;
@@ -13,31 +19,47 @@ const LAST_TIME: u64 = u64::MAX - 1;
 #[error("the time would go past its end")]
 pub struct TimeFull;
 
-/// The time in ticks, and the deadlines of a board's harts, by their ids (SBI 6).
+/// The time in ticks, and the deadlines of a board's harts, by their ids (SBI 6). Beside them those that aren't due yet
+/// are kept in order, and the harts whose deadlines are due as a set, so that time that goes on looks at what comes due
+/// alone.
 #[derive(Debug, Drop)]
 pub struct Timers {
     time: u64,
     deadlines: Vec<Option<u64>>,
+    ahead: Ahead,
+    due: HartSet,
 }
 
 impl Model for Timers {
     ghost use Rattle.std.specs.Prelude.{◌≤◌};
     ghost use Rattle.interrupts.specs.Timing.{Timing, last_time};
+    ghost use Rattle.interrupts.specs.Ahead.{IsLater};
+    ghost use Rattle.interrupts.specs.Listed.{IsListed};
 
     ghost Value = { Timing };
 
     ghost view = { λ t. record { time = t.time; deadlines = t.deadlines.items } };
 
-    ghost invariant = { λ t. t.time ≤ last_time };
+    ghost invariant = { λ t. (t.time ≤ last_time)
+        × IsListed t.time t.deadlines.items t.ahead t.due
+        × IsLater t.time t.ahead };
 }
 
 impl Timers {
-    /// The time is 0, and no hart has a deadline. It fails where memory runs out.
+    /// The time is 0, and no hart has a deadline. It fails where memory runs out, and above 128 harts (profile).
     pub fn new(alloc: Global, harts: u64) -> Result<Timers, AllocError>
         ensures { IfOk result (λ timers. timers ≡ opening_timing harts) }
     {
+        if harts > 128 {
+            return Err(AllocError);
+        }
         let deadlines = vec![in alloc; None; harts as usize]?;
-        Ok(Timers { time: 0, deadlines })
+        Ok(Timers {
+            time: 0,
+            deadlines,
+            ahead: Ahead::new(),
+            due: HartSet::new(),
+        })
     }
 
     /// The deadline of hart `h` becomes this time in ticks, whatever it was (SBI 6.1). Afterwards its timer
@@ -47,7 +69,13 @@ impl Timers {
         ensures after { self.new ≡ with_deadline self.old h (Some deadline) }
         ensures pending { is_timer_pending self.new h ≡ nat_le deadline self.old.time }
     {
+        self.forget(h);
         self.deadlines[h as usize] = Some(deadline);
+        if deadline <= self.time {
+            self.due.insert(h);
+        } else {
+            self.ahead.insert(deadline, h);
+        }
     }
 
     /// Hart `h` has no deadline any more (profile).
@@ -55,6 +83,9 @@ impl Timers {
         requires { h < length self.old.deadlines }
         ensures { self.new ≡ with_deadline self.old h None }
     {
+        let is_ahead = self.is_ahead(h);
+        take_out_where(&mut self.ahead, h, is_ahead);
+        self.due.remove(h);
         self.deadlines[h as usize] = None;
     }
 
@@ -72,7 +103,15 @@ impl Timers {
         ensures answer { result ≡ is_timer_pending self.now h }
         ensures infinitely_far { deadline_of self.now h ≡ Some (2 ^ 64 - 1) → result ≡ false }
     {
-        self.deadlines[h as usize].is_some_and(|deadline| deadline <= self.time)
+        self.due.contains(h)
+    }
+
+    /// Whether hart `h` has a deadline that isn't due yet.
+    fn is_ahead(&self, h: u64) -> bool
+        requires { h < length self.now.deadlines }
+        ensures { result ≡ is_ahead self.now.time (deadline_of self.now h) }
+    {
+        self.deadlines[h as usize].is_some_and(|deadline| deadline > self.time)
     }
 
     /// The time goes on by `n` ticks. Past 2^64-2 that is refused, and nothing changes.
@@ -84,6 +123,7 @@ impl Timers {
             return Err(TimeFull);
         }
         self.time += n;
+        move_due(&mut self.ahead, &mut self.due, self.time);
         Ok(())
     }
 
@@ -107,5 +147,28 @@ impl Timers {
         ensures { self.new ≡ without_deadlines self.old }
     {
         self.deadlines.fill(None);
+        self.ahead.clear();
+        self.due = HartSet::new();
+    }
+}
+
+/// Takes out the deadline of hart `h`, where it is in the list.
+fn take_out_where(ahead: &mut Ahead, h: u64, is_ahead: bool)
+    ensures { ahead.new ≡ (if is_ahead then without_hart h ahead.old else ahead.old) }
+{
+    if is_ahead {
+        ahead.take_out(h);
+    }
+}
+
+/// The deadlines that are due by this time leave the list, and their harts come into the set.
+fn move_due(ahead: &mut Ahead, due: &mut HartSet, time: u64)
+    requires { All (λ (member : Member). member.hart < 128) ahead.old }
+    ensures left { ahead.new ≡ left_after time ahead.old }
+    ensures moved { due.new ≡ due_after time due.old ahead.old }
+    ensures later { IsLater time ahead.new }
+{
+    while let Some(hart) = ahead.pop_due(time) {
+        due.insert(hart);
     }
 }

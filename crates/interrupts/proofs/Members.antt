@@ -1,0 +1,107 @@
+-- What edits behind the start of a list make of the rest, and that it stays in order.
+use Rattle.std.proofs.Common.{◌≡◌, ℕ, suc, zero, ◌+◌, ◌-◌, ◌<◌, ◌≤◌, true, false, List, [], ◌∷◌, length, get_or, take, drop, Some, None, add-zero, refl, sym, ap, ◌∙◌, arith, inl, inr}
+use Rattle.std.specs.Prelude.{◌==◌}
+use Rattle.std.specs.List.{All, insert, position, position_or_len, remove}
+use Rattle.std.specs.List.Sorted.{IsNonDecreasingBy}
+use Rattle.std.proofs.lemmas.Bool.{cases_lt, lt-ltb}
+use Rattle.std.proofs.lemmas.List.Elements.{All-tail}
+use Rattle.std.proofs.lemmas.List.Quantifiers.{position-Some}
+use Rattle.std.proofs.lemmas.List.Sums.{fails_before_first}
+use Rattle.std.proofs.lemmas.List.{drop_at, get_or-drop, length-drop, length-take-le, take-append-drop}
+use Rattle.std.proofs.lemmas.List.Edits.{get_or-remove_above, get_or-remove_below, insert-append_right, length-remove, remove-append_right}
+use Rattle.std.proofs.lemmas.List.Sorted.{IsNonDecreasingBy-insert}
+use Rattle.interrupts.specs.declared.ahead.Member.{Member}
+use Rattle.interrupts.specs.Ahead.{IsLater, IsPlaceOf, member_of, without_hart}
+
+module _ {X : Type 0} where
+  pub drop-insert : (xs : List X) (start place : ℕ) (x : X) → start ≤ length xs → start ≤ place → drop start (insert xs place x) ≡ insert (drop start xs) (place - start) x
+  drop-insert xs start place x within from =
+      let long = length-take-le start xs within in
+      ap (λ ys. drop start (insert ys place x)) (sym (take-append-drop start xs))
+      ∙ ap (drop start) (insert-append_right (take start xs) (drop start xs) start place x long from)
+      ∙ drop_at (take start xs) _ start long
+
+  pub drop-remove : (xs : List X) (start i : ℕ) → start ≤ length xs → drop start (remove xs (start + i)) ≡ remove (drop start xs) i
+  drop-remove xs start i within =
+      let long = length-take-le start xs within in
+      let back : start + i - start ≡ i = omega arith in
+      ap (λ ys. drop start (remove ys (start + i))) (sym (take-append-drop start xs))
+      ∙ ap (drop start) (remove-append_right (take start xs) (drop start xs) start (start + i) long (omega arith))
+      ∙ drop_at (take start xs) _ start long
+      ∙ ap (remove (drop start xs)) back
+
+  -- what a list without one of its members has at a place, it has at this one or the next
+  at-remove : (xs : List X) (p : ℕ) (d : X) (i : ℕ) → p < length xs → (k : ℕ) × (i ≤ k) × (k ≤ i + 1) × (i < p → k ≡ i) × (p ≤ i → k ≡ i + 1) × (get_or (remove xs p) i d ≡ get_or xs k d)
+  at-remove xs p d i within = elim (cases_lt i p) [
+    | inl low ↦ (i, omega arith, omega arith, λ _. refl, λ h. omega arith, get_or-remove_below xs p d i low within)
+    | inr high ↦ (i + 1, omega arith, omega arith, λ h. omega arith, λ _. refl, get_or-remove_above xs p d i high within)
+  ]
+
+  pub IsNonDecreasingBy-remove : (n : X → ℕ) (xs : List X) (p : ℕ) → p < length xs → IsNonDecreasingBy n xs → IsNonDecreasingBy n (remove xs p)
+  IsNonDecreasingBy-remove n xs p within up i j d le inside =
+      let long = length-remove xs p within in
+      let a = at-remove xs p d i within in
+      let b = at-remove xs p d j within in
+      let order : a.0 ≤ b.0 = elim (cases_lt j p) [
+        | inl low ↦ let e = a.3 (omega arith) in let f = b.3 low in omega arith
+        | inr high ↦ let f = b.4 high in omega (arith, a.2)
+      ] in
+      let small : b.0 < length xs = omega (arith, b.2) in
+      rw (a.5, b.5) (up a.0 b.0 d order small)
+
+-- the list without a member of a hart, where none before it is of the hart
+without-at : (hart : ℕ) (members : List Member) (i : ℕ) → i < length members → ((d : Member) → ((get_or members i d).hart == hart) ≡ true)
+    → ((k : ℕ) (d : Member) → k < i → ((get_or members k d).hart == hart) ≡ false) → remove members i ≡ without_hart hart members
+without-at hart [] i inside is others = absurd (omega (arith, inside))
+without-at hart (member ∷ members) zero inside is others = rw (is member) refl
+without-at hart (member ∷ members) (suc i) inside is others =
+    rw (others 0 member (omega arith)) (ap (λ ms. member ∷ ms) (without-at hart members i (omega (arith, inside)) is (λ k d below. others (suc k) d (omega arith))))
+
+pub without-position : (hart : ℕ) (members : List Member) (i : ℕ) → position (λ (m : Member). m.hart == hart) members ≡ Some i → remove members i ≡ without_hart hart members
+without-position hart members i at =
+    let is = position-Some (λ (m : Member). m.hart == hart) members i in
+    without-at hart members i (is (member_of 0 0) at).0 (λ d. (is d at).1) (λ k d below. (is d at).2 k below)
+
+-- the list itself, where none is of the hart
+without-none : (hart : ℕ) (members : List Member) → All (λ (m : Member). (m.hart == hart) ≡ false) members → without_hart hart members ≡ members
+without-none hart [] none = refl
+without-none hart (member ∷ members) none =
+    rw (none 0 member (omega arith)) (ap (λ ms. member ∷ ms) (without-none hart members (All-tail (λ (m : Member). (m.hart == hart) ≡ false) member members none)))
+
+pub without-absent : (hart : ℕ) (members : List Member) → position (λ (m : Member). m.hart == hart) members ≡ None → members ≡ without_hart hart members
+without-absent hart members none = elim (cases_lt (position_or_len (λ (m : Member). m.hart == hart) members) (length members)) [
+  | inl low ↦ let some : Some (position_or_len (λ (m : Member). m.hart == hart) members) ≡ None = rw (lt-ltb _ _ low) at none in cc
+  | inr high ↦ sym (without-none hart members (λ k d inside. fails_before_first (λ (m : Member). m.hart == hart) members k d (omega (arith, high, inside))))
+]
+
+-- where the first of a list in order is later, each is
+pub later-from_first : (time : ℕ) (members : List Member) (start : ℕ) → IsNonDecreasingBy (λ (m : Member). m.deadline) (drop start members)
+    → ((d : Member) → time < (get_or members start d).deadline) → IsLater time (drop start members)
+later-from_first time members start up first k d inside =
+    let low = up 0 k d (omega arith) inside in
+    let same : get_or (drop start members) 0 d ≡ get_or members start d = get_or-drop start members 0 d ∙ ap (λ n. get_or members n d) (add-zero start) in
+    let is : time < (get_or (drop start members) 0 d).deadline = rw same (first d) in
+    omega (arith, low, is)
+
+-- a list in order, with a member more at its place
+pub IsNonDecreasingBy-placed : (members : List Member) (deadline hart start place : ℕ) → IsNonDecreasingBy (λ (m : Member). m.deadline) (drop start members)
+    → start ≤ length members → IsPlaceOf deadline start members place
+    → IsNonDecreasingBy (λ (m : Member). m.deadline) (insert (drop start members) (place - start) (member_of deadline hart))
+IsNonDecreasingBy-placed members deadline hart start place up within at =
+    let long = length-drop start members in
+    let from = at.from in
+    let to = at.within in
+    IsNonDecreasingBy-insert (λ (m : Member). m.deadline) (drop start members) (place - start) (member_of deadline hart) up (omega (arith, long, to))
+    (λ k d below.
+    let last : place - start - 1 < length (drop start members) = omega (arith, long, to, below) in
+    let low = up k (place - start - 1) d (omega (arith, below)) last in
+    let back : start + (place - start - 1) ≡ place - 1 = omega (arith, from, below) in
+    let same : get_or (drop start members) (place - start - 1) d ≡ get_or members (place - 1) d =
+    get_or-drop start members (place - start - 1) d ∙ ap (λ n. get_or members n d) back in
+    let is = at.before d (omega (arith, below)) in
+    let here : (get_or (drop start members) (place - start - 1) d).deadline ≤ deadline = rw same is in
+    omega (arith, low, here))
+    (λ k d above inside.
+    let same = get_or-drop start members k d in
+    let is = at.later (start + k) d (omega (arith, from, above)) (omega (arith, long, inside)) in
+    rw same (omega (arith, is)))

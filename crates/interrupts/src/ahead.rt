@@ -1,0 +1,122 @@
+//! Deadlines that aren't due yet, in order.
+
+ghost use Rattle.std.specs.Prelude.{◌≡◌, ◌+◌, ◌<◌, ◌≤◌, drop, length, [], ◌==◌, MatchOption};
+ghost use Rattle.std.specs.List.{position};
+ghost use Rattle.interrupts.specs.declared.ahead.Member.{Member};
+ghost use Rattle.interrupts.specs.Ahead.{AreLater, IsFirst, IsInserted, IsPlaceOf, member_of, without_hart};
+
+use arrayvec::ArrayVec;
+use std::marker::Model;
+
+/// A deadline in ticks, and the hart whose it is.
+#[derive(Clone, Copy, Debug, Default, Drop)]
+pub struct Member {
+    deadline: u64,
+    hart: u64,
+}
+
+/// Deadlines that aren't due yet, the soonest first. The members before `start` were taken from the front; they make
+/// room once the places are all used.
+#[derive(Debug, Drop)]
+pub struct Ahead {
+    members: ArrayVec<Member, 128>,
+    start: usize,
+}
+
+impl Model for Ahead {
+    ghost use Rattle.std.specs.Prelude.{◌≤◌, List, drop, length};
+    ghost use Rattle.std.specs.List.Sorted.{IsNonDecreasingBy};
+    ghost use Rattle.interrupts.specs.declared.ahead.Member.{Member};
+
+    ghost Value = { List Member };
+
+    ghost view = { λ a. drop a.start a.members.items };
+
+    ghost invariant = { λ a. (a.start ≤ length a.members.items)
+        × IsNonDecreasingBy (λ (m : Member). m.deadline) (drop a.start a.members.items) };
+}
+
+impl Ahead {
+    /// No deadline.
+    pub fn new() -> Ahead
+        ensures { result ≡ [] }
+    {
+        Ahead {
+            members: ArrayVec::new(),
+            start: 0,
+        }
+    }
+
+    /// One deadline more.
+    pub fn insert(&mut self, deadline: u64, hart: u64)
+        requires { length self.old < 128 }
+        ensures { IsInserted (member_of deadline hart) self.old self.new }
+    {
+        self.start = with_room(&mut self.members, self.start);
+        let place = place_of(self.members.as_slice(), self.start, deadline);
+        self.members.insert(place, Member { deadline, hart });
+    }
+
+    /// Without the first deadline of this hart.
+    pub fn take_out(&mut self, hart: u64)
+        ensures { self.new ≡ without_hart hart self.old }
+    {
+        if let Some(place) = place_of_hart(&self.members.as_slice()[self.start..], hart) {
+            self.members.remove(self.start + place);
+        }
+    }
+
+    /// Takes the first deadline out, where it isn't later than the time, and answers its hart.
+    pub fn pop_due(&mut self, time: u64) -> Option<u64>
+        ensures { MatchOption result (AreLater time self.old self.new) (λ hart. IsFirst time hart self.old self.new) }
+    {
+        let first = *self.members.as_slice().get(self.start)?;
+        if first.deadline > time {
+            return None;
+        }
+        self.start += 1;
+        Some(first.hart)
+    }
+
+    /// No deadline any more.
+    pub fn clear(&mut self)
+        ensures { self.new ≡ [] }
+    {
+        self.members.clear();
+        self.start = 0;
+    }
+}
+
+/// Makes room for a member, where there is none, in the places of those that were taken from the front.
+fn with_room(members: &mut ArrayVec<Member, 128>, start: usize) -> usize
+    requires within { start ≤ length members.old.items }
+    requires some_left { length members.old.items < 128 + start }
+    ensures same { drop result members.new.items ≡ drop start members.old.items }
+    ensures within { result ≤ length members.new.items }
+    ensures room { length members.new.items < 128 }
+{
+    if !members.is_full() {
+        return start;
+    }
+    members.drain(..start);
+    0
+}
+
+/// The place for a deadline: before those that are later, and behind the others.
+fn place_of(members: &[Member], start: usize, deadline: u64) -> usize
+    requires { start ≤ length members.now }
+    ensures { IsPlaceOf deadline start members.now result }
+{
+    let mut place = members.len();
+    while place > start && deadline < members[place - 1].deadline {
+        place -= 1;
+    }
+    place
+}
+
+/// The first place of a hart.
+fn place_of_hart(members: &[Member], hart: u64) -> Option<usize>
+    ensures { result ≡ position (λ (member : Member). member.hart == hart) members.now }
+{
+    members.iter().position(|member| member.hart == hart)
+}
