@@ -30,7 +30,8 @@ use Rattle.board_laws.specs.Lives.{EntryWasFilled, WordWasFilled, live_entries, 
 use Rattle.board_laws.specs.Places.{past_at}
 use Rattle.board_laws.proofs.Gone.{struck-within}
 use Rattle.board_laws.proofs.Reached.{fenced_is_gone, fences_strike}
-use Rattle.board_laws.proofs.Leaves.{covers-matched, leaf-page, matched, same-leaf}
+use Rattle.board_laws.proofs.Leaves.{covers-matched, matched, same-leaf}
+use Rattle.sv39.proofs.PageLaw.{leaf_page}
 use Rattle.board_laws.proofs.Lives.{Fetched, fetched, lives_from_its_date, used-reach}
 use Rattle.board_laws.proofs.Places.{accesses-later, length-past_at, legal-with, past_at-again, within}
 
@@ -65,7 +66,7 @@ module _ (c : Config) (past : List Event) (t a p : ℕ) (good : IsGood c) (legal
       (λ y. matches (record { va = reach.va; asid = asid_of (satp older t) }) y.item) (λ y. y.item) entry (live_entries c older t) alive.entries gone.entries hits.hit in
       let filled = subst (λ (e : Entry). Fills (memory c (past_at older here.x.date)) (satp (past_at older here.x.date) t) (hit c (past_at older here.x.date) t) here.first_holds.reach.va here.first_holds.reach.access e) here.gives here.first_holds.fills in
       let match = matched entry reach.va (asid_of (satp older t)) (subst (λ (e : Entry). matches (record { va = reach.va; asid = asid_of (satp older t) }) e ≡ true) here.gives here.passes) in
-      let page = leaf-page (memory c (past_at older here.x.date)) (satp (past_at older here.x.date) t) here.first_holds.reach.va (kind_of here.first_holds.reach.access) entry.leaf filled.mapped in
+      let page = leaf_page (memory c (past_at older here.x.date)) (satp (past_at older here.x.date) t) here.first_holds.reach.va (kind_of here.first_holds.reach.access) entry.leaf filled.mapped in
       let covered = covers-matched fence entry reach.va (satp older t) here.first_holds.reach.va match page x.page (x.space entry translation) in
       let later : a < here.x.date = elim (cases_lt a here.x.date) [
         | inl is ↦ is

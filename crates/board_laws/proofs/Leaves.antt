@@ -10,43 +10,16 @@ use Rattle.sv39.specs.declared.page.Level.TheVariants.{Kilo, Mega, Giga}
 use Rattle.sv39.specs.Causes.{page_fault}
 use Rattle.sv39.specs.Entries.{is_leaf, leaf_of}
 use Rattle.sv39.specs.Leaves.{allows, by_right}
-use Rattle.sv39.specs.Maps.{end_level, entry_at, global_above, maps, outcome}
+use Rattle.sv39.specs.Maps.{maps}
 use Rattle.sv39.specs.Pages.{is_valid, page_of, size}
 use Rattle.sv39.specs.Satp.{asid_of, root_of}
-use Rattle.sv39.proofs.PageLaw.{one_leaf_for_a_page}
+use Rattle.sv39.proofs.PageLaw.{leaf_page, one_leaf_for_a_page}
 use Rattle.tlb_model.specs.declared.entry.Entry.{Entry}
 use Rattle.tlb_model.specs.declared.fence.Fence.{Fence}
 use Rattle.tlb_model.specs.declared.fence.Flush.TheVariants.{Entries}
 use Rattle.tlb_model.specs.declared.fence.Range.{Range}
 use Rattle.tlb_model.specs.Entries.{covers_entry, has_address, is_in_space, matches, reaches}
 use Rattle.board_laws.specs.Fresh.{is_of_page, is_of_space}
-
-right-same : (kind : Kind) (found leaf : Leaf) → by_right kind found ≡ Ok leaf → found ≡ leaf
-right-same kind found leaf e = by_test (allows kind found) e
-  where
-    by_test : (b : Bool) → (let r : Result Leaf Cause = Err (page_fault kind) in if b then Ok found else r) ≡ Ok leaf → found ≡ leaf
-    by_test true is = cc
-    by_test false is = cc
-
-outcome-page : (entry : Option ℕ) (va : ℕ) (kind : Kind) (level : Level) (global : Bool) (leaf : Leaf)
-    → outcome entry va kind level global ≡ Ok leaf → leaf.page ≡ page_of leaf.level va
-outcome-page None va kind level global leaf e = cc
-outcome-page (Some entry) va kind level global leaf e = elim (cases_Bool (is_leaf level entry)) [
-  | inl right ↦
-      let same : leaf_of entry va level global ≡ leaf = right-same kind (leaf_of entry va level global) leaf (rw right at e) in
-      sym (ap (λ (x : Leaf). x.page) same) ∙ ap (λ (x : Leaf). page_of x.level va) same
-  | inr wrong ↦ let found = rw wrong at e in cc
-]
-
--- the page of a leaf is the one of its level that has the address
-pub leaf-page : (memory : ℕ → Option ℕ) (satp va : ℕ) (kind : Kind) (leaf : Leaf) → maps memory satp va kind ≡ Ok leaf → leaf.page ≡ page_of leaf.level va
-unfolding maps
-leaf-page memory satp va kind leaf e = elim (cases_Bool (is_valid va)) [
-  | inl valid ↦
-      let level = end_level memory (root_of satp) va in
-      outcome-page (entry_at memory (root_of satp) va level) va kind level (global_above memory (root_of satp) va level) leaf (rw valid at e)
-  | inr invalid ↦ let found = rw invalid at e in cc
-]
 
 pub page-bounds : (level : Level) (va : ℕ) → (page_of level va ≤ va) × (va < page_of level va + size level)
 page-bounds Kilo va = (omega arith, omega arith)
@@ -57,7 +30,7 @@ page-bounds Giga va = (omega arith, omega arith)
 pub same-leaf : (memory : ℕ → Option ℕ) (satp a b : ℕ) (kind : Kind) (leaf : Leaf)
     → maps memory satp a kind ≡ Ok leaf → leaf.page ≤ b → b < leaf.page + size leaf.level → maps memory satp b kind ≡ Ok leaf
 same-leaf memory satp a b kind leaf e from before =
-    let page = leaf-page memory satp a kind leaf e in
+    let page = leaf_page memory satp a kind leaf e in
     let bounds = page-bounds leaf.level a in
     one_leaf_for_a_page memory satp a b kind kind leaf e from before
     ∙ sym (one_leaf_for_a_page memory satp a a kind kind leaf e (rw page bounds.0) (rw page bounds.1))

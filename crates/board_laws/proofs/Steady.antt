@@ -30,7 +30,8 @@ use Rattle.board_laws.specs.Fresh.{FencedAccess}
 use Rattle.board_laws.specs.Places.{past_at}
 use Rattle.board_laws.specs.Steady.{IsDecidedBy, IsSteady, no_tlb}
 use Rattle.board_laws.proofs.Fresh.{after-fence, translations_are_fresh}
-use Rattle.board_laws.proofs.Leaves.{leaf-page, page-bounds}
+use Rattle.board_laws.proofs.Leaves.{page-bounds}
+use Rattle.sv39.proofs.PageLaw.{leaf_page}
 use Rattle.board_laws.proofs.Lives.{answered-reach, used-reach}
 use Rattle.board_laws.proofs.Places.{legal-with}
 
@@ -55,7 +56,7 @@ leaf-decides leaf va kind result is = sym (ap (λ r. phys_of r va) is ∙ by_tes
 -- a walk's leaf allows the access
 walked-allows : (memory_now : ℕ → Option ℕ) (satp_now va : ℕ) (kind : Kind) (leaf : Leaf) → maps memory_now satp_now va kind ≡ Ok leaf → maps memory_now satp_now va kind ≡ by_right kind leaf
 walked-allows memory_now satp_now va kind leaf e =
-    let page = leaf-page memory_now satp_now va kind leaf e in
+    let page = leaf_page memory_now satp_now va kind leaf e in
     let bounds = page-bounds leaf.level va in
     one_leaf_for_a_page memory_now satp_now va va kind kind leaf e (rw page bounds.0) (rw page bounds.1)
 
@@ -127,7 +128,7 @@ steady_tables_decide c past t a p fence reach result good legal x is_translated 
         let given = translations_are_fresh c past t a p fence reach entry good legal x translation in
         let before = past_at past given.place in
         let kind = kind_of given.there.access in
-        let page = leaf-page (memory c before) (satp before t) reach.va kind entry.leaf given.gives in
+        let page = leaf_page (memory c before) (satp before t) reach.va kind entry.leaf given.gives in
         let bounds = page-bounds entry.leaf.level reach.va in
         sym (steady.one_result given.place given.after given.upto)
         ∙ ap (λ s. maps (memory c before) s reach.va (kind_of reach.access)) (sym (steady.same_satp given.place given.after given.upto))

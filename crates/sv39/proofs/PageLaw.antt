@@ -1,5 +1,5 @@
 -- One leaf for all addresses of its page and all kinds of access.
-use Rattle.std.proofs.Common.{◌≡◌, ℕ, ◌+◌, ◌/◌, ◌^◌, ◌<◌, ◌≤◌, Bool, Option, Some, None, Ok, refl, sym, ap, ◌∙◌, arith, inl, inr}
+use Rattle.std.proofs.Common.{◌≡◌, ℕ, ◌+◌, ◌/◌, ◌^◌, ◌<◌, ◌≤◌, ◌*◌, Bool, true, false, ◌||◌, List, [], ◌∷◌, Option, Some, None, Ok, refl, sym, ap, ◌∙◌, arith, inl, inr}
 use Rattle.std.proofs.lemmas.Bool.{cases_Bool}
 use Rattle.sv39.specs.declared.cause.Kind.{Kind}
 use Rattle.sv39.specs.declared.page.Leaf.{Leaf}
@@ -7,23 +7,22 @@ use Rattle.sv39.specs.declared.page.Level.{Level}
 use Rattle.sv39.specs.declared.page.Level.TheVariants.{Kilo, Mega, Giga}
 use Rattle.sv39.specs.Entries.{is_leaf, leaf_of}
 use Rattle.sv39.specs.Leaves.{allows, by_right}
-use Rattle.sv39.specs.Maps.{EndsAt, end_level, entry_at, global_above, maps, outcome, outcome_at}
-use Rattle.sv39.specs.Pages.{is_valid, page_of, part, size}
+use Rattle.sv39.specs.Maps.{entry_in, found_from, is_some_global, is_some_pointer, maps, outcome, table_of}
+use Rattle.sv39.specs.Pages.{is_valid, level_number, levels_from, page_of, part, size, sv39}
 use Rattle.sv39.specs.Satp.{root_of}
 use Rattle.sv39.proofs.Addresses.{is_valid_by_top}
-use Rattle.sv39.proofs.MapsLaws.{end_level-ends, ends-end_level}
 
--- two addresses have the same parts for a level and all above it
-abbrev SameParts : Level → ℕ → ℕ → Type 0
-SameParts Giga a b = part Giga b ≡ part Giga a
-SameParts Mega a b = (part Giga b ≡ part Giga a) × (part Mega b ≡ part Mega a)
-SameParts Kilo a b = (part Giga b ≡ part Giga a) × (part Mega b ≡ part Mega a) × (part Kilo b ≡ part Kilo a)
-
--- as two addresses of one page have
-same-parts : (level : Level) (a b : ℕ) → page_of level b ≡ page_of level a → SameParts level a b
-same-parts Giga a b e = omega arith
-same-parts Mega a b e = (omega arith, omega arith)
-same-parts Kilo a b e = (omega arith, omega arith, omega arith)
+-- two addresses of a page have the same part for its level and each one above it
+same_part : (low level : Level) (a b : ℕ) → level_number low ≤ level_number level → page_of low b ≡ page_of low a → part level b ≡ part level a
+same_part Kilo Kilo a b le e = omega arith
+same_part Kilo Mega a b le e = omega arith
+same_part Kilo Giga a b le e = omega arith
+same_part Mega Kilo a b le e = omega arith
+same_part Mega Mega a b le e = omega arith
+same_part Mega Giga a b le e = omega arith
+same_part Giga Kilo a b le e = omega arith
+same_part Giga Mega a b le e = omega arith
+same_part Giga Giga a b le e = omega arith
 
 -- an address in a page is one of that page
 of-page : (level : Level) (a b : ℕ) → page_of level a ≤ b → b < page_of level a + size level → page_of level b ≡ page_of level a
@@ -40,62 +39,100 @@ same-top Kilo a b e = omega arith
 same-valid : (level : Level) (a b : ℕ) → page_of level b ≡ page_of level a → is_valid b ≡ is_valid a
 same-valid level a b e = is_valid_by_top b ∙ rw (same-top level a b e) (sym (is_valid_by_top a))
 
--- what a walk finds is the same for both
-record SameWalk (memory : ℕ → Option ℕ) (root a b : ℕ) (level : Level) : Type 0 where
-  ends : EndsAt memory root b level
-  entry : entry_at memory root b level ≡ entry_at memory root a level
-  by_global : global_above memory root b level ≡ global_above memory root a level
+-- What a leaf says that the entry gives for an address: its level is the entry's, its page the address's, and it decides
+-- each access to that page.
+record EntryLeaf (entry : Option ℕ) (a : ℕ) (level : Level) (global : Bool) (leaf : Leaf) : Type 0 where
+  by_level : leaf.level ≡ level
+  page : leaf.page ≡ page_of leaf.level a
+  decides : (b : ℕ) (other : Kind) → page_of level b ≡ page_of level a → outcome entry b other level global ≡ by_right other leaf
 
-same-walk : (memory : ℕ → Option ℕ) (root a b : ℕ) (level : Level) → SameParts level a b → EndsAt memory root a level → SameWalk memory root a b level
-same-walk memory root a b Giga same ends = record { ends = record { above = refl; here = rw same ends.here }; entry = rw same refl; by_global = refl }
-same-walk memory root a b Mega same ends = record {
-  ends = record { above = rw same.0 ends.above; here = rw (same.0, same.1) ends.here };
-  entry = rw (same.0, same.1) refl;
-  by_global = rw same.0 refl;
-}
-same-walk memory root a b Kilo same ends = record {
-  ends = record { above = rw (same.0, same.1) ends.above; here = rw (same.0, same.1, same.2) ends.here };
-  entry = rw (same.0, same.1, same.2) refl;
-  by_global = rw (same.0, same.1) refl;
-}
-
--- a leaf that allows one access decides each one to its page
-same-leaf : (entry a b : ℕ) (kind other : Kind) (level : Level) (global : Bool) (leaf : Leaf)
-    → by_right kind (leaf_of entry a level global) ≡ Ok leaf → leaf.page ≤ b → b < leaf.page + size leaf.level
-    → (page_of level b ≡ page_of level a) × (by_right other (leaf_of entry b level global) ≡ by_right other leaf)
-same-leaf entry a b kind other level global leaf e from before = elim (cases_Bool (allows kind (leaf_of entry a level global))) [
-  | inl allowed ↦
-      let found = rw allowed at e in
-      let is : leaf_of entry a level global ≡ leaf = cc in
-      let same : page_of level b ≡ page_of level a = of-page level a b (rw (← is) at from) (rw (← is) at before) in
-      (same, ap (by_right other) (rw same is))
-  | inr refused ↦ let found = rw refused at e in cc
+right_same : (kind : Kind) (found leaf : Leaf) → by_right kind found ≡ Ok leaf → found ≡ leaf
+right_same kind found leaf e = elim (cases_Bool (allows kind found)) [
+  | inl allowed ↦ let is = rw allowed at e in cc
+  | inr refused ↦ let is = rw refused at e in cc
 ]
 
-same-outcome : (entry : Option ℕ) (a b : ℕ) (kind other : Kind) (level : Level) (global : Bool) (leaf : Leaf)
-    → outcome entry a kind level global ≡ Ok leaf → leaf.page ≤ b → b < leaf.page + size leaf.level
-    → (page_of level b ≡ page_of level a) × (outcome entry b other level global ≡ by_right other leaf)
-same-outcome None a b kind other level global leaf e from before = cc
-same-outcome (Some entry) a b kind other level global leaf e from before = elim (cases_Bool (is_leaf level entry)) [
-  | inl right ↦ rw right (same-leaf entry a b kind other level global leaf (rw right at e) from before)
+outcome_leaf : (entry : Option ℕ) (a : ℕ) (kind : Kind) (level : Level) (global : Bool) (leaf : Leaf) → outcome entry a kind level global ≡ Ok leaf → EntryLeaf entry a level global leaf
+outcome_leaf None a kind level global leaf e = cc
+outcome_leaf (Some entry) a kind level global leaf e = elim (cases_Bool (is_leaf level entry)) [
+  | inl right ↦
+      let is : leaf_of entry a level global ≡ leaf = right_same kind (leaf_of entry a level global) leaf (rw right at e) in
+      record {
+        by_level = sym (ap (λ (l : Leaf). l.level) is);
+        page = sym (ap (λ (l : Leaf). l.page) is) ∙ ap (λ (l : Leaf). page_of l.level a) is;
+        decides = λ b other same. rw right (ap (by_right other) (rw same is));
+      }
   | inr wrong ↦ let found = rw wrong at e in cc
 ]
 
--- at the level at which the walk of one address ends, that of the other ends too
-same-outcome_at : (memory : ℕ → Option ℕ) (root a b : ℕ) (kind : Kind) (level : Level) → SameWalk memory root a b level
-    → outcome_at memory root b kind (end_level memory root b) ≡ outcome (entry_at memory root a level) b kind level (global_above memory root a level)
-same-outcome_at memory root a b kind level same =
-    ap (outcome_at memory root b kind) (end_level-ends memory root b level same.ends) ∙ rw (same.entry, same.by_global) refl
+-- What the rule says of the page of a leaf: the leaf is of one of the levels, none of which is higher than `top`; the
+-- page is the one of the address; and the leaf decides each access to it.
+record LeafOf (memory : ℕ → Option ℕ) (a table : ℕ) (global : Bool) (levels : List Level) (top : ℕ) (leaf : Leaf) : Type 0 where
+  low : level_number leaf.level ≤ top
+  page : leaf.page ≡ page_of leaf.level a
+  each : (b : ℕ) (other : Kind) → page_of leaf.level b ≡ page_of leaf.level a → found_from memory b other table global levels ≡ by_right other leaf
+
+abbrev HasLeaves : List Level → (top : ℕ) → Type 0
+HasLeaves levels top = (memory : ℕ → Option ℕ) (a table : ℕ) (global : Bool) (kind : Kind) (leaf : Leaf)
+    → found_from memory a kind table global levels ≡ Ok leaf → LeafOf memory a table global levels top leaf
+
+same_entry : (memory : ℕ → Option ℕ) (a b table : ℕ) (low level : Level) → level_number low ≤ level_number level → page_of low b ≡ page_of low a
+    → entry_in memory b table level ≡ entry_in memory a table level
+same_entry memory a b table low level le e = ap (λ p. memory (table + 8 * p)) (same_part low level a b le e)
+
+-- at a good pointer, what is said of the levels below is said of these
+by_pointer : (memory : ℕ → Option ℕ) (a table : ℕ) (global : Bool) (level : Level) (under : List Level) (below : ℕ) (leaf : Leaf) → below ≤ level_number level
+    → is_some_pointer level (entry_in memory a table level) ≡ true
+    → LeafOf memory a (table_of (entry_in memory a table level)) (global || is_some_global (entry_in memory a table level)) under below leaf
+    → LeafOf memory a table global (level ∷ under) (level_number level) leaf
+by_pointer memory a table global level under below leaf le good l = record {
+  low = omega arith;
+  page = l.page;
+  each = λ b other e. rw (same_entry memory a b table leaf.level level (omega arith) e, good) (l.each b other e);
+}
+
+-- where the walk ends, it is said by the entry
+by_entry : (memory : ℕ → Option ℕ) (a table : ℕ) (global : Bool) (kind : Kind) (level : Level) (under : List Level) (leaf : Leaf)
+    → is_some_pointer level (entry_in memory a table level) ≡ false → outcome (entry_in memory a table level) a kind level global ≡ Ok leaf
+    → LeafOf memory a table global (level ∷ under) (level_number level) leaf
+by_entry memory a table global kind level under leaf none e =
+    let is = outcome_leaf (entry_in memory a table level) a kind level global leaf e in
+    record {
+      low = rw is.by_level (omega arith);
+      page = is.page;
+      each = λ b other same.
+        let at_level : page_of level b ≡ page_of level a = rw is.by_level at same in
+        rw (same_entry memory a b table level level (omega arith) at_level, none) (is.decides b other at_level);
+    }
+
+one_more : (level : Level) (under : List Level) (below : ℕ) → below ≤ level_number level → HasLeaves under below → HasLeaves (level ∷ under) (level_number level)
+one_more level under below le has memory a table global kind leaf e = elim (cases_Bool (is_some_pointer level (entry_in memory a table level))) [
+  | inl good ↦ by_pointer memory a table global level under below leaf le good
+      (has memory a (table_of (entry_in memory a table level)) (global || is_some_global (entry_in memory a table level)) kind leaf (rw good at e))
+  | inr none ↦ by_entry memory a table global kind level under leaf none (rw none at e)
+]
+
+no_levels : HasLeaves [] 0
+no_levels memory a table global kind leaf e = cc
+
+leaves_of_all : HasLeaves (levels_from sv39.root) 2
+leaves_of_all = one_more Giga (levels_from Mega) 1 (omega arith) (one_more Mega (levels_from Kilo) 0 (omega arith) (one_more Kilo [] 0 (omega arith) no_levels))
+
+-- the leaf of an address is of its page
+pub leaf_page : (memory : ℕ → Option ℕ) (satp va : ℕ) (kind : Kind) (leaf : Leaf) → maps memory satp va kind ≡ Ok leaf → leaf.page ≡ page_of leaf.level va
+unfolding maps
+leaf_page memory satp va kind leaf e = elim (cases_Bool (is_valid va)) [
+  | inl valid ↦ (leaves_of_all memory va (4096 * root_of satp) false kind leaf (rw valid at e)).page
+  | inr invalid ↦ let found = rw invalid at e in cc
+]
 
 pub one_leaf_for_a_page : (memory : ℕ → Option ℕ) (satp a b : ℕ) (kind other : Kind) (leaf : Leaf)
     → maps memory satp a kind ≡ Ok leaf → leaf.page ≤ b → b < leaf.page + size leaf.level → maps memory satp b other ≡ by_right other leaf
 unfolding maps
 one_leaf_for_a_page memory satp a b kind other leaf e from before = elim (cases_Bool (is_valid a)) [
   | inl valid ↦
-      let root = root_of satp in
-      let level = end_level memory root a in
-      let decides = same-outcome (entry_at memory root a level) a b kind other level (global_above memory root a level) leaf (rw valid at e) from before in
-      let same = same-walk memory root a b level (same-parts level a b decides.0) (ends-end_level memory root a) in
-      rw (same-valid level a b decides.0, valid) (same-outcome_at memory root a b other level same ∙ decides.1)
+      let l = leaves_of_all memory a (4096 * root_of satp) false kind leaf (rw valid at e) in
+      let same : page_of leaf.level b ≡ page_of leaf.level a = of-page leaf.level a b (rw l.page at from) (rw l.page at before) in
+      rw (same-valid leaf.level a b same, valid) (l.each b other same)
   | inr invalid ↦ let found = rw invalid at e in cc
 ]

@@ -2,7 +2,7 @@ ghost use Rattle.std.specs.Prelude.{◌≡◌, ◌↔◌, ◌≤◌, ◌<◌, �
 ghost use Rattle.sv39.specs.Leaves.{by_right};
 ghost use Rattle.sv39.specs.Maps.{Maps, maps};
 ghost use Rattle.sv39.specs.Memory.{word_in};
-ghost use Rattle.sv39.specs.Pages.{size};
+ghost use Rattle.sv39.specs.Pages.{page_of, size};
 
 use crate::cause::{Cause, Kind};
 use crate::entry::TableEntry;
@@ -44,10 +44,13 @@ pub fn maps_is_the_rule()
         → Maps memory satp va kind result ↔ (result ≡ maps memory satp va kind) }
 {}
 
-/// A leaf decides each access to its page: one that it allows gets it, and another one a page fault. A law: there is
-/// nothing to run.
+/// The leaf that maps an address is of the page of its level that has the address, and decides each access to that page:
+/// one that it allows gets it, and another one a page fault (Privileged 4.3.2). A law: there is nothing to run.
 pub fn one_leaf_for_a_page()
-    ensures { (memory : ℕ → Option ℕ) (satp a b : ℕ) (kind other : Kind) (leaf : Leaf)
+    ensures page { (memory : ℕ → Option ℕ) (satp va : ℕ) (kind : Kind) (leaf : Leaf)
+        → maps memory satp va kind ≡ Ok leaf
+        → leaf.page ≡ page_of leaf.level va }
+    ensures decides { (memory : ℕ → Option ℕ) (satp a b : ℕ) (kind other : Kind) (leaf : Leaf)
         → maps memory satp a kind ≡ Ok leaf
         → leaf.page ≤ b
         → b < leaf.page + size leaf.level
