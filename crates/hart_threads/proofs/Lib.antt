@@ -4,3 +4,4 @@ pub mod Quiet
 pub mod NewSeats
 pub mod Kept
 pub mod Ticked
+pub mod MetTogether

@@ -1,10 +1,60 @@
 -- What a hart's thread may choose (profile).
-use Rattle.std.specs.Prelude.{◌≡◌, ◌⊎◌, Bool, length, Option, Some}
+use Rattle.std.specs.Prelude.{◌≡◌, ◌⊎◌, ℕ, Bool, true, false, ◌&&◌, List, [], ◌∷◌, nat_lt, length, if◌then◌else◌, Option, Some, None, is_some}
 use Rattle.board_core.specs.declared.event.Op.{Op}
 use Rattle.board_core.specs.declared.event.Op.TheVariants.{Poll, Serve, Advance, Wfi}
-use Rattle.board_core.specs.Refusals.{IsAccepted, Situation}
+use Rattle.hsm.specs.States.{goes_on, is_interruptible, is_started}
+use Rattle.board_core.specs.Refusals.{IsAccepted, Situation, first_that_holds}
 use Rattle.board_lock.specs.declared.views.HartNow.{HartNow}
+use Rattle.board_lock.specs.declared.views.HartView.{HartView}
+use Rattle.hart_threads.specs.declared.met.Met.{Met}
+use Rattle.hart_threads.specs.declared.met.Met.TheVariants.{Nothing}
 use Rattle.hart_threads.specs.Guests.{is_guest}
+
+-- whether a hart is inside a fence call that waits for no hart
+abbrev pub waits_for_none : Option (List ℕ) → Bool
+waits_for_none (Some []) = true
+waits_for_none (Some (h ∷ harts)) = false
+waits_for_none None = false
+
+-- whether an operation is a guest's that doesn't wait: a Wfi waits for wake
+abbrev pub goes : Op → (wake : Bool) → Bool
+goes Wfi wake = wake
+goes op wake = is_guest op
+
+-- whether a guest's next operation is there, and doesn't wait
+abbrev pub is_going : Option Op → (wake : Bool) → Bool
+is_going None wake = false
+is_going (Some op) wake = goes op wake
+
+-- The rows of a hart's choices, in their order: where a fence waits and the state is interruptible, it serves; inside a fence
+-- call it polls if that waits for no hart, else it rests; where the state goes on, it advances; and where it is STARTED, its
+-- guest goes on.
+abbrev pub choices : HartNow → (guest : Option Op) → List (Bool × Option Op)
+choices now guest =
+    (nat_lt 0 now.waiting && is_interruptible now.state, Some Serve)
+    ∷ (waits_for_none now.outstanding, Some Poll)
+    ∷ (is_some now.outstanding, None)
+    ∷ (goes_on now.wake now.state, Some Advance)
+    ∷ (is_started now.state && is_going guest now.wake, guest)
+    ∷ []
+
+-- what a row that holds has it do; it rests where none holds
+abbrev pub chosen : Option (Option Op) → Option Op
+chosen None = None
+chosen (Some op) = op
+
+-- What a hart does next: the first row that holds.
+abbrev pub first_choice : HartNow → (guest : Option Op) → Option Op
+first_choice now guest = chosen (first_that_holds (choices now guest))
+
+abbrev pub choice_of : Option HartNow → (guest : Option Op) → Option Op
+choice_of None guest = None
+choice_of (Some now) guest = first_choice now guest
+
+-- What a hart's thread does next: nothing without power, nor after it met something.
+abbrev pub next_choice : HartView → Met → (guest : Option Op) → Option Op
+next_choice view Nothing guest = if view.is_off then None else choice_of view.hart guest
+next_choice view met guest = None
 
 -- A thread sees the situation of its hart.
 pub record Sees (s : Situation) (now : HartNow) : Type 0 where
@@ -20,10 +70,3 @@ IsOwn guest op = (op ≡ Serve) ⊎ (op ≡ Poll) ⊎ (op ≡ Advance) ⊎ (gues
 -- None of a hart's own operations happens in this situation.
 abbrev pub HasNothing : Option Op → Situation → Type 0
 HasNothing guest s = (op : Op) → IsOwn guest op → ¬ IsAccepted op s
-
--- ---- private
-
--- whether an operation is a guest's that doesn't wait
-abbrev pub goes : Op → (wake : Bool) → Bool
-goes Wfi wake = wake
-goes op wake = is_guest op

@@ -1,5 +1,5 @@
 -- How a run ended, by its record and its script (profile).
-use Rattle.std.specs.Prelude.{◌≡◌, ◌⊎◌, ℕ, ◌<◌, true, false, List, length, None}
+use Rattle.std.specs.Prelude.{◌≡◌, ◌≢◌, ◌⊎◌, ℕ, ◌<◌, true, false, List, length, None}
 use Rattle.hsm.specs.declared.hart.HartState.TheVariants.{Started, Stopped}
 use Rattle.board_core.specs.declared.config.Config.{Config}
 use Rattle.board_core.specs.Fences.{outstanding}
@@ -9,6 +9,8 @@ use Rattle.board_core.specs.States.{state}
 use Rattle.guest_script.specs.Grammar.{Guest}
 use Rattle.hart_threads.specs.declared.ends.End.{End}
 use Rattle.hart_threads.specs.declared.ends.End.TheVariants.{GateLimit, Off, HistoryFull, Quiet, Stuck}
+use Rattle.hart_threads.specs.declared.met.Met.{Met}
+use Rattle.hart_threads.specs.declared.met.Met.TheVariants.{FullHistory, ClosedGate}
 use Rattle.hart_threads.specs.Guests.{block_of, done, last_entry}
 
 -- A hart is STARTED, outside of a fence call, and since its last entry its guest did the whole block of that entry, in order.
@@ -24,6 +26,21 @@ IsQuiet c past blocks h = (state c past h ≡ Stopped) ⊎ IsThrough c past bloc
 -- Each hart is quiet.
 abbrev pub AreQuiet : Config → List Event → List Guest → Type 0
 AreQuiet c past blocks = (h : ℕ) → h < c.harts → IsQuiet c past blocks h
+
+-- A thread met a full history, and it is full.
+abbrev pub IsFull : Met → Config → List Event → Type 0
+IsFull met c past = (met ≡ FullHistory) × (length past ≡ c.limit)
+
+-- How a run ended, by what its threads met together and its record: a closed gate comes first, then the power, then a history
+-- that was full, and else the harts tell.
+abbrev pub IsEndBy : Met → Config → List Event → List Guest → End → Type 0
+IsEndBy met c past blocks GateLimit = met ≡ ClosedGate
+IsEndBy met c past blocks Off = (met ≢ ClosedGate) × (is_off past ≡ true)
+IsEndBy met c past blocks HistoryFull = (met ≡ FullHistory) × (is_off past ≡ false) × (length past ≡ c.limit)
+IsEndBy met c past blocks Quiet = (met ≢ ClosedGate) × (is_off past ≡ false) × ¬ IsFull met c past × AreQuiet c past blocks
+IsEndBy met c past blocks Stuck =
+    (met ≢ ClosedGate) × (is_off past ≡ false) × ¬ IsFull met c past
+    × ((h : ℕ) × (h < c.harts) × ¬ IsQuiet c past blocks h)
 
 -- What holds of the record with each end. Of a gate's answers a record says nothing.
 abbrev pub IsEnd : End → Config → List Event → List Guest → Type 0

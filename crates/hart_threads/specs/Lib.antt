@@ -1,5 +1,6 @@
 pub mod Programs
 pub mod Guests
 pub mod Choices
+pub mod Met
 pub mod Ends
 pub mod Faults

@@ -3,7 +3,7 @@ ghost use Rattle.board_core.specs.declared.config.Config.{Config};
 ghost use Rattle.board_core.specs.History.{Event};
 ghost use Rattle.board_core.specs.Refusals.{IsAccepted, Situation, situation};
 ghost use Rattle.board_core.specs.Replies.{IsLegal};
-ghost use Rattle.hart_threads.specs.Choices.{HasNothing, Sees, goes};
+ghost use Rattle.hart_threads.specs.Choices.{HasNothing, Sees, first_choice, goes};
 
 use crate::guests::is_guest;
 use board_core::Op;
@@ -13,6 +13,7 @@ use board_lock::HartNow;
 /// The next operation of a hart by what its thread sees and what its guest does next, if it has one: a fence is served
 /// before all else, and a fence call is ended as soon as it waits for no hart.
 pub(crate) fn choice(now: &HartNow, guest: Option<Op>) -> Option<Op>
+    ensures exact { result ≡ first_choice now.now guest }
     ensures happens { (s : Situation) → Sees s now.now → IfSome result (λ op. IsAccepted op s) }
     ensures rests { (c : Config) (past : List Event) (h : ℕ) → IsLegal c past → Sees (situation c past h) now.now → result ≡ None → HasNothing guest (situation c past h) }
 {

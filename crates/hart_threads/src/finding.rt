@@ -1,6 +1,6 @@
 ghost use Rattle.std.specs.Prelude.{◌≡◌, ◌∷◌, ◌<◌, ◌↔◌, true, IfOk, List, MatchOption, length, map};
 ghost use Rattle.guest_script.specs.Grammar.{guest};
-ghost use Rattle.hart_threads.specs.Ends.{AreQuiet, IsEnd, IsQuiet};
+ghost use Rattle.hart_threads.specs.Ends.{AreQuiet, IsEnd, IsEndBy, IsQuiet};
 ghost use Rattle.hart_threads.specs.Guests.{AllLeft, IsLeft, left_of};
 
 use crate::ends::End;
@@ -18,7 +18,8 @@ pub(crate) fn end_of(
     blocks: &[Block],
     met: Met,
 ) -> Result<End, AllocError>
-    ensures { IfOk result (λ end. IsEnd end board.now.config board.now.past (map guest blocks.now)) }
+    ensures end { IfOk result (λ end. IsEnd end board.now.config board.now.past (map guest blocks.now)) }
+    ensures by { IfOk result (λ end. IsEndBy met board.now.config board.now.past (map guest blocks.now) end) }
 {
     if met == Met::ClosedGate {
         return Ok(End::GateLimit);

@@ -1,8 +1,14 @@
 /// Who may go on with an operation: each thread asks before each of its operations, and holds no lock then.
 pub trait Gate {
+    ghost use Rattle.std.specs.Prelude.{ℕ, Bool};
+
+    // What it may answer an actor, by its number and how many of its operations were accepted.
+    ghost lets: { Self → ℕ → ℕ → Bool → Type 0 };
+
     /// Whether an actor may go on, which has had so many operations accepted. The actor's number is a hart's id, and after
     /// those the clock's. An answer of false ends the work of its thread. It may wait for other threads.
-    fn turn(&self, actor: usize, ordinal: usize) -> bool;
+    fn turn(&self, actor: usize, ordinal: usize) -> bool
+        ensures { lets self.now actor ordinal result };
 }
 
 /// The gate that is always open.
@@ -10,6 +16,10 @@ pub trait Gate {
 pub struct Open;
 
 impl Gate for Open {
+    ghost use Rattle.std.specs.Prelude.{◌≡◌, true};
+
+    ghost lets = { λ _ _ _ answer. answer ≡ true };
+
     fn turn(&self, _actor: usize, _ordinal: usize) -> bool {
         true
     }

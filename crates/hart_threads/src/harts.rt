@@ -1,5 +1,7 @@
 ghost use Rattle.std.specs.Prelude.{◌≡◌, ◌≢◌};
 ghost use Rattle.board_core.specs.declared.event.Actor.TheVariants.{Clock};
+ghost use Rattle.hart_threads.specs.Choices.{next_choice};
+ghost use Rattle.hart_threads.specs.Guests.{left_of, next_of};
 
 use crate::choosing::choice;
 use crate::gate::Gate;
@@ -46,12 +48,15 @@ pub(crate) fn follow<K: Plan, G: Gate, R: Wait>(
 }
 
 /// What a hart's thread does by what it sees, if there is something: nothing without power, nor after it met something.
-fn next(view: &HartView, met: Met, guest: &Guest<'_>) -> Option<Op> {
-    if view.is_off || met != Met::Nothing {
-        return None;
-    }
-    match &view.hart {
-        Some(now) => choice(now, guest.next()),
-        None => None,
+fn next(view: &HartView, met: Met, guest: &Guest<'_>) -> Option<Op>
+    ensures { result ≡ next_choice view.now met (next_of (left_of guest.now)) }
+{
+    match met {
+        Met::FullHistory | Met::ClosedGate => None,
+        Met::Nothing if view.is_off => None,
+        Met::Nothing => match &view.hart {
+            Some(now) => choice(now, guest.next()),
+            None => None,
+        },
     }
 }

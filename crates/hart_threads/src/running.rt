@@ -5,6 +5,7 @@ ghost use Rattle.board_core.specs.Replies.{IsLegal};
 ghost use Rattle.board_lock.specs.Events.{events_in, ops_of};
 ghost use Rattle.guest_script.specs.Grammar.{content, guest};
 ghost use Rattle.hart_threads.specs.Ends.{IsEnd};
+ghost use Rattle.hart_threads.specs.Met.{met_by_all};
 ghost use Rattle.hart_threads.specs.Programs.{AreFirst, IsProgram, blocks_of, ticks_of};
 ghost use Rattle.hart_threads.specs.declared.ends.RunFault.TheVariants.{BadConfig};
 
@@ -78,6 +79,7 @@ fn run_in<K: Plan + Send + Sync, G: Gate + Sync, R: AllocGlobal + Threads + Wait
 fn parted<K: Plan>(alloc: Global, all: Vec<Worked<K>>) -> Result<(Vec<Seat<K>>, Met), AllocError>
     ensures seats { IfOk result (λ r. map (λ seat. seat.actor) r.0.items ≡ map (λ worked. worked.seat.actor) all.items) }
     ensures ticks { IfOk result (λ r. All (λ seat. seat.actor ≡ Clock → AreFirst K.ticks seat.ops) r.0.items) }
+    ensures met { IfOk result (λ r. r.1 ≡ met_by_all (map (λ worked. worked.met) all.items)) }
 {
     let mut seats = Vec::with_capacity(alloc, all.len())?;
     let mut met = Met::Nothing;

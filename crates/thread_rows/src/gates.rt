@@ -109,6 +109,11 @@ impl<'a> Holding<'a> {
 }
 
 impl<'a> Gate for Holding<'a> {
+    ghost use Rattle.std.specs.Prelude.{◌≡◌, false, Some};
+
+    ghost lets = { λ gate actor ordinal answer.
+        gate.closed ≡ Some (record { actor = actor; ordinal = ordinal }) → answer ≡ false };
+
     fn turn(&self, actor: usize, ordinal: usize) -> bool {
         let turn = Turn { actor, ordinal };
         if let Some(asked) = self.asked.get(actor) {

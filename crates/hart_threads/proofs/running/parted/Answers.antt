@@ -3,6 +3,9 @@ use Rattle.std.specs.Vec.Iter.{into_iter_items}
 use Rattle.std.proofs.lemmas.List.{map-append}
 use Rattle.board_core.specs.declared.event.Actor.{Actor}
 use Rattle.board_lock.specs.Seats.{Sitting}
+use Rattle.hart_threads.specs.declared.met.Met.{Met}
+use Rattle.hart_threads.specs.Met.{met_by_all, met_by_both}
+use Rattle.hart_threads.proofs.MetTogether.{met_by_one_more}
 use Rattle.hart_threads.proofs.Ticked.{ticked-more}
 use Rattle.hart_threads.proofs.running.parted.Goals as goal
 
@@ -18,4 +21,6 @@ loop-worked-preserved g c =
       ap (map (λ (seat : Sitting). seat.actor)) pushed ∙ map-append (λ (seat : Sitting). seat.actor) at.seats.items (worked.seat ∷ [])
           ∙ ap (λ (actors : List Actor). actors ++ worked.seat.actor ∷ []) at.invariant.2 ∙ sym (map-append (λ it. it.seat.actor) at.yielded (worked ∷ [])),
       rw pushed more,
+      c.and-met.ensures ∙ ap (λ (m : Met). met_by_both m worked.met) at.invariant.4 ∙ sym (met_by_one_more (map (λ it. it.met) at.yielded) worked.met)
+          ∙ ap met_by_all (sym (map-append (λ it. it.met) at.yielded (worked ∷ []))),
     )

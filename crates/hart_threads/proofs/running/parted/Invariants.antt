@@ -2,6 +2,7 @@ use Rattle.std.proofs.Common.{◌≡◌, ◌++◌, length, map}
 use Rattle.std.specs.List.{All}
 use Rattle.std.specs.Vec.Iter.{into_iter_items, into_iter_len}
 use Rattle.board_core.specs.declared.event.Actor.TheVariants.{Clock}
+use Rattle.hart_threads.specs.Met.{met_by_all}
 use Rattle.hart_threads.specs.Programs.{AreFirst}
 use Rattle.hart_threads.proofs.running.parted.Given as goal
 
@@ -11,3 +12,4 @@ invariant-loop-worked g l =
     × (into_iter_len l.worked-iterator ≡ length (into_iter_items l.worked-iterator))
     × (map (λ seat. seat.actor) l.seats.items ≡ map (λ worked. worked.seat.actor) l.yielded)
     × All (λ seat. seat.actor ≡ Clock → AreFirst g.K.Plan.ticks seat.ops) l.seats.items
+    × (l.met ≡ met_by_all (map (λ worked. worked.met) l.yielded))

@@ -1,0 +1,17 @@
+-- What kept threads from going on (profile).
+use Rattle.std.specs.Prelude.{List, [], ◌∷◌}
+use Rattle.hart_threads.specs.declared.met.Met.{Met}
+use Rattle.hart_threads.specs.declared.met.Met.TheVariants.{Nothing, FullHistory, ClosedGate}
+
+-- What two threads met together: a gate that closed comes first, and then a history that was full.
+abbrev pub met_by_both : Met → Met → Met
+met_by_both ClosedGate other = ClosedGate
+met_by_both FullHistory ClosedGate = ClosedGate
+met_by_both FullHistory FullHistory = FullHistory
+met_by_both FullHistory Nothing = FullHistory
+met_by_both Nothing other = other
+
+-- What all threads met together.
+abbrev pub met_by_all : List Met → Met
+met_by_all [] = Nothing
+met_by_all (m ∷ ms) = met_by_both m (met_by_all ms)
