@@ -60,7 +60,7 @@ def example(name):
 
 def examples():
     """The tests of all examples: one that lacks its output fails, and so does an output without an example."""
-    names = {*os.listdir(EXAMPLES)}
+    names = {it for it in os.listdir(EXAMPLES) if os.path.isfile(os.path.join(EXAMPLES, it))}
     for kind in (".out", ".table"):
         names |= {it[: -len(kind)] for it in os.listdir(DATA) if it.endswith(kind)}
     return [(f"example {it}", example(it)) for it in sorted(names)]
