@@ -86,7 +86,7 @@ FAULTS_EARLY = ([], ["a", "b"], ["--fly"], ["--"], ["a", "--", "b"], ["--", "a",
 
 def unbuilt(room):
     """A copy of the script that runs the program, and of what it reads, where nothing is built."""
-    for name in ("sbiboard", "crates.txt", "HANDLES", "crates/sbiboard/src/command_line.rt"):
+    for name in ("sbiboard", "crates.txt", "HANDLES", "crates/sbiboard/src/command_line.rt", "tests/program-data/help.txt"):
         os.makedirs(os.path.dirname(os.path.join(room, name)), exist_ok=True)
         shutil.copy(os.path.join(ROOT, name), os.path.join(room, name))
     return os.path.join(room, "sbiboard")
@@ -99,11 +99,9 @@ def before_the_build(room):
     for words in SAID_EARLY:
         wanted = ran(words, cwd=room)
         must_be(asked(words), wanted.returncode, wanted.stdout, wanted.stderr)
-    told = ran(["--help"], cwd=room).stdout.splitlines()
-    short, _, own = asked(["--help"]).stdout.partition(b"\nBefore the program is built:\n")
-    lacking = [it for it in short.splitlines() if it not in told]
-    if lacking or not own:
-        raise Wrong(f"the program's help lacks what the script says of it: {lacking}")
+    early, _, own = asked(["--help"]).stdout.partition(b"\nBefore the program is built:\n")
+    if early != ran(["--help"], cwd=room).stdout or not own:
+        raise Wrong(f"before the build help is {shown(early)}")
     for task in TASKS:
         for words in ([task, "none"], [task, "none", "--"], [task, "--", "none"], [task, room], ["--try", task, "none"]):
             must_be(asked(words), 7, b"", FAILED_IO)
