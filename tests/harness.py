@@ -291,10 +291,40 @@ def shim(room):
     raise Passed("there is no C compiler")
 
 
-def allocating(made, room, words, refused=0, thread=0, **told):
+def allocating(made, room, words, refused=0, thread=0, pass_fds=(), **told):
     """Runs the program with that allocation or thread refused, and returns the run and the sizes of the allocations."""
     with open(os.path.join(room, "sizes"), "w+b") as sizes:
         env = {"LD_PRELOAD": made, "SIZES": str(sizes.fileno()), "REFUSED": str(refused), "THREAD": str(thread), **told}
-        found = ran(words, env=env, pass_fds=[sizes.fileno()], timeout=HANG)
+        found = ran(words, env=env, pass_fds=[sizes.fileno(), *pass_fds], timeout=HANG)
         sizes.seek(0)
         return found, [int(it) for it in sizes.read().split()]
+
+
+def calling(made, room, words, pass_fds=()):
+    """
+    Runs the program, and returns the run, the sizes of its allocations, and for each kind of call of the system, by its
+    letter (o, r, w: open, read, write), what each of them answered: for reads and writes the bytes moved.
+    """
+    with open(os.path.join(room, "calls"), "w+b") as calls:
+        found, sizes = allocating(made, room, words, pass_fds=[calls.fileno(), *pass_fds], CALLS=str(calls.fileno()))
+        calls.seek(0)
+        made_calls = [it.split() for it in calls.read().decode().splitlines()]
+        return found, sizes, {kind: [int(moved) for it, moved in made_calls if it == kind] for kind in "orw"}
+
+
+def piping(text, piece, run):
+    """Runs with the number of a descriptor, from which the text comes through a pipe, so many bytes at a time."""
+    reading, writing = os.pipe()
+
+    def write():
+        with os.fdopen(writing, "wb", buffering=0) as pipe:
+            for at in range(0, len(text), piece):
+                pipe.write(text[at : at + piece])
+
+    with ThreadPoolExecutor(1) as writer:
+        written = writer.submit(write)
+        try:
+            return run(reading)
+        finally:
+            os.close(reading)
+            written.result()

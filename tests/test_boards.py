@@ -1,4 +1,6 @@
 """Boards that are refused, and boards that are made."""
+import random
+
 from harness import BAD_BOARD, WRONG_KIND, checked, must_be, must_have, ran, replayed, script
 
 # Board lines with one number outside its limits, and their nearest good ones.
@@ -27,17 +29,33 @@ def bad_boards(room):
         replayed(room, good + b"\n", 0, None, b"")
 
 OPAQUES = (0, 1, 7, 1 << 32, 1 << 63, (1 << 64) - 1)
+# The most of each number of a board line: harts, pages, and events in the history.
+MOST_HARTS, MOST_PAGES, MOST_EVENTS = 128, 256, 1_000_000
+
+
+def boards():
+    """Numbers of good boards, each varied by itself: harts, pages, limit, and the boot hart's address and opaque value."""
+    some = random.Random(1)
+    limits = {near for power in range(1, 20) for near in (2**power - 1, 2**power, 2**power + 1)}
+    limits |= {MOST_EVENTS - 1, MOST_EVENTS, *(some.randint(1, MOST_EVENTS) for _ in range(40))}
+    opaques = [*OPAQUES, *(some.getrandbits(bits) for bits in range(1, 65))]
+    yield from ((harts, 1, 10, 0x80000000, 0) for harts in range(1, MOST_HARTS + 1))
+    yield from ((1, pages, 10, 0x80000000, 0) for pages in range(1, MOST_PAGES + 1))
+    yield from ((1, 1, limit, 0x80000000, 0) for limit in sorted(limits))
+    yield from ((1, 1, 10, 0x80000000, opaque) for opaque in opaques)
+    yield from ((1, 256, 10, 0x80000000 + 2 * some.randrange(1 << 19), 0) for _ in range(40))
+    for harts in range(1, MOST_HARTS + 1):
+        for limit in (1, MOST_EVENTS):
+            yield harts, 2 * harts, limit, 0x80000000 + 2 * some.randrange(harts << 11), some.getrandbits(64)
 
 
 def good_boards(room):
     """With ample memory each good board is made, whatever its numbers."""
-    for harts in range(1, 129):
-        for limit in (1, 1_000_000):
-            for opaque in OPAQUES:
-                text = b"board %d %d %d %d 0x80000000 %#x\n" % (harts, harts, limit, harts - 1, opaque)
-                found = ran(["replay", script(room, text)])
-                must_be(found, 0, None, b"")
-                must_have(found.stdout, text, b"\n# entry %3d 0000000080000000 %016x\n" % (harts - 1, opaque))
+    for harts, pages, limit, address, opaque in boards():
+        text = b"board %d %d %d %d %#x %#x\n" % (harts, pages, limit, harts - 1, address, opaque)
+        found = ran(["replay", script(room, text)])
+        must_be(found, 0, None, b"")
+        must_have(found.stdout, text, b"\n# entry %3d %016x %016x\n" % (harts - 1, address, opaque))
 
 
 TESTS = [

@@ -1,26 +1,25 @@
 """How a script is read: from pipes, and from files whose length is told wrong."""
-import os
-from concurrent.futures import ThreadPoolExecutor
-
-from harness import BOARD, LONG, SHORT, TOO_LONG, TRACE, TWO_HARTS, Wrong, allocating, must_be, ran, script, shim
+from harness import (
+    BOARD,
+    LONG,
+    SHORT,
+    TOO_LONG,
+    TRACE,
+    TWO_HARTS,
+    Wrong,
+    allocating,
+    calling,
+    must_be,
+    piping,
+    ran,
+    script,
+    shim,
+)
 
 
 def piped(task, text, piece):
     """Runs a task on a script that comes through a pipe, so many bytes at a time."""
-    reading, writing = os.pipe()
-
-    def write():
-        with os.fdopen(writing, "wb", buffering=0) as pipe:
-            for at in range(0, len(text), piece):
-                pipe.write(text[at : at + piece])
-
-    with ThreadPoolExecutor(1) as writer:
-        written = writer.submit(write)
-        try:
-            return ran([task, f"/dev/fd/{reading}"], pass_fds=[reading])
-        finally:
-            os.close(reading)
-            written.result()
+    return piping(text, piece, lambda reading: ran([task, f"/dev/fd/{reading}"], pass_fds=[reading]))
 
 
 # Scripts of no byte, of a few, of more than one read takes, and of more than a large page.
@@ -70,8 +69,43 @@ def room_refused(room):
         must_be(found, 0, good.stdout, b"")
 
 
+# The bytes that the program asks for and writes at a time, and those of a page, the least that a pipe hands on at a time
+# where more come.
+PIECE, PAGE = 65_536, 4_096
+
+
+def few_calls(room):
+    """
+    A script of 16 MB is read in pieces, from a file and from a pipe, whether its lines are short or it is one line, for
+    which the room is doubled each time; and what is printed is written in pieces.
+    """
+    made = shim(room)
+    most = TOO_LONG - 1
+    texts = (BOARD + b"#" * (most - len(BOARD)), b"#" * most, BOARD + b"# \n" * ((most - len(BOARD)) // 3))
+    for text in texts:
+        for from_pipe in (False, True):
+            if from_pipe:
+                run = lambda reading: calling(made, room, ["replay", f"/dev/fd/{reading}"], pass_fds=[reading])
+                found, sizes, calls = piping(text, PIECE, run)
+            else:
+                found, sizes, calls = calling(made, room, ["replay", script(room, text)])
+            reads, writes, opens = calls["r"], calls["w"], calls["o"]
+            if found.returncode != (0 if text.startswith(BOARD) else 1) or sum(reads) != len(text) or len(opens) != 1:
+                raise Wrong(f"status {found.returncode}, {len(opens)} files, {sum(reads)} of {len(text)} bytes")
+            if len(reads) > len(text) // (PAGE if from_pipe else PIECE) + 16 or len(writes) > 2:
+                raise Wrong(f"{len(reads)} reads of {len(text)} bytes, {len(writes)} writes")
+            if len(sizes) > 90 or sum(sizes) > 5 * most:
+                raise Wrong(f"{len(sizes)} allocations, of {sum(sizes)} bytes, for {len(text)} bytes")
+    steps = BOARD.replace(b" 10 ", b" 100000 ") + b"0 advance\n" + b"0 ecall 0x10 0\n" * 99_999
+    found, _, calls = calling(made, room, ["replay", script(room, steps)])
+    must_be(found, 0, None, b"")
+    if len(calls["w"]) > len(found.stdout) // PIECE + 4:
+        raise Wrong(f"{len(calls['w'])} writes of {len(found.stdout)} bytes")
+
+
 TESTS = [
     ("a script on a pipe", pipes),
     ("lengths of files that are wrong", lengths_told),
     ("no memory for a length", room_refused),
+    ("few calls of the system", few_calls),
 ]

@@ -20,6 +20,7 @@ from harness import (
     must_run,
     ran,
     script,
+    shown,
 )
 from test_boards import BAD_BOARDS
 
@@ -224,6 +225,24 @@ def clocks(room):
             raise Wrong(f"{text!r}: its events are {events}")
 
 
+def many_ticks(room):
+    """The clock does each of thousands of ticks, beside a hart that does as many operations, or what there is room for."""
+    for times in (99, 100, 101, 1_000, 4_097, 20_000):
+        for sips in (0, times):
+            limit = times + 1 + sips
+            head = b"board 1 1 %d 0 0x80000000 0x0\n" % limit
+            out = must_run(room, script(room, head + BOOT + b"sip\n" * sips + b"clock\n" + b"tick 2\n" * times), "quiet")
+            events = out.splitlines(keepends=True)[1 : 1 + limit]
+            done = events.count(b"c tick 0x2 -> done\n"), events.count(b"0 sip -> value 0x0\n")
+            if done != (times, sips) or out != alone(events, "quiet", limit=limit, time=2 * times):
+                raise Wrong(f"of {times} ticks and {sips} operations {done} were done; it ended {shown(out[-400:])}")
+    full = b"board 1 1 4000 0 0x80000000 0x0\nclock\n" + b"tick 2\n" * 5_000
+    out = must_run(room, script(room, full), "history-full")
+    ticked = out.count(b"c tick 0x2 -> done\n")
+    if ticked + out.count(ENTRY) != 4_000 or b"# time %016x events    4000 " % (2 * ticked) not in out:
+        raise Wrong(f"a full history: {ticked} ticks; it ended {shown(out[-400:])}")
+
+
 def not_run(room):
     """Scripts of other kinds, and bad boards."""
     for text in (SHORT, TRACE, b"board 0 1 10 0 0x80000000 0\n0 sip\n"):
@@ -252,6 +271,7 @@ def long_programs(room):
 TESTS = [
     ("programs of one order", programs_of_one_order),
     ("programs with a clock", clocks),
+    ("programs with thousands of ticks", many_ticks),
     ("what isn't run", not_run),
     ("long programs", long_programs),
     *[(name, runs_of(it)) for name, it in programs.MANY.items()],

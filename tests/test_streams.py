@@ -42,6 +42,34 @@ def behind_dashes(room):
         must_be(ran(["check", *words], cwd=room), 2, b"", None)
 
 
+# Names beside which a shorter one has another script: what a program would open that drops a part of them.
+NAMES = [" a", "a ", " a ", "  a", "a\t", "\ta", "a\n", "\na", "a\r", "a\n\n", "\u00a0a", "a\u3000", "A", "a.", "./a ", "'a'", '"a"', "a b"]
+NAMES += [" ", "  ", "\t", "\n", "a\\", "%61", "~", "$a", "a;", "a\x01", "\x7f", "\u00e4", "a\u0308", "\U0001f600"]
+# The longest names that a folder may have, and as long ones of two bytes a character.
+NAMES += ["a" * 254, "b" * 255, "\u00e4" * 127, " " * 255, "a" + " " * 254]
+
+
+def names_of_files(room):
+    """Each byte of FILE is one of the name: blanks at its ends, line feeds, and 255 bytes of it."""
+    with open(os.path.join(room, "a"), "wb") as file:
+        file.write(b"no script\n")
+    for name in NAMES:
+        with open(os.path.join(room, name), "wb") as file:
+            file.write(BOARD)
+        must_be(ran(["check", name], cwd=room), 0, b"agrees 0\n", b"")
+        must_be(ran(["check", os.path.join(room, name)], cwd=room), 0, b"agrees 0\n", b"")
+        os.remove(os.path.join(room, name))
+        must_be(ran(["check", name], cwd=room), 7, b"", FAILED_IO)
+    deep = os.path.join(room, *["d" * 255] * 15)
+    os.makedirs(deep)
+    with open(os.path.join(deep, "a "), "wb") as file:
+        file.write(BOARD)
+    if len(os.path.join(deep, "a ")) < 4_096:
+        must_be(ran(["check", os.path.join(deep, "a ")]), 0, b"agrees 0\n", b"")
+    for name in ("c" * 256, "c/" * 3_000):
+        must_be(ran(["check", name], cwd=room), 7, b"", FAILED_IO)
+
+
 def no_text(room):
     """A word that is no UTF-8 text can't be read."""
     for task in TASKS:
@@ -115,6 +143,7 @@ TESTS = [
     ("a directory", directory),
     ("a relative path", relative),
     ("a file behind dashes", behind_dashes),
+    ("names of files", names_of_files),
     ("a word that is no text", no_text),
     ("a full device", full_device),
     ("a closed output", closed_output),

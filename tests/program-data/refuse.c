@@ -1,8 +1,8 @@
 /* Loaded before the program's libraries: writes the size of each allocation, a line each, to the descriptor
    SIZES, and refuses the one whose number, from 1, is REFUSED, and the thread whose number is THREAD. Of the calls that
    open, read and write, the one whose number is FAILED fails with the error ERROR, and none moves more than MOST bytes,
-   if that is given. LENGTH is what every file's length is said to be, if that is given; where it is "none", the length can't be
-   asked. */
+   if that is given. Each of these calls is told to the descriptor CALLS, if that is given: a letter, and the bytes moved.
+   LENGTH is what every file's length is said to be, if that is given; where it is "none", the length can't be asked. */
 typedef __SIZE_TYPE__ size_t;
 
 /* (no headers, which the toolchain's own compiler lacks) */
@@ -90,6 +90,17 @@ static int fails(void)
     return 1;
 }
 
+static long told(char call, long answer)
+{
+    char line[32];
+    if (getenv("CALLS")) {
+        int length = snprintf(line, sizeof line, "%c %ld\n", call, answer);
+        if (__write(number_in("CALLS"), line, length) != length)
+            abort();
+    }
+    return answer;
+}
+
 static size_t moved(size_t size)
 {
     size_t most = number_in("MOST");
@@ -98,17 +109,17 @@ static size_t moved(size_t size)
 
 int open(const char *name, int flags, ...)
 {
-    return fails() ? -1 : __open(name, flags, 0);
+    return fails() ? -1 : told('o', __open(name, flags, 0));
 }
 
 long read(int from, void *to, size_t size)
 {
-    return fails() ? -1 : __read(from, to, moved(size));
+    return fails() ? -1 : told('r', __read(from, to, moved(size)));
 }
 
 long write(int to, const void *from, size_t size)
 {
-    return fails() ? -1 : __write(to, from, moved(size));
+    return fails() ? -1 : told('w', __write(to, from, moved(size)));
 }
 
 typedef int ask_status(int, const char *, int, unsigned, void *);
