@@ -7,7 +7,7 @@ from board_model import (
     SUSPENDED, TIME, WAITING, Board, spelled_answer, spelled_step,
 )  # fmt: skip
 from records import Broken, is_reset, is_suspend
-from rules import ignored_as, rule_of, rule_of_entry, rule_of_wake
+from rules import TELLS, TOLD, ignored_as, rule_of, rule_of_entry, rule_of_wake
 
 # How many orders are tried at one place, and how many steps back and forth after a reply that no order at its place gives.
 ORDERS = 200
@@ -315,6 +315,8 @@ class Follower:
             state.forget()
         if shown is not None and answer != shown:
             self.differs(state, hart, call, answer, shown)
+        elif call.op[1] == TELLS and call.op[2] < len(TOLD) and call.op[3] != call.op[4]:
+            state.put(Difference(line.number, f"{hart} tells", f"{call.op[3]:#x}", f"{call.op[4]:#x}", TOLD[call.op[2]], None))
         return answer
 
     def advance(self, state, hart, why=None):
@@ -380,8 +382,9 @@ class Follower:
             elif it.state in (START_PENDING, RESUME_PENDING) and hart != self.lines[place].hart and self.goes_on(state, hart, place):
                 line = self.next_line(hart, place)
                 moved = state.copy()
-                moved.early[hart] = moved.do(hart, ("advance",), line.number, f"line {line.number}, seen before it")
-                if moved.early[hart] == (self.entry_of(line) if line.kind == "entry" else ("ret", *line.numbers)):
+                answer = moved.do(hart, ("advance",), line.number, f"line {line.number}, seen before it")
+                moved.early[hart] = (answer, it.state == START_PENDING)
+                if answer == (self.entry_of(line) if line.kind == "entry" else ("ret", *line.numbers)):
                     yield moved
 
     def goes_on(self, state, hart, place):
@@ -429,7 +432,7 @@ class Follower:
         """The suspended hart goes on, if anything wakes it: its last answer."""
         hart, it = line.hart, state.board.harts[line.hart]
         if hart in state.early:
-            return state.early.pop(hart)
+            return state.early.pop(hart)[0]
         if it.state == SUSPEND_PENDING:
             self.advance(state, hart)
         if not state.board.wakes(hart) and not self.record.has_times and it.sie & STI and it.deadline not in (None, ALL):
@@ -450,7 +453,7 @@ class Follower:
         hart, it = line.hart, state.board.harts[line.hart]
         is_start = True
         if hart in state.early:
-            answer = state.early.pop(hart)
+            answer, is_start = state.early.pop(hart)
         elif it.state == START_PENDING:
             answer = state.do(hart, ("advance",), line.number, f"line {line.number}")
         elif it.state in (SUSPEND_PENDING, SUSPENDED, RESUME_PENDING) and not it.is_retentive:
@@ -516,7 +519,8 @@ class Follower:
         is_asleep = state.board.harts[hart].state == SUSPENDED
         while state.board.harts[hart].state == SUSPENDED and state.board.wakes(hart):
             self.advance(state, hart)
-        answer = state.early.pop(hart, None) or state.do(hart, ("advance",), line.number, f"line {line.number}", said)
+        early = state.early.pop(hart, None)
+        answer = early[0] if early else state.do(hart, ("advance",), line.number, f"line {line.number}", said)
         if answer != said:
             rule = rule_of_wake(state, hart) if is_asleep and answer[0] == "refused" else None
             self.found(state, line, f"{hart} entry", answer, said, rule, {hart})

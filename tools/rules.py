@@ -30,7 +30,17 @@ RULES = {
     "deadlines": ("a stop, and an entry by start, forget the deadline", "Time and interrupts"),
     "types of resets": ("a reserved type or reason is INVALID_PARAM, -3; a vendor's type is NOT_SUPPORTED, -2", "System resets"),
     "reasons": ("the reasons of the implementation and of the vendor are accepted", "System resets"),
+    "kept": ("a translation or a fetched word is kept until a fence covers it, or sixteen fills came", "Memory, translation and caches"),
+    "own rights": ("an entry of the TLB decides by its own rights", "Memory, translation and caches"),
+    "accessed, dirty": ("A and D are never set by the hardware: 0 is a page fault", "Memory, translation and caches"),
+    "aligned": ("an access has 8 bytes and is aligned to 8; misalignment is looked at first", "Memory, translation and caches"),
+    "user pages": ("a page with U is a page fault, and so is an entry with one of bits 63 to 54", "Memory, translation and caches"),
 }
+
+# A kernel tells what an access saw by calls of this extension, which nobody has: the FID is the rule's place here, a0 what
+# the rule gives, a1 what was seen.
+TELLS = 0x08000001
+TOLD = ("kept", "own rights", "accessed, dirty", "aligned", "user pages")
 
 
 def extension_name(eid):

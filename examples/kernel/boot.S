@@ -32,10 +32,12 @@ take_stack:
         csrw    stvec, t0
         ret
 
-# No trap is wanted: interrupts are looked at in sip, with sstatus.SIE 0. But a load from an address that isn't mapped
-# is passed over, and answers what a0 had.
+# No trap is wanted: interrupts are looked at in sip, with sstatus.SIE 0. But an access that faults is passed over: its
+# cause is left in sscratch. It clobbers t6, and the access has 4 bytes.
         .balign 4
 trap:
+        csrr    t6, scause
+        csrw    sscratch, t6
         csrr    t6, sepc
         addi    t6, t6, 4
         csrw    sepc, t6

@@ -71,7 +71,7 @@ static inline void await(u64 hart, u64 step)
 static inline void await_status(u64 hart, u64 wanted)
 {
     while (status(hart) != wanted)
-        for (volatile int i = 0; i < 20000; i++)
+        for (volatile int i = 0; i < 200000; i++)
             ;
 }
 

@@ -1,6 +1,6 @@
 /* A kernel that asks what firmware leaves open: hart lists with bits of harts that aren't there, ranges that wrap,
-   addresses that aren't right, reserved and vendor types, ids with stray upper bits, states that are pending. Its boot
-   hart asks; the others do what they are told by their opaque value. */
+   addresses that aren't right, reserved and vendor types, ids with stray upper bits, states that are pending; and what
+   loads and stores see. Its boot hart asks; the others do what they are told by their opaque value. */
 #include "sbi.h"
 
 volatile u64 steps[HARTS];
@@ -99,6 +99,92 @@ static void ranges(void)
     }
     for (u64 fid = 3; fid < 7; fid++)
         call(RFENCE, fid, 1UL << boot, 0, 0, 0, 0, 0);
+}
+
+/* What accesses saw, beside what this board's rules give. It is told by calls of an extension that nobody has. */
+enum { KEPT, OWN_RIGHTS, ACCESSED_DIRTY, ALIGNED, USER_PAGE };
+enum { PAGE = 0x1000, V = 1, R = 2, W = 4, U = 16, A = 64, D = 128 };
+
+static u64 root[512] __attribute__((aligned(4096)));
+static u64 middle[512] __attribute__((aligned(4096)));
+static volatile u64 leaves[512] __attribute__((aligned(4096)));
+static volatile u64 page_a[512] __attribute__((aligned(4096))), page_b[512] __attribute__((aligned(4096)));
+
+static void tell(u64 rule, u64 here, u64 there)
+{
+    SBI(0x08000001, rule, here, there, 0);
+}
+
+/* The cause of a fault, or -1; what a load answers goes to `loaded`. */
+#define TRIED(instruction, address, value)                                                                              \
+    ({                                                                                                                   \
+        u64 cause, it = (value);                                                                                         \
+        WRITE(sscratch, -1UL);                                                                                           \
+        __asm__ volatile(".option push\n.option norvc\n" instruction "\n.option pop"                                    \
+                         : "+r"(it) : "r"((u64)(address)) : "t6", "memory");                                             \
+        cause = READ(sscratch);                                                                                          \
+        loaded = it;                                                                                                     \
+        cause;                                                                                                           \
+    })
+
+static u64 loaded;
+
+static void map(volatile u64 *page, u64 rights)
+{
+    leaves[1] = (u64)page >> 12 << 10 | V | rights;
+    __asm__ volatile("fence rw, rw" : : : "memory");
+}
+
+static void map_fenced(volatile u64 *page, u64 rights)
+{
+    map(page, rights);
+    __asm__ volatile("sfence.vma" : : : "memory");
+}
+
+static void memory(void)
+{
+    const u64 satp = 8UL << 60 | (u64)root >> 12;
+    page_a[0] = 0x11;
+    page_b[0] = 0x22;
+    root[0] = (u64)middle >> 12 << 10 | V;
+    root[2] = 0x80000UL << 10 | 0xcf;
+    middle[0] = (u64)leaves >> 12 << 10 | V;
+    map_fenced(page_a, R | W | A | D);
+    WRITE(satp, satp);
+    __asm__ volatile("sfence.vma" : : : "memory");
+    /* A page that is mapped anew without a fence: at once, after a call, and after satp was written. */
+    for (u64 how = 0; how < 3; how++) {
+        map_fenced(page_a, R | W | A | D);
+        TRIED("ld %0, 0(%1)", PAGE, 0);
+        map(page_b, R | W | A | D);
+        if (how == 1)
+            SBI(BASE, 0, 0, 0, 0);
+        if (how == 2) {
+            WRITE(satp, 0);
+            WRITE(satp, satp);
+        }
+        TRIED("ld %0, 0(%1)", PAGE, 0);
+        tell(KEPT, 0x11, loaded);
+    }
+    map_fenced(page_a, R | A);
+    TRIED("ld %0, 0(%1)", PAGE, 0);
+    map(page_a, R | W | A | D);
+    tell(OWN_RIGHTS, 15, TRIED("sd %0, 0(%1)", PAGE, 0x11));
+    map_fenced(page_a, R | W | D);
+    tell(ACCESSED_DIRTY, 13, TRIED("ld %0, 0(%1)", PAGE, 0));
+    map_fenced(page_a, R | W | A);
+    tell(ACCESSED_DIRTY, 15, TRIED("sd %0, 0(%1)", PAGE, 0x11));
+    map_fenced(page_a, R | W | A | D);
+    tell(ALIGNED, 4, TRIED("ld %0, 0(%1)", PAGE + 1, 0));
+    tell(ALIGNED, 6, TRIED("sd %0, 0(%1)", PAGE + 12, 0));
+    tell(ALIGNED, 4, TRIED("lw %0, 0(%1)", PAGE + 4, 0));
+    map_fenced(page_a, R | W | U | A | D);
+    tell(USER_PAGE, 13, TRIED("ld %0, 0(%1)", PAGE, 0));
+    leaves[1] |= 1UL << 60;
+    __asm__ volatile("sfence.vma" : : : "memory");
+    tell(USER_PAGE, 13, TRIED("ld %0, 0(%1)", PAGE, 0));
+    WRITE(satp, 0);
+    __asm__ volatile("sfence.vma" : : : "memory");
 }
 
 static void run(u64 role, u64 task)
@@ -207,6 +293,7 @@ void boot_main(u64 hart, u64 opaque)
     identities();
     hart_lists();
     ranges();
+    memory();
     lives();
     pending();
     lost();
