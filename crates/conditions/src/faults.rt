@@ -1,0 +1,64 @@
+use std::alloc::{AllocError, AllocFailed};
+use thiserror::Error;
+
+/// What is wrong with a condition (profile).
+#[derive(Clone, Copy, Debug, PartialEq, Eq, Error)]
+pub enum Wrong {
+    /// No condition begins with this word.
+    #[error("unknown condition")]
+    UnknownCondition,
+    /// No operation, reply or end has this name.
+    #[error("unknown word")]
+    UnknownWord,
+    /// A word that should be a number, `_` or a dash, and isn't, or a number too large for its place.
+    #[error("not a number")]
+    BadNumber,
+    /// Too few or too many words.
+    #[error("too few or too many words")]
+    WordCount,
+    /// `before` has no comma behind its first pattern.
+    #[error("no comma")]
+    NoComma,
+    /// Conditions are about accepted steps, and none is refused.
+    #[error("no accepted step is refused")]
+    Refused,
+    /// Memory was refused.
+    #[error("no memory")]
+    NoMemory,
+}
+
+/// A condition that can't be read.
+#[derive(Clone, Copy, Debug, PartialEq, Eq)]
+pub struct Fault {
+    /// The line's number, from 1.
+    pub line: u64,
+    /// The column of the word, from 1; behind the last one where a word is missing.
+    pub column: u64,
+    /// What is wrong.
+    pub wrong: Wrong,
+}
+
+/// What is wrong with a text, and how many bytes there are from there on.
+#[derive(Clone, Copy, Debug)]
+pub(crate) struct Unread {
+    pub(crate) left: usize,
+    pub(crate) wrong: Wrong,
+}
+
+impl From<AllocError> for Unread {
+    fn from(_: AllocError) -> Unread {
+        Unread {
+            left: 0,
+            wrong: Wrong::NoMemory,
+        }
+    }
+}
+
+impl<T: Drop> From<AllocFailed<T>> for Unread {
+    fn from(_: AllocFailed<T>) -> Unread {
+        Unread {
+            left: 0,
+            wrong: Wrong::NoMemory,
+        }
+    }
+}

@@ -1,0 +1,16 @@
+//! Conditions of scripts: what the comments that begin with `#!` ask of each record (profile).
+#![tactic(auto)]
+
+mod faults;
+mod items;
+mod names;
+mod patterns;
+mod reading;
+mod rules;
+
+pub use faults::{Fault, Wrong};
+pub use items::Item;
+pub use names::Name;
+pub use patterns::Pattern;
+pub use reading::{Condition, conditions};
+pub use rules::{Ending, Rule, first_from, first_other_reply};

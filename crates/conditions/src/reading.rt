@@ -1,0 +1,288 @@
+ghost use Rattle.std.specs.Prelude.{◌<◌, OnSome, length};
+
+use crate::faults::{Fault, Unread, Wrong};
+use crate::items::{Item, signed_item};
+use crate::names::Name;
+use crate::patterns::Pattern;
+use crate::rules::{Ending, Rule};
+use guest_script::{next_word, signed_number, unsigned_number};
+use std::alloc::Global;
+
+/// The largest number of a hart.
+const LAST_HART: u64 = 127;
+
+/// A condition of a script.
+#[derive(Debug, Drop)]
+pub struct Condition {
+    /// Its line's number, from 1.
+    pub line: u64,
+    /// What it asks.
+    pub rule: Rule,
+}
+
+/// The conditions of a script's text: its lines that begin with `#!`, blanks aside. `#!/` on the first line is none.
+///
+/// # Errors
+///
+/// The first of them that can't be read, or want of memory.
+pub fn conditions(alloc: Global, text: &[u8]) -> Result<Vec<Condition>, Fault> {
+    let mut found = Vec::new(alloc);
+    for (i, line) in text.split(|b| *b == b'\n').enumerate() {
+        if i == 0 && line.starts_with(b"#!/") {
+            continue;
+        }
+        if let Some(from) = asked(line) {
+            match put(alloc, &mut found, i as u64 + 1, from) {
+                Ok(()) => {}
+                Err(unread) => return Err(located(i as u64 + 1, line, unread)),
+            }
+        }
+    }
+    Ok(found)
+}
+
+/// Reads a condition of a line, and puts it behind those before.
+fn put(alloc: Global, found: &mut Vec<Condition>, line: u64, from: &[u8]) -> Result<(), Unread> {
+    let rule = rule(alloc, from)?;
+    found.push(Condition { line, rule })?;
+    Ok(())
+}
+
+/// What stands behind `#!`, where a line begins so, blanks aside.
+fn asked(line: &[u8]) -> Option<&[u8]> {
+    for (i, byte) in line.iter().enumerate() {
+        if *byte != b' ' && *byte != b'\t' {
+            return line[i..].strip_prefix(b"#!");
+        }
+    }
+    None
+}
+
+/// Where in a line something can't be read.
+fn located(line: u64, text: &[u8], unread: Unread) -> Fault {
+    Fault {
+        line,
+        column: (text.len().saturating_sub(unread.left) as u64).saturating_add(1),
+        wrong: unread.wrong,
+    }
+}
+
+/// A word, and how many bytes there are from it on.
+#[derive(Clone, Copy)]
+struct Word<'a> {
+    text: &'a [u8],
+    left: usize,
+}
+
+impl<'a> Word<'a> {
+    fn is(self, wrong: Wrong) -> Unread {
+        Unread {
+            left: self.left,
+            wrong,
+        }
+    }
+}
+
+/// The words of a condition that are still to be read.
+#[derive(Drop)]
+struct Words<'a> {
+    rest: &'a [u8],
+}
+
+impl<'a> Words<'a> {
+    fn next(&mut self) -> Option<Word<'a>>
+        ensures { OnSome result (length self.new.rest.now < length self.old.rest.now) }
+    {
+        let (text, after) = next_word(self.rest)?;
+        let left = text.len().saturating_add(after.len());
+        self.rest = after;
+        Some(Word { text, left })
+    }
+
+    /// Words are missing here, or are too many.
+    fn miscounted(&self) -> Unread {
+        Unread {
+            left: self.rest.len(),
+            wrong: Wrong::WordCount,
+        }
+    }
+}
+
+/// The condition that a text is.
+fn rule(alloc: Global, text: &[u8]) -> Result<Rule, Unread> {
+    let mut words = Words { rest: text };
+    let Some(name) = words.next() else {
+        return Err(words.miscounted());
+    };
+    match name.text {
+        b"never" => never(alloc, &mut words),
+        b"some" => Ok(Rule::OfSome(pattern(alloc, &mut words, b"")?.0)),
+        b"each" => each(alloc, &mut words),
+        b"end" => ends(alloc, &mut words),
+        b"before" => before(alloc, &mut words),
+        _ => Err(name.is(Wrong::UnknownCondition)),
+    }
+}
+
+fn never(alloc: Global, words: &mut Words<'_>) -> Result<Rule, Unread> {
+    let (p, is_more) = pattern(alloc, words, b"after")?;
+    if !is_more {
+        return Ok(Rule::Never(p));
+    }
+    let (q, _) = pattern(alloc, words, b"")?;
+    Ok(Rule::NeverAfter(p, q))
+}
+
+fn each(alloc: Global, words: &mut Words<'_>) -> Result<Rule, Unread> {
+    let (p, _) = pattern(alloc, words, b"")?;
+    if p.reply.is_empty() {
+        return Err(words.miscounted());
+    }
+    Ok(Rule::Each(p))
+}
+
+fn before(alloc: Global, words: &mut Words<'_>) -> Result<Rule, Unread> {
+    let (p, is_more) = pattern(alloc, words, b",")?;
+    if !is_more {
+        return Err(Unread {
+            left: words.rest.len(),
+            wrong: Wrong::NoComma,
+        });
+    }
+    let (q, _) = pattern(alloc, words, b"")?;
+    Ok(Rule::Before(p, q))
+}
+
+fn ends(alloc: Global, words: &mut Words<'_>) -> Result<Rule, Unread> {
+    let mut found = Vec::new(alloc);
+    while let Some(word) = words.next() {
+        found.push(match word.text {
+            b"off" => Ending::Off,
+            b"history-full" => Ending::HistoryFull,
+            b"quiet" => Ending::Quiet,
+            b"stuck" => Ending::Stuck,
+            _ => return Err(word.is(Wrong::UnknownWord)),
+        })?;
+    }
+    if found.is_empty() {
+        return Err(words.miscounted());
+    }
+    Ok(Rule::End(found))
+}
+
+/// The pattern that the words up to a certain one are, or up to a comma behind a word where that one is a comma; and
+/// whether it came.
+fn pattern(alloc: Global, words: &mut Words<'_>, until: &[u8]) -> Result<(Pattern, bool), Unread> {
+    let mut step = Vec::new(alloc);
+    let (came, is_reply) = items(words, until, false, &mut step)?;
+    let mut reply = Vec::new(alloc);
+    if step.is_empty() {
+        return Err(words.miscounted());
+    }
+    if !is_reply {
+        return Ok((Pattern { step, reply }, came));
+    }
+    let (came, _) = items(words, until, true, &mut reply)?;
+    if reply.is_empty() {
+        return Err(words.miscounted());
+    }
+    Ok((Pattern { step, reply }, came))
+}
+
+/// Reads the words of a step, or of a reply: whether the last one came, and whether an arrow did.
+fn items(
+    words: &mut Words<'_>,
+    until: &[u8],
+    is_reply: bool,
+    found: &mut Vec<Option<Item>>,
+) -> Result<(bool, bool), Unread> {
+    let mut last = 1;
+    while let Some(word) = words.next() {
+        if word.text == until {
+            return Ok((true, false));
+        }
+        if word.text == b"->".as_slice() && !is_reply {
+            return Ok((false, true));
+        }
+        let (text, is_last) = without_comma(word.text, until);
+        let place = if is_reply {
+            found.len().saturating_add(1)
+        } else {
+            found.len()
+        };
+        let (item, most) = item(place, is_reply, text, last).map_err(|wrong| word.is(wrong))?;
+        last = most;
+        found.push(item)?;
+        if is_last {
+            return Ok((true, false));
+        }
+    }
+    Ok((false, false))
+}
+
+/// A word without the comma at its end, where the last word is a comma; and whether it had one.
+fn without_comma<'a>(word: &'a [u8], until: &[u8]) -> (&'a [u8], bool) {
+    if until == b",".as_slice()
+        && let Some(text) = word.strip_suffix(b",")
+    {
+        return (text, true);
+    }
+    (word, false)
+}
+
+/// The word of a pattern in a place: 0 the actor, 1 a name, and then numbers; and the last place that may be.
+fn item(
+    place: usize,
+    is_reply: bool,
+    word: &[u8],
+    last: usize,
+) -> Result<(Option<Item>, usize), Wrong> {
+    match place {
+        0 => Ok((actor(word)?, last)),
+        1 => name(word, is_reply),
+        _ if place > last => Err(Wrong::WordCount),
+        _ => Ok((argument(word)?, last)),
+    }
+}
+
+/// An actor, or any.
+fn actor(word: &[u8]) -> Result<Option<Item>, Wrong> {
+    match word {
+        b"_" => Ok(None),
+        b"c" => Ok(Some(Item::Word(Name::Clock))),
+        _ => match unsigned_number(word, LAST_HART) {
+            Some(hart) => Ok(Some(Item::Number(hart))),
+            None => Err(Wrong::BadNumber),
+        },
+    }
+}
+
+/// The name of an operation or of a reply, or any; and how many words may stand there, the name among them.
+fn name(word: &[u8], is_reply: bool) -> Result<(Option<Item>, usize), Wrong> {
+    if word == b"_".as_slice() {
+        return Ok((None, if is_reply { 4 } else { 9 }));
+    }
+    let named = if is_reply {
+        Name::of_reply(word)
+    } else {
+        Name::of_op(word)
+    };
+    match named {
+        Some((Name::Refused, _)) => Err(Wrong::Refused),
+        Some((name, most)) => Ok((Some(Item::Word(name)), most)),
+        None => Err(Wrong::UnknownWord),
+    }
+}
+
+/// A number, a dash, or any.
+fn argument(word: &[u8]) -> Result<Option<Item>, Wrong> {
+    match word {
+        b"_" => Ok(None),
+        b"-" => Ok(Some(Item::Absent)),
+        _ => match (unsigned_number(word, u64::MAX), signed_number(word)) {
+            (Some(n), _) => Ok(Some(Item::Number(n))),
+            (None, Some(error)) => Ok(Some(signed_item(error))),
+            (None, None) => Err(Wrong::BadNumber),
+        },
+    }
+}
