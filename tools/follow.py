@@ -11,7 +11,7 @@ from rules import TELLS, TOLD, ignored_as, rule_of, rule_of_entry, rule_of_wake
 
 # How many orders are tried at one place, and how many steps back and forth after a reply that no order at its place gives.
 ORDERS = 200
-TRIES = 500
+TRIES = 300
 KEPT_CHOICES = 200
 PAGES = 256
 MOST_EVENTS = 1_000_000
@@ -159,7 +159,9 @@ class Follower:
     def follow(self):
         """Goes through the record, and returns the last state."""
         state, place, choices = self.first(), 0, []
-        furthest, tries = None, 0
+        # Where no order was found: the place and the state there, the choices before it, how often another one was tried,
+        # and whose choices are yet to be tried.
+        stuck, others, tries, about = None, [], 0, []
         while place < len(self.lines):
             ways = self.ways(state, place)
             following = next(ways, None)
@@ -167,27 +169,40 @@ class Follower:
                 choices.append((place, ways))
                 del choices[:-KEPT_CHOICES]
                 state, place = self.settled(following), place + 1
-                tries += furthest is not None
-                if furthest is not None and place > furthest[0]:
-                    furthest = None
+                if stuck is not None:
+                    tries += 1
+                    stuck = None if place > stuck[0] else stuck
                 continue
-            if furthest is None or place > furthest[0]:
-                furthest, tries = (place, state), 0
-            state, place = self.back(choices, tries) or (None, None)
+            if stuck is None:
+                stuck, others, tries, about = (place, state), choices, 0, self.about(place)
+                choices = list(others)
+            found = self.back(choices, about[0]) if tries < TRIES else None
+            while found is None and len(about) > 1:
+                choices, tries, about = list(others), 0, about[1:]
+                found = self.back(choices, about[0])
             tries += 1
-            if state is not None:
-                state = self.settled(state)
+            if found is not None:
+                state, place = self.settled(found[0]), found[1]
             else:
-                place, state = furthest
-                state = self.forced(state, place)
-                place, furthest, choices = place + 1, None, []
+                place, state = stuck
+                state, place, stuck, choices = self.forced(state, place), place + 1, None, []
         return self.ended(state)
 
-    def back(self, choices, tries):
-        """Another way at the last place that has one."""
-        while choices and tries < TRIES:
+    def about(self, place):
+        """The harts whose own lines may have been taken wrongly, where this line fits nowhere: the likeliest first, and then all."""
+        line = self.lines[place]
+        if line.kind == "ret":
+            places = self.places[line.hart]
+            call = self.lines[places[bisect_right(places, place) - 2]]
+            if call.numbers[:2] in ((HSM, 0), (HSM, 2)):
+                return [{call.numbers[2]}, {call.numbers[2], line.hart}, None]
+        return [{line.hart}, None]
+
+    def back(self, choices, about):
+        """Another way at the last place that has one, of those of these harts."""
+        while choices:
             place, ways = choices[-1]
-            following = next(ways, None)
+            following = next(ways, None) if about is None or self.lines[place].hart in about else None
             if following is not None:
                 return following, place + 1
             choices.pop()
