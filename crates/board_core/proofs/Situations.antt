@@ -5,7 +5,7 @@ use Rattle.fence_queue.specs.Queues.{queue_at}
 use Rattle.rfence.specs.Calls as calls
 use Rattle.rfence.specs.Right.{IsRightTurn}
 use Rattle.rfence.specs.State as fences
-use Rattle.rfence.specs.State.{State, Takes, call_at, in_call}
+use Rattle.rfence.specs.State.{State, call_at, in_call}
 use Rattle.rfence.specs.Turns.{Turn, Serve, Poll}
 use Rattle.rfence.specs.Waiting as queues
 use Rattle.rfence.proofs.Counts.{few-applied, few-asked, outstanding-set}
@@ -64,6 +64,16 @@ module _ (c : Config) (past : List Event) (f : State Flush) (stand : FencesStand
       by_call (Some place) [] inside_call answered = (refl, refl)
       by_call (Some place) (id ∷ ids) inside_call answered = absurd cc
 
+-- the queue of a hart that isn't refused to serve, and the call of one that isn't refused to poll
+pub some-wait : {A : Type 0} (queue : List A) → is_empty queue ≡ false → 0 < length queue
+some-wait [] none = absurd cc
+some-wait (x ∷ xs) some = omega arith
+
+pub call-over : (call : Option (List ℕ)) → is_none call ≡ false → waits_for_some call ≡ false → call ≡ Some []
+call-over None inside answered = absurd cc
+call-over (Some []) inside answered = refl
+call-over (Some (h ∷ harts)) inside answered = absurd cc
+
 module _ (c : Config) (past : List Event) (m : Machine) (most : c.harts ≤ 128) (stands : StandsFor c past m) where
   pub sized : IsSized c m
   sized = record {
@@ -115,12 +125,3 @@ module _ (c : Config) (m : Machine) (good : IsGood c) (standing : IsStanding c m
         asked = let is = stand.stands.asked in let below = few-asked (turns c standing.past) in omega arith;
         applied = let is = stand.stands.applied in let below = few-applied c.harts (turns c standing.past) stand.stands.limit stand.right in omega arith;
       }
-
-  -- a turn that can be made is taken
-  pub takes : (turn : Turn Flush) → IsRightTurn c.harts (turns c standing.past) turn → Takes m.fences turn
-  takes turn right = record {
-    n = c.harts;
-    turns = turns c standing.past;
-    stands = standing.stands.fences.stands;
-    right = (right, standing.stands.fences.right);
-  }

@@ -5,6 +5,8 @@ pub mod Waits
 pub mod Callers
 pub mod Changes
 pub mod Stands
+pub mod Takes
+pub mod Awaiting
 pub mod Once
 pub mod Success
 pub mod Counts

@@ -78,6 +78,13 @@ module _ {F : Type 0} where
   AreAffected dropped emptied before turn caches now =
       (n : ℕ) (turns : List (Turn F)) → StandsFor n turns before → IsRight n (turn ∷ turns) → now ≡ caches_after dropped emptied turns turn caches
 
+  -- there are right turns that it stands for
+  pub record HasTurns (fences : State F) : Type 0 where
+    pub n : ℕ
+    pub turns : List (Turn F)
+    pub stands : StandsFor n turns fences
+    pub right : IsRight n turns
+
   -- the counts can grow
   pub record HasRoom (fences : State F) : Type 0 where
     pub asked : fences.asked < 2 ^ 63

@@ -1,6 +1,7 @@
 ghost use Rattle.std.specs.Prelude.{◌≡◌, ◌<◌, ◌≤◌, IfOk, length, map, replicate, None};
 ghost use Rattle.rfence.specs.Marks.{CanAsk, forgotten, forgotten_at, requested};
 
+use crate::awaited::Awaited;
 use fence_queue::{Queues, Request};
 use hart_mask::HartSet;
 use std::alloc::{AllocError, Global};
@@ -17,7 +18,7 @@ pub fn ask_each<F: Copy>(queues: &mut Queues<F>, targets: HartSet, request: Requ
 }
 
 /// The call of hart `c` waits for hart `t` no more.
-pub fn forget(calls: &mut Vec<Option<HartSet>>, c: u64, t: u64)
+pub fn forget(calls: &mut Vec<Option<Awaited>>, c: u64, t: u64)
     requires in_range { c < length calls.old.items }
     requires id { t < 128 }
     ensures { calls.new.items ≡ forgotten_at calls.old.items c t }
@@ -29,7 +30,7 @@ pub fn forget(calls: &mut Vec<Option<HartSet>>, c: u64, t: u64)
 }
 
 /// A call waits for hart `t` no more.
-fn forget_in(call: &mut Option<HartSet>, t: u64)
+fn forget_in(call: &mut Option<Awaited>, t: u64)
     requires { t < 128 }
     ensures { call.new ≡ forgotten t call.old }
 {
@@ -39,7 +40,7 @@ fn forget_in(call: &mut Option<HartSet>, t: u64)
 }
 
 /// No call waits for hart `t` any more.
-pub fn forget_all(calls: &mut Vec<Option<HartSet>>, t: u64)
+pub fn forget_all(calls: &mut Vec<Option<Awaited>>, t: u64)
     requires { t < 128 }
     ensures { calls.new.items ≡ map (forgotten t) calls.old.items }
 {
@@ -49,7 +50,7 @@ pub fn forget_all(calls: &mut Vec<Option<HartSet>>, t: u64)
 }
 
 /// So many harts, none in a call. It fails where memory runs out.
-pub fn no_calls(alloc: Global, harts: u64) -> Result<Vec<Option<HartSet>>, AllocError>
+pub fn no_calls(alloc: Global, harts: u64) -> Result<Vec<Option<Awaited>>, AllocError>
     requires { harts ≤ 128 }
     ensures { IfOk result (λ calls. calls.items ≡ replicate harts None) }
 {
@@ -57,7 +58,7 @@ pub fn no_calls(alloc: Global, harts: u64) -> Result<Vec<Option<HartSet>>, Alloc
 }
 
 /// No hart is in a call any more.
-pub fn close_all(calls: &mut Vec<Option<HartSet>>)
+pub fn close_all(calls: &mut Vec<Option<Awaited>>)
     ensures { calls.new.items ≡ replicate (length calls.old.items) None }
 {
     calls.fill(None);

@@ -1,9 +1,10 @@
-ghost use Rattle.std.specs.Prelude.{◌≡◌, ◌<◌, ◌≤◌, [], IfOk, if◌then◌else◌, is_some, length, slice_get, sum_by};
+ghost use Rattle.std.specs.Prelude.{◌≡◌, ℕ, ◌<◌, ◌≤◌, [], true, Some, None, ◌==◌, not, unwrap_or, IfOk, if◌then◌else◌, is_some, length, slice_get, sum_by};
 ghost use Rattle.hart_mask.specs.Ids.{has};
 ghost use Rattle.fence_queue.specs.Queues.{IsQueue, queue_at};
 ghost use Rattle.rfence.specs.Turns.{Ask, Serve, Poll, Stop, Reset};
-ghost use Rattle.rfence.specs.State.{AreAffected, HasRoom, IsTaken, StandsFor, Takes, call_at};
+ghost use Rattle.rfence.specs.State.{AreAffected, HasRoom, IsTaken, StandsFor, call_at};
 
+use crate::awaited::Awaited;
 use crate::caches::{Fenced, apply_at, apply_where, clear_all, clear_at};
 use crate::calls::{close_all, forget, forget_all, no_calls};
 use crate::pending::{Pending, Waiting};
@@ -17,17 +18,20 @@ use std::marker::Model;
 #[derive(Drop)]
 pub struct Fences<F> {
     queues: Pending<F>,
-    calls: Vec<Option<HartSet>>,
+    calls: Vec<Option<Awaited>>,
     asked: u64,
     applied: u64,
 }
 
 impl<F> Model for Fences<F> {
-    ghost use Rattle.rfence.specs.State.{State};
+    ghost use Rattle.rfence.specs.State.{HasTurns, State};
 
     ghost Value = { State F };
 
     ghost view = { λ f. record { queues = f.queues; calls = f.calls.items; asked = f.asked; applied = f.applied } };
+
+    ghost invariant = { λ f.
+        HasTurns (record { queues = f.queues; calls = f.calls.items; asked = f.asked; applied = f.applied }) };
 }
 
 impl<F: Copy> Fences<F> {
@@ -47,28 +51,32 @@ impl<F: Copy> Fences<F> {
         })
     }
 
-    /// Hart `c` asks a fence of these harts (SBI 8): at itself, if it is one of them, it is applied at once, and at each
-    /// other one it waits (profile). The hart is now inside its call.
+    /// Hart `c`, which is outside of a call, asks a fence of these harts (SBI 8): at itself, if it is one of them, it is
+    /// applied at once, and at each other one it waits (profile). The hart is now inside its call.
     pub fn ask<C: Fenced<F>>(&mut self, caches: &mut [C], c: u64, asked: HartSet, flush: F)
-        requires takes { Takes self.old (Ask c (has asked) flush) }
+        requires caller { c < length self.old.calls }
+        requires targets { (t : ℕ) → has asked t ≡ true → t < length self.old.calls }
+        requires outside { call_at self.old c ≡ None }
         requires room { HasRoom self.old }
         requires caches { length caches.old ≡ length self.old.calls }
         ensures taken { IsTaken self.old (Ask c (has asked) flush) self.new }
         ensures affected { AreAffected C.dropped C.emptied self.old (Ask c (has asked) flush) caches.old caches.new }
     {
+        let applied = self.applied;
         let own = asked.contains(c);
         apply_where(caches, c, own, flush);
-        self.applied += one_if(own);
+        self.applied = applied + one_if(own);
         self.asked += asked.len();
         let mut others = asked;
         others.remove(c);
         self.queues.ask(others, Request { from: c, flush });
-        self.calls[c as usize] = Some(others);
+        self.calls[c as usize] = Some(Awaited::new(others));
     }
 
     /// Hart `t` applies the first fence that waits there, and the hart that asked it waits for `t` no more (profile).
     pub fn serve<C: Fenced<F>>(&mut self, caches: &mut [C], t: u64)
-        requires takes { Takes self.old (Serve t) }
+        requires in_range { t < length self.old.queues }
+        requires waits { 0 < length (queue_at self.old.queues t) }
         requires room { HasRoom self.old }
         requires caches { length caches.old ≡ length self.old.calls }
         ensures taken { IsTaken self.old (Serve t) self.new }
@@ -84,7 +92,8 @@ impl<F: Copy> Fences<F> {
 
     /// The call that hart `c` is in, which waits for no hart any more, is over (profile).
     pub fn poll(&mut self, c: u64)
-        requires { Takes self.old (Poll c) }
+        requires in_range { c < length self.old.calls }
+        requires over { call_at self.old c ≡ Some [] }
         ensures { IsTaken self.old (Poll c) self.new }
     {
         self.calls[c as usize] = None;
@@ -92,7 +101,7 @@ impl<F: Copy> Fences<F> {
 
     /// Hart `t` stops: all that waits there counts as applied, its caches are emptied, and no hart waits for it (profile).
     pub fn discharge_all<C: Fenced<F>>(&mut self, caches: &mut [C], t: u64)
-        requires takes { Takes self.old (Stop t) }
+        requires in_range { t < length self.old.queues }
         requires room { HasRoom self.old }
         requires caches { length caches.old ≡ length self.old.calls }
         ensures taken { IsTaken self.old (Stop t) self.new }
@@ -106,8 +115,7 @@ impl<F: Copy> Fences<F> {
 
     /// The board is reset: all that waits counts as applied, all caches are emptied, and all calls are dropped (profile).
     pub fn reset<C: Fenced<F>>(&mut self, caches: &mut [C])
-        requires takes { Takes self.old Reset }
-        requires room { HasRoom self.old }
+        requires { HasRoom self.old }
         ensures taken { IsTaken self.old Reset self.new }
         ensures affected { AreAffected C.dropped C.emptied self.old Reset caches.old caches.new }
     {
@@ -130,7 +138,15 @@ impl<F: Copy> Fences<F> {
         requires { c < length self.now.calls }
         ensures { result ≡ call_at self.now c }
     {
-        self.calls[c as usize]
+        self.calls[c as usize].map(|call| call.harts())
+    }
+
+    /// Whether hart `c` is inside a fence call that waits for a hart.
+    pub fn is_waiting(&self, c: u64) -> bool
+        requires { c < length self.now.calls }
+        ensures { result ≡ not (length (unwrap_or (call_at self.now c) []) == 0) }
+    {
+        self.calls[c as usize].is_some_and(|call| call.is_some())
     }
 
     /// The requests that wait at hart `t`, the first of them first.

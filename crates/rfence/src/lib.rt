@@ -1,6 +1,7 @@
 //! Remote fences (SBI 8): which wait at which hart, which were applied, and for which harts a call waits.
 #![tactic(auto)]
 
+mod awaited;
 mod caches;
 mod calls;
 mod fences;

@@ -9,7 +9,7 @@ use Rattle.board_core.specs.Csrs.{sstatus_sie}
 use Rattle.board_core.specs.Replies.{failure}
 use Rattle.board_core.specs.History.{by_hart}
 use Rattle.rfence.specs.Turns.{Stop}
-use Rattle.board_core.proofs.Situations.{fences-room, takes}
+use Rattle.board_core.proofs.Situations.{fences-room}
 use Rattle.board_core.proofs.Events.{deed_of_call, does_call}
 use Rattle.board_core.proofs.HartsStanding.{harts-own}
 use Rattle.board_core.proofs.InterruptsStanding.{interrupts-timers, timers-set}
@@ -19,9 +19,6 @@ use Rattle.board_core.proofs.Standing.{fences-turned, stands-but-counts, stands-
 use Rattle.std.specs.Vec.{with_items}
 use Rattle.board_core.proofs.Tables.{tabulated-items}
 use Rattle.board_core.proofs.machine.Machine.hart_stop.Goals as goal
-
-pub discharge_all-requires-clause-takes : goal.discharge_all-requires-clause-takes
-discharge_all-requires-clause-takes c = takes c.args.config.now c.args.self.now c.requires.good c.requires.standing _ c.requires.in_range
 
 pub discharge_all-requires-clause-room : goal.discharge_all-requires-clause-room
 discharge_all-requires-clause-room c = fences-room c.args.config.now c.args.self.now c.requires.good c.requires.standing

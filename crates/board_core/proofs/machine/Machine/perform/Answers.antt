@@ -10,7 +10,9 @@ use Rattle.std.specs.Vec.{with_items}
 use Rattle.rfence.specs.Turns as fence_turns
 use Rattle.board_core.specs.Fences.{turns}
 use Rattle.board_core.proofs.Rows.{accepted_goes_on, running_parts}
-use Rattle.board_core.proofs.Situations.{counts-room, fences-room, poll-right, serve-right, takes}
+use Rattle.fence_queue.specs.Queues.{queue_at}
+use Rattle.rfence.specs.State.{call_at}
+use Rattle.board_core.proofs.Situations.{call-over, counts-room, fences-room, poll-right, serve-right, some-wait}
 use Rattle.board_core.proofs.Tables.{tabulated-items}
 use Rattle.sv39.specs.Satp.{satp_written}
 use Rattle.board_core.specs.declared.event.Op.TheVariants.{ClearSsip, FenceI, Poll, ReadSip, Serve, Sfence, Wfi, WriteSatp, WriteSie, WriteSstatusSie}
@@ -71,14 +73,10 @@ returns-in-FenceI-clause-after c = λ past stands.
     (caches-read config past m.memory h c.requires.in_range stands.memory) (own-drops (turns config past) h Words) (own-drops (turns config past) h Words) stands.memory.caches))
     (fences-own config past event d refl m.fences h Words c.requires.in_range refl stands.fences))
 
-pub poll-requires : goal.poll-requires
-poll-requires c =
-    let config = c.args.config.now in
-    let m = c.args.self.now in
-    let h = c.args.h in
-    let standing = c.requires.standing in
+pub poll-requires-clause-over : goal.poll-requires-clause-over
+poll-requires-clause-over c =
     let ready = rw c.in-Poll.is at c.requires.accepted in
-    takes config m c.requires.good standing (fence_turns.Poll h) (poll-right config standing.past m.fences standing.stands.fences h c.requires.in_range ready.in_phase ready.to_do)
+    call-over (call_at c.args.self.now.fences c.args.h) ready.in_phase ready.to_do
 
 pub returns-in-Poll-clause-after : goal.returns-in-Poll-clause-after
 returns-in-Poll-clause-after c = λ past stands.
@@ -92,14 +90,10 @@ returns-in-Poll-clause-after c = λ past stands.
     (stands-fences config past event d refl m m.memory c.poll.new.self refl stands (memory-still config past event d refl m.memory refl stands.memory)
     (fences-turned config past event d refl m.fences _ (fence_turns.Poll h) refl c.poll.ensures (poll-right config past m.fences stands.fences h c.requires.in_range ready.in_phase ready.to_do) stands.fences))
 
-pub serve-requires-clause-takes : goal.serve-requires-clause-takes
-serve-requires-clause-takes c =
-    let config = c.args.config.now in
-    let m = c.args.self.now in
-    let h = c.args.h in
-    let standing = c.requires.standing in
+pub serve-requires-clause-waits : goal.serve-requires-clause-waits
+serve-requires-clause-waits c =
     let ready = rw c.in-Serve.is at c.requires.accepted in
-    takes config m c.requires.good standing (fence_turns.Serve h) (serve-right config standing.past m.fences standing.stands.fences h c.requires.in_range ready.to_do)
+    some-wait (queue_at c.args.self.now.fences.queues c.args.h) ready.to_do
 
 pub serve-requires-clause-room : goal.serve-requires-clause-room
 serve-requires-clause-room c = fences-room c.args.config.now c.args.self.now c.requires.good c.requires.standing

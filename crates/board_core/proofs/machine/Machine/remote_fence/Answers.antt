@@ -1,4 +1,4 @@
-use Rattle.std.proofs.Common.{◌≡◌, ◌∙◌, ap, refl, subst}
+use Rattle.std.proofs.Common.{◌≡◌, ◌∙◌, arith, ap, refl, subst}
 use Rattle.std.specs.Prelude.{Ok, Some}
 use Rattle.sbi_abi.specs.declared.answer.SbiError.TheVariants.{InvalidParam}
 use Rattle.rfence.specs.HartCaches.{dropped_of, emptied_of}
@@ -11,7 +11,7 @@ use Rattle.board_core.specs.Fences.{Remote, is_asked_by, turns}
 use Rattle.board_core.specs.History.{by_hart}
 use Rattle.board_core.specs.Replies.{failure}
 use Rattle.board_core.proofs.Events.{deed, deed_of_turn, does_call, does_no_remote, does_remote, still}
-use Rattle.board_core.proofs.Situations.{fences-room, outside-read, takes}
+use Rattle.board_core.proofs.Situations.{fences-room, outside-read}
 use Rattle.board_core.proofs.MemoryStanding.{caches-turned, memory-caches}
 use Rattle.board_core.proofs.Reading.{length-caches}
 use Rattle.board_core.proofs.Standing.{fences-turned, stands-fences, stands-quiet}
@@ -39,18 +39,15 @@ returns-in-Err-flush-clause-after c = λ past regs call remote is stands.
     (stands-quiet config past (by_hart h (Ecall regs) reply) still (does_call config past h regs call reply is ∙ does_no_remote config past h call _ (failure error) remote)
     c.args.self.now refl stands)
 
-pub ask-requires-clause-takes : goal.ask-requires-clause-takes
-ask-requires-clause-takes c =
+pub ask-requires-clause-targets : goal.ask-requires-clause-targets
+ask-requires-clause-targets c = λ t asked.
     let config = c.args.config.now in
     let m = c.args.self.now in
     let standing = c.requires.standing in
-    let past = standing.past in
-    takes config m c.requires.good standing _ (
-      c.requires.in_range,
-      reached-below config past m.hsm c.requires.good.at_most_128_harts standing.stands.harts c.args.mask c.args.base c.in-Ok.harts c.interruptible.result c.intersection-asked.result
-          c.in-Ok.ensures.answer c.in-Ok.ensures.below c.interruptible.ensures c.intersection-asked.ensures,
-      outside-read config past m.fences standing.stands.fences c.args.h c.requires.in_range c.requires.outside,
-    )
+    let most = c.requires.good.at_most_128_harts in
+    let below = reached-below config standing.past m.hsm most standing.stands.harts c.args.mask c.args.base c.in-Ok.harts c.interruptible.result c.intersection-asked.result
+    c.in-Ok.ensures.answer c.in-Ok.ensures.below c.interruptible.ensures c.intersection-asked.ensures t asked in
+    omega (arith, below, c.requires.sized.calls)
 
 pub ask-requires-clause-room : goal.ask-requires-clause-room
 ask-requires-clause-room c = fences-room c.args.config.now c.args.self.now c.requires.good c.requires.standing

@@ -13,7 +13,7 @@ use Rattle.board_core.specs.History.{by_hart}
 use Rattle.board_core.specs.Replies.{failure}
 use Rattle.board_core.proofs.Events.{deed_of_call, does_call}
 use Rattle.board_core.proofs.Resetting.{harts-anew}
-use Rattle.board_core.proofs.Situations.{fences-room, takes}
+use Rattle.board_core.proofs.Situations.{fences-room}
 use Rattle.board_core.proofs.HartsStanding.{harts-reset, length-harts}
 use Rattle.board_core.proofs.InterruptsStanding.{interrupts-reset}
 use Rattle.board_core.proofs.MemoryStanding.{caches-turned, memory-reset}
@@ -22,11 +22,8 @@ use Rattle.board_core.proofs.Standing.{call-quiet, counts-reset, fences-turned, 
 use Rattle.board_core.proofs.Tables.{tabulated-items}
 use Rattle.board_core.proofs.machine.Machine.system_reset.Goals as goal
 
-pub reset-requires-4-clause-takes : goal.reset-requires-4-clause-takes
-reset-requires-4-clause-takes c = takes c.args.config.now c.args.self.now c.requires.good c.requires.standing _ tt
-
-pub reset-requires-4-clause-room : goal.reset-requires-4-clause-room
-reset-requires-4-clause-room c = fences-room c.args.config.now c.args.self.now c.requires.good c.requires.standing
+pub reset-requires-4 : goal.reset-requires-4
+reset-requires-4 c = fences-room c.args.config.now c.args.self.now c.requires.good c.requires.standing
 
 pub returns-in-Err-clause-after : goal.returns-in-Err-clause-after
 returns-in-Err-clause-after c = λ h past regs is stands.
