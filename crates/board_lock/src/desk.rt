@@ -65,6 +65,7 @@ impl<K: Room> Desk<K> {
         ensures refused { OnErr result ((seat.new ≡ seeing seat.old (events_in self.old.board)) × (self.new ≡ self.old)) }
         ensures refusal { IfErr result (λ r. IsRefused K.opening seat.new op r) }
         ensures later { IsPrefix seat.old.saw seat.new.saw }
+        ensures now { seat.new.saw ≡ events_in self.new.board }
     {
         self.see(seat);
         let number = self.number(seat.actor);
@@ -89,6 +90,27 @@ impl<K: Room> Desk<K> {
             seen: self.log.glimpse(),
             room: PhantomData,
         })
+    }
+
+    /// One step of the seat's actor, a receipt for it, and what the seat's hart may do next.
+    pub(crate) fn call_and_view(
+        &mut self,
+        seat: &mut Seat<K>,
+        op: Op,
+    ) -> Result<(Receipt<K>, HartView), Refusal>
+        ensures receipt { IfOk result (λ r. (r.0.actor ≡ seat.old.actor) × (r.0.op ≡ op) × (r.0.ordinal ≡ seat.old.count)) }
+        ensures view { IfOk result (λ r. IsView K.opening seat.new r.1) }
+        ensures actor { seat.new.actor ≡ seat.old.actor }
+        ensures accepted { OnOk result (seat.new.count ≡ seat.old.count + 1) }
+        ensures ops { OnOk result (seat.new.ops ≡ seat.old.ops ++ op ∷ []) }
+        ensures done { IfOk result (λ r. IsDone K.opening seat.old seat.new op r.0.reply) }
+        ensures refused { OnErr result (seat.new ≡ seeing seat.old seat.new.saw) }
+        ensures refusal { IfErr result (λ r. IsRefused K.opening seat.new op r) }
+        ensures later { IsPrefix seat.old.saw seat.new.saw }
+    {
+        let receipt = self.call(seat, op)?;
+        let view = self.view(seat);
+        Ok((receipt, view))
     }
 
     /// The seat looks at the events as they are now.

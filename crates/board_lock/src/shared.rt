@@ -20,7 +20,7 @@ use crate::views::HartView;
 use board_core::{BuildFault, Config, Op, Refusal};
 use std::alloc::Global;
 use std::marker::PhantomData;
-use std::sync::{Condvar, Mutex, Wait};
+use std::sync::{Condvar, Mutex, MutexGuard, Wait};
 
 /// A board behind one lock.
 #[derive(Drop)]
@@ -76,12 +76,42 @@ impl<K: Room> SharedBoard<K> {
     {
         let mut desk = self.desk.lock(rt);
         let told = desk.call(seat, op);
-        let rested = told.is_ok() && desk.wake();
+        self.let_go(desk, told.is_ok());
+        told
+    }
+
+    /// As `call`, and with the receipt what the seat's hart may do next, after the event that it records. The lock is held once
+    /// for both.
+    pub fn call_and_view(
+        &self,
+        rt: &impl Wait,
+        seat: &mut Seat<K>,
+        op: Op,
+    ) -> Result<(Receipt<K>, HartView), Refusal>
+        ensures receipt { IfOk result (λ r. (r.0.actor ≡ seat.old.actor) × (r.0.op ≡ op) × (r.0.ordinal ≡ seat.old.count)) }
+        ensures view { IfOk result (λ r. IsView K.opening seat.new r.1) }
+        ensures actor { seat.new.actor ≡ seat.old.actor }
+        ensures accepted { OnOk result (seat.new.count ≡ seat.old.count + 1) }
+        ensures ops { OnOk result (seat.new.ops ≡ seat.old.ops ++ op ∷ []) }
+        ensures done { IfOk result (λ r. IsDone K.opening seat.old seat.new op r.0.reply) }
+        ensures refused { OnErr result (seat.new ≡ seeing seat.old seat.new.saw) }
+        ensures refusal { IfErr result (λ r. IsRefused K.opening seat.new op r) }
+        ensures later { IsPrefix seat.old.saw seat.new.saw }
+    {
+        let mut desk = self.desk.lock(rt);
+        let told = desk.call_and_view(seat, op);
+        self.let_go(desk, told.is_ok());
+        told
+    }
+
+    /// Lets go of the lock, and wakes all that rest where there is another event.
+    fn let_go(&self, desk: MutexGuard<'_, Desk<K>>, has_more: bool) {
+        let mut desk = desk;
+        let rested = has_more && desk.wake();
         drop(desk);
         if rested {
             self.changed.notify_all();
         }
-        told
     }
 
     /// What the seat's hart may do next, after the events that there are at this moment, which the seat has seen since. It is

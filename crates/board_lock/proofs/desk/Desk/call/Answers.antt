@@ -13,7 +13,7 @@ use Rattle.board_lock.specs.Rests.{Held}
 use Rattle.board_lock.specs.Seats.{Sitting}
 use Rattle.board_lock.proofs.Actors.{number-within, same-itself}
 use Rattle.board_lock.proofs.Ops.{ops-more, ops-same}
-use Rattle.board_lock.proofs.Growing.{differs, done, event, longer-by-one, last, desk-more, seat-more, told, read, small, as-long}
+use Rattle.board_lock.proofs.Growing.{differs, done, event, logs, longer-by-one, last, desk-more, seat-more, told, read, small, as-long}
 use Rattle.board_lock.proofs.desk.Desk.call.Goals as goal
 
 pub index-requires : goal.index-requires
@@ -170,6 +170,20 @@ returns-clause-done g c =
     ap (λ (s : Sitting). s.saw) c.see.ensures.seat ∙ ap (λ (h : Held). events_in h.board) (sym (c.self.view_is ∙ c.see.ensures.same)) ∙ sym d.logged in
     done b b' a c.args.op c.in_ok-reply.reply answered went g.K.Room.opening c.args.seat.now _ c.self.inside.log.list c.glimpse-2.result.list d.opened d.logged longer
     (ap (λ (s : Sitting). s.actor) (c.seat.view_is ∙ c.see.ensures.seat)) (subst (IsPrefix c.args.seat.now.saw) sees c.see.ensures.later) refl
+
+pub returns-clause-now : goal.returns-clause-now
+returns-clause-now g c =
+    let d = c.self.invariant in
+    let b : Course = c.self.inside.board in
+    let b' : Course = c.step.new.self in
+    let a : Actor = c.seat.inside.actor in
+    let answered : Ok c.in_ok-reply.reply ≡ answer b.config b.past a c.args.op = c.in_ok-reply.ensures.answer in
+    let went : b' ≡ stepped b a c.args.op = c.step.ensures.after in
+    let at : c.index-history-place.result ≡ event b b' a c.args.op c.in_ok-reply.reply answered went =
+    last b b' a c.args.op c.in_ok-reply.reply answered went c.history-place.result.now c.history.result.now c.index-history-place.result c.history-place.ensures.events c.history.ensures.events c.index-history-place.is in
+    let longer : c.glimpse-2.result.list ≡ c.self.inside.log.list ++ event b b' a c.args.op c.in_ok-reply.reply answered went ∷ [] =
+    c.glimpse-2.ensures.2 ∙ ap (λ (l : Chronicle Event). l.list) c.glimpse.ensures.0 ∙ c.push.ensures.1 ∙ ap (λ (e : Event). c.self.inside.log.list ++ e ∷ []) at in
+    logs b b' a c.args.op c.in_ok-reply.reply answered went c.self.inside.log.list c.glimpse-2.result.list d.logged longer
 
 pub returns-then-index-seat-clause-refusal : goal.returns-then-index-seat-clause-refusal
 returns-then-index-seat-clause-refusal g c =
