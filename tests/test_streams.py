@@ -71,9 +71,12 @@ def names_of_files(room):
 
 
 def no_text(room):
-    """A word that is no UTF-8 text can't be read."""
+    """A word that is no UTF-8 text can't be read, and is no path: also where there is a file of that name."""
+    with open(os.path.join(os.fsencode(room), b"caf\xe9"), "wb") as file:
+        file.write(BOARD)
     for task in TASKS:
-        must_be(ran([task, b"\xff"], cwd=room), 7, b"", FAILED_IO)
+        for name in (b"\xff", b"caf\xe9"):
+            must_be(ran([task, name], cwd=room), 7, b"", FAILED_IO)
 
 # Tasks and their scripts, each of which prints something and ends well.
 RUNS = [("run", TWO_HARTS), ("replay", SHORT), ("replay", LONG), ("check", TRACE), ("check", BOARD)]

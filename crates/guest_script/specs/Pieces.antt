@@ -5,7 +5,7 @@ use Rattle.board_core.specs.declared.config.Config.{Config}
 use Rattle.guest_script.specs.declared.fault.Fault.TheVariants.{NoMemory, TooLong}
 use Rattle.guest_script.specs.declared.fault.ScriptFault.{ScriptFault}
 use Rattle.guest_script.specs.declared.script.Script.{Script}
-use Rattle.guest_script.specs.FirstFault.{first_fault, no_memory}
+use Rattle.guest_script.specs.FirstFault.{first_fault}
 use Rattle.guest_script.specs.Grammar.{Draft, Reads, Written, most_bytes, written}
 use Rattle.guest_script.specs.Reading.{lines_from, script_from, script_of, with_config}
 
@@ -37,13 +37,9 @@ abbrev pub script_with : Part → List ℕ → Result Written ScriptFault
 script_with part bytes =
     if nat_lt most_bytes (part.size + length bytes) then Err (record { line = 0; fault = TooLong }) else told_after part.told part.next (lines bytes)
 
--- the second is as the first; or memory was refused
-abbrev pub AgreesOrLacks : (read answer : Result Written ScriptFault) → Type 0
-AgreesOrLacks read answer = (answer ≡ Err no_memory) ⊎ (read ≡ answer)
-
 -- A reader was given these bytes: whatever follows, the script is what it makes of that.
 abbrev pub HasRead : (reader : Part) → List ℕ → Type 0
-HasRead reader bytes = (more : List ℕ) → AgreesOrLacks (script_of (bytes ++ more)) (script_with reader more)
+HasRead reader bytes = (more : List ℕ) → script_of (bytes ++ more) ≡ script_with reader more
 
 -- What is answered of bytes.
 pub record IsAnswered (bytes : List ℕ) (answer : Result Script ScriptFault) : Type 0 where

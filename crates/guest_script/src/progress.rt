@@ -1,8 +1,7 @@
-ghost use Rattle.std.specs.Prelude.{◌≡◌, ◌+◌, ◌<◌, ◌≤◌, ◌^◌, ◌++◌, ◌∷◌, [], List, Ok, ℕ, length};
+ghost use Rattle.std.specs.Prelude.{◌≡◌, ◌+◌, ◌<◌, ◌≤◌, ◌^◌, ◌++◌, ◌∷◌, [], List, Ok, IfOk, OnOk, ℕ, length};
 ghost use Rattle.std.specs.Str.Lines.{lines};
 ghost use Rattle.guest_script.specs.Drafts.{draft_of};
 ghost use Rattle.guest_script.specs.Grammar.{written};
-ghost use Rattle.guest_script.specs.Pieces.{AgreesOrLacks};
 ghost use Rattle.guest_script.specs.Progress.{lines_of_stage, lines_so_far, script_after, stage_after};
 ghost use Rattle.guest_script.specs.Reading.{GivesOrLacks, script_from, with_config};
 
@@ -12,7 +11,7 @@ use crate::fault::{Fault, NO_MEMORY, ScriptFault};
 use crate::script::Script;
 use crate::text::next_line;
 use board_core::Config;
-use std::alloc::Global;
+use std::alloc::{AllocError, Global};
 
 /// What the lines of a script so far say.
 #[derive(Drop)]
@@ -26,7 +25,7 @@ pub enum Stage {
         /// What the lines after its line say.
         draft: BodyDraft,
     },
-    /// There was a fault, or no memory.
+    /// There was a fault.
     Faulty(ScriptFault),
 }
 
@@ -41,50 +40,71 @@ pub struct Progress {
 
 impl Progress {
     /// Reads all lines of the bytes.
-    pub fn read_lines(&mut self, alloc: Global, expected: usize, bytes: &[u8])
+    ///
+    /// # Errors
+    ///
+    /// Memory was refused.
+    pub fn read_lines(
+        &mut self,
+        alloc: Global,
+        expected: usize,
+        bytes: &[u8],
+    ) -> Result<(), AllocError>
         requires number { self.old.next + length bytes.now < 2 ^ 28 }
         requires few { length (lines_so_far self.old) ≤ self.old.next }
-        ensures read { (more : List (List ℕ)) → AgreesOrLacks (script_after self.old (lines bytes.now ++ more)) (script_after self.new more) }
-        ensures within { self.new.next ≤ self.old.next + length bytes.now }
-        ensures few { length (lines_so_far self.new) ≤ self.new.next }
+        ensures read { OnOk result ((more : List (List ℕ)) → script_after self.old (lines bytes.now ++ more) ≡ script_after self.new more) }
+        ensures within { OnOk result (self.new.next ≤ self.old.next + length bytes.now) }
+        ensures few { OnOk result (length (lines_so_far self.new) ≤ self.new.next) }
     {
         let mut rest = bytes;
         while !rest.is_empty() {
-            rest = self.read_some(alloc, expected, rest);
+            rest = self.read_some(alloc, expected, rest)?;
         }
+        Ok(())
     }
 
     /// Reads the line that the bytes begin with, or more lines from it on, and answers the bytes after them. After a fault
     /// nothing more is read.
-    fn read_some<'a>(&mut self, alloc: Global, expected: usize, bytes: &'a [u8]) -> &'a [u8]
+    fn read_some<'a>(
+        &mut self,
+        alloc: Global,
+        expected: usize,
+        bytes: &'a [u8],
+    ) -> Result<&'a [u8], AllocError>
         requires some { 0 < length bytes.now }
         requires number { self.old.next + length bytes.now < 2 ^ 28 }
         requires few { length (lines_so_far self.old) ≤ self.old.next }
-        ensures read { (more : List (List ℕ)) → AgreesOrLacks (script_after self.old (lines bytes.now ++ more)) (script_after self.new (lines result.now ++ more)) }
-        ensures within { self.new.next + length result.now ≤ self.old.next + length bytes.now }
-        ensures shorter { length result.now < length bytes.now }
-        ensures few { length (lines_so_far self.new) ≤ self.new.next }
+        ensures read { IfOk result (λ rest. (more : List (List ℕ)) → script_after self.old (lines bytes.now ++ more) ≡ script_after self.new (lines rest.now ++ more)) }
+        ensures within { IfOk result (λ rest. self.new.next + length rest.now ≤ self.old.next + length bytes.now) }
+        ensures shorter { IfOk result (λ rest. length rest.now < length bytes.now) }
+        ensures few { OnOk result (length (lines_so_far self.new) ≤ self.new.next) }
     {
         match &mut self.stage {
             Stage::Nothing => {
                 let (text, rest) = next_line(bytes);
                 self.stage = first_stage(self.next, text);
                 self.next += 1;
-                rest
+                Ok(rest)
             }
             Stage::Lines { config: _, draft } => {
                 match draft.read_some(alloc, expected, self.next, bytes) {
                     Ok((next, rest)) => {
                         self.next = next;
-                        rest
+                        Ok(rest)
                     }
+                    Err(
+                        ScriptFault {
+                            line: _,
+                            fault: Fault::NoMemory,
+                        },
+                    ) => Err(AllocError),
                     Err(fault) => {
                         self.stage = Stage::Faulty(fault);
-                        &bytes[bytes.len()..]
+                        Ok(&bytes[bytes.len()..])
                     }
                 }
             }
-            Stage::Faulty(_) => &bytes[bytes.len()..],
+            Stage::Faulty(_) => Ok(&bytes[bytes.len()..]),
         }
     }
 

@@ -1,12 +1,12 @@
-ghost use Rattle.std.specs.Prelude.{◌≡◌, ◌+◌, ◌≤◌, ◌++◌, [], ℕ, List, length};
+ghost use Rattle.std.specs.Prelude.{◌≡◌, ◌+◌, ◌≤◌, ◌++◌, [], ℕ, List, IfOk, length};
 ghost use Rattle.guest_script.specs.Grammar.{most_bytes};
 ghost use Rattle.guest_script.specs.Pieces.{AreWhole, HasRead, IsAnswered, Part};
 ghost use Rattle.guest_script.specs.Progress.{grown, lines_so_far, part_of};
 
-use crate::fault::{Fault, ScriptFault};
+use crate::fault::{Fault, NO_MEMORY, ScriptFault};
 use crate::progress::{Progress, Stage};
 use crate::script::Script;
-use std::alloc::Global;
+use std::alloc::{AllocError, Global};
 use std::marker::Model;
 
 /// How many bytes a script may have.
@@ -44,15 +44,35 @@ impl Reader {
         }
     }
 
-    /// Reads the lines that come next, each with its line feed. A fault, or the want of memory, is told at the end.
-    pub fn read(&mut self, alloc: Global, lines: &[u8])
+    /// Reads the lines that come next, each with its line feed, and answers the reader of all lines so far. A fault is told
+    /// at the end.
+    ///
+    /// # Errors
+    ///
+    /// Memory was refused. The reading ends there: no reader is left that more could be given to.
+    pub fn read(self, alloc: Global, lines: &[u8]) -> Result<Reader, AllocError>
         requires { AreWhole lines.now }
-        ensures { (before : List ℕ) → HasRead self.old before → HasRead self.new (before ++ lines.now) }
+        ensures { (before : List ℕ) → HasRead self before → IfOk result (λ reader. HasRead reader (before ++ lines.now)) }
     {
-        self.size = grown(self.size, lines.len());
-        if self.size <= MOST_BYTES {
-            self.progress.read_lines(alloc, self.expected, lines);
+        let Reader {
+            size,
+            expected,
+            mut progress,
+        } = self;
+        let size = grown(size, lines.len());
+        if size > MOST_BYTES {
+            return Ok(Reader {
+                size,
+                expected,
+                progress,
+            });
         }
+        progress.read_lines(alloc, expected, lines)?;
+        Ok(Reader {
+            size,
+            expected,
+            progress,
+        })
     }
 
     /// Reads the last bytes, and answers the script that all bytes are, or their first fault.
@@ -70,8 +90,10 @@ impl Reader {
                 fault: Fault::TooLong,
             });
         }
-        progress.read_lines(alloc, expected, rest);
-        progress.script(alloc)
+        match progress.read_lines(alloc, expected, rest) {
+            Ok(()) => progress.script(alloc),
+            Err(_) => Err(NO_MEMORY),
+        }
     }
 }
 

@@ -70,41 +70,44 @@ pub fn read_script<S: Source>(alloc: Global, source: &mut S) -> Result<Script, R
     ensures end { IfOk result (λ _. IsAtEnd (S.left source.new)) }
     ensures failed { CountsReading (S.failures source.old) (S.failures source.new) result }
 {
-    let mut reader = Reader::expecting(source.expected());
+    let reader = Reader::expecting(source.expected());
     let mut bytes = Vec::new(alloc);
     bytes.resize(PIECE, 0)?;
-    let pending = read_pieces(alloc, source, &mut reader, &mut bytes)?;
-    Ok(reader.end(alloc, &bytes[..pending])?)
+    let read = read_pieces(alloc, source, reader, &mut bytes)?;
+    Ok(read.0.end(alloc, &bytes[..read.1])?)
 }
 
 /// Hands all lines of a source to the reader, but for the bytes behind the last line feed, which then stand in front; and
-/// answers how many these are.
+/// answers the reader, and how many these are.
 fn read_pieces<S: Source>(
     alloc: Global,
     source: &mut S,
-    reader: &mut Reader,
+    reader: Reader,
     bytes: &mut Vec<u8>,
-) -> Result<usize, ReadFault>
+) -> Result<(Reader, usize), ReadFault>
     requires counts { S.failures source.old < 2 ^ 63 }
-    requires nothing { HasRead reader.old [] }
+    requires nothing { HasRead reader [] }
     requires room { 0 < vec_len bytes.old }
-    ensures taken { IfOk result (λ pending. HasTakenAll (S.left source.old) (S.left source.new) reader.new (take pending bytes.new.items)) }
-    ensures within { IfOk result (λ pending. pending ≤ vec_len bytes.new) }
+    ensures taken { IfOk result (λ read. HasTakenAll (S.left source.old) (S.left source.new) read.0 (take read.1 bytes.new.items)) }
+    ensures within { IfOk result (λ read. read.1 ≤ vec_len bytes.new) }
     ensures lacks { IfErr result Lacks }
     ensures at_most { ReadsUpTo read_limit (S.left source.old) (S.left source.new) }
     ensures failed { CountsReading (S.failures source.old) (S.failures source.new) result }
 {
+    let mut reader = reader;
     let mut pending = 0;
     let mut left = READ_LIMIT;
     while left > 0 {
         let count = read_behind(source, bytes, pending, left)?;
         if count == 0 {
-            return Ok(pending);
+            return Ok((reader, pending));
         }
         left -= count;
-        pending = hand_on(alloc, reader, bytes, pending, pending + count);
+        let handed = hand_on(alloc, reader, bytes, pending, pending + count)?;
+        reader = handed.0;
+        pending = handed.1;
     }
-    Ok(pending)
+    Ok((reader, pending))
 }
 
 /// Puts what one read gives, so many bytes at most, behind the first `pending` ones, and answers how much that is.
@@ -153,30 +156,30 @@ fn read_at<S: Source>(
     source.read(&mut bytes[at..end])
 }
 
-/// Hands the whole lines of the first `filled` bytes to the reader, and answers how many bytes are left, which then stand
-/// in front. There is no line feed among those up to `from`.
+/// Hands the whole lines of the first `filled` bytes to the reader, and answers the reader, and how many bytes are left, which
+/// then stand in front. There is no line feed among those up to `from`.
 fn hand_on(
     alloc: Global,
-    reader: &mut Reader,
+    reader: Reader,
     bytes: &mut Vec<u8>,
     from: usize,
     filled: usize,
-) -> usize
+) -> Result<(Reader, usize), AllocError>
     requires from { from ≤ filled }
     requires within { filled ≤ vec_len bytes.old }
     ensures len { vec_len bytes.new ≡ vec_len bytes.old }
-    ensures fits { result ≤ filled }
-    ensures taken { (old new : Option (List ℕ)) → (count : ℕ) → HasTaken old new reader.old (take filled bytes.old.items) count
-        → HasTaken old new reader.new (take result bytes.new.items) count }
+    ensures fits { IfOk result (λ handed. handed.1 ≤ filled) }
+    ensures taken { (old new : Option (List ℕ)) → (count : ℕ) → HasTaken old new reader (take filled bytes.old.items) count
+        → IfOk result (λ handed. HasTaken old new handed.0 (take handed.1 bytes.new.items) count) }
 {
     let lines = whole_lines(&bytes[from..filled]);
     if lines == 0 {
-        return filled;
+        return Ok((reader, filled));
     }
     let end = from + lines;
-    reader.read(alloc, &bytes[..end]);
+    let reader = reader.read(alloc, &bytes[..end])?;
     bytes.copy_within(end..filled, 0);
-    filled - end
+    Ok((reader, filled - end))
 }
 
 /// How many of the bytes are whole lines: those up to the last line feed.

@@ -1,12 +1,11 @@
-use Rattle.std.proofs.Common.{◌+◌, ◌≤◌, ◌++◌, List, ℕ, length}
+use Rattle.std.proofs.Common.{◌≡◌, ◌+◌, ◌≤◌, ◌++◌, List, ℕ, length}
 use Rattle.std.specs.Str.Lines.{lines}
-use Rattle.guest_script.specs.Pieces.{AgreesOrLacks}
 use Rattle.guest_script.specs.Progress.{lines_so_far, script_after}
 use Rattle.guest_script.proofs.progress.Progress.read_lines.Given as goal
 
 abbrev pub invariant-loop-rest : goal.invariant-loop-rest
 invariant-loop-rest l =
-    ((more : List (List ℕ)) → AgreesOrLacks (script_after l.fn.self (lines l.bytes ++ more)) (script_after l.self (lines l.rest ++ more)))
+    ((more : List (List ℕ)) → script_after l.fn.self (lines l.bytes ++ more) ≡ script_after l.self (lines l.rest ++ more))
     × (l.self.next + length l.rest ≤ l.fn.self.next + length l.bytes)
     × (length (lines_so_far l.self) ≤ l.self.next)
 

@@ -10,6 +10,6 @@ read-requires c =
 
 pub returns-clause-taken : goal.returns-clause-taken
 returns-clause-taken c a b count has =
-    let read = rw c.deref-2.ensures.value at c.read.ensures in
+    let read = rw c.deref-2.ensures.value at c.in_ok-reader.ensures in
     rw c.copy_within.ensures.items
-    (given_taken a b c.args.reader.now c.read.new.self count c.args.bytes.now.items (c.args.from + c.whole_lines-lines.result) c.args.filled (omega arith) (omega (arith, c.requires.within)) read has)
+    (given_taken a b c.args.reader c.in_ok-reader.reader count c.args.bytes.now.items (c.args.from + c.whole_lines-lines.result) c.args.filled (omega arith) (omega (arith, c.requires.within)) read has)
