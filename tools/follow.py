@@ -8,6 +8,7 @@ from board_model import (
 )  # fmt: skip
 from records import Broken, is_reset, is_suspend
 from rules import TELLS, TOLD, ignored_as, rule_of, rule_of_entry, rule_of_wake
+from states import Difference, Open, State
 
 # How many orders are tried at one place, and how many steps back and forth after a reply that no order at its place gives.
 ORDERS = 200
@@ -16,74 +17,6 @@ KEPT_CHOICES = 200
 PAGES = 256
 MOST_EVENTS = 1_000_000
 READ_SIE = SSI | STI
-
-
-class Step:
-    """One step of the board: `said` is what the record shows of it (None: nothing), `why` where it came from."""
-
-    def __init__(self, actor, op, answer, said, at, why):
-        self.actor, self.op, self.answer, self.said, self.at, self.why = actor, op, answer, said, at, why
-
-    def line(self):
-        said = self.answer if self.said is None else self.said
-        return f"{spelled_step(self.actor, self.op)} -> {spelled_answer(said)}  # {self.why}"
-
-
-class Difference:
-    """A place where the board does otherwise: the rule that says why, or the line from which it follows, or neither."""
-
-    def __init__(self, at, what, here, there, rule, follows):
-        self.at, self.what, self.here, self.there, self.rule, self.follows = at, what, here, there, rule, follows
-
-
-class Open:
-    """A call that hasn't returned: its place in the record, its operation, and the board's answer once it is done."""
-
-    def __init__(self, place, op, answer=None):
-        self.place, self.op, self.answer = place, op, answer
-
-
-class State:
-    """A board, and where a record stands on it. `out` is what came of it, newest first, as pairs."""
-
-    def __init__(self, board):
-        self.board, self.out = board, None
-        # `tainted`: harts whose life went on otherwise; `missed`: harts that an IPI reached there alone; each with the line.
-        self.calls, self.early, self.tainted, self.missed = {}, {}, {}, {}
-        self.offset, self.has_ticked = 0, False
-        # Which suspended harts were asked for a fence while they slept.
-        self.fenced = frozenset()
-
-    def copy(self):
-        other = State.__new__(State)
-        other.__dict__.update(self.__dict__)
-        other.board = self.board.copy()
-        other.calls, other.early = dict(self.calls), dict(self.early)
-        other.tainted, other.missed = dict(self.tainted), dict(self.missed)
-        return other
-
-    def forget(self):
-        """As after a reset."""
-        self.calls, self.early, self.tainted, self.missed, self.fenced = {}, {}, {}, {}, frozenset()
-
-    def key(self):
-        harts = tuple((x.state, x.kept, x.ssip, x.sie, x.deadline, x.outstanding) for x in self.board.harts)
-        return harts, frozenset((h, call.answer) for h, call in self.calls.items()), frozenset(self.early)
-
-    def put(self, item):
-        self.out = (self.out, item)
-
-    def do(self, actor, op, at, why, said=None):
-        answer = self.board.step(actor, op)
-        self.put(Step(actor, op, answer, said, at, why))
-        return answer
-
-    def items(self):
-        found, out = [], self.out
-        while out is not None:
-            out, item = out
-            found.append(item)
-        return found[::-1]
 
 
 class Follower:

@@ -1,9 +1,10 @@
 """Traces and reports of records: what tools/to-trace prints, and what other tools count and draw."""
 from collections import Counter
 
-from follow import MOST_EVENTS, PAGES, Difference, Follower, Step
+from follow import MOST_EVENTS, PAGES, Follower
 from records import Broken
 from rules import RULES
+from states import Difference, Step
 
 LOADED_AT = 0x80200000
 
