@@ -8,15 +8,15 @@ use guest_script::{Block, Body};
 
 /// What the threads of a board do.
 #[derive(Clone, Copy)]
-pub(crate) struct Program<'a> {
+pub struct Program<'a> {
     /// What guests do, by the address of their entry.
-    pub(crate) blocks: &'a [Block],
+    pub blocks: &'a [Block],
     /// What the clock does.
-    pub(crate) ticks: &'a [u64],
+    pub ticks: &'a [u64],
 }
 
 /// The operations of the block at an address; none where no block is.
-pub(crate) fn block_at<'a>(blocks: &'a [Block], addr: u64) -> &'a [Op]
+pub fn block_at<'a>(blocks: &'a [Block], addr: u64) -> &'a [Op]
     ensures { result.now ≡ block_at (map guest blocks.now) addr }
 {
     for block in blocks {
@@ -28,7 +28,7 @@ pub(crate) fn block_at<'a>(blocks: &'a [Block], addr: u64) -> &'a [Op]
 }
 
 /// The program that a script is.
-pub(crate) fn program_in(body: &Body) -> Program<'_>
+pub fn program_in(body: &Body) -> Program<'_>
     requires { IsProgram (content body.now) }
     ensures blocks { map guest result.blocks.now ≡ blocks_of (content body.now) }
     ensures ticks { result.ticks.now ≡ ticks_of (content body.now) }

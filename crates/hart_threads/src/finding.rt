@@ -12,7 +12,7 @@ use std::alloc::{AllocError, Global};
 
 /// How the run of a board ended, by its history and what its guests had to do; of the threads' word only what can't be seen
 /// there is taken: whether a gate ended one, and whether one met a full history.
-pub(crate) fn end_of(
+pub fn end_of(
     alloc: Global,
     board: &Board,
     blocks: &[Block],

@@ -66,7 +66,7 @@ impl<'a> Guest<'a> {
 }
 
 /// Whether an operation is a guest's, and neither the firmware's own nor the clock's.
-pub(crate) fn is_guest(op: Op) -> bool
+pub fn is_guest(op: Op) -> bool
     ensures { result ≡ is_guest op }
 {
     !matches!(op, Op::Poll | Op::Serve | Op::Advance | Op::Tick(_))

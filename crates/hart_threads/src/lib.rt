@@ -15,6 +15,10 @@ mod running;
 mod starting;
 mod work;
 
+pub use blocks::{Program, block_at, program_in};
 pub use ends::{End, RunEnd, RunFault};
+pub use finding::end_of;
 pub use gate::{Gate, Open};
+pub use guests::is_guest;
+pub use met::Met;
 pub use running::run;

@@ -3,7 +3,7 @@ ghost use Rattle.hart_threads.specs.Met.{met_by_both};
 
 /// What kept a thread from going on, if something did.
 #[derive(Clone, Copy, Debug, PartialEq, Eq)]
-pub(crate) enum Met {
+pub enum Met {
     /// Nothing.
     Nothing,
     /// An operation was refused, since the history was full.

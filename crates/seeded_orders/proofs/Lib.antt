@@ -1,0 +1,5 @@
+pub mod Following
+pub mod Listing
+pub mod Seeing
+pub mod Ordering
+pub mod Taking

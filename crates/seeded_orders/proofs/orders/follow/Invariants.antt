@@ -1,0 +1,12 @@
+use Rattle.std.proofs.Common.{◌≡◌, ◌-◌}
+use Rattle.seeded_orders.specs.Orders.{ordered}
+use Rattle.seeded_orders.specs.Places.{AreAt}
+use Rattle.seeded_orders.specs.Steps.{task_in}
+use Rattle.seeded_orders.proofs.orders.follow.Given as goal
+
+abbrev pub invariant-loop-i : goal.invariant-loop-i
+invariant-loop-i l =
+    (l.board.config ≡ l.initial.board.config)
+    × AreAt (task_in l.program) l.board.config.harts l.board.past l.places
+    × (ordered l.board.config (task_in l.program) (l.initial.board.config.limit - l.i) l.words l.board.past
+    ≡ ordered l.initial.board.config (task_in l.program) l.initial.board.config.limit l.initial.words l.initial.board.past)
