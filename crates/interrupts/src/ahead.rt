@@ -1,7 +1,7 @@
 //! Deadlines that aren't due yet, in order.
 
 ghost use Rattle.std.specs.Prelude.{◌≡◌, ◌+◌, ◌<◌, ◌≤◌, drop, length, [], ◌==◌, MatchOption};
-ghost use Rattle.std.specs.List.{position};
+ghost use Rattle.std.specs.List.{insert, position};
 ghost use Rattle.interrupts.specs.declared.ahead.Member.{Member};
 ghost use Rattle.interrupts.specs.Ahead.{AreLater, IsFirst, IsInserted, IsPlaceOf, member_of, without_hart};
 
@@ -54,7 +54,7 @@ impl Ahead {
     {
         self.start = with_room(&mut self.members, self.start);
         let place = place_of(self.members.as_slice(), self.start, deadline);
-        self.members.insert(place, Member { deadline, hart });
+        put(&mut self.members, place, Member { deadline, hart });
     }
 
     /// Without the first deadline of this hart.
@@ -112,6 +112,19 @@ fn place_of(members: &[Member], start: usize, deadline: u64) -> usize
         place -= 1;
     }
     place
+}
+
+/// Puts a member at a place, behind all of them without a move.
+fn put(members: &mut ArrayVec<Member, 128>, place: usize, member: Member)
+    requires within { place ≤ length members.old.items }
+    requires room { length members.old.items < 128 }
+    ensures { members.new.items ≡ insert members.old.items place member }
+{
+    if place == members.len() {
+        members.push(member);
+    } else {
+        members.insert(place, member);
+    }
 }
 
 /// The first place of a hart.
