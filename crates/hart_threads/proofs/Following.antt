@@ -9,7 +9,7 @@ head-of : (front : List Op) (a b : Op) (us vs : List Op) → front ++ a ∷ us �
 head-of [] a b us vs same = cc
 head-of (x ∷ front) a b us vs same = head-of front a b us vs cc
 
-longer : (front : List Op) (a : Op) (us : List Op) → front ++ a ∷ us ≢ front
+pub longer : (front : List Op) (a : Op) (us : List Op) → front ++ a ∷ us ≢ front
 longer [] a us same = cc
 longer (x ∷ front) a us same = longer front a us cc
 

@@ -1,5 +1,6 @@
 -- Threads that keep their promises give back the seats that they were given.
-use Rattle.std.proofs.Common.{◌≡◌, ℕ, suc, List, [], ◌∷◌, length, map, refl, ap, ◌∙◌, arith}
+use Rattle.std.proofs.Common.{◌≡◌, ℕ, zero, suc, List, [], ◌∷◌, length, map, refl, ap, ◌∙◌, arith}
+use Rattle.std.specs.List.{All}
 use Rattle.std.specs.PromisedHandle.{KeepsEach}
 use Rattle.std.specs.declared.thread.PromisedHandle.{PromisedHandle}
 use Rattle.std.specs.declared.thread.Promise as Promise
@@ -17,3 +18,13 @@ module _ {T P : Type 0} (g : Promise.Ghosts P T) (actor : T → Actor) (promised
       let one : actor r ≡ promised h.promise = says first.handle.promise r first.kept ∙ ap (λ (x : PromisedHandle T P). promised x.promise) first.handle_is in
       let others = kept_all (length handles) handles results refl (omega arith) (λ i d below. let k = (each (suc i) d (omega arith)).1 in (refl, record { handle = k.handle; handle_is = k.handle_is; kept = k.kept })) in
       rw one rw others refl
+
+-- and what each promised
+module _ {T P : Type 0} (g : Promise.Ghosts P T) (Q : T → Type 0) (says : (p : P) (r : T) → g.kept_by p r → Q r) where
+  pub kept_each : (many : ℕ) (handles : List (PromisedHandle T P)) (results : List T) → many ≡ length handles → many ≡ length results → KeepsEach g many handles results → All Q results
+  kept_each many handles [] is same each k d below = absurd (omega arith)
+  kept_each many [] (r ∷ results) is same each k d below = absurd (omega arith)
+  kept_each many (h ∷ handles) (r ∷ results) is same each zero d below = let first = (each 0 r (omega arith)).1 in says first.handle.promise r first.kept
+  kept_each many (h ∷ handles) (r ∷ results) is same each (suc n) d below =
+      kept_each (length handles) handles results refl (omega arith)
+      (λ i e inside. let k = (each (suc i) e (omega arith)).1 in (refl, record { handle = k.handle; handle_is = k.handle_is; kept = k.kept })) n d (omega arith)

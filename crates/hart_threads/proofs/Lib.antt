@@ -5,3 +5,9 @@ pub mod NewSeats
 pub mod Kept
 pub mod Ticked
 pub mod MetTogether
+pub mod Counting
+pub mod Working
+pub mod Steps
+pub mod Ticking
+pub mod Whole
+pub mod Ending

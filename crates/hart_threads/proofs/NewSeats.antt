@@ -34,7 +34,7 @@ one-clock : (from many : ℕ) → seats_of Clock (harts from many ++ clock) ≡ 
 one-clock from zero = refl
 one-clock from (suc many) = let rest = one-clock (from + 1) many in omega arith
 
-new-seats : (c : Config) → IsOneEach c (new_seats c)
+pub new-seats : (c : Config) → IsOneEach c (new_seats c)
 new-seats c = record {
   as_many = length-append (harts 0 c.harts) clock ∙ ap (λ (n : ℕ). n + 1) (length-map-range_with_len (λ h. sitting (Hart h) 0 [] []) 0 c.harts);
   one_each = one;

@@ -1,5 +1,5 @@
 -- What the clock did, by what its seat knows.
-use Rattle.std.proofs.Common.{◌≡◌, ℕ, zero, suc, ◌+◌, List, [], ◌∷◌, ◌++◌, map, refl, sym, ap, subst, ◌∙◌, arith}
+use Rattle.std.proofs.Common.{◌≡◌, ℕ, zero, suc, ◌+◌, ◌≤◌, List, [], ◌∷◌, ◌++◌, map, refl, sym, ap, subst, ◌∙◌, arith}
 use Rattle.std.specs.List.{All, range_with_len}
 use Rattle.std.proofs.lemmas.List.Elements.{All-append}
 use Rattle.board_core.specs.declared.config.Config.{Config}
@@ -9,21 +9,22 @@ use Rattle.board_core.specs.History.{Event}
 use Rattle.board_lock.specs.Events.{ops_of}
 use Rattle.board_lock.specs.Seats.{Sitting, new_seats, seats_of, sitting}
 use Rattle.hart_threads.specs.Programs.{AreFirst}
+use Rattle.hart_threads.specs.Works.{IsFresh}
 
--- no operation of a new board's seats was accepted
-harts-new : (from many : ℕ) → All (λ (s : Sitting). s.ops ≡ []) (map (λ h. sitting (Hart h) 0 [] []) (range_with_len from many))
-harts-new from zero k d inside = absurd (omega arith)
-harts-new from (suc many) zero d inside = refl
-harts-new from (suc many) (suc k) d inside = harts-new (from + 1) many k d (omega arith)
+-- the seats of a new board
+harts-fresh : (c : Config) (from many : ℕ) → from + many ≤ c.harts → All (IsFresh c) (map (λ h. sitting (Hart h) 0 [] []) (range_with_len from many))
+harts-fresh c from zero within k d inside = absurd (omega arith)
+harts-fresh c from (suc many) within zero d inside = record { acting = omega arith; is = refl }
+harts-fresh c from (suc many) within (suc k) d inside = harts-fresh c (from + 1) many (omega arith) k d (omega arith)
 
-clock-new : All (λ (s : Sitting). s.ops ≡ []) (sitting Clock 0 [] [] ∷ [])
-clock-new zero d inside = refl
-clock-new (suc k) d inside = absurd (omega arith)
+clock-fresh : (c : Config) → All (IsFresh c) (sitting Clock 0 [] [] ∷ [])
+clock-fresh c zero d inside = record { acting = tt; is = refl }
+clock-fresh c (suc k) d inside = absurd (omega arith)
 
-pub seats-new : (c : Config) (seats : List Sitting) → seats ≡ new_seats c → All (λ (s : Sitting). s.ops ≡ []) seats
-seats-new c seats are =
-    subst (All (λ (s : Sitting). s.ops ≡ [])) (sym are)
-    (All-append (λ (s : Sitting). s.ops ≡ []) (map (λ h. sitting (Hart h) 0 [] []) (range_with_len 0 c.harts)) (sitting Clock 0 [] [] ∷ []) (harts-new 0 c.harts) clock-new)
+pub seats-fresh : (c : Config) (seats : List Sitting) → seats ≡ new_seats c → All (IsFresh c) seats
+seats-fresh c seats are =
+    subst (All (IsFresh c)) (sym are)
+    (All-append (IsFresh c) (map (λ h. sitting (Hart h) 0 [] []) (range_with_len 0 c.harts)) (sitting Clock 0 [] [] ∷ []) (harts-fresh c 0 c.harts (omega arith)) (clock-fresh c))
 
 -- one seat more
 pub ticked-more : (ticks : List ℕ) (seats : List Sitting) (s : Sitting) → All (λ (x : Sitting). x.actor ≡ Clock → AreFirst ticks x.ops) seats → (s.actor ≡ Clock → AreFirst ticks s.ops)

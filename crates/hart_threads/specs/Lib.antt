@@ -2,5 +2,7 @@ pub mod Programs
 pub mod Guests
 pub mod Choices
 pub mod Met
+pub mod Shares
+pub mod Works
 pub mod Ends
 pub mod Faults

@@ -1,5 +1,9 @@
-ghost use Rattle.std.specs.Prelude.{◌≡◌, []};
+ghost use Rattle.std.specs.Prelude.{◌≡◌, [], reverse};
+ghost use Rattle.board_core.specs.declared.event.Actor.TheVariants.{Clock};
+ghost use Rattle.board_lock.specs.Events.{IsActor};
+ghost use Rattle.board_lock.specs.Seats.{sitting};
 ghost use Rattle.hart_threads.specs.Programs.{AreFirst};
+ghost use Rattle.hart_threads.specs.Works.{IsGate, WorkedAt, task};
 
 use crate::gate::Gate;
 use crate::met::Met;
@@ -15,8 +19,10 @@ pub(crate) fn tick<K: Plan, G: Gate, R: Wait>(
     work: &Work<'_, K, G>,
     seat: Seat<K>,
 ) -> Worked<K>
-    requires { seat.ops ≡ [] }
-    ensures { result.seat.actor ≡ seat.actor }
+    requires fresh { seat ≡ sitting Clock 0 [] [] }
+    requires gate { IsGate (G.lets work.now.gate.now) K.lets }
+    ensures actor { result.seat.actor ≡ seat.actor }
+    ensures worked { WorkedAt (task K.lets K.opening K.blocks K.ticks) result.seat result.met }
 {
     let mut seat = seat;
     let met = tick_all(rt, work, &mut seat);
@@ -31,9 +37,11 @@ pub(crate) fn tick<K: Plan, G: Gate, R: Wait>(
 
 /// Ticks in order, up to one that is refused.
 fn tick_all<K: Plan, G: Gate, R: Wait>(rt: &R, work: &Work<'_, K, G>, seat: &mut Seat<K>) -> Met
-    requires { seat.old.ops ≡ [] }
-    ensures actor { seat.new.actor ≡ seat.old.actor }
+    requires fresh { seat.old ≡ sitting Clock 0 [] [] }
+    requires gate { IsGate (G.lets work.now.gate.now) K.lets }
+    ensures actor { seat.new.actor ≡ Clock }
     ensures ticks { AreFirst K.ticks seat.new.ops }
+    ensures worked { WorkedAt (task K.lets K.opening K.blocks K.ticks) seat.new result }
 {
     for n in work.program.ticks {
         if !work.is_let(seat) {

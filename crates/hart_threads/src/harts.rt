@@ -1,7 +1,11 @@
-ghost use Rattle.std.specs.Prelude.{◌≡◌, ◌≢◌};
+ghost use Rattle.std.specs.Prelude.{◌≡◌, ◌≢◌, [], reverse};
 ghost use Rattle.board_core.specs.declared.event.Actor.TheVariants.{Clock};
+ghost use Rattle.board_lock.specs.Events.{IsActor};
+ghost use Rattle.board_lock.specs.Seats.{sitting};
 ghost use Rattle.hart_threads.specs.Choices.{next_choice};
 ghost use Rattle.hart_threads.specs.Guests.{left_of, next_of};
+ghost use Rattle.hart_threads.specs.Works.{Goes, HasTurn, IsGate, WorkedAt, task};
+ghost use Rattle.hart_threads.specs.declared.met.Met.TheVariants.{Nothing};
 
 use crate::choosing::choice;
 use crate::gate::Gate;
@@ -20,28 +24,22 @@ pub(crate) fn follow<K: Plan, G: Gate, R: Wait>(
     work: &Work<'_, K, G>,
     seat: Seat<K>,
 ) -> Worked<K>
-    requires { seat.actor ≢ Clock }
-    ensures { result.seat.actor ≡ seat.actor }
+    requires hart { seat.actor ≢ Clock }
+    requires acting { IsActor K.opening seat.actor }
+    requires fresh { seat ≡ sitting seat.actor 0 [] [] }
+    requires gate { IsGate (G.lets work.now.gate.now) K.lets }
+    ensures actor { result.seat.actor ≡ seat.actor }
+    ensures worked { WorkedAt (task K.lets K.opening K.blocks K.ticks) result.seat result.met }
 {
     let mut seat = seat;
     let mut guest = Guest::new();
     let mut met = Met::Nothing;
     for _ in rt.forever() {
         let view = work.board.view(rt, &mut seat);
-        let Some(op) = next(&view, met, &guest) else {
-            if work.board.rest(rt, &mut seat, view.events) == Rest::AllRest {
-                break;
-            }
-            continue;
-        };
-        if !work.is_let(&seat) {
-            met = Met::ClosedGate;
-            continue;
-        }
-        match work.board.call(rt, &mut seat, op) {
-            Ok(receipt) => guest.sees(work.program.blocks, op, receipt.reply()),
-            Err(Refusal::HistoryFull) => met = Met::FullHistory,
-            Err(_) => {}
+        if let Some(op) = next(&view, met, &guest) {
+            met = attempt(rt, work, &mut seat, &mut guest, op);
+        } else if work.board.rest(rt, &mut seat, view.events) == Rest::AllRest {
+            break;
         }
     }
     Worked { seat, met }
@@ -58,5 +56,33 @@ fn next(view: &HartView, met: Met, guest: &Guest<'_>) -> Option<Op>
             Some(now) => choice(now, guest.next()),
             None => None,
         },
+    }
+}
+
+/// An operation whose turn it is, if the gate lets its hart go on; and what the thread met. Another refusal than that of a full
+/// history is none: the thread looks again.
+fn attempt<'a, K: Plan, G: Gate, R: Wait>(
+    rt: &R,
+    work: &Work<'a, K, G>,
+    seat: &mut Seat<K>,
+    guest: &mut Guest<'a>,
+    op: Op,
+) -> Met
+    requires gate { IsGate (G.lets work.now.gate.now) K.lets }
+    requires going { Goes (task K.lets K.opening K.blocks K.ticks) seat.old (left_of guest.old) Nothing }
+    requires turn { HasTurn (task K.lets K.opening K.blocks K.ticks) seat.old.actor seat.old.count (reverse seat.old.saw) op }
+    ensures actor { seat.new.actor ≡ seat.old.actor }
+    ensures going { Goes (task K.lets K.opening K.blocks K.ticks) seat.new (left_of guest.new) result }
+{
+    if !work.is_let(seat) {
+        return Met::ClosedGate;
+    }
+    match work.board.call(rt, seat, op) {
+        Ok(receipt) => {
+            guest.sees(work.program.blocks, op, receipt.reply());
+            Met::Nothing
+        }
+        Err(Refusal::HistoryFull) => Met::FullHistory,
+        Err(_) => Met::Nothing,
     }
 }

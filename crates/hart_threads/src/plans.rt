@@ -1,16 +1,25 @@
 use board_lock::Room;
 use std::marker::Brand;
 
-/// A room whose clock has these ticks to do. As a room, it is a type that has values in proofs alone.
+/// A room whose threads have these things to do. As a room, it is a type that has values in proofs alone.
 pub(crate) trait Plan: Room {
-    ghost use Rattle.std.specs.Prelude.{ℕ, List};
+    ghost use Rattle.std.specs.Prelude.{ℕ, Bool, List};
+    ghost use Rattle.guest_script.specs.Grammar.{Guest};
 
     // The clock's ticks, in order.
     ghost ticks: { List ℕ };
+    // What guests do, by the address of their entry.
+    ghost blocks: { List Guest };
+    // What the gate may answer an actor, by its number and how many of its operations were accepted.
+    ghost lets: { ℕ → ℕ → Bool → Type 0 };
 }
 
 impl Plan for Brand {
     ghost use Rattle.std.specs.Prelude.{[]};
 
     ghost ticks = { [] };
+
+    ghost blocks = { [] };
+
+    ghost lets = { λ _ _ _. Unit {0} };
 }

@@ -7,6 +7,8 @@ ghost use Rattle.guest_script.specs.Grammar.{content, guest};
 ghost use Rattle.hart_threads.specs.Ends.{IsEnd};
 ghost use Rattle.hart_threads.specs.Met.{met_by_all};
 ghost use Rattle.hart_threads.specs.Programs.{AreFirst, IsProgram, blocks_of, ticks_of};
+ghost use Rattle.hart_threads.specs.Shares.{AreThreads, IsRun};
+ghost use Rattle.hart_threads.specs.Works.{IsGate};
 ghost use Rattle.hart_threads.specs.declared.ends.RunFault.TheVariants.{BadConfig};
 
 use crate::blocks::{Program, program_in};
@@ -38,6 +40,8 @@ pub fn run<G: Gate + Sync, R: AllocGlobal + Threads + Wait + Sync>(
     ensures legal { IfOk result (λ run. IsLegal run.board.config run.board.past) }
     ensures ticks { IfOk result (λ run. AreFirst (ticks_of (content script.now.body)) (ops_of Clock (events_in run.board))) }
     ensures end { IfOk result (λ run. IsEnd run.end run.board.config run.board.past (blocks_of (content script.now.body))) }
+    ensures threads { IfOk result (λ run. IsRun (G.lets gate.now) run.board.config (blocks_of (content script.now.body))
+        (ticks_of (content script.now.body)) run.board.past run.end) }
 {
     let program = program_in(&script.body);
     let (board, met) = run_in::<Brand, G, R>(rt, NewRoom::new(&script.config), program, gate)?;
@@ -56,9 +60,12 @@ fn run_in<K: Plan + Send + Sync, G: Gate + Sync, R: AllocGlobal + Threads + Wait
     requires room { (room.opening ≡ K.opening) × (room.log ≡ K.log) }
     requires ledger { (room.ledger ≡ K.name) × (room.parts ≡ K.parts) × (K.all ≡ K.parts) }
     requires ticks { program.ticks.now ≡ K.ticks }
+    requires blocks { map guest program.blocks.now ≡ K.blocks }
+    requires gate { IsGate (G.lets gate.now) K.lets }
     ensures bad { IsErrOf result BadConfig ↔ ¬ IsGood K.opening }
     ensures opening { IfOk result (λ r. r.0.config ≡ K.opening) }
     ensures ticks { IfOk result (λ r. AreFirst K.ticks (ops_of Clock (events_in r.0))) }
+    ensures threads { IfOk result (λ r. AreThreads K.lets K.opening K.blocks K.ticks r.0.past r.1) }
 {
     let (board, seats) = SharedBoard::<K>::open(rt.alloc(), room)?;
     let work = Work {
@@ -78,6 +85,7 @@ fn run_in<K: Plan + Send + Sync, G: Gate + Sync, R: AllocGlobal + Threads + Wait
 /// The seats of the threads, and what they met.
 fn parted<K: Plan>(alloc: Global, all: Vec<Worked<K>>) -> Result<(Vec<Seat<K>>, Met), AllocError>
     ensures seats { IfOk result (λ r. map (λ seat. seat.actor) r.0.items ≡ map (λ worked. worked.seat.actor) all.items) }
+    ensures same { IfOk result (λ r. r.0.items ≡ map (λ worked. worked.seat) all.items) }
     ensures ticks { IfOk result (λ r. All (λ seat. seat.actor ≡ Clock → AreFirst K.ticks seat.ops) r.0.items) }
     ensures met { IfOk result (λ r. r.1 ≡ met_by_all (map (λ worked. worked.met) all.items)) }
 {

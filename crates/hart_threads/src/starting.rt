@@ -1,4 +1,5 @@
-ghost use Rattle.std.specs.Prelude.{◌≡◌, All, IfOk, IsErrOf, [], map};
+ghost use Rattle.std.specs.Prelude.{◌≡◌, All, IfOk, IsErrOf, map};
+ghost use Rattle.hart_threads.specs.Works.{IsFresh, IsGate, WorkedAt, task};
 ghost use Rattle.hart_threads.specs.declared.ends.RunFault.TheVariants.{BadConfig};
 
 use crate::clock::tick;
@@ -14,12 +15,13 @@ use std::alloc::{AllocError, Global};
 use std::sync::Wait;
 use std::thread::{self, Promise, Threads};
 
-/// Whose seat a thread gives back.
+/// Whose seat a thread gives back, with its work done.
 #[derive(Clone, Copy)]
 struct SeatOf(Actor);
 
 impl<K: Plan> Promise<Worked<K>> for SeatOf {
-    ghost kept_by = { λ p worked. worked.seat.actor ≡ p.0 };
+    ghost kept_by = { λ p worked. (worked.seat.actor ≡ p.0)
+        × WorkedAt (task K.lets K.opening K.blocks K.ticks) worked.seat worked.met };
 }
 
 /// Runs a thread for each seat, and gives back what they did once all have ended. Where a thread is refused, those that run are
@@ -29,24 +31,31 @@ pub(crate) fn work_all<
     G: Gate + Sync,
     R: AllocGlobal + Threads + Wait + Sync,
 >(rt: &R, work: &Work<'_, K, G>, seats: Vec<Seat<K>>) -> Result<Vec<Worked<K>>, RunFault>
-    requires { All (λ seat. seat.ops ≡ []) seats.items }
+    requires fresh { All (IsFresh K.opening) seats.items }
+    requires gate { IsGate (G.lets work.now.gate.now) K.lets }
     ensures seats { IfOk result (λ all. map (λ worked. worked.seat.actor) all.items ≡ map (λ seat. seat.actor) seats.items) }
+    ensures worked { IfOk result (λ all.
+        All (λ worked. WorkedAt (task K.lets K.opening K.blocks K.ticks) worked.seat worked.met) all.items) }
     ensures board { ¬ IsErrOf result BadConfig }
 {
     thread::scope(
         thread::scope_env(),
         rt,
         |scope| -> Result<Vec<Worked<K>>, RunFault>
-            requires { All (λ seat. seat.ops ≡ []) seats.items }
+            requires fresh { All (IsFresh K.opening) seats.items }
+            requires gate { IsGate (G.lets work.now.gate.now) K.lets }
             ensures board { ¬ IsErrOf result BadConfig }
             ensures seats { IfOk result (λ all. map (λ worked. worked.seat.actor) all.items ≡ map (λ seat. seat.actor) seats.items) }
+            ensures worked { IfOk result (λ all.
+                All (λ worked. WorkedAt (task K.lets K.opening K.blocks K.ticks) worked.seat worked.met) all.items) }
         {
             let mut threads = Vec::new(rt.alloc());
             for seat in seats {
                 let Ok(thread) = scope.spawn_with(
                     SeatOf(seat.actor()),
                     move ||
-                        requires { seat.ops ≡ [] }
+                        requires fresh { IsFresh K.opening seat }
+                        requires gate { IsGate (G.lets work.now.gate.now) K.lets }
                     { work_at(rt, work, seat) },
                 ) else {
                     work.board.end(rt);
@@ -67,8 +76,10 @@ pub(crate) fn work_all<
 
 /// The work of a seat's thread.
 fn work_at<K: Plan, G: Gate, R: Wait>(rt: &R, work: &Work<'_, K, G>, seat: Seat<K>) -> Worked<K>
-    requires { seat.ops ≡ [] }
-    ensures { result.seat.actor ≡ seat.actor }
+    requires fresh { IsFresh K.opening seat }
+    requires gate { IsGate (G.lets work.now.gate.now) K.lets }
+    ensures actor { result.seat.actor ≡ seat.actor }
+    ensures worked { WorkedAt (task K.lets K.opening K.blocks K.ticks) result.seat result.met }
 {
     match seat.actor() {
         Actor::Hart(_) => follow(rt, work, seat),

@@ -1,6 +1,9 @@
-ghost use Rattle.std.specs.Prelude.{◌≡◌};
+ghost use Rattle.std.specs.Prelude.{◌≡◌, map};
 ghost use Rattle.board_core.specs.declared.event.Actor.TheVariants.{Clock};
+ghost use Rattle.guest_script.specs.Grammar.{guest};
 ghost use Rattle.hart_threads.specs.Programs.{AreFirst};
+ghost use Rattle.hart_threads.specs.Shares.{gate_number};
+ghost use Rattle.hart_threads.specs.Works.{IsGate};
 
 use crate::blocks::Program;
 use crate::gate::Gate;
@@ -18,11 +21,16 @@ pub(crate) struct Work<'a, K: Plan, G: Gate> {
     /// How many harts the board has.
     pub(crate) harts: u64,
     ghost planned: { program.ticks.now ≡ K.ticks },
+    ghost blocked: { map guest program.blocks.now ≡ K.blocks },
+    ghost counted: { harts ≡ K.opening.harts },
 }
 
 impl<'a, K: Plan, G: Gate> Work<'a, K, G> {
     /// Whether the gate lets the seat's actor go on. No lock is held.
-    pub(crate) fn is_let(&self, seat: &Seat<K>) -> bool {
+    pub(crate) fn is_let(&self, seat: &Seat<K>) -> bool
+        requires { IsGate (G.lets self.now.gate.now) K.lets }
+        ensures { K.lets (gate_number K.opening seat.now.actor) seat.now.count result }
+    {
         let number = match seat.actor() {
             Actor::Hart(h) => h,
             Actor::Clock => self.harts,

@@ -1,6 +1,12 @@
-use Rattle.std.specs.Prelude.{◌≡◌, map, take}
+use Rattle.std.specs.Prelude.{◌≡◌, map, reverse, take}
+use Rattle.board_core.specs.declared.event.Actor.TheVariants.{Clock}
 use Rattle.board_core.specs.declared.event.Op.TheVariants.{Tick}
+use Rattle.hart_threads.specs.Works.{IsAtWork, task}
 use Rattle.hart_threads.proofs.clock.tick_all.Given as goal
 
 abbrev pub invariant-loop-n : goal.invariant-loop-n
-invariant-loop-n g l = (l.seat.actor ≡ l.fn.seat.actor) × (l.seat.ops ≡ map Tick (take l.n-index g.K.Plan.ticks))
+invariant-loop-n g l =
+    (l.seat.actor ≡ Clock)
+    × (l.seat.ops ≡ map Tick (take l.n-index g.K.Plan.ticks))
+    × (l.seat.count ≡ l.n-index)
+    × IsAtWork (task g.K.Plan.lets g.K.Room.opening g.K.Plan.blocks g.K.Plan.ticks) Clock l.seat.count (reverse l.seat.saw)

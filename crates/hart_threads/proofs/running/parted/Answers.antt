@@ -23,4 +23,5 @@ loop-worked-preserved g c =
       rw pushed more,
       c.and-met.ensures ∙ ap (λ (m : Met). met_by_both m worked.met) at.invariant.4 ∙ sym (met_by_one_more (map (λ it. it.met) at.yielded) worked.met)
           ∙ ap met_by_all (sym (map-append (λ it. it.met) at.yielded (worked ∷ []))),
+      pushed ∙ ap (λ (seats : List Sitting). seats ++ worked.seat ∷ []) at.invariant.5 ∙ sym (map-append (λ it. it.seat) at.yielded (worked ∷ [])),
     )

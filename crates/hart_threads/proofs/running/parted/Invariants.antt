@@ -13,3 +13,4 @@ invariant-loop-worked g l =
     × (map (λ seat. seat.actor) l.seats.items ≡ map (λ worked. worked.seat.actor) l.yielded)
     × All (λ seat. seat.actor ≡ Clock → AreFirst g.K.Plan.ticks seat.ops) l.seats.items
     × (l.met ≡ met_by_all (map (λ worked. worked.met) l.yielded))
+    × (l.seats.items ≡ map (λ worked. worked.seat) l.yielded)

@@ -1,3 +1,5 @@
+use Rattle.std.proofs.Common.{map}
+use Rattle.guest_script.specs.Grammar.{guest}
 use Rattle.hart_threads.proofs.running.run.Given as goal
 
 -- the room that was just made
@@ -5,7 +7,11 @@ abbrev pub ghosts-run_in-K-Ledger : goal.ghosts-run_in-K-Ledger
 ghosts-run_in-K-Ledger g a = record { name = a.room.ledger; parts = a.room.parts }
 
 abbrev pub ghosts-run_in-K-Plan : goal.ghosts-run_in-K-Plan
-ghosts-run_in-K-Plan g a = record { ticks = a.program.ticks.now }
+ghosts-run_in-K-Plan g a = record {
+  ticks = a.program.ticks.now;
+  blocks = map guest a.program.blocks.now;
+  lets = λ number ordinal answer. g.G.Gate.lets a.gate.now number ordinal answer;
+}
 
 abbrev pub ghosts-run_in-K-Room : goal.ghosts-run_in-K-Room
 ghosts-run_in-K-Room g a = record { opening = a.room.opening; log = a.room.log; all = a.room.parts }

@@ -1,0 +1,147 @@
+-- What seats' threads know after each of their steps.
+use Rattle.std.proofs.Common.{◌≡◌, ◌≢◌, ◌⊎◌, ℕ, ◌+◌, ◌≤◌, Bool, true, false, List, [], ◌∷◌, length, refl, sym, ap, subst, ◌∙◌, inl, inr, arith}
+use Rattle.std.specs.Prelude.{reverse, if◌then◌else◌, slice_get, Option, Some, None}
+use mathlib.Core.List.{IsPrefix, IsSuffix, suffix_refl}
+use Rattle.board_core.specs.declared.event.Actor.{Actor}
+use Rattle.board_core.specs.declared.event.Actor.TheVariants.{Hart, Clock}
+use Rattle.board_core.specs.declared.event.Op.{Op}
+use Rattle.board_core.specs.declared.event.Op.TheVariants.{Tick}
+use Rattle.board_core.specs.declared.event.Refusal.{Refusal}
+use Rattle.board_core.specs.declared.event.Refusal.TheVariants.{HistoryFull}
+use Rattle.board_core.specs.declared.event.Reply.{Reply}
+use Rattle.board_core.specs.History.{Event}
+use Rattle.board_lock.specs.declared.views.HartView.{HartView}
+use Rattle.board_lock.specs.Events.{IsActor}
+use Rattle.board_lock.specs.Seats.{Sitting, seeing, sitting}
+use Rattle.board_lock.specs.Views.{IsDone, IsRefused, IsView}
+use Rattle.hart_threads.specs.declared.met.Met.{Met}
+use Rattle.hart_threads.specs.declared.met.Met.TheVariants.{Nothing, FullHistory, ClosedGate}
+use Rattle.hart_threads.specs.Choices.{next_choice}
+use Rattle.hart_threads.specs.Guests.{next_of}
+use Rattle.hart_threads.specs.Shares.{Refuses, gate_number, many_of}
+use Rattle.hart_threads.specs.Works.{At, Goes, HasMet, HasTurn, HasWorked, IsAtWork, IsGoing, IsLeftTo, SeesNoMore, Stops, Task, WorkedAt}
+use Rattle.hart_threads.proofs.Counting.{earlier-of}
+use Rattle.hart_threads.proofs.Working.{event, before, going-later, none-by, refused-at, saw-then, stops-later, turn-by, work-later, work-more}
+
+-- ---- any seat
+
+left-fresh : (t : Task) (a : Actor) → IsLeftTo t.blocks (Some []) [] a
+left-fresh t (Hart h) = refl
+left-fresh t Clock = tt
+
+work-fresh : (t : Task) (a : Actor) → IsAtWork t a 0 []
+work-fresh t a = record { no_fewer = omega arith; due = λ same. tt }
+
+-- at first
+pub fresh-going : (t : Task) (s : Sitting) (left : Option (List Op)) → s ≡ sitting s.actor 0 [] [] → left ≡ Some [] → Goes t s left Nothing
+fresh-going t s left fresh is =
+    subst (λ (x : Sitting). Goes t x left Nothing) (sym fresh)
+    (subst (λ (l : Option (List Op)). IsGoing t s.actor 0 [] l Nothing) (sym is) (record { work = work-fresh t s.actor; left_is = λ same. left-fresh t s.actor; met_is = tt }))
+
+-- after a look
+pub looked : (t : Task) (s s' : Sitting) (left : Option (List Op)) (met : Met) → s' ≡ seeing s s'.saw → IsPrefix s.saw s'.saw → Goes t s left met → Goes t s' left met
+looked t s s' left met same later going =
+    subst (λ (x : Sitting). Goes t x left met) (sym same) (going-later t s.actor s.count (reverse s.saw) (reverse s'.saw) left met (earlier-of s.saw s'.saw later) going)
+
+pub worked-later : (t : Task) (s s' : Sitting) (met : Met) → s' ≡ seeing s s'.saw → IsPrefix s.saw s'.saw → WorkedAt t s met → WorkedAt t s' met
+worked-later t s s' met same later worked =
+    let since = earlier-of s.saw s'.saw later in
+    subst (λ (x : Sitting). WorkedAt t x met) (sym same) (record {
+      acting = worked.acting;
+      work = work-later t s.actor s.count (reverse s.saw) (reverse s'.saw) since worked.work;
+      stopped = stops-later t s.actor s.count (reverse s.saw) (reverse s'.saw) met since worked.stopped;
+    })
+
+-- ---- a hart's
+
+pub met-nothing : (v : HartView) (met : Met) (guest : Option Op) (op : Op) → next_choice v met guest ≡ Some op → met ≡ Nothing
+met-nothing v Nothing guest op is = refl
+met-nothing v FullHistory guest op is = absurd (let e = is in cc)
+met-nothing v ClosedGate guest op is = absurd (let e = is in cc)
+
+-- what it chose by its view is its turn
+pub view-turn : (t : Task) (s : Sitting) (v : HartView) (met : Met) (left : Option (List Op)) (op : Op) → IsView t.opening s v → Goes t s left met
+    → next_choice v met (next_of left) ≡ Some op → HasTurn t s.actor s.count (reverse s.saw) op
+view-turn t s v Nothing left op view going is =
+    turn-by t (reverse s.saw) left s.count s.actor v.is_off v.hart op view.hart view.power is going.work.no_fewer going.left_is
+view-turn t s v FullHistory left op view going is = absurd (let e = is in cc)
+view-turn t s v ClosedGate left op view going is = absurd (let e = is in cc)
+
+-- it chose nothing by its view, and every seat rests
+stops-by : (t : Task) (s : Sitting) (v : HartView) (met : Met) (left : Option (List Op)) → s.actor ≢ Clock → IsView t.opening s v → Goes t s left met
+    → next_choice v met (next_of left) ≡ None → Stops t s.actor s.count (reverse s.saw) met
+stops-by t s v Nothing left hart view going is =
+    none-by t (reverse s.saw) left s.count s.actor v.is_off v.hart hart view.hart view.power is going.work.no_fewer going.left_is
+stops-by t s v FullHistory left hart view going is = going.met_is
+stops-by t s v ClosedGate left hart view going is = going.met_is
+
+pub rested : (t : Task) (s s' : Sitting) (v : HartView) (met : Met) (left : Option (List Op)) → s.actor ≢ Clock → IsActor t.opening s.actor → IsView t.opening s v
+    → Goes t s left met → next_choice v met (next_of left) ≡ None → s' ≡ seeing s s'.saw → IsPrefix s.saw s'.saw → WorkedAt t s' met
+rested t s s' v met left hart acting view going is same later =
+    worked-later t s s' met same later (record { acting = acting; work = going.work; stopped = stops-by t s v met left hart view going is })
+
+-- its gate closed
+pub closed-going : (t : Task) (s : Sitting) (left : Option (List Op)) → Goes t s left Nothing → t.lets (gate_number t.opening s.actor) s.count false → Goes t s left ClosedGate
+closed-going t s left going told = record { work = going.work; left_is = going.left_is; met_is = told }
+
+-- its call is refused, since the history is full
+pub full-going : (t : Task) (s s' : Sitting) (left : Option (List Op)) (op : Op) → Goes t s left Nothing → HasTurn t s.actor s.count (reverse s.saw) op
+    → s' ≡ seeing s s'.saw → IsPrefix s.saw s'.saw → IsRefused t.opening s' op HistoryFull → Goes t s' left FullHistory
+full-going t s s' left op going turn same later refused =
+    let since = earlier-of s.saw s'.saw later in
+    let after = looked t s s' left Nothing same later going in
+    let at : At s.actor s.count (reverse s'.saw) (Refuses t.opening t.blocks t.ticks s.actor op HistoryFull) =
+            refused-at t (seeing s s'.saw) (reverse s.saw) op HistoryFull (subst (λ (x : Sitting). IsRefused t.opening x op HistoryFull) same refused) since going.work.no_fewer turn in
+    subst (λ (x : Sitting). Goes t x left FullHistory) (sym same)
+    (let now = subst (λ (x : Sitting). Goes t x left Nothing) same after in record { work = now.work; left_is = now.left_is; met_is = (op, at) })
+
+-- ---- the clock's
+
+pub tick-turn : (t : Task) (k n : ℕ) (seen : List Event) → slice_get t.ticks k ≡ Some n → HasTurn t Clock k seen (Tick n)
+tick-turn t k n seen is past since same = (n, subst (λ (i : ℕ). slice_get t.ticks i ≡ Some n) (sym same) is, refl)
+
+pub clock-fresh : (t : Task) (s : Sitting) → s ≡ sitting Clock 0 [] [] → IsAtWork t Clock s.count (reverse s.saw)
+clock-fresh t s fresh = subst (λ (x : Sitting). IsAtWork t Clock x.count (reverse x.saw)) (sym fresh) (work-fresh t Clock)
+
+-- a tick was accepted
+pub clock-done : (t : Task) (s s' : Sitting) (n : ℕ) (reply : Reply) → s.actor ≡ Clock → IsAtWork t Clock s.count (reverse s.saw) → slice_get t.ticks s.count ≡ Some n
+    → t.lets (gate_number t.opening s.actor) s.count true → IsDone t.opening s s' (Tick n) reply → s'.count ≡ s.count + 1 → IsAtWork t Clock s'.count (reverse s'.saw)
+clock-done t s s' n reply clock work next told done count =
+    rw count rw (saw-then t s s' (Tick n) reply done)
+    (work-more t Clock s.count (reverse s.saw) (reverse done.before) (Tick n) reply (event t s s' (Tick n) reply done) (earlier-of s.saw done.before done.later) clock refl refl
+      work (tick-turn t s.count n (reverse s.saw) next) (subst (λ (a : Actor). t.lets (gate_number t.opening a) s.count true) clock told))
+
+clock-is : (t : Task) (s : Sitting) (met : Met) → s.actor ≡ Clock → HasWorked t Clock s.count (reverse s.saw) met → WorkedAt t s met
+clock-is t s met clock worked = subst (λ (a : Actor). HasWorked t a s.count (reverse s.saw) met) (sym clock) worked
+
+pub clock-closed : (t : Task) (s : Sitting) → s.actor ≡ Clock → IsAtWork t Clock s.count (reverse s.saw) → t.lets (gate_number t.opening s.actor) s.count false → WorkedAt t s ClosedGate
+clock-closed t s clock work told = clock-is t s ClosedGate clock
+    (record { acting = tt; work = work; stopped = subst (λ (a : Actor). t.lets (gate_number t.opening a) s.count false) clock told })
+
+pub clock-all : (t : Task) (s : Sitting) → s.actor ≡ Clock → IsAtWork t Clock s.count (reverse s.saw) → s.count ≡ length t.ticks → WorkedAt t s Nothing
+clock-all t s clock work all = clock-is t s Nothing clock (record { acting = tt; work = work; stopped = inl all })
+
+module _ (t : Task) (s s' : Sitting) (n : ℕ) (clock : s.actor ≡ Clock) (work : IsAtWork t Clock s.count (reverse s.saw)) (next : slice_get t.ticks s.count ≡ Some n)
+    (same : s' ≡ seeing s s'.saw) (later : IsPrefix s.saw s'.saw) (r : Refusal) (refused : IsRefused t.opening s' (Tick n) r) where
+  since : IsSuffix (reverse s.saw) (reverse s'.saw)
+  since = earlier-of s.saw s'.saw later
+
+  is-now : s' ≡ sitting Clock s.count s.ops s'.saw
+  is-now = same ∙ ap (λ (a : Actor). sitting a s.count s.ops s'.saw) clock
+
+  at : At Clock s.count (reverse s'.saw) (Refuses t.opening t.blocks t.ticks Clock (Tick n) r)
+  at = refused-at t (sitting Clock s.count s.ops s'.saw) (reverse s.saw) (Tick n) r (subst (λ (x : Sitting). IsRefused t.opening x (Tick n) r) is-now refused) since work.no_fewer
+      (tick-turn t s.count n (reverse s.saw) next)
+
+  work-now : IsAtWork t Clock s.count (reverse s'.saw)
+  work-now = work-later t Clock s.count (reverse s.saw) (reverse s'.saw) since work
+
+  pub clock-refused : WorkedAt t s' Nothing
+  clock-refused = subst (λ (x : Sitting). WorkedAt t x Nothing) (sym is-now) (record { acting = tt; work = work-now; stopped = inr (Tick n, r, at) })
+
+  pub clock-full : r ≡ HistoryFull → WorkedAt t s' FullHistory
+  clock-full is = subst (λ (x : Sitting). WorkedAt t x FullHistory) (sym is-now) (record {
+    acting = tt;
+    work = work-now;
+    stopped = (Tick n, subst (λ (q : Refusal). At Clock s.count (reverse s'.saw) (Refuses t.opening t.blocks t.ticks Clock (Tick n) q)) is at);
+  })

@@ -1,0 +1,19 @@
+use Rattle.std.proofs.Common.{ℕ, Bool, List, map, subst, sym}
+use Rattle.board_core.specs.declared.config.Config.{Config}
+use Rattle.guest_script.specs.Grammar.{Guest, content, guest}
+use Rattle.hart_threads.specs.Programs.{ticks_of}
+use Rattle.hart_threads.specs.Shares.{AreThreads, IsRun}
+use Rattle.hart_threads.proofs.Ending.{is-run}
+use Rattle.hart_threads.proofs.running.run.Goals as goal
+
+pub returns-clause-threads : goal.returns-clause-threads
+returns-clause-threads g c =
+    let p = c.program_in-program in
+    let b = c.in_ok-board in
+    let lets : ℕ → ℕ → Bool → Type 0 = g.G.Gate.lets c.args.gate.now in
+    let blocks : List Guest = map guest p.result.blocks.now in
+    let threads : AreThreads lets b.board.config blocks p.result.ticks.now b.board.past b.met =
+            subst (λ (opening : Config). AreThreads lets opening blocks p.result.ticks.now b.board.past b.met) (sym b.ensures.opening) b.ensures.threads in
+    subst (λ (bs : List Guest). IsRun lets b.board.config bs (ticks_of (content c.args.script.now.body)) b.board.past c.in_ok-end.end) p.ensures.blocks
+    (subst (λ (ts : List ℕ). IsRun lets b.board.config blocks ts b.board.past c.in_ok-end.end) p.ensures.ticks
+    (is-run lets b.board.config blocks p.result.ticks.now b.board.past b.met c.in_ok-end.end threads c.in_ok-end.ensures.by))

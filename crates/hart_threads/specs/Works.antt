@@ -1,0 +1,96 @@
+-- What a thread knows of its actor while it works: private. A seat's count is that of its actor's events in the whole record, so
+-- what is known where as many were seen holds of the record.
+use Rattle.std.specs.Prelude.{◌≡◌, ◌⊎◌, ℕ, ◌≤◌, Bool, false, List, [], length, reverse, Option}
+use mathlib.Core.List.{IsSuffix}
+use Rattle.board_core.specs.declared.config.Config.{Config}
+use Rattle.board_core.specs.declared.event.Actor.{Actor}
+use Rattle.board_core.specs.declared.event.Actor.TheVariants.{Hart, Clock}
+use Rattle.board_core.specs.declared.event.Op.{Op}
+use Rattle.board_core.specs.declared.event.Refusal.{Refusal}
+use Rattle.board_core.specs.declared.event.Refusal.TheVariants.{HistoryFull}
+use Rattle.board_core.specs.History.{Event}
+use Rattle.board_lock.specs.Events.{IsActor}
+use Rattle.board_lock.specs.Seats.{Sitting, sitting}
+use Rattle.guest_script.specs.Grammar.{Guest}
+use Rattle.hart_threads.specs.declared.met.Met.{Met}
+use Rattle.hart_threads.specs.declared.met.Met.TheVariants.{Nothing, FullHistory, ClosedGate}
+use Rattle.hart_threads.specs.Guests.{IsLeft}
+use Rattle.hart_threads.specs.Shares.{ChoosesNone, EachOf, IsDue, IsTurn, Refuses, gate_number, many_of}
+
+-- what a run has its threads do: its gate's answers, its board's opening, its guests' blocks and its clock's ticks
+pub record Task : Type 1 where
+  pub lets : ℕ → ℕ → Bool → Type 0
+  pub opening : Config
+  pub blocks : List Guest
+  pub ticks : List ℕ
+
+abbrev pub task : (ℕ → ℕ → Bool → Type 0) → Config → List Guest → List ℕ → Task
+task lets opening blocks ticks = record { lets = lets; opening = opening; blocks = blocks; ticks = ticks }
+
+-- A seat counts n events of actor a, and saw this past: after a beginning of it with no fewer of them, this holds if there are
+-- as many.
+pub record At (a : Actor) (n : ℕ) (past : List Event) (P : List Event → Type 0) : Type 0 where
+  pub seen : List Event
+  pub earlier : IsSuffix seen past
+  pub no_fewer : n ≤ many_of a seen
+  pub holds : many_of a seen ≡ n → P seen
+
+-- why its thread did no more, where it met nothing
+abbrev pub SeesNoMore : Task → Actor → (n : ℕ) → List Event → Type 0
+SeesNoMore t (Hart h) n past = At (Hart h) n past (ChoosesNone t.opening t.blocks h)
+SeesNoMore t Clock n past =
+    (n ≡ length t.ticks) ⊎ ((op : Op) × (r : Refusal) × At Clock n past (Refuses t.opening t.blocks t.ticks Clock op r))
+
+-- and by what it met
+abbrev pub Stops : Task → Actor → (n : ℕ) → List Event → Met → Type 0
+Stops t a n past ClosedGate = t.lets (gate_number t.opening a) n false
+Stops t a n past FullHistory = (op : Op) × At a n past (Refuses t.opening t.blocks t.ticks a op HistoryFull)
+Stops t a n past Nothing = SeesNoMore t a n past
+
+-- what is known of what it met so far
+abbrev pub HasMet : Task → Actor → (n : ℕ) → List Event → Met → Type 0
+HasMet t a n past Nothing = Unit {0}
+HasMet t a n past FullHistory = Stops t a n past FullHistory
+HasMet t a n past ClosedGate = Stops t a n past ClosedGate
+
+-- Each event of the seat's actor that the seat saw was due.
+pub record IsAtWork (t : Task) (a : Actor) (n : ℕ) (past : List Event) : Type 0 where
+  pub no_fewer : n ≤ many_of a past
+  pub due : many_of a past ≡ n → EachOf (IsDue t.lets t.opening t.blocks t.ticks a) a past
+
+-- what is left of a guest's block, at a hart's seat
+abbrev pub IsLeftTo : List Guest → Option (List Op) → List Event → Actor → Type 0
+IsLeftTo blocks left past (Hart h) = IsLeft blocks left past h
+IsLeftTo blocks left past Clock = Unit {0}
+
+-- The thread is at work, met this so far, and knows what is left of its guest's block.
+pub record IsGoing (t : Task) (a : Actor) (n : ℕ) (past : List Event) (left : Option (List Op)) (met : Met) : Type 0 where
+  pub work : IsAtWork t a n past
+  pub left_is : many_of a past ≡ n → IsLeftTo t.blocks left past a
+  pub met_is : HasMet t a n past met
+
+-- The thread has done its work, and stopped for what it met.
+pub record HasWorked (t : Task) (a : Actor) (n : ℕ) (past : List Event) (met : Met) : Type 0 where
+  pub acting : IsActor t.opening a
+  pub work : IsAtWork t a n past
+  pub stopped : Stops t a n past met
+
+-- so of a seat
+abbrev pub Goes : Task → Sitting → Option (List Op) → Met → Type 0
+Goes t s left met = IsGoing t s.actor s.count (reverse s.saw) left met
+
+abbrev pub WorkedAt : Task → Sitting → Met → Type 0
+WorkedAt t s met = HasWorked t s.actor s.count (reverse s.saw) met
+
+-- an operation is its actor's turn, as long as no event of that actor comes
+abbrev pub HasTurn : Task → Actor → (n : ℕ) → (seen : List Event) → Op → Type 0
+HasTurn t a n seen op = (past : List Event) → IsSuffix seen past → many_of a past ≡ n → IsTurn t.opening t.blocks t.ticks a op past
+
+-- what a gate answers is what the plan says that it may
+abbrev pub IsGate : (lets plan : ℕ → ℕ → Bool → Type 0) → Type 0
+IsGate lets plan = (n k : ℕ) (answer : Bool) → lets n k answer → plan n k answer
+
+-- a seat of a new board
+pub record IsFresh (c : Config) (s : Sitting) : Type 0 where
+  pub acting : IsActor c s.actor
+  pub is : s ≡ sitting s.actor 0 [] []
