@@ -144,7 +144,7 @@ fn do_row<K: Room + Send + Sync, R: AllocGlobal + Clock + Threads + Wait + Sync>
     let mut seats = seats;
     let mut receipts = Vec::new(rt.alloc());
     let noted = work(rt, &shared, &mut seats, &mut receipts, row)?;
-    end(rt.alloc(), config, shared, seats, &receipts, noted)
+    end(rt.alloc(), config, shared, seats, &receipts, &noted)
 }
 
 /// What comes before the close.
@@ -175,7 +175,7 @@ fn end<K: Room>(
     shared: SharedBoard<K>,
     seats: Vec<Seat<K>>,
     receipts: &[Receipt<K>],
-    noted: Noted,
+    noted: &Noted,
 ) -> Result<Seen, Why>
     requires { K.all ≡ K.parts }
 {

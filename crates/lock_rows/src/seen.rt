@@ -3,15 +3,16 @@
 use crate::record::check;
 use crate::single;
 use board_core::{Actor, BuildFault, Config, Op, Refusal, Reply};
-use board_lock::{Receipt, Record, Rest, Room};
+use board_lock::{HartView, Receipt, Record, Rest, Room};
 use std::alloc::{AllocError, Global};
 use thiserror::Error;
 
 /// What a row has seen: it is the same whatever the schedule was.
 #[derive(Clone, Copy, Debug)]
 pub enum Seen {
-    /// Receipts, a refusal, the events of hart 0 and of the clock, and what the look of the last receipt found.
-    Single([Told; 3], Refusal, usize, usize, (Actor, Op, Reply)),
+    /// Receipts, the views that came with them, a refusal, the events of hart 0 and of the clock, and what the look of the last
+    /// receipt found.
+    Single([Told; 3], [HartView; 3], Refusal, usize, usize, (Actor, Op, Reply)),
     /// How many seats came back of each refused close.
     Closes(usize, usize, usize),
     /// How many receipts there were, how many events, and which pairs were asked and applied, at what time.
@@ -34,8 +35,8 @@ pub enum Seen {
 /// What a row notes before its close.
 #[derive(Clone, Copy)]
 pub enum Noted {
-    /// The refusal of the call that is refused.
-    Refusal(Refusal),
+    /// The views that came with accepted calls, and the refusal of the call that is refused.
+    Single([HartView; 3], Refusal),
     /// Nothing: the row is of its closes.
     Closes,
     /// Nothing: the row is of its receipts.
@@ -48,9 +49,9 @@ pub enum Noted {
 
 impl Noted {
     /// How many of the last seats the first close lacks.
-    pub fn lacking(self) -> usize {
+    pub fn lacking(&self) -> usize {
         match self {
-            Noted::Refusal(_) => 1,
+            Noted::Single(..) => 1,
             Noted::Closes => 3,
             Noted::Receipts | Noted::Rests(_) | Noted::Nanoseconds(_) => 0,
         }
@@ -58,7 +59,7 @@ impl Noted {
 }
 
 impl Noted {
-    fn is_timed(self) -> bool {
+    fn is_timed(&self) -> bool {
         match self {
             Noted::Nanoseconds(_) => true,
             _ => false,
@@ -74,7 +75,7 @@ impl Seen {
         config: &Config,
         record: &Record<K>,
         receipts: &[Receipt<K>],
-        noted: Noted,
+        noted: &Noted,
         back: [usize; 3],
     ) -> Result<Seen, Why> {
         let events = record.events().len();
@@ -82,13 +83,13 @@ impl Seen {
             check(alloc, config, record, receipts)?;
         }
         match noted {
-            Noted::Refusal(refusal) => single::seen(record, receipts, refusal),
+            Noted::Single(views, refusal) => single::seen(record, receipts, views, *refusal),
             Noted::Closes => Ok(Seen::Closes(back[0], back[1], back[2])),
             Noted::Rests(told) => Ok(Seen::Rests(told[0], told[1], told[2], events)),
             Noted::Receipts => Ok(Seen::of_many(record, receipts.len())),
             Noted::Nanoseconds(nanoseconds) => Ok(Seen::Repeats {
                 events,
-                nanoseconds,
+                nanoseconds: *nanoseconds,
             }),
         }
     }

@@ -3,21 +3,21 @@
 use crate::record::events_of;
 use crate::seen::{Noted, Seen, Told, Why};
 use board_core::{Actor, Op, Refusal};
-use board_lock::{Receipt, Record, Room, Seat, SharedBoard};
+use board_lock::{HartView, Receipt, Record, Room, Seat, SharedBoard};
 use std::alloc::AllocError;
 use std::sync::Wait;
 
-/// A call that is accepted, and its receipt kept.
+/// A call that is accepted, its receipt kept, and the view that comes with it.
 fn accepted<K: Room, R: Wait>(
     rt: &R,
     shared: &SharedBoard<K>,
     seat: &mut Seat<K>,
     receipts: &mut Vec<Receipt<K>>,
     op: Op,
-) -> Result<(), Why> {
-    let receipt = shared.call(rt, seat, op)?;
+) -> Result<HartView, Why> {
+    let (receipt, view) = shared.call_and_view(rt, seat, op)?;
     match receipts.push(receipt) {
-        Ok(()) => Ok(()),
+        Ok(()) => Ok(view),
         Err(_) => Err(Why::Memory(AllocError)),
     }
 }
@@ -27,10 +27,10 @@ fn refused<K: Room, R: Wait>(
     rt: &R,
     shared: &SharedBoard<K>,
     hart: &mut Seat<K>,
-) -> Result<Noted, Why> {
-    match shared.call(rt, hart, Op::Poll) {
+) -> Result<Refusal, Why> {
+    match shared.call_and_view(rt, hart, Op::Poll) {
         Ok(_) => Err(Why::Accepted),
-        Err(refusal) => Ok(Noted::Refusal(refusal)),
+        Err(refusal) => Ok(refusal),
     }
 }
 
@@ -47,16 +47,19 @@ pub fn calls<K: Room, R: Wait>(
     let Some(hart) = harts.first_mut() else {
         return Err(Why::Seats);
     };
-    accepted(rt, shared, hart, receipts, Op::Advance)?;
-    accepted(rt, shared, clock, receipts, Op::Tick(3))?;
-    accepted(rt, shared, hart, receipts, Op::ReadSip)?;
-    refused(rt, shared, hart)
+    let views = [
+        accepted(rt, shared, hart, receipts, Op::Advance)?,
+        accepted(rt, shared, clock, receipts, Op::Tick(3))?,
+        accepted(rt, shared, hart, receipts, Op::ReadSip)?,
+    ];
+    Ok(Noted::Single(views, refused(rt, shared, hart)?))
 }
 
 /// What the receipts and the record say of the calls, and what the look of the last receipt finds.
 pub fn seen<K: Room>(
     record: &Record<K>,
     receipts: &[Receipt<K>],
+    views: &[HartView; 3],
     refusal: Refusal,
 ) -> Result<Seen, Why> {
     let [first, second, third] = receipts else {
@@ -67,5 +70,12 @@ pub fn seen<K: Room>(
     let of_hart = events_of(record.events(), Actor::Hart(0));
     let of_clock = events_of(record.events(), Actor::Clock);
     let found = (event.actor(), event.op(), event.reply());
-    Ok(Seen::Single(told, refusal, of_hart, of_clock, found))
+    Ok(Seen::Single(
+        told,
+        [views[0], views[1], views[2]],
+        refusal,
+        of_hart,
+        of_clock,
+        found,
+    ))
 }

@@ -116,20 +116,24 @@ fn fence<K: Room, R: Wait>(
     receipts: &mut Vec<Receipt<K>>,
 ) -> Result<(), AllocError> {
     let mut left = FENCES;
+    let mut view = shared.view(rt, seat);
     for _ in rt.forever() {
-        let view = shared.view(rt, seat);
         let Some(op) = next(&view, left) else {
             if shared.rest(rt, seat, view.events) == Rest::AllRest {
                 break;
             }
+            view = shared.view(rt, seat);
             continue;
         };
-        if let Ok(receipt) = shared.call(rt, seat, op) {
-            if matches!(op, Op::Ecall(_) | Op::Tick(_)) {
-                left = left.saturating_sub(1);
-            }
-            receipts.push(receipt)?;
+        let Ok((receipt, after)) = shared.call_and_view(rt, seat, op) else {
+            view = shared.view(rt, seat);
+            continue;
+        };
+        if matches!(op, Op::Ecall(_) | Op::Tick(_)) {
+            left = left.saturating_sub(1);
         }
+        receipts.push(receipt)?;
+        view = after;
     }
     Ok(())
 }
