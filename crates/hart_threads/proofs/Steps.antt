@@ -91,7 +91,7 @@ full-going t s s' left op going turn same later refused =
     let since = earlier-of s.saw s'.saw later in
     let after = looked t s s' left Nothing same later going in
     let at : At s.actor s.count (reverse s'.saw) (Refuses t.opening t.blocks t.ticks s.actor op HistoryFull) =
-            refused-at t (seeing s s'.saw) (reverse s.saw) op HistoryFull (subst (λ (x : Sitting). IsRefused t.opening x op HistoryFull) same refused) since going.work.no_fewer turn in
+    refused-at t (seeing s s'.saw) (reverse s.saw) op HistoryFull (subst (λ (x : Sitting). IsRefused t.opening x op HistoryFull) same refused) since going.work.no_fewer turn in
     subst (λ (x : Sitting). Goes t x left FullHistory) (sym same)
     (let now = subst (λ (x : Sitting). Goes t x left Nothing) same after in record { work = now.work; left_is = now.left_is; met_is = (op, at) })
 
@@ -109,7 +109,7 @@ pub clock-done : (t : Task) (s s' : Sitting) (n : ℕ) (reply : Reply) → s.act
 clock-done t s s' n reply clock work next told done count =
     rw count rw (saw-then t s s' (Tick n) reply done)
     (work-more t Clock s.count (reverse s.saw) (reverse done.before) (Tick n) reply (event t s s' (Tick n) reply done) (earlier-of s.saw done.before done.later) clock refl refl
-      work (tick-turn t s.count n (reverse s.saw) next) (subst (λ (a : Actor). t.lets (gate_number t.opening a) s.count true) clock told))
+    work (tick-turn t s.count n (reverse s.saw) next) (subst (λ (a : Actor). t.lets (gate_number t.opening a) s.count true) clock told))
 
 clock-is : (t : Task) (s : Sitting) (met : Met) → s.actor ≡ Clock → HasWorked t Clock s.count (reverse s.saw) met → WorkedAt t s met
 clock-is t s met clock worked = subst (λ (a : Actor). HasWorked t a s.count (reverse s.saw) met) (sym clock) worked

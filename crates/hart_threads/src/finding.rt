@@ -12,12 +12,7 @@ use std::alloc::{AllocError, Global};
 
 /// How the run of a board ended, by its history and what its guests had to do; of the threads' word only what can't be seen
 /// there is taken: whether a gate ended one, and whether one met a full history.
-pub fn end_of(
-    alloc: Global,
-    board: &Board,
-    blocks: &[Block],
-    met: Met,
-) -> Result<End, AllocError>
+pub fn end_of(alloc: Global, board: &Board, blocks: &[Block], met: Met) -> Result<End, AllocError>
     ensures end { IfOk result (λ end. IsEnd end board.now.config board.now.past (map guest blocks.now)) }
     ensures by { IfOk result (λ end. IsEndBy met board.now.config board.now.past (map guest blocks.now) end) }
 {

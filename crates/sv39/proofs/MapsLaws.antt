@@ -29,7 +29,7 @@ or-assoc false b c = refl
 found_at : (memory : ℕ → Option ℕ) (va : ℕ) (kind : Kind) (table : ℕ) (global : Bool) (above : List Level) (level : Level) (under : List Level)
     → are_pointers memory va table above ≡ true → is_some_pointer level (entry_in memory va (table_below memory va table above) level) ≡ false
     → found_from memory va kind table global (above ++ level ∷ under)
-        ≡ outcome (entry_in memory va (table_below memory va table above) level) va kind level (global || is_any_global memory va table above)
+    ≡ outcome (entry_in memory va (table_below memory va table above) level) va kind level (global || is_any_global memory va table above)
 found_at memory va kind table global [] level under pointers ends = rw (ends, or-false global) refl
 found_at memory va kind table global (upper ∷ above) level under pointers ends =
     let both = and_parts (is_some_pointer upper (entry_in memory va table upper)) (are_pointers memory va (table_of (entry_in memory va table upper)) above) pointers in
@@ -82,16 +82,16 @@ relates : (memory : ℕ → Option ℕ) (root va : ℕ) (kind : Kind) (levels : 
 relates memory root va kind levels result lowest = (
   λ by. by.gives ∙ sym (ap (found_from memory va kind root false) by.levels_are ∙ found_at memory va kind root false by.above by.level by.under by.pointers by.ends),
   λ e.
-    let end = ends_somewhere memory va root levels lowest in
-    record {
-      above = end.above;
-      level = end.level;
-      under = end.under;
-      levels_are = end.levels_are;
-      pointers = end.pointers;
-      ends = end.ends;
-      gives = e ∙ ap (found_from memory va kind root false) end.levels_are ∙ found_at memory va kind root false end.above end.level end.under end.pointers end.ends;
-    },
+      let end = ends_somewhere memory va root levels lowest in
+      record {
+        above = end.above;
+        level = end.level;
+        under = end.under;
+        levels_are = end.levels_are;
+        pointers = end.pointers;
+        ends = end.ends;
+        gives = e ∙ ap (found_from memory va kind root false) end.levels_are ∙ found_at memory va kind root false end.above end.level end.under end.pointers end.ends;
+      },
 )
 
 pub maps_is_the_rule : (memory : ℕ → Option ℕ) (satp va : ℕ) (kind : Kind) (result : Result Leaf Cause)
@@ -163,9 +163,9 @@ pub goes_on : (memory : ℕ → Option ℕ) (satp va : ℕ) (kind : Kind) (level
     → Reached memory satp va kind lower (4096 * page_number entry) (global || has_g entry)
 goes_on memory satp va kind level lower table entry global r here some = elim (cases_Bool (is_pointer level entry)) [
   | inl good ↦ record {
-      rest = r.rest ∙ ap (found_from memory va kind table global) (levels_below level lower (rw good at some)) ∙ down memory va kind level (levels_from lower) table entry global here good;
-      fits = omega arith;
-    }
+    rest = r.rest ∙ ap (found_from memory va kind table global) (levels_below level lower (rw good at some)) ∙ down memory va kind level (levels_from lower) table entry global here good;
+    fits = omega arith;
+  }
   | inr other ↦ let e = rw other at some in cc
 ]
 

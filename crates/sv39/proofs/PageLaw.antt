@@ -101,8 +101,8 @@ by_entry memory a table global kind level under leaf none e =
       low = rw is.by_level (omega arith);
       page = is.page;
       each = λ b other same.
-        let at_level : page_of level b ≡ page_of level a = rw is.by_level at same in
-        rw (same_entry memory a b table level level (omega arith) at_level, none) (is.decides b other at_level);
+          let at_level : page_of level b ≡ page_of level a = rw is.by_level at same in
+          rw (same_entry memory a b table level level (omega arith) at_level, none) (is.decides b other at_level);
     }
 
 one_more : (level : Level) (under : List Level) (below : ℕ) → below ≤ level_number level → HasLeaves under below → HasLeaves (level ∷ under) (level_number level)

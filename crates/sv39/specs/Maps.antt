@@ -70,15 +70,15 @@ pub record MapsBy
   pub ends : is_some_pointer level (entry_in memory va (table_below memory va root above) level) ≡ false
   pub gives : result
       ≡ outcome (entry_in memory va (table_below memory va root above) level) va kind level
-        (is_any_global memory va root above)
+      (is_any_global memory va root above)
 
 -- The rule, as a relation: the result for a valid address is what the tables give, and for another one a page fault
 -- (Privileged 4.3.2, 4.4.1).
 unfoldable pub Maps : (ℕ → Option ℕ) → (satp va : ℕ) → Kind → Result Leaf Cause → Type 0
 Maps memory satp va kind result =
     MatchBool (is_valid va)
-        (MapsBy memory (4096 * root_of satp) va kind (levels_from sv39.root) result)
-        (result ≡ Err (page_fault kind))
+    (MapsBy memory (4096 * root_of satp) va kind (levels_from sv39.root) result)
+    (result ≡ Err (page_fault kind))
 
 -- What a walk gives from a table on, whose levels are these: it goes down at a good pointer, and ends at another entry.
 -- No pointer of the lowest level is a good one.
@@ -88,7 +88,7 @@ found_from memory va kind table global [] = Err (page_fault kind)
 found_from memory va kind table global (level ∷ under) =
     if is_some_pointer level (entry_in memory va table level)
     then found_from memory va kind (table_of (entry_in memory va table level))
-        (global || is_some_global (entry_in memory va table level)) under
+    (global || is_some_global (entry_in memory va table level)) under
     else outcome (entry_in memory va table level) va kind level global
 
 -- The rule, as a function.

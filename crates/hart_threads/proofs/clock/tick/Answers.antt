@@ -15,7 +15,7 @@ loop-preserved g c =
       ap (λ (s : Sitting). s.actor) c.rest.ensures.seat ∙ ap (λ (s : Sitting). s.actor) c.view-seen.ensures.seat ∙ c.loop.invariant.0,
       rw same c.loop.invariant.1,
       worked-later t seat c.rest.new.seat c.tick_all-met.result c.rest.ensures.seat c.rest.ensures.later
-        (worked-later t c.loop.seat seat c.tick_all-met.result c.view-seen.ensures.seat c.view-seen.ensures.later c.loop.invariant.2),
+          (worked-later t c.loop.seat seat c.tick_all-met.result c.view-seen.ensures.seat c.view-seen.ensures.later c.loop.invariant.2),
     )
 
 pub returns-clause-worked : goal.returns-clause-worked
@@ -27,5 +27,5 @@ returns-clause-worked g c =
           let seat : Sitting = w.view-seen.new.seat in
           subst (λ (s : Sitting). WorkedAt t s c.tick_all-met.result) (sym w.seat-is)
           (worked-later t seat w.rest.new.seat c.tick_all-met.result w.rest.ensures.seat w.rest.ensures.later
-            (worked-later t c.loop.seat seat c.tick_all-met.result w.view-seen.ensures.seat w.view-seen.ensures.later c.loop.invariant.2))
+          (worked-later t c.loop.seat seat c.tick_all-met.result w.view-seen.ensures.seat w.view-seen.ensures.later c.loop.invariant.2))
     ]

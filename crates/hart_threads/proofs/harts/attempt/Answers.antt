@@ -17,8 +17,8 @@ returns-in-Ok-clause-going g c =
     let left : Option (List Op) = left_of c.args.guest.now in
     let left' : Option (List Op) = left_of c.sees.new.self in
     let tells : Tells g.K.Plan.blocks c.args.op c.in-Ok.receipt.reply left left' = (λ past h e by asked answered is.
-            subst (λ (bs : List Guest). IsLeft bs left' (e ∷ past) h) c.args.work.now.blocked
-            (c.sees.ensures past h e by asked (answered ∙ sym c.reply.ensures) (subst (λ (bs : List Guest). IsLeft bs left past h) (sym c.args.work.now.blocked) is))) in
+    subst (λ (bs : List Guest). IsLeft bs left' (e ∷ past) h) c.args.work.now.blocked
+    (c.sees.ensures past h e by asked (answered ∙ sym c.reply.ensures) (subst (λ (bs : List Guest). IsLeft bs left past h) (sym c.args.work.now.blocked) is))) in
     done-going t c.args.seat.now c.call.new.seat c.args.op c.in-Ok.receipt.reply c.in-Ok.ensures.done left left' c.requires.going c.requires.turn c.if-not-is_let.ensures tells
     c.in-Ok.ensures.actor c.in-Ok.ensures.accepted
 

@@ -13,7 +13,7 @@ attempt-met-requires-clause-going g c =
     let t : Task = task g.K.Plan.lets g.K.Room.opening g.K.Plan.blocks g.K.Plan.ticks in
     let seat : Sitting = c.view-view.new.seat in
     let seen : Goes t seat (left_of c.loop.guest) c.loop.met =
-            looked t c.loop.seat seat (left_of c.loop.guest) c.loop.met c.view-view.ensures.seat c.view-view.ensures.later c.loop.invariant.1 in
+    looked t c.loop.seat seat (left_of c.loop.guest) c.loop.met c.view-view.ensures.seat c.view-view.ensures.later c.loop.invariant.1 in
     subst (λ (m : Met). Goes t seat (left_of c.loop.guest) m) (met-nothing c.view-view.result c.loop.met _ c.in-Some-next.op (sym c.next-in-loop.ensures ∙ c.in-Some-next.is)) seen
 
 pub attempt-met-requires-clause-turn : goal.attempt-met-requires-clause-turn
@@ -43,5 +43,5 @@ returns-clause-worked g c =
           let actor : seat.actor ≡ c.args.seat.actor = ap (λ (s : Sitting). s.actor) w.view-view.ensures.seat ∙ c.loop.invariant.0 in
           subst (λ (s : Sitting). WorkedAt t s c.loop.met) (sym w.seat-is)
           (rested t seat w.rest.new.seat w.view-view.result c.loop.met left (λ clock. c.requires.hart (sym actor ∙ clock)) (subst (IsActor g.K.Room.opening) (sym actor) c.requires.acting)
-            w.view-view.ensures.view seen (sym w.next-in-loop.ensures ∙ w.in_default.is) w.rest.ensures.seat w.rest.ensures.later)
+          w.view-view.ensures.view seen (sym w.next-in-loop.ensures ∙ w.in_default.is) w.rest.ensures.seat w.rest.ensures.later)
     ]

@@ -13,7 +13,7 @@ returns-clause-threads g c =
     let lets : ℕ → ℕ → Bool → Type 0 = g.G.Gate.lets c.args.gate.now in
     let blocks : List Guest = map guest p.result.blocks.now in
     let threads : AreThreads lets b.board.config blocks p.result.ticks.now b.board.past b.met =
-            subst (λ (opening : Config). AreThreads lets opening blocks p.result.ticks.now b.board.past b.met) (sym b.ensures.opening) b.ensures.threads in
+    subst (λ (opening : Config). AreThreads lets opening blocks p.result.ticks.now b.board.past b.met) (sym b.ensures.opening) b.ensures.threads in
     subst (λ (bs : List Guest). IsRun lets b.board.config bs (ticks_of (content c.args.script.now.body)) b.board.past c.in_ok-end.end) p.ensures.blocks
     (subst (λ (ts : List ℕ). IsRun lets b.board.config blocks ts b.board.past c.in_ok-end.end) p.ensures.ticks
     (is-run lets b.board.config blocks p.result.ticks.now b.board.past b.met c.in_ok-end.end threads c.in_ok-end.ensures.by))

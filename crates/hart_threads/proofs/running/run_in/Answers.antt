@@ -45,9 +45,9 @@ returns-clause-threads g c =
     let all = c.in_ok-all.all.items in
     let one = (c.in-Ok.ensures.all.0 refl).one_each in
     let settled = settle-all t es (λ worked. worked.seat) (λ worked. worked.met) all
-            (subst (All (λ (s : Sitting). length (events_of s.actor es) ≡ s.count)) same c.in-Ok.ensures.counts)
-            (subst (All (λ (s : Sitting). IsPrefix s.saw es)) same c.in-Ok.ensures.saw) c.in_ok-all.ensures.worked in
+    (subst (All (λ (s : Sitting). length (events_of s.actor es) ≡ s.count)) same c.in-Ok.ensures.counts)
+    (subst (All (λ (s : Sitting). IsPrefix s.saw es)) same c.in-Ok.ensures.saw) c.in_ok-all.ensures.worked in
     let threads = are-threads t es (λ worked. worked.seat) (λ worked. worked.met) all
-            (λ a acting. subst (λ (seats : List Sitting). seats_of a seats ≡ 1) same (one a acting)) settled in
+    (λ a acting. subst (λ (seats : List Sitting). seats_of a seats ≡ 1) same (one a acting)) settled in
     rw c.into_board.ensures rw c.in_ok-seats.ensures.met
     (subst (λ (past : List Event). AreThreads t.lets t.opening t.blocks t.ticks past (met_by_all (map (λ worked. worked.met) all))) (reverse-reverse c.in-Ok.record.past) threads)
