@@ -1,0 +1,129 @@
+//! A gate that has threads wait for each other, and keeps what it was asked.
+
+use hart_threads::Gate;
+use std::hint;
+use std::sync::atomic::{AtomicUsize, Ordering};
+
+/// How often a gate looks whether a thread has come that another one waits for.
+const LOOKS: u64 = 100_000_000;
+
+/// A question that a gate is asked: by which actor, and how many of its operations were accepted.
+#[derive(Clone, Copy, Debug, PartialEq, Eq)]
+pub struct Turn {
+    pub actor: usize,
+    pub ordinal: usize,
+}
+
+/// A turn that comes after another one was asked for.
+#[derive(Clone, Copy, Debug)]
+pub struct Hold {
+    pub turn: Turn,
+    pub after: Turn,
+}
+
+/// What a gate was asked by an actor.
+#[derive(Drop)]
+struct Asked {
+    /// One more than the last ordinal.
+    next: AtomicUsize,
+    /// How many questions there were.
+    many: AtomicUsize,
+    /// How many of them had neither the ordinal before nor the one after it.
+    out_of_order: AtomicUsize,
+}
+
+impl Asked {
+    fn new() -> Asked {
+        Asked {
+            next: AtomicUsize::new(0),
+            many: AtomicUsize::new(0),
+            out_of_order: AtomicUsize::new(0),
+        }
+    }
+
+    /// The actor asks. It has one thread, so no other question of it comes in between.
+    fn ask(&self, ordinal: usize) {
+        let next = self.next.load(Ordering::SeqCst);
+        if ordinal == next {
+            self.next.store(next.wrapping_add(1), Ordering::SeqCst);
+        } else if ordinal.wrapping_add(1) != next {
+            self.out_of_order.fetch_add(1, Ordering::SeqCst);
+        }
+        self.many.fetch_add(1, Ordering::SeqCst);
+    }
+
+    /// Waits until the ordinal was asked, for so many looks.
+    fn is_reached(&self, ordinal: usize) -> bool {
+        for _ in 0..LOOKS {
+            if self.next.load(Ordering::SeqCst) > ordinal {
+                return true;
+            }
+            hint::spin_loop();
+        }
+        false
+    }
+}
+
+/// A gate with holds, which is closed for one turn.
+#[derive(Drop)]
+pub struct Holding<'a> {
+    holds: &'a [Hold],
+    closed: Option<Turn>,
+    asked: [Asked; 4],
+}
+
+impl<'a> Holding<'a> {
+    pub fn new(holds: &'a [Hold], closed: Option<Turn>) -> Holding<'a> {
+        Holding {
+            holds,
+            closed,
+            asked: [Asked::new(), Asked::new(), Asked::new(), Asked::new()],
+        }
+    }
+
+    /// Waits until the turn was asked for.
+    fn waits_for(&self, turn: Turn) -> bool {
+        match self.asked.get(turn.actor) {
+            Some(asked) => asked.is_reached(turn.ordinal),
+            None => false,
+        }
+    }
+
+    /// How many questions each actor asked.
+    pub fn questions(&self) -> [usize; 4] {
+        let [a, b, c, d] = &self.asked;
+        [
+            a.many.load(Ordering::SeqCst),
+            b.many.load(Ordering::SeqCst),
+            c.many.load(Ordering::SeqCst),
+            d.many.load(Ordering::SeqCst),
+        ]
+    }
+
+    /// Whether each actor asked for its ordinals in order.
+    pub fn is_in_order(&self) -> bool {
+        self.asked
+            .iter()
+            .all(|asked| asked.out_of_order.load(Ordering::SeqCst) == 0)
+    }
+}
+
+impl<'a> Gate for Holding<'a> {
+    ghost use Rattle.std.specs.Prelude.{◌≡◌, false, Some};
+
+    ghost lets = { λ gate actor ordinal answer.
+        gate.closed ≡ Some (record { actor = actor; ordinal = ordinal }) → answer ≡ false };
+
+    fn turn(&self, actor: usize, ordinal: usize) -> bool {
+        let turn = Turn { actor, ordinal };
+        if let Some(asked) = self.asked.get(actor) {
+            asked.ask(ordinal);
+        }
+        if self.closed == Some(turn) {
+            return false;
+        }
+        self.holds
+            .iter()
+            .all(|hold| hold.turn != turn || self.waits_for(hold.after))
+    }
+}
