@@ -33,7 +33,7 @@ impl Memory {
         let mut caches = Vec::with_capacity(alloc, config.harts as usize)?;
         for h in 0..config.harts {
             satps.push(Satp::bare())?;
-            caches.push(Caches::new(alloc)?)?;
+            caches.push(Caches::new())?;
         }
         Ok(Memory { ram, satps, caches })
     }

@@ -1,5 +1,5 @@
 pub mod Filters
-pub mod Recent
+pub mod Places
 pub mod Living
 pub mod Meeting
 pub mod WorkedFences

@@ -9,7 +9,7 @@ use Rattle.tlb_model.specs.declared.fence.Flush.{Flush}
 use Rattle.tlb_model.specs.Contents.{is_young}
 use Rattle.tlb_model.specs.Acts.{Act, Fill, Drop, Clear, Nothing, ClearedIsGone, CoveredIsGone, Filling, HitIsTheLast, KeepsWhatLives, LiveWasFilled, WasFilled, after, ends, fillings, is_live, live, numbered}
 use Rattle.tlb_model.proofs.Filters.{filter-agree_within, filter-both, find-map, map-filter}
-use Rattle.tlb_model.proofs.Recent.{same_contents}
+use Rattle.tlb_model.proofs.Places.{same_contents}
 
 module _ {E : Type 0} where
   after-more : (act : Act E) (acts : List (Act E)) (date : ℕ) → date < length acts → after (act ∷ acts) date ≡ act ∷ after acts date

@@ -1,5 +1,5 @@
 -- What a cache is, for its contracts: its next number, and its live fills.
-use Rattle.std.specs.Prelude.{ℕ, ◌+◌, ◌<◌, ◌≤◌, nat_lt, List, [], ◌∷◌, Bool, not, filter, find, Option, Some, None, option_map}
+use Rattle.std.specs.Prelude.{ℕ, ◌+◌, nat_lt, List, [], ◌∷◌, Bool, not, filter, find, Option, Some, None, option_map}
 use Rattle.tlb_model.specs.declared.cache.Numbered.{Numbered}
 
 -- the number of the next fill, and the live fills, newest first
@@ -37,8 +37,3 @@ module _ {E : Type 0} where
   -- The hit is the item of the key's that was filled last, of those that are live (profile).
   abbrev pub hit : {K : Type 0} → (holds : K → E → Bool) → K → Contents E → Option E
   hit holds key cache = option_map (λ fill. fill.item) (find (λ fill. holds key fill.item) cache.live)
-
-  -- Numbers that go down, below the upper bound and from the lower one on, as those of live fills do, newest first.
-  abbrev pub IsRecent : (from below : ℕ) → List (Numbered E) → Type 0
-  IsRecent from below [] = Unit {0}
-  IsRecent from below (fill ∷ fills) = (from ≤ fill.number) × (fill.number < below) × IsRecent from fill.number fills

@@ -1,16 +1,13 @@
-ghost use Rattle.std.specs.Prelude.{◌≡◌, ◌<◌, ◌≤◌, ◌+◌, ◌-◌, ◌^◌, Bool, [], IfOk, filter, length, not, reverse, vec_len, vec_capacity};
-ghost use Rattle.tlb_model.specs.Contents.{IsRecent, cleared, empty, fenced, filled, hit, is_young};
+ghost use Rattle.std.specs.Prelude.{◌≡◌, ◌<◌, ◌≤◌, ◌^◌, Bool, find, length, reverse};
+ghost use Rattle.tlb_model.specs.Contents.{cleared, empty, fenced, filled, hit};
 
 use crate::fence::Flush;
 use crate::live::Live;
-use std::alloc::{AllocError, Global};
+use arrayvec::ArrayVec;
 use std::marker::Model;
 
-/// How many fills a cache has room for (profile).
-const PLACES: u64 = 16;
-
 /// What a cache keeps.
-pub trait Cached: Copy + Drop {
+pub trait Cached: Copy + Default + Drop {
     ghost use Rattle.tlb_model.specs.declared.fence.Flush.{Flush};
 
     /// What an item is looked up by.
@@ -38,40 +35,70 @@ pub struct Numbered<E> {
     pub item: E,
 }
 
-/// A cache of a hart: its live fills in the order in which they were made.
+/// A cache of a hart: its live fills, in sixteen places (profile). Fill n is in place n mod 16, and stays there until
+/// fill n + 16; a fence moves none.
 #[derive(Debug, Drop)]
 pub struct Cache<E> {
     next: u64,
-    fills: Vec<Numbered<E>>,
+    // (a bit for each of the last sixteen fills, the lowest one for the newest)
+    dropped: u16,
+    places: ArrayVec<E, 16>,
 }
 
 impl<E> Model for Cache<E> {
-    ghost use Rattle.std.specs.Prelude.{reverse, vec_capacity, ◌≤◌, ◌-◌};
-    ghost use Rattle.tlb_model.specs.Contents.{Contents, IsRecent};
+    ghost use Rattle.std.specs.Prelude.{◌≡◌, length, min};
+    ghost use Rattle.tlb_model.specs.Contents.{Contents};
+    ghost use Rattle.tlb_model.specs.Places.{seen};
 
     ghost Value = { Contents E };
 
-    ghost view = { λ c. record { next = c.next; live = reverse c.fills.items } };
+    ghost view = { λ c. record { next = c.next; live = seen c.next 16 c.places.items c.dropped } };
 
-    ghost invariant = { λ c. IsRecent (c.next - 16) c.next (reverse c.fills.items) × (16 ≤ vec_capacity c.fills) };
+    ghost invariant = { λ c. length c.places.items ≡ min 16 c.next };
 }
 
 impl<E: Cached> Cache<E> {
-    /// A cache in which nothing was filled, with its whole room. It fails where memory runs out.
-    pub fn new(alloc: Global) -> Result<Cache<E>, AllocError>
-        ensures { IfOk result (λ cache. cache ≡ empty) }
+    /// A cache in which nothing was filled.
+    pub fn new() -> Cache<E>
+        ensures { result ≡ empty }
     {
-        let fills = Vec::with_capacity(alloc, PLACES as usize)?;
-        Ok(Cache { next: 0, fills })
+        Cache {
+            next: 0,
+            dropped: 0,
+            places: ArrayVec::new(),
+        }
     }
 
     /// Of the live items that are this key's, the one that was filled last (profile).
+    #[inline(always)]
     pub fn lookup(&self, key: E::Key) -> Option<E>
         ensures { result ≡ hit E.holds key self.now }
     {
-        let mut newest_first = self.fills.iter().rev();
-        let found = newest_first.find(|fill| fill.item.holds(key))?;
-        Some(found.item)
+        // (most often no fence dropped what is in the places)
+        if self.dropped != 0 {
+            return self.latest_kept(key);
+        }
+        let (newer, older) = self.places.split_at((self.next % 16) as usize);
+        match latest(newer, key) {
+            Some(item) => Some(item),
+            None => latest(older, key),
+        }
+    }
+
+    /// The look-up where some are dropped.
+    fn latest_kept(&self, key: E::Key) -> Option<E>
+        ensures { result ≡ hit E.holds key self.now }
+    {
+        let mut dropped = self.dropped;
+        for age in 0..self.places.len() as u64 {
+            let number = self.next - 1 - age;
+            let item = &self.places[(number % 16) as usize];
+            if dropped % 2 == 0 && item.holds(key) {
+                return Some(*item);
+            }
+            dropped /= 2;
+        }
+        None
     }
 
     /// Fills an item in. The one that was filled sixteen fills before goes, where it is still live (profile).
@@ -79,28 +106,34 @@ impl<E: Cached> Cache<E> {
         requires { self.old.next < 2 ^ 63 }
         ensures { self.new ≡ filled self.old item }
     {
-        let number = self.next;
-        make_room(&mut self.fills, number);
-        self.fills.push_reserved(Numbered { number, item });
+        if self.places.is_full() {
+            self.places[(self.next % 16) as usize] = item;
+        } else {
+            self.places.push(item);
+        }
+        self.dropped <<= 1;
         self.next += 1;
     }
 
     /// Drops exactly what this covers.
-    #[inline(always)]
     pub fn apply(&mut self, flush: Flush)
         ensures { self.new ≡ fenced E.covers self.old flush }
     {
-        // (most often nothing lives here)
-        if !self.fills.is_empty() {
-            drop_covered(&mut self.fills, flush);
+        let mut dropped = 0;
+        for age in (0..self.places.len() as u64).rev() {
+            let number = self.next - 1 - age;
+            let item = &self.places[(number % 16) as usize];
+            let is_dropped = (self.dropped >> age) % 2 == 1 || item.is_covered_by(flush);
+            dropped = dropped * 2 + u16::from(is_dropped);
         }
+        self.dropped = dropped;
     }
 
     /// Drops everything, as a stop of the hart or a reset does (profile).
     pub fn clear(&mut self)
         ensures { self.new ≡ cleared self.old }
     {
-        self.fills.clear();
+        self.dropped = u16::MAX;
     }
 
     /// The number of the next fill: how many were made.
@@ -115,30 +148,14 @@ impl<E: Cached> Cache<E> {
         ensures live { reverse result ≡ self.now.live }
         ensures room { length result ≤ 16 }
     {
-        Live::of(&self.fills)
+        Live::of(&self.places, self.dropped, self.next)
     }
 }
 
-/// Drops exactly the fills of items that this covers.
-fn drop_covered<E: Cached>(fills: &mut Vec<Numbered<E>>, flush: Flush)
-    ensures kept { fills.new.items ≡ filter (λ fill. not (E.covers flush fill.item)) fills.old.items }
-    ensures capacity { vec_capacity fills.new ≡ vec_capacity fills.old }
+/// Of the items that are this key's, the last one.
+#[inline(always)]
+fn latest<E: Cached>(items: &[E], key: E::Key) -> Option<E>
+    ensures { result ≡ find (E.holds key) (reverse items.now) }
 {
-    fills.retain(|fill| !fill.item.is_covered_by(flush));
-}
-
-/// Drops what was filled sixteen fills before this number, if it is still there.
-fn make_room<E: Copy + Drop>(fills: &mut Vec<Numbered<E>>, number: u64)
-    requires recent { IsRecent (number - 16) number (reverse fills.old.items) }
-    requires few { number < 2 ^ 63 }
-    ensures young { reverse fills.new.items ≡ filter (is_young number) (reverse fills.old.items) }
-    ensures room { vec_len fills.new < 16 }
-    ensures capacity { vec_capacity fills.new ≡ vec_capacity fills.old }
-{
-    let oldest = fills.first();
-    if let Some(fill) = oldest {
-        if fill.number + PLACES <= number {
-            fills.remove(0);
-        }
-    }
+    items.iter().rev().find(|item| item.holds(key)).copied()
 }

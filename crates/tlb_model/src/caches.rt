@@ -1,4 +1,4 @@
-ghost use Rattle.std.specs.Prelude.{◌≡◌, IfOk};
+ghost use Rattle.std.specs.Prelude.{◌≡◌};
 ghost use Rattle.tlb_model.specs.Contents.{cleared, empty, fenced};
 ghost use Rattle.tlb_model.specs.Entries.{covers_entry};
 ghost use Rattle.tlb_model.specs.Words.{covers_word};
@@ -7,7 +7,6 @@ use crate::cache::Cache;
 use crate::entry::Entry;
 use crate::fence::Flush;
 use crate::word::FetchWord;
-use std::alloc::{AllocError, Global};
 
 /// The cache of a hart's translations (Privileged 4.2.1).
 pub type Tlb = Cache<Entry>;
@@ -25,13 +24,14 @@ pub struct Caches {
 }
 
 impl Caches {
-    /// Caches in which nothing was filled, with their whole room. It fails where memory runs out.
-    pub fn new(alloc: Global) -> Result<Caches, AllocError>
-        ensures { IfOk result (λ caches. caches ≡ record { tlb = empty; words = empty }) }
+    /// Caches in which nothing was filled.
+    pub fn new() -> Caches
+        ensures { result ≡ record { tlb = empty; words = empty } }
     {
-        let tlb = Cache::new(alloc)?;
-        let words = Cache::new(alloc)?;
-        Ok(Caches { tlb, words })
+        Caches {
+            tlb: Cache::new(),
+            words: Cache::new(),
+        }
     }
 
     /// Drops exactly what this covers, in either cache.

@@ -3,7 +3,7 @@ ghost use Rattle.tlb_model.specs.Entries.{covers_entry, is_in_space, matches, re
 
 use crate::cache::Cached;
 use crate::fence::{Flush, Range};
-use sv39::Leaf;
+use sv39::{Leaf, Level};
 
 /// A virtual address in an address space.
 #[derive(Clone, Copy, Debug, PartialEq, Eq)]
@@ -21,6 +21,25 @@ pub struct Entry {
     pub leaf: Leaf,
     /// The ASID of satp when the leaf was found.
     pub asid: u16,
+}
+
+/// The entry that stands in a place which nothing was filled into yet.
+impl Default for Entry {
+    fn default() -> Entry {
+        Entry {
+            leaf: Leaf {
+                page: 0,
+                level: Level::Kilo,
+                global: false,
+                pa: 0,
+                r: false,
+                w: false,
+                x: false,
+                d: false,
+            },
+            asid: 0,
+        }
+    }
 }
 
 impl Cached for Entry {

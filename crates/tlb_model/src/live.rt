@@ -1,5 +1,6 @@
-ghost use Rattle.std.specs.Prelude.{◌≡◌};
+ghost use Rattle.std.specs.Prelude.{◌≡◌, length, min, reverse};
 ghost use Rattle.std.specs.Iterator.{YieldsFirst, item_count};
+ghost use Rattle.tlb_model.specs.Places.{seen};
 
 use crate::cache::Numbered;
 use std::iter::ExactSizeIterator;
@@ -8,24 +9,37 @@ use std::marker::Model;
 /// What lives in a cache and is still to come, in the order of filling.
 #[derive(Drop)]
 pub struct Live<'a, E> {
-    rest: &'a [Numbered<E>],
+    places: &'a [E],
+    dropped: u16,
+    next: u64,
+    // (how many of the last fills are still to come)
+    left: u64,
 }
 
 impl<'a, E> Model for Live<'a, E> {
-    ghost use Rattle.std.specs.Prelude.{List};
+    ghost use Rattle.std.specs.Prelude.{◌≡◌, ◌≤◌, List, length, min, reverse};
     ghost use Rattle.tlb_model.specs.declared.cache.Numbered.{Numbered};
+    ghost use Rattle.tlb_model.specs.Places.{seen};
 
     ghost Value = { List (Numbered E) };
 
-    ghost view = { λ l. l.rest.now };
+    ghost view = { λ l. reverse (seen l.next l.left l.places.now l.dropped) };
+
+    ghost invariant = { λ l. (length l.places.now ≡ min 16 l.next) × (l.left ≤ length l.places.now) };
 }
 
 impl<'a, E> Live<'a, E> {
-    /// These fills.
-    pub(crate) fn of(fills: &'a [Numbered<E>]) -> Live<'a, E>
-        ensures { result ≡ fills.now }
+    /// What lives of the fills in these places, by the word of those that were dropped and the number of the next fill.
+    pub(crate) fn of(places: &'a [E], dropped: u16, next: u64) -> Live<'a, E>
+        requires { length places.now ≡ min 16 next }
+        ensures { result ≡ reverse (seen next 16 places.now dropped) }
     {
-        Live { rest: fills }
+        Live {
+            places,
+            dropped,
+            next,
+            left: places.len() as u64,
+        }
     }
 }
 
@@ -37,9 +51,15 @@ impl<'a, E: Copy> Iterator for Live<'a, E> {
     ghost remaining = { item_count (λ fills. fills) };
 
     fn next(&mut self) -> Option<Numbered<E>> {
-        let (first, rest) = self.rest.split_first()?;
-        self.rest = rest;
-        Some(*first)
+        for age in (0..self.left).rev() {
+            self.left = age;
+            if (self.dropped >> age) % 2 == 0 {
+                let number = self.next - 1 - age;
+                let item = self.places[(number % 16) as usize];
+                return Some(Numbered { number, item });
+            }
+        }
+        None
     }
 
     fn size_hint(&self) -> (usize, Option<usize>) {
@@ -50,6 +70,12 @@ impl<'a, E: Copy> Iterator for Live<'a, E> {
 
 impl<'a, E: Copy> ExactSizeIterator for Live<'a, E> {
     fn len(&self) -> usize {
-        self.rest.len()
+        let mut len = 0;
+        for age in 0..self.left {
+            if (self.dropped >> age) % 2 == 0 {
+                len += 1;
+            }
+        }
+        len
     }
 }

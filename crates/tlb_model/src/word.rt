@@ -4,7 +4,7 @@ use crate::cache::Cached;
 use crate::fence::Flush;
 
 /// A word that was fetched.
-#[derive(Clone, Copy, Debug, PartialEq, Eq)]
+#[derive(Clone, Copy, Debug, Default, PartialEq, Eq)]
 pub struct FetchWord {
     /// Its physical address.
     pub pa: u64,

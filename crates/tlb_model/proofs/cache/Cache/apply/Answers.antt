@@ -1,18 +1,56 @@
-use Rattle.std.proofs.Common.{◌-◌, ◌∙◌, refl, ap, not, arith}
-use Rattle.std.specs.Prelude.{filter, reverse}
-use Rattle.tlb_model.proofs.Filters.{filter-reverse}
-use Rattle.tlb_model.proofs.Recent.{IsRecent-filter, same_contents}
+use Rattle.std.proofs.Common.{◌≡◌, ◌-◌, ◌/◌, ◌%◌, ◌^◌, ◌<◌, ◌*◌, ◌+◌, ◌||◌, ◌==◌, Some, cond, filter, get_or, length, not, slice_get, suc, ap, sym, ◌∙◌, arith}
+use Rattle.std.proofs.lemmas.Nat.{pow_pos}
+use Rattle.std.proofs.lemmas.Option.{slice_get-get_or}
+use Rattle.tlb_model.specs.declared.cache.Numbered.{Numbered}
+use Rattle.tlb_model.specs.Places.{seen}
+use Rattle.tlb_model.proofs.Places.{double-below, fenced-more, from_bool-bit, half-pow, is_one, isnt_one, not-not, one_or_none, seen-rest}
 use Rattle.tlb_model.proofs.cache.Cache.apply.Goals as goal
+use Rattle.tlb_model.proofs.cache.Cache.apply.Goals.{then-self-age-eq1, else-self-age-eq1}
 
-pub invariant_of-self : goal.invariant_of-self
-invariant_of-self g c =
-    let before = c.self.inside.fills.items in
-    let stays = IsRecent-filter (λ fill. not (g.E.Cached.covers c.args.flush fill.item)) (c.self.inside.next - 16) c.self.inside.next (reverse before) c.self.invariant.0 in
-    (rw (c.drop_covered.ensures.kept, filter-reverse (λ fill. not (g.E.Cached.covers c.args.flush fill.item)) before) stays, omega (arith, c.drop_covered.ensures.capacity, c.self.invariant.1))
+pub loop-age-init : goal.loop-age-init
+loop-age-init g c =
+    let n = c.self.inside.next in
+    let places = c.self.inside.places.items in
+    let long : c.len-age.result ≡ length places = c.len-age.ensures.value in
+    rw long (
+      seen-rest n places 0 c.self.invariant ∙ sym (ap (filter (λ (fill : Numbered g.row.E.Denot). not (g.E.Cached.covers c.args.flush fill.item))) (seen-rest n places (c.self.inside.dropped / 2 ^ length places) c.self.invariant)),
+      pow_pos (16 - length places),
+      omega arith,
+    )
 
-pub returns-then-not-is_empty : goal.returns-then-not-is_empty
-returns-then-not-is_empty g c =
-    let before = c.self.inside.fills.items in
-    rw (← c.self.view_is)
-    (same_contents c.self.inside.next c.self.inside.next (reverse c.drop_covered.new.fills.items) (filter (λ fill. not (g.E.Cached.covers c.args.flush fill.item)) (reverse before)) refl
-    (ap reverse c.drop_covered.ensures.kept ∙ filter-reverse (λ fill. not (g.E.Cached.covers c.args.flush fill.item)) before))
+pub loop-age-preserved : goal.loop-age-preserved
+loop-age-preserved g c =
+    let n = c.self.inside.next in
+    let places = c.self.inside.places.items in
+    let age = c.loop-age.age in
+    let w = c.loop-age.dropped in
+    let d = c.self.inside.dropped / 2 ^ (age - 1) in
+    let item = c.index-deref-number.result in
+    let gone = c.if-self-age-eq1.is_dropped in
+    let covered = g.E.Cached.covers c.args.flush item in
+    let first : n - (age - 1) ≡ suc (n - age) = omega (arith, c.self.invariant, c.loop-age.invariant.2, c.loop-age-test.true) in
+    let many : 16 - (age - 1) ≡ suc (16 - age) = omega (arith, c.self.invariant, c.loop-age.invariant.2, c.loop-age-test.true) in
+    let number : n - 1 - (age - 1) ≡ n - age = omega (arith, c.self.invariant, c.loop-age.invariant.2, c.loop-age-test.true) in
+    let within : (n - age) % 16 < length places = omega (arith, c.self.invariant, c.loop-age.invariant.2, c.loop-age-test.true) in
+    let is : item ≡ get_or places ((n - age) % 16) item =
+    c.index-deref-number.is ∙ ap (λ xs. get_or xs ((n - 1 - (age - 1)) % 16) item) c.deref.ensures.0 ∙ ap (λ q. get_or places (q % 16) item) number in
+    let here : slice_get places ((n - age) % 16) ≡ Some item = slice_get-get_or places ((n - age) % 16) item within ∙ ap Some (sym is) in
+    let bit : c.from.result ≡ cond gone 1 0 = c.from.ensures ∙ from_bool-bit gone in
+    let which : gone ≡ (d % 2 == 1) || not (not covered) =
+    elim c.if-self-age-eq1.branch [
+      | then-self-age-eq1 w ↦
+        w.is_dropped-is ∙ is_one (d % 2) w.if-self-age-eq1.true ∙ sym (ap (λ b. b || not (not covered)) (is_one (d % 2) w.if-self-age-eq1.true))
+      | else-self-age-eq1 w ↦
+          w.is_dropped-is ∙ w.is_covered_by-is_dropped.ensures ∙ sym (not-not covered)
+          ∙ sym (ap (λ b. b || not (not covered)) (isnt_one (d % 2) w.if-self-age-eq1.false))
+    ] in
+    let halves : d / 2 ≡ c.self.inside.dropped / 2 ^ age = half-pow c.self.inside.dropped (age - 1) age (omega (arith, c.loop-age-test.true)) in
+    let rest : seen (n - age) (16 - age) places w ≡ filter (λ (fill : Numbered g.row.E.Denot). not (g.E.Cached.covers c.args.flush fill.item)) (seen (n - age) (16 - age) places (d / 2)) =
+    c.loop-age.invariant.0
+    ∙ ap (λ v. filter (λ (fill : Numbered g.row.E.Denot). not (g.E.Cached.covers c.args.flush fill.item)) (seen (n - age) (16 - age) places v)) (sym halves) in (
+      ap (λ b. seen (n - (age - 1)) (16 - (age - 1)) places (w * 2 + b)) bit
+          ∙ fenced-more (λ (fill : Numbered g.row.E.Denot). not (g.E.Cached.covers c.args.flush fill.item)) (n - (age - 1)) (16 - (age - 1)) (n - age) (16 - age) places d w item
+          first many here gone which rest,
+      rw bit (double-below w (cond gone 1 0) (16 - age) (16 - (age - 1)) (one_or_none gone) many c.loop-age.invariant.1),
+      omega (arith, c.loop-age.invariant.2),
+    )

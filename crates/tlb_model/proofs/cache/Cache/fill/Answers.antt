@@ -1,12 +1,30 @@
-use Rattle.std.proofs.Common.{◌∷◌, [], ◌-◌, arith}
-use Rattle.std.specs.Prelude.{reverse}
-use Rattle.std.proofs.lemmas.List.{reverse-append}
-use Rattle.tlb_model.proofs.Recent.{IsRecent-young}
+use Rattle.std.proofs.Common.{◌≡◌, ◌∷◌, ◌++◌, [], length, set, ap, ◌∙◌, arith, sym, slice_get, ◌%◌, ◌==◌}
+use Rattle.std.specs.List.{refill}
+use Rattle.std.proofs.lemmas.List.{length-set}
+use Rattle.tlb_model.proofs.Places.{eq_fails, eq_holds, filled-contents, get-append_here, get-append_other, get-set_here, get-set_other, refill-same}
 use Rattle.tlb_model.proofs.cache.Cache.fill.Goals as goal
+use Rattle.tlb_model.proofs.cache.Cache.fill.Goals.{then-is_full, else-is_full}
 
-pub invariant_of-self : goal.invariant_of-self
-invariant_of-self g c =
-    let next = c.self.inside.next in
-    let young = IsRecent-young next (next - 16) next (reverse c.self.inside.fills.items) c.self.invariant.0 in
-    let turned = reverse-append c.make_room.new.fills.items (record { number = next; item = c.args.item } ∷ []) in
-    (rw (c.push_reserved.ensures.items, turned, c.make_room.ensures.young) (omega arith, omega arith, young), omega (arith, c.push_reserved.ensures.capacity, c.make_room.ensures.capacity, c.self.invariant.1))
+pub returns : goal.returns
+returns g c =
+    let n = c.self.inside.next in
+    let places = c.self.inside.places.items in
+    let item = c.args.item in
+    let answer : c.is_full.result ≡ (length places == 16) = c.is_full.ensures.value in
+    elim c.if-is_full.branch [
+      | then-is_full w ↦
+          let full : length places ≡ 16 = eq_holds (length places) 16 (sym answer ∙ w.if-is_full.true) in
+          let value = w.deref_mut.ensures.value in
+          let written : refill (length places) places (set w.deref_mut.result.now (n % 16) item) ≡ set places (n % 16) item =
+          refill-same places (set w.deref_mut.result.now (n % 16) item) (length-set w.deref_mut.result.now (n % 16) item ∙ ap length value)
+          ∙ ap (λ xs. set xs (n % 16) item) value in
+          let within = get-set_here places (n % 16) item (omega (arith, full, c.self.invariant)) in
+          rw (w.self-inside-is, written, ← c.self.view_is)
+          (filled-contents n places (set places (n % 16) item) c.self.inside.dropped item within (λ j other. get-set_other places (n % 16) item j other))
+      | else-is_full w ↦
+          let last : n % 16 ≡ length places = omega (arith, eq_fails (length places) 16 (sym answer ∙ w.if-is_full.false), c.self.invariant) in
+          rw (w.self-inside-is, w.push.ensures.items, ← c.self.view_is)
+          (filled-contents n places (places ++ item ∷ []) c.self.inside.dropped item
+          (ap (slice_get (places ++ item ∷ [])) last ∙ get-append_here places item)
+          (λ j other. get-append_other places item j (λ e. other (e ∙ sym last))))
+    ]

@@ -1,11 +1,10 @@
-use Rattle.std.proofs.Common.{◌-◌, arith}
-use Rattle.std.specs.Prelude.{reverse}
+use Rattle.std.proofs.Common.{arith}
 use Rattle.std.proofs.lemmas.List.{length-reverse}
-use Rattle.tlb_model.proofs.Recent.{length-recent}
+use Rattle.tlb_model.specs.Places.{seen}
+use Rattle.tlb_model.proofs.Places.{length-seen}
 use Rattle.tlb_model.proofs.cache.Cache.live.Goals as goal
 
 pub returns-clause-room : goal.returns-clause-room
 returns-clause-room g c =
-    let fills = c.self.inside.fills.items in
-    let few = length-recent (c.self.inside.next - 16) c.self.inside.next (reverse fills) c.self.invariant.0 in
-    rw (c.of.ensures, c.deref.ensures.value) (omega (arith, few, length-reverse fills))
+    let fills = seen c.self.inside.next 16 c.deref.result.now c.self.inside.dropped in
+    rw c.of.ensures (omega (arith, length-seen c.self.inside.next 16 c.deref.result.now c.self.inside.dropped, length-reverse fills))

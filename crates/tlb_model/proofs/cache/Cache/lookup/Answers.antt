@@ -1,21 +1,36 @@
-use Rattle.std.proofs.Common.{◌≡◌, ◌∙◌, refl, ap, rules}
+use Rattle.std.proofs.Common.{◌≡◌, ◌%◌, Some, None, drop, take, ap, sym, ◌∙◌, arith}
 use Rattle.std.specs.Prelude.{find, option_map, reverse}
-use Rattle.std.proofs.lemmas.Iterator.Search.{find_from_yields_List}
-use Rattle.std.proofs.lemmas.Iterator.Adapters.{YieldsList-from_rev_slice}
+use Rattle.std.specs.Option.{option_or}
+use Rattle.tlb_model.specs.declared.cache.Numbered.{Numbered}
+use Rattle.tlb_model.specs.Places.{seen}
+use Rattle.tlb_model.proofs.Places.{hit-halves}
 use Rattle.tlb_model.proofs.cache.Cache.lookup.Goals as goal
 
-pub returns-in_err-found : goal.returns-in_err-found
-returns-in_err-found g c =
-    let fills = c.self.inside.fills.items in
-    let road = ap (λ i. i.rest.now) c.rev-newest_first.ensures.source ∙ c.iter.ensures.rest ∙ c.deref.ensures.value in
-    let found : option_map (λ fill. fill.now) c.find.result ≡ find (λ fill. g.E.Cached.holds c.args.key fill.item) (reverse fills) =
-    find_from_yields_List _ _ _ c.find.result c.find.ensures.ran (YieldsList-from_rev_slice fills road) (λ x b q k. search rules) in
-    rw (← c.self.view_is, ← found, c.in_err-found.was) (search rules)
+pub returns-in-Some : goal.returns-in-Some
+returns-in-Some g c =
+    let n = c.self.inside.next in
+    let places = c.self.inside.places.items in
+    let h = g.E.Cached.holds c.args.key in
+    let none : c.self.inside.dropped ≡ 0 = omega (arith, c.if-self-ne0.false) in
+    let all : option_map (λ (fill : Numbered g.row.E.Denot). fill.item) (find (λ (fill : Numbered g.row.E.Denot). h fill.item) (seen n 16 places c.self.inside.dropped))
+    ≡ option_or (find h (reverse (take (n % 16) places))) (find h (reverse (drop (n % 16) places))) =
+    ap (λ d. option_map (λ (fill : Numbered g.row.E.Denot). fill.item) (find (λ (fill : Numbered g.row.E.Denot). h fill.item) (seen n 16 places d))) none
+    ∙ hit-halves h n places c.self.invariant in
+    let front = c.split_at.ensures.front ∙ ap (take (n % 16)) c.deref.ensures.0 in
+    let newer : find h (reverse (take (n % 16) places)) ≡ Some c.in-Some.item = sym (c.latest.ensures ∙ ap (λ xs. find h (reverse xs)) front) ∙ c.in-Some.is in
+    rw (← c.self.view_is) (sym (all ∙ ap (λ o. option_or o (find h (reverse (drop (n % 16) places)))) newer))
 
-pub returns : goal.returns
-returns g c =
-    let fills = c.self.inside.fills.items in
-    let road = ap (λ i. i.rest.now) c.rev-newest_first.ensures.source ∙ c.iter.ensures.rest ∙ c.deref.ensures.value in
-    let found : option_map (λ fill. fill.now) c.find.result ≡ find (λ fill. g.E.Cached.holds c.args.key fill.item) (reverse fills) =
-    find_from_yields_List _ _ _ c.find.result c.find.ensures.ran (YieldsList-from_rev_slice fills road) (λ x b q k. search rules) in
-    rw (← c.self.view_is, ← found, c.in_ok-found.was) refl
+pub returns-in-None : goal.returns-in-None
+returns-in-None g c =
+    let n = c.self.inside.next in
+    let places = c.self.inside.places.items in
+    let h = g.E.Cached.holds c.args.key in
+    let none : c.self.inside.dropped ≡ 0 = omega (arith, c.if-self-ne0.false) in
+    let all : option_map (λ (fill : Numbered g.row.E.Denot). fill.item) (find (λ (fill : Numbered g.row.E.Denot). h fill.item) (seen n 16 places c.self.inside.dropped))
+    ≡ option_or (find h (reverse (take (n % 16) places))) (find h (reverse (drop (n % 16) places))) =
+    ap (λ d. option_map (λ (fill : Numbered g.row.E.Denot). fill.item) (find (λ (fill : Numbered g.row.E.Denot). h fill.item) (seen n 16 places d))) none
+    ∙ hit-halves h n places c.self.invariant in
+    let front = c.split_at.ensures.front ∙ ap (take (n % 16)) c.deref.ensures.0 in
+    let back = c.split_at.ensures.back ∙ ap (drop (n % 16)) c.deref.ensures.0 in
+    let newer : find h (reverse (take (n % 16) places)) ≡ None = sym (c.latest.ensures ∙ ap (λ xs. find h (reverse xs)) front) ∙ c.in-None.is in
+    rw (← c.self.view_is) (c.latest-in-None.ensures ∙ ap (λ xs. find h (reverse xs)) back ∙ sym (all ∙ ap (λ o. option_or o (find h (reverse (drop (n % 16) places)))) newer))

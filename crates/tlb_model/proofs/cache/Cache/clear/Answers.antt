@@ -1,0 +1,6 @@
+use Rattle.std.proofs.Common.{refl}
+use Rattle.tlb_model.proofs.Places.{same_contents, seen-dropped}
+use Rattle.tlb_model.proofs.cache.Cache.clear.Goals as goal
+
+pub returns : goal.returns
+returns g c = rw (← c.self.view_is) (same_contents _ _ _ _ refl (seen-dropped c.self.inside.next 16 c.self.inside.places.items 65535 refl))
