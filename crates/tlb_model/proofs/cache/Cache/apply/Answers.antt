@@ -39,7 +39,7 @@ loop-age-preserved g c =
     let which : gone ≡ (d % 2 == 1) || not (not covered) =
     elim c.if-self-age-eq1.branch [
       | then-self-age-eq1 w ↦
-        w.is_dropped-is ∙ is_one (d % 2) w.if-self-age-eq1.true ∙ sym (ap (λ b. b || not (not covered)) (is_one (d % 2) w.if-self-age-eq1.true))
+          w.is_dropped-is ∙ is_one (d % 2) w.if-self-age-eq1.true ∙ sym (ap (λ b. b || not (not covered)) (is_one (d % 2) w.if-self-age-eq1.true))
       | else-self-age-eq1 w ↦
           w.is_dropped-is ∙ w.is_covered_by-is_dropped.ensures ∙ sym (not-not covered)
           ∙ sym (ap (λ b. b || not (not covered)) (isnt_one (d % 2) w.if-self-age-eq1.false))
