@@ -81,7 +81,8 @@ Exit status:
   4  a run ended stuck: not quiet, and yet no hart could go on
   5  a line of a trace differs
   6  no memory, or no thread
-  7  the file could not be opened, or a read or a write failed";
+  7  the file could not be opened, which one whose name isn't UTF-8 never can, or a read or a
+     write failed";
 
 /// The task that the words of a command line name, the program's own name first, or what clap says of
 /// them: a fault of usage, or the help or the version that was asked for. Words that name a task are refused
