@@ -12,4 +12,6 @@ pub mod Fresh
 pub mod Steady
 pub mod Again
 pub mod AfterResets
+pub mod Interruptible
+pub mod Needs
 pub mod WorkedRows
