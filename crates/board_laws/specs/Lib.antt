@@ -5,3 +5,4 @@ pub mod Fresh
 pub mod Steady
 pub mod Again
 pub mod Resets
+pub mod Headline

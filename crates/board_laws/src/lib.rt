@@ -6,6 +6,7 @@
 mod accesses;
 mod caches;
 mod fences;
+mod headlines;
 mod record;
 mod resets;
 
@@ -15,5 +16,6 @@ pub use fences::{
     applied_once, asked_once, calls_are_made_started, fences_are_counted, stops_leave_nothing,
     turns_are_right,
 };
+pub use headlines::headline;
 pub use record::recorded_is_recomputed;
 pub use resets::resets_are_fresh;
