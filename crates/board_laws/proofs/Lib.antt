@@ -13,3 +13,4 @@ pub mod Steady
 pub mod Again
 pub mod AfterResets
 pub mod WorkedRows
+pub mod FencedRows
