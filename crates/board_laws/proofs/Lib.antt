@@ -15,3 +15,4 @@ pub mod AfterResets
 pub mod Interruptible
 pub mod Needs
 pub mod WorkedRows
+pub mod FencedRows

@@ -6,3 +6,4 @@ pub mod Steady
 pub mod Again
 pub mod Resets
 pub mod Need
+pub mod Headline

@@ -6,6 +6,7 @@
 mod accesses;
 mod caches;
 mod fences;
+mod headlines;
 mod need;
 mod record;
 mod resets;
@@ -16,6 +17,7 @@ pub use fences::{
     applied_once, asked_once, calls_are_made_started, fences_are_counted, stops_leave_nothing,
     turns_are_right,
 };
+pub use headlines::headline;
 pub use need::{
     needed_serves_are_accepted, needs_are_few, needs_are_left, no_step_raises_needs,
     served_calls_can_end, serves_lower_needs,
