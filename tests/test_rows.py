@@ -91,4 +91,5 @@ def each_allocation(name, last):
 TESTS = [
     ("thread_rows: each thread refused", each_thread("thread_rows", 3)),
     ("thread_rows: each allocation refused", each_allocation("thread_rows", 3)),
+    ("lock_rows: each thread refused", each_thread("lock_rows", 9)),
 ]
