@@ -1,8 +1,9 @@
 """Orders from a seed, and conditions: the program behind `sbiboard test`."""
 import os
+import shutil
 import subprocess
 
-from harness import HANG, PROGRAM, ROOT, Wrong, ran
+from harness import HANG, PROGRAM, ROOT, Passed, Wrong, ran
 
 TESTER = os.path.join(ROOT, "crates/sbiboard_test/out/sbiboard_test")
 
@@ -253,6 +254,28 @@ def statuses_are_told(room):
     must(f"{found}", found.returncode == 7 and found.stderr.startswith(b"sbiboard: "))
 
 
+def tap_is_written_too(room):
+    """--tap writes the same points into a file, and --seconds ends by itself and says so."""
+    status, lines = told(room, f"#! end off\n{RACE}", "--tap", "points.tap", "--times", "20")
+    with open(os.path.join(room, "points.tap"), encoding="utf-8") as file:
+        must(f"{lines}", status == 1 and file.read().splitlines() == lines)
+    status, lines = told(room, RACE, "--seconds", "1", "--times", "1000000000")
+    must(f"{lines}", status == 0 and lines[-1] == "# cut short: not all orders were tried")
+    for path in ("nowhere/points.tap", "/dev/full"):
+        found = subprocess.run(["sbiboard", "--tap", path, "race.program"], executable=TESTER, cwd=room, capture_output=True, timeout=HANG)
+        must(f"{found}", found.returncode == 7 and found.stderr.startswith(b"sbiboard: "))
+
+
+def points_are_read_by_others(room):
+    """Perl's reader of points finds as many, and those that fail, by the command of the documents."""
+    if shutil.which("prove") is None:
+        raise Passed("prove is missing")
+    for condition, status in (("end quiet", 0), ("end off", 1)):
+        told(room, f"#! {condition}\n#! some 1 load\n{RACE}", "--times", "20", "--tap", "points.tap")
+        found = subprocess.run(["prove", "-e", "sed 1s/14/13/", "points.tap"], cwd=room, capture_output=True, text=True, timeout=HANG)
+        must(f"{found}", found.returncode == status and "Files=1, Tests=2" in found.stdout and "Parse errors" not in found.stdout)
+
+
 def tour():
     """The commands of the tour on finding orders, in fours, and the text that the first of them prints."""
     with open(os.path.join(ROOT, "docs/TOUR.md"), encoding="utf-8") as file:
@@ -287,5 +310,6 @@ TESTS = [
     ("a seed is one order", a_seed_is_one_order), ("failing orders are counted", failures_are_counted),
     ("orders that end stuck fail", stuck_orders_fail), ("orders that the limit cut off are spared", full_histories_are_spared),
     ("all differences of a trace are told", all_differences_are_told), ("schedules are replayed and judged", schedules_are_replayed),
-    ("statuses of tests", statuses_are_told), ("the tour on finding orders", tour_is_as_written),
+    ("statuses of tests", statuses_are_told), ("points are written into a file too", tap_is_written_too),
+    ("points are read by others", points_are_read_by_others), ("the tour on finding orders", tour_is_as_written),
 ]  # fmt: skip
