@@ -118,14 +118,6 @@ impl<F: Copy> Queues<F> {
     {
         self.total
     }
-
-    /// How many harts there are; at most 128 (profile).
-    pub fn harts(&self) -> u64
-        ensures count { result ≡ length self.now }
-        ensures limit { length self.now ≤ 128 }
-    {
-        self.rings.len() as u64
-    }
 }
 
 /// Takes the first item of a ring. One that is alone is taken from the back, so that the next one comes into its place: a
