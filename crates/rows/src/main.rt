@@ -16,6 +16,7 @@
 
 mod components;
 mod devices;
+mod needs;
 mod printing;
 mod row;
 
@@ -43,6 +44,7 @@ fn show<R: AllocGlobal + Print + Eprint>(rt: &R) -> Result<()> {
     components::show_faults(rt)?;
     components::show_endings(rt)?;
     printing::show_lines(rt)?;
+    needs::show_needs(rt)?;
     devices::show_calls(rt)?;
     devices::show_pieces(rt)?;
     show_failures(rt, Task::Replay, "replay")?;
