@@ -40,13 +40,13 @@ class Passed(Exception):
     """Why a test can't be run on this machine."""
 
 
-def ran(words, **how):
-    """Runs the program under the name that users know, with nothing of the caller's environment that could change it."""
+def ran(words, program=PROGRAM, **how):
+    """Runs the program under the name that users know, with nothing of the caller's environment that could change it; or another."""
     how.setdefault("stdout", subprocess.PIPE)
     how.setdefault("stderr", subprocess.PIPE)
     how.setdefault("env", {"PATH": os.environ.get("PATH", "")})
     how.setdefault("timeout", 60)
-    return subprocess.run(["sbiboard", *words], executable=PROGRAM, stdin=subprocess.DEVNULL, **how)
+    return subprocess.run(["sbiboard", *words], executable=program, stdin=subprocess.DEVNULL, **how)
 
 
 def script(room, text):
@@ -291,11 +291,11 @@ def shim(room):
     raise Passed("there is no C compiler")
 
 
-def allocating(made, room, words, refused=0, thread=0, pass_fds=(), **told):
+def allocating(made, room, words, refused=0, thread=0, pass_fds=(), program=PROGRAM, cwd=None, **told):
     """Runs the program with that allocation or thread refused, and returns the run and the sizes of the allocations."""
     with open(os.path.join(room, "sizes"), "w+b") as sizes:
         env = {"LD_PRELOAD": made, "SIZES": str(sizes.fileno()), "REFUSED": str(refused), "THREAD": str(thread), **told}
-        found = ran(words, env=env, pass_fds=[sizes.fileno(), *pass_fds], timeout=HANG)
+        found = ran(words, program, env=env, pass_fds=[sizes.fileno(), *pass_fds], timeout=HANG, cwd=cwd)
         sizes.seek(0)
         return found, [int(it) for it in sizes.read().split()]
 

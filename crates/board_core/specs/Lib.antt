@@ -14,6 +14,7 @@ pub mod Interrupts
 pub mod Starts
 pub mod Replies
 pub mod Refusals
+pub mod Need
 pub mod Totals
 pub mod ErrorLaw
 pub mod Stands

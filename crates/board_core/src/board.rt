@@ -15,6 +15,7 @@ ghost use Rattle.board_core.specs.Interrupts.{deadline, ssip, stip, time, wake};
 ghost use Rattle.board_core.specs.Limits.{IsGood};
 ghost use Rattle.board_core.specs.Memory.{memory, satp, tlb_acts, word_acts};
 ghost use Rattle.board_core.specs.Fences.{outstanding, waiting};
+ghost use Rattle.board_core.specs.Need.{need};
 ghost use Rattle.board_core.specs.Refusals.{first_that_holds, is_full, refusals_in, situation};
 ghost use Rattle.board_core.specs.Resets.{is_off, last_reset};
 ghost use Rattle.board_core.specs.States.{state};
@@ -328,6 +329,18 @@ impl Board {
         ensures { result ≡ outstanding self.now.config self.now.past h }
     {
         self.machine.fences.outstanding(h)
+    }
+
+    /// How many serves by hart `t` the fence call of hart `caller` still needs, until it waits for `t` no more (profile). It
+    /// is 0 outside of a fence call, where the call doesn't wait for `t`, and where there is no such hart; and it is always
+    /// less than the number of harts.
+    pub fn need(&self, caller: u64, t: u64) -> u64
+        ensures need { result ≡ need self.now.config self.now.past caller t }
+        ensures limit { result < self.now.config.harts }
+        ensures no_caller { self.now.config.harts ≤ caller → result ≡ 0 }
+        ensures no_target { self.now.config.harts ≤ t → result ≡ 0 }
+    {
+        self.machine.fences.need(caller, t)
     }
 
     /// The last system reset, if there was one (SBI 10).

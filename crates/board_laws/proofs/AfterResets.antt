@@ -80,7 +80,7 @@ is-reset c past event reset answered resets = by_actor event.actor refl
 none-lives : {E : Type 0} (covers : Flush → E → Bool) (acts : List (Act E)) → (cache_after covers (Clear ∷ acts)).live ≡ []
 none-lives {E} covers acts = ap (λ (cache : Contents E). cache.live) (keeps_what_lives covers Clear acts)
 
-off-refuses : (c : Config) (past : List Event) → is_off past ≡ true → (actor : Actor) (op : Op) → answer c past actor op ≡ Err Off
+pub off-refuses : (c : Config) (past : List Event) → is_off past ≡ true → (actor : Actor) (op : Op) → answer c past actor op ≡ Err Off
 off-refuses c past off (Hart h) op = rw off refl
 off-refuses c past off Clock op = rw off refl
 

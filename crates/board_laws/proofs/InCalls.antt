@@ -35,9 +35,9 @@ use Rattle.board_core.proofs.Rows.{running_parts}
 use Rattle.board_laws.proofs.Right.{IsTaken, taken}
 
 -- a start that succeeds is of a STOPPED hart
-starts-stopped : (c : Config) (past : List Event) (t addr : ℕ) (answered : Sbiret) → replies.Ret (unless (first_that_holds (start_errors c past t addr)) 0) ≡ replies.Ret answered
-    → is_success answered ≡ true → is_started (state c past t) ≡ false
-starts-stopped c past t addr answered e ok = by_tests (nat_le c.harts t) (not (is_start_address c.pages addr)) (state c past t) e
+pub starts-at-stopped : (c : Config) (past : List Event) (t addr : ℕ) (answered : Sbiret) → replies.Ret (unless (first_that_holds (start_errors c past t addr)) 0) ≡ replies.Ret answered
+    → is_success answered ≡ true → state c past t ≡ states.Stopped
+starts-at-stopped c past t addr answered e ok = by_tests (nat_le c.harts t) (not (is_start_address c.pages addr)) (state c past t) e
   where
     fails : (error : SbiError) → replies.Ret (unless (Some error) 0) ≡ replies.Ret answered → is_success (unless (Some error) 0) ≡ false → ⊥
     fails error e failed =
@@ -47,16 +47,16 @@ starts-stopped c past t addr answered e ok = by_tests (nat_le c.harts t) (not (i
 
     by_tests : (missing wrong : Bool) (s : HartState)
         → replies.Ret (unless (first_that_holds ((missing, InvalidParam) ∷ (wrong, InvalidAddress) ∷ (not (is_stopped s), AlreadyAvailable) ∷ [])) 0) ≡ replies.Ret answered
-        → is_started s ≡ false
+        → s ≡ states.Stopped
     by_tests true wrong s e = absurd (fails InvalidParam e refl)
     by_tests false true s e = absurd (fails InvalidAddress e refl)
     by_tests false false states.Started e = absurd (fails AlreadyAvailable e refl)
     by_tests false false states.Stopped e = refl
-    by_tests false false states.StartPending e = refl
-    by_tests false false states.StopPending e = refl
-    by_tests false false states.Suspended e = refl
-    by_tests false false states.SuspendPending e = refl
-    by_tests false false states.ResumePending e = refl
+    by_tests false false states.StartPending e = absurd (fails AlreadyAvailable e refl)
+    by_tests false false states.StopPending e = absurd (fails AlreadyAvailable e refl)
+    by_tests false false states.Suspended e = absurd (fails AlreadyAvailable e refl)
+    by_tests false false states.SuspendPending e = absurd (fails AlreadyAvailable e refl)
+    by_tests false false states.ResumePending e = absurd (fails AlreadyAvailable e refl)
 
 no-call : (opened : Option ℕ) (ids : List ℕ) → in_call opened ids ≡ None → opened ≡ None
 no-call None ids e = refl
@@ -101,7 +101,7 @@ module _ (c : Config) (past : List Event) (before : (h place : ℕ) → open_cal
         where
           by_success : (ok : Bool) → is_success answered ≡ ok → (place : ℕ) → open_call (turns c past) h ≡ Some place
               → moved_to (if ok then Some (One t states.StartPending) else None) h (state c past h) ≡ states.Started
-          by_success true is place inside = moved h t place states.StartPending (not-inside t (starts-stopped c past t addr answered replied is)) inside
+          by_success true is place inside = moved h t place states.StartPending (not-inside t (ap is_started (starts-at-stopped c past t addr answered replied is))) inside
           by_success false is place inside = before h place inside
       call-keeps HartStop replies.Gone replied = λ place inside. moved h x place states.StopPending no-call-of inside
       call-keeps (HartSuspend kind addr opaque) replies.Gone replied = λ place inside. moved h x place states.SuspendPending no-call-of inside

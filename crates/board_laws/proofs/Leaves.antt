@@ -1,18 +1,14 @@
 -- The page of a leaf, and the fences of its addresses.
-use Rattle.std.proofs.Common.{◌≡◌, ℕ, ◌+◌, ◌<◌, ◌≤◌, Bool, true, false, leb, ltb, Option, Some, None, Result, Ok, Err, refl, sym, ap, ◌∙◌, arith, inl, inr}
-use Rattle.std.specs.Prelude.{◌&&◌, ◌||◌, ◌==◌, if◌then◌else◌, max, min, not}
-use Rattle.std.proofs.lemmas.Bool.{and_from, and_parts, cases_Bool, eqb-true, leb-true, lt-ltb, ltb-true}
-use Rattle.sv39.specs.declared.cause.Cause.{Cause}
+use Rattle.std.proofs.Common.{◌≡◌, ℕ, ◌+◌, ◌<◌, ◌≤◌, Bool, true, false, leb, ltb, Option, Some, None, Ok, refl, sym, ◌∙◌, arith}
+use Rattle.std.specs.Prelude.{◌&&◌, ◌||◌, ◌==◌, max, min, not}
+use Rattle.std.proofs.lemmas.Bool.{and_from, and_parts, eqb-true, leb-true, lt-ltb, ltb-true}
 use Rattle.sv39.specs.declared.cause.Kind.{Kind}
 use Rattle.sv39.specs.declared.page.Leaf.{Leaf}
 use Rattle.sv39.specs.declared.page.Level.{Level}
 use Rattle.sv39.specs.declared.page.Level.TheVariants.{Kilo, Mega, Giga}
-use Rattle.sv39.specs.Causes.{page_fault}
-use Rattle.sv39.specs.Entries.{is_leaf, leaf_of}
-use Rattle.sv39.specs.Leaves.{allows, by_right}
 use Rattle.sv39.specs.Maps.{maps}
-use Rattle.sv39.specs.Pages.{is_valid, page_of, size}
-use Rattle.sv39.specs.Satp.{asid_of, root_of}
+use Rattle.sv39.specs.Pages.{page_of, size}
+use Rattle.sv39.specs.Satp.{asid_of}
 use Rattle.sv39.proofs.PageLaw.{leaf_page, one_leaf_for_a_page}
 use Rattle.tlb_model.specs.declared.entry.Entry.{Entry}
 use Rattle.tlb_model.specs.declared.fence.Fence.{Fence}

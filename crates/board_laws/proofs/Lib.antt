@@ -12,4 +12,7 @@ pub mod Fresh
 pub mod Steady
 pub mod Again
 pub mod AfterResets
+pub mod Interruptible
+pub mod Needs
 pub mod WorkedRows
+pub mod FencedRows

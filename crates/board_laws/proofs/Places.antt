@@ -30,6 +30,16 @@ within past place event at =
     let sizes : length past ≡ length at.newer + length (event ∷ past_at past place) = ap length at.made ∙ length-append at.newer (event ∷ past_at past place) in
     omega (arith, length-drop (length past - place) past)
 
+-- with its event there was one more
+pub at-with : (past : List Event) (place : ℕ) (event : Event) → IsAt past place event → past_at past (suc place) ≡ event ∷ past_at past place
+at-with past place event at =
+    let sizes : length past ≡ length at.newer + length (event ∷ past_at past place) = ap length at.made ∙ length-append at.newer (event ∷ past_at past place) in
+    let size = length-past_at past place (let inside = within past place event at in omega arith) in
+    let later : length past - suc place ≡ length at.newer + 0 = omega arith in
+    ap (λ n. drop n past) later
+    ∙ ap (λ xs. drop (length at.newer + 0) xs) at.made
+    ∙ drop-append-add at.newer (event ∷ past_at past place) 0
+
 drop-none : (i : ℕ) → drop i (let none : List Event = [] in none) ≡ []
 drop-none zero = refl
 drop-none (suc i) = refl

@@ -6,6 +6,8 @@
 mod accesses;
 mod caches;
 mod fences;
+mod headlines;
+mod need;
 mod record;
 mod resets;
 
@@ -14,6 +16,11 @@ pub use caches::{fenced_is_gone, fences_strike, lives_from_its_date, struck_is_g
 pub use fences::{
     applied_once, asked_once, calls_are_made_started, fences_are_counted, stops_leave_nothing,
     turns_are_right,
+};
+pub use headlines::headline;
+pub use need::{
+    needed_serves_are_accepted, needs_are_few, needs_are_left, no_step_raises_needs,
+    served_calls_can_end, serves_lower_needs,
 };
 pub use record::recorded_is_recomputed;
 pub use resets::resets_are_fresh;

@@ -1,6 +1,7 @@
 ghost use Rattle.std.specs.Prelude.{◌≡◌, ◌<◌, ◌≤◌, ◌==◌, false, length, drop, IfOk, replicate, sum_by, [], slice_get};
 ghost use Rattle.circular_buffer.specs.Buffer.{buffer};
-ghost use Rattle.fence_queue.specs.Queues.{IsQueue, drained, has_from, popped, pushed, queue_at};
+ghost use Rattle.fence_queue.specs.Positions.{position_of};
+ghost use Rattle.fence_queue.specs.Queues.{IsQueue, drained, has_from, is_from, popped, pushed, queue_at};
 
 use crate::request::Request;
 use crate::waiting::Waiting;
@@ -110,6 +111,21 @@ impl<F: Copy> Queues<F> {
         ensures limit { result < length self.now }
     {
         self.rings[t as usize].len() as u64
+    }
+
+    /// The position, counted from 1, of hart `from`'s request in hart `t`'s queue; 0 where none is there, or there is no such
+    /// hart. It goes over this queue alone.
+    pub fn position(&self, t: u64, from: u64) -> u64
+        ensures { result ≡ position_of (is_from from) (queue_at self.now t) }
+    {
+        if t >= self.harts() {
+            return 0;
+        }
+        let ring = &self.rings[t as usize];
+        match ring.iter().position(|request| request.from == from) {
+            Some(before) => before as u64 + 1,
+            None => 0,
+        }
     }
 
     /// How many requests wait, at all harts together.

@@ -1,8 +1,19 @@
 -- What threads did, by how their run ended.
-use Rattle.std.proofs.Common.{◌≡◌, ◌⊎◌, ℕ, Bool, List, refl, sym, subst, ◌∙◌, inl, inr}
+use Rattle.std.proofs.Common.{◌≡◌, ◌≢◌, ◌⊎◌, ℕ, ◌+◌, ◌≤◌, Bool, true, false, List, [], ◌∷◌, length, refl, sym, ap, subst, ◌∙◌, inl, inr, arith}
+use Rattle.std.specs.Prelude.{Err, nat_le, not}
+use Rattle.std.proofs.lemmas.Bool.{eqb-true}
+use Rattle.std.proofs.lemmas.List.{length-append}
 use Rattle.board_core.specs.declared.config.Config.{Config}
 use Rattle.board_core.specs.declared.event.Actor.{Actor}
+use Rattle.board_core.specs.declared.event.Actor.TheVariants.{Hart, Clock}
+use Rattle.board_core.specs.declared.event.Op.{Op}
+use Rattle.board_core.specs.declared.event.Refusal.TheVariants as refusals
+use Rattle.board_core.specs.declared.event.Reply.{Reply}
+use Rattle.board_core.specs.declared.event.Reply.TheVariants.{Done}
 use Rattle.board_core.specs.History.{Event}
+use Rattle.board_core.specs.Refusals.{first_that_holds, has_nothing_to_do, is_full, is_out_of_phase, is_tick, situation}
+use Rattle.board_core.specs.Replies.{answer, refused_or, reply}
+use Rattle.board_core.specs.Resets.{is_off}
 use Rattle.board_lock.specs.Events.{IsActor}
 use Rattle.guest_script.specs.Grammar.{Guest}
 use Rattle.hart_threads.specs.declared.ends.End.{End}
@@ -11,7 +22,39 @@ use Rattle.hart_threads.specs.declared.met.Met.{Met}
 use Rattle.hart_threads.specs.declared.met.Met.TheVariants.{Nothing, FullHistory, ClosedGate}
 use Rattle.hart_threads.specs.Ends.{IsEndBy}
 use Rattle.hart_threads.specs.Met.{met_by_both}
-use Rattle.hart_threads.specs.Shares.{AreThreads, HasMetFull, HasNoMore, HasStopped, IsClosed, IsRun}
+use Rattle.hart_threads.specs.Shares.{AreThreads, HasMetFull, HasNoMore, HasStopped, IsClosed, IsOverFull, IsRun}
+
+-- ---- a call that was refused for a full history: the history is full
+
+full-for-hart : (off missing phase idle full : Bool) (r : Reply)
+    → refused_or (first_that_holds ((off, refusals.Off) ∷ (missing, refusals.WrongPhase) ∷ (phase, refusals.WrongPhase) ∷ (idle, refusals.Nothing) ∷ (full, refusals.HistoryFull) ∷ [])) r ≡ Err refusals.HistoryFull
+    → full ≡ true
+full-for-hart true missing phase idle full r is = absurd (let t = is in cc)
+full-for-hart false true phase idle full r is = absurd (let t = is in cc)
+full-for-hart false false true idle full r is = absurd (let t = is in cc)
+full-for-hart false false false true full r is = absurd (let t = is in cc)
+full-for-hart false false false false true r is = refl
+full-for-hart false false false false false r is = absurd (let t = is in cc)
+
+full-for-clock : (off other full late : Bool) (r : Reply)
+    → refused_or (first_that_holds ((off, refusals.Off) ∷ (other, refusals.WrongPhase) ∷ (full, refusals.HistoryFull) ∷ (late, refusals.TimeFull) ∷ [])) r ≡ Err refusals.HistoryFull
+    → full ≡ true
+full-for-clock true other full late r is = absurd (let t = is in cc)
+full-for-clock false true full late r is = absurd (let t = is in cc)
+full-for-clock false false true late r is = refl
+full-for-clock false false false true r is = absurd (let t = is in cc)
+full-for-clock false false false false r is = absurd (let t = is in cc)
+
+full-for : (c : Config) (seen : List Event) (a : Actor) (op : Op) → answer c seen a op ≡ Err refusals.HistoryFull → is_full c seen ≡ true
+full-for c seen (Hart h) op is =
+    let s = situation c seen h in
+    full-for-hart (is_off seen) (nat_le c.harts h) (is_out_of_phase op s) (has_nothing_to_do op s) (is_full c seen) (reply c seen h op) is
+full-for c seen Clock op is = full-for-clock (is_off seen) (not (is_tick op)) (is_full c seen) _ Done is
+
+full-met : (met : Met) → met_by_both FullHistory met ≡ met → met ≢ ClosedGate → met ≡ FullHistory
+full-met ClosedGate part still = absurd (still refl)
+full-met FullHistory part still = refl
+full-met Nothing part still = absurd (let t = part in cc)
 
 module _ (lets : ℕ → ℕ → Bool → Type 0) (c : Config) (blocks : List Guest) (ticks : List ℕ) (past : List Event) (met : Met) where
   with-closed : (end : End) → met ≡ ClosedGate → IsEndBy met c past blocks end → end ≡ GateLimit
@@ -35,16 +78,31 @@ module _ (lets : ℕ → ℕ → Bool → Type 0) (c : Config) (blocks : List Gu
   was-full Quiet is by = absurd (let t = is in cc)
   was-full Stuck is by = absurd (let t = is in cc)
 
-  why : (a : Actor) (m : Met) (end : End) → met_by_both m met ≡ met → HasStopped lets c blocks ticks past a m → IsEndBy met c past blocks end
-      → (IsClosed lets c past a × (end ≡ GateLimit)) ⊎ (HasMetFull c blocks ticks past a ⊎ HasNoMore c blocks ticks past a)
-  why a ClosedGate end part stopped by = inl (stopped, with-closed end (sym part) by)
-  why a FullHistory end part stopped by = inr (inl stopped)
-  why a Nothing end part stopped by = inr (inr stopped)
+  is-at-limit : (a : Actor) → length past ≤ c.limit → HasMetFull c blocks ticks past a → length past ≡ c.limit
+  is-at-limit a within (op, met_full) =
+      let seen : List Event = met_full.seen in
+      let since = met_full.earlier in
+      let full : length seen ≡ c.limit = eqb-true (length seen) c.limit (full-for c seen a op met_full.holds.1) in
+      let long : length since.0 + length seen ≡ length past = sym (length-append since.0 seen) ∙ ap length since.1 in
+      omega arith
 
-  pub is-run : (end : End) → AreThreads lets c blocks ticks past met → IsEndBy met c past blocks end → IsRun lets c blocks ticks past end
-  is-run end threads by = record {
+  full-over : (end : End) → met_by_both FullHistory met ≡ met → length past ≡ c.limit → IsEndBy met c past blocks end → IsOverFull end
+  full-over GateLimit part full by = ((λ e. let t = e in cc), (λ e. let t = e in cc))
+  full-over Off part full by = ((λ e. let t = e in cc), (λ e. let t = e in cc))
+  full-over HistoryFull part full by = ((λ e. let t = e in cc), (λ e. let t = e in cc))
+  full-over Quiet part full by = absurd (by.2 (full-met met part by.0, full))
+  full-over Stuck part full by = absurd (by.2 (full-met met part by.0, full))
+
+  why : (a : Actor) (m : Met) (end : End) → length past ≤ c.limit → met_by_both m met ≡ met → HasStopped lets c blocks ticks past a m → IsEndBy met c past blocks end
+      → (IsClosed lets c past a × (end ≡ GateLimit)) ⊎ ((HasMetFull c blocks ticks past a × IsOverFull end) ⊎ HasNoMore c blocks ticks past a)
+  why a ClosedGate end within part stopped by = inl (stopped, with-closed end (sym part) by)
+  why a FullHistory end within part stopped by = inr (inl (stopped, full-over end part (is-at-limit a within stopped) by))
+  why a Nothing end within part stopped by = inr (inr stopped)
+
+  pub is-run : (end : End) → length past ≤ c.limit → AreThreads lets c blocks ticks past met → IsEndBy met c past blocks end → IsRun lets c blocks ticks past end
+  is-run end within threads by = record {
     due = threads.due;
-    stopped = λ a acting. let s = threads.stopped a acting in why a s.0 end s.1 s.2 by;
+    stopped = λ a acting. let s = threads.stopped a acting in why a s.0 end within s.1 s.2 by;
     closed = λ is. let s = threads.met_by in (s.0, s.1, subst (HasStopped lets c blocks ticks past s.0) (was-closed end is by) s.2);
     full = λ is. let s = threads.met_by in (s.0, s.1, subst (HasStopped lets c blocks ticks past s.0) (was-full end is by) s.2);
   }

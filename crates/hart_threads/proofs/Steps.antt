@@ -7,7 +7,8 @@ use Rattle.board_core.specs.declared.event.Actor.TheVariants.{Hart, Clock}
 use Rattle.board_core.specs.declared.event.Op.{Op}
 use Rattle.board_core.specs.declared.event.Op.TheVariants.{Tick}
 use Rattle.board_core.specs.declared.event.Refusal.{Refusal}
-use Rattle.board_core.specs.declared.event.Refusal.TheVariants.{HistoryFull}
+use Rattle.board_core.specs.declared.event.Refusal.TheVariants as refusals
+use Rattle.board_core.specs.declared.event.Refusal.TheVariants.{Off, WrongPhase, HistoryFull, TimeFull}
 use Rattle.board_core.specs.declared.event.Reply.{Reply}
 use Rattle.board_core.specs.History.{Event}
 use Rattle.board_lock.specs.declared.views.HartView.{HartView}
@@ -18,6 +19,7 @@ use Rattle.hart_threads.specs.declared.met.Met.{Met}
 use Rattle.hart_threads.specs.declared.met.Met.TheVariants.{Nothing, FullHistory, ClosedGate}
 use Rattle.hart_threads.specs.Choices.{next_choice}
 use Rattle.hart_threads.specs.Guests.{next_of}
+use Rattle.hart_threads.specs.Met.{met_by_refusal}
 use Rattle.hart_threads.specs.Shares.{Refuses, gate_number, many_of}
 use Rattle.hart_threads.specs.Works.{At, Goes, HasMet, HasTurn, HasWorked, IsAtWork, IsGoing, IsLeftTo, SeesNoMore, Stops, Task, WorkedAt}
 use Rattle.hart_threads.proofs.Counting.{earlier-of}
@@ -85,7 +87,7 @@ pub closed-going : (t : Task) (s : Sitting) (left : Option (List Op)) → Goes t
 closed-going t s left going told = record { work = going.work; left_is = going.left_is; met_is = told }
 
 -- its call is refused, since the history is full
-pub full-going : (t : Task) (s s' : Sitting) (left : Option (List Op)) (op : Op) → Goes t s left Nothing → HasTurn t s.actor s.count (reverse s.saw) op
+full-going : (t : Task) (s s' : Sitting) (left : Option (List Op)) (op : Op) → Goes t s left Nothing → HasTurn t s.actor s.count (reverse s.saw) op
     → s' ≡ seeing s s'.saw → IsPrefix s.saw s'.saw → IsRefused t.opening s' op HistoryFull → Goes t s' left FullHistory
 full-going t s s' left op going turn same later refused =
     let since = earlier-of s.saw s'.saw later in
@@ -94,6 +96,15 @@ full-going t s s' left op going turn same later refused =
     refused-at t (seeing s s'.saw) (reverse s.saw) op HistoryFull (subst (λ (x : Sitting). IsRefused t.opening x op HistoryFull) same refused) since going.work.no_fewer turn in
     subst (λ (x : Sitting). Goes t x left FullHistory) (sym same)
     (let now = subst (λ (x : Sitting). Goes t x left Nothing) same after in record { work = now.work; left_is = now.left_is; met_is = (op, at) })
+
+-- its call is refused
+pub refused-going : (t : Task) (s s' : Sitting) (left : Option (List Op)) (op : Op) (r : Refusal) → Goes t s left Nothing
+    → HasTurn t s.actor s.count (reverse s.saw) op → s' ≡ seeing s s'.saw → IsPrefix s.saw s'.saw → IsRefused t.opening s' op r → Goes t s' left (met_by_refusal r)
+refused-going t s s' left op HistoryFull going turn same later refused = full-going t s s' left op going turn same later refused
+refused-going t s s' left op Off going turn same later refused = looked t s s' left Nothing same later going
+refused-going t s s' left op WrongPhase going turn same later refused = looked t s s' left Nothing same later going
+refused-going t s s' left op refusals.Nothing going turn same later refused = looked t s s' left Nothing same later going
+refused-going t s s' left op TimeFull going turn same later refused = looked t s s' left Nothing same later going
 
 -- ---- the clock's
 
@@ -121,6 +132,15 @@ clock-closed t s clock work told = clock-is t s ClosedGate clock
 pub clock-all : (t : Task) (s : Sitting) → s.actor ≡ Clock → IsAtWork t Clock s.count (reverse s.saw) → s.count ≡ length t.ticks → WorkedAt t s Nothing
 clock-all t s clock work all = clock-is t s Nothing clock (record { acting = tt; work = work; stopped = inl all })
 
+tick-refused : (t : Task) (n : ℕ) (past : List Event) (op : Op) (r : Refusal) → At Clock n past (Refuses t.opening t.blocks t.ticks Clock op r)
+    → Stops t Clock n past (met_by_refusal r)
+tick-refused t n past op HistoryFull at = (op, at)
+tick-refused t n past op Off at = inr (op, Off, (λ e. let no = e in cc), at)
+tick-refused t n past op WrongPhase at = inr (op, WrongPhase, (λ e. let no = e in cc), at)
+tick-refused t n past op refusals.Nothing at = inr (op, refusals.Nothing, (λ e. let no = e in cc), at)
+tick-refused t n past op TimeFull at = inr (op, TimeFull, (λ e. let no = e in cc), at)
+
+-- a tick was refused
 module _ (t : Task) (s s' : Sitting) (n : ℕ) (clock : s.actor ≡ Clock) (work : IsAtWork t Clock s.count (reverse s.saw)) (next : slice_get t.ticks s.count ≡ Some n)
     (same : s' ≡ seeing s s'.saw) (later : IsPrefix s.saw s'.saw) (r : Refusal) (refused : IsRefused t.opening s' (Tick n) r) where
   since : IsSuffix (reverse s.saw) (reverse s'.saw)
@@ -136,12 +156,6 @@ module _ (t : Task) (s s' : Sitting) (n : ℕ) (clock : s.actor ≡ Clock) (work
   work-now : IsAtWork t Clock s.count (reverse s'.saw)
   work-now = work-later t Clock s.count (reverse s.saw) (reverse s'.saw) since work
 
-  pub clock-refused : WorkedAt t s' Nothing
-  clock-refused = subst (λ (x : Sitting). WorkedAt t x Nothing) (sym is-now) (record { acting = tt; work = work-now; stopped = inr (Tick n, r, at) })
-
-  pub clock-full : r ≡ HistoryFull → WorkedAt t s' FullHistory
-  clock-full is = subst (λ (x : Sitting). WorkedAt t x FullHistory) (sym is-now) (record {
-    acting = tt;
-    work = work-now;
-    stopped = (Tick n, subst (λ (q : Refusal). At Clock s.count (reverse s'.saw) (Refuses t.opening t.blocks t.ticks Clock (Tick n) q)) is at);
-  })
+  pub clock-refused : WorkedAt t s' (met_by_refusal r)
+  clock-refused = subst (λ (x : Sitting). WorkedAt t x (met_by_refusal r)) (sym is-now)
+      (record { acting = tt; work = work-now; stopped = tick-refused t s.count (reverse s'.saw) (Tick n) r at })

@@ -33,7 +33,7 @@ module _ (t : Task) (a : Actor) (n : ℕ) (past whole : List Event) (since : IsS
 no-more-whole : (t : Task) (a : Actor) (n : ℕ) (past whole : List Event) → IsSuffix past whole → many_of a whole ≡ n → SeesNoMore t a n past → HasNoMore t.opening t.blocks t.ticks whole a
 no-more-whole t (Hart h) n past whole since all sees = at-whole t (Hart h) n past whole since all (ChoosesNone t.opening t.blocks h) sees
 no-more-whole t Clock n past whole since all (inl did) = inl (all ∙ did)
-no-more-whole t Clock n past whole since all (inr (op, r, at)) = inr (op, r, at-whole t Clock n past whole since all (Refuses t.opening t.blocks t.ticks Clock op r) at)
+no-more-whole t Clock n past whole since all (inr (op, r, other, at)) = inr (op, r, other, at-whole t Clock n past whole since all (Refuses t.opening t.blocks t.ticks Clock op r) at)
 
 stopped-whole : (t : Task) (a : Actor) (n : ℕ) (past whole : List Event) (met : Met) → IsSuffix past whole → many_of a whole ≡ n → Stops t a n past met
     → HasStopped t.lets t.opening t.blocks t.ticks whole a met

@@ -37,7 +37,7 @@ at-later a n past later P since at = record { seen = at.seen; earlier = IsSuffix
 sees-later : (t : Task) (a : Actor) (n : ℕ) (past later : List Event) → IsSuffix past later → SeesNoMore t a n past → SeesNoMore t a n later
 sees-later t (Hart h) n past later since sees = at-later (Hart h) n past later (ChoosesNone t.opening t.blocks h) since sees
 sees-later t Clock n past later since (inl all) = inl all
-sees-later t Clock n past later since (inr (op, r, at)) = inr (op, r, at-later Clock n past later (Refuses t.opening t.blocks t.ticks Clock op r) since at)
+sees-later t Clock n past later since (inr (op, r, other, at)) = inr (op, r, other, at-later Clock n past later (Refuses t.opening t.blocks t.ticks Clock op r) since at)
 
 pub stops-later : (t : Task) (a : Actor) (n : ℕ) (past later : List Event) (met : Met) → IsSuffix past later → Stops t a n past met → Stops t a n later met
 stops-later t a n past later ClosedGate since stops = stops

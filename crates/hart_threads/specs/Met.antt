@@ -1,7 +1,14 @@
 -- What kept threads from going on (profile).
 use Rattle.std.specs.Prelude.{List, [], ◌∷◌}
+use Rattle.board_core.specs.declared.event.Refusal.{Refusal}
+use Rattle.board_core.specs.declared.event.Refusal.TheVariants.{HistoryFull}
 use Rattle.hart_threads.specs.declared.met.Met.{Met}
 use Rattle.hart_threads.specs.declared.met.Met.TheVariants.{Nothing, FullHistory, ClosedGate}
+
+-- What a thread met whose operation was refused so: nothing, but for a history that was full.
+abbrev pub met_by_refusal : Refusal → Met
+met_by_refusal HistoryFull = FullHistory
+met_by_refusal r = Nothing
 
 -- What two threads met together: a gate that closed comes first, and then a history that was full.
 abbrev pub met_by_both : Met → Met → Met

@@ -94,11 +94,13 @@ IsClosed lets c past a = lets (gate_number c a) (many_of a past) false
 abbrev pub HasMetFull : Config → List Guest → (ticks : List ℕ) → List Event → Actor → Type 0
 HasMetFull c blocks ticks past a = (op : Op) × Earlier a past (Refuses c blocks ticks a op HistoryFull)
 
--- A hart's thread chose nothing when it looked last. The clock's did all ticks, or the next one was refused.
+-- A hart's thread chose nothing when it looked last. The clock's did all ticks, or the next one was refused for another cause than
+-- a full history.
 abbrev pub HasNoMore : Config → List Guest → (ticks : List ℕ) → List Event → Actor → Type 0
 HasNoMore c blocks ticks past (Hart h) = Earlier (Hart h) past (ChoosesNone c blocks h)
 HasNoMore c blocks ticks past Clock =
-    (many_of Clock past ≡ length ticks) ⊎ ((op : Op) × (r : Refusal) × Earlier Clock past (Refuses c blocks ticks Clock op r))
+    (many_of Clock past ≡ length ticks)
+    ⊎ ((op : Op) × (r : Refusal) × (r ≢ HistoryFull) × Earlier Clock past (Refuses c blocks ticks Clock op r))
 
 -- Why an actor's thread did no more, by what it met.
 abbrev pub HasStopped : (lets : ℕ → ℕ → Bool → Type 0) → Config → List Guest → (ticks : List ℕ) → List Event → Actor → Met → Type 0
@@ -113,11 +115,17 @@ pub record AreThreads (lets : ℕ → ℕ → Bool → Type 0) (c : Config) (blo
   pub stopped : (a : Actor) → IsActor c a → (m : Met) × (met_by_both m met ≡ met) × HasStopped lets c blocks ticks past a m
   pub met_by : (a : Actor) × IsActor c a × HasStopped lets c blocks ticks past a met
 
+-- A run in which the history was full for a thread ends neither quiet nor stuck: with that, or with what comes before it.
+abbrev pub IsOverFull : End → Type 0
+IsOverFull end = (end ≢ ends.Quiet) × (end ≢ ends.Stuck)
+
 -- What threads did whose run ended so: each event of an actor was due; it did no more since its gate closed, which ends the
 -- run, or since the history was full, or since there was no more; and a run that ended with either has a thread that met it.
 pub record IsRun (lets : ℕ → ℕ → Bool → Type 0) (c : Config) (blocks : List Guest) (ticks : List ℕ) (past : List Event) (end : End) : Type 0 where
   pub due : (a : Actor) → IsActor c a → EachOf (IsDue lets c blocks ticks a) a past
   pub stopped : (a : Actor) → IsActor c a →
-      (IsClosed lets c past a × (end ≡ GateLimit)) ⊎ HasMetFull c blocks ticks past a ⊎ HasNoMore c blocks ticks past a
+      (IsClosed lets c past a × (end ≡ GateLimit))
+      ⊎ (HasMetFull c blocks ticks past a × IsOverFull end)
+      ⊎ HasNoMore c blocks ticks past a
   pub closed : end ≡ GateLimit → (a : Actor) × IsActor c a × IsClosed lets c past a
   pub full : end ≡ ends.HistoryFull → (a : Actor) × IsActor c a × HasMetFull c blocks ticks past a

@@ -1,6 +1,6 @@
 -- What a thread knows of its actor while it works: private. A seat's count is that of its actor's events in the whole record, so
 -- what is known where as many were seen holds of the record.
-use Rattle.std.specs.Prelude.{◌≡◌, ◌⊎◌, ℕ, ◌≤◌, Bool, false, List, [], length, reverse, Option}
+use Rattle.std.specs.Prelude.{◌≡◌, ◌≢◌, ◌⊎◌, ℕ, ◌≤◌, Bool, false, List, [], length, reverse, Option}
 use mathlib.Core.List.{IsSuffix}
 use Rattle.board_core.specs.declared.config.Config.{Config}
 use Rattle.board_core.specs.declared.event.Actor.{Actor}
@@ -39,7 +39,8 @@ pub record At (a : Actor) (n : ℕ) (past : List Event) (P : List Event → Type
 abbrev pub SeesNoMore : Task → Actor → (n : ℕ) → List Event → Type 0
 SeesNoMore t (Hart h) n past = At (Hart h) n past (ChoosesNone t.opening t.blocks h)
 SeesNoMore t Clock n past =
-    (n ≡ length t.ticks) ⊎ ((op : Op) × (r : Refusal) × At Clock n past (Refuses t.opening t.blocks t.ticks Clock op r))
+    (n ≡ length t.ticks)
+    ⊎ ((op : Op) × (r : Refusal) × (r ≢ HistoryFull) × At Clock n past (Refuses t.opening t.blocks t.ticks Clock op r))
 
 -- and by what it met
 abbrev pub Stops : Task → Actor → (n : ℕ) → List Event → Met → Type 0

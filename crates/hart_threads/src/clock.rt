@@ -9,7 +9,7 @@ use crate::gate::Gate;
 use crate::met::Met;
 use crate::plans::Plan;
 use crate::work::{Work, Worked};
-use board_core::{Op, Refusal};
+use board_core::Op;
 use board_lock::{Rest, Seat};
 use std::sync::Wait;
 
@@ -49,8 +49,7 @@ fn tick_all<K: Plan, G: Gate, R: Wait>(rt: &R, work: &Work<'_, K, G>, seat: &mut
         }
         match work.board.call(rt, seat, Op::Tick(*n)) {
             Ok(_) => {}
-            Err(Refusal::HistoryFull) => return Met::FullHistory,
-            Err(_) => return Met::Nothing,
+            Err(refusal) => return Met::by_refusal(refusal),
         }
     }
     Met::Nothing

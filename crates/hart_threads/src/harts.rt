@@ -13,7 +13,7 @@ use crate::guests::Guest;
 use crate::met::Met;
 use crate::plans::Plan;
 use crate::work::{Work, Worked};
-use board_core::{Op, Refusal};
+use board_core::Op;
 use board_lock::{HartView, Rest, Seat};
 use std::sync::Wait;
 
@@ -59,8 +59,7 @@ fn next(view: &HartView, met: Met, guest: &Guest<'_>) -> Option<Op>
     }
 }
 
-/// An operation whose turn it is, if the gate lets its hart go on; and what the thread met. Another refusal than that of a full
-/// history is none: the thread looks again.
+/// An operation whose turn it is, if the gate lets its hart go on; and what the thread met.
 fn attempt<'a, K: Plan, G: Gate, R: Wait>(
     rt: &R,
     work: &Work<'a, K, G>,
@@ -82,7 +81,6 @@ fn attempt<'a, K: Plan, G: Gate, R: Wait>(
             guest.sees(work.program.blocks, op, receipt.reply());
             Met::Nothing
         }
-        Err(Refusal::HistoryFull) => Met::FullHistory,
-        Err(_) => Met::Nothing,
+        Err(refusal) => Met::by_refusal(refusal),
     }
 }

@@ -1,5 +1,7 @@
 ghost use Rattle.std.specs.Prelude.{◌≡◌};
-ghost use Rattle.hart_threads.specs.Met.{met_by_both};
+ghost use Rattle.hart_threads.specs.Met.{met_by_both, met_by_refusal};
+
+use board_core::Refusal;
 
 /// What kept a thread from going on, if something did.
 #[derive(Clone, Copy, Debug, PartialEq, Eq)]
@@ -13,6 +15,16 @@ pub enum Met {
 }
 
 impl Met {
+    /// What a thread met whose operation was refused: another refusal than that of a full history keeps none from going on.
+    pub(crate) fn by_refusal(refusal: Refusal) -> Met
+        ensures { result ≡ met_by_refusal refusal }
+    {
+        match refusal {
+            Refusal::HistoryFull => Met::FullHistory,
+            _ => Met::Nothing,
+        }
+    }
+
     /// What two threads met: a gate's answer comes first.
     pub(crate) fn and(self, other: Met) -> Met
         ensures { result ≡ met_by_both self other }

@@ -19,7 +19,7 @@ pub struct Hsm {
 }
 
 impl Model for Hsm {
-    ghost use Rattle.std.specs.Prelude.{List, map};
+    ghost use Rattle.std.specs.Prelude.{◌≡◌, List, map, vec_capacity, vec_len};
     ghost use Rattle.hsm.specs.Harts.{Hart};
 
     ghost Value = { List Hart };
@@ -28,7 +28,7 @@ impl Model for Hsm {
 
     ghost view = { λ m. map hart_of m.phases.items };
 
-    ghost invariant = { λ m. AreKept (map hart_of m.phases.items) m.interruptible };
+    ghost invariant = { λ m. AreKept (map hart_of m.phases.items) m.interruptible × (vec_capacity m.phases ≡ vec_len m.phases) };
 }
 
 impl Hsm {
@@ -40,7 +40,7 @@ impl Hsm {
     {
         let mut phases = Vec::with_capacity(alloc, harts as usize)?;
         for h in 0..harts {
-            phases.push(opening_phase(boot_hart, boot, h))?;
+            phases.push_reserved(opening_phase(boot_hart, boot, h));
         }
         Ok(Hsm {
             phases,

@@ -4,6 +4,7 @@ ghost use Rattle.std.specs.Prelude.{◌≡◌};
 
 use crate::seen::Why;
 use board_lock::{NotAll, Record, Room, Seat, SharedBoard};
+use std::alloc::AllocError;
 
 /// A close that lacks a seat: board and seats are back.
 fn refused<K: Room>(open: NotAll<K>) -> Result<NotAll<K>, Why>
@@ -18,7 +19,7 @@ fn refused<K: Room>(open: NotAll<K>) -> Result<NotAll<K>, Why>
 /// Moves the last seat of one to the end of the other.
 fn hand<K: Room>(from: &mut Vec<Seat<K>>, to: &mut Vec<Seat<K>>) -> Result<(), Why> {
     match from.pop() {
-        Some(seat) => to.push(seat).map_err(|_| Why::Seats),
+        Some(seat) => to.push(seat).map_err(|_| Why::Memory(AllocError)),
         None => Err(Why::Seats),
     }
 }

@@ -6,7 +6,7 @@ use board_core::{Actor, Op, Refusal};
 use board_lock::{Receipt, Room, Seat, SharedBoard};
 use std::alloc::AllocError;
 use std::sync::Wait;
-use std::thread::Threads;
+use std::thread::{JoinHandle, Threads};
 use std::time::{Clock, Instant};
 use std::{mem, thread};
 
@@ -63,30 +63,44 @@ fn put<K: Room>(
     Ok(())
 }
 
-/// Puts back the seats, and the receipts of all.
-fn gather<K: Room>(
-    worked: Vec<Result<Worked<K>, AllocError>>,
+/// Waits for the threads, and puts back the seats, and the receipts of all.
+fn gather<K: Room, R: Threads>(
+    rt: &R,
+    threads: Vec<JoinHandle<Result<Worked<K>, AllocError>>>,
     seats: &mut Vec<Seat<K>>,
     receipts: &mut Vec<Receipt<K>>,
 ) -> Result<(), AllocError> {
-    for one in worked {
-        put(one, seats, receipts)?;
+    for thread in threads {
+        put(thread.join(rt), seats, receipts)?;
     }
     Ok(())
 }
 
-/// Each seat works on a thread of its own.
+/// Each seat works on a thread of its own. Where a thread is refused, or memory for its handle, the rests of those that run are
+/// ended, and so they come to their end.
 pub fn at_once<K: Room + Send + Sync, R: AllocGlobal + Threads + Wait + Sync>(
     rt: &R,
     shared: &SharedBoard<K>,
     seats: &mut Vec<Seat<K>>,
     receipts: &mut Vec<Receipt<K>>,
     todo: Work,
-) -> Result<(), AllocError> {
+) -> Result<(), Why> {
     let alloc = rt.alloc();
     let all = mem::replace(seats, Vec::new(alloc));
-    let worked = thread::map_vec(rt, all, &|seat| do_work(rt, alloc, shared, seat, todo))?;
-    gather(worked, seats, receipts)
+    thread::scope(thread::scope_env(), rt, |scope| -> Result<(), Why> {
+        let mut threads = Vec::new(alloc);
+        for seat in all {
+            let Ok(thread) = scope.spawn(move || do_work(rt, alloc, shared, seat, todo)) else {
+                shared.end(rt);
+                return Err(Why::Thread);
+            };
+            if threads.push(thread).is_err() {
+                shared.end(rt);
+                return Err(Why::Memory(AllocError));
+            }
+        }
+        Ok(gather(rt, threads, seats, receipts)?)
+    })
 }
 
 /// The same, where all harts are started first.

@@ -137,6 +137,8 @@ pub enum Why {
     Refused(#[from] Refusal),
     #[error("no memory")]
     Memory(#[from] AllocError),
+    #[error("no thread")]
+    Thread,
     #[error("a seat was lost, or was missing where none should be")]
     Seats,
     #[error("accepted where it should be refused")]

@@ -1,8 +1,10 @@
 -- The requests that wait, by the callers' ids and their fences.
 use Rattle.std.proofs.Common.{◌≡◌, ℕ, ◌<◌, suc, zero, false, List, [], ◌∷◌, ◌++◌, length, drop, set, replicate, subst, refl, sym, ap, ◌∙◌, arith}
+use Rattle.std.specs.Prelude.{◌==◌, if◌then◌else◌}
 use Rattle.std.proofs.lemmas.Bool.{eqb-false, or_parts}
 use Rattle.std.proofs.lemmas.List.{get_or-map, get_or-set_other, get_or-set_same, length-map, length-set, map-append, map-set}
 use Rattle.fence_queue.specs.declared.request.Request.{Request}
+use Rattle.fence_queue.specs.Positions.{one_later, position_of}
 use Rattle.fence_queue.specs.Queues.{IsQueue, drained, has_from, is_from, popped, pushed, queue_at}
 use Rattle.rfence.specs.Marks.{CanAsk, requested}
 use Rattle.rfence.specs.ByCaller.{IsOut, queue_by, queues_by, request_by}
@@ -17,6 +19,10 @@ module _ {F : Type 0} (fences : List F) (idle : F) where
   has_from-by : (c : ℕ) (callers : List (Request (Unit {0}))) → has_from c (queue_by fences idle callers) ≡ has_from c callers
   has_from-by c [] = refl
   has_from-by c (caller ∷ rest) = rw (has_from-by c rest) refl
+
+  pub position_of-by : (c : ℕ) (callers : List (Request (Unit {0}))) → position_of (is_from c) callers ≡ position_of (is_from c) (queue_by fences idle callers)
+  position_of-by c [] = refl
+  position_of-by c (caller ∷ rest) = ap (λ m. if caller.from == c then 1 else one_later m) (position_of-by c rest)
 
   pub IsQueue-by : (n t : ℕ) (callers : List (Request (Unit {0}))) → IsQueue n t callers → IsQueue n t (queue_by fences idle callers)
   IsQueue-by n t [] queue = tt

@@ -121,17 +121,17 @@ module _ {F : Type 0} where
       (same first.from (ne_eqb c first.from (λ e. eqb-false first.from c parts.0 (sym e))) ∙ are.0, AreOpen-same opened now c rest same parts.1 are.1)
 
   -- the caller is told by the place
+  pub from-at : (turns : List (Turn F)) (c : ℕ) (asked : Asked F) → open_call turns asked.from ≡ Some asked.place → (o : Option ℕ) → open_call turns c ≡ o → (asked.from == c) ≡ is_at o asked
+  from-at turns c asked is None closed = ne_eqb asked.from c (λ same. let also = ap (open_call turns) same in cc)
+  from-at turns c asked is (Some p) inside = elim (eqb_tells asked.from c) [
+    | inl same ↦ same.0 ∙ sym (eq-eqb asked.place p (let also = ap (open_call turns) same.1 in cc))
+    | inr other ↦ other.0 ∙ sym (ne_eqb asked.place p (λ e. other.1 (open-apart turns asked.from c p (is ∙ ap (λ q. Some q) e) inside)))
+  ]
+
   pub by-caller : (turns : List (Turn F)) (c : ℕ) (waits : List (Asked F)) → AreOpen (open_call turns) waits
       → has_from c (map kept waits) ≡ list_any (is_at (open_call turns c)) waits
   by-caller turns c [] are = refl
-  by-caller turns c (first ∷ rest) are = rw (one (open_call turns c) refl, by-caller turns c rest are.1) refl
-    where
-      one : (o : Option ℕ) → open_call turns c ≡ o → (first.from == c) ≡ is_at o first
-      one None closed = ne_eqb first.from c (λ same. let e = are.0 in let also = ap (open_call turns) same in cc)
-      one (Some p) inside = elim (eqb_tells first.from c) [
-        | inl same ↦ same.0 ∙ sym (eq-eqb first.place p (let e = are.0 in let also = ap (open_call turns) same.1 in cc))
-        | inr other ↦ other.0 ∙ sym (ne_eqb first.place p (λ e. other.1 (open-apart turns first.from c p (are.0 ∙ ap (λ q. Some q) e) inside)))
-      ]
+  by-caller turns c (first ∷ rest) are = rw (from-at turns c first are.0 (open_call turns c) refl, by-caller turns c rest are.1) refl
 
   -- ---- the queues after right turns
 

@@ -11,3 +11,5 @@ pub mod Once
 pub mod Success
 pub mod Counts
 pub mod Totals
+pub mod Needs
+pub mod Bounds

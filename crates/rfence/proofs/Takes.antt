@@ -4,9 +4,9 @@ use Rattle.std.specs.Prelude.{Option, Some, None, is_some}
 use Rattle.std.proofs.lemmas.List.{length-map}
 use Rattle.hart_mask.specs.Ids.{has, ids_where}
 use Rattle.fence_queue.specs.Queues.{queue_at}
-use Rattle.rfence.specs.Turns.{Turn, Ask, Serve, Poll, Stop, Reset}
+use Rattle.rfence.specs.Turns.{Ask, Serve, Poll, Stop, Reset}
 use Rattle.rfence.specs.Waiting.{kept, waiting}
-use Rattle.rfence.specs.Calls.{is_outstanding, open_call, outstanding}
+use Rattle.rfence.specs.Calls.{is_outstanding, open_call}
 use Rattle.rfence.specs.State.{HasTurns, State, Takes, call_at, in_call}
 use Rattle.rfence.proofs.Counts.{outstanding-set}
 use Rattle.rfence.proofs.Stands.{call_at-stands, length-calls, length-queues, queue_at-stands}

@@ -16,11 +16,11 @@ use Rattle.rfence.proofs.Waits.{waited, waiting-more}
 
 -- ---- sums over the harts from a on
 
-abbrev sum_from : (ℕ → ℕ) → (a n : ℕ) → ℕ
+abbrev pub sum_from : (ℕ → ℕ) → (a n : ℕ) → ℕ
 sum_from f a zero = 0
 sum_from f a (suc n) = f a + sum_from f (a + 1) n
 
-is-sum : (f : ℕ → ℕ) (a n : ℕ) → sum_by f (range_with_len a n) ≡ sum_from f a n
+pub is-sum : (f : ℕ → ℕ) (a n : ℕ) → sum_by f (range_with_len a n) ≡ sum_from f a n
 is-sum f a zero = refl
 is-sum f a (suc n) = sum_by-cons f a (range_with_len (a + 1) n) ∙ ap (λ rest. f a + rest) (is-sum f (a + 1) n)
 

@@ -9,3 +9,4 @@ pub mod ByCaller
 pub mod HartCaches
 pub mod State
 pub mod Laws
+pub mod Need

@@ -1,6 +1,8 @@
 ghost use Rattle.std.specs.Prelude.{◌≡◌, ℕ, ◌<◌, ◌≤◌, [], true, Some, None, ◌==◌, not, unwrap_or, IfOk, if◌then◌else◌, is_some, length, slice_get, sum_by};
 ghost use Rattle.hart_mask.specs.Ids.{has};
-ghost use Rattle.fence_queue.specs.Queues.{IsQueue, queue_at};
+ghost use Rattle.fence_queue.specs.Positions.{position_of};
+ghost use Rattle.fence_queue.specs.Queues.{IsQueue, is_from, queue_at};
+ghost use Rattle.rfence.specs.Need.{IsNeed};
 ghost use Rattle.rfence.specs.Turns.{Ask, Serve, Poll, Stop, Reset};
 ghost use Rattle.rfence.specs.State.{AreAffected, HasRoom, IsTaken, StandsFor, call_at};
 
@@ -173,6 +175,16 @@ impl<F: Copy> Fences<F> {
         ensures limit { result < length self.now.queues }
     {
         self.queues.len(t)
+    }
+
+    /// How many serves by hart `t` the call that hart `c` is in still needs, until it waits for `t` no more: the position,
+    /// counted from 1, of its request among those that wait at `t`. It is 0 where the call doesn't wait for `t`, where `c` is
+    /// outside of a call, and where there is no such hart.
+    pub fn need(&self, c: u64, t: u64) -> u64
+        ensures position { result ≡ position_of (is_from c) (queue_at self.now.queues t) }
+        ensures need { IsNeed self.now c t result }
+    {
+        self.queues.position(t, c)
     }
 
     /// Of how many harts fences were asked, all together.

@@ -1,6 +1,7 @@
 ghost use Rattle.std.specs.Prelude.{◌≡◌, ◌<◌, ◌≤◌, ◌==◌, false, length, IfOk, replicate, sum_by, [], slice_get};
 ghost use Rattle.std.specs.Iterator.{YieldsFirst, item_count};
-ghost use Rattle.fence_queue.specs.Queues.{IsQueue, drained, has_from, popped, queue_at};
+ghost use Rattle.fence_queue.specs.Positions.{position_of};
+ghost use Rattle.fence_queue.specs.Queues.{IsQueue, drained, has_from, is_from, popped, queue_at};
 ghost use Rattle.rfence.specs.Marks.{CanAsk, requested};
 ghost use Rattle.rfence.specs.ByCaller.{IsOut, request_by};
 
@@ -113,6 +114,14 @@ impl<F: Copy> Pending<F> {
         ensures limit { result < length self.now }
     {
         self.callers.len(t)
+    }
+
+    /// The position, counted from 1, of hart `from`'s request in hart `t`'s queue; 0 where none is there, or there is no such
+    /// hart.
+    pub fn position(&self, t: u64, from: u64) -> u64
+        ensures { result ≡ position_of (is_from from) (queue_at self.now t) }
+    {
+        self.callers.position(t, from)
     }
 
     /// How many requests wait, at all harts together.

@@ -15,6 +15,7 @@
 #![tactic(auto)]
 
 mod components;
+mod debugging;
 mod devices;
 mod printing;
 mod row;
@@ -42,11 +43,30 @@ fn show<R: AllocGlobal + Print + Eprint>(rt: &R) -> Result<()> {
     components::show_errors(rt)?;
     components::show_faults(rt)?;
     components::show_endings(rt)?;
+    debugging::show_harts(rt)?;
+    debugging::show_memory(rt)?;
+    debugging::show_board(rt)?;
+    debugging::show_scripts(rt)?;
+    debugging::show_conditions(rt)?;
+    debugging::show_threads(rt)?;
+    debugging::show_ends(rt)?;
+    show_private(rt)?;
     printing::show_lines(rt)?;
     devices::show_calls(rt)?;
     devices::show_pieces(rt)?;
     show_failures(rt, Task::Replay, "replay")?;
     show_failures(rt, Task::Check, "check")
+}
+
+/// Shows what `Debug` writes of the types whose fields are private.
+fn show_private<R: AllocGlobal + Print>(rt: &R) -> Result<()> {
+    debugging::show_private_harts(rt)?;
+    debugging::show_private_states(rt)?;
+    debugging::show_private_timers(rt)?;
+    debugging::show_private_memory(rt)?;
+    debugging::show_private_caches(rt)?;
+    debugging::show_private_lines(rt)?;
+    debugging::show_private_events(rt)
 }
 
 /// Shows how many reads and writes a task makes, each of which failed in turn.

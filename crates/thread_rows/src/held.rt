@@ -69,3 +69,19 @@ pub fn refused_asks_again<R: AllocGlobal + Print + Threads + Wait + Sync>(
     show(rt, "refused_asks_again", scripts::REBOOTING, &gate)?;
     println!(rt; "{:?}", Questions::of(&gate))
 }
+
+/// The gate closes for a tick of the clock, whose number comes after the harts': it does no further one.
+pub fn clocks_gate<R: AllocGlobal + Print + Threads + Wait + Sync>(rt: &R) -> io::Result<()> {
+    let gate = Holding::new(&[], Some(turn(1, 1)));
+    show(rt, "clocks_gate", scripts::TICKING, &gate)
+}
+
+/// A closed gate comes before the power, and before a full history: the clock's gate closes for its first tick.
+pub fn closed_gate_comes_first<R: AllocGlobal + Print + Threads + Wait + Sync>(
+    rt: &R,
+) -> io::Result<()> {
+    let gate = Holding::new(&[], Some(turn(1, 0)));
+    show(rt, "closed_gate_and_off", scripts::LEAVING, &gate)?;
+    let gate = Holding::new(&[], Some(turn(1, 0)));
+    show(rt, "closed_gate_and_full", scripts::CROWDED, &gate)
+}

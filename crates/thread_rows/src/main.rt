@@ -11,6 +11,7 @@ mod shown;
 
 use crate::shown::show;
 use hart_threads::{Open, RunFault};
+use std::alloc::{AllocError, Global};
 use std::io;
 use std::sync::Wait;
 use std::thread::Threads;
@@ -22,7 +23,10 @@ fn main(rt: HostRuntime) -> io::Result<()> {
     held::two_fences_cross(&rt)?;
     held::held_until_recorded(&rt)?;
     held::asked_in_order(&rt)?;
-    held::refused_asks_again(&rt)
+    held::refused_asks_again(&rt)?;
+    held::clocks_gate(&rt)?;
+    held::closed_gate_comes_first(&rt)?;
+    many_ticks(&rt)
 }
 
 /// A run with each end but the gate's.
@@ -32,7 +36,49 @@ fn ends<R: AllocGlobal + Print + Threads + Wait + Sync>(rt: &R) -> io::Result<()
     show(rt, "history-full", scripts::LONG, &Open)?;
     show(rt, "stuck", scripts::SLEEPING, &Open)?;
     show(rt, "quiet", scripts::STOPPING, &Open)?;
-    show(rt, "no-harts", scripts::NO_HARTS, &Open)
+    show(rt, "no-harts", scripts::NO_HARTS, &Open)?;
+    show(rt, "off-and-stuck", scripts::UNFINISHED, &Open)?;
+    show(rt, "off-at-the-limit", scripts::LAST, &Open)?;
+    show(rt, "quiet-at-the-limit", scripts::EXACT, &Open)?;
+    show(rt, "stuck-at-the-limit", scripts::ASLEEP, &Open)
+}
+
+/// A clock does all of three thousand ticks, or as many as there is room for beside a hart that is through.
+fn many_ticks<R: AllocGlobal + Print + Threads + Wait + Sync>(rt: &R) -> io::Result<()> {
+    show_ticks(rt, "many_ticks", scripts::CLOCK, (3000, scripts::TICK))?;
+    show_ticks(
+        rt,
+        "clocks_full_history",
+        scripts::SHORT_CLOCK,
+        (3000, scripts::NO_TIME),
+    )
+}
+
+/// Runs a script, to which so many times a line is added.
+fn show_ticks<R: AllocGlobal + Print + Threads + Wait + Sync>(
+    rt: &R,
+    name: &str,
+    head: &[u8],
+    ticks: (u64, &[u8]),
+) -> io::Result<()> {
+    match with_lines(rt.alloc(), head, ticks) {
+        Ok(text) => show(rt, name, &text, &Open),
+        Err(_) => println!(rt; "{name}: no memory"),
+    }
+}
+
+/// A script, and so many times a line.
+fn with_lines(
+    alloc: Global,
+    head: &[u8],
+    (times, line): (u64, &[u8]),
+) -> Result<Vec<u8>, AllocError> {
+    let mut text = Vec::new(alloc);
+    text.extend_from_slice(head)?;
+    for _ in 0..times {
+        text.extend_from_slice(line)?;
+    }
+    Ok(text)
 }
 
 /// What is said of each fault.

@@ -85,3 +85,72 @@ ecall 0x53525354 0 1 0
 at 0x80001000
 sip
 ";
+
+/// A hart that reads sip, beside a clock that ticks.
+pub const TICKING: &[u8] = b"board 1 1 10 0 0x80000000 0x0
+at 0x80000000
+sip
+clock
+tick 5
+tick 6
+";
+
+/// A hart that shuts the board down, beside a clock that ticks.
+pub const LEAVING: &[u8] = b"board 1 1 10 0 0x80000000 0x0
+at 0x80000000
+ecall 0x53525354 0
+clock
+tick 5
+";
+
+/// A hart that does more operations than the history holds, beside a clock that ticks.
+pub const CROWDED: &[u8] = b"board 1 1 3 0 0x80000000 0x0
+at 0x80000000
+sip
+sip
+sip
+clock
+tick 5
+";
+
+/// A hart that shuts the board down with the last event that the history holds.
+pub const LAST: &[u8] = b"board 1 1 2 0 0x80000000 0x0
+at 0x80000000
+ecall 0x53525354 0
+";
+
+/// A hart that does as many operations as the history holds.
+pub const EXACT: &[u8] = b"board 1 1 3 0 0x80000000 0x0
+at 0x80000000
+sip
+sip
+";
+
+/// A hart that shuts the board down with an operation left to do.
+pub const UNFINISHED: &[u8] = b"board 1 1 10 0 0x80000000 0x0
+at 0x80000000
+ecall 0x53525354 0
+sip
+";
+
+/// A hart that waits for an interrupt which none sends, and whose entry is all that the history holds.
+pub const ASLEEP: &[u8] = b"board 1 1 1 0 0x80000000 0x0
+at 0x80000000
+wfi
+";
+
+/// A clock without ticks yet, on a board for thousands of events.
+pub const CLOCK: &[u8] = b"board 1 1 5000 0 0x80000000 0x0
+clock
+";
+
+/// A clock without ticks yet, on a board for a thousand events.
+pub const SHORT_CLOCK: &[u8] = b"board 1 1 1000 0 0x80000000 0x0
+clock
+";
+
+/// A tick of one.
+pub const TICK: &[u8] = b"tick 1\n";
+
+/// A tick in which no time passes.
+pub const NO_TIME: &[u8] = b"tick 0\n";

@@ -1,16 +1,10 @@
-use Rattle.std.proofs.Common.{◌+◌, ap, ◌∙◌}
+use Rattle.std.proofs.Common.{◌+◌, ap, sym, subst, ◌∙◌}
 use Rattle.board_lock.specs.Seats.{Sitting}
-use Rattle.hart_threads.specs.Works.{Task, task}
-use Rattle.hart_threads.proofs.Steps.{clock-done, clock-full, clock-refused}
+use Rattle.hart_threads.specs.declared.met.Met.{Met}
+use Rattle.hart_threads.specs.Works.{Task, WorkedAt, task}
+use Rattle.hart_threads.proofs.Steps.{clock-done, clock-refused}
 use Rattle.hart_threads.proofs.Ticking.{first-of, next-tick, one-more}
 use Rattle.hart_threads.proofs.clock.tick_all.Goals as goal
-
-pub returns-in-Err-HistoryFull-clause-worked : goal.returns-in-Err-HistoryFull-clause-worked
-returns-in-Err-HistoryFull-clause-worked g c =
-    let t : Task = task g.K.Plan.lets g.K.Room.opening g.K.Plan.blocks g.K.Plan.ticks in
-    let e = c.in-Err-HistoryFull.ensures in
-    let next = next-tick g.K.Plan.ticks c.args.work.now.program.ticks.now c.loop-n.seat.count c.loop-n.n-index c.args.work.now.planned c.loop-n.invariant.2 c.loop-n-test.true in
-    clock-full t c.loop-n.seat c.call.new.seat _ c.loop-n.invariant.0 c.loop-n.invariant.3 next e.refused e.later c.in-Err-HistoryFull.field-0 e.refusal c.in-Err-HistoryFull.field-0-is
 
 pub returns-in-Err : goal.returns-in-Err
 returns-in-Err g c =
@@ -21,7 +15,8 @@ returns-in-Err g c =
     record {
       actor = e.actor ∙ c.loop-n.invariant.0;
       ticks = first-of c.loop-n.seat.ops c.call.new.seat.ops program g.K.Plan.ticks c.loop-n.n-index c.args.work.now.planned c.loop-n-test.true c.loop-n.invariant.1 (ap (λ (s : Sitting). s.ops) e.refused);
-      worked = clock-refused t c.loop-n.seat c.call.new.seat _ c.loop-n.invariant.0 c.loop-n.invariant.3 next e.refused e.later c.in-Err.field-0 e.refusal;
+      worked = subst (λ (m : Met). WorkedAt t c.call.new.seat m) (sym c.by_refusal.ensures)
+          (clock-refused t c.loop-n.seat c.call.new.seat _ c.loop-n.invariant.0 c.loop-n.invariant.3 next e.refused e.later c.in-Err.refusal e.refusal);
     }
 
 pub loop-n-preserved : goal.loop-n-preserved

@@ -1,13 +1,11 @@
 use Rattle.std.proofs.Common.{◌≡◌, List, ◌∷◌, subst, sym, ◌∙◌}
 use Rattle.std.specs.Prelude.{Option}
 use Rattle.board_core.specs.declared.event.Op.{Op}
-use Rattle.board_core.specs.declared.event.Refusal.{Refusal}
-use Rattle.board_lock.specs.Views.{IsRefused}
 use Rattle.guest_script.specs.Grammar.{Guest}
-use Rattle.hart_threads.specs.declared.met.Met.TheVariants.{Nothing}
+use Rattle.hart_threads.specs.declared.met.Met.{Met}
 use Rattle.hart_threads.specs.Guests.{IsLeft, left_of}
-use Rattle.hart_threads.specs.Works.{Task, task}
-use Rattle.hart_threads.proofs.Steps.{full-going, looked}
+use Rattle.hart_threads.specs.Works.{Goes, Task, task}
+use Rattle.hart_threads.proofs.Steps.{refused-going}
 use Rattle.hart_threads.proofs.Working.{Tells, done-going}
 use Rattle.hart_threads.proofs.harts.attempt.Goals as goal
 
@@ -22,15 +20,9 @@ returns-in-Ok-clause-going g c =
     done-going t c.args.seat.now c.call.new.seat c.args.op c.in-Ok.receipt.reply c.in-Ok.ensures.done left left' c.requires.going c.requires.turn c.if-not-is_let.ensures tells
     c.in-Ok.ensures.actor c.in-Ok.ensures.accepted
 
-pub returns-in-Err-HistoryFull-clause-going : goal.returns-in-Err-HistoryFull-clause-going
-returns-in-Err-HistoryFull-clause-going g c =
-    let t : Task = task g.K.Plan.lets g.K.Room.opening g.K.Plan.blocks g.K.Plan.ticks in
-    let e = c.in-Err-HistoryFull.ensures in
-    full-going t c.args.seat.now c.call.new.seat (left_of c.args.guest.now) c.args.op c.requires.going c.requires.turn e.refused e.later
-    (subst (λ (r : Refusal). IsRefused g.K.Room.opening c.call.new.seat c.args.op r) c.in-Err-HistoryFull.field-0-is e.refusal)
-
 pub returns-in-Err : goal.returns-in-Err
 returns-in-Err g c =
     let t : Task = task g.K.Plan.lets g.K.Room.opening g.K.Plan.blocks g.K.Plan.ticks in
     let e = c.in-Err.ensures in
-    record { actor = e.actor; going = looked t c.args.seat.now c.call.new.seat (left_of c.args.guest.now) Nothing e.refused e.later c.requires.going }
+    let going = refused-going t c.args.seat.now c.call.new.seat (left_of c.args.guest.now) c.args.op c.in-Err.refusal c.requires.going c.requires.turn e.refused e.later e.refusal in
+    record { actor = e.actor; going = subst (λ (m : Met). Goes t c.call.new.seat (left_of c.args.guest.now) m) (sym c.by_refusal.ensures) going }

@@ -1,4 +1,5 @@
-use Rattle.std.proofs.Common.{ℕ, Bool, List, map, subst, sym}
+use Rattle.std.proofs.Common.{ℕ, ◌≤◌, Bool, List, ap, length, map, subst, sym, ◌∙◌}
+use Rattle.std.proofs.lemmas.List.{length-reverse}
 use Rattle.board_core.specs.declared.config.Config.{Config}
 use Rattle.guest_script.specs.Grammar.{Guest, content, guest}
 use Rattle.hart_threads.specs.Programs.{ticks_of}
@@ -14,6 +15,8 @@ returns-clause-threads g c =
     let blocks : List Guest = map guest p.result.blocks.now in
     let threads : AreThreads lets b.board.config blocks p.result.ticks.now b.board.past b.met =
     subst (λ (opening : Config). AreThreads lets opening blocks p.result.ticks.now b.board.past b.met) (sym b.ensures.opening) b.ensures.threads in
+    let within : length b.board.past ≤ b.board.config.limit =
+    subst (λ (many : ℕ). many ≤ b.board.config.limit) (sym (length-reverse c.history-legal.result.now) ∙ ap length c.history-legal.ensures.events) c.history-legal.ensures.within in
     subst (λ (bs : List Guest). IsRun lets b.board.config bs (ticks_of (content c.args.script.now.body)) b.board.past c.in_ok-end.end) p.ensures.blocks
     (subst (λ (ts : List ℕ). IsRun lets b.board.config blocks ts b.board.past c.in_ok-end.end) p.ensures.ticks
-    (is-run lets b.board.config blocks p.result.ticks.now b.board.past b.met c.in_ok-end.end threads c.in_ok-end.ensures.by))
+    (is-run lets b.board.config blocks p.result.ticks.now b.board.past b.met c.in_ok-end.end within threads c.in_ok-end.ensures.by))

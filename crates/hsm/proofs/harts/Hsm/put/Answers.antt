@@ -8,17 +8,21 @@ use Rattle.hsm.proofs.harts.Hsm.put.Goals as goal
 
 pub invariant_of-self : goal.invariant_of-self
 invariant_of-self c =
-    let long = ap length c.self.view_is in
-    AreKept-with c.self.inside.phases.items c.args.h c.args.phase c.self.inside.interruptible c.self.invariant (omega (arith, long, c.requires)) _
-    c.insert.ensures
-    (sym (c.is_interruptible.ensures ∙ ap is_interruptible c.state.ensures) ∙ c.if-is_interruptible.true)
+    let long = ap length c.self.view_is in (
+      AreKept-with c.self.inside.phases.items c.args.h c.args.phase c.self.inside.interruptible c.self.invariant.0 (omega (arith, long, c.requires)) _
+          c.insert.ensures
+          (sym (c.is_interruptible.ensures ∙ ap is_interruptible c.state.ensures) ∙ c.if-is_interruptible.true),
+      c.self.invariant.1,
+    )
 
 pub invariant_of-self-else-is_interruptible : goal.invariant_of-self-else-is_interruptible
 invariant_of-self-else-is_interruptible c =
-    let long = ap length c.self.view_is in
-    AreKept-without c.self.inside.phases.items c.args.h c.args.phase c.self.inside.interruptible c.self.invariant (omega (arith, long, c.requires)) _
-    c.remove.ensures
-    (sym (c.is_interruptible.ensures ∙ ap is_interruptible c.state.ensures) ∙ c.if-is_interruptible.false)
+    let long = ap length c.self.view_is in (
+      AreKept-without c.self.inside.phases.items c.args.h c.args.phase c.self.inside.interruptible c.self.invariant.0 (omega (arith, long, c.requires)) _
+          c.remove.ensures
+          (sym (c.is_interruptible.ensures ∙ ap is_interruptible c.state.ensures) ∙ c.if-is_interruptible.false),
+      c.self.invariant.1,
+    )
 
 pub returns-then-is_interruptible : goal.returns-then-is_interruptible
 returns-then-is_interruptible c =

@@ -9,10 +9,16 @@ use Rattle.hsm.proofs.Interruptible.{AreKept-none, rests}
 use Rattle.hsm.proofs.harts.Hsm.reset.Goals as goal
 
 pub invariant_of-self : goal.invariant_of-self
-invariant_of-self c = AreKept-none c.self.inside.phases.items _ c.self.inside.interruptible _ c.self.invariant (c.fill.ensures.items (λ y same. same) ∙ ap (λ n. replicate n Stopped) c.self.inside.phases.ok.0) c.new-self-inside.ensures
+invariant_of-self c = (
+  AreKept-none c.self.inside.phases.items _ c.self.inside.interruptible _ c.self.invariant.0 (c.fill.ensures.items (λ y same. same) ∙ ap (λ n. replicate n Stopped) c.self.inside.phases.ok.0) c.new-self-inside.ensures,
+  let room = c.fill.ensures.capacity in let size = c.fill.ensures.len in let before = c.self.invariant.1 in omega arith,
+)
 
 pub invariant_of-self-in_default : goal.invariant_of-self-in_default
-invariant_of-self-in_default c = AreKept-none c.self.inside.phases.items _ c.self.inside.interruptible _ c.self.invariant (c.fill.ensures.items (λ y same. same) ∙ ap (λ n. replicate n Stopped) c.self.inside.phases.ok.0) c.new-self-inside.ensures
+invariant_of-self-in_default c = (
+  AreKept-none c.self.inside.phases.items _ c.self.inside.interruptible _ c.self.invariant.0 (c.fill.ensures.items (λ y same. same) ∙ ap (λ n. replicate n Stopped) c.self.inside.phases.ok.0) c.new-self-inside.ensures,
+  let room = c.fill.ensures.capacity in let size = c.fill.ensures.len in let before = c.self.invariant.1 in omega arith,
+)
 
 pub returns-in-Some : goal.returns-in-Some
 returns-in-Some c =

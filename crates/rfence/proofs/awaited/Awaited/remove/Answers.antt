@@ -1,4 +1,4 @@
-use Rattle.std.proofs.Common.{true, length, ap, ◌∙◌, sym, arith}
+use Rattle.std.proofs.Common.{length, ap, ◌∙◌, sym, arith}
 use Rattle.rfence.proofs.Awaiting.{without-none, without-one}
 use Rattle.rfence.proofs.awaited.Awaited.remove.Goals as goal
 

@@ -1,0 +1,12 @@
+use Rattle.board_laws.proofs.headlines.headline.Goals as goal
+
+pub returns : goal.returns
+returns c =
+    let good = c.config-config.ensures.good in
+    let legal = c.history-history.ensures.legal in
+    record {
+      by_the_rules = legal;
+      starts_are_entered = c.starts_are_entered.ensures _ _ legal;
+      applied_once = λ t place event at. c.applied_once.ensures _ _ t place event good legal at;
+      fenced_is_gone = λ t place flush reached. c.fenced_is_gone.ensures _ _ t place flush good legal reached;
+    }

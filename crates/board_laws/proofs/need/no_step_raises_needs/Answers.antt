@@ -1,0 +1,5 @@
+use Rattle.board_laws.proofs.Needs.{none-raises-needs}
+use Rattle.board_laws.proofs.need.no_step_raises_needs.Goals as goal
+
+pub returns : goal.returns
+returns c = none-raises-needs

@@ -1,0 +1,18 @@
+//! What holds of every board.
+ghost use Rattle.board_laws.specs.Headline.{Headline};
+
+use crate::caches::fenced_is_gone;
+use crate::fences::applied_once;
+use board_core::{Board, starts_are_entered};
+
+/// Of every board, whatever steps were made: its history is what the written rules answer; its starts are entered; each
+/// fence was applied once or waits once; and what a successful fence covers is gone.
+pub fn headline(board: &Board)
+    ensures { Headline board.now.config board.now.past }
+{
+    let _config = board.config();
+    let _history = board.history();
+    starts_are_entered();
+    applied_once();
+    fenced_is_gone();
+}

@@ -1,0 +1,297 @@
+//! What `Debug` writes of each public type that has it, in a line each. Of a type whose fields are private the line says
+//! whether the text begins with the type's name, and differs for two values that differ.
+
+use anyhow::{Context, Result, bail};
+use board_core::{Actor, Board, BuildFault, Config, Op, Refusal, Reply, Sie, Totals};
+use board_lock::{HartNow, HartView, Rest};
+use conditions::conditions;
+use fence_queue::Request;
+use guest_script::{Body, Fault, Lines, ScriptFault, parse};
+use hart_access::{Access, Accessed, Way};
+use hart_mask::{HartSet, InvalidParam};
+use hart_threads::{End, Met, Open, RunFault};
+use hsm::{AlreadyAvailable, HartState, Hsm, Kept, Moved};
+use interrupts::{Ipis, TimeFull, Timers};
+use monitor::Failed;
+use sbi_abi::{Call, Regs, Reset, ResetKind, SbiError, Sbiret, SuspendKind};
+use sbiboard::{Device, Outcome, ReadFault, Stop, Task};
+use seeded_orders::Step;
+use std::alloc::Global;
+use std::fmt::Debug;
+use std::io;
+use sv39::{Cause, Kind, Leaf, Level, Ram, Satp};
+use tlb_model::{Address, Caches, Entry, Fence, FetchWord, Flush, Numbered, Range};
+
+const REGS: Regs = Regs {
+    eid: 1,
+    fid: 2,
+    a: [3, 4, 5, 6, 7, 8],
+};
+
+const CONFIG: Config = Config {
+    harts: 2,
+    pages: 1,
+    limit: 10,
+    boot_hart: 1,
+    boot_addr: 0x8000_0000,
+    boot_opaque: 7,
+};
+
+const LEAF: Leaf = Leaf {
+    page: 0x1000,
+    level: Level::Mega,
+    global: true,
+    pa: 0x8000_0000,
+    r: true,
+    w: false,
+    x: true,
+    d: false,
+};
+
+const ENTRY: Entry = Entry {
+    leaf: LEAF,
+    asid: 5,
+};
+
+const RANGE: Range = Range {
+    start: 0x2000,
+    size: 1,
+};
+
+const FENCE: Fence = Fence {
+    asid: Some(6),
+    range: Some(RANGE),
+};
+
+const KEPT: Kept = Kept {
+    addr: 0x8000_0002,
+    opaque: 9,
+};
+
+const PROGRAM: &[u8] = b"board 2 1 10 1 0x80000000 7\nat 0x10\nload 5\nclock\ntick 3\n";
+
+const TRACE: &[u8] = b"board 1 1 9 0 0x80000000 7\n0 sip -> value 2\n";
+
+const SHORT: &[u8] = b"board 1 1 9 0 0x80000000 7\n0 sip\n";
+
+const ASKED: &[u8] = b"#!never _ load 0x10 -> value 5\n#!end off stuck\n";
+
+const NOT_ASKED: &[u8] = b"#!often\n";
+
+/// Shows the types of calls, sets and states.
+pub fn show_harts<R: Print>(rt: &R) -> io::Result<()> {
+    let reset = Reset {
+        kind: ResetKind::WarmReboot,
+        reason: 1,
+    };
+    let ret = Sbiret {
+        error: -3,
+        value: 4,
+    };
+    let call = Call::HartSuspend {
+        kind: Ok(SuspendKind::Retentive),
+        addr: 1,
+        opaque: 2,
+    };
+    println!(rt; "{REGS:?}")?;
+    println!(rt; "{call:?}")?;
+    println!(rt; "{:?}", SuspendKind::NonRetentive)?;
+    println!(rt; "{ret:?}")?;
+    println!(rt; "{:?}", SbiError::AlreadyStopped)?;
+    println!(rt; "{reset:?}")?;
+    println!(rt; "{:?}", ResetKind::ColdReboot)?;
+    println!(rt; "{InvalidParam:?}")?;
+    println!(rt; "{:?}", HartState::ResumePending)?;
+    println!(rt; "{KEPT:?}")?;
+    println!(rt; "{:?}", Moved::Entered(KEPT))?;
+    println!(rt; "{AlreadyAvailable:?}")?;
+    println!(rt; "{TimeFull:?}")
+}
+
+/// Shows the types of memory, caches and fences.
+pub fn show_memory<R: Print>(rt: &R) -> io::Result<()> {
+    let accessed = Accessed {
+        result: Ok(3),
+        used: Some(ENTRY),
+    };
+    let request = Request {
+        from: 3,
+        flush: FENCE,
+    };
+    let address = Address {
+        va: 0x3000,
+        asid: 4,
+    };
+    let word = FetchWord { pa: 8, word: 9 };
+    let numbered = Numbered {
+        number: 2,
+        item: word,
+    };
+    println!(rt; "{:?}", Kind::Fetch)?;
+    println!(rt; "{:?}", Cause::StorePageFault)?;
+    println!(rt; "{:?}", Level::Kilo)?;
+    println!(rt; "{LEAF:?}")?;
+    println!(rt; "{address:?}")?;
+    println!(rt; "{ENTRY:?}")?;
+    println!(rt; "{word:?}")?;
+    println!(rt; "{numbered:?}")?;
+    println!(rt; "{RANGE:?}")?;
+    println!(rt; "{FENCE:?}")?;
+    println!(rt; "{:?}", Flush::Entries(FENCE))?;
+    println!(rt; "{:?}", Access::Store(2))?;
+    println!(rt; "{accessed:?}")?;
+    println!(rt; "{:?}", Way::Fill(ENTRY))?;
+    println!(rt; "{request:?}")
+}
+
+/// Shows the types of a board.
+pub fn show_board<R: Print>(rt: &R) -> io::Result<()> {
+    let entered = Reply::Entry {
+        addr: 1,
+        hart: 2,
+        opaque: 3,
+    };
+    let totals = Totals {
+        starts: 1,
+        entries: 2,
+        pending: 3,
+        asked: 4,
+        applied: 5,
+        waiting: 6,
+    };
+    println!(rt; "{CONFIG:?}")?;
+    println!(rt; "{:?}", BuildFault::NoMemory)?;
+    println!(rt; "{:?}", Actor::Hart(3))?;
+    println!(rt; "{:?}", Op::Sfence(None, Some(4)))?;
+    println!(rt; "{entered:?}")?;
+    println!(rt; "{:?}", Refusal::TimeFull)?;
+    println!(rt; "{totals:?}")?;
+    println!(rt; "{:?}", Sie::of(0x20))
+}
+
+/// Shows the types of scripts.
+pub fn show_scripts<R: AllocGlobal + Print>(rt: &R) -> Result<()> {
+    println!(rt; "{:?}", parse(rt.alloc(), PROGRAM)?)?;
+    println!(rt; "{:?}", lines_of(rt.alloc(), TRACE)?.get(0))?;
+    Ok(())
+}
+
+/// Shows the types of conditions.
+pub fn show_conditions<R: AllocGlobal + Print>(rt: &R) -> io::Result<()> {
+    println!(rt; "{:?}", conditions(rt.alloc(), ASKED))?;
+    println!(rt; "{:?}", conditions(rt.alloc(), NOT_ASKED))
+}
+
+/// Shows the types of views, rests and steps.
+pub fn show_threads<R: Print>(rt: &R) -> io::Result<()> {
+    let now = HartNow {
+        state: HartState::Started,
+        outstanding: None,
+        waiting: 2,
+        wake: true,
+    };
+    let view = HartView {
+        hart: Some(now),
+        is_off: false,
+        events: 3,
+    };
+    println!(rt; "{view:?}")?;
+    println!(rt;
+        "{:?} {:?} {:?}",
+        Rest::AllRest,
+        Met::ClosedGate,
+        Step::Poll(4)
+    )
+}
+
+/// Shows the types of runs and of how they end.
+pub fn show_ends<R: Print>(rt: &R) -> io::Result<()> {
+    let fault = ScriptFault {
+        line: 3,
+        fault: Fault::BadNumber,
+    };
+    println!(rt; "{fault:?}")?;
+    println!(rt; "{:?} {:?} {Open:?}", End::GateLimit, RunFault::NoThread)?;
+    println!(rt; "{:?} {:?}", Task::Check("a"), Outcome::Stuck)?;
+    println!(rt; "{:?} {Failed:?}", ReadFault::Script(fault))?;
+    println!(rt;
+        "{:?}",
+        Stop::from(io::Error::from(io::ErrorKind::NotFound))
+    )
+}
+
+/// The lines of a schedule or a trace.
+fn lines_of(alloc: Global, text: &[u8]) -> Result<Lines> {
+    match parse(alloc, text)?.body {
+        Body::Schedule(lines) | Body::Trace(lines) => Ok(lines),
+        Body::Empty | Body::Program { .. } => bail!("no lines"),
+    }
+}
+
+/// Says whether the text of a value begins with its type's name, and is another one than the other value's.
+fn tell<R: AllocGlobal + Print, T: Debug>(rt: &R, name: &str, one: &T, other: &T) -> Result<()> {
+    let text = format!(in rt.alloc(); "{one:?}")?;
+    let other = format!(in rt.alloc(); "{other:?}")?;
+    println!(rt; "{name}: {} {}", text.starts_with(name), text != other)?;
+    Ok(())
+}
+
+/// Shows sets and states of harts, whose fields are private.
+pub fn show_private_harts<R: AllocGlobal + Print>(rt: &R) -> Result<()> {
+    let (empty, full) = (HartSet::new(), HartSet::below(128));
+    let mut ipis = Ipis::new();
+    ipis.send(full);
+    tell(rt, "HartSet", &empty, &full)?;
+    tell(rt, "HartIds", &empty.iter(), &full.iter())?;
+    tell(rt, "Ipis", &Ipis::new(), &ipis)?;
+    tell(rt, "Satp", &Satp::bare(), &Satp::bare().write(1 << 63))?;
+    tell(rt, "Device", &Device::new(1), &Device::new(2))
+}
+
+/// Shows the states of one hart and of two.
+pub fn show_private_states<R: AllocGlobal + Print>(rt: &R) -> Result<()> {
+    let one = Hsm::new(rt.alloc(), 1, 0, KEPT)?;
+    tell(rt, "Hsm", &one, &Hsm::new(rt.alloc(), 2, 0, KEPT)?)
+}
+
+/// Shows timers at two times.
+pub fn show_private_timers<R: AllocGlobal + Print>(rt: &R) -> Result<()> {
+    let mut later = Timers::new(rt.alloc(), 2)?;
+    let _ = later.tick(1);
+    tell(rt, "Timers", &Timers::new(rt.alloc(), 2)?, &later)
+}
+
+/// Shows memories of one page and of two.
+pub fn show_private_memory<R: AllocGlobal + Print>(rt: &R) -> Result<()> {
+    let one = Ram::new(rt.alloc(), 1)?;
+    tell(rt, "Ram", &one, &Ram::new(rt.alloc(), 2)?)
+}
+
+/// Shows caches, empty and not.
+pub fn show_private_caches<R: AllocGlobal + Print>(rt: &R) -> Result<()> {
+    let mut filled = Caches::new();
+    filled.tlb.fill(ENTRY);
+    let empty = Caches::new();
+    tell(rt, "Cache", &empty.tlb, &filled.tlb)?;
+    tell(rt, "Caches", &empty, &filled)
+}
+
+/// Shows the lines of two schedules.
+pub fn show_private_lines<R: AllocGlobal + Print>(rt: &R) -> Result<()> {
+    let short = lines_of(rt.alloc(), SHORT)?;
+    tell(rt, "Lines", &short, &lines_of(rt.alloc(), TRACE)?)
+}
+
+/// Shows two events of a board.
+pub fn show_private_events<R: AllocGlobal + Print>(rt: &R) -> Result<()> {
+    let mut board = Board::new(rt.alloc(), &CONFIG)?;
+    board.step(Actor::Clock, Op::Tick(1))?;
+    board.step(Actor::Clock, Op::Tick(2))?;
+    let first = board.history().first().context("no event")?;
+    tell(
+        rt,
+        "Event",
+        first,
+        board.history().last().context("no event")?,
+    )
+}

@@ -1,0 +1,132 @@
+use crate::limit::Limit;
+use crate::stop::Stop;
+use clap::{Arg, ArgAction, Command, value_parser};
+use std::alloc::{AllocError, Global};
+use std::ops::Range;
+use std::rt::Clock;
+
+const TIMES: &str = "times";
+
+const SEED: &str = "seed";
+
+const ORDER: &str = "order";
+
+const SECONDS: &str = "seconds";
+
+const TAP: &str = "tap";
+
+const FAILED: &str = "failed";
+
+const FILE: &str = "FILE";
+
+const AFTER: &str = "\
+A condition is a comment of a script that begins with `#!`, as in
+  #! never 2 load 0x1000 -> value 0x11 after 0 poll -> ret 0 _
+docs/FORMATS.md has all of them. What is told are points of the Test Anything Protocol.
+
+Exit status: 0 all hold, 1 some don't, 2 usage, 6 no memory, 7 input or output failed.";
+
+/// What is asked for.
+#[derive(Debug, Drop)]
+pub(crate) struct Options<'a> {
+    times: u64,
+    order: Option<u64>,
+    /// The seed of the orders.
+    pub(crate) seed: u64,
+    /// The folder that failing records are written into.
+    pub(crate) failed: &'a str,
+    /// How long orders are tried, of all programs together.
+    pub(crate) limit: Limit,
+    /// The file that the points are written into, too, if one is named.
+    pub(crate) tap: Option<&'a str>,
+    /// The files.
+    pub(crate) files: Vec<&'a str>,
+}
+
+impl Options<'_> {
+    /// The numbers of the orders that are tried of each program: the one that is asked for, or the first ones.
+    pub(crate) fn orders(&self) -> Range<u64> {
+        match self.order {
+            Some(order) => order..order.saturating_add(1),
+            None => 0..self.times,
+        }
+    }
+}
+
+/// What the words of a command line ask for, the program's own name first.
+///
+/// # Errors
+///
+/// What clap says of them: a fault of usage, or the help or the version that was asked for; or want of memory.
+pub(crate) fn options_of<'a, R: AllocGlobal + Clock>(
+    rt: &R,
+    words: &'a [String],
+) -> Result<Options<'a>, Stop> {
+    let alloc = rt.alloc();
+    let matches = described(alloc)?.try_get_matches_from(words)?;
+    let mut files = Vec::new(alloc);
+    if let Some(named) = matches.get_strs(FILE) {
+        files.extend_from_slice(named)?;
+    }
+    Ok(Options {
+        times: matches.get_one(TIMES).unwrap_or(0),
+        order: matches.get_one(ORDER),
+        seed: matches.get_one(SEED).unwrap_or(0),
+        failed: matches.get_str(FAILED).unwrap_or("."),
+        limit: Limit::begin(rt, matches.get_one(SECONDS))?,
+        tap: matches.get_str(TAP),
+        files,
+    })
+}
+
+/// The command line, as clap reads it.
+fn described<'a>(alloc: Global) -> Result<Command<'a>, AllocError> {
+    let times = number(alloc, TIMES)
+        .value_name("N")
+        .default_value("1000")
+        .help("How many orders of each program are tried");
+    let seed = number(alloc, SEED)
+        .value_name("S")
+        .default_value("0")
+        .help("The seed of the orders");
+    let order = number(alloc, ORDER)
+        .value_name("K")
+        .conflicts_with(TIMES)?
+        .help("Try order K of the seed alone");
+    let seconds = number(alloc, SECONDS)
+        .value_name("N")
+        .help("Try orders for so many seconds at most");
+    let tap = Arg::new(alloc, TAP)
+        .long(TAP)
+        .value_name("FILE")
+        .help("Write the points into FILE, too");
+    let failed = Arg::new(alloc, FAILED)
+        .long(FAILED)
+        .value_name("DIR")
+        .default_value(".")
+        .help("Where the first failing record of each condition is written");
+    let file = Arg::new(alloc, FILE)
+        .required(true)
+        .action(ArgAction::Append)
+        .help("Programs, schedules and traces, with their conditions");
+    Command::new(alloc, "sbiboard test")
+        .bin_name("sbiboard test")?
+        .about(
+            "Try orders of programs, replay schedules and compare traces, and judge their conditions",
+        )
+        .after_help(AFTER)
+        .arg(times)?
+        .arg(seed)?
+        .arg(order)?
+        .arg(seconds)?
+        .arg(failed)?
+        .arg(tap)?
+        .arg(file)
+}
+
+/// An option whose value is a number.
+fn number<'a>(alloc: Global, name: &'a str) -> Arg<'a> {
+    Arg::new(alloc, name)
+        .long(name)
+        .value_parser(value_parser!(u64))
+}

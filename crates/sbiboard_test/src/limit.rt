@@ -1,0 +1,26 @@
+use std::io;
+use std::rt::Clock;
+use std::time::Instant;
+
+/// How long orders are tried.
+#[derive(Clone, Copy, Debug)]
+pub(crate) struct Limit {
+    begun: Instant,
+    seconds: Option<u64>,
+}
+
+impl Limit {
+    /// From now on, for so many seconds, or without end.
+    pub(crate) fn begin(clock: &impl Clock, seconds: Option<u64>) -> io::Result<Limit> {
+        let begun = Instant::now(clock)?;
+        Ok(Limit { begun, seconds })
+    }
+
+    /// Whether the time is over.
+    pub(crate) fn is_over(&self, clock: &impl Clock) -> io::Result<bool> {
+        match self.seconds {
+            Some(seconds) => Ok(self.begun.elapsed(clock)?.as_secs() >= seconds),
+            None => Ok(false),
+        }
+    }
+}

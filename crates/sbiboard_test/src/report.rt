@@ -1,0 +1,157 @@
+use hart_threads::End;
+use std::alloc::{AllocError, Global};
+use std::fmt::Write;
+
+/// What is told of all files: points of the Test Anything Protocol, version 14.
+#[derive(Drop)]
+pub(crate) struct Report {
+    /// What isn't printed yet.
+    pub(crate) text: String,
+    points: u64,
+    failed: u64,
+    files: u64,
+    records: u64,
+    ends: Ends,
+    is_cut: bool,
+}
+
+/// How many orders ended in which way.
+#[derive(Clone, Copy, Debug)]
+struct Ends {
+    off: u64,
+    full: u64,
+    quiet: u64,
+    stuck: u64,
+}
+
+impl Report {
+    /// Before any file.
+    pub(crate) fn new(alloc: Global) -> Result<Report, AllocError> {
+        Ok(Report {
+            text: String::from_str(alloc, "TAP version 14\n")?,
+            points: 0,
+            failed: 0,
+            files: 0,
+            records: 0,
+            ends: Ends {
+                off: 0,
+                full: 0,
+                quiet: 0,
+                stuck: 0,
+            },
+            is_cut: false,
+        })
+    }
+
+    /// A file begins.
+    pub(crate) fn begin_file(&mut self) {
+        self.files = self.files.saturating_add(1);
+    }
+
+    /// An order ended so.
+    pub(crate) fn count_end(&mut self, end: End) {
+        let count = match end {
+            End::Off => &mut self.ends.off,
+            End::HistoryFull => &mut self.ends.full,
+            End::Quiet => &mut self.ends.quiet,
+            End::Stuck | End::GateLimit => &mut self.ends.stuck,
+        };
+        *count = count.saturating_add(1);
+    }
+
+    /// Not all orders were tried.
+    pub(crate) fn cut_short(&mut self) {
+        self.is_cut = true;
+    }
+
+    /// So many different records of a program were met.
+    pub(crate) fn count_records(&mut self, many: usize) {
+        self.records = self.records.saturating_add(many as u64);
+    }
+
+    /// Puts a point, and what it is about.
+    pub(crate) fn point(&mut self, holds: bool, about: &str) -> Result<(), AllocError> {
+        self.points = self.points.saturating_add(1);
+        if !holds {
+            self.failed = self.failed.saturating_add(1);
+        }
+        let not = if holds { "" } else { "not " };
+        let number = self.points;
+        write!(self.text, "{not}ok {number} - ")?;
+        self.put_escaped(about)?;
+        self.text.push('\n')?;
+        Ok(())
+    }
+
+    /// Tells of the condition of a line that its patterns met no step.
+    pub(crate) fn never_met(&mut self, line: u64) -> Result<(), AllocError> {
+        write!(
+            self.text,
+            "# line {line}: never met: no step has this actor and operation\n"
+        )
+    }
+
+    /// Puts a text so that none of its letters means something to a reader of points.
+    fn put_escaped(&mut self, text: &str) -> Result<(), AllocError> {
+        for letter in text.chars() {
+            if letter == '#' || letter == '\\' {
+                self.text.push('\\')?;
+            }
+            self.text
+                .push(if letter.is_control() { '?' } else { letter })?;
+        }
+        Ok(())
+    }
+
+    /// Puts a text in quotes, as a value of a point's detail.
+    pub(crate) fn put_quoted(&mut self, text: &str) -> Result<(), AllocError> {
+        self.text.push('"')?;
+        for letter in text.chars() {
+            if letter == '"' || letter == '\\' {
+                self.text.push('\\')?;
+            }
+            self.text
+                .push(if letter.is_control() { '?' } else { letter })?;
+        }
+        self.text.push('"')?;
+        Ok(())
+    }
+
+    /// Puts the plan and the summary.
+    pub(crate) fn end(&mut self) -> Result<(), AllocError> {
+        let Ends {
+            off,
+            full,
+            quiet,
+            stuck,
+        } = self.ends;
+        let orders = off
+            .saturating_add(full)
+            .saturating_add(quiet)
+            .saturating_add(stuck);
+        write!(
+            self.text,
+            "1..{}\n# {} points, {} failed\n",
+            self.points, self.points, self.failed
+        )?;
+        write!(
+            self.text,
+            "# {} files, {orders} orders, {} different records\n",
+            self.files, self.records
+        )?;
+        write!(
+            self.text,
+            "# ends: {off} off, {full} history-full, {quiet} quiet, {stuck} stuck\n"
+        )?;
+        if self.is_cut {
+            self.text
+                .push_str("# cut short: not all orders were tried\n")?;
+        }
+        Ok(())
+    }
+
+    /// Whether no point failed.
+    pub(crate) fn all_hold(&self) -> bool {
+        self.failed == 0
+    }
+}

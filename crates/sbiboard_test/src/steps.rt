@@ -1,0 +1,147 @@
+use crate::asked::Case;
+use crate::command_line::Options;
+use crate::detail::put_record;
+use crate::judging::{failing_step, judge};
+use crate::records::step_line;
+use crate::report::Report;
+use crate::stop::Stop;
+use crate::tally::Tally;
+use board_core::Board;
+use conditions::{Condition, Rule};
+use guest_script::{KeptLine, Lines};
+use std::alloc::{AllocError, Global};
+use std::fmt::Write;
+use std::rt::Files;
+use std::str;
+
+/// Makes each step of a schedule, whatever is refused. Without conditions that is the point.
+pub(crate) fn replay(
+    alloc: Global,
+    case: &Case<'_>,
+    board: &mut Board,
+    lines: &Lines,
+    report: &mut Report,
+) -> Result<(), AllocError> {
+    for line in lines.iter() {
+        let _ = board.step(line.actor(), line.op());
+    }
+    if case.conditions.is_empty() {
+        put_point(alloc, case, lines, true, report)?;
+    }
+    Ok(())
+}
+
+/// Compares each line of a trace with the board's own answer, goes on with that, and tells all lines that differ.
+pub(crate) fn compare(
+    alloc: Global,
+    case: &Case<'_>,
+    board: &mut Board,
+    lines: &Lines,
+    report: &mut Report,
+) -> Result<(), AllocError> {
+    let mut differing: u64 = 0;
+    let mut text = String::new(alloc);
+    for line in lines.iter() {
+        let answer = board.step(line.actor(), line.op());
+        if !line.said().is_some_and(|said| said.agrees(&answer)) {
+            differing = differing.saturating_add(1);
+            let got = step_line(alloc, line.actor(), line.op(), answer)?;
+            put_difference(case, &line, &got, &mut text)?;
+        }
+    }
+    put_point(alloc, case, lines, differing == 0, report)?;
+    if differing > 0 {
+        let shown = text.as_str();
+        write!(
+            report.text,
+            "  ---\n  differing: {differing}\n  lines:\n{shown}  ...\n"
+        )?;
+    }
+    Ok(())
+}
+
+/// Puts what a line wants, and the line with what the board gave.
+fn put_difference(
+    case: &Case<'_>,
+    line: &KeptLine<'_>,
+    got: &[u8],
+    text: &mut String,
+) -> Result<(), AllocError> {
+    let number = line.number();
+    let wanted = case.said_at(number);
+    let got = str::from_utf8(got).unwrap_or("").trim();
+    write!(
+        text,
+        "    - line: {number}\n      wanted: \"{wanted}\"\n      got: \"{got}\"\n"
+    )
+}
+
+/// Puts the point of a schedule's or a trace's lines.
+fn put_point(
+    alloc: Global,
+    case: &Case<'_>,
+    lines: &Lines,
+    holds: bool,
+    report: &mut Report,
+) -> Result<(), AllocError> {
+    let file = case.file;
+    let many = lines.len();
+    let about = format!(in alloc; "{file} ({many} lines)")?;
+    report.point(holds, about.as_str())
+}
+
+/// Judges the record of a schedule or of a trace by each condition.
+pub(crate) fn judge_record<R: AllocGlobal + Files>(
+    rt: &R,
+    options: &Options<'_>,
+    case: &Case<'_>,
+    board: &Board,
+    report: &mut Report,
+) -> Result<(), Stop> {
+    for condition in case.conditions {
+        tell(rt, options, case, condition, board, report)?;
+    }
+    Ok(())
+}
+
+/// Tells whether a record meets a condition.
+fn tell<R: AllocGlobal + Files>(
+    rt: &R,
+    options: &Options<'_>,
+    case: &Case<'_>,
+    condition: &Condition,
+    board: &Board,
+    report: &mut Report,
+) -> Result<(), Stop> {
+    let events = board.history();
+    let rule = &condition.rule;
+    let mut tally = Tally::new();
+    judge(rule, &mut tally, 0, events, None);
+    let file = case.file;
+    let line = condition.line;
+    let asked = case.asked_at(line);
+    let about = format!(in rt.alloc(); "{file}: line {line}: {asked}")?;
+    let holds = tally.holds(Some(rule));
+    report.point(holds, about.as_str())?;
+    if matches!(rule, Rule::End(_)) {
+        report
+            .text
+            .push_str("  ---\n  reason: \"only a program has an end\"\n  ...\n")?;
+    } else if !holds {
+        report.text.push_str("  ---\n")?;
+        put_record(
+            rt,
+            options,
+            case,
+            "",
+            board,
+            failing_step(Some(rule), events),
+            report,
+        )?;
+        report.text.push_str("  ...\n")?;
+    }
+    if !tally.is_met {
+        report.never_met(line)?;
+    }
+    Ok(())
+}

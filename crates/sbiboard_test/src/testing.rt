@@ -1,0 +1,69 @@
+ghost use Rattle.std.specs.Prelude.{◌≡◌, true};
+ghost use Rattle.guest_script.specs.Grammar.{content};
+ghost use Rattle.hart_threads.specs.Programs.{IsProgram};
+
+use crate::asked::Case;
+use crate::command_line::Options;
+use crate::loading::{Unloaded, load};
+use crate::orders::test_orders;
+use crate::report::Report;
+use crate::steps::{compare, judge_record, replay};
+use crate::stop::Stop;
+use board_core::Board;
+use guest_script::{Body, Script};
+use std::rt::{Clock, Files};
+
+/// Tests a file, and tells its points. One that can't be read, or has a fault, is a point that fails.
+pub(crate) fn test_file<R: AllocGlobal + Clock + Files>(
+    rt: &R,
+    options: &Options<'_>,
+    file: &str,
+    report: &mut Report,
+) -> Result<(), Stop> {
+    report.begin_file();
+    let loaded = match load(rt, file) {
+        Ok(loaded) => loaded,
+        Err(Unloaded::NoMemory) => return Err(Stop::NoMemory),
+        Err(Unloaded::File(why)) => {
+            let about = format!(in rt.alloc(); "{file}{why}")?;
+            return Ok(report.point(false, about.as_str())?);
+        }
+    };
+    let case = Case {
+        file,
+        text: &loaded.text,
+        conditions: &loaded.conditions,
+    };
+    test_script(rt, options, &case, &loaded.script, report)
+}
+
+/// Tests a script by its kind.
+fn test_script<R: AllocGlobal + Clock + Files>(
+    rt: &R,
+    options: &Options<'_>,
+    case: &Case<'_>,
+    script: &Script,
+    report: &mut Report,
+) -> Result<(), Stop> {
+    if is_program(&script.body) {
+        return test_orders(rt, options, case, script, report);
+    }
+    let alloc = rt.alloc();
+    let mut board = Board::new(alloc, &script.config)?;
+    match &script.body {
+        Body::Schedule(lines) => replay(alloc, case, &mut board, lines, report)?,
+        Body::Trace(lines) => compare(alloc, case, &mut board, lines, report)?,
+        Body::Empty | Body::Program { .. } => {}
+    }
+    judge_record(rt, options, case, &board, report)
+}
+
+/// Whether a script is a program. An empty one is of each kind.
+fn is_program(body: &Body) -> bool
+    ensures { result ≡ true → IsProgram (content body.now) }
+{
+    match body {
+        Body::Empty | Body::Program { .. } => true,
+        Body::Schedule(_) | Body::Trace(_) => false,
+    }
+}

@@ -1,0 +1,315 @@
+"""Orders from a seed, and conditions: the program behind `sbiboard test`."""
+import os
+import shutil
+import subprocess
+
+from harness import HANG, PROGRAM, ROOT, Passed, Wrong, ran
+
+TESTER = os.path.join(ROOT, "crates/sbiboard_test/out/sbiboard_test")
+
+# Hart 1 loads twice while hart 0, which started it, stores once.
+RACE = """\
+board 2 4 100 0 0x80000000 0x0
+at 0x80000000
+ecall 0x48534d 0 1 0x80001000 0x7
+store 0x80002000 0x1
+at 0x80001000
+load 0x80002000
+load 0x80002000
+"""
+
+# Three stores of hart 0 beside the entry and three loads of hart 1: 7 over 3.
+LOADS_AND_STORES = RACE.replace("store 0x80002000 0x1\n", "store 0x80002000 1\nstore 0x80002000 2\nstore 0x80002000 3\n") + "load 0x80002000\n"
+
+# An IPI wakes hart 1, where it comes behind its entry; before, it is asked of a hart that isn't started, and hart 1 waits for ever.
+# A store and the IPI of hart 0 beside the entry and the `sie` of hart 1, 4 over 2, and behind them the `wfi` and the load.
+WAKE = """\
+board 2 4 100 0 0x80000000 0x0
+at 0x80000000
+ecall 0x48534d 0 1 0x80001000
+store 0x80002000 0x1
+ecall 0x735049 0 0x2 0
+at 0x80001000
+sie 0x2
+wfi
+load 0x80002000
+"""
+
+# Hart 1 is suspended with nothing enabled, and the IPI of hart 0, which waits until it runs, doesn't wake it.
+SUSPENDED = """\
+board 2 4 100 0 0x80000000 0x0
+at 0x80001000
+ecall 0x735049 0 0x1 0
+  # it sleeps
+ecall 0x48534d 3 0
+at 0x80000000
+sie 0x2
+ecall 0x48534d 0 1 0x80001000
+wfi
+ecall 0x735049 0 0x2 0
+"""
+
+# Harts 1 and 2, which have told hart 0 that they run, are asked for a fence, and serve it in either order; hart 2 loads once at any of
+# seven places behind its IPI.
+FENCE = """\
+board 3 4 100 0 0x80000000 0x0
+at 0x80000000
+sie 0x2
+ecall 0x48534d 0 1 0x80001000
+wfi
+clearssip
+ecall 0x48534d 0 2 0x80001100
+wfi
+clearssip
+ecall 0x52464e43 0 0x6 0
+at 0x80001000
+ecall 0x735049 0 0x1 0
+at 0x80001100
+ecall 0x735049 0 0x1 0
+load 0x80002000
+"""
+
+# Programs, and how many orders each has.
+COUNTED = ((RACE, 4), (LOADS_AND_STORES, 35), (WAKE, 6), (FENCE, 14))
+
+# A condition of the race, and whether its records meet it.
+ROWS = (
+    ("some 1 load _ -> value 0x1", True), ("some 1 load _ -> value 0", True), ("some 1 load _ -> value 2", False),
+    ("never 1 load 0x80002000 -> value 0x2", True), ("never _ load -> value 1", False), ("never c", True),
+    ("never 1 load -> value 0 after 0 store", True), ("never 1 load -> value 1 after 0 store", False),
+    ("each 0 store -> done", True), ("each 1 load _ -> value 0x0", False), ("end quiet", True), ("end off stuck", False),
+    ("before 1 advance, 1 load", True), ("before 0 store, 1 load", False), ("before 0 store, 1 load -> value 1", True),
+)  # fmt: skip
+
+# A condition that can't be read, the column of what is wrong, and what it is.
+FAULTS = (
+    ("#! nevr 1 load", 4, "unknown condition"), ("#! never 1 laod", 12, "unknown word"), ("#! never 128 load", 10, "not a number"),
+    ("#! never 1 load 0x", 17, "not a number"), ("#! never 1 load 1 2", 19, "too few or too many words"),
+    ("#! each 1 load", 15, "too few or too many words"), ("#! before 0 store 1 load", 21, "not a number"),
+    ("#! before 0 store", 18, "no comma"), ("  #! never 1 sip -> refused 2", 21, "no accepted step is refused"), ("#! end soon", 8, "unknown word"),
+)  # fmt: skip
+
+# What can't be tested: a file's text, and what is said of it.
+UNTESTED = (
+    ("board 1 1 9 0 0x80000000 0\n0 ecal 0x10\n", ":2: no operation or reply has this name, or its block doesn't allow the operation (fault 3)"),
+    ("", ": the first line with words isn't a board line, or no line has words (fault 2)"),
+    ("board 200 1 9 0 0x80000000 0\n", ": bad board: HARTS is 1 to 128"), ("board 1 0 9 0 0x80000000 0\n", ": bad board: PAGES is 1 to 256"),
+    ("board 1 1 0 0 0x80000000 0\n", ": bad board: LIMIT is 1 to 1000000"), ("board 1 1 9 1 0x80000000 0\n", ": bad board: BOOT is below HARTS"),
+    ("board 1 1 9 0 0x70000000 0\n", ": bad board: ADDRESS is even, and in RAM"),
+)  # fmt: skip
+
+
+def told(room, text, *words, name="race.program"):
+    """The status, and the lines that are told of a file of this text."""
+    with open(os.path.join(room, name), "w") as file:
+        file.write(text)
+    return told_of(room, *words, name)
+
+
+def told_of(room, *words):
+    found = subprocess.run(["sbiboard", *words], executable=TESTER, cwd=room, capture_output=True, text=True, timeout=HANG)
+    if found.stderr:
+        raise Wrong(f"{words}: {found.stderr!r}")
+    return found.returncode, found.stdout.splitlines()
+
+
+def must(what, holds):
+    if not holds:
+        raise Wrong(what)
+
+
+def conditions_are_judged(room):
+    """Each condition of the table is met, or isn't."""
+    for asked, holds in ROWS:
+        status, lines = told(room, f"#! {asked} # as it is\n{RACE}", "--times", "200")
+        point = f"{'' if holds else 'not '}ok 1 - race.program: line 1: {asked}"
+        must(f"{asked}: {status}, {lines[:3]}", status == (0 if holds else 1) and lines[0] == "TAP version 14" and lines[1] == point)
+
+
+def points_are_told(room):
+    """Each condition is a point, then come the plan and the summary; a pattern that met no step is told."""
+    status, lines = told(room, f"#! never 0 sip\n{RACE}#! some 1 load -> value 1\n", "--times", "50")
+    wanted = [
+        "TAP version 14", "ok 1 - race.program: line 1: never 0 sip", "# line 1: never met: no step has this actor and operation",
+        "ok 2 - race.program: line 9: some 1 load -> value 1", "1..2", "# 2 points, 0 failed", "# 1 files, 50 orders, 4 different records",
+        "# ends: 0 off, 0 history-full, 50 quiet, 0 stuck",
+    ]  # fmt: skip
+    must(f"{lines}", status == 0 and lines == wanted)
+
+
+def bad_conditions_are_told(room):
+    """A condition that can't be read is a point that fails, with its line and its column."""
+    for line, column, why in FAULTS:
+        status, lines = told(room, RACE + line + "\n")
+        must(f"{line}: {lines}", status == 1 and lines[1] == f"not ok 1 - race.program:8:{column}: {why}")
+
+
+def bad_files_are_told(room):
+    """A file that can't be tested is a point that fails, and the others go on."""
+    told(room, RACE)
+    os.mkdir(os.path.join(room, "folder"))
+    for text, why in UNTESTED:
+        with open(os.path.join(room, "a.sched"), "w") as file:
+            file.write(text)
+        status, lines = told_of(room, "--times", "3", "a.sched", "race.program")
+        must(f"{text!r}: {lines}", status == 1 and lines[1:3] == [f"not ok 1 - a.sched{why}", "ok 2 - race.program (3 orders)"])
+    status, lines = told_of(room, "none", "folder")
+    must(f"{lines}", status == 1 and lines[1:3] == ["not ok 1 - none: no such file", "not ok 2 - folder: is a directory"])
+
+
+def orders_are_all_met(room):
+    """Of small programs all orders are met, and no other: as many as can be counted."""
+    for text, many in COUNTED:
+        _, lines = told(room, "#! never 0 sip\n" + text, "--times", "2000")
+        must(f"{many}: {lines}", f"# 1 files, 2000 orders, {many} different records" in lines)
+
+
+def a_seed_is_one_order(room):
+    """What is told depends on the seed alone, and an order alone is the one that was tried among others."""
+    text = "#! never 1 load -> value 1\n" + RACE
+    first, again = (told(room, text, "--seed", "7") for _ in range(2))
+    must("two runs of one seed differ", first == again)
+    must("another seed tells the same", told(room, text, "--seed", "8") != first)
+    order = next(line.split()[1] for line in first[1] if line.startswith("  order:"))
+    path = os.path.join(room, f"race.program.7-{order}.failed")
+    with open(path) as file:
+        record = file.read()
+    os.remove(path)
+    must("the order alone meets the condition", told(room, text, "--seed", "7", "--order", order)[0] == 1)
+    with open(path) as file:
+        must("the order alone has another record", file.read() == record)
+    status, lines = told_of(room, os.path.basename(path))
+    must(f"{lines}", status == 0 and lines[1].startswith(f"ok 1 - {os.path.basename(path)} ("))
+    checked = ran(["check", path])
+    must(f"{checked}", checked.returncode == 0 and checked.stdout.startswith(b"agrees "))
+
+
+def failures_are_counted(room):
+    """A failing point tells how many orders fail, and the first of them with the steps around the one that fails."""
+    _, lines = told(room, "#! end off\n" + RACE, "--times", "40", "--failed", room)
+    wanted = ["  ---", "  seed: 0", "  failing: 40", "  orders: 40", "  order: 0", f'  record: "{room}/race.program.0-0.failed"', "  place: 5", "  steps: |"]
+    must(f"{lines}", lines[2:10] == wanted and lines[10].startswith("    0 0 advance -> entry") and lines[15].startswith("    5 1 load"))
+    _, lines = told(room, "#! some 1 load -> value 9\n" + RACE, "--times", "40")
+    must(f"{lines}", lines[2:7] == ["  ---", "  seed: 0", "  failing: 40", "  orders: 40", "  ..."])
+
+
+def stuck_orders_fail(room):
+    """Without conditions a program fails where an order ends stuck; with some, these alone are judged."""
+    status, lines = told(room, WAKE)
+    must(f"{lines}", status == 1 and lines[1] == "not ok 1 - race.program (1000 orders)")
+    must(f"{lines}", "    - \"hart 1: line 8 'wfi': SSIP is 0, STIP is 0, SSIE is 1, STIE is 0\"" in lines)
+    status, lines = told(room, SUSPENDED)
+    must(f"{lines}", "    - \"hart 1: line 5 'ecall 0x48534d 3 0': SSIP is 1, STIP is 0, SSIE is 0, STIE is 0\"" in lines)
+    status, lines = told(room, "#! end quiet stuck\n" + WAKE)
+    must(f"{lines}", status == 0 and lines[1] == "ok 1 - race.program: line 1: end quiet stuck")
+
+
+def full_histories_are_spared(room):
+    """An order that the limit cut off is judged by its end only where the condition names that."""
+    text = RACE.replace(" 100 ", " 5 ")
+    status, lines = told(room, "#! end quiet\n#! end off history-full\n#! end history-full\n" + text, "--times", "30")
+    must(f"{lines}", status == 0 and lines[-1] == "# ends: 0 off, 30 history-full, 0 quiet, 0 stuck")
+    must("a full history ends off", told(room, "#! end history-full\n" + RACE)[0] == 1)
+
+
+def all_differences_are_told(room):
+    """A trace goes on behind a line that differs, with the board's own answer."""
+    text = "board 1 1 10 0 0x80000000 0x0\n0 advance -> gone\n0 ecall 0x10 0 -> ret 0 0x1000001 # 1.1\n0 sip -> value 0\n0 poll -> done\n"
+    status, lines = told(room, text, name="a.trace")
+    call = "0 ecall 0x10 0x0 0x0 0x0 0x0 0x0 0x0 0x0 -> ret 0 0x1000000"
+    wanted = [
+        "not ok 1 - a.trace (4 lines)", "  ---", "  differing: 3", "  lines:",
+        "    - line: 2", '      wanted: "0 advance -> gone"', '      got: "0 advance -> entry 0x80000000 0 0x0"',
+        "    - line: 3", '      wanted: "0 ecall 0x10 0 -> ret 0 0x1000001"', f'      got: "{call}"',
+        "    - line: 5", '      wanted: "0 poll -> done"', '      got: "0 poll -> refused 2"', "  ...",
+    ]  # fmt: skip
+    must(f"{lines}", status == 1 and lines[1 : 1 + len(wanted)] == wanted)
+
+
+def schedules_are_replayed(room):
+    """A schedule's own record is judged by its conditions; an end is a program's alone."""
+    text = "board 1 1 10 0 0x80000000 0x0\n0 advance\n0 poll\n0 ecall 0x10 0\n"
+    status, lines = told(room, text, name="a.sched")
+    must(f"{lines}", status == 0 and lines[1] == "ok 1 - a.sched (3 lines)")
+    status, lines = told(room, "#! each 0 ecall -> ret 0 0x1000001\n#! some 0 advance\n#! end quiet\n" + text, name="a.sched")
+    wanted = [
+        "not ok 1 - a.sched: line 1: each 0 ecall -> ret 0 0x1000001", "  ---", '  record: "./a.sched.failed"', "  place: 1", "  steps: |",
+        "    0 0 advance -> entry 0x80000000 0 0x0", "    1 0 ecall 0x10 0x0 0x0 0x0 0x0 0x0 0x0 0x0 -> ret 0 0x1000000", "  ...",
+        "ok 2 - a.sched: line 2: some 0 advance", "not ok 3 - a.sched: line 3: end quiet", "  ---", '  reason: "only a program has an end"', "  ...",
+    ]  # fmt: skip
+    must(f"{lines}", status == 1 and lines[1 : 1 + len(wanted)] == wanted)
+
+
+def statuses_are_told(room):
+    """2 for what isn't asked rightly, or isn't there yet; 7 for a record that can't be written."""
+    told(room, RACE)
+    for words in ([], ["--times"], ["--times", "x", "race.program"], ["--order", "1", "--times", "2", "race.program"], ["--jobs", "2", "race.program"]):
+        found = subprocess.run(["sbiboard", *words], executable=TESTER, cwd=room, capture_output=True, text=True, timeout=HANG)
+        must(f"{words}: {found}", found.returncode == 2 and found.stdout == "" and found.stderr.startswith("error: "))
+    told(room, "#! end off\n" + RACE)
+    found = subprocess.run(["sbiboard", "--failed", "nowhere", "race.program"], executable=TESTER, cwd=room, capture_output=True, text=True, timeout=HANG)
+    must(f"{found}", found.returncode == 7 and found.stderr.startswith("sbiboard: nowhere/race.program.0-0.failed: "))
+    with open("/dev/full", "w") as full:
+        found = subprocess.run(["sbiboard", "race.program"], executable=TESTER, cwd=room, stdout=full, stderr=subprocess.PIPE, timeout=HANG)
+    must(f"{found}", found.returncode == 7 and found.stderr.startswith(b"sbiboard: "))
+
+
+def tap_is_written_too(room):
+    """--tap writes the same points into a file, and --seconds ends by itself and says so."""
+    status, lines = told(room, f"#! end off\n{RACE}", "--tap", "points.tap", "--times", "20")
+    with open(os.path.join(room, "points.tap"), encoding="utf-8") as file:
+        must(f"{lines}", status == 1 and file.read().splitlines() == lines)
+    status, lines = told(room, RACE, "--seconds", "1", "--times", "1000000000")
+    must(f"{lines}", status == 0 and lines[-1] == "# cut short: not all orders were tried")
+    for path in ("nowhere/points.tap", "/dev/full"):
+        found = subprocess.run(["sbiboard", "--tap", path, "race.program"], executable=TESTER, cwd=room, capture_output=True, timeout=HANG)
+        must(f"{found}", found.returncode == 7 and found.stderr.startswith(b"sbiboard: "))
+
+
+def points_are_read_by_others(room):
+    """Perl's reader of points finds as many, and those that fail, by the command of the documents."""
+    if shutil.which("prove") is None:
+        raise Passed("prove is missing")
+    for condition, status in (("end quiet", 0), ("end off", 1)):
+        told(room, f"#! {condition}\n#! some 1 load\n{RACE}", "--times", "20", "--tap", "points.tap")
+        found = subprocess.run(["prove", "-e", "sed 1s/14/13/", "points.tap"], cwd=room, capture_output=True, text=True, timeout=HANG)
+        must(f"{found}", found.returncode == status and "Files=1, Tests=2" in found.stdout and "Parse errors" not in found.stdout)
+
+
+def tour():
+    """The commands of the tour on finding orders, in fours, and the text that the first of them prints."""
+    with open(os.path.join(ROOT, "docs/TOUR.md"), encoding="utf-8") as file:
+        text = file.read()
+    text = text[text.index("## Asking a question") : text.index("## Where real firmware")]
+    commands = [line.strip() for line in text.split("\n") if line.startswith("    ./sbiboard") or line.startswith("    sed ")]
+    shown = text[text.index("```\nTAP") + len("```\n") :]
+    return [commands[at : at + 4] for at in range(0, len(commands), 4)], shown[: shown.index("```")]
+
+
+def tour_is_as_written(room):
+    """The commands of the tour, as they are written: the first fails, its record agrees and is replayed, and the mended program passes."""
+    os.symlink(os.path.join(ROOT, "examples"), os.path.join(room, "examples"))
+    with open(os.path.join(room, "sbiboard"), "w") as file:
+        file.write(f'#!/bin/bash\nif [ "$1" = test ]; then shift; exec {TESTER} "$@"; fi\nexec {PROGRAM} "$@"\n')
+    os.chmod(file.name, 0o755)
+    fours, shown = tour()
+    for four in fours:
+        for command, wanted in zip(four, (1, 0, 0, 0)):
+            found = subprocess.run(["bash", "-c", command], cwd=room, capture_output=True, text=True, timeout=HANG)
+            must(f"{command}: {found.returncode}, {found.stdout[:2000]} {found.stderr}", found.returncode == wanted)
+            if "test examples/orders/lost-wakeup" in command:
+                must(f"{command}: {found.stdout}", found.stdout.startswith(shown))
+    made = {**os.environ, "PATH": f"{room}:{os.environ['PATH']}"}
+    found = subprocess.run(["examples/orders/forgotten-hart.program"], cwd=room, capture_output=True, text=True, timeout=HANG, env=made)
+    must(f"{found}", found.returncode == 1 and len(fours) == 3)
+
+
+TESTS = [
+    ("conditions are judged", conditions_are_judged), ("points are told", points_are_told), ("bad conditions are told", bad_conditions_are_told),
+    ("files that can't be tested are told", bad_files_are_told), ("all orders of small programs are met", orders_are_all_met),
+    ("a seed is one order", a_seed_is_one_order), ("failing orders are counted", failures_are_counted),
+    ("orders that end stuck fail", stuck_orders_fail), ("orders that the limit cut off are spared", full_histories_are_spared),
+    ("all differences of a trace are told", all_differences_are_told), ("schedules are replayed and judged", schedules_are_replayed),
+    ("statuses of tests", statuses_are_told), ("points are written into a file too", tap_is_written_too),
+    ("points are read by others", points_are_read_by_others), ("the tour on finding orders", tour_is_as_written),
+]  # fmt: skip
