@@ -206,8 +206,9 @@ class Follower:
             return
         why = f"put in: the guest wrote it before line {line.number}"
         sie = line.notes.get("sie")
-        if sie is None and is_suspend(line.numbers) and not self.record.has_sie and line.then is not None:
-            sie, why = READ_SIE, f"put in: the record has no sie, and the hart woke after line {line.number}"
+        if sie is None and is_suspend(line.numbers) and not self.record.has_sie:
+            woke = "woke" if line.then is not None else "may have woken"
+            sie, why = READ_SIE, f"put in: the record has no sie, and the hart {woke} after line {line.number}"
         if sie is not None and sie & READ_SIE != hart.sie:
             state.do(line.hart, ("sie", sie & READ_SIE), line.number, why)
         sstatus = line.notes.get("sstatus")
@@ -242,7 +243,19 @@ class Follower:
                 self.advance(further, hart)
                 yield further
             yield done
-        yield self.opened(state, place)
+        yield self.opened(state.copy(), place)
+        # (where its SSIP is 0, an IPI that hasn't returned may have come before, and was cleared)
+        if not self.lines[place].notes.get("sip", SSI) & SSI:
+            for moved in self.ipis_done(state, hart):
+                yield from self.ways_of_call(moved, place)
+
+    def ipis_done(self, state, hart):
+        """Each state in which an IPI to the hart that is still open is done."""
+        for other, call in state.calls.items():
+            if call.answer is None and call.op[1:3] == (IPI, 0) and hart in self.named(call.op[3:5]):
+                moved = state.copy()
+                if self.effect(moved, other) == self.shown(call.place):
+                    yield moved
 
     def effect(self, state, hart):
         """The call is done: in the moment that is chosen, between its line and its return."""
@@ -323,8 +336,9 @@ class Follower:
                 moved = state.copy()
                 self.advance(moved, hart)
                 yield moved
-            elif it.state == SUSPENDED and state.board.wakes(hart) and hart != self.lines[place].hart and self.goes_on(state, hart, place):
+            elif it.state == SUSPENDED and (state.board.wakes(hart) or self.has_no_time(state, hart)):
                 moved = state.copy()
+                self.come(moved, hart, self.lines[place].number, "shows it")
                 self.advance(moved, hart)
                 yield moved
             elif it.state in (START_PENDING, RESUME_PENDING) and hart != self.lines[place].hart and self.goes_on(state, hart, place):
@@ -334,12 +348,21 @@ class Follower:
                 moved.early[hart] = (answer, it.state == START_PENDING)
                 if answer == (self.entry_of(line) if line.kind == "entry" else ("ret", *line.numbers)):
                     yield moved
+            elif it.state == RESUME_PENDING and it.is_retentive and self.is_unseen(hart, place):
+                moved = state.copy()
+                self.advance(moved, hart)
+                yield moved
 
     def goes_on(self, state, hart, place):
         """Whether the hart's next line is the one to which its pending state leads."""
         it, line = state.board.harts[hart], self.next_line(hart, place)
         is_call = it.state != START_PENDING and it.is_retentive
         return line is not None and line.kind == ("ret" if is_call else "entry")
+
+    def is_unseen(self, hart, place):
+        """Whether the record has no more of what the hart is in: it ends before, or the hart begins anew."""
+        line = self.next_line(hart, place)
+        return line is None or line.kind == "entry"
 
     def entry_of(self, line):
         pc, a0, a1 = line.numbers
@@ -376,6 +399,16 @@ class Follower:
                     return None
         return state.do(hart, ("poll",), line.number, f"line {line.number}", ("ret", *line.numbers))
 
+    def has_no_time(self, state, hart):
+        """Whether the hart's time may have come, of which the record tells nothing."""
+        it = state.board.harts[hart]
+        return not self.record.has_times and it.sie & STI and it.deadline not in (None, ALL) and not state.board.wakes(hart)
+
+    def come(self, state, hart, number, why):
+        if self.has_no_time(state, hart):
+            ticks = state.board.harts[hart].deadline - state.board.time
+            state.do(None, ("tick", ticks), number, f"put in: the time has come, since line {number} {why}")
+
     def woken(self, state, line):
         """The suspended hart goes on, if anything wakes it: its last answer."""
         hart, it = line.hart, state.board.harts[line.hart]
@@ -383,8 +416,7 @@ class Follower:
             return state.early.pop(hart)[0]
         if it.state == SUSPEND_PENDING:
             self.advance(state, hart)
-        if not state.board.wakes(hart) and not self.record.has_times and it.sie & STI and it.deadline not in (None, ALL):
-            state.do(None, ("tick", it.deadline - state.board.time), line.number, f"put in: the time has come, since the hart wakes at line {line.number}")
+        self.come(state, hart, line.number, "is where the hart goes on")
         answer = None
         for _ in range(2):
             if state.board.harts[hart].state == SUSPENDED and not state.board.wakes(hart):
