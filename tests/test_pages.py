@@ -1,0 +1,63 @@
+"""The pages for readers: what they name is there, and they name the toolchain that proves all."""
+import glob
+import os
+import re
+import shutil
+import subprocess
+
+from harness import ROOT, Passed, Wrong
+
+# Most lines and words of the README, which is read in a few minutes.
+LINES, WORDS = 150, 1_200
+
+# A file or a folder that is named in a page, by its path from the top.
+NAMED = re.compile(r"`((?:\./)?(?:docs|examples|tests|tools|bench|crates)/[\w./*-]+)")
+TOOLCHAIN = re.compile(r"rattle-kit-\w+ logic \w+")
+
+
+def pages():
+    for path in [os.path.join(ROOT, "README.md"), *sorted(glob.glob(os.path.join(ROOT, "docs/*.md")))]:
+        with open(path, encoding="utf-8") as file:
+            yield os.path.relpath(path, ROOT), file.read()
+
+
+def is_there(name):
+    """Whether there is such a file; a name that ends in a word for any, or that a command makes, is none of the repository's."""
+    return "/out" in name or "NAME" in name or bool(glob.glob(os.path.join(ROOT, name.rstrip("./"))))
+
+
+def names(room):
+    for page, text in pages():
+        for name in NAMED.findall(text):
+            if not is_there(name):
+                raise Wrong(f"{page} names {name}, which isn't there")
+        for name in re.findall(r"`(\w+\.md)`", text):
+            if not os.path.exists(os.path.join(ROOT, "docs", name)):
+                raise Wrong(f"{page} names docs/{name}, which isn't there")
+
+
+def short(room):
+    text = dict(pages())["README.md"]
+    lines, words = text.count("\n"), len(text.split())
+    if lines > LINES or words > WORDS:
+        raise Wrong(f"the README has {lines} lines and {words} words, more than {LINES} or {WORDS}")
+    for page, _ in pages():
+        if page != "README.md" and page not in text:
+            raise Wrong(f"the README doesn't name {page}")
+
+
+def toolchain(room):
+    if shutil.which("rt") is None:
+        raise Passed("the toolchain's rt is not on the path")
+    found = subprocess.run(["rt", "version"], stdin=subprocess.DEVNULL, capture_output=True, text=True, timeout=60).stdout.strip()
+    for page, text in pages():
+        for line in TOOLCHAIN.findall(text):
+            if line != found:
+                raise Wrong(f"{page} names the toolchain {line}, and rt version prints {found}")
+
+
+TESTS = [
+    ("pages name what is there", names),
+    ("the README is short", short),
+    ("pages name the toolchain", toolchain),
+]
