@@ -8,6 +8,7 @@ use Rattle.std.specs.Option.{option_or}
 use Rattle.std.proofs.lemmas.Bool.{eqb-false, eqb-true, le-ltb, lt-ltb, ltb-false, ltb-true, ne_eqb}
 use Rattle.std.proofs.lemmas.List.{drop-append-le, drop_all, length-append, length-take, map-append, reverse-append, take-append-le, take_all}
 use Rattle.std.proofs.lemmas.List.Folds.{find-append}
+use Rattle.std.proofs.lemmas.Nat.{div-add-mod', pow_pos}
 use Rattle.tlb_model.specs.declared.cache.Numbered.{Numbered}
 use Rattle.tlb_model.specs.Contents.{Contents, filled, is_young}
 use Rattle.tlb_model.specs.Places.{kept, seen}
@@ -331,6 +332,24 @@ module _ {E : Type 0} where
           let above = ltb-false n 16 many in
           let none : 16 - length places ≡ 0 = omega (arith, full) in
           ap (λ k. seen (n - length places) k places d) none ∙ seen-none (n - length places) places d
+
+  -- none is kept of the fills that were made before these, where all were dropped
+  pub seen-behind : (n m : ℕ) (places : List E) (d : ℕ) → length places ≡ min 16 n → m ≤ length places
+      → d / 2 ^ m % 2 ^ (length places - m) ≡ 2 ^ (length places - m) - 1 → seen (n - m) (16 - m) places (d / 2 ^ m) ≡ []
+  seen-behind n m places d full few gone =
+      let k = length places - m in
+      let w = d / 2 ^ m in
+      by_room (ltb n 16) refl
+      ∙ ap (seen (n - m) k places) (sym (div-add-mod' w (2 ^ k)) ∙ omega arith)
+      ∙ seen-high (n - m) k (w / 2 ^ k) places (w % 2 ^ k)
+      ∙ seen-dropped (n - m) k places (w % 2 ^ k) (omega (arith, gone, pow_pos k))
+    where
+      by_room : (b : Bool) → ltb n 16 ≡ b → seen (n - m) (16 - m) places (d / 2 ^ m) ≡ seen (n - m) (length places - m) places (d / 2 ^ m)
+      by_room true young = let below = ltb-true n 16 young in seen-all (n - m) (16 - m) (length places - m) places (d / 2 ^ m) (omega arith) (omega (arith, full))
+      by_room false old =
+          let above = ltb-false n 16 old in
+          let all : 16 - m ≡ length places - m = omega (arith, full) in
+          ap (λ k. seen (n - m) k places (d / 2 ^ m)) all
 
   -- what is left to show, from the oldest on: the fill of this number first, or not where it was dropped
   pub live-first : (n k m : ℕ) (places : List E) (d : ℕ) (item : E) → m + suc k ≡ n → slice_get places (m % 16) ≡ Some item → d / 2 ^ k % 2 ≡ 0

@@ -1,4 +1,4 @@
-ghost use Rattle.std.specs.Prelude.{◌≡◌, ◌<◌, ◌≤◌, ◌^◌, Bool, find, length, reverse};
+ghost use Rattle.std.specs.Prelude.{◌≡◌, ◌-◌, ◌/◌, ◌%◌, ◌<◌, ◌≤◌, ◌^◌, Bool, find, length, reverse};
 ghost use Rattle.tlb_model.specs.Contents.{cleared, empty, fenced, filled, hit};
 
 use crate::fence::Flush;
@@ -119,14 +119,16 @@ impl<E: Cached> Cache<E> {
     pub fn apply(&mut self, flush: Flush)
         ensures { self.new ≡ fenced E.covers self.old flush }
     {
-        let mut dropped = 0;
-        for age in (0..self.places.len() as u64).rev() {
+        // (most often nothing lives here, or what was filled last alone)
+        let looked_at = up_to_the_oldest(self.places.len() as u64, self.dropped);
+        let mut dropped = u32::from(self.dropped) >> looked_at;
+        for age in (0..looked_at).rev() {
             let number = self.next - 1 - age;
             let item = &self.places[(number % 16) as usize];
             let is_dropped = (self.dropped >> age) % 2 == 1 || item.is_covered_by(flush);
-            dropped = dropped * 2 + u16::from(is_dropped);
+            dropped = dropped * 2 + u32::from(is_dropped);
         }
-        self.dropped = dropped;
+        self.dropped = dropped as u16;
     }
 
     /// Drops everything, as a stop of the hart or a reset does (profile).
@@ -150,6 +152,17 @@ impl<E: Cached> Cache<E> {
     {
         Live::of(&self.places, self.dropped, self.next)
     }
+}
+
+/// Of so many last fills, those up to the oldest one that isn't dropped: how many they are.
+fn up_to_the_oldest(fills: u64, dropped: u16) -> u64
+    requires { fills ≤ 16 }
+    ensures few { result ≤ fills }
+    ensures others { dropped / 2 ^ result % 2 ^ (fills - result) ≡ 2 ^ (fills - result) - 1 }
+{
+    // (a bit for each of them that is live)
+    let live = u32::from(u16::MAX - dropped) % (1 << fills);
+    u64::from(32 - live.leading_zeros())
 }
 
 /// Of the items that are this key's, the last one.

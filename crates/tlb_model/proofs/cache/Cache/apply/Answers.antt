@@ -1,9 +1,10 @@
-use Rattle.std.proofs.Common.{◌≡◌, ◌-◌, ◌/◌, ◌%◌, ◌^◌, ◌<◌, ◌*◌, ◌+◌, ◌||◌, ◌==◌, Some, cond, filter, get_or, length, not, slice_get, suc, ap, sym, ◌∙◌, arith}
-use Rattle.std.proofs.lemmas.Nat.{pow_pos}
+use Rattle.std.proofs.Common.{◌≡◌, ◌-◌, ◌/◌, ◌%◌, ◌^◌, ◌<◌, ◌≤◌, ◌*◌, ◌+◌, ◌||◌, ◌==◌, Some, [], cond, filter, get_or, length, not, slice_get, suc, ap, sym, ◌∙◌, arith}
+use Rattle.std.proofs.Math.Nat.{div-lt_iff_lt-mul}
+use Rattle.std.proofs.lemmas.Nat.{pow-add, pow_pos}
 use Rattle.std.proofs.lemmas.Option.{slice_get-get_or}
 use Rattle.tlb_model.specs.declared.cache.Numbered.{Numbered}
 use Rattle.tlb_model.specs.Places.{seen}
-use Rattle.tlb_model.proofs.Places.{double-below, fenced-more, from_bool-bit, half-pow, is_one, isnt_one, not-not, one_or_none, seen-rest}
+use Rattle.tlb_model.proofs.Places.{double-below, fenced-more, from_bool-bit, half-pow, is_one, isnt_one, not-not, one_or_none, seen-behind}
 use Rattle.tlb_model.proofs.cache.Cache.apply.Goals as goal
 use Rattle.tlb_model.proofs.cache.Cache.apply.Goals.{then-self-age-eq1, else-self-age-eq1}
 
@@ -11,12 +12,18 @@ pub loop-age-init : goal.loop-age-init
 loop-age-init g c =
     let n = c.self.inside.next in
     let places = c.self.inside.places.items in
-    let long : c.len-age.result ≡ length places = c.len-age.ensures.value in
-    rw long (
-      seen-rest n places 0 c.self.invariant ∙ sym (ap (filter (λ (fill : Numbered g.row.E.Denot). not (g.E.Cached.covers c.args.flush fill.item))) (seen-rest n places (c.self.inside.dropped / 2 ^ length places) c.self.invariant)),
-      pow_pos (16 - length places),
-      omega arith,
-    )
+    let d = c.self.inside.dropped in
+    let m = c.up_to_the_oldest-looked_at.result in
+    let keeps = λ (fill : Numbered g.row.E.Denot). not (g.E.Cached.covers c.args.flush fill.item) in
+    let few : m ≤ length places = omega (arith, c.up_to_the_oldest-looked_at.ensures.few, c.len.ensures.value) in
+    let gone : d / 2 ^ m % 2 ^ (length places - m) ≡ 2 ^ (length places - m) - 1 =
+    ap (λ k. d / 2 ^ m % 2 ^ (k - m)) (sym c.len.ensures.value) ∙ c.up_to_the_oldest-looked_at.ensures.others
+    ∙ ap (λ k. 2 ^ (k - m) - 1) c.len.ensures.value in
+    let none : seen (n - m) (16 - m) places (d / 2 ^ m) ≡ [] = seen-behind n m places d c.self.invariant few gone in
+    let room : 16 ≡ 16 - m + m = omega (arith, few, c.self.invariant) in
+    let word : 65536 ≡ 2 ^ (16 - m) * 2 ^ m = ap (λ j. 2 ^ j) room ∙ pow-add 2 (16 - m) m in
+    let below : d / 2 ^ m < 2 ^ (16 - m) = (div-lt_iff_lt-mul (pow_pos m)).1 (omega (arith, word, c.self.ranges.1.1)) in
+    rw c.from.ensures (none ∙ sym (ap (filter keeps) none), below, few)
 
 pub loop-age-preserved : goal.loop-age-preserved
 loop-age-preserved g c =
@@ -35,7 +42,7 @@ loop-age-preserved g c =
     let is : item ≡ get_or places ((n - age) % 16) item =
     c.index-deref-number.is ∙ ap (λ xs. get_or xs ((n - 1 - (age - 1)) % 16) item) c.deref.ensures.0 ∙ ap (λ q. get_or places (q % 16) item) number in
     let here : slice_get places ((n - age) % 16) ≡ Some item = slice_get-get_or places ((n - age) % 16) item within ∙ ap Some (sym is) in
-    let bit : c.from.result ≡ cond gone 1 0 = c.from.ensures ∙ from_bool-bit gone in
+    let bit : c.from-in-loop-age.result ≡ cond gone 1 0 = c.from-in-loop-age.ensures ∙ from_bool-bit gone in
     let which : gone ≡ (d % 2 == 1) || not (not covered) =
     elim c.if-self-age-eq1.branch [
       | then-self-age-eq1 w ↦
