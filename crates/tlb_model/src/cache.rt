@@ -89,8 +89,9 @@ impl<E: Cached> Cache<E> {
     fn latest_kept(&self, key: E::Key) -> Option<E>
         ensures { result ≡ hit E.holds key self.now }
     {
+        let looked_at = up_to_the_oldest(self.places.len() as u64, self.dropped);
         let mut dropped = self.dropped;
-        for age in 0..self.places.len() as u64 {
+        for age in 0..looked_at {
             let number = self.next - 1 - age;
             let item = &self.places[(number % 16) as usize];
             if dropped % 2 == 0 && item.holds(key) {
@@ -155,6 +156,7 @@ impl<E: Cached> Cache<E> {
 }
 
 /// Of so many last fills, those up to the oldest one that isn't dropped: how many they are.
+#[inline(always)]
 fn up_to_the_oldest(fills: u64, dropped: u16) -> u64
     requires { fills ≤ 16 }
     ensures few { result ≤ fills }
