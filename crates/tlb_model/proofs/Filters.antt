@@ -1,7 +1,9 @@
 -- Lists that are filtered twice, mapped, turned round or searched.
-use Rattle.std.proofs.Common.{◌≡◌, Bool, true, false, cond, ◌&&◌, List, [], ◌∷◌, ◌++◌, refl, sym, ap, ◌∙◌, Some}
+use Rattle.std.proofs.Common.{◌≡◌, Bool, true, false, cond, not, ◌&&◌, List, [], ◌∷◌, ◌++◌, refl, sym, ap, ◌∙◌, Some}
 use Rattle.std.specs.Prelude.{filter, find, map, option_map, reverse}
 use Rattle.std.specs.List.{All}
+use Rattle.tlb_model.specs.declared.cache.Numbered.{Numbered}
+use Rattle.tlb_model.specs.Contents.{Contents, fenced}
 use Rattle.std.proofs.lemmas.List.{append-nil, reverse-append}
 use Rattle.std.proofs.lemmas.List.Elements.{All-head, All-tail, filter-append}
 
@@ -51,3 +53,12 @@ find-map f g h same p (x ∷ xs) = by_test (p (f x)) (find-map f g h same p xs)
         → option_map g (cond b (Some (f x)) (find p (map f xs))) ≡ option_map h (cond b (Some x) (find (λ y. p (f y)) xs))
     by_test true rest = ap Some (same x)
     by_test false rest = rest
+
+-- a fence that covers nothing of a cache leaves it as it is
+pub fenced-none : {E F : Type 0} (covers : F → E → Bool) (flush : F) (cache : Contents E) → ((item : E) → covers flush item ≡ false)
+    → cache ≡ fenced covers cache flush
+fenced-none {E} covers flush cache none = ap (λ (live : List (Numbered E)). record cache { live = live }) (sym (kept cache.live))
+  where
+    kept : (fills : List (Numbered E)) → filter (λ (fill : Numbered E). not (covers flush fill.item)) fills ≡ fills
+    kept [] = refl
+    kept (fill ∷ fills) = rw (none fill.item) (ap (λ (others : List (Numbered E)). fill ∷ others) (kept fills))

@@ -34,13 +34,15 @@ impl Caches {
         }
     }
 
-    /// Drops exactly what this covers, in either cache.
+    /// Drops exactly what this covers, in either cache: a fence of translations covers no word, and one of words no translation.
     pub fn apply(&mut self, flush: Flush)
         ensures tlb { self.new.tlb ≡ fenced covers_entry self.old.tlb flush }
         ensures words { self.new.words ≡ fenced covers_word self.old.words flush }
     {
-        self.tlb.apply(flush);
-        self.words.apply(flush);
+        match flush {
+            Flush::Words => self.words.apply(flush),
+            Flush::Entries(_) => self.tlb.apply(flush),
+        }
     }
 
     /// Drops everything in both, as a stop of the hart or a reset does (profile).
