@@ -27,13 +27,11 @@ impl Fenced<Flush> for Caches {
     ghost emptied = { emptied_of };
 
     fn apply(&mut self, flush: Flush) {
-        self.tlb.apply(flush);
-        self.words.apply(flush);
+        Caches::apply(self, flush);
     }
 
     fn clear(&mut self) {
-        self.tlb.clear();
-        self.words.clear();
+        Caches::clear(self);
     }
 }
 
