@@ -1,4 +1,4 @@
-ghost use Rattle.std.specs.Prelude.{◌≡◌, ◌<◌, ◌≤◌, ◌-◌, ◌^◌, false, length, nat_le, IfOk, if◌then◌else◌, Some, None, is_ok, is_some, unwrap_or};
+ghost use Rattle.std.specs.Prelude.{◌≡◌, ◌<◌, ◌≤◌, ◌-◌, ◌^◌, false, length, nat_le, IfOk, if◌then◌else◌, Some, None, is_ok, is_some, replicate, unwrap_or, vec_capacity};
 ghost use Rattle.std.specs.List.{All};
 ghost use Rattle.interrupts.specs.declared.ahead.Member.{Member};
 ghost use Rattle.interrupts.specs.Ahead.{IsLater, without_hart};
@@ -31,7 +31,7 @@ pub struct Timers {
 }
 
 impl Model for Timers {
-    ghost use Rattle.std.specs.Prelude.{◌≤◌};
+    ghost use Rattle.std.specs.Prelude.{◌≡◌, ◌≤◌, vec_capacity, vec_len};
     ghost use Rattle.interrupts.specs.Timing.{Timing, last_time};
     ghost use Rattle.interrupts.specs.Ahead.{IsLater};
     ghost use Rattle.interrupts.specs.Listed.{IsListed};
@@ -42,7 +42,8 @@ impl Model for Timers {
 
     ghost invariant = { λ t. (t.time ≤ last_time)
         × IsListed t.time t.deadlines.items t.ahead t.due
-        × IsLater t.time t.ahead };
+        × IsLater t.time t.ahead
+        × (vec_capacity t.deadlines ≡ vec_len t.deadlines) };
 }
 
 impl Timers {
@@ -53,7 +54,7 @@ impl Timers {
         if harts > 128 {
             return Err(AllocError);
         }
-        let deadlines = vec![in alloc; None; harts as usize]?;
+        let deadlines = no_deadlines(alloc, harts)?;
         Ok(Timers {
             time: 0,
             deadlines,
@@ -150,6 +151,18 @@ impl Timers {
         self.ahead.clear();
         self.due = HartSet::new();
     }
+}
+
+/// So many harts, none of which has a deadline, in the room that they take. It fails where memory runs out.
+fn no_deadlines(alloc: Global, harts: u64) -> Result<Vec<Option<u64>>, AllocError>
+    ensures items { IfOk result (λ deadlines. deadlines.items ≡ replicate harts None) }
+    ensures room { IfOk result (λ deadlines. vec_capacity deadlines ≡ harts) }
+{
+    let mut deadlines = Vec::with_capacity(alloc, harts as usize)?;
+    for _ in 0..harts {
+        deadlines.push_reserved(None);
+    }
+    Ok(deadlines)
 }
 
 /// Takes out the deadline of hart `h`, where it is in the list.

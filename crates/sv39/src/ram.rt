@@ -1,4 +1,4 @@
-ghost use Rattle.std.specs.Prelude.{◌≡◌, ◌≤◌, ◌-◌, ◌/◌, IfOk, IsTrue, Some, is_some};
+ghost use Rattle.std.specs.Prelude.{◌≡◌, ◌≤◌, ◌-◌, ◌/◌, IfOk, IsTrue, Some, is_some, replicate, vec_capacity};
 ghost use Rattle.sv39.specs.Memory.{is_in_ram, pages_of, word_in, written, zero_memory};
 
 use std::alloc::{AllocError, Global};
@@ -17,14 +17,14 @@ pub struct Ram {
 }
 
 impl Model for Ram {
-    ghost use Rattle.std.specs.Prelude.{List, ℕ};
+    ghost use Rattle.std.specs.Prelude.{◌≡◌, List, ℕ, vec_capacity, vec_len};
     ghost use Rattle.sv39.specs.Memory.{IsRam};
 
     ghost Value = { List ℕ };
 
     ghost view = { λ ram. ram.words.items };
 
-    ghost invariant = { λ ram. IsRam ram.words.items };
+    ghost invariant = { λ ram. IsRam ram.words.items × (vec_capacity ram.words ≡ vec_len ram.words) };
 }
 
 impl Ram {
@@ -35,17 +35,8 @@ impl Ram {
         ensures words { IfOk result (λ ram. word_in ram ≡ zero_memory pages) }
         ensures pages { IfOk result (λ ram. pages_of ram ≡ pages) }
     {
-        let words = vec![in alloc; 0; PAGE_WORDS * pages as usize]?;
+        let words = zeros(alloc, PAGE_WORDS * pages as usize)?;
         Ok(Ram { words })
-    }
-
-    /// How many pages there are.
-    pub fn pages(&self) -> u64
-        ensures pages { result ≡ pages_of self.now }
-        ensures some { 1 ≤ result }
-        ensures limit { result ≤ 256 }
-    {
-        (self.words.len() / PAGE_WORDS) as u64
     }
 
     /// Whether a word of the RAM stands at the address, which then is aligned to 8 and not outside the RAM.
@@ -85,6 +76,18 @@ impl Ram {
     {
         self.words.fill(0);
     }
+}
+
+/// So many words, each of which is 0, in the room that they take. It fails where memory runs out.
+fn zeros(alloc: Global, count: usize) -> Result<Vec<u64>, AllocError>
+    ensures items { IfOk result (λ words. words.items ≡ replicate count 0) }
+    ensures room { IfOk result (λ words. vec_capacity words ≡ count) }
+{
+    let mut words = Vec::with_capacity(alloc, count)?;
+    for _ in 0..count {
+        words.push_reserved(0);
+    }
+    Ok(words)
 }
 
 /// The place of the word at an address among the RAM's words.

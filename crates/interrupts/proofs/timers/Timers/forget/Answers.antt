@@ -14,4 +14,5 @@ invariant_of-self c =
       kept.0,
       rw (c.take_out_where.ensures, c.remove.ensures, so) (listed-forgotten at.time at.deadlines.items at.ahead at.due c.args.h (omega (arith, long, c.requires)) kept.1 kept.2),
       rw c.take_out_where.ensures (later-without at.time c.is_ahead-is_ahead.result c.args.h at.ahead kept.2),
+      kept.3,
     )

@@ -24,7 +24,7 @@ invariant_of-self c =
     let at = c.self.inside in
     let was = forgotten c.args.self.now _ c.args.h (c.self.view_is ∙ c.forget.ensures) c.requires in
     let free = unset at.time at.deadlines.items at.ahead at.due c.args.h was.inside was.none kept.1 kept.2 in
-    (kept.0, rw c.insert.ensures (listed-due at.time at.deadlines.items at.ahead at.due c.args.h c.args.deadline was.inside c.if-deadline-self.true free.1 kept.1), kept.2)
+    (kept.0, rw c.insert.ensures (listed-due at.time at.deadlines.items at.ahead at.due c.args.h c.args.deadline was.inside c.if-deadline-self.true free.1 kept.1), kept.2, kept.3)
 
 pub insert-requires-else-deadline-self : goal.insert-requires-else-deadline-self
 insert-requires-else-deadline-self c =
@@ -44,6 +44,7 @@ invariant_of-self-else-deadline-self c =
       kept.0,
       listed-ahead at.time at.deadlines.items at.ahead _ at.due c.args.h c.args.deadline was.inside free.0 free.1 kept.1 put,
       later-inserted at.time at.ahead _ c.args.h c.args.deadline c.if-deadline-self.false kept.2 put,
+      kept.3,
     )
 
 pub returns-then-deadline-self-clause-after : goal.returns-then-deadline-self-clause-after
