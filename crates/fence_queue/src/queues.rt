@@ -118,7 +118,7 @@ impl<F: Copy> Queues<F> {
     pub fn position(&self, t: u64, from: u64) -> u64
         ensures { result ≡ position_of (is_from from) (queue_at self.now t) }
     {
-        if t >= self.harts() {
+        if t >= self.rings.len() as u64 {
             return 0;
         }
         let ring = &self.rings[t as usize];
@@ -133,14 +133,6 @@ impl<F: Copy> Queues<F> {
         ensures { result ≡ sum_by length self.now }
     {
         self.total
-    }
-
-    /// How many harts there are; at most 128 (profile).
-    pub fn harts(&self) -> u64
-        ensures count { result ≡ length self.now }
-        ensures limit { length self.now ≤ 128 }
-    {
-        self.rings.len() as u64
     }
 }
 

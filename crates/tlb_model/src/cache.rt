@@ -139,13 +139,6 @@ impl<E: Cached> Cache<E> {
         self.dropped = u16::MAX;
     }
 
-    /// The number of the next fill: how many were made.
-    pub fn fills(&self) -> u64
-        ensures { result ≡ self.now.next }
-    {
-        self.next
-    }
-
     /// What is live, in the order of filling.
     pub fn live(&self) -> Live<'_, E>
         ensures live { reverse result ≡ self.now.live }

@@ -36,16 +36,6 @@ pub struct Fence {
 }
 
 impl Fence {
-    /// The fence of everything.
-    pub fn full() -> Fence
-        ensures { result ≡ record { asid = None; range = None } }
-    {
-        Fence {
-            asid: None,
-            range: None,
-        }
-    }
-
     /// The fence that an SFENCE.VMA makes of its operands, each None where it is x0: of this address alone, and of the
     /// address space in the low 16 bits (Privileged 4.2.1). An address that isn't valid is of no page.
     pub fn of_address(va: Option<u64>, asid: Option<u64>) -> Fence
