@@ -22,6 +22,8 @@ use Rattle.board_core.specs.declared.event.Op.{Op}
 use Rattle.board_core.specs.declared.event.Op.TheVariants as ops
 use Rattle.board_core.specs.declared.event.Reply.{Reply}
 use Rattle.board_core.specs.declared.event.Reply.TheVariants as replies
+use Rattle.board_core.specs.declared.phase.Phase.{Phase}
+use Rattle.board_core.specs.declared.phase.Phase.TheVariants.{Outside, Inside}
 use Rattle.board_core.specs.History.{Event}
 use Rattle.board_core.specs.Interrupts.{is_target}
 use Rattle.board_core.specs.States.{state}
@@ -83,6 +85,11 @@ abbrev pub turns : Config → List Event → List (Turn Flush)
 turns c [] = []
 turns c (event ∷ past) = turn_of c past event.actor event.op event.reply ∷ turns c past
 
+-- whether a hart is inside a fence call, by the harts that its call waits for
+abbrev pub phase_by : Option (List ℕ) → Phase
+phase_by None = Outside
+phase_by (Some harts) = Inside
+
 module _ (c : Config) (past : List Event) where
   -- The fences that wait at a hart, the one first that it serves first: each with its caller, and what it drops.
   abbrev pub waiting : ℕ → List (Request Flush)
@@ -91,3 +98,7 @@ module _ (c : Config) (past : List Event) where
   -- The harts that a hart's fence call waits for, as ascending ids, while it is inside one.
   abbrev pub outstanding : ℕ → Option (List ℕ)
   outstanding h = in_call (calls.open_call (turns c past) h) (calls.outstanding c.harts (turns c past) h)
+
+  -- Whether a hart is inside a fence call (SBI 8; that a call waits: profile).
+  abbrev pub phase : ℕ → Phase
+  phase h = phase_by (outstanding h)

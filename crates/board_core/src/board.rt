@@ -14,7 +14,7 @@ ghost use Rattle.board_core.specs.ErrorLaw.{LooksSame, is_error};
 ghost use Rattle.board_core.specs.Interrupts.{deadline, ssip, stip, time, wake};
 ghost use Rattle.board_core.specs.Limits.{IsGood};
 ghost use Rattle.board_core.specs.Memory.{memory, satp, tlb_acts, word_acts};
-ghost use Rattle.board_core.specs.Fences.{outstanding, waiting};
+ghost use Rattle.board_core.specs.Fences.{outstanding, phase, waiting};
 ghost use Rattle.board_core.specs.Need.{need};
 ghost use Rattle.board_core.specs.Refusals.{first_that_holds, is_full, refusals_in, situation};
 ghost use Rattle.board_core.specs.Resets.{is_off, last_reset};
@@ -32,6 +32,7 @@ use crate::event::{Actor, Event, Op, Refusal, Reply, access_of};
 use crate::interrupt_state::Interrupts;
 use crate::machine::Machine;
 use crate::memory::Memory;
+use crate::phase::Phase;
 use hart_access::Access;
 use hart_mask::HartSet;
 use hsm::{HartState, Hsm, Kept};
@@ -68,7 +69,7 @@ pub struct Board {
 }
 
 impl Model for Board {
-    ghost use Rattle.std.specs.Prelude.{◌≤◌, reverse, vec_capacity};
+    ghost use Rattle.std.specs.Prelude.{◌≡◌, reverse, vec_capacity};
     ghost use Rattle.board_core.specs.Course.{Course};
 
     ghost Value = { Course };
@@ -78,7 +79,7 @@ impl Model for Board {
     ghost view = { λ b. record { config = b.config; past = reverse b.events.items } };
 
     ghost invariant = { λ b. IsKept b.config (reverse b.events.items)
-        × StandsFor b.config (reverse b.events.items) b.machine × (b.config.limit ≤ vec_capacity b.events) };
+        × StandsFor b.config (reverse b.events.items) b.machine × (vec_capacity b.events ≡ b.config.limit) };
 }
 
 impl Board {
@@ -197,9 +198,10 @@ impl Board {
         self.events.len() as u64 == self.config.limit
     }
 
-    /// The accepted events, oldest first: a legal history, within the limit.
+    /// The accepted events, oldest first: a legal history of a good opening, within the limit.
     pub fn history(&self) -> &[Event]
         ensures events { reverse result.now ≡ self.now.past }
+        ensures good { IsGood self.now.config }
         ensures legal { IsLegal self.now.config self.now.past }
         ensures within { length result.now ≤ self.now.config.limit }
     {
@@ -321,6 +323,17 @@ impl Board {
         ensures limit { result < self.now.config.harts }
     {
         self.machine.fences.len(h)
+    }
+
+    /// Whether hart `h` is inside a fence call (SBI 8; that a call waits: profile).
+    pub fn phase(&self, h: u64) -> Phase
+        requires { h < self.now.config.harts }
+        ensures { result ≡ phase self.now.config self.now.past h }
+    {
+        match self.outstanding(h) {
+            None => Phase::Outside,
+            Some(_) => Phase::Inside,
+        }
     }
 
     /// The harts that the fence call of hart `h` waits for; None outside of a fence call.

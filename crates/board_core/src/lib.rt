@@ -13,6 +13,7 @@ mod interrupt_state;
 mod keeping;
 mod machine;
 mod memory;
+mod phase;
 
 pub use board::{Board, Totals, errors_change_nothing, starts_are_entered};
 pub use config::{BuildFault, Config};
@@ -21,6 +22,7 @@ pub use event::{Actor, Event, Op, Refusal, Reply};
 pub use fence_queue::Request;
 pub use hart_mask::HartSet;
 pub use hsm::{HartState, Kept};
+pub use phase::Phase;
 pub use rfence::Waiting;
 pub use sbi_abi::{Reset, ResetKind};
 pub use sv39::Cause;
