@@ -2,6 +2,7 @@ pub mod ArgumentsIn
 pub mod BoardLine
 pub mod DigitValues
 pub mod Drafted
+pub mod FaultPlaces
 pub mod FaultsFound
 pub mod LineWords
 pub mod LinesFrom

@@ -23,13 +23,13 @@ none_mapped f (Some x) none = absurd cc
 
 -- what holds of line n, and of the lines after it
 module _ (n : ℕ) (text : List ℕ) (tests : List (Bool × Fault)) (more : List (Bool × ScriptFault)) where
-  line_tested : NoneHolds (at_line n (byte_test text ∷ tests) ++ more) → IsLine text (words_in text) × NoneHolds tests × NoneHolds more
+  pub line_tested : NoneHolds (at_line n (byte_test text ∷ tests) ++ more) → IsLine text (words_in text) × NoneHolds tests × NoneHolds more
   line_tested none =
       let parts = none_parts (at_line n (byte_test text ∷ tests)) more none in
       let line = none_first (byte_test text) tests (none_mapped _ _ (sym (first_at_line n (byte_test text ∷ tests)) ∙ parts.0)) in
       (line_has_words text (not-false _ line.0), line.1, parts.1)
 
-  line_passes : (words : List (List ℕ)) → IsLine text words → NoneHolds tests → NoneHolds more → NoneHolds (at_line n (byte_test text ∷ tests) ++ more)
+  pub line_passes : (words : List (List ℕ)) → IsLine text words → NoneHolds tests → NoneHolds more → NoneHolds (at_line n (byte_test text ∷ tests) ++ more)
   line_passes words line none later =
       let bytes = not_from_true _ (line_allowed text words line) in
       let first = first_at_line n (byte_test text ∷ tests) ∙ ap (option_map (λ f. record { line = n; fault = f })) (none_cons (byte_test text) tests bytes none) in
@@ -50,7 +50,7 @@ lines_tested n draft (text ∷ texts) none =
     let line = line_tested n text (line_tests draft (words_in text)) (lines_tests (n + 1) next texts) none in
     first_line n draft text texts (words_in text) refl line.0 line.1 (lines_tested (n + 1) next texts line.2)
 
-lines_pass : (n : ℕ) (draft : Draft) (texts : List (List ℕ)) (last : Draft) → AreLines n draft texts last → NoneHolds (lines_tests n draft texts) × (draft_in n draft texts ≡ last)
+pub lines_pass : (n : ℕ) (draft : Draft) (texts : List (List ℕ)) (last : Draft) → AreLines n draft texts last → NoneHolds (lines_tests n draft texts) × (draft_in n draft texts ≡ last)
 lines_pass n draft [] last lines = (refl, sym lines)
 lines_pass n draft (text ∷ texts) last (inl (line, later)) =
     let rest = lines_pass (n + 1) draft texts last later in

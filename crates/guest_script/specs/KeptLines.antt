@@ -1,10 +1,10 @@
 -- Lines as they are kept.
-use Rattle.std.specs.Prelude.{ℕ, ◌+◌, ◌≤◌, List, take, drop, map}
+use Rattle.std.specs.Prelude.{◌≡◌, ℕ, ◌+◌, ◌^◌, ◌<◌, ◌≤◌, List, [], ◌∷◌, take, drop, length, map, is_some}
 use Rattle.std.specs.List.{AllByRecursion}
 use Rattle.guest_script.specs.declared.kept.Kept.{Kept}
 use Rattle.guest_script.specs.declared.plain.Plain.{Plain}
 use Rattle.guest_script.specs.declared.script.Line.{Line}
-use Rattle.guest_script.specs.Packing.{actor_made, op_made, said_count, said_made}
+use Rattle.guest_script.specs.Packing.{FitsKept, actor_made, op_made, said_count, said_made}
 
 -- so many numbers from a place on
 abbrev pub part : List ℕ → (from count : ℕ) → List ℕ
@@ -32,3 +32,17 @@ AreWithin count kept = AllByRecursion (IsWithin count) kept
 -- the line that parts make
 abbrev pub plain_line : (number : ℕ) → Plain → (numbers : List ℕ) → Line
 plain_line number plain numbers = record { number = number; actor = plain.actor; op = op_made plain.op numbers; said = plain.said }
+
+-- The line says what was given where the first of these lines does, and there alone: a trace's lines all do, and a schedule's
+-- none.
+abbrev pub IsLike : List Line → Line → Type 0
+IsLike [] line = Unit {0}
+IsLike (first ∷ lines) line = is_some first.said ≡ is_some line.said
+
+-- A line can follow these: it is of their kind, its hart is at most 127, and its number and how many there are lie below 2^28
+-- (profile).
+pub record CanFollow (lines : List Line) (line : Line) : Type 0 where
+  pub few : length lines < 2 ^ 28
+  pub number : line.number < 2 ^ 28
+  pub actor : FitsKept line.actor
+  pub like : IsLike lines line

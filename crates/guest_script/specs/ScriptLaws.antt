@@ -1,9 +1,48 @@
--- What holds of scripts as text: each has one reading (profile).
-use Rattle.std.specs.Prelude.{◌≡◌, ◌↔◌, ℕ, List, None}
-use Rattle.guest_script.specs.Grammar.{Reads, Written}
+-- What holds of scripts as text: each has one reading, and a first fault is at the first line that is none of a script's
+-- (profile).
+use Rattle.std.specs.Prelude.{◌≡◌, ◌↔◌, ◌⊎◌, ℕ, ◌+◌, ◌<◌, ◌≤◌, List, [], ◌∷◌, ◌++◌, length, None}
+use Rattle.std.specs.Str.Lines.{lines}
+use Rattle.board_core.specs.declared.config.Config.{Config}
+use Rattle.guest_script.specs.declared.fault.Fault.TheVariants.{NoBoardLine, TooLong}
+use Rattle.guest_script.specs.declared.fault.ScriptFault.{ScriptFault}
+use Rattle.guest_script.specs.Words.{IsLine}
+use Rattle.guest_script.specs.Grammar.{AreLines, Draft, IsBoard, Nothing, Reads, Written, most_bytes}
 use Rattle.guest_script.specs.FirstFault.{first_fault}
 
 -- Bytes are one schedule at most, and they are one exactly where there is no first fault.
 pub record HasOneReading (bytes : List ℕ) : Type 0 where
   pub at_most_one : (s t : Written) → Reads bytes s → Reads bytes t → s ≡ t
   pub script_or_fault : ((s : Written) × Reads bytes s) ↔ (first_fault bytes ≡ None)
+
+-- ---- where a first fault is
+
+-- A line of those from line n on is the first that is none: those before it say something, and nothing is said with it.
+pub record IsFirstWrong (n : ℕ) (draft : Draft) (texts : List (List ℕ)) (wrong : ℕ) : Type 0 where
+  pub before : List (List ℕ)
+  pub text : List ℕ
+  pub after : List (List ℕ)
+  pub parts : texts ≡ before ++ text ∷ after
+  pub place : wrong ≡ n + length before
+  pub said : Draft
+  pub are_lines : AreLines n draft before said
+  pub none_with_it : (next : Draft) → AreLines wrong said (text ∷ []) next → ⊥
+
+-- The text has words, or a byte that no line has; and it is no board's line.
+pub record IsNoBoard (text : List ℕ) : Type 0 where
+  pub filled : IsLine text [] → ⊥
+  pub other : (words : List (List ℕ)) (config : Config) → IsLine text words → IsBoard words config → ⊥
+
+-- The fault is at the first line, from line n on, that is none of a script's, whose first line with words is the board's. Where
+-- no line has words it is at none.
+abbrev pub IsAtFirstWrong : (n : ℕ) → List (List ℕ) → ScriptFault → Type 0
+IsAtFirstWrong n [] e = e ≡ record { line = 0; fault = NoBoardLine }
+IsAtFirstWrong n (text ∷ texts) e =
+    (IsLine text [] × IsAtFirstWrong (n + 1) texts e)
+    ⊎ ((words : List (List ℕ)) × (config : Config) × IsLine text words × IsBoard words config × IsFirstWrong (n + 1) Nothing texts e.line)
+    ⊎ ((e.line ≡ n) × IsNoBoard text)
+
+-- A fault is that the script is too long, or else is at its first wrong line.
+abbrev pub IsPlaced : List ℕ → ScriptFault → Type 0
+IsPlaced bytes e =
+    ((most_bytes < length bytes) × (e ≡ record { line = 0; fault = TooLong }))
+    ⊎ ((length bytes ≤ most_bytes) × IsAtFirstWrong 1 (lines bytes) e)

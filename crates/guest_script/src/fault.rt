@@ -84,6 +84,13 @@ pub struct ScriptFault {
 }
 
 impl ScriptFault {
+    /// The number of what is wrong (profile).
+    pub fn number(self) -> u64
+        ensures { result ≡ fault_number self.fault }
+    {
+        self.fault.number()
+    }
+
     /// What is wrong with a line; the want of memory is none of a line's.
     pub(crate) fn at(line: u64, fault: Fault) -> ScriptFault
         ensures { result ≡ located_fault line fault }

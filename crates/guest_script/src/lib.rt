@@ -29,8 +29,8 @@ mod words;
 
 pub use fault::{Fault, ScriptFault};
 pub use kept_line::KeptLine;
-pub use laws::one_reading;
-pub use lines::{Lines, LinesIter};
+pub use laws::{faults_are_first, one_reading};
+pub use lines::{LineFault, Lines, LinesIter};
 pub use number::{number as unsigned_number, signed_number};
 pub use parsing::parse;
 pub use reader::Reader;

@@ -1,7 +1,8 @@
-ghost use Rattle.std.specs.Prelude.{◌≡◌, ◌==◌, ◌++◌, ◌∷◌, [], ◌*◌, ◌+◌, ◌<◌, ◌≤◌, ◌^◌, List, OnOk, length, slice_get, vec_len};
+ghost use Rattle.std.specs.Prelude.{◌≡◌, ◌↔◌, ◌==◌, ◌++◌, ◌∷◌, [], ◌*◌, ◌+◌, ◌<◌, ◌≤◌, ◌^◌, true, IsErrOf, List, OnErr, OnOk, length, slice_get, vec_len};
 ghost use Rattle.std.specs.Iterator.{YieldsFirst, item_count};
 ghost use Rattle.guest_script.specs.declared.script.Line.{Line};
-ghost use Rattle.guest_script.specs.KeptLines.{AreWithin, lines_of, plain_line};
+ghost use Rattle.guest_script.specs.declared.lines.LineFault.TheVariants.{BadLine, NoMemory};
+ghost use Rattle.guest_script.specs.KeptLines.{AreWithin, CanFollow, IsLike, lines_of, plain_line};
 ghost use Rattle.guest_script.specs.Packing.{FitsKept};
 
 use crate::kept::{Kept, actor_number};
@@ -10,8 +11,10 @@ use crate::op_shape::{OP_NUMBERS, OpShape, put_all};
 use crate::plain::Plain;
 use crate::said_shape::{SAID_NUMBERS, SaidShape};
 use crate::script::Line;
+use board_core::Actor;
 use std::alloc::{AllocError, Global};
 use std::marker::Model;
+use thiserror::Error;
 
 /// How many numbers a line has at most.
 const LINE_NUMBERS: usize = OP_NUMBERS + SAID_NUMBERS;
@@ -21,6 +24,38 @@ const MANY_BYTES: usize = 1 << 16;
 
 /// How many bytes a short line has.
 const LINE_BYTES: usize = 8;
+
+/// How many lines there are at most, and below which their numbers are: 2^28 (profile).
+const MOST: usize = 1 << 28;
+
+/// Why a line can't be added to others.
+#[derive(Clone, Copy, Debug, PartialEq, Eq, Error)]
+pub enum LineFault {
+    /// It can't follow them.
+    #[error("a line that can't follow")]
+    BadLine,
+    /// Memory was refused.
+    #[error("no memory")]
+    NoMemory,
+}
+
+impl From<AllocError> for LineFault {
+    ghost from_gives = { λ _ fault. fault ≡ NoMemory };
+
+    fn from(_refused: AllocError) -> LineFault {
+        LineFault::NoMemory
+    }
+}
+
+/// Whether an actor is the clock, or a hart up to 127.
+fn fits(actor: Actor) -> bool
+    ensures { (result ≡ true) ↔ FitsKept actor }
+{
+    match actor {
+        Actor::Hart(hart) => hart < 128,
+        Actor::Clock => true,
+    }
+}
 
 /// The lines of a schedule or a trace. A line takes 12 bytes, and 8 for each of its numbers.
 #[derive(Debug, Drop)]
@@ -48,6 +83,40 @@ impl Lines {
         }
     }
 
+    /// A line more at the end of a schedule's or of a trace's lines.
+    ///
+    /// # Errors
+    ///
+    /// The line can't follow these, or memory was refused. The lines are as they were.
+    pub fn add(&mut self, line: &Line) -> Result<(), LineFault>
+        ensures bad { IsErrOf result BadLine ↔ ¬ CanFollow self.old line.now }
+        ensures added { OnOk result (self.new ≡ self.old ++ line.now ∷ []) }
+        ensures refused { OnErr result (self.new ≡ self.old) }
+    {
+        if !self.can_follow(line) {
+            return Err(LineFault::BadLine);
+        }
+        self.push(line)?;
+        Ok(())
+    }
+
+    /// Whether a line can follow these.
+    fn can_follow(&self, line: &Line) -> bool
+        ensures { (result ≡ true) ↔ CanFollow self.now line.now }
+    {
+        self.len() < MOST && line.number < MOST as u64 && fits(line.actor) && self.is_like(line)
+    }
+
+    /// Whether a line says what was given exactly where the first of these does, if there is one.
+    fn is_like(&self, line: &Line) -> bool
+        ensures { (result ≡ true) ↔ IsLike self.now line.now }
+    {
+        match self.get(0) {
+            None => true,
+            Some(first) => first.said.is_some() == line.said.is_some(),
+        }
+    }
+
     /// Takes room for the lines of so many bytes at once, if they are many and there is memory: systems give large pages to
     /// what is large from the beginning.
     pub(crate) fn expect(&mut self, bytes: usize)
@@ -71,7 +140,8 @@ impl Lines {
         requires number { line.now.number < 2 ^ 28 }
         requires actor { FitsKept line.now.actor }
         requires few { length self.old < 2 ^ 28 }
-        ensures { OnOk result (self.new ≡ self.old ++ line.now ∷ []) }
+        ensures pushed { OnOk result (self.new ≡ self.old ++ line.now ∷ []) }
+        ensures refused { OnErr result (self.new ≡ self.old) }
     {
         self.kept.reserve(1)?;
         self.numbers.reserve(LINE_NUMBERS)?;

@@ -19,6 +19,6 @@ invariant_of-self-2 c =
     let within = put_within (put c) c.self.inside.kept.items c.self.invariant.0 in
     (rw (c.push_reserved.ensures.items, c.reserve.ensures.items) within, omega arith)
 
-pub returns : goal.returns
-returns c =
+pub returns-clause-pushed : goal.returns-clause-pushed
+returns-clause-pushed c =
     rw (c.push_reserved.ensures.items, c.reserve.ensures.items, ← c.self.view_is) (put_lines (put c) c.self.inside.kept.items c.self.invariant.0)
