@@ -16,3 +16,4 @@ pub mod Interruptible
 pub mod Needs
 pub mod WorkedRows
 pub mod FencedRows
+pub mod NeedRows

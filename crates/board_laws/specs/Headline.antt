@@ -1,12 +1,14 @@
--- What holds of every board, whatever steps were made, in four parts.
-use Rattle.std.specs.Prelude.{ℕ, List}
+-- What holds of every board, whatever steps were made, in five parts.
+use Rattle.std.specs.Prelude.{ℕ, ◌<◌, List, ◌++◌, length}
 use Rattle.tlb_model.specs.declared.fence.Flush.{Flush}
 use Rattle.board_core.specs.declared.config.Config.{Config}
 use Rattle.board_core.specs.History.{Event}
+use Rattle.board_core.specs.Need.{need}
 use Rattle.board_core.specs.Replies.{IsLegal}
 use Rattle.board_core.specs.Starts.{StartsAreEntered}
 use Rattle.board_laws.specs.Fences.{AppliedOnce, Reached}
 use Rattle.board_laws.specs.Lives.{NoneLives}
+use Rattle.board_laws.specs.Need.{AreFew, CanEnd, GoesOn, HaveServed, ServeIsAccepted}
 use Rattle.board_laws.specs.Places.{IsAt}
 
 pub record Headline (c : Config) (past : List Event) : Type 0 where
@@ -21,3 +23,10 @@ pub record Headline (c : Config) (past : List Event) : Type 0 where
   -- No hart that a successful fence asked has anything in its caches that the fence covers and that was filled before
   -- it was asked (SBI 8; Privileged 4.2.1; Zifencei).
   pub fenced_is_gone : (t place : ℕ) (flush : Flush) → Reached c past t place flush → NoneLives c past t place flush
+  -- A fence call on a board of N harts needs at most N - 1 serves of each hart, and (N - 1) * (N - 1) of all; a serve that
+  -- it needs is refused for a full history alone; and once these are made, its poll is answered with success (SBI 8;
+  -- profile).
+  pub needs_are_few : (h : ℕ) → AreFew c past h
+  pub needed_serves_are_accepted : (h t : ℕ) → 0 < need c past h t → ServeIsAccepted c past t
+  pub served_calls_can_end : (newer : List Event) (h : ℕ) → GoesOn c newer past h → length (newer ++ past) < c.limit → HaveServed c newer past h
+      → CanEnd c (newer ++ past) h

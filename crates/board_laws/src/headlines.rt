@@ -3,10 +3,12 @@ ghost use Rattle.board_laws.specs.Headline.{Headline};
 
 use crate::caches::fenced_is_gone;
 use crate::fences::applied_once;
+use crate::need::{needed_serves_are_accepted, needs_are_few, served_calls_can_end};
 use board_core::{Board, starts_are_entered};
 
 /// Of every board, whatever steps were made: its history is what the written rules answer; its starts are entered; each
-/// fence was applied once or waits once; and what a successful fence covers is gone.
+/// fence was applied once or waits once; what a successful fence covers is gone; and a fence call needs a bounded number of
+/// serves, after which it can end.
 pub fn headline(board: &Board)
     ensures { Headline board.now.config board.now.past }
 {
@@ -15,4 +17,7 @@ pub fn headline(board: &Board)
     starts_are_entered();
     applied_once();
     fenced_is_gone();
+    needs_are_few();
+    needed_serves_are_accepted();
+    served_calls_can_end();
 }

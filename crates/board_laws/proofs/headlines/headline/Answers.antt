@@ -9,4 +9,7 @@ returns c =
       starts_are_entered = c.starts_are_entered.ensures _ _ legal;
       applied_once = λ t place event at. c.applied_once.ensures _ _ t place event good legal at;
       fenced_is_gone = λ t place flush reached. c.fenced_is_gone.ensures _ _ t place flush good legal reached;
+      needs_are_few = λ h. c.needs_are_few.ensures _ _ h good legal;
+      needed_serves_are_accepted = λ h t needs. c.needed_serves_are_accepted.ensures _ _ h t good legal needs;
+      served_calls_can_end = λ newer h on room have. c.served_calls_can_end.ensures _ newer _ h good on room have;
     }
