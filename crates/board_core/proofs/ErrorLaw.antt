@@ -3,12 +3,20 @@ use Rattle.std.proofs.Common.{◌≡◌, ℕ, Bool, true, false, List, [], ◌�
 use Rattle.std.specs.Prelude.{Option, Some, None, Result, Ok, Err, nat_le, not, if◌then◌else◌, is_none, sum_by}
 use Rattle.std.specs.List.{filter_map}
 use Rattle.sbi_abi.specs.declared.answer.SbiError.{SbiError}
-use Rattle.sbi_abi.specs.declared.answer.Sbiret.{Sbiret}
 use Rattle.tlb_model.specs.declared.fence.Flush.{Flush}
 use Rattle.rfence.specs.Turns.{Quiet}
 use Rattle.sbi_abi.specs.declared.answer.SbiError.TheVariants.{InvalidParam, InvalidAddress, AlreadyAvailable, Failed}
 use Rattle.sbi_abi.specs.declared.call.Call.{Call}
 use Rattle.sbi_abi.specs.declared.call.Call.TheVariants as calls
+use Rattle.sbi_abi.specs.declared.call.hsm.HsmCall.{HsmCall}
+use Rattle.sbi_abi.specs.declared.call.hsm.HsmCall.TheVariants.{HartStart, HartStop, HartGetStatus, HartSuspend}
+use Rattle.sbi_abi.specs.declared.call.ipi.IpiCall.{IpiCall}
+use Rattle.sbi_abi.specs.declared.call.ipi.IpiCall.TheVariants.{SendIpi}
+use Rattle.sbi_abi.specs.declared.call.rfence.RfenceCall.{RfenceCall}
+use Rattle.sbi_abi.specs.declared.call.srst.SrstCall.{SrstCall}
+use Rattle.sbi_abi.specs.declared.call.srst.SrstCall.TheVariants.{SystemReset}
+use Rattle.sbi_abi.specs.declared.call.time.TimeCall.{TimeCall}
+use Rattle.sbi_abi.specs.declared.call.time.TimeCall.TheVariants.{SetTimer}
 use Rattle.sbi_abi.specs.declared.suspend.SuspendKind.{SuspendKind}
 use Rattle.sbi_abi.specs.declared.suspend.SuspendKind.TheVariants.{Retentive, NonRetentive}
 use Rattle.sbi_abi.specs.Calls.{call_of}
@@ -43,7 +51,13 @@ use Rattle.board_core.specs.Fences.{turn_of, turns, waiting}
 use Rattle.board_core.specs.Interrupts.{reaches_by, time}
 use Rattle.board_core.specs.Limits.{is_start_address}
 use Rattle.board_core.specs.Refusals.{clock_refusals, first_that_holds, is_full, situation}
-use Rattle.board_core.specs.Replies.{IsLegal, advance_reply, answer, call_reply, failure, fence_reply_to, refused_or, reply, suspend_reply, unless}
+use Rattle.board_core.specs.Calls.Hsm.{hsm_reply, suspend_reply}
+use Rattle.board_core.specs.Calls.Ipi.{ipi_reply}
+use Rattle.board_core.specs.Calls.Rfence.{fence_reply_to}
+use Rattle.board_core.specs.Calls.Srst.{srst_reply}
+use Rattle.board_core.specs.Calls.Time.{time_reply}
+use Rattle.board_core.specs.Returns.{Leaves, Returns, as_reply}
+use Rattle.board_core.specs.Replies.{IsLegal, advance_reply, answer, call_reply, failure, refused_or, reply, unless}
 use Rattle.board_core.specs.Resets.{is_off, last_reset, newer_or}
 use Rattle.board_core.specs.Starts.{Start, entries, last_start, pending, starts}
 use Rattle.board_core.specs.States.{state}
@@ -54,61 +68,64 @@ use Rattle.board_core.proofs.Rows.{accepted, clock_ticks}
 module _ (c : Config) (past : List Event) where
   -- a call that answers an error does nothing
   module _ (x : ℕ) where
-    fence_failed : (call : Call) → ((answer : Sbiret) → deed_of_call c past x call (Ret answer) ≡ still) → (harts : Option (List ℕ)) (flush : Result Flush SbiError) (r : Reply)
-        → fence_reply_to harts flush ≡ r → is_error r ≡ true → deed_of_call c past x call r ≡ still
-    fence_failed call same None flush r is error = rw (← is) (same (failure InvalidParam))
-    fence_failed call same (Some harts) (Err refused) r is error = rw (← is) (same (failure refused))
-    fence_failed call same (Some harts) (Ok flush) r is error = absurd (let e = rw (← is) at error in cc)
+    fence_failed : (call : RfenceCall) (harts : Option (List ℕ)) (flush : Result Flush SbiError) (r : Reply)
+        → as_reply (fence_reply_to harts flush) ≡ r → is_error r ≡ true → deed_of_call c past x (calls.Rfence call) r ≡ still
+    fence_failed call None flush r is error = rw (← is) refl
+    fence_failed call (Some harts) (Err refused) r is error = rw (← is) refl
+    fence_failed call (Some harts) (Ok flush) r is error = absurd (let e = rw (← is) at error in cc)
 
-    failed_call : (call : Call) (r : Reply) → call_reply c past x call ≡ r → is_error r ≡ true → deed_of_call c past x call r ≡ still
-    failed_call calls.GetSpecVersion r is error = refl
-    failed_call calls.GetImplId r is error = refl
-    failed_call calls.GetImplVersion r is error = refl
-    failed_call (calls.ProbeExtension eid) r is error = refl
-    failed_call calls.GetMvendorid r is error = refl
-    failed_call calls.GetMarchid r is error = refl
-    failed_call calls.GetMimpid r is error = refl
-    failed_call (calls.SetTimer deadline) r is error = absurd (let e = rw (← is) at error in cc)
-    failed_call (calls.SendIpi mask base) r is error = rw (← is) (by_targets (is_none (targets_of mask base c.harts)) (rw (← is) at error))
+    failed_time : (call : TimeCall) (r : Reply) → as_reply (time_reply call) ≡ r → is_error r ≡ true → deed_of_call c past x (calls.Time call) r ≡ still
+    failed_time (SetTimer deadline) r is error = absurd (let e = rw (← is) at error in cc)
+
+    failed_ipi : (call : IpiCall) (r : Reply) → as_reply (ipi_reply c call) ≡ r → is_error r ≡ true → deed_of_call c past x (calls.Ipi call) r ≡ still
+    failed_ipi (SendIpi mask base) r is error = rw (← is) (by_targets (is_none (targets_of mask base c.harts)) (rw (← is) at error))
       where
         by_targets : (none : Bool) → (let r = Ret (unless (first_that_holds ((none, InvalidParam) ∷ [])) 0) in
-            is_error r ≡ true → deed_of_call c past x (calls.SendIpi mask base) r ≡ still)
+            is_error r ≡ true → deed_of_call c past x (calls.Ipi (SendIpi mask base)) r ≡ still)
         by_targets true error = refl
         by_targets false error = cc
-    failed_call (calls.RemoteFenceI mask base) r is error = fence_failed (calls.RemoteFenceI mask base) (λ answer. refl) _ _ r is error
-    failed_call (calls.RemoteSfenceVma mask base start size) r is error = fence_failed (calls.RemoteSfenceVma mask base start size) (λ answer. refl) _ _ r is error
-    failed_call (calls.RemoteSfenceVmaAsid mask base start size asid) r is error = fence_failed (calls.RemoteSfenceVmaAsid mask base start size asid) (λ answer. refl) _ _ r is error
-    failed_call (calls.HartStart t addr opaque) r is error =
+
+    failed_hsm : (call : HsmCall) (r : Reply) → as_reply (hsm_reply c (sstatus_sie past x) (state c past) call) ≡ r → is_error r ≡ true → deed_of_call c past x (calls.Hsm call) r ≡ still
+    failed_hsm (HartStart t addr opaque) r is error =
         rw (← is) (by_errors (nat_le c.harts t) (is_start_address c.pages addr) (is_stopped (state c past t)) (rw (← is) at error))
       where
         by_errors : (missing right stopped : Bool)
             → (let r = Ret (unless (first_that_holds ((missing, InvalidParam) ∷ (not right, InvalidAddress) ∷ (not stopped, AlreadyAvailable) ∷ [])) 0) in
-            is_error r ≡ true → deed_of_call c past x (calls.HartStart t addr opaque) r ≡ still)
+            is_error r ≡ true → deed_of_call c past x (calls.Hsm (HartStart t addr opaque)) r ≡ still)
         by_errors true right stopped error = refl
         by_errors false false stopped error = refl
         by_errors false true false error = refl
         by_errors false true true error = cc
-    failed_call calls.HartStop r is error = rw (← is) (by_enabled (sstatus_sie past x) (rw (← is) at error))
+    failed_hsm HartStop r is error = rw (← is) (by_enabled (sstatus_sie past x) (rw (← is) at error))
       where
-        by_enabled : (enabled : Bool) → (let r = (if enabled then Ret (failure Failed) else Gone) in is_error r ≡ true → deed_of_call c past x calls.HartStop r ≡ still)
+        by_enabled : (enabled : Bool) → (let r = as_reply (if enabled then Returns (Some Failed) 0 else Leaves) in is_error r ≡ true → deed_of_call c past x (calls.Hsm HartStop) r ≡ still)
         by_enabled true error = refl
         by_enabled false error = cc
-    failed_call (calls.HartGetStatus t) r is error = refl
-    failed_call (calls.HartSuspend kind addr opaque) r is error = rw (← is) (by_kind kind (rw (← is) at error))
+    failed_hsm (HartGetStatus t) r is error = refl
+    failed_hsm (HartSuspend kind addr opaque) r is error = rw (← is) (by_kind kind (rw (← is) at error))
       where
-        by_address : (right : Bool) → (let r = (if right then Gone else Ret (failure InvalidAddress)) in
-            is_error r ≡ true → deed_of_call c past x (calls.HartSuspend kind addr opaque) r ≡ still)
+        by_address : (right : Bool) → (let r = as_reply (if right then Leaves else Returns (Some InvalidAddress) 0) in
+            is_error r ≡ true → deed_of_call c past x (calls.Hsm (HartSuspend kind addr opaque)) r ≡ still)
         by_address true error = cc
         by_address false error = refl
 
-        by_kind : (kind' : Result SuspendKind SbiError) → (let r = suspend_reply c kind' addr in
-            is_error r ≡ true → deed_of_call c past x (calls.HartSuspend kind addr opaque) r ≡ still)
+        by_kind : (kind' : Result SuspendKind SbiError) → (let r = as_reply (suspend_reply c kind' addr) in
+            is_error r ≡ true → deed_of_call c past x (calls.Hsm (HartSuspend kind addr opaque)) r ≡ still)
         by_kind (Err error') error = refl
         by_kind (Ok Retentive) error = cc
         by_kind (Ok NonRetentive) error = by_address (is_start_address c.pages addr) error
-    failed_call (calls.SystemReset (Ok reset)) r is error = absurd (let e = rw (← is) at error in cc)
-    failed_call (calls.SystemReset (Err refused)) r is error = rw (← is) refl
-    failed_call calls.Unsupported r is error = refl
+
+    failed_srst : (call : SrstCall) (r : Reply) → as_reply (srst_reply call) ≡ r → is_error r ≡ true → deed_of_call c past x (calls.Srst call) r ≡ still
+    failed_srst (SystemReset (Ok reset)) r is error = absurd (let e = rw (← is) at error in cc)
+    failed_srst (SystemReset (Err refused)) r is error = rw (← is) refl
+
+    failed_call : (call : Call) (r : Reply) → call_reply c past x call ≡ r → is_error r ≡ true → deed_of_call c past x call r ≡ still
+    failed_call (calls.Time call) r is error = failed_time call r is error
+    failed_call (calls.Ipi call) r is error = failed_ipi call r is error
+    failed_call (calls.Rfence call) r is error = fence_failed call _ _ r is error
+    failed_call (calls.Hsm call) r is error = failed_hsm call r is error
+    failed_call (calls.Srst call) r is error = failed_srst call r is error
+    failed_call call r is error = refl
 
     -- an Advance answers no error
     advanced_well : (s : HartState) (start : Start) (resume : Option Kept) → is_error (advance_reply x s start resume) ≡ false

@@ -3,7 +3,8 @@ use Rattle.std.proofs.Common.{◌≡◌, ℕ, Bool, true, false, List, [], refl,
 use Rattle.std.specs.Prelude.{Option, Some, None}
 use Rattle.sbi_abi.specs.declared.answer.Sbiret.{Sbiret}
 use Rattle.sbi_abi.specs.declared.call.Call.{Call}
-use Rattle.sbi_abi.specs.declared.call.Call.TheVariants as calls
+use Rattle.sbi_abi.specs.declared.call.Call.TheVariants.{Rfence}
+use Rattle.sbi_abi.specs.declared.call.rfence.RfenceCall.{RfenceCall}
 use Rattle.sbi_abi.specs.declared.call.Regs.{Regs}
 use Rattle.sbi_abi.specs.declared.reset.Reset.{Reset}
 use Rattle.sbi_abi.specs.Calls.{call_of}
@@ -24,7 +25,8 @@ use Rattle.board_core.specs.declared.event.Op.TheVariants.{Ecall, Advance}
 use Rattle.board_core.specs.declared.event.Reply.{Reply}
 use Rattle.board_core.specs.declared.event.Reply.TheVariants.{Entry, Ret, Waiting}
 use Rattle.board_core.specs.Csrs.{none_enabled, sie_by, sstatus_sie_by}
-use Rattle.board_core.specs.Fences.{Remote, remote_of, turn_by_call, turn_by_remote, turn_of, turns}
+use Rattle.board_core.specs.Calls.Rfence.{Remote, remote_by_rfence}
+use Rattle.board_core.specs.Fences.{turn_by_call, turn_by_remote, turn_of, turns}
 use Rattle.board_core.specs.Interrupts.{deadline_by, deadline_by_call, reaches_by, reaches_by_call, ssip_by, ticks_by}
 use Rattle.board_core.specs.Memory.{Writing, act_by, entry_filling, memory, own_filling, satp, satp_by, tlb_acts, word_acts, word_filling, writing_by, zeroed_by}
 use Rattle.board_core.specs.Starts.{Growth, More, entry_by, growth, start_by, start_by_call}
@@ -152,45 +154,11 @@ module _ (c : Config) (past : List Event) where
     does_call regs call reply is = ap (λ it. deed_of_call it reply) (sym is)
 
     -- a remote fence that waits is a turn, and one that fails is nothing
-    pub does_remote : (call : Call) (remote : Remote) → remote_of call ≡ Some remote → deed_of_call call Waiting ≡ deed_of_turn (turn_by_remote c past x (Some remote) Waiting)
-    does_remote calls.GetSpecVersion remote is = cc
-    does_remote calls.GetImplId remote is = cc
-    does_remote calls.GetImplVersion remote is = cc
-    does_remote (calls.ProbeExtension eid) remote is = cc
-    does_remote calls.GetMvendorid remote is = cc
-    does_remote calls.GetMarchid remote is = cc
-    does_remote calls.GetMimpid remote is = cc
-    does_remote (calls.SetTimer deadline) remote is = cc
-    does_remote (calls.SendIpi mask base) remote is = cc
-    does_remote (calls.RemoteFenceI mask base) remote is = ap (λ o. deed_of_turn (turn_by_remote c past x o Waiting)) is
-    does_remote (calls.RemoteSfenceVma mask base start size) remote is = ap (λ o. deed_of_turn (turn_by_remote c past x o Waiting)) is
-    does_remote (calls.RemoteSfenceVmaAsid mask base start size asid) remote is = ap (λ o. deed_of_turn (turn_by_remote c past x o Waiting)) is
-    does_remote (calls.HartStart t addr opaque) remote is = cc
-    does_remote calls.HartStop remote is = cc
-    does_remote (calls.HartGetStatus t) remote is = cc
-    does_remote (calls.HartSuspend kind addr opaque) remote is = cc
-    does_remote (calls.SystemReset reset) remote is = cc
-    does_remote calls.Unsupported remote is = cc
+    pub does_remote : (call : RfenceCall) (remote : Remote) → remote_by_rfence call ≡ remote → deed_of_call (Rfence call) Waiting ≡ deed_of_turn (turn_by_remote c past x (Some remote) Waiting)
+    does_remote call remote is = ap (λ r. deed_of_turn (turn_by_remote c past x (Some r) Waiting)) is
 
-    pub does_no_remote : (call : Call) (remote : Remote) (answer : Sbiret) → remote_of call ≡ Some remote → deed_of_call call (Ret answer) ≡ still
-    does_no_remote calls.GetSpecVersion remote answer is = cc
-    does_no_remote calls.GetImplId remote answer is = cc
-    does_no_remote calls.GetImplVersion remote answer is = cc
-    does_no_remote (calls.ProbeExtension eid) remote answer is = cc
-    does_no_remote calls.GetMvendorid remote answer is = cc
-    does_no_remote calls.GetMarchid remote answer is = cc
-    does_no_remote calls.GetMimpid remote answer is = cc
-    does_no_remote (calls.SetTimer deadline) remote answer is = cc
-    does_no_remote (calls.SendIpi mask base) remote answer is = cc
-    does_no_remote (calls.RemoteFenceI mask base) remote answer is = refl
-    does_no_remote (calls.RemoteSfenceVma mask base start size) remote answer is = refl
-    does_no_remote (calls.RemoteSfenceVmaAsid mask base start size asid) remote answer is = refl
-    does_no_remote (calls.HartStart t addr opaque) remote answer is = cc
-    does_no_remote calls.HartStop remote answer is = cc
-    does_no_remote (calls.HartGetStatus t) remote answer is = cc
-    does_no_remote (calls.HartSuspend kind addr opaque) remote answer is = cc
-    does_no_remote (calls.SystemReset reset) remote answer is = cc
-    does_no_remote calls.Unsupported remote answer is = cc
+    pub does_no_remote : (call : RfenceCall) (answer : Sbiret) → deed_of_call (Rfence call) (Ret answer) ≡ still
+    does_no_remote call answer = refl
 
     -- ---- entries
 

@@ -3,8 +3,6 @@ use Rattle.std.proofs.Common.{◌<◌, ℕ, Bool, true, false, List, refl, arith
 use Rattle.std.specs.Prelude.{if◌then◌else◌, pos, Option, Some, None, Result, Ok, Err}
 use Rattle.sbi_abi.specs.declared.answer.SbiError.{SbiError}
 use Rattle.sbi_abi.specs.declared.answer.SbiError.TheVariants as errors
-use Rattle.sbi_abi.specs.declared.call.Call.{Call}
-use Rattle.sbi_abi.specs.declared.call.Call.TheVariants as calls
 use Rattle.sbi_abi.specs.declared.reset.Reset.{Reset}
 use Rattle.sbi_abi.specs.declared.suspend.SuspendKind.{SuspendKind}
 use Rattle.sbi_abi.specs.declared.suspend.SuspendKind.TheVariants.{Retentive, NonRetentive}
@@ -19,7 +17,6 @@ use Rattle.hsm.specs.declared.hart.Kept.{Kept}
 use Rattle.hsm.specs.States.{state_number}
 use Rattle.sv39.specs.declared.cause.Cause.{Cause}
 use Rattle.tlb_model.specs.declared.fence.Flush.{Flush}
-use Rattle.tlb_model.specs.declared.fence.Flush.TheVariants.{Words}
 use Rattle.board_core.specs.declared.config.Config.{Config}
 use Rattle.board_core.specs.declared.event.Actor.TheVariants.{Hart}
 use Rattle.board_core.specs.declared.event.Op.{Op}
@@ -28,12 +25,13 @@ use Rattle.board_core.specs.declared.event.Reply.{Reply}
 use Rattle.board_core.specs.declared.event.Reply.TheVariants.{Ret, Gone}
 use Rattle.board_core.specs.Accesses.{access_reply_of}
 use Rattle.board_core.specs.Csrs.{sstatus_sie}
-use Rattle.board_core.specs.Fences.{flush_of_range}
+use Rattle.board_core.specs.Calls.{reply_to}
 use Rattle.board_core.specs.History.{Event}
 use Rattle.board_core.specs.Keeping.{IsByteError, IsOwnEntry, IsShort}
 use Rattle.board_core.specs.Limits.{is_start_address}
 use Rattle.board_core.specs.Refusals.{first_that_holds}
-use Rattle.board_core.specs.Replies.{advance_reply, call_reply, failure, fence_reply_to, ipi_errors, reply, reset_reply, resume_reply, start_errors, status_errors, suspend_reply, unless}
+use Rattle.board_core.specs.Replies.{advance_reply, reply, resume_reply}
+use Rattle.board_core.specs.Returns.{CallReply, Leaves, Returns, Waits, as_reply, unless}
 use Rattle.board_core.specs.Starts.{Start, last_start}
 use Rattle.board_core.specs.States.{state}
 use Rattle.board_core.specs.Suspends.{resume_point}
@@ -60,53 +58,16 @@ module _ (x : ℕ) (op : Op) where
   abbrev HasRoom : Reply → Type 0
   HasRoom r = IsByteError r × IsOwnEntry (Hart x) op r
 
-  fence_room : (targets : Option (List ℕ)) (flush : Result Flush SbiError) → HasRoom (fence_reply_to targets flush)
-  fence_room None flush = (error_short errors.InvalidParam, tt)
-  fence_room (Some harts) (Err error) = (error_short error, tt)
-  fence_room (Some harts) (Ok flush) = (tt, tt)
-
-  failure_or_gone : (b : Bool) (error : SbiError) → HasRoom (if b then Ret (failure error) else Gone)
-  failure_or_gone true error = (error_short error, tt)
-  failure_or_gone false error = (tt, tt)
-
-  gone_or_failure : (b : Bool) (error : SbiError) → HasRoom (if b then Gone else Ret (failure error))
-  gone_or_failure true error = (tt, tt)
-  gone_or_failure false error = (error_short error, tt)
-
-  suspend_room : (c : Config) (kind : Result SuspendKind SbiError) (addr : ℕ) → HasRoom (suspend_reply c kind addr)
-  suspend_room c (Err error) addr = (error_short error, tt)
-  suspend_room c (Ok Retentive) addr = (tt, tt)
-  suspend_room c (Ok NonRetentive) addr = gone_or_failure (is_start_address c.pages addr) errors.InvalidAddress
-
-  reset_room : (reset : Result Reset SbiError) → HasRoom (reset_reply reset)
-  reset_room (Err error) = (error_short error, tt)
-  reset_room (Ok reset) = (tt, tt)
+  call_room : (reply : CallReply) → HasRoom (as_reply reply)
+  call_room (Returns error value) = (unless_short error value, tt)
+  call_room Waits = (tt, tt)
+  call_room Leaves = (tt, tt)
 
   access_room : (access : Access) (result : Result ℕ Cause) → HasRoom (access_reply_of access result)
   access_room accesses.Load (Ok word) = (tt, tt)
   access_room (accesses.Store value) (Ok word) = (tt, tt)
   access_room accesses.Fetch (Ok word) = (tt, tt)
   access_room access (Err cause) = (tt, tt)
-
-  call_room : (c : Config) (past : List Event) (call : Call) → HasRoom (call_reply c past x call)
-  call_room c past calls.GetSpecVersion = (zero_short, tt)
-  call_room c past calls.GetImplId = (zero_short, tt)
-  call_room c past calls.GetImplVersion = (zero_short, tt)
-  call_room c past (calls.ProbeExtension eid) = (zero_short, tt)
-  call_room c past calls.GetMvendorid = (zero_short, tt)
-  call_room c past calls.GetMarchid = (zero_short, tt)
-  call_room c past calls.GetMimpid = (zero_short, tt)
-  call_room c past (calls.SetTimer deadline) = (zero_short, tt)
-  call_room c past (calls.SendIpi mask base) = (unless_short (first_that_holds (ipi_errors c mask base)) 0, tt)
-  call_room c past (calls.RemoteFenceI mask base) = fence_room (targets_of mask base c.harts) (Ok Words)
-  call_room c past (calls.RemoteSfenceVma mask base start size) = fence_room (targets_of mask base c.harts) (flush_of_range start size None)
-  call_room c past (calls.RemoteSfenceVmaAsid mask base start size asid) = fence_room (targets_of mask base c.harts) (flush_of_range start size (Some asid))
-  call_room c past (calls.HartStart t addr opaque) = (unless_short (first_that_holds (start_errors c past t addr)) 0, tt)
-  call_room c past calls.HartStop = failure_or_gone (sstatus_sie past x) errors.Failed
-  call_room c past (calls.HartGetStatus t) = (unless_short (first_that_holds (status_errors c t)) (state_number (state c past t)), tt)
-  call_room c past (calls.HartSuspend kind addr opaque) = suspend_room c kind addr
-  call_room c past (calls.SystemReset reset) = reset_room reset
-  call_room c past calls.Unsupported = (error_short errors.NotSupported, tt)
 
 module _ (x : ℕ) where
   resume_room : (resume : Option Kept) → HasRoom x ops.Advance (resume_reply x resume)
@@ -122,7 +83,7 @@ module _ (x : ℕ) where
   advance_room s start resume = (tt, tt)
 
   reply_room : (c : Config) (past : List Event) (op : Op) → HasRoom x op (reply c past x op)
-  reply_room c past (ops.Ecall regs) = call_room x (ops.Ecall regs) c past (call_of regs)
+  reply_room c past (ops.Ecall regs) = call_room x (ops.Ecall regs) (reply_to c (sstatus_sie past x) (state c past) (call_of regs))
   reply_room c past (ops.Load va) = access_room x (ops.Load va) accesses.Load _
   reply_room c past (ops.Store va value) = access_room x (ops.Store va value) (accesses.Store value) _
   reply_room c past (ops.Fetch va) = access_room x (ops.Fetch va) accesses.Fetch _

@@ -6,7 +6,7 @@ use Rattle.rfence.specs.Calls as calls
 use Rattle.rfence.specs.Right.{IsRightTurn}
 use Rattle.rfence.specs.State as fences
 use Rattle.rfence.specs.State.{State, call_at, in_call}
-use Rattle.rfence.specs.Turns.{Turn, Serve, Poll}
+use Rattle.rfence.specs.Turns.{Serve, Poll}
 use Rattle.rfence.specs.Waiting as queues
 use Rattle.rfence.proofs.Counts.{few-applied, few-asked, outstanding-set}
 use Rattle.rfence.proofs.Stands.{call_at-stands, length-calls, length-queues, queue_at-stands}

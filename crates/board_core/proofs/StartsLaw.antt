@@ -7,7 +7,9 @@ use Rattle.sbi_abi.specs.declared.answer.SbiError.{SbiError}
 use Rattle.sbi_abi.specs.declared.reset.Reset.{Reset}
 use Rattle.sbi_abi.specs.declared.answer.SbiError.TheVariants.{InvalidParam, InvalidAddress, AlreadyAvailable, Failed}
 use Rattle.sbi_abi.specs.declared.call.Call.{Call}
-use Rattle.sbi_abi.specs.declared.call.Call.TheVariants as calls
+use Rattle.sbi_abi.specs.declared.call.Call.TheVariants.{Hsm, Srst}
+use Rattle.sbi_abi.specs.declared.call.hsm.HsmCall.TheVariants.{HartStart, HartStop, HartSuspend}
+use Rattle.sbi_abi.specs.declared.call.srst.SrstCall.TheVariants.{SystemReset}
 use Rattle.sbi_abi.specs.declared.suspend.SuspendKind.{SuspendKind}
 use Rattle.sbi_abi.specs.declared.suspend.SuspendKind.TheVariants.{Retentive, NonRetentive}
 use Rattle.sbi_abi.specs.Calls.{call_of}
@@ -29,7 +31,9 @@ use Rattle.board_core.specs.Limits.{is_start_address}
 use Rattle.board_core.specs.Refusals.{first_that_holds, is_full, situation}
 use Rattle.board_core.specs.Interrupts.{wake}
 use Rattle.board_core.specs.Suspends.{resume_point}
-use Rattle.board_core.specs.Replies.{IsLegal, advance_reply, answer, call_reply, failure, reply, resume_reply, suspend_reply, unless}
+use Rattle.board_core.specs.Calls.Hsm.{suspend_reply}
+use Rattle.board_core.specs.Returns.{Leaves, Returns, as_reply}
+use Rattle.board_core.specs.Replies.{IsLegal, advance_reply, answer, call_reply, failure, reply, resume_reply, unless}
 use Rattle.board_core.specs.Starts.{Anew, Growth, More, Start, grown, growth, starts_at, StartsAreEntered, boot_start, entries, entry_by, is_of, last_start, pending, start_by_call, starts}
 use Rattle.board_core.specs.Resets.{begins_anew, is_off, reset_by_call}
 use Rattle.board_core.specs.States.{Each, Move, One, state_at_opening, state_at_reset, move_by, move_by_call, moved_to, state}
@@ -149,18 +153,11 @@ module _ (c : Config) where
   -- the law after a call
   after_call : (past : List Event) (before : (h : ℕ) → IsEntered past h) (h x : ℕ) (call : Call) (r : Reply)
       → state c past x ≡ Started → call_reply c past x call ≡ r → IsEnteredBy past before h (move_by_call c x call r) (start_by_call c call r) (growth None (reset_by_call call r) (λ reset. []))
-  after_call past before h x calls.GetSpecVersion r running is = quiet past before h
-  after_call past before h x calls.GetImplId r running is = quiet past before h
-  after_call past before h x calls.GetImplVersion r running is = quiet past before h
-  after_call past before h x (calls.ProbeExtension eid) r running is = quiet past before h
-  after_call past before h x calls.GetMvendorid r running is = quiet past before h
-  after_call past before h x calls.GetMarchid r running is = quiet past before h
-  after_call past before h x calls.GetMimpid r running is = quiet past before h
-  after_call past before h x (calls.HartStart t addr opaque) r running is = rw (← is) (by_errors (nat_le c.harts t) (is_start_address c.pages addr) (state c past t) refl)
+  after_call past before h x (Hsm (HartStart t addr opaque)) r running is = rw (← is) (by_errors (nat_le c.harts t) (is_start_address c.pages addr) (state c past t) refl)
     where
       by_errors : (missing right : Bool) (s : HartState) → state c past t ≡ s
           → (let r = Ret (unless (first_that_holds ((missing, InvalidParam) ∷ (not right, InvalidAddress) ∷ (not (is_stopped s), AlreadyAvailable) ∷ [])) 0) in
-          IsEnteredBy past before h (move_by_call c x (calls.HartStart t addr opaque) r) (start_by_call c (calls.HartStart t addr opaque) r) None)
+          IsEnteredBy past before h (move_by_call c x (Hsm (HartStart t addr opaque)) r) (start_by_call c (Hsm (HartStart t addr opaque)) r) None)
       by_errors true right s at = quiet past before h
       by_errors false false s at = quiet past before h
       by_errors false true Stopped at = started past before h t addr opaque at
@@ -170,33 +167,26 @@ module _ (c : Config) where
       by_errors false true Suspended at = quiet past before h
       by_errors false true SuspendPending at = quiet past before h
       by_errors false true ResumePending at = quiet past before h
-  after_call past before h x calls.HartStop r running is = rw (← is) (by_enabled (sstatus_sie past x))
+  after_call past before h x (Hsm HartStop) r running is = rw (← is) (by_enabled (sstatus_sie past x))
     where
-      by_enabled : (enabled : Bool) → (let r = (if enabled then Ret (failure Failed) else Gone) in
-          IsEnteredBy past before h (move_by_call c x calls.HartStop r) (start_by_call c calls.HartStop r) None)
+      by_enabled : (enabled : Bool) → (let r = as_reply (if enabled then Returns (Some Failed) 0 else Leaves) in
+          IsEnteredBy past before h (move_by_call c x (Hsm HartStop) r) (start_by_call c (Hsm HartStop) r) None)
       by_enabled true = quiet past before h
       by_enabled false = settled past before h x StopPending refl (ap is_start_pending running)
-  after_call past before h x (calls.HartGetStatus t) r running is = quiet past before h
-  after_call past before h x (calls.SetTimer deadline) r running is = quiet past before h
-  after_call past before h x (calls.SendIpi mask base) r running is = quiet past before h
-  after_call past before h x (calls.HartSuspend kind addr opaque) r running is = rw (← is) (by_kind kind)
+  after_call past before h x (Hsm (HartSuspend kind addr opaque)) r running is = rw (← is) (by_kind kind)
     where
-      by_kind : (kind : Result SuspendKind SbiError) → (let r = suspend_reply c kind addr in
-          IsEnteredBy past before h (move_by_call c x (calls.HartSuspend kind addr opaque) r) (start_by_call c (calls.HartSuspend kind addr opaque) r) None)
+      by_kind : (kind : Result SuspendKind SbiError) → (let r = as_reply (suspend_reply c kind addr) in
+          IsEnteredBy past before h (move_by_call c x (Hsm (HartSuspend kind addr opaque)) r) (start_by_call c (Hsm (HartSuspend kind addr opaque)) r) None)
       by_kind (Err error) = quiet past before h
       by_kind (Ok Retentive) = settled past before h x SuspendPending refl (ap is_start_pending running)
       by_kind (Ok NonRetentive) = by_address (is_start_address c.pages addr)
         where
-          by_address : (right : Bool) → (let r = (if right then Gone else Ret (failure InvalidAddress)) in
-              IsEnteredBy past before h (move_by_call c x (calls.HartSuspend kind addr opaque) r) (start_by_call c (calls.HartSuspend kind addr opaque) r) None)
+          by_address : (right : Bool) → (let r = as_reply (if right then Leaves else Returns (Some InvalidAddress) 0) in
+              IsEnteredBy past before h (move_by_call c x (Hsm (HartSuspend kind addr opaque)) r) (start_by_call c (Hsm (HartSuspend kind addr opaque)) r) None)
           by_address true = settled past before h x SuspendPending refl (ap is_start_pending running)
           by_address false = quiet past before h
-  after_call past before h x (calls.RemoteFenceI mask base) r running is = quiet past before h
-  after_call past before h x (calls.RemoteSfenceVma mask base start size) r running is = quiet past before h
-  after_call past before h x (calls.RemoteSfenceVmaAsid mask base start size asid) r running is = quiet past before h
-  after_call past before h x (calls.SystemReset (Err error)) r running is = quiet past before h
-  after_call past before h x (calls.SystemReset (Ok reset)) r running is = rw (← is) (anew past before h reset)
-  after_call past before h x calls.Unsupported r running is = quiet past before h
+  after_call past before h x (Srst (SystemReset (Ok reset))) r running is = rw (← is) (anew past before h reset)
+  after_call past before h x call r running is = quiet past before h
 
   -- the law after an Advance
   after_advance : (past : List Event) (before : (h : ℕ) → IsEntered past h) (h x : ℕ) (s : HartState) (wake : Bool) (r : Reply)

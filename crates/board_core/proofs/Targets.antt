@@ -13,7 +13,7 @@ use Rattle.tlb_model.specs.declared.fence.Flush.{Flush}
 use Rattle.board_core.specs.declared.config.Config.{Config}
 use Rattle.board_core.specs.Fences.{is_asked_by}
 use Rattle.board_core.specs.History.{Event}
-use Rattle.board_core.specs.Interrupts.{is_target}
+use Rattle.board_core.specs.Targets.{is_target}
 use Rattle.board_core.specs.Stands.{HartsStand}
 use Rattle.board_core.specs.States.{state}
 use Rattle.board_core.proofs.HartsStanding.{hart_at-stand}

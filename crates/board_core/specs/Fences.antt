@@ -1,20 +1,17 @@
 -- Remote fences: what each event means for them, what waits at harts, and what calls wait for (SBI 8).
-use Rattle.std.specs.Prelude.{ℕ, List, [], ◌∷◌, Bool, map, ◌&&◌, if◌then◌else◌, Option, Some, None, Result, Ok, Err}
+use Rattle.std.specs.Prelude.{ℕ, List, [], ◌∷◌, Bool, map, Option, Some, None, Result, Ok, Err}
 use Rattle.sbi_abi.specs.declared.answer.SbiError.{SbiError}
-use Rattle.sbi_abi.specs.declared.answer.SbiError.TheVariants.{InvalidAddress}
 use Rattle.sbi_abi.specs.declared.call.Call.{Call}
-use Rattle.sbi_abi.specs.declared.call.Call.TheVariants.{HartStop, RemoteFenceI, RemoteSfenceVma, RemoteSfenceVmaAsid, SystemReset}
+use Rattle.sbi_abi.specs.declared.call.Call.TheVariants.{Hsm, Rfence, Srst}
 use Rattle.sbi_abi.specs.Calls.{call_of}
 use Rattle.fence_queue.specs.declared.request.Request.{Request}
-use Rattle.hart_mask.specs.HartList.{targets_of}
-use Rattle.hsm.specs.States.{is_interruptible}
 use Rattle.rfence.specs.Calls as calls
 use Rattle.rfence.specs.State.{in_call}
-use Rattle.rfence.specs.Turns.{Turn, Ask, Own, Serve, Poll, Stop, Reset, Quiet}
+use Rattle.rfence.specs.Turns.{Turn, Ask, Own, Serve, Poll, Quiet}
 use Rattle.rfence.specs.Waiting as queues
 use Rattle.tlb_model.specs.declared.fence.Flush.{Flush}
 use Rattle.tlb_model.specs.declared.fence.Flush.TheVariants.{Words, Entries}
-use Rattle.tlb_model.specs.Fences.{fence_of_address, fence_of_range, is_wrong_range}
+use Rattle.tlb_model.specs.Fences.{fence_of_address}
 use Rattle.board_core.specs.declared.config.Config.{Config}
 use Rattle.board_core.specs.declared.event.Actor.{Actor}
 use Rattle.board_core.specs.declared.event.Actor.TheVariants.{Hart, Clock}
@@ -25,32 +22,23 @@ use Rattle.board_core.specs.declared.event.Reply.TheVariants as replies
 use Rattle.board_core.specs.declared.phase.Phase.{Phase}
 use Rattle.board_core.specs.declared.phase.Phase.TheVariants.{Outside, Inside}
 use Rattle.board_core.specs.History.{Event}
-use Rattle.board_core.specs.Interrupts.{is_target}
+use Rattle.board_core.specs.Calls.Hsm.{turn_by_hsm}
+pub use Rattle.board_core.specs.Calls.Rfence.{Remote}
+use Rattle.board_core.specs.Calls.Rfence.{remote_by_rfence}
+use Rattle.board_core.specs.Calls.Srst.{turn_by_srst}
 use Rattle.board_core.specs.States.{state}
+use Rattle.board_core.specs.Targets.{is_reached}
 
--- What a remote SFENCE.VMA of a range drops, or the error that its range brings (SBI 8; what a wrong range is: profile).
-abbrev pub flush_of_range : (start size : ℕ) (asid : Option ℕ) → Result Flush SbiError
-flush_of_range start size asid =
-    if is_wrong_range start size then Err InvalidAddress else Ok (Entries (fence_of_range start size asid))
-
--- a remote fence that a call asks for: its hart list, and what it drops
-pub record Remote : Type 0 where
-  pub mask : ℕ
-  pub base : ℕ
-  pub flush : Result Flush SbiError
-
--- The remote fence that a call is, if it is one (SBI 8.1 to 8.3).
+-- The remote fence that a call is, if it is one.
 abbrev pub remote_of : Call → Option Remote
-remote_of (RemoteFenceI mask base) = Some (record { mask = mask; base = base; flush = Ok Words })
-remote_of (RemoteSfenceVma mask base start size) = Some (record { mask = mask; base = base; flush = flush_of_range start size None })
-remote_of (RemoteSfenceVmaAsid mask base start size asid) = Some (record { mask = mask; base = base; flush = flush_of_range start size (Some asid) })
+remote_of (Rfence call) = Some (remote_by_rfence call)
 remote_of call = None
 
 module _ (c : Config) (past : List Event) where
   -- The harts of which a fence is asked: those that the hart list names and that are in an interruptible state (SBI 8;
   -- that it skips other states: profile).
   abbrev pub is_asked_by : (mask base : ℕ) → ℕ → Bool
-  is_asked_by mask base t = is_target (targets_of mask base c.harts) t && is_interruptible (state c past t)
+  is_asked_by mask base t = is_reached c (state c past) mask base t
 
   abbrev pub turn_by_flush : (x mask base : ℕ) → Result Flush SbiError → Turn Flush
   turn_by_flush x mask base (Ok flush) = Ask x (is_asked_by mask base) flush
@@ -62,8 +50,8 @@ module _ (c : Config) (past : List Event) where
   turn_by_remote x remote reply = Quiet
 
   abbrev pub turn_by_call : (x : ℕ) → Call → Reply → Turn Flush
-  turn_by_call x HartStop replies.Gone = Stop x
-  turn_by_call x (SystemReset (Ok reset)) replies.Gone = Reset
+  turn_by_call x (Hsm call) reply = turn_by_hsm x call reply
+  turn_by_call x (Srst call) reply = turn_by_srst call reply
   turn_by_call x call reply = turn_by_remote x (remote_of call) reply
 
   -- What an operation of hart x means for fences.

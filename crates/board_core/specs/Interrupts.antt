@@ -1,19 +1,17 @@
 -- Pending interrupts (SBI 6 and 7; Privileged 4.1.3).
-use Rattle.std.specs.Prelude.{ℕ, ◌+◌, List, [], ◌∷◌, Bool, false, ◌&&◌, ◌||◌, if◌then◌else◌, Option, Some, None}
+use Rattle.std.specs.Prelude.{ℕ, ◌+◌, List, [], ◌∷◌, Bool, false, ◌||◌, if◌then◌else◌, Option, Some, None}
 use Rattle.sbi_abi.specs.declared.call.Call.{Call}
-use Rattle.sbi_abi.specs.declared.call.Call.TheVariants.{SetTimer, SendIpi, HartStop}
+use Rattle.sbi_abi.specs.declared.call.Call.TheVariants.{Time, Ipi, Hsm}
 use Rattle.sbi_abi.specs.Calls.{call_of}
-use Rattle.sbi_abi.specs.Errors.{is_success}
-use Rattle.hart_mask.specs.HartList.{targets_of}
-use Rattle.hart_mask.specs.Ids.{has}
-use Rattle.hsm.specs.States.{is_interruptible}
 use Rattle.interrupts.specs.Timing.{is_due}
 use Rattle.board_core.specs.declared.config.Config.{Config}
 use Rattle.board_core.specs.History.{Event}
 use Rattle.board_core.specs.declared.event.Op.{Op}
 use Rattle.board_core.specs.declared.event.Op.TheVariants.{Ecall, ClearSsip, Tick}
 use Rattle.board_core.specs.declared.event.Reply.{Reply}
-use Rattle.board_core.specs.declared.event.Reply.TheVariants.{Ret, Gone}
+use Rattle.board_core.specs.Calls.Hsm.{deadline_by_hsm}
+use Rattle.board_core.specs.Calls.Ipi.{reaches_by_ipi}
+use Rattle.board_core.specs.Calls.Time.{deadline_by_time}
 use Rattle.board_core.specs.Course.{is_hart}
 use Rattle.board_core.specs.Csrs.{enables, sie}
 use Rattle.board_core.specs.Resets.{reset_by, reset_by_call}
@@ -22,16 +20,9 @@ use Rattle.board_core.specs.Writes.{Write, Here, at_reset, latest}
 
 -- ---- software interrupts
 
--- whether a hart is one of the targets, if there are any
-abbrev pub is_target : Option (List ℕ) → ℕ → Bool
-is_target None h = false
-is_target (Some ids) h = has ids h
-
--- Whether an IPI that succeeded reaches hart h: it names it, and the hart is in an interruptible state (SBI 7.1; that
--- it skips other states: profile).
+-- whether a call sends an IPI that reaches hart h
 abbrev pub reaches_by_call : Config → List Event → Call → Reply → ℕ → Bool
-reaches_by_call c past (SendIpi mask base) (Ret answer) h =
-    is_success answer && (is_target (targets_of mask base c.harts) h && is_interruptible (state c past h))
+reaches_by_call c past (Ipi call) reply h = reaches_by_ipi c (state c past) call reply h
 reaches_by_call c past call reply h = false
 
 abbrev pub reaches_by : Config → List Event → Op → Reply → ℕ → Bool
@@ -63,8 +54,8 @@ time (event ∷ past) = time past + ticks_by event.op
 
 -- A call sets its hart's deadline (SBI 6.1), and a stop forgets it, and a reset that of every hart (profile).
 abbrev pub deadline_by_call : Call → Reply → Option (Write (Option ℕ))
-deadline_by_call (SetTimer deadline) (Ret answer) = Some (Here (Some deadline))
-deadline_by_call HartStop Gone = Some (Here None)
+deadline_by_call (Time call) reply = deadline_by_time call reply
+deadline_by_call (Hsm call) reply = deadline_by_hsm call reply
 deadline_by_call call reply = at_reset (reset_by_call call reply) None
 
 -- The entry of a start forgets it too (profile).

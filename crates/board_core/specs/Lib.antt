@@ -6,6 +6,9 @@ pub mod History
 pub mod Keeping
 pub mod Resets
 pub mod Writes
+pub mod Returns
+pub mod Targets
+pub mod Calls
 pub mod Fences
 pub mod Memory
 pub mod Accesses

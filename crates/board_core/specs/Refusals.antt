@@ -1,5 +1,5 @@
 -- When a step is refused (profile).
-use Rattle.std.specs.Prelude.{◌≡◌, ℕ, ◌+◌, Bool, true, false, not, List, [], ◌∷◌, ◌==◌, ◌&&◌, nat_le, nat_lt, length, if◌then◌else◌, Option, Some, None, is_none}
+use Rattle.std.specs.Prelude.{◌≡◌, ℕ, ◌+◌, Bool, true, false, not, List, [], ◌∷◌, ◌==◌, ◌&&◌, nat_le, nat_lt, length, Option, Some, None, is_none}
 use Rattle.hsm.specs.declared.hart.HartState.{HartState}
 use Rattle.fence_queue.specs.declared.request.Request.{Request}
 use Rattle.hsm.specs.States.{goes_on, is_interruptible, is_started}
@@ -14,6 +14,7 @@ use Rattle.board_core.specs.declared.event.Refusal.TheVariants.{Off, WrongPhase,
 use Rattle.board_core.specs.Fences.{outstanding, waiting}
 use Rattle.board_core.specs.Interrupts.{ticks_by, time, wake}
 use Rattle.board_core.specs.Resets.{is_off}
+pub use Rattle.board_core.specs.Returns.{first_that_holds}
 use Rattle.board_core.specs.States.{state}
 
 abbrev pub refusal_number : Refusal → ℕ
@@ -78,11 +79,6 @@ has_nothing_to_do op s = false
 pub record IsAccepted (op : Op) (s : Situation) : Type 0 where
   pub in_phase : is_out_of_phase op s ≡ false
   pub to_do : has_nothing_to_do op s ≡ false
-
--- the second part of the first row whose test holds
-abbrev pub first_that_holds : {A : Type 0} → List (Bool × A) → Option A
-first_that_holds [] = None
-first_that_holds (row ∷ rows) = if row.0 then Some row.1 else first_that_holds rows
 
 -- the refusals of an operation of a hart in this situation, in their order
 abbrev pub refusals_in : Situation → Op → (is_full : Bool) → List (Bool × Refusal)

@@ -1,7 +1,7 @@
 -- System resets (SBI 10).
-use Rattle.std.specs.Prelude.{List, [], ◌∷◌, Bool, true, false, not, Option, Some, None, Ok}
+use Rattle.std.specs.Prelude.{List, [], ◌∷◌, Bool, true, false, not, Option, Some, None}
 use Rattle.sbi_abi.specs.declared.call.Call.{Call}
-use Rattle.sbi_abi.specs.declared.call.Call.TheVariants.{SystemReset}
+use Rattle.sbi_abi.specs.declared.call.Call.TheVariants.{Srst}
 use Rattle.sbi_abi.specs.declared.reset.Reset.{Reset}
 use Rattle.sbi_abi.specs.declared.reset.ResetKind.{ResetKind}
 use Rattle.sbi_abi.specs.declared.reset.ResetKind.TheVariants.{Shutdown, ColdReboot, WarmReboot}
@@ -10,11 +10,11 @@ use Rattle.board_core.specs.History.{Event}
 use Rattle.board_core.specs.declared.event.Op.{Op}
 use Rattle.board_core.specs.declared.event.Op.TheVariants.{Ecall}
 use Rattle.board_core.specs.declared.event.Reply.{Reply}
-use Rattle.board_core.specs.declared.event.Reply.TheVariants.{Gone}
+use Rattle.board_core.specs.Calls.Srst.{reset_by_srst}
 
--- A reset is a call of system_reset that doesn't return.
+-- The reset that a call is, if it is one.
 abbrev pub reset_by_call : Call → Reply → Option Reset
-reset_by_call (SystemReset (Ok reset)) Gone = Some reset
+reset_by_call (Srst call) reply = reset_by_srst call reply
 reset_by_call call reply = None
 
 abbrev pub reset_by : Op → Reply → Option Reset

@@ -2,10 +2,9 @@
 use Rattle.std.specs.Prelude.{◌≡◌, ℕ, List, [], ◌∷◌, ◌++◌, Bool, ◌==◌, if◌then◌else◌, Option, Some, None, unwrap_or, filter, find, option_to_list}
 use Rattle.std.specs.List.{filter_map}
 use Rattle.sbi_abi.specs.declared.call.Call.{Call}
-use Rattle.sbi_abi.specs.declared.call.Call.TheVariants.{HartStart}
+use Rattle.sbi_abi.specs.declared.call.Call.TheVariants.{Hsm}
 use Rattle.sbi_abi.specs.Calls.{call_of}
 use Rattle.sbi_abi.specs.declared.reset.Reset.{Reset}
-use Rattle.sbi_abi.specs.Errors.{is_success}
 use Rattle.hsm.specs.declared.hart.HartState.{HartState}
 use Rattle.hsm.specs.declared.hart.HartState.TheVariants as states
 use Rattle.hsm.specs.declared.hart.Kept.{Kept}
@@ -16,17 +15,13 @@ use Rattle.board_core.specs.History.{Event}
 use Rattle.board_core.specs.declared.event.Op.{Op}
 use Rattle.board_core.specs.declared.event.Op.TheVariants.{Ecall, Advance}
 use Rattle.board_core.specs.declared.event.Reply.{Reply}
-use Rattle.board_core.specs.declared.event.Reply.TheVariants.{Ret, Entry}
+use Rattle.board_core.specs.declared.event.Reply.TheVariants.{Entry}
+pub use Rattle.board_core.specs.Writes.{Start}
+use Rattle.board_core.specs.Calls.Hsm.{started_by_hsm}
 use Rattle.board_core.specs.Course.{harts_of}
 use Rattle.board_core.specs.Resets.{begins_anew, reset_by, reset_by_call}
 use Rattle.board_core.specs.States.{is_starting, state}
 use Rattle.board_core.specs.Suspends.{resume_point}
-
--- a start of a hart: where it begins and what it hands over
-pub record Start : Type 0 where
-  pub hart : ℕ
-  pub addr : ℕ
-  pub opaque : ℕ
 
 -- the firmware's own start of the boot hart
 abbrev pub boot_start : Config → Start
@@ -54,8 +49,7 @@ starts_at c reset = if begins_anew reset.kind then boot_start c ∷ [] else []
 
 -- the start that a call asks for, where it succeeded
 abbrev pub started_by_call : Call → Reply → Option Start
-started_by_call (HartStart t addr opaque) (Ret answer) =
-    if is_success answer then Some (record { hart = t; addr = addr; opaque = opaque }) else None
+started_by_call (Hsm call) reply = started_by_hsm call reply
 started_by_call call reply = None
 
 abbrev pub start_by_call : Config → Call → Reply → Option Growth

@@ -1,10 +1,9 @@
 -- The state of a hart: what the last event that moved it brought it to (SBI 9, HSM states).
-use Rattle.std.specs.Prelude.{ℕ, List, [], ◌∷◌, Bool, false, ◌==◌, if◌then◌else◌, Option, Some, None, Ok}
+use Rattle.std.specs.Prelude.{ℕ, List, [], ◌∷◌, Bool, false, ◌==◌, if◌then◌else◌, Option, Some, None}
 use Rattle.sbi_abi.specs.declared.call.Call.{Call}
-use Rattle.sbi_abi.specs.declared.call.Call.TheVariants.{HartStart, HartStop, HartSuspend, SystemReset}
+use Rattle.sbi_abi.specs.declared.call.Call.TheVariants.{Hsm}
 use Rattle.sbi_abi.specs.Calls.{call_of}
 use Rattle.sbi_abi.specs.declared.reset.Reset.{Reset}
-use Rattle.sbi_abi.specs.Errors.{is_success}
 use Rattle.hsm.specs.declared.hart.HartState.{HartState}
 use Rattle.hsm.specs.declared.hart.HartState.TheVariants as states
 use Rattle.hsm.specs.States.{is_start_pending}
@@ -12,16 +11,13 @@ use Rattle.board_core.specs.declared.config.Config.{Config}
 use Rattle.board_core.specs.declared.event.Actor.{Actor}
 use Rattle.board_core.specs.declared.event.Actor.TheVariants.{Hart, Clock}
 use Rattle.board_core.specs.History.{Event}
-use Rattle.board_core.specs.Resets.{begins_anew}
+use Rattle.board_core.specs.Calls.Hsm.{move_by_hsm}
+use Rattle.board_core.specs.Resets.{begins_anew, reset_by_call}
 use Rattle.board_core.specs.declared.event.Op.{Op}
 use Rattle.board_core.specs.declared.event.Op.TheVariants.{Ecall, Advance}
 use Rattle.board_core.specs.declared.event.Reply.{Reply}
-use Rattle.board_core.specs.declared.event.Reply.TheVariants.{Ret, Waiting, Gone, Entry, Moved}
-
--- the state that an event brings a hart to, or each hart
-pub data Move : Type 0 where
-  One : ℕ → HartState → Move
-  Each : (ℕ → HartState) → Move
+use Rattle.board_core.specs.declared.event.Reply.TheVariants.{Ret, Entry, Moved}
+pub use Rattle.board_core.specs.Writes.{Move, One, Each, moved_to}
 
 -- The firmware starts the boot hart by itself: its start is pending, and the others are STOPPED (profile).
 abbrev pub state_at_opening : Config → ℕ → HartState
@@ -31,15 +27,14 @@ state_at_opening c h = if h == c.boot_hart then states.StartPending else states.
 abbrev pub state_at_reset : Config → Reset → ℕ → HartState
 state_at_reset c reset h = if begins_anew reset.kind then state_at_opening c h else states.Stopped
 
--- The move that a call by hart x is: a start that succeeded makes its hart START_PENDING (SBI 9.1), a stop makes its
--- caller STOP_PENDING (SBI 9.2), a suspend makes its caller SUSPEND_PENDING (SBI 9.4), and a reset moves each hart.
+abbrev pub move_at_reset : Config → Option Reset → Option Move
+move_at_reset c None = None
+move_at_reset c (Some reset) = Some (Each (state_at_reset c reset))
+
+-- The move that a call by hart x is: one of hart state management moves a hart, and a reset each.
 abbrev pub move_by_call : Config → (x : ℕ) → Call → Reply → Option Move
-move_by_call c x (HartStart t addr opaque) (Ret answer) = if is_success answer then Some (One t states.StartPending) else None
-move_by_call c x HartStop Gone = Some (One x states.StopPending)
-move_by_call c x (HartSuspend kind addr opaque) Gone = Some (One x states.SuspendPending)
-move_by_call c x (HartSuspend kind addr opaque) Waiting = Some (One x states.SuspendPending)
-move_by_call c x (SystemReset (Ok reset)) Gone = Some (Each (state_at_reset c reset))
-move_by_call c x call reply = None
+move_by_call c x (Hsm call) reply = move_by_hsm x call reply
+move_by_call c x call reply = move_at_reset c (reset_by_call call reply)
 
 -- The move that an operation of hart x is: besides calls, the firmware brings its own hart further, to its guest by an
 -- entry or by the return from a retentive suspend.
@@ -54,12 +49,6 @@ move_by c x op reply = None
 abbrev pub move_of : Config → Actor → Op → Reply → Option Move
 move_of c (Hart x) op reply = move_by c x op reply
 move_of c Clock op reply = None
-
--- the state of hart h after a move, if it is this hart's
-abbrev pub moved_to : Option Move → (h : ℕ) → HartState → HartState
-moved_to None h before = before
-moved_to (Some (One x s)) h before = if h == x then s else before
-moved_to (Some (Each state)) h before = state h
 
 abbrev pub state : Config → List Event → ℕ → HartState
 state c [] h = state_at_opening c h

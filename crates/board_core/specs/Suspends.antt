@@ -1,22 +1,20 @@
 -- Where a suspended hart is to go on (SBI 9.4).
-use Rattle.std.specs.Prelude.{ℕ, List, [], ◌∷◌, Option, Some, None}
+use Rattle.std.specs.Prelude.{ℕ, List, [], ◌∷◌, Option, None}
 use Rattle.sbi_abi.specs.declared.call.Call.{Call}
-use Rattle.sbi_abi.specs.declared.call.Call.TheVariants.{HartSuspend}
+use Rattle.sbi_abi.specs.declared.call.Call.TheVariants.{Hsm}
 use Rattle.sbi_abi.specs.Calls.{call_of}
 use Rattle.hsm.specs.declared.hart.Kept.{Kept}
 use Rattle.board_core.specs.History.{Event}
 use Rattle.board_core.specs.declared.event.Op.{Op}
 use Rattle.board_core.specs.declared.event.Op.TheVariants.{Ecall}
 use Rattle.board_core.specs.declared.event.Reply.{Reply}
-use Rattle.board_core.specs.declared.event.Reply.TheVariants.{Waiting, Gone}
+use Rattle.board_core.specs.Calls.Hsm.{resume_by_hsm}
 use Rattle.board_core.specs.Course.{is_hart}
-use Rattle.board_core.specs.Writes.{Write, Here, latest}
+use Rattle.board_core.specs.Writes.{Write, latest}
 
--- A suspend that doesn't return is non-retentive, and says where the hart begins anew; one that waits is retentive, and
--- the hart returns from its call (SBI 9.4).
+-- what a call says of where its hart begins anew
 abbrev pub resume_by_call : Call → Reply → Option (Write (Option Kept))
-resume_by_call (HartSuspend kind addr opaque) Gone = Some (Here (Some (record { addr = addr; opaque = opaque })))
-resume_by_call (HartSuspend kind addr opaque) Waiting = Some (Here None)
+resume_by_call (Hsm call) reply = resume_by_hsm call reply
 resume_by_call call reply = None
 
 abbrev pub resume_by : Op → Reply → Option (Write (Option Kept))

@@ -1,5 +1,6 @@
--- What events write into registers that each hart has.
-use Rattle.std.specs.Prelude.{Bool, if◌then◌else◌, Option, Some, None}
+-- What events write: into registers that each hart has, into the states of harts, and into the list of starts.
+use Rattle.std.specs.Prelude.{ℕ, Bool, ◌==◌, if◌then◌else◌, Option, Some, None}
+use Rattle.hsm.specs.declared.hart.HartState.{HartState}
 use Rattle.sbi_abi.specs.declared.reset.Reset.{Reset}
 
 -- a value for the register of the hart that makes the step, or of every hart
@@ -17,3 +18,20 @@ latest (Some (Everywhere value)) own before = value
 abbrev pub at_reset : {A : Type 0} → Option Reset → A → Option (Write A)
 at_reset None value = None
 at_reset (Some reset) value = Some (Everywhere value)
+
+-- the state that an event brings a hart to, or each hart
+pub data Move : Type 0 where
+  One : ℕ → HartState → Move
+  Each : (ℕ → HartState) → Move
+
+-- the state of hart h after a move, if it is this hart's
+abbrev pub moved_to : Option Move → (h : ℕ) → HartState → HartState
+moved_to None h before = before
+moved_to (Some (One x s)) h before = if h == x then s else before
+moved_to (Some (Each state)) h before = state h
+
+-- a start of a hart: where it begins and what it hands over
+pub record Start : Type 0 where
+  pub hart : ℕ
+  pub addr : ℕ
+  pub opaque : ℕ

@@ -1,6 +1,6 @@
 //! Calls of the firmware, one file for each extension.
 
-ghost use Rattle.std.specs.Prelude.{◌≡◌, ℕ, ◌<◌, List, ◌∷◌, None};
+ghost use Rattle.std.specs.Prelude.{◌≡◌, ◌<◌, List, ◌∷◌, None};
 ghost use Rattle.sbi_abi.specs.declared.call.Regs.{Regs};
 ghost use Rattle.sbi_abi.specs.Calls.{call_of};
 ghost use Rattle.hsm.specs.declared.hart.HartState.TheVariants as states;
@@ -13,19 +13,19 @@ ghost use Rattle.board_core.specs.Replies.{call_reply, failure, success};
 ghost use Rattle.board_core.specs.Stands.{IsSized, IsStanding, StandsFor};
 ghost use Rattle.rfence.specs.State.{call_at};
 
-mod fences;
-mod harts;
-mod ipi;
-mod reset;
-mod time;
+mod base_calls;
+mod hsm_calls;
+mod ipi_calls;
+mod rfence_calls;
+mod srst_calls;
+mod time_calls;
 
-use self::fences::flush_of_range;
-pub use self::reset::is_shutdown;
+use self::base_calls::base_reply;
+pub use self::srst_calls::is_shutdown;
 use crate::config::Config;
 use crate::event::Reply;
 use crate::machine::Machine;
-use sbi_abi::{Call, SbiError, Sbiret, is_extension};
-use tlb_model::Flush;
+use sbi_abi::{Call, SbiError, Sbiret};
 
 impl Machine {
     /// The firmware's reply to a call by hart `h`, which is STARTED.
@@ -41,52 +41,25 @@ impl Machine {
             StandsFor config.now (by_hart h (Ecall regs) result ∷ past) self.new }
     {
         match call {
-            Call::GetSpecVersion => success(0x100_0000),
-            Call::GetImplId => success(0x5A_5A5A),
-            Call::GetImplVersion => success(1),
-            Call::ProbeExtension(eid) => success(u64::from(is_extension(eid))),
-            Call::GetMvendorid => success(0),
-            Call::GetMarchid => success(0),
-            Call::GetMimpid => success(0),
-            Call::SetTimer(deadline) => self.set_timer(h, deadline),
-            Call::SendIpi { mask, base } => self.send_ipi(config, mask, base),
-            Call::RemoteFenceI { mask, base } => {
-                self.remote_fence(config, h, mask, base, Ok(Flush::Words))
-            }
-            Call::RemoteSfenceVma {
-                mask,
-                base,
-                start,
-                size,
-            } => self.remote_fence(config, h, mask, base, flush_of_range(start, size, None)),
-            Call::RemoteSfenceVmaAsid {
-                mask,
-                base,
-                start,
-                size,
-                asid,
-            } => {
-                let flush = flush_of_range(start, size, Some(asid));
-                self.remote_fence(config, h, mask, base, flush)
-            }
-            Call::HartStart { hart, addr, opaque } => self.hart_start(config, hart, addr, opaque),
-            Call::HartStop => self.hart_stop(config, h),
-            Call::HartGetStatus(hart) => self.hart_get_status(config, hart),
-            Call::HartSuspend { kind, addr, opaque } => {
-                self.hart_suspend(config, h, kind, addr, opaque)
-            }
-            Call::SystemReset(reset) => self.system_reset(config, reset),
+            Call::Base(call) => base_reply(call),
+            Call::Time(call) => self.time_call(h, call),
+            Call::Ipi(call) => self.ipi_call(config, call),
+            Call::Rfence(call) => self.rfence_call(config, h, call),
+            Call::Hsm(call) => self.hsm_call(config, h, call),
+            Call::Srst(call) => self.srst_call(config, call),
             Call::Unsupported => failure(SbiError::NotSupported),
         }
     }
 }
 
+/// The reply of a call that succeeded.
 fn success(value: u64) -> Reply
     ensures { result ≡ Ret (success value) }
 {
     Reply::Ret(Sbiret { error: 0, value })
 }
 
+/// The reply of a call that failed; its value is 0 (profile).
 fn failure(error: SbiError) -> Reply
     ensures { result ≡ Ret (failure error) }
 {

@@ -2,7 +2,8 @@
 use Rattle.std.proofs.Common.{◌≡◌, ℕ, Bool, true, false, List, [], ◌∷◌, eqb, refl, ap, arith, Some, None, Ok, Err}
 use Rattle.std.specs.Prelude.{◌&&◌, if◌then◌else◌}
 use Rattle.sbi_abi.specs.declared.call.Call.{Call}
-use Rattle.sbi_abi.specs.declared.call.Call.TheVariants.{SystemReset}
+use Rattle.sbi_abi.specs.declared.call.Call.TheVariants.{Srst}
+use Rattle.sbi_abi.specs.declared.call.srst.SrstCall.TheVariants.{SystemReset}
 use Rattle.sbi_abi.specs.declared.call.Regs.{Regs}
 use Rattle.sbi_abi.specs.declared.reset.Reset.{Reset}
 use Rattle.sbi_abi.specs.Calls.{call_of}
@@ -38,17 +39,17 @@ record IsReset (event : Event) (reset : Reset) : Type 0 where
   by_hart : event.actor ≡ Hart hart
   regs : Regs
   call : event.op ≡ Ecall regs
-  asks : call_of regs ≡ SystemReset (Ok reset)
+  asks : call_of regs ≡ Srst (SystemReset (Ok reset))
   accepted : event.reply ≡ Gone
 
 record Calls (op : Op) (r : Reply) (reset : Reset) : Type 0 where
   regs : Regs
   call : op ≡ Ecall regs
-  asks : call_of regs ≡ SystemReset (Ok reset)
+  asks : call_of regs ≡ Srst (SystemReset (Ok reset))
   accepted : r ≡ Gone
 
-call-resets : (call : Call) (r : Reply) (reset : Reset) → reset_by_call call r ≡ Some reset → (call ≡ SystemReset (Ok reset)) × (r ≡ Gone)
-call-resets (SystemReset (Ok asked)) Gone reset e = (cc, refl)
+call-resets : (call : Call) (r : Reply) (reset : Reset) → reset_by_call call r ≡ Some reset → (call ≡ Srst (SystemReset (Ok reset))) × (r ≡ Gone)
+call-resets (Srst (SystemReset (Ok asked))) Gone reset e = (cc, refl)
 call-resets call r reset e = cc
 
 op-resets : (op : Op) (r : Reply) (reset : Reset) → reset_by op r ≡ Some reset → Calls op r reset

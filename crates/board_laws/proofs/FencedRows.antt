@@ -17,7 +17,7 @@ use Rattle.sv39.specs.Pages.{is_valid}
 use Rattle.tlb_model.specs.declared.entry.Entry.{Entry as CacheEntry}
 use Rattle.tlb_model.specs.declared.fence.Fence.{Fence}
 use Rattle.tlb_model.specs.declared.fence.Flush.{Flush}
-use Rattle.tlb_model.specs.declared.fence.Flush.TheVariants.{Entries, Words}
+use Rattle.tlb_model.specs.declared.fence.Flush.TheVariants.{Entries}
 use Rattle.tlb_model.specs.Fences.{fence_of_address, fence_of_range}
 use Rattle.hart_access.specs.declared.operation.Access.TheVariants as accesses
 use Rattle.hart_access.specs.Translations.{IsTranslated}
@@ -30,7 +30,8 @@ use Rattle.board_core.specs.declared.event.Op.{Op}
 use Rattle.board_core.specs.declared.event.Op.TheVariants.{Advance, Ecall, Fetch, FenceI, Load, Poll, Serve, Sfence, Store, WriteSatp}
 use Rattle.board_core.specs.declared.event.Reply.{Reply}
 use Rattle.board_core.specs.declared.event.Reply.TheVariants.{Done, Entry, Gone, Ret, Served, Value, Waiting}
-use Rattle.board_core.specs.Fences.{flush_of_range, turns}
+use Rattle.board_core.specs.Calls.Rfence.{flush_of_range}
+use Rattle.board_core.specs.Fences.{turns}
 use Rattle.board_core.specs.History.{Event, Reach}
 use Rattle.board_core.specs.Limits.{IsGood}
 use Rattle.board_core.specs.Memory.{memory, satp}

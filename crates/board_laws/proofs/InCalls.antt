@@ -13,7 +13,9 @@ use Rattle.sbi_abi.specs.declared.answer.Sbiret.{Sbiret}
 use Rattle.sbi_abi.specs.declared.answer.SbiError.{SbiError}
 use Rattle.sbi_abi.specs.declared.answer.SbiError.TheVariants.{InvalidParam, InvalidAddress, AlreadyAvailable}
 use Rattle.sbi_abi.specs.declared.call.Call.{Call}
-use Rattle.sbi_abi.specs.declared.call.Call.TheVariants.{HartStart, HartStop, HartSuspend, SystemReset}
+use Rattle.sbi_abi.specs.declared.call.Call.TheVariants.{Hsm, Srst}
+use Rattle.sbi_abi.specs.declared.call.hsm.HsmCall.TheVariants.{HartStart, HartStop, HartSuspend}
+use Rattle.sbi_abi.specs.declared.call.srst.SrstCall.TheVariants.{SystemReset}
 use Rattle.sbi_abi.specs.Calls.{call_of}
 use Rattle.sbi_abi.specs.Errors.{is_success}
 use Rattle.tlb_model.specs.declared.fence.Flush.{Flush}
@@ -28,14 +30,15 @@ use Rattle.board_core.specs.Fences.{Remote, remote_of, turn_by, turn_by_call, tu
 use Rattle.board_core.specs.History.{Event}
 use Rattle.board_core.specs.Limits.{is_start_address}
 use Rattle.board_core.specs.Refusals.{first_that_holds, situation}
-use Rattle.board_core.specs.Replies.{IsLegal, answer, call_reply, start_errors, unless}
+use Rattle.board_core.specs.Calls.Hsm.{start_errors}
+use Rattle.board_core.specs.Replies.{IsLegal, answer, call_reply, unless}
 use Rattle.board_core.specs.States.{Move, One, move_by, move_by_call, move_of, moved_to, state}
 use Rattle.board_laws.specs.Fences.{CallsAreMadeStarted}
 use Rattle.board_core.proofs.Rows.{running_parts}
 use Rattle.board_laws.proofs.Right.{IsTaken, taken}
 
 -- a start that succeeds is of a STOPPED hart
-pub starts-at-stopped : (c : Config) (past : List Event) (t addr : ℕ) (answered : Sbiret) → replies.Ret (unless (first_that_holds (start_errors c past t addr)) 0) ≡ replies.Ret answered
+pub starts-at-stopped : (c : Config) (past : List Event) (t addr : ℕ) (answered : Sbiret) → replies.Ret (unless (first_that_holds (start_errors c (state c past) t addr)) 0) ≡ replies.Ret answered
     → is_success answered ≡ true → state c past t ≡ states.Stopped
 starts-at-stopped c past t addr answered e ok = by_tests (nat_le c.harts t) (not (is_start_address c.pages addr)) (state c past t) e
   where
@@ -97,16 +100,16 @@ module _ (c : Config) (past : List Event) (before : (h place : ℕ) → open_cal
       remote-keeps remote r = before h
 
       call-keeps : (call : Call) (r : Reply) → call_reply c past x call ≡ r → Keeps h (turn_by_call c past x call r) (move_by_call c x call r)
-      call-keeps (HartStart t addr opaque) (replies.Ret answered) replied = by_success (is_success answered) refl
+      call-keeps (Hsm (HartStart t addr opaque)) (replies.Ret answered) replied = by_success (is_success answered) refl
         where
           by_success : (ok : Bool) → is_success answered ≡ ok → (place : ℕ) → open_call (turns c past) h ≡ Some place
               → moved_to (if ok then Some (One t states.StartPending) else None) h (state c past h) ≡ states.Started
           by_success true is place inside = moved h t place states.StartPending (not-inside t (ap is_started (starts-at-stopped c past t addr answered replied is))) inside
           by_success false is place inside = before h place inside
-      call-keeps HartStop replies.Gone replied = λ place inside. moved h x place states.StopPending no-call-of inside
-      call-keeps (HartSuspend kind addr opaque) replies.Gone replied = λ place inside. moved h x place states.SuspendPending no-call-of inside
-      call-keeps (HartSuspend kind addr opaque) replies.Waiting replied = λ place inside. moved h x place states.SuspendPending no-call-of inside
-      call-keeps (SystemReset (Ok reset)) replies.Gone replied = λ place e. absurd (let none = e in cc)
+      call-keeps (Hsm HartStop) replies.Gone replied = λ place inside. moved h x place states.StopPending no-call-of inside
+      call-keeps (Hsm (HartSuspend kind addr opaque)) replies.Gone replied = λ place inside. moved h x place states.SuspendPending no-call-of inside
+      call-keeps (Hsm (HartSuspend kind addr opaque)) replies.Waiting replied = λ place inside. moved h x place states.SuspendPending no-call-of inside
+      call-keeps (Srst (SystemReset (Ok reset))) replies.Gone replied = λ place e. absurd (let none = e in cc)
       call-keeps call r replied = remote-keeps (remote_of call) r
 
     op-keeps : (op : Op) (r : Reply) → IsTaken c past x op r → Keeps h (turn_by c past x op r) (move_by c x op r)

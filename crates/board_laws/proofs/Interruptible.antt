@@ -15,7 +15,9 @@ use Rattle.rfence.specs.Waiting.{Asked, added}
 use Rattle.rfence.proofs.Waits.{waited, waiting-more}
 use Rattle.sbi_abi.specs.declared.answer.SbiError.{SbiError}
 use Rattle.sbi_abi.specs.declared.call.Call.{Call}
-use Rattle.sbi_abi.specs.declared.call.Call.TheVariants.{HartStart, HartStop, HartSuspend, SystemReset}
+use Rattle.sbi_abi.specs.declared.call.Call.TheVariants.{Hsm, Srst}
+use Rattle.sbi_abi.specs.declared.call.hsm.HsmCall.TheVariants.{HartStart, HartStop, HartSuspend}
+use Rattle.sbi_abi.specs.declared.call.srst.SrstCall.TheVariants.{SystemReset}
 use Rattle.sbi_abi.specs.Calls.{call_of}
 use Rattle.sbi_abi.specs.Errors.{is_success}
 use Rattle.tlb_model.specs.declared.fence.Flush.{Flush}
@@ -28,7 +30,7 @@ use Rattle.board_core.specs.declared.event.Reply.{Reply}
 use Rattle.board_core.specs.declared.event.Reply.TheVariants as replies
 use Rattle.board_core.specs.Fences.{Remote, is_asked_by, remote_of, turn_by, turn_by_call, turn_by_flush, turn_by_remote, turn_of, turns}
 use Rattle.board_core.specs.History.{Event}
-use Rattle.board_core.specs.Interrupts.{is_target}
+use Rattle.board_core.specs.Targets.{is_target}
 use Rattle.board_core.specs.Limits.{IsGood}
 use Rattle.board_core.specs.Replies.{IsLegal, advance_reply, answer, call_reply}
 use Rattle.board_core.specs.Starts.{Start, last_start}
@@ -79,7 +81,7 @@ module _ (c : Config) (past : List Event) (right : IsRight c.harts (turns c past
     remote-keeps remote r some = before h some
 
     call-keeps : (call : Call) (r : Reply) → call_reply c past x call ≡ r → Keeps h (turn_by_call c past x call r) (move_by_call c x call r)
-    call-keeps (HartStart t addr opaque) (replies.Ret answered) replied some = by_success (is_success answered) refl
+    call-keeps (Hsm (HartStart t addr opaque)) (replies.Ret answered) replied some = by_success (is_success answered) refl
       where
         stopped : is_success answered ≡ true → h ≡ t → is_interruptible (state c past h) ≡ true → ⊥
         stopped ok same can =
@@ -92,7 +94,7 @@ module _ (c : Config) (past : List Event) (right : IsRight c.harts (turns c past
             by_hart true same = absurd (stopped is (eqb-true h t same) (before h some))
             by_hart false other = before h some
         by_success false is = before h some
-    call-keeps HartStop replies.Gone replied some = by_hart (h == x) refl some
+    call-keeps (Hsm HartStop) replies.Gone replied some = by_hart (h == x) refl some
       where
         by_hart : (own : Bool) → (h == x) ≡ own → 0 < length (if x == h then [] else queues.waiting (turns c past) h) → is_interruptible (if own then states.StopPending else state c past h) ≡ true
         by_hart true same some = absurd (let here = eqb-true h x same in none-left here some)
@@ -104,9 +106,9 @@ module _ (c : Config) (past : List Event) (right : IsRight c.harts (turns c past
             fewer : (own : Bool) → 0 < length (if own then [] else queues.waiting (turns c past) h) → 0 < length (queues.waiting (turns c past) h)
             fewer true some = absurd (omega arith)
             fewer false some = some
-    call-keeps (HartSuspend kind addr opaque) replies.Gone replied some = moved-can h x states.SuspendPending refl some
-    call-keeps (HartSuspend kind addr opaque) replies.Waiting replied some = moved-can h x states.SuspendPending refl some
-    call-keeps (SystemReset (Ok reset)) replies.Gone replied some = absurd (omega arith)
+    call-keeps (Hsm (HartSuspend kind addr opaque)) replies.Gone replied some = moved-can h x states.SuspendPending refl some
+    call-keeps (Hsm (HartSuspend kind addr opaque)) replies.Waiting replied some = moved-can h x states.SuspendPending refl some
+    call-keeps (Srst (SystemReset (Ok reset))) replies.Gone replied some = absurd (omega arith)
     call-keeps call r replied some = remote-keeps (remote_of call) r some
 
     op-keeps : (op : Op) (r : Reply) → IsTaken c past x op r → Keeps h (turn_by c past x op r) (move_by c x op r)

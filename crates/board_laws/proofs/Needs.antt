@@ -13,7 +13,9 @@ use Rattle.rfence.proofs.Bounds.{are-bounded, needs-none, open-inside}
 use Rattle.rfence.proofs.Needs.{need-more, needed, needs-open, none-raises, open-more, serve-lowers}
 use Rattle.sbi_abi.specs.declared.answer.SbiError.{SbiError}
 use Rattle.sbi_abi.specs.declared.call.Call.{Call}
-use Rattle.sbi_abi.specs.declared.call.Call.TheVariants.{HartStop, SystemReset}
+use Rattle.sbi_abi.specs.declared.call.Call.TheVariants.{Hsm, Srst}
+use Rattle.sbi_abi.specs.declared.call.hsm.HsmCall.TheVariants.{HartStop}
+use Rattle.sbi_abi.specs.declared.call.srst.SrstCall.TheVariants.{SystemReset}
 use Rattle.sbi_abi.specs.declared.reset.Reset.{Reset}
 use Rattle.sbi_abi.specs.Calls.{call_of}
 use Rattle.tlb_model.specs.declared.fence.Flush.{Flush}
@@ -62,12 +64,12 @@ module _ (c : Config) (past : List Event) where
 
   call-needs : (x t k : ℕ) (call : Call) (r : Reply)
       → needed (turn_by_call c past x call r) t k ≡ (if (t == x) && is_stop_call call r then 0 else if (t == x) && false then k - 1 else k)
-  call-needs x t k HartStop replies.Gone = rw (flip x t) (by_hart (t == x))
+  call-needs x t k (Hsm HartStop) replies.Gone = rw (flip x t) (by_hart (t == x))
     where
       by_hart : (own : Bool) → (if own then 0 else k) ≡ (if own && true then 0 else if own && false then k - 1 else k)
       by_hart true = refl
       by_hart false = refl
-  call-needs x t k (SystemReset (Ok reset)) replies.Gone = neither (t == x) k
+  call-needs x t k (Srst (SystemReset (Ok reset))) replies.Gone = neither (t == x) k
   call-needs x t k call r = remote-needs x t k (remote_of call) r ∙ neither (t == x) k
 
   op-needs : (x t k : ℕ) (op : Op) (r : Reply)
@@ -98,8 +100,8 @@ module _ (c : Config) (past : List Event) where
   remote-goes x h remote r = refl
 
   call-goes : (x h : ℕ) (call : Call) (r : Reply) → is_some (reset_by_call call r) ≡ false → turn_needs.ends h (turn_by_call c past x call r) ≡ false
-  call-goes x h HartStop replies.Gone goes = refl
-  call-goes x h (SystemReset (Ok reset)) replies.Gone goes = cc
+  call-goes x h (Hsm HartStop) replies.Gone goes = refl
+  call-goes x h (Srst (SystemReset (Ok reset))) replies.Gone goes = cc
   call-goes x h call r goes = remote-goes x h (remote_of call) r
 
   op-goes : (x h : ℕ) (op : Op) (r : Reply) → ((h == x) && is_poll op) ≡ false → is_some (reset_by op r) ≡ false → turn_needs.ends h (turn_of c past (Hart x) op r) ≡ false

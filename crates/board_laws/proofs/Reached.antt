@@ -63,9 +63,8 @@ event-strikes c past t place flush was =
 -- a remote fence that was accepted is the turn that asks it
 call-turn : (c : Config) (past : List Event) (x : ℕ) (call : Call) (remote : Remote) → remote_of call ≡ Some remote
     → turn_by_call c past x call replies.Waiting ≡ turn_by_remote c past x (Some remote) replies.Waiting
-call-turn c past x calls.HartStop remote e = cc
-call-turn c past x (calls.SystemReset reset) remote e = cc
-call-turn c past x call remote e = ap (λ r. turn_by_remote c past x r replies.Waiting) e
+call-turn c past x (calls.Rfence call) remote e = ap (λ r. turn_by_remote c past x r replies.Waiting) e
+call-turn c past x call remote e = cc
 
 pub ask-turn : (c : Config) (past : List Event) (x t place : ℕ) (flush : Flush) (a : Asks c past x t place flush)
     → turn_of c (past_at past place) a.event.actor a.event.op a.event.reply ≡ Ask x (is_asked_by c (past_at past place) a.remote.mask a.remote.base) flush

@@ -13,7 +13,9 @@ use Rattle.sbi_abi.specs.declared.answer.Sbiret.{Sbiret}
 use Rattle.sbi_abi.specs.declared.answer.SbiError.{SbiError}
 use Rattle.sbi_abi.specs.declared.answer.SbiError.TheVariants.{InvalidParam, InvalidAddress, AlreadyAvailable}
 use Rattle.sbi_abi.specs.declared.call.Call.{Call}
-use Rattle.sbi_abi.specs.declared.call.Call.TheVariants.{HartStart, HartStop, HartSuspend, SystemReset}
+use Rattle.sbi_abi.specs.declared.call.Call.TheVariants.{Hsm, Srst}
+use Rattle.sbi_abi.specs.declared.call.hsm.HsmCall.TheVariants.{HartStart, HartStop, HartSuspend}
+use Rattle.sbi_abi.specs.declared.call.srst.SrstCall.TheVariants.{SystemReset}
 use Rattle.sbi_abi.specs.Calls.{call_of}
 use Rattle.sbi_abi.specs.declared.reset.Reset.{Reset}
 use Rattle.sbi_abi.specs.Errors.{is_success}
@@ -30,10 +32,11 @@ use Rattle.board_core.specs.declared.event.Reply.{Reply}
 use Rattle.board_core.specs.declared.event.Reply.TheVariants as replies
 use Rattle.board_core.specs.Fences.{Remote, is_asked_by, outstanding, remote_of, turn_by, turn_by_call, turn_by_flush, turn_by_remote, turn_of, turns}
 use Rattle.board_core.specs.History.{Event}
-use Rattle.board_core.specs.Interrupts.{is_target}
+use Rattle.board_core.specs.Targets.{is_target}
 use Rattle.board_core.specs.Limits.{IsGood, is_start_address}
 use Rattle.board_core.specs.Refusals.{first_that_holds, has_nothing_to_do, is_empty, is_full, is_out_of_phase, is_running, situation, waits_for_some}
-use Rattle.board_core.specs.Replies.{IsLegal, answer, call_reply, refused_or, reply, start_errors, unless}
+use Rattle.board_core.specs.Calls.Hsm.{start_errors}
+use Rattle.board_core.specs.Replies.{IsLegal, answer, call_reply, refused_or, reply, unless}
 use Rattle.board_core.specs.Resets.{begins_anew, is_off}
 use Rattle.board_core.specs.States.{One, move_by, move_by_call, move_of, moved_to, state, state_at_opening, state_at_reset}
 
@@ -62,7 +65,7 @@ taken c past x op r e = by_tests (is_off past) (nat_le c.harts x) (is_out_of_pha
 -- ---- harts that aren't there
 
 -- a start that succeeds is of a hart that is there
-started-inside : (c : Config) (past : List Event) (t addr : ℕ) (answered : Sbiret) → replies.Ret (unless (first_that_holds (start_errors c past t addr)) 0) ≡ replies.Ret answered
+started-inside : (c : Config) (past : List Event) (t addr : ℕ) (answered : Sbiret) → replies.Ret (unless (first_that_holds (start_errors c (state c past) t addr)) 0) ≡ replies.Ret answered
     → is_success answered ≡ true → t < c.harts
 started-inside c past t addr answered e ok = by_test (nat_le c.harts t) refl e
   where
@@ -95,15 +98,15 @@ reset-stops c t reset good outside = by_kind (begins_anew reset.kind)
 module _ (c : Config) (past : List Event) (t : ℕ) (good : IsGood c) (outside : c.harts ≤ t) where
   -- so it stays STOPPED by a call
   call-stays : (x : ℕ) (call : Call) (r : Reply) → x < c.harts → call_reply c past x call ≡ r → moved_to (move_by_call c x call r) t states.Stopped ≡ states.Stopped
-  call-stays x (HartStart h addr opaque) (replies.Ret answered) inside replied = by_success (is_success answered) refl
+  call-stays x (Hsm (HartStart h addr opaque)) (replies.Ret answered) inside replied = by_success (is_success answered) refl
     where
       by_success : (ok : Bool) → is_success answered ≡ ok → moved_to (if ok then Some (One h states.StartPending) else None) t states.Stopped ≡ states.Stopped
       by_success true is = one-stays c t h states.StartPending outside (started-inside c past h addr answered replied is)
       by_success false is = refl
-  call-stays x HartStop replies.Gone inside replied = one-stays c t x states.StopPending outside inside
-  call-stays x (HartSuspend kind addr opaque) replies.Gone inside replied = one-stays c t x states.SuspendPending outside inside
-  call-stays x (HartSuspend kind addr opaque) replies.Waiting inside replied = one-stays c t x states.SuspendPending outside inside
-  call-stays x (SystemReset (Ok reset)) replies.Gone inside replied = reset-stops c t reset good outside
+  call-stays x (Hsm HartStop) replies.Gone inside replied = one-stays c t x states.StopPending outside inside
+  call-stays x (Hsm (HartSuspend kind addr opaque)) replies.Gone inside replied = one-stays c t x states.SuspendPending outside inside
+  call-stays x (Hsm (HartSuspend kind addr opaque)) replies.Waiting inside replied = one-stays c t x states.SuspendPending outside inside
+  call-stays x (Srst (SystemReset (Ok reset))) replies.Gone inside replied = reset-stops c t reset good outside
   call-stays x call r inside replied = refl
 
   -- and by any operation
@@ -159,8 +162,8 @@ module _ (c : Config) (past : List Event) (x : ℕ) (good : IsGood c) (legal : I
   right-remote remote r none = tt
 
   right-call : (call : Call) (r : Reply) → calls.open_call (turns c past) x ≡ None → IsRightTurn c.harts (turns c past) (turn_by_call c past x call r)
-  right-call HartStop replies.Gone none = inside
-  right-call (SystemReset (Ok reset)) replies.Gone none = tt
+  right-call (Hsm HartStop) replies.Gone none = inside
+  right-call (Srst (SystemReset (Ok reset))) replies.Gone none = tt
   right-call call r none = right-remote (remote_of call) r none
 
   -- a guest runs outside of a call

@@ -18,7 +18,7 @@ use Rattle.board_core.specs.declared.event.Op.{Op}
 use Rattle.board_core.specs.declared.event.Op.TheVariants.{Advance, Ecall, Fetch, FenceI, Load, Poll, Serve, Sfence, Store, WriteSatp}
 use Rattle.board_core.specs.declared.event.Reply.{Reply}
 use Rattle.board_core.specs.declared.event.Reply.TheVariants.{Done, Entry, Fault, Gone, Ret, Served, Value, Waiting}
-use Rattle.board_core.specs.Fences.{flush_of_range}
+use Rattle.board_core.specs.Calls.Rfence.{flush_of_range}
 use Rattle.sv39.specs.declared.cause.Kind.TheVariants as kinds
 use Rattle.hart_access.specs.declared.operation.Access.TheVariants as accesses
 use Rattle.std.proofs.lemmas.Bool.{cases_eq}

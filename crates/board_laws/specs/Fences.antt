@@ -1,7 +1,8 @@
 -- The fences that have reached a hart, its own and those of others (SBI 8; Privileged 4.2.1; Zifencei).
 use Rattle.std.specs.Prelude.{◌≡◌, ℕ, ◌+◌, ◌<◌, true, List, [], if◌then◌else◌, Option, Some, None, Ok}
 use Rattle.hsm.specs.declared.hart.HartState.TheVariants.{Started}
-use Rattle.sbi_abi.specs.declared.call.Call.TheVariants.{HartStop}
+use Rattle.sbi_abi.specs.declared.call.Call.TheVariants.{Hsm}
+use Rattle.sbi_abi.specs.declared.call.hsm.HsmCall.TheVariants.{HartStop}
 use Rattle.sbi_abi.specs.declared.call.Regs.{Regs}
 use Rattle.sbi_abi.specs.Calls.{call_of}
 use Rattle.tlb_model.specs.declared.fence.Flush.{Flush}
@@ -77,7 +78,7 @@ pub record Stops (event : Event) (t : ℕ) : Type 0 where
   pub by_hart : event.actor ≡ Hart t
   pub regs : Regs
   pub call : event.op ≡ Ecall regs
-  pub stop : call_of regs ≡ HartStop
+  pub stop : call_of regs ≡ Hsm HartStop
   pub accepted : event.reply ≡ Gone
 
 -- Nothing lives in the caches of hart t, and no fence waits there.

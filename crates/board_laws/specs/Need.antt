@@ -2,7 +2,8 @@
 use Rattle.std.specs.Prelude.{◌≡◌, ℕ, ◌-◌, ◌*◌, ◌≤◌, ◌<◌, Bool, true, false, List, [], ◌∷◌, ◌++◌, ◌&&◌, ◌||◌, ◌⊎◌, if◌then◌else◌, Some, is_some, Ok, Err}
 use Rattle.std.specs.List.{list_any}
 use Rattle.sbi_abi.specs.declared.call.Call.{Call}
-use Rattle.sbi_abi.specs.declared.call.Call.TheVariants.{HartStop}
+use Rattle.sbi_abi.specs.declared.call.Call.TheVariants.{Hsm}
+use Rattle.sbi_abi.specs.declared.call.hsm.HsmCall.TheVariants.{HartStop}
 use Rattle.sbi_abi.specs.Calls.{call_of}
 use Rattle.rfence.specs.Waiting.{one_more}
 use Rattle.board_core.specs.declared.config.Config.{Config}
@@ -30,7 +31,7 @@ is_poll op = false
 
 -- a call of hart_stop that doesn't return (SBI 9.2)
 abbrev pub is_stop_call : Call → Reply → Bool
-is_stop_call HartStop Gone = true
+is_stop_call (Hsm HartStop) Gone = true
 is_stop_call call reply = false
 
 abbrev pub is_stop : Op → Reply → Bool

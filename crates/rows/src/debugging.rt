@@ -13,6 +13,7 @@ use hart_threads::{End, Met, Open, RunFault};
 use hsm::{AlreadyAvailable, HartState, Hsm, Kept, Moved};
 use interrupts::{Ipis, TimeFull, Timers};
 use monitor::Failed;
+use sbi_abi::call::HsmCall;
 use sbi_abi::{Call, Regs, Reset, ResetKind, SbiError, Sbiret, SuspendKind};
 use sbiboard::{Device, Outcome, ReadFault, Stop, Task};
 use seeded_orders::Step;
@@ -88,11 +89,11 @@ pub fn show_harts<R: Print>(rt: &R) -> io::Result<()> {
         error: -3,
         value: 4,
     };
-    let call = Call::HartSuspend {
+    let call = Call::Hsm(HsmCall::HartSuspend {
         kind: Ok(SuspendKind::Retentive),
         addr: 1,
         opaque: 2,
-    };
+    });
     println!(rt; "{REGS:?}")?;
     println!(rt; "{call:?}")?;
     println!(rt; "{:?}", SuspendKind::NonRetentive)?;

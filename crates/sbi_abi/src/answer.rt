@@ -1,3 +1,5 @@
+//! What a call answers: a pair of values, or an error by its number.
+
 ghost use Rattle.std.specs.Prelude.{◌≡◌};
 ghost use Rattle.sbi_abi.specs.Errors.{error_number};
 

@@ -3,7 +3,7 @@
 #![tactic(auto)]
 
 mod answer;
-mod call;
+pub mod call;
 mod reset;
 mod suspend;
 

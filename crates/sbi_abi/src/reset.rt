@@ -1,3 +1,5 @@
+//! Kinds of system reset, and which one a type and a reason ask for.
+
 ghost use Rattle.std.specs.Prelude.{◌≡◌};
 ghost use Rattle.sbi_abi.specs.ResetTypes.{is_reason, reset_kind_number, reset_kind_of, reset_of};
 

@@ -1,3 +1,5 @@
+//! Kinds of suspend, and which one a type asks for.
+
 ghost use Rattle.std.specs.Prelude.{◌≡◌};
 ghost use Rattle.sbi_abi.specs.SuspendTypes.{suspend_kind_of};
 

@@ -5,7 +5,8 @@ use Rattle.hsm.specs.Harts.{Hart}
 use Rattle.hsm.specs.States.{is_stopped}
 use Rattle.hsm.specs.Transitions.{changed, hart_at, started_from}
 use Rattle.sbi_abi.specs.declared.answer.SbiError.TheVariants.{AlreadyAvailable, InvalidAddress, InvalidParam}
-use Rattle.sbi_abi.specs.declared.call.Call.TheVariants.{HartStart}
+use Rattle.sbi_abi.specs.declared.call.Call.TheVariants.{Hsm}
+use Rattle.sbi_abi.specs.declared.call.hsm.HsmCall.TheVariants.{HartStart}
 use Rattle.board_core.specs.declared.event.Op.TheVariants.{Ecall}
 use Rattle.board_core.specs.declared.event.Reply.TheVariants.{Ret}
 use Rattle.board_core.specs.Replies.{failure, success}
@@ -18,12 +19,12 @@ use Rattle.board_core.proofs.machine.Machine.hart_start.Goals as goal
 
 pub returns-then-t-config-clause-after : goal.returns-then-t-config-clause-after
 returns-then-t-config-clause-after c = λ x past regs is stands.
-    rw c.failure.ensures (call-quiet c.args.config.now past x regs (HartStart c.args.t c.args.addr c.args.opaque) (Ret (failure InvalidParam)) c.args.self.now is refl stands)
+    rw c.failure.ensures (call-quiet c.args.config.now past x regs (Hsm (HartStart c.args.t c.args.addr c.args.opaque)) (Ret (failure InvalidParam)) c.args.self.now is refl stands)
 
 pub returns-then-not-is_start_address-clause-after : goal.returns-then-not-is_start_address-clause-after
 returns-then-not-is_start_address-clause-after c = λ x past regs is stands.
     rw c.failure-then-not-is_start_address.ensures
-    (call-quiet c.args.config.now past x regs (HartStart c.args.t c.args.addr c.args.opaque) (Ret (failure InvalidAddress)) c.args.self.now is refl stands)
+    (call-quiet c.args.config.now past x regs (Hsm (HartStart c.args.t c.args.addr c.args.opaque)) (Ret (failure InvalidAddress)) c.args.self.now is refl stands)
 
 pub returns-in-Ok-clause-answered : goal.returns-in-Ok-clause-answered
 returns-in-Ok-clause-answered c = λ x past stands.
@@ -38,7 +39,7 @@ returns-in-Ok-clause-after c = λ x past regs is stands.
     let config = c.args.config.now in
     let m = c.args.self.now in
     let start : Kept = record { addr = c.args.addr; opaque = c.args.opaque } in
-    let call = HartStart c.args.t c.args.addr c.args.opaque in
+    let call = Hsm (HartStart c.args.t c.args.addr c.args.opaque) in
     let event = by_hart x (Ecall regs) (Ret (success 0)) in
     let d = deed_of_call config past x call (Ret (success 0)) in
     let does = does_call config past x regs call (Ret (success 0)) is in
@@ -64,7 +65,7 @@ returns-in-Err-clause-after c = λ x past regs is stands.
     let config = c.args.config.now in
     let m = c.args.self.now in
     let start : Kept = record { addr = c.args.addr; opaque = c.args.opaque } in
-    let call = HartStart c.args.t c.args.addr c.args.opaque in
+    let call = Hsm (HartStart c.args.t c.args.addr c.args.opaque) in
     let reply = Ret (failure AlreadyAvailable) in
     let same = c.start.ensures.after ∙ ap (changed m.hsm c.args.t) (unstarted_same start (hart_at m.hsm c.args.t).state c.in-Err.ensures.answer) in
     rw (c.failure-in-Err.ensures, c.into.ensures, same)

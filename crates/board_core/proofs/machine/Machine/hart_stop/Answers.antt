@@ -1,7 +1,8 @@
 use Rattle.std.proofs.Common.{sym, ◌∙◌, refl, arith, true, false, ◌≡◌}
 use Rattle.std.specs.Prelude.{None}
 use Rattle.sbi_abi.specs.declared.answer.SbiError.TheVariants.{Failed}
-use Rattle.sbi_abi.specs.declared.call.Call.TheVariants.{HartStop}
+use Rattle.sbi_abi.specs.declared.call.Call.TheVariants.{Hsm}
+use Rattle.sbi_abi.specs.declared.call.hsm.HsmCall.TheVariants.{HartStop}
 use Rattle.hsm.specs.declared.hart.HartState.TheVariants.{StopPending}
 use Rattle.board_core.specs.declared.event.Op.TheVariants.{Ecall}
 use Rattle.board_core.specs.declared.event.Reply.TheVariants.{Ret, Gone}
@@ -36,8 +37,8 @@ returns-then-contains-clause-after c = λ past regs is stands.
     let config = c.args.config.now in
     let reply = Ret (failure Failed) in
     rw c.failure.ensures
-    (stands-quiet config past (by_hart c.args.h (Ecall regs) reply) (deed_of_call config past c.args.h HartStop reply)
-    (does_call config past c.args.h regs HartStop reply is) c.args.self.now refl stands)
+    (stands-quiet config past (by_hart c.args.h (Ecall regs) reply) (deed_of_call config past c.args.h (Hsm HartStop) reply)
+    (does_call config past c.args.h regs (Hsm HartStop) reply is) c.args.self.now refl stands)
 
 pub returns-clause-answered : goal.returns-clause-answered
 returns-clause-answered c = λ past stands.
@@ -53,8 +54,8 @@ returns-clause-after c = λ past regs is stands.
     let m = c.args.self.now in
     let h = c.args.h in
     let event = by_hart h (Ecall regs) Gone in
-    let d = deed_of_call config past h HartStop Gone in
-    let does = does_call config past h regs HartStop Gone is in
+    let d = deed_of_call config past h (Hsm HartStop) Gone in
+    let does = does_call config past h regs (Hsm HartStop) Gone is in
     let turn = Stop h in
     let memory = record m.memory { caches = with_items m.memory.caches c.discharge_all.new.caches } in
     let right = c.requires.in_range in

@@ -1,6 +1,7 @@
 use Rattle.std.proofs.Common.{◌∙◌, refl}
 use Rattle.sbi_abi.specs.declared.answer.SbiError.TheVariants.{InvalidAddress}
-use Rattle.sbi_abi.specs.declared.call.Call.TheVariants.{HartSuspend}
+use Rattle.sbi_abi.specs.declared.call.Call.TheVariants.{Hsm}
+use Rattle.sbi_abi.specs.declared.call.hsm.HsmCall.TheVariants.{HartSuspend}
 use Rattle.board_core.specs.Replies.{failure}
 use Rattle.hsm.specs.declared.hart.HartState.TheVariants.{SuspendPending}
 use Rattle.board_core.specs.declared.event.Op.TheVariants.{Ecall}
@@ -16,7 +17,7 @@ returns-in-Ok-Retentive-clause-after c = λ past regs is stands.
     let config = c.args.config.now in
     let m = c.args.self.now in
     let h = c.args.h in
-    let call = HartSuspend c.args.kind c.args.addr c.args.opaque in
+    let call = Hsm (HartSuspend c.args.kind c.args.addr c.args.opaque) in
     let event = by_hart h (Ecall regs) Waiting in
     let d = deed_of_call config past h call Waiting in
     let does = does_call config past h regs call Waiting is in
@@ -28,7 +29,7 @@ returns-else-not-is_start_address-clause-after c = λ past regs is stands.
     let config = c.args.config.now in
     let m = c.args.self.now in
     let h = c.args.h in
-    let call = HartSuspend c.args.kind c.args.addr c.args.opaque in
+    let call = Hsm (HartSuspend c.args.kind c.args.addr c.args.opaque) in
     let event = by_hart h (Ecall regs) Gone in
     let d = deed_of_call config past h call Gone in
     let does = does_call config past h regs call Gone is in
@@ -38,9 +39,9 @@ returns-else-not-is_start_address-clause-after c = λ past regs is stands.
 pub returns-then-not-is_start_address-clause-after : goal.returns-then-not-is_start_address-clause-after
 returns-then-not-is_start_address-clause-after c = λ past regs is stands.
     rw c.failure-then-not-is_start_address.ensures
-    (call-quiet c.args.config.now past c.args.h regs (HartSuspend c.args.kind c.args.addr c.args.opaque) (Ret (failure InvalidAddress)) c.args.self.now is refl stands)
+    (call-quiet c.args.config.now past c.args.h regs (Hsm (HartSuspend c.args.kind c.args.addr c.args.opaque)) (Ret (failure InvalidAddress)) c.args.self.now is refl stands)
 
 pub returns-in-Err-clause-after : goal.returns-in-Err-clause-after
 returns-in-Err-clause-after c = λ past regs is stands.
     rw c.failure.ensures
-    (call-quiet c.args.config.now past c.args.h regs (HartSuspend c.args.kind c.args.addr c.args.opaque) (Ret (failure c.in-Err.error)) c.args.self.now is refl stands)
+    (call-quiet c.args.config.now past c.args.h regs (Hsm (HartSuspend c.args.kind c.args.addr c.args.opaque)) (Ret (failure c.in-Err.error)) c.args.self.now is refl stands)

@@ -1,13 +1,15 @@
 use Rattle.std.proofs.Common.{◌≡◌, ◌∙◌, arith, ap, refl, subst}
-use Rattle.std.specs.Prelude.{Ok, Some}
+use Rattle.std.specs.Prelude.{Ok}
 use Rattle.sbi_abi.specs.declared.answer.SbiError.TheVariants.{InvalidParam}
+use Rattle.sbi_abi.specs.declared.call.Call.TheVariants.{Rfence}
 use Rattle.rfence.specs.HartCaches.{dropped_of, emptied_of}
 use Rattle.rfence.specs.Right.{IsRightTurn}
 use Rattle.rfence.specs.State.{AreAffected, IsTaken}
 use Rattle.rfence.specs.Turns.{Ask}
 use Rattle.board_core.specs.declared.event.Op.TheVariants.{Ecall}
 use Rattle.board_core.specs.declared.event.Reply.TheVariants.{Ret, Waiting}
-use Rattle.board_core.specs.Fences.{Remote, is_asked_by, turns}
+use Rattle.board_core.specs.Calls.Rfence.{Remote}
+use Rattle.board_core.specs.Fences.{is_asked_by, turns}
 use Rattle.board_core.specs.History.{by_hart}
 use Rattle.board_core.specs.Replies.{failure}
 use Rattle.board_core.proofs.Events.{deed, deed_of_turn, does_call, does_no_remote, does_remote, still}
@@ -26,7 +28,7 @@ returns-in-Err-clause-after c = λ past regs call remote is stands.
     let h = c.args.h in
     let reply = Ret (failure InvalidParam) in
     rw (c.failure.ensures, c.into.ensures)
-    (stands-quiet config past (by_hart h (Ecall regs) reply) still (does_call config past h regs call reply is ∙ does_no_remote config past h call _ (failure InvalidParam) remote)
+    (stands-quiet config past (by_hart h (Ecall regs) reply) still (does_call config past h regs (Rfence call) reply is ∙ does_no_remote config past h call (failure InvalidParam))
     c.args.self.now refl stands)
 
 pub returns-in-Err-flush-clause-after : goal.returns-in-Err-flush-clause-after
@@ -36,7 +38,7 @@ returns-in-Err-flush-clause-after c = λ past regs call remote is stands.
     let error = c.in-Err-flush.error in
     let reply = Ret (failure error) in
     rw c.failure-in-Err-flush.ensures
-    (stands-quiet config past (by_hart h (Ecall regs) reply) still (does_call config past h regs call reply is ∙ does_no_remote config past h call _ (failure error) remote)
+    (stands-quiet config past (by_hart h (Ecall regs) reply) still (does_call config past h regs (Rfence call) reply is ∙ does_no_remote config past h call (failure error))
     c.args.self.now refl stands)
 
 pub ask-requires-clause-targets : goal.ask-requires-clause-targets
@@ -63,8 +65,8 @@ returns-in-Ok-flush-clause-after c = λ past regs call remote is stands.
     let asks : Remote = record { mask = c.args.mask; base = c.args.base; flush = c.args.flush } in
     let d = deed_of_turn config past turn in
     let does : deed config past event ≡ d =
-    does_call config past h regs call Waiting is
-    ∙ does_remote config past h call (record asks { flush = Ok flush }) (remote ∙ ap (λ f. Some (record asks { flush = f })) c.in-Ok-flush.is) in
+    does_call config past h regs (Rfence call) Waiting is
+    ∙ does_remote config past h call (record asks { flush = Ok flush }) (remote ∙ ap (λ f. record asks { flush = f }) c.in-Ok-flush.is) in
     let same = asked-as config past m.hsm c.requires.good.at_most_128_harts stands.harts c.args.mask c.args.base c.in-Ok.harts c.interruptible.result c.intersection-asked.result
     c.in-Ok.ensures.answer c.in-Ok.ensures.below c.interruptible.ensures c.intersection-asked.ensures h flush in
     let taken = subst (λ t. IsTaken m.fences t c.ask.new.self) same c.ask.ensures.taken in

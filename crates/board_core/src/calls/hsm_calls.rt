@@ -1,12 +1,12 @@
 //! The Hart State Management extension (SBI 9).
 
-ghost use Rattle.std.specs.Prelude.{◌≡◌, ℕ, ◌<◌, ◌≤◌, List, ◌∷◌, length, Result};
-ghost use Rattle.sbi_abi.specs.declared.call.Call.TheVariants as calls;
+ghost use Rattle.std.specs.Prelude.{◌≡◌, ℕ, ◌<◌, List, ◌∷◌, length, Result};
+ghost use Rattle.sbi_abi.specs.declared.call.Call.TheVariants.{Hsm};
+ghost use Rattle.sbi_abi.specs.declared.call.hsm.HsmCall.TheVariants as calls;
 ghost use Rattle.sbi_abi.specs.declared.call.Regs.{Regs};
 ghost use Rattle.sbi_abi.specs.Calls.{call_of};
 ghost use Rattle.hsm.specs.declared.hart.HartState.TheVariants as states;
 ghost use Rattle.hsm.specs.Transitions.{hart_at};
-ghost use Rattle.board_core.specs.declared.config.Config.{Config};
 ghost use Rattle.board_core.specs.History.{Event, by_hart};
 ghost use Rattle.board_core.specs.declared.event.Op.TheVariants.{Ecall};
 ghost use Rattle.board_core.specs.Limits.{IsGood};
@@ -17,17 +17,41 @@ use super::{failure, success};
 use crate::config::{Config, is_start_address};
 use crate::event::Reply;
 use crate::machine::Machine;
+use sbi_abi::call::HsmCall;
 use sbi_abi::{SbiError, SuspendKind};
 
 impl Machine {
+    /// Carries out a call of the Hart State Management extension by hart `h`, which is STARTED (SBI 9).
+    pub fn hsm_call(&mut self, config: &Config, h: u64, call: HsmCall) -> Reply
+        requires good { IsGood config.now }
+        requires sized { IsSized config.now self.old }
+        requires in_range { h < config.now.harts }
+        requires standing { IsStanding config.now self.old }
+        requires started { (hart_at self.old.hsm h).state ≡ states.Started }
+        ensures answered { (past : List Event) → StandsFor config.now past self.old → result ≡ call_reply config.now past h (Hsm call) }
+        ensures after { (past : List Event) (regs : Regs) → Hsm call ≡ call_of regs → StandsFor config.now past self.old →
+            StandsFor config.now (by_hart h (Ecall regs) result ∷ past) self.new }
+    {
+        match call {
+            HsmCall::HartStart { hart, addr, opaque } => self.hart_start(
+                config, hart, addr, opaque,
+            ),
+            HsmCall::HartStop => self.hart_stop(config, h),
+            HsmCall::HartGetStatus(hart) => self.hart_get_status(config, hart),
+            HsmCall::HartSuspend { kind, addr, opaque } => {
+                self.hart_suspend(config, h, kind, addr, opaque)
+            }
+        }
+    }
+
     /// Starts hart `t` (SBI 9.1).
-    pub fn hart_start(&mut self, config: &Config, t: u64, addr: u64, opaque: u64) -> Reply
+    fn hart_start(&mut self, config: &Config, t: u64, addr: u64, opaque: u64) -> Reply
         requires good { IsGood config.now }
         requires sized { IsSized config.now self.old }
         requires room { HasRoom self.old.counts }
         ensures answered { (x : ℕ) (past : List Event) → StandsFor config.now past self.old →
-            result ≡ call_reply config.now past x (calls.HartStart t addr opaque) }
-        ensures after { (x : ℕ) (past : List Event) (regs : Regs) → calls.HartStart t addr opaque ≡ call_of regs → StandsFor config.now past self.old →
+            result ≡ call_reply config.now past x (Hsm (calls.HartStart t addr opaque)) }
+        ensures after { (x : ℕ) (past : List Event) (regs : Regs) → Hsm (calls.HartStart t addr opaque) ≡ call_of regs → StandsFor config.now past self.old →
             StandsFor config.now (by_hart x (Ecall regs) result ∷ past) self.new }
     {
         if t >= config.harts {
@@ -47,14 +71,14 @@ impl Machine {
 
     /// Stops hart `h`, which calls: its deadline is forgotten, the fences that wait at it count as applied, and its caches
     /// are emptied (SBI 9.2; profile).
-    pub fn hart_stop(&mut self, config: &Config, h: u64) -> Reply
+    fn hart_stop(&mut self, config: &Config, h: u64) -> Reply
         requires good { IsGood config.now }
         requires sized { IsSized config.now self.old }
         requires in_range { h < config.now.harts }
         requires standing { IsStanding config.now self.old }
         requires running { (hart_at self.old.hsm h).state ≡ states.Started }
-        ensures answered { (past : List Event) → StandsFor config.now past self.old → result ≡ call_reply config.now past h calls.HartStop }
-        ensures after { (past : List Event) (regs : Regs) → calls.HartStop ≡ call_of regs → StandsFor config.now past self.old →
+        ensures answered { (past : List Event) → StandsFor config.now past self.old → result ≡ call_reply config.now past h (Hsm calls.HartStop) }
+        ensures after { (past : List Event) (regs : Regs) → Hsm calls.HartStop ≡ call_of regs → StandsFor config.now past self.old →
             StandsFor config.now (by_hart h (Ecall regs) result ∷ past) self.new }
     {
         if self.interrupts.csrs.sstatus_sie.contains(h) {
@@ -67,7 +91,7 @@ impl Machine {
     }
 
     /// Suspends hart `h`, which calls (SBI 9.4).
-    pub fn hart_suspend(
+    fn hart_suspend(
         &mut self,
         config: &Config,
         h: u64,
@@ -78,8 +102,8 @@ impl Machine {
         requires good { IsGood config.now }
         requires in_range { h < length self.old.hsm }
         requires running { (hart_at self.old.hsm h).state ≡ states.Started }
-        ensures answered { (past : List Event) → result ≡ call_reply config.now past h (calls.HartSuspend kind addr opaque) }
-        ensures after { (past : List Event) (regs : Regs) → calls.HartSuspend kind addr opaque ≡ call_of regs → StandsFor config.now past self.old →
+        ensures answered { (past : List Event) → result ≡ call_reply config.now past h (Hsm (calls.HartSuspend kind addr opaque)) }
+        ensures after { (past : List Event) (regs : Regs) → Hsm (calls.HartSuspend kind addr opaque) ≡ call_of regs → StandsFor config.now past self.old →
             StandsFor config.now (by_hart h (Ecall regs) result ∷ past) self.new }
     {
         match kind {
@@ -99,10 +123,10 @@ impl Machine {
     }
 
     /// Tells the state of hart `t` (SBI 9.3).
-    pub fn hart_get_status(&self, config: &Config, t: u64) -> Reply
+    fn hart_get_status(&self, config: &Config, t: u64) -> Reply
         requires { IsSized config.now self.now }
         ensures { (x : ℕ) (past : List Event) → StandsFor config.now past self.now →
-            result ≡ call_reply config.now past x (calls.HartGetStatus t) }
+            result ≡ call_reply config.now past x (Hsm (calls.HartGetStatus t)) }
     {
         if t >= config.harts {
             return failure(SbiError::InvalidParam);

@@ -1,6 +1,8 @@
-use Rattle.std.proofs.Common.{refl}
+use Rattle.std.proofs.Common.{◌≡◌, ℕ, ap, refl, sym, ◌∙◌}
 use Rattle.sbi_abi.specs.declared.answer.SbiError.TheVariants.{InvalidParam}
-use Rattle.sbi_abi.specs.declared.call.Call.TheVariants.{SendIpi}
+use Rattle.sbi_abi.specs.declared.call.Call.TheVariants.{Ipi}
+use Rattle.sbi_abi.specs.declared.call.ipi.IpiCall.{IpiCall}
+use Rattle.sbi_abi.specs.declared.call.ipi.IpiCall.TheVariants.{SendIpi}
 use Rattle.board_core.specs.declared.event.Op.TheVariants.{Ecall}
 use Rattle.board_core.specs.declared.event.Reply.TheVariants.{Ret}
 use Rattle.board_core.specs.Replies.{failure, success}
@@ -9,18 +11,29 @@ use Rattle.board_core.proofs.Events.{deed_of_call, does_call}
 use Rattle.board_core.proofs.InterruptsStanding.{interrupts-ipis, ipis-sent}
 use Rattle.board_core.proofs.Standing.{call-quiet, stands-interrupts}
 use Rattle.board_core.proofs.Targets.{is_reached}
-use Rattle.board_core.proofs.machine.Machine.send_ipi.Goals as goal
+use Rattle.board_core.proofs.machine.Machine.ipi_call.Goals as goal
+
+-- a call of this extension sends an IPI to the harts of a list
+mask_in : IpiCall → ℕ
+mask_in (SendIpi mask base) = mask
+
+base_in : IpiCall → ℕ
+base_in (SendIpi mask base) = base
+
+sends : (call : IpiCall) → call ≡ SendIpi (mask_in call) (base_in call)
+unfolding mask_in base_in
+sends (SendIpi mask base) = refl
 
 pub returns-in-Ok-clause-after : goal.returns-in-Ok-clause-after
 returns-in-Ok-clause-after c = λ x past regs is stands.
     let config = c.args.config.now in
     let m = c.args.self.now in
-    let call = SendIpi c.args.mask c.args.base in
+    let call = Ipi (SendIpi (mask_in c.args.call) (base_in c.args.call)) in
     let event = by_hart x (Ecall regs) (Ret (success 0)) in
     let d = deed_of_call config past x call (Ret (success 0)) in
-    let does = does_call config past x regs call (Ret (success 0)) is in
-    let reached = is_reached config past m.hsm c.requires.most stands.harts c.args.mask c.args.base c.in-Ok.harts c.interruptible.result c.intersection-reached.result
-    c.in-Ok.ensures.answer c.in-Ok.ensures.below c.interruptible.ensures c.intersection-reached.ensures in
+    let does = does_call config past x regs call (Ret (success 0)) (ap Ipi (sym (sends c.args.call)) ∙ is) in
+    let reached = is_reached config past m.hsm c.requires.most stands.harts (mask_in c.args.call) (base_in c.args.call) c.in-Ok.harts c.interruptible.result c.intersection-reached.result
+    (rw (sends c.args.call) at c.in-Ok.ensures.answer) c.in-Ok.ensures.below c.interruptible.ensures c.intersection-reached.ensures in
     rw (c.success.ensures, c.send.ensures)
     (stands-interrupts config past event d does m _ refl stands (interrupts-ipis config past event d does m.interrupts _ refl stands.interrupts
     (ipis-sent config past event d does m.interrupts.ipis c.intersection-reached.result refl (λ i below. reached i) stands.interrupts.ipis)))
@@ -28,4 +41,4 @@ returns-in-Ok-clause-after c = λ x past regs is stands.
 pub returns-in-Err-clause-after : goal.returns-in-Err-clause-after
 returns-in-Err-clause-after c = λ x past regs is stands.
     rw (c.failure.ensures, c.into.ensures)
-    (call-quiet c.args.config.now past x regs (SendIpi c.args.mask c.args.base) (Ret (failure InvalidParam)) c.args.self.now is refl stands)
+    (call-quiet c.args.config.now past x regs (Ipi (SendIpi (mask_in c.args.call) (base_in c.args.call))) (Ret (failure InvalidParam)) c.args.self.now (ap Ipi (sym (sends c.args.call)) ∙ is) refl stands)

@@ -1,4 +1,4 @@
-//! The IPI extension (SBI 7).
+//! The s-mode IPI extension (SBI 7).
 
 ghost use Rattle.std.specs.Prelude.{◌≡◌, ℕ, ◌≤◌, List, ◌∷◌};
 ghost use Rattle.sbi_abi.specs.declared.call.Call.TheVariants as calls;
@@ -6,7 +6,8 @@ ghost use Rattle.sbi_abi.specs.declared.call.Regs.{Regs};
 ghost use Rattle.sbi_abi.specs.Calls.{call_of};
 ghost use Rattle.board_core.specs.History.{Event, by_hart};
 ghost use Rattle.board_core.specs.declared.event.Op.TheVariants.{Ecall};
-ghost use Rattle.board_core.specs.Replies.{call_reply};
+ghost use Rattle.board_core.specs.Calls.Ipi.{ipi_reply};
+ghost use Rattle.board_core.specs.Returns.{as_reply};
 ghost use Rattle.board_core.specs.Stands.{IsSized, StandsFor};
 
 use super::{failure, success};
@@ -14,16 +15,19 @@ use crate::config::Config;
 use crate::event::Reply;
 use crate::machine::Machine;
 use hart_mask::targets;
+use sbi_abi::call::IpiCall;
 
 impl Machine {
-    /// Sends an IPI to the harts of a hart list, and skips those that aren't in an interruptible state (SBI 7.1).
-    pub fn send_ipi(&mut self, config: &Config, mask: u64, base: u64) -> Reply
+    /// Carries out a call of the IPI extension: sends an IPI to the harts of a hart list, and skips those that aren't in an
+    /// interruptible state (SBI 7.1).
+    pub fn ipi_call(&mut self, config: &Config, call: IpiCall) -> Reply
         requires sized { IsSized config.now self.old }
         requires most { config.now.harts ≤ 128 }
-        ensures answered { (x : ℕ) (past : List Event) → result ≡ call_reply config.now past x (calls.SendIpi mask base) }
-        ensures after { (x : ℕ) (past : List Event) (regs : Regs) → calls.SendIpi mask base ≡ call_of regs → StandsFor config.now past self.old →
+        ensures answered { result ≡ as_reply (ipi_reply config.now call) }
+        ensures after { (x : ℕ) (past : List Event) (regs : Regs) → calls.Ipi call ≡ call_of regs → StandsFor config.now past self.old →
             StandsFor config.now (by_hart x (Ecall regs) result ∷ past) self.new }
     {
+        let IpiCall::SendIpi { mask, base } = call;
         match targets(mask, base, config.harts) {
             Ok(harts) => {
                 let reached = harts.intersection(self.hsm.interruptible());

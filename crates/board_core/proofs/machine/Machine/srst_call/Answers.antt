@@ -1,12 +1,16 @@
-use Rattle.std.proofs.Common.{length, refl, sym, ap, ◌∙◌}
-use Rattle.std.specs.Prelude.{Some, None, Ok, Err, if◌then◌else◌}
+use Rattle.std.proofs.Common.{◌≡◌, length, refl, sym, ap, ◌∙◌}
+use Rattle.std.specs.Prelude.{Some, None, Result, Ok, Err, if◌then◌else◌}
 use Rattle.std.specs.Vec.{with_items}
 use Rattle.std.specs.Global.{Vec}
 use Rattle.sv39.specs.Memory.{pages_of, word_in, zero_memory}
 use Rattle.tlb_model.specs.declared.caches.Caches.{Caches}
 use Rattle.hsm.specs.Transitions.{reset_to}
-use Rattle.sbi_abi.specs.declared.call.Call.TheVariants.{SystemReset}
-use Rattle.rfence.specs.Turns.{Reset}
+use Rattle.sbi_abi.specs.declared.call.Call.TheVariants.{Srst}
+use Rattle.sbi_abi.specs.declared.answer.SbiError.{SbiError}
+use Rattle.sbi_abi.specs.declared.call.srst.SrstCall.{SrstCall}
+use Rattle.sbi_abi.specs.declared.call.srst.SrstCall.TheVariants.{SystemReset}
+use Rattle.sbi_abi.specs.declared.reset.Reset.{Reset}
+use Rattle.rfence.specs.Turns as turns
 use Rattle.board_core.specs.declared.event.Op.TheVariants.{Ecall}
 use Rattle.board_core.specs.declared.event.Reply.TheVariants.{Ret, Gone}
 use Rattle.board_core.specs.History.{by_hart}
@@ -20,7 +24,15 @@ use Rattle.board_core.proofs.MemoryStanding.{caches-turned, memory-reset}
 use Rattle.board_core.proofs.Reading.{length-caches}
 use Rattle.board_core.proofs.Standing.{call-quiet, counts-reset, fences-turned, last-reset}
 use Rattle.board_core.proofs.Tables.{tabulated-items}
-use Rattle.board_core.proofs.machine.Machine.system_reset.Goals as goal
+use Rattle.board_core.proofs.machine.Machine.srst_call.Goals as goal
+
+-- a call of this extension asks for a reset, or says why it is refused
+asked_in : SrstCall → Result Reset SbiError
+asked_in (SystemReset reset) = reset
+
+resets : (call : SrstCall) → call ≡ SystemReset (asked_in call)
+unfolding asked_in
+resets (SystemReset reset) = refl
 
 pub reset-requires-4 : goal.reset-requires-4
 reset-requires-4 c = fences-room c.args.config.now c.args.self.now c.requires.good c.requires.standing
@@ -28,7 +40,7 @@ reset-requires-4 c = fences-room c.args.config.now c.args.self.now c.requires.go
 pub returns-in-Err-clause-after : goal.returns-in-Err-clause-after
 returns-in-Err-clause-after c = λ h past regs is stands.
     rw c.failure.ensures
-    (call-quiet c.args.config.now past h regs (SystemReset (Err c.in-Err.error)) (Ret (failure c.in-Err.error)) c.args.self.now (ap SystemReset (sym c.in-Err.is) ∙ is) refl stands)
+    (call-quiet c.args.config.now past h regs (Srst (SystemReset (Err c.in-Err.error))) (Ret (failure c.in-Err.error)) c.args.self.now (ap Srst (sym (resets c.args.call ∙ ap SystemReset (rw (resets c.args.call) at c.in-Err.is))) ∙ is) refl stands)
 
 pub returns-clause-after : goal.returns-clause-after
 returns-clause-after c = λ h past regs is stands.
@@ -36,12 +48,12 @@ returns-clause-after c = λ h past regs is stands.
     let m = c.args.self.now in
     let reset = c.in-Ok.reset in
     let event = by_hart h (Ecall regs) Gone in
-    let call = SystemReset (Ok reset) in
+    let call = Srst (SystemReset (Ok reset)) in
     let d = deed_of_call config past h call Gone in
-    let does = does_call config past h regs call Gone (ap SystemReset (sym c.in-Ok.is) ∙ is) in
+    let does = does_call config past h regs call Gone (ap Srst (sym (resets c.args.call ∙ ap SystemReset (rw (resets c.args.call) at c.in-Ok.is))) ∙ is) in
     let memory = record c.reset-3.new.self { caches = with_items c.reset-3.new.self.caches c.reset-4.new.caches } in
     let turned =
-    caches-turned config past event d does m.fences Reset c.deref_mut.result.now c.reset-4.new.caches (λ j. refl) (λ j. refl) tt stands.fences c.reset-4.ensures.affected
+    caches-turned config past event d does m.fences turns.Reset c.deref_mut.result.now c.reset-4.new.caches (λ j. refl) (λ j. refl) tt stands.fences c.reset-4.ensures.affected
     (c.deref_mut.ensures.value ∙ ap (λ (caches : Vec Caches). caches.items) c.reset-3.ensures.caches ∙ stands.memory.caches) in
     record {
       harts = harts-reset config past event d does c.reset.new.self reset refl refl
@@ -51,7 +63,7 @@ returns-clause-after c = λ h past regs is stands.
       memory = memory-reset config past event d does m.memory memory reset refl refl stands.memory c.reset-3.ensures.satps
           (c.reset-3.ensures.ram ∙ ap (λ b. if b then zero_memory (pages_of m.memory.ram) else word_in m.memory.ram) c.is_cold.ensures) c.reset-3.ensures.pages
           (tabulated-items c.reset-3.new.self.caches _ _ config.harts (ap length (ap (λ (caches : Vec Caches). caches.items) c.reset-3.ensures.caches) ∙ length-caches config past m.memory stands.memory) turned);
-      fences = fences-turned config past event d does m.fences c.reset-4.new.self Reset refl c.reset-4.ensures.taken tt stands.fences;
+      fences = fences-turned config past event d does m.fences c.reset-4.new.self turns.Reset refl c.reset-4.ensures.taken tt stands.fences;
       counts = rw (c.new-self.ensures, c.begins_anew-anew.ensures) (counts-reset config past event d does reset refl);
       last_reset = last-reset config past event d does reset refl;
     }

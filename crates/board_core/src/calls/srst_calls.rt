@@ -1,13 +1,14 @@
 //! The System Reset extension (SBI 10).
 
-ghost use Rattle.std.specs.Prelude.{◌≡◌, ℕ, ◌<◌, List, ◌∷◌, Option, Result, if◌then◌else◌, Some, None};
+ghost use Rattle.std.specs.Prelude.{◌≡◌, ℕ, ◌<◌, List, ◌∷◌, Option, if◌then◌else◌, Some, None};
 ghost use Rattle.sbi_abi.specs.declared.call.Call.TheVariants as calls;
 ghost use Rattle.sbi_abi.specs.declared.call.Regs.{Regs};
 ghost use Rattle.sbi_abi.specs.Calls.{call_of};
 ghost use Rattle.board_core.specs.History.{Event, by_hart};
 ghost use Rattle.board_core.specs.declared.event.Op.TheVariants.{Ecall};
 ghost use Rattle.board_core.specs.Limits.{IsGood};
-ghost use Rattle.board_core.specs.Replies.{reset_reply};
+ghost use Rattle.board_core.specs.Calls.Srst.{srst_reply};
+ghost use Rattle.board_core.specs.Returns.{as_reply};
 ghost use Rattle.board_core.specs.Resets.{begins_anew, is_cold, is_shutdown};
 ghost use Rattle.board_core.specs.Stands.{IsSized, IsStanding, StandsFor};
 
@@ -17,21 +18,23 @@ use crate::counts::Counts;
 use crate::event::Reply;
 use crate::machine::Machine;
 use hsm::Kept;
-use sbi_abi::{Reset, ResetKind, SbiError};
+use sbi_abi::call::SrstCall;
+use sbi_abi::{Reset, ResetKind};
 
 impl Machine {
-    /// Resets the board, for hart `h`, which calls (SBI 10.1): every hart becomes STOPPED, every fence that waits counts as
+    /// Carries out a call of the System Reset extension, and resets the board (SBI 10.1): every hart becomes STOPPED, every fence that waits counts as
     /// applied, every call is dropped, the caches are emptied, and the harts' registers are 0. A reboot starts the boot hart
     /// anew, a cold one clears the memory too, and after a shutdown the power is off (profile).
-    pub fn system_reset(&mut self, config: &Config, reset: Result<Reset, SbiError>) -> Reply
+    pub fn srst_call(&mut self, config: &Config, call: SrstCall) -> Reply
         requires good { IsGood config.now }
         requires sized { IsSized config.now self.old }
         requires standing { IsStanding config.now self.old }
-        ensures answered { result ≡ reset_reply reset }
-        ensures after { (h : ℕ) (past : List Event) (regs : Regs) → calls.SystemReset reset ≡ call_of regs → StandsFor config.now past self.old →
+        ensures answered { result ≡ as_reply (srst_reply call) }
+        ensures after { (h : ℕ) (past : List Event) (regs : Regs) → calls.Srst call ≡ call_of regs → StandsFor config.now past self.old →
             StandsFor config.now (by_hart h (Ecall regs) result ∷ past) self.new }
     {
-        let reset = match reset {
+        let SrstCall::SystemReset(asked) = call;
+        let reset = match asked {
             Ok(reset) => reset,
             Err(error) => return failure(error),
         };

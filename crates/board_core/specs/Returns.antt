@@ -1,0 +1,36 @@
+-- What a call answers: an error, or a value, where it returns (SBI 3).
+use Rattle.std.specs.Prelude.{ℕ, pos, Bool, List, [], ◌∷◌, if◌then◌else◌, Option, Some, None}
+use Rattle.sbi_abi.specs.declared.answer.Sbiret.{Sbiret}
+use Rattle.sbi_abi.specs.declared.answer.SbiError.{SbiError}
+use Rattle.sbi_abi.specs.Errors.{error_number}
+use Rattle.board_core.specs.declared.event.Reply.{Reply}
+use Rattle.board_core.specs.declared.event.Reply.TheVariants.{Ret, Waiting, Gone}
+
+-- the second part of the first row whose test holds
+abbrev pub first_that_holds : {A : Type 0} → List (Bool × A) → Option A
+first_that_holds [] = None
+first_that_holds (row ∷ rows) = if row.0 then Some row.1 else first_that_holds rows
+
+abbrev pub success : ℕ → Sbiret
+success value = record { error = pos 0; value = value }
+
+-- an error's value is 0 (profile)
+abbrev pub failure : SbiError → Sbiret
+failure error = record { error = error_number error; value = 0 }
+
+-- the first error that holds, or else the value
+abbrev pub unless : Option SbiError → ℕ → Sbiret
+unless None value = success value
+unless (Some error) value = failure error
+
+-- A call returns an error, or else a value; or it waits inside the call; or it doesn't return.
+pub data CallReply : Type 0 where
+  Returns : (error : Option SbiError) → (value : ℕ) → CallReply
+  Waits : CallReply
+  Leaves : CallReply
+
+-- the reply that is recorded of it
+abbrev pub as_reply : CallReply → Reply
+as_reply (Returns error value) = Ret (unless error value)
+as_reply Waits = Waiting
+as_reply Leaves = Gone

@@ -1,0 +1,104 @@
+//! The RFENCE extension (SBI 8).
+
+ghost use Rattle.std.specs.Prelude.{◌≡◌, ℕ, ◌<◌, List, ◌∷◌, None, Option, Result};
+ghost use Rattle.sbi_abi.specs.declared.answer.SbiError.{SbiError};
+ghost use Rattle.sbi_abi.specs.declared.call.Call.TheVariants as calls;
+ghost use Rattle.sbi_abi.specs.declared.call.rfence.RfenceCall.{RfenceCall};
+ghost use Rattle.sbi_abi.specs.declared.call.Regs.{Regs};
+ghost use Rattle.sbi_abi.specs.Calls.{call_of};
+ghost use Rattle.rfence.specs.State.{call_at};
+ghost use Rattle.board_core.specs.Calls.Rfence.{fence_reply, flush_of_range, remote_by_rfence, rfence_reply};
+ghost use Rattle.board_core.specs.Returns.{as_reply};
+ghost use Rattle.board_core.specs.History.{Event, by_hart};
+ghost use Rattle.board_core.specs.declared.event.Op.TheVariants.{Ecall};
+ghost use Rattle.board_core.specs.Limits.{IsGood};
+ghost use Rattle.board_core.specs.Stands.{IsSized, IsStanding, StandsFor};
+
+use super::failure;
+use crate::config::Config;
+use crate::event::Reply;
+use crate::machine::Machine;
+use hart_mask::targets;
+use sbi_abi::SbiError;
+use sbi_abi::call::RfenceCall;
+use tlb_model::{Fence, Flush, is_wrong_range};
+
+impl Machine {
+    /// Carries out a call of the RFENCE extension by hart `h`: asks its fence of the harts of its hart list (SBI 8).
+    pub fn rfence_call(&mut self, config: &Config, h: u64, call: RfenceCall) -> Reply
+        requires good { IsGood config.now }
+        requires sized { IsSized config.now self.old }
+        requires in_range { h < config.now.harts }
+        requires standing { IsStanding config.now self.old }
+        requires outside { call_at self.old.fences h ≡ None }
+        ensures answered { result ≡ as_reply (rfence_reply config.now call) }
+        ensures after { (past : List Event) (regs : Regs) → calls.Rfence call ≡ call_of regs → StandsFor config.now past self.old →
+            StandsFor config.now (by_hart h (Ecall regs) result ∷ past) self.new }
+    {
+        match call {
+            RfenceCall::RemoteFenceI { mask, base } => {
+                self.remote_fence(config, h, mask, base, Ok(Flush::Words))
+            }
+            RfenceCall::RemoteSfenceVma {
+                mask,
+                base,
+                start,
+                size,
+            } => self.remote_fence(config, h, mask, base, flush_of_range(start, size, None)),
+            RfenceCall::RemoteSfenceVmaAsid {
+                mask,
+                base,
+                start,
+                size,
+                asid,
+            } => {
+                let flush = flush_of_range(start, size, Some(asid));
+                self.remote_fence(config, h, mask, base, flush)
+            }
+        }
+    }
+
+    /// Asks a fence of the harts of a hart list, for hart `h`, which calls, and skips those that aren't in an
+    /// interruptible state (SBI 8; that it skips them: profile).
+    #[inline(always)]
+    fn remote_fence(
+        &mut self,
+        config: &Config,
+        h: u64,
+        mask: u64,
+        base: u64,
+        flush: Result<Flush, SbiError>,
+    ) -> Reply
+        requires good { IsGood config.now }
+        requires sized { IsSized config.now self.old }
+        requires in_range { h < config.now.harts }
+        requires standing { IsStanding config.now self.old }
+        requires outside { call_at self.old.fences h ≡ None }
+        ensures answered { result ≡ as_reply (fence_reply config.now (record { mask = mask; base = base; flush = flush })) }
+        ensures after { (past : List Event) (regs : Regs) (call : RfenceCall) → remote_by_rfence call ≡ record { mask = mask; base = base; flush = flush } →
+            calls.Rfence call ≡ call_of regs → StandsFor config.now past self.old → StandsFor config.now (by_hart h (Ecall regs) result ∷ past) self.new }
+    {
+        let harts = match targets(mask, base, config.harts) {
+            Ok(harts) => harts,
+            Err(refused) => return failure(refused.into()),
+        };
+        match flush {
+            Ok(flush) => {
+                let asked = harts.intersection(self.hsm.interruptible());
+                self.fences.ask(&mut self.memory.caches, h, asked, flush);
+                Reply::Waiting
+            }
+            Err(error) => failure(error),
+        }
+    }
+}
+
+/// What a remote SFENCE.VMA of a range drops, or the error that its range brings (SBI 8; what a wrong range is: profile).
+fn flush_of_range(start: u64, size: u64, asid: Option<u64>) -> Result<Flush, SbiError>
+    ensures { result ≡ flush_of_range start size asid }
+{
+    if is_wrong_range(start, size) {
+        return Err(SbiError::InvalidAddress);
+    }
+    Ok(Flush::Entries(Fence::of_range(start, size, asid)))
+}
