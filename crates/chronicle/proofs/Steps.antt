@@ -11,7 +11,7 @@ use types.Logic.{Logic, sem}
 use types.Owned.{basic}
 use types.Growing.{latest_new, latest_grows, latest_shows, latest_bounds, at_least_dup}
 use types.Kit.{‵, ◌⊛◌, given, ◌$◌, ◌∵◌, !, qed, move, keep, drop, split, learn, suffices, done, use2, check, assume, frame}
-use Rattle.chronicle.specs.Kept.{lists, latest_owns, begun_owns, whole_owns}
+use Rattle.chronicle.specs.Inside.Kept.{lists, latest_owns, begun_owns, whole_owns}
 
 module _ {E : Type 0} (cv : Coded E) where
   abbrev head : Gv → List Gv → Gv

@@ -21,7 +21,7 @@ use denote.Triple.Entry.{Res, alive}
 use denote.Triple.Walked.{Stays, Fit, has_of, walk_of}
 use Rattle.std.proofs.raw_atomic.Walks.{leaves}
 use Rattle.std.specs.contracts.marker.PhantomData as marker
-use Rattle.chronicle.specs.Kept.{latest_owns, begun_owns, whole_owns}
+use Rattle.chronicle.specs.Inside.Kept.{latest_owns, begun_owns, whole_owns}
 
 abbrev pub token : Val
 token = vstruct (vcons (vstruct vnil) vnil)

@@ -1,8 +1,10 @@
+//! The three tokens of a list that only grows: the list, a glimpse of it, and the whole.
+
 ghost use Rattle.std.specs.Prelude.{◌≡◌, ℕ, List, [], ◌∷◌, ◌++◌};
 ghost use mathlib.Core.List.{IsPrefix};
 ghost use base.Stored.{coded_list};
 ghost use denote.Sharing.{said};
-ghost use Rattle.chronicle.specs.Kept.{latest_owns, begun_owns, whole_owns};
+ghost use Rattle.chronicle.specs.Inside.Kept.{latest_owns, begun_owns, whole_owns};
 
 use std::marker::{Model, PhantomData};
 

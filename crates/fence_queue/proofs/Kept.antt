@@ -11,7 +11,7 @@ use Rattle.std.proofs.lemmas.Option.{slice_get_within}
 use Rattle.circular_buffer.specs.Buffer.{Buffer, buffer, keep_last}
 use Rattle.fence_queue.specs.declared.request.Request.{Request}
 use Rattle.fence_queue.specs.Queues.{IsQueue, drained, has_from, popped, pushed, queue_at}
-use Rattle.fence_queue.specs.Rings.{AreKept, queue_in, queues_of}
+use Rattle.fence_queue.specs.Inside.Rings.{AreKept, queue_in, queues_of}
 use Rattle.fence_queue.proofs.Queue.{IsQueue-drop, IsQueue-push, length-IsQueue}
 
 -- ---- all rings empty

@@ -8,7 +8,7 @@ use Rattle.circular_buffer.specs.Buffer.{Buffer}
 use Rattle.fence_queue.specs.declared.request.Request.{Request}
 use Rattle.fence_queue.specs.Positions.{one_later, position_of}
 use Rattle.fence_queue.specs.Queues.{IsQueue, has_from, is_from, queue_at}
-use Rattle.fence_queue.specs.Rings.{queue_in, queues_of}
+use Rattle.fence_queue.specs.Inside.Rings.{queue_in, queues_of}
 
 one_later-le : (n : ℕ) → one_later n ≤ suc n
 one_later-le zero = omega arith

@@ -1,3 +1,3 @@
 pub mod Queues
-pub mod Rings
 pub mod Positions
+pub mod Inside

@@ -1,3 +1,5 @@
+//! The queues of the fences that wait, one for each hart, as rings.
+
 ghost use Rattle.std.specs.Prelude.{◌≡◌, ◌<◌, ◌≤◌, ◌==◌, false, length, drop, IfOk, replicate, sum_by, [], slice_get};
 ghost use Rattle.circular_buffer.specs.Buffer.{buffer};
 ghost use Rattle.fence_queue.specs.Positions.{position_of};
@@ -22,7 +24,7 @@ impl<F> Model for Queues<F> {
 
     ghost Value = { List (List (Request F)) };
 
-    ghost use Rattle.fence_queue.specs.Rings.{AreKept, queues_of};
+    ghost use Rattle.fence_queue.specs.Inside.Rings.{AreKept, queues_of};
 
     ghost view = { λ q. queues_of q.rings.items };
 

@@ -1,3 +1,5 @@
+//! A fence that waits, and who asked it.
+
 /// A fence that a hart asked of another one: the caller's id, and what the fence drops there (SBI 8).
 #[derive(Clone, Copy, Debug, PartialEq, Eq)]
 pub struct Request<F> {

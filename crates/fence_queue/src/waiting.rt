@@ -1,3 +1,5 @@
+//! What waits at a hart, one request after the other.
+
 ghost use Rattle.std.specs.Prelude.{◌≡◌};
 ghost use Rattle.std.specs.Iterator.{YieldsFirst, item_count};
 

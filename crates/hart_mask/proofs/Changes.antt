@@ -11,7 +11,7 @@ use Rattle.std.proofs.lemmas.Nat.Bits.{bit_at-trailing_zeros, bit_at_clear_other
 use Rattle.std.proofs.lemmas.Slice.Eq.{bytes_eq-Decides}
 use Rattle.hart_mask.specs.Bits.{is_set, word_of}
 use Rattle.hart_mask.specs.Ids.{ids_where, with_id, without_id}
-use Rattle.hart_mask.specs.Inverse.{word_of-own_ids}
+use Rattle.hart_mask.specs.Inside.Inverse.{word_of-own_ids}
 use Rattle.hart_mask.proofs.Below.{filter-lowest}
 use Rattle.hart_mask.proofs.Places.{count-of-places}
 use Rattle.hart_mask.proofs.Sets.{ids_where-agree, with_id-ids_where, without_id-ids_where}

@@ -7,7 +7,7 @@ use Rattle.std.proofs.lemmas.Bool.Decides.{eqb_tells}
 use Rattle.std.proofs.lemmas.Nat.{ones_cat, pow_pos}
 use Rattle.std.proofs.lemmas.Nat.Bits.{bit_at-lt}
 use Rattle.hart_mask.specs.Bits.{is_set}
-use Rattle.hart_mask.specs.Inverse.{filter-more, low-more}
+use Rattle.hart_mask.specs.Inside.Inverse.{filter-more, low-more}
 
 count-of-bit : (k b rest : ℕ) → b < 2 → rest + length (cond (eqb b 1) (k ∷ []) []) ≡ count_ones b + rest
 unfolding count_ones

@@ -1,4 +1,4 @@
 pub mod Ids
 pub mod Bits
-pub mod Inverse
 pub mod HartList
+pub mod Inside

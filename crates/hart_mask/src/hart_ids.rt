@@ -1,3 +1,5 @@
+//! The ids of a set, one after the other.
+
 ghost use Rattle.std.specs.Prelude.{◌≡◌};
 ghost use Rattle.std.specs.Iterator.{YieldsFirst, item_count};
 

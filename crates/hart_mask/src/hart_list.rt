@@ -1,3 +1,5 @@
+//! Hart lists: which harts a mask and a base name.
+
 ghost use Rattle.std.specs.Prelude.{◌≡◌, ℕ, ◌<◌, ◌≤◌, true, IfOk, MatchResult};
 ghost use Rattle.hart_mask.specs.HartList.{names_stray, targets_of};
 ghost use Rattle.hart_mask.specs.Ids.{has};

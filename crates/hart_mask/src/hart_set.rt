@@ -1,3 +1,5 @@
+//! Sets of harts, as 128 bits.
+
 ghost use Rattle.std.specs.Prelude.{◌≡◌, ◌<◌, ◌≤◌, [], ◌∷◌, length, ◌==◌, IfSome, MatchOption};
 ghost use Rattle.hart_mask.specs.HartList.{named_by};
 ghost use Rattle.hart_mask.specs.Ids.{IsIdSet, intersection_of, has, ids_below, union_of, with_bit, with_id, without_id};
@@ -15,7 +17,7 @@ impl Model for HartSet {
     ghost use Rattle.std.specs.Prelude.{List, ℕ, ◌<◌, ◌^◌};
     ghost use Rattle.hart_mask.specs.Ids.{ids_where};
     ghost use Rattle.hart_mask.specs.Bits.{is_set, word_of};
-    ghost use Rattle.hart_mask.specs.Inverse.{word_of-own_ids};
+    ghost use Rattle.hart_mask.specs.Inside.Inverse.{word_of-own_ids};
 
     ghost Value = { List ℕ };
 

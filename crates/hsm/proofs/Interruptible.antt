@@ -11,7 +11,7 @@ use Rattle.hsm.specs.declared.phase.Phase.{Phase}
 use Rattle.hsm.specs.declared.phase.Phase.TheVariants.{Stopped}
 use Rattle.hsm.specs.Harts.{Hart, resting, starting}
 use Rattle.hsm.specs.Interruptible.{interruptible_ids}
-use Rattle.hsm.specs.Phases.{AreKept, hart_of}
+use Rattle.hsm.specs.Inside.Phases.{AreKept, hart_of}
 use Rattle.hsm.specs.States.{is_interruptible}
 use Rattle.hsm.specs.Transitions.{hart_at, hart_at_opening, opening}
 

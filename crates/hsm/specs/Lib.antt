@@ -2,4 +2,4 @@ pub mod States
 pub mod Harts
 pub mod Transitions
 pub mod Interruptible
-pub mod Phases
+pub mod Inside

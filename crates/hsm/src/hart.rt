@@ -1,3 +1,5 @@
+//! The states of a hart, and what a start or a suspend keeps.
+
 ghost use Rattle.std.specs.Prelude.{◌≡◌};
 ghost use Rattle.hsm.specs.States.{goes_on, is_interruptible, is_started, state_number};
 

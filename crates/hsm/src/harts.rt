@@ -1,8 +1,10 @@
+//! All harts of a board: each call, and the firmware's own step, for one of them.
+
 ghost use Rattle.std.specs.Prelude.{◌≡◌, ◌<◌, ◌≤◌, IfOk, count_by, length, option_map, is_ok, is_some, false, slice_set};
 ghost use Rattle.hsm.specs.Transitions.{advanced, changed, hart_at, hart_at_opening, opening, reset_to, started, stopped, suspended};
 ghost use Rattle.hsm.specs.States.{goes_on, is_in_suspend, is_start_pending};
 ghost use Rattle.hsm.specs.Interruptible.{interruptible_ids};
-ghost use Rattle.hsm.specs.Phases.{hart_of};
+ghost use Rattle.hsm.specs.Inside.Phases.{hart_of};
 
 use crate::hart::{AlreadyAvailable, HartState, Kept, Moved};
 use crate::phase::{Phase, kept_by};
@@ -24,7 +26,7 @@ impl Model for Hsm {
 
     ghost Value = { List Hart };
 
-    ghost use Rattle.hsm.specs.Phases.{AreKept, hart_of};
+    ghost use Rattle.hsm.specs.Inside.Phases.{AreKept, hart_of};
 
     ghost view = { λ m. map hart_of m.phases.items };
 

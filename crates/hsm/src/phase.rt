@@ -1,5 +1,7 @@
+//! What is kept of one hart: its state, with what that state keeps.
+
 ghost use Rattle.std.specs.Prelude.{◌≡◌, option_map};
-ghost use Rattle.hsm.specs.Phases.{hart_of};
+ghost use Rattle.hsm.specs.Inside.Phases.{hart_of};
 ghost use Rattle.hsm.specs.Transitions.{advanced, kept_by};
 
 use crate::hart::{HartState, Kept, Moved};
@@ -18,6 +20,7 @@ pub enum Phase {
 }
 
 impl Phase {
+    /// The hart's state.
     pub fn state(self) -> HartState
         ensures { result ≡ (hart_of self).state }
     {
@@ -32,6 +35,7 @@ impl Phase {
         }
     }
 
+    /// What its pending start, or its suspend, keeps.
     pub fn kept(self) -> Option<Kept>
         ensures { result ≡ (hart_of self).kept }
     {

@@ -10,8 +10,8 @@ use Rattle.std.proofs.lemmas.List.Elements.{All-append, All-cons, All-drop, All-
 use Rattle.hart_mask.specs.Ids.{has, with_id, without_id}
 use Rattle.hart_mask.proofs.Sets.{has-ids_where}
 use Rattle.interrupts.specs.declared.ahead.Member.{Member}
-use Rattle.interrupts.specs.Ahead.{IsFirst, IsInserted, IsLater, member_of, without_hart}
-use Rattle.interrupts.specs.Listed.{IsListed, deadlines_in, due_after, is_ahead, left_after}
+use Rattle.interrupts.specs.Inside.Ahead.{IsFirst, IsInserted, IsLater, member_of, without_hart}
+use Rattle.interrupts.specs.Inside.Listed.{IsListed, deadlines_in, due_after, is_ahead, left_after}
 use Rattle.interrupts.specs.Timing.{is_due}
 
 -- a list's deadlines of one hart

@@ -11,7 +11,7 @@ use Rattle.std.proofs.lemmas.List.{drop_at, get_or-drop, length-drop, length-tak
 use Rattle.std.proofs.lemmas.List.Edits.{get_or-remove_above, get_or-remove_below, insert-append_right, length-remove, remove-append_right}
 use Rattle.std.proofs.lemmas.List.Sorted.{IsNonDecreasingBy-insert}
 use Rattle.interrupts.specs.declared.ahead.Member.{Member}
-use Rattle.interrupts.specs.Ahead.{IsLater, IsPlaceOf, member_of, without_hart}
+use Rattle.interrupts.specs.Inside.Ahead.{IsLater, IsPlaceOf, member_of, without_hart}
 
 module _ {X : Type 0} where
   pub drop-insert : (xs : List X) (start place : ℕ) (x : X) → start ≤ length xs → start ≤ place → drop start (insert xs place x) ≡ insert (drop start xs) (place - start) x

@@ -1,3 +1,2 @@
 pub mod Timing
-pub mod Ahead
-pub mod Listed
+pub mod Inside

@@ -3,7 +3,7 @@
 ghost use Rattle.std.specs.Prelude.{◌≡◌, ◌+◌, ◌<◌, ◌≤◌, drop, length, [], ◌==◌, MatchOption};
 ghost use Rattle.std.specs.List.{insert, position};
 ghost use Rattle.interrupts.specs.declared.ahead.Member.{Member};
-ghost use Rattle.interrupts.specs.Ahead.{AreLater, IsFirst, IsInserted, IsPlaceOf, member_of, without_hart};
+ghost use Rattle.interrupts.specs.Inside.Ahead.{AreLater, IsFirst, IsInserted, IsPlaceOf, member_of, without_hart};
 
 use arrayvec::ArrayVec;
 use std::marker::Model;

@@ -1,3 +1,5 @@
+//! Which harts have a software interrupt pending.
+
 ghost use Rattle.std.specs.Prelude.{◌≡◌, ◌<◌, []};
 ghost use Rattle.hart_mask.specs.Ids.{IsIdSet, has, union_of, without_id};
 

@@ -1,8 +1,10 @@
+//! The time, each hart's deadline, and which of them are due.
+
 ghost use Rattle.std.specs.Prelude.{◌≡◌, ◌<◌, ◌≤◌, ◌-◌, ◌^◌, false, length, nat_le, IfOk, if◌then◌else◌, Some, None, is_ok, is_some, replicate, unwrap_or, vec_capacity};
 ghost use Rattle.std.specs.List.{All};
 ghost use Rattle.interrupts.specs.declared.ahead.Member.{Member};
-ghost use Rattle.interrupts.specs.Ahead.{IsLater, without_hart};
-ghost use Rattle.interrupts.specs.Listed.{due_after, is_ahead, left_after};
+ghost use Rattle.interrupts.specs.Inside.Ahead.{IsLater, without_hart};
+ghost use Rattle.interrupts.specs.Inside.Listed.{due_after, is_ahead, left_after};
 ghost use Rattle.interrupts.specs.Timing.{deadline_of, is_timer_pending, last_time, opening_timing, ticked, with_deadline, without_deadlines};
 
 use crate::ahead::Ahead;
@@ -33,8 +35,8 @@ pub struct Timers {
 impl Model for Timers {
     ghost use Rattle.std.specs.Prelude.{◌≡◌, ◌≤◌, vec_capacity, vec_len};
     ghost use Rattle.interrupts.specs.Timing.{Timing, last_time};
-    ghost use Rattle.interrupts.specs.Ahead.{IsLater};
-    ghost use Rattle.interrupts.specs.Listed.{IsListed};
+    ghost use Rattle.interrupts.specs.Inside.Ahead.{IsLater};
+    ghost use Rattle.interrupts.specs.Inside.Listed.{IsListed};
 
     ghost Value = { Timing };
 

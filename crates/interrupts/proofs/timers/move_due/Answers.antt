@@ -1,8 +1,8 @@
 use Rattle.std.proofs.Common.{◌<◌, sym, ap, ◌∙◌}
 use Rattle.interrupts.specs.declared.ahead.Member.{Member}
 use Rattle.std.proofs.lemmas.List.Elements.{All-rest}
-use Rattle.interrupts.specs.Ahead.{AreLater, IsFirst, member_of}
-use Rattle.interrupts.specs.Listed.{due_after}
+use Rattle.interrupts.specs.Inside.Ahead.{AreLater, IsFirst, member_of}
+use Rattle.interrupts.specs.Inside.Listed.{due_after}
 use Rattle.interrupts.proofs.Listing.{due-first, due-later, left-first, left-later}
 use Rattle.interrupts.proofs.timers.move_due.Goals as goal
 

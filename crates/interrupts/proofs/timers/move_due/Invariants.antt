@@ -1,7 +1,7 @@
 use Rattle.std.proofs.Common.{◌≡◌, ◌<◌, length}
 use Rattle.std.specs.List.{All}
 use Rattle.interrupts.specs.declared.ahead.Member.{Member}
-use Rattle.interrupts.specs.Listed.{due_after, left_after}
+use Rattle.interrupts.specs.Inside.Listed.{due_after, left_after}
 use Rattle.interrupts.proofs.timers.move_due.Given as goal
 
 abbrev pub invariant-loop-hart : goal.invariant-loop-hart

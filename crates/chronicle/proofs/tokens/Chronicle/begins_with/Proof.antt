@@ -24,7 +24,7 @@ use denote.Triple.Walked.{Stays, stay_ref, stay_dropped, walk_of, Goes-ref, Goes
 use mathlib.Core.List.{IsPrefix}
 use Rattle.std.proofs.raw_atomic.Walks.{proved}
 use Rattle.std.specs.contracts.marker.PhantomData as marker
-use Rattle.chronicle.specs.Kept.{latest_owns, begun_owns}
+use Rattle.chronicle.specs.Inside.Kept.{latest_owns, begun_owns}
 use Rattle.chronicle.specs.contracts.tokens.Chronicle as Chronicle
 use Rattle.chronicle.specs.contracts.tokens.Glimpse as Glimpse
 use Rattle.chronicle.proofs.Steps as steps

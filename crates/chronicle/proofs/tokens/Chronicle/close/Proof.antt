@@ -18,7 +18,7 @@ use denote.Steps.{nothing}
 use denote.Param.{param, layouts}
 use denote.Triple.Walked.{Stays, stay_dropped, walk_of, Goes-dropped}
 use Rattle.std.proofs.raw_atomic.Walks.{proved}
-use Rattle.chronicle.specs.Kept.{whole_owns}
+use Rattle.chronicle.specs.Inside.Kept.{whole_owns}
 use Rattle.chronicle.specs.contracts.tokens.Chronicle as Chronicle
 use Rattle.chronicle.proofs.Steps as steps
 use Rattle.chronicle.proofs.Values.{Token, token, token_told, token_made, ends}

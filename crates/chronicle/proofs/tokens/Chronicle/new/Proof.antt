@@ -17,7 +17,7 @@ use denote.Steps.{nothing}
 use denote.Param.{param, layouts}
 use denote.Triple.Walked.{Stays, walk_of}
 use Rattle.std.proofs.raw_atomic.Walks.{proved}
-use Rattle.chronicle.specs.Kept.{latest_owns}
+use Rattle.chronicle.specs.Inside.Kept.{latest_owns}
 use Rattle.chronicle.proofs.Steps as steps
 use Rattle.chronicle.proofs.Values.{Token, token, token_made, ends}
 use Rattle.chronicle.specs.contracts.tokens.Chronicle.new.{ended, clauses}

@@ -19,7 +19,7 @@ use denote.Steps.{nothing, opens, closes}
 use denote.Param.{param, layouts}
 use denote.Triple.Walked.{Stays, stay_dropped, stay_ref, walk_of, Goes-dropped, Goes-ref}
 use Rattle.std.proofs.raw_atomic.Walks.{proved}
-use Rattle.chronicle.specs.Kept.{latest_owns}
+use Rattle.chronicle.specs.Inside.Kept.{latest_owns}
 use Rattle.chronicle.specs.contracts.tokens.Chronicle as Chronicle
 use Rattle.chronicle.proofs.Steps as steps
 use Rattle.chronicle.proofs.Values.{ends}

@@ -8,7 +8,7 @@ use denote.Param.Shared.{copy_shared}
 use denote.Struct.Laws.{field_copy}
 use denote.Struct.Lending.{of_Lends}
 use Rattle.std.specs.contracts.marker.PhantomData as marker
-use Rattle.chronicle.specs.Kept.{begun_owns}
+use Rattle.chronicle.specs.Inside.Kept.{begun_owns}
 use Rattle.chronicle.specs.contracts.tokens.Glimpse as C
 use Rattle.chronicle.proofs.Steps.{begun_twice}
 use Rattle.chronicle.proofs.Values.{lends_twice}

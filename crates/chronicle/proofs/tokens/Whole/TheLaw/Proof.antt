@@ -8,7 +8,7 @@ use denote.Param.Shared.{copy_shared}
 use denote.Struct.Laws.{field_copy}
 use denote.Struct.Lending.{of_Lends}
 use Rattle.std.specs.contracts.marker.PhantomData as marker
-use Rattle.chronicle.specs.Kept.{whole_owns}
+use Rattle.chronicle.specs.Inside.Kept.{whole_owns}
 use Rattle.chronicle.specs.contracts.tokens.Whole as C
 use Rattle.chronicle.proofs.Steps.{whole_twice}
 use Rattle.chronicle.proofs.Values.{lends_twice}

@@ -24,7 +24,7 @@ use denote.Triple.Walked.{Stays, stay_dropped, walk_of, Goes-dropped}
 use mathlib.Core.List.{IsPrefix}
 use Rattle.std.proofs.raw_atomic.Walks.{proved}
 use Rattle.std.specs.contracts.marker.PhantomData as marker
-use Rattle.chronicle.specs.Kept.{begun_owns, whole_owns}
+use Rattle.chronicle.specs.Inside.Kept.{begun_owns, whole_owns}
 use Rattle.chronicle.specs.contracts.tokens.Glimpse as Glimpse
 use Rattle.chronicle.specs.contracts.tokens.Whole as Whole
 use Rattle.chronicle.proofs.Steps as steps

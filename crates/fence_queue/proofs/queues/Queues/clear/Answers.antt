@@ -1,6 +1,6 @@
 use Rattle.std.proofs.Common.{◌-◌, [], length, replicate, refl, sym, ap, ◌∙◌}
 use Rattle.std.proofs.lemmas.List.{length-map}
-use Rattle.fence_queue.specs.Rings.{queue_in}
+use Rattle.fence_queue.specs.Inside.Rings.{queue_in}
 use Rattle.fence_queue.proofs.Kept.{AreKept-empty, emptied-all, emptied-more, queues_of-empty}
 use Rattle.fence_queue.proofs.queues.Queues.clear.Goals as goal
 

@@ -3,7 +3,7 @@ use Rattle.std.proofs.lemmas.Iterator.Consumers.{YieldsList-from_rest}
 use Rattle.std.proofs.lemmas.Iterator.Search.{position_from_yields_List}
 use Rattle.std.proofs.lemmas.List.{length-map}
 use Rattle.fence_queue.specs.Queues.{is_from}
-use Rattle.fence_queue.specs.Rings.{queue_in}
+use Rattle.fence_queue.specs.Inside.Rings.{queue_in}
 use Rattle.fence_queue.proofs.Positions.{counted, position_of-found}
 use Rattle.fence_queue.proofs.queues.Queues.position.Goals as goal
 

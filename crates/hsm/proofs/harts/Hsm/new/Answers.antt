@@ -3,7 +3,7 @@ use Rattle.std.proofs.lemmas.List.{length-map, map-append}
 use Rattle.std.proofs.lemmas.List.FromFn.{length-range_with_len, map-range_with_len_more}
 use Rattle.std.specs.List.{range_with_len}
 use Rattle.hsm.specs.Harts.{Hart}
-use Rattle.hsm.specs.Phases.{hart_of}
+use Rattle.hsm.specs.Inside.Phases.{hart_of}
 use Rattle.hsm.specs.Interruptible.{interruptible_ids}
 use Rattle.hsm.specs.Transitions.{hart_at_opening, opening}
 use Rattle.hsm.proofs.Interruptible.{none-at-opening}

@@ -1,5 +1,5 @@
 use Rattle.std.proofs.Common.{◌≡◌, map, vec_capacity, vec_len}
-use Rattle.hsm.specs.Phases.{hart_of}
+use Rattle.hsm.specs.Inside.Phases.{hart_of}
 use Rattle.hsm.specs.Transitions.{opening}
 use Rattle.hsm.proofs.harts.Hsm.new.Given as goal
 

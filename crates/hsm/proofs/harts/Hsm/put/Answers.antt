@@ -1,7 +1,7 @@
 use Rattle.std.proofs.Common.{List, length, set, sym, ap, ◌∙◌, arith}
 use Rattle.std.proofs.lemmas.List.{map-set}
 use Rattle.hsm.specs.Harts.{Hart}
-use Rattle.hsm.specs.Phases.{hart_of}
+use Rattle.hsm.specs.Inside.Phases.{hart_of}
 use Rattle.hsm.specs.States.{is_interruptible}
 use Rattle.hsm.proofs.Interruptible.{AreKept-with, AreKept-without}
 use Rattle.hsm.proofs.harts.Hsm.put.Goals as goal

@@ -3,7 +3,7 @@ use Rattle.std.specs.Prelude.{slice_set}
 use Rattle.hsm.specs.declared.phase.Phase.TheVariants.{Stopped}
 use Rattle.hsm.specs.Harts.{Hart, resting, starting}
 use Rattle.hsm.specs.Interruptible.{interruptible_ids}
-use Rattle.hsm.specs.Phases.{hart_of}
+use Rattle.hsm.specs.Inside.Phases.{hart_of}
 use Rattle.hsm.specs.Transitions.{reset_to}
 use Rattle.hsm.proofs.Interruptible.{AreKept-none, rests}
 use Rattle.hsm.proofs.harts.Hsm.reset.Goals as goal

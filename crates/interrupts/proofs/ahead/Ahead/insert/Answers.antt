@@ -3,7 +3,7 @@ use Rattle.std.proofs.lemmas.List.{length-drop}
 use Rattle.std.specs.List.Sorted.{IsNonDecreasingBy}
 use Rattle.std.proofs.lemmas.List.Edits.{length-insert}
 use Rattle.interrupts.specs.declared.ahead.Member.{Member}
-use Rattle.interrupts.specs.Ahead.{IsPlaceOf, member_of}
+use Rattle.interrupts.specs.Inside.Ahead.{IsPlaceOf, member_of}
 use Rattle.interrupts.proofs.Members.{IsNonDecreasingBy-placed, drop-insert}
 use Rattle.interrupts.proofs.ahead.Ahead.insert.Goals as goal
 

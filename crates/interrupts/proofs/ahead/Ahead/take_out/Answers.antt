@@ -4,7 +4,7 @@ use Rattle.std.specs.List.{position}
 use Rattle.std.proofs.lemmas.List.{length-drop, take_rest}
 use Rattle.std.proofs.lemmas.List.Quantifiers.{position-Some}
 use Rattle.interrupts.specs.declared.ahead.Member.{Member}
-use Rattle.interrupts.specs.Ahead.{member_of}
+use Rattle.interrupts.specs.Inside.Ahead.{member_of}
 use Rattle.interrupts.proofs.Members.{IsNonDecreasingBy-remove, drop-remove, without-absent, without-position}
 use Rattle.interrupts.proofs.ahead.Ahead.take_out.Goals as goal
 

@@ -1,6 +1,6 @@
 use Rattle.std.proofs.Common.{◌≡◌, length, get_or, None, ap, ◌∙◌, sym, arith}
 use Rattle.interrupts.specs.Timing.{Timing, deadline_of}
-use Rattle.interrupts.specs.Listed.{is_ahead}
+use Rattle.interrupts.specs.Inside.Listed.{is_ahead}
 use Rattle.interrupts.proofs.Listing.{later-without, listed-forgotten}
 use Rattle.interrupts.proofs.timers.Timers.forget.Goals as goal
 
