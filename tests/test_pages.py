@@ -56,8 +56,15 @@ def toolchain(room):
                 raise Wrong(f"{page} names the toolchain {line}, and rt version prints {found}")
 
 
+def definitions(room):
+    found = subprocess.run([os.path.join(ROOT, "tools/trusted-reading"), "--unnamed"], stdin=subprocess.DEVNULL, capture_output=True, text=True, timeout=60)
+    if found.returncode:
+        raise Wrong(f"docs/DEFINITIONS.md doesn't name {found.stdout.strip() or found.stderr.strip()}")
+
+
 TESTS = [
     ("pages name what is there", names),
+    ("the page of definitions names those that public clauses name", definitions),
     ("the README is short", short),
     ("pages name the toolchain", toolchain),
 ]
