@@ -46,7 +46,8 @@ def ran(words, program=PROGRAM, **how):
     how.setdefault("stderr", subprocess.PIPE)
     how.setdefault("env", {"PATH": os.environ.get("PATH", "")})
     how.setdefault("timeout", 60)
-    return subprocess.run(["sbiboard", *words], executable=program, stdin=subprocess.DEVNULL, **how)
+    how.setdefault("stdin", subprocess.DEVNULL)
+    return subprocess.run(["sbiboard", *words], executable=program, **how)
 
 
 def script(room, text):

@@ -40,6 +40,15 @@ def pipes(room):
         must_be(piped("replay", b" " * TOO_LONG, piece), 1, b"", b"sbiboard: line 0: fault 8\n")
 
 
+def standard_input(room):
+    """A script on standard input, as an editor hands over what isn't saved, by the name that the system has for it."""
+    for task, text in (("check", TRACE), ("replay", SHORT), ("run", TWO_HARTS), ("check", BOARD + b"0 lod\n")):
+        path = script(room, text)
+        good = ran([task, path])
+        with open(path, "rb") as file:
+            must_be(ran([task, "/dev/stdin"], stdin=file), good.returncode, good.stdout, good.stderr)
+
+
 def lengths_told(room):
     """A file that grows, one that shrinks, and one whose length can't be asked, is read to its end all the same."""
     made = shim(room)
@@ -104,6 +113,7 @@ def few_calls(room):
 
 
 TESTS = [
+    ("a script on standard input", standard_input),
     ("a script on a pipe", pipes),
     ("lengths of files that are wrong", lengths_told),
     ("no memory for a length", room_refused),
