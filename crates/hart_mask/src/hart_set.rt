@@ -151,7 +151,8 @@ impl HartSet {
             return None;
         }
         let id = u64::from(self.bits.trailing_zeros());
-        self.remove(id);
+        // (the lowest bit is cleared)
+        self.bits &= self.bits - 1;
         Some(id)
     }
 

@@ -1,7 +1,7 @@
 use Rattle.std.proofs.Common.{◌<◌, sym, ap, ◌∙◌, arith}
 use Rattle.hart_mask.specs.Bits.{is_set}
 use Rattle.hart_mask.specs.Ids.{ids_where}
-use Rattle.hart_mask.proofs.Changes.{ids-without_lowest, no_ids}
+use Rattle.hart_mask.proofs.Changes.{ids-lowest, lowest-cleared, no_ids}
 use Rattle.hart_mask.proofs.hart_set.HartSet.pop_first.Goals as goal
 
 pub returns-then-self-eq0-clause-lowest : goal.returns-then-self-eq0-clause-lowest
@@ -11,5 +11,6 @@ returns-then-self-eq0-clause-lowest c =
 
 pub returns-clause-lowest : goal.returns-clause-lowest
 returns-clause-lowest c =
-    let positive : 0 < c.self.inside.bits = omega arith in
-    rw (c.remove.ensures, c.from-id.ensures, ← c.self.view_is) (ids-without_lowest c.self.inside.bits positive c.self.invariant)
+    let n = c.self.inside.bits in
+    let positive : 0 < n = omega arith in
+    rw (c.from-id.ensures, lowest-cleared n positive c.self.invariant, ← c.self.view_is) (ids-lowest n positive c.self.invariant)
