@@ -1,6 +1,7 @@
 -- How many ids a set has with one id less.
-use Rattle.std.proofs.Common.{◌≡◌, ℕ, suc, zero, ◌+◌, ◌<◌, ◌≤◌, Bool, true, false, List, ◌∷◌, length, refl, sym, ap, ◌∙◌, arith, inl, inr}
+use Rattle.std.proofs.Common.{◌≡◌, ℕ, suc, zero, ◌+◌, ◌-◌, ◌<◌, ◌≤◌, Bool, true, false, List, ◌∷◌, length, refl, sym, ap, ◌∙◌, arith, inl, inr}
 use Rattle.std.specs.Prelude.{◌==◌, ◌&&◌, not, if◌then◌else◌, filter}
+use Rattle.std.specs.Int.{from_bool}
 use Rattle.std.specs.List.{range_with_len}
 use Rattle.std.proofs.lemmas.Bool.{ne_eqb}
 use Rattle.std.proofs.lemmas.Bool.Decides.{eqb_tells}
@@ -38,3 +39,9 @@ without-none ids t is out = is ∙ ids_where-agree (has ids) (λ i. not (i == t)
 pub without-one : (ids : List ℕ) (t : ℕ) → t < 128 → IsIdSet ids → has ids t ≡ true → length (without_id ids t) + 1 ≡ length ids
 unfolding IsIdSet ids_where
 without-one ids t below is out = fewer (has ids) t 0 128 out (omega arith) below ∙ sym (ap length is)
+
+-- how many are left, where one that may be there is taken out
+pub without-count : (ids : List ℕ) (t : ℕ) → t < 128 → IsIdSet ids → (is_there : Bool) → is_there ≡ has ids t
+    → length ids - from_bool is_there ≡ length (without_id ids t)
+without-count ids t below set true is = omega (arith, without-one ids t below set (sym is))
+without-count ids t below set false is = omega (arith, ap length (without-none ids t set (sym is)))

@@ -56,9 +56,8 @@ impl Awaited {
         requires { t < 128 }
         ensures { self.new ≡ without_id self.old t }
     {
-        if self.harts.contains(t) {
-            self.harts.remove(t);
-            self.count -= 1;
-        }
+        let is_there = self.harts.contains(t);
+        self.harts.remove(t);
+        self.count -= u64::from(is_there);
     }
 }

@@ -23,10 +23,7 @@ pub fn forget(calls: &mut Vec<Option<Awaited>>, c: u64, t: u64)
     requires id { t < 128 }
     ensures { calls.new.items ≡ forgotten_at calls.old.items c t }
 {
-    if let Some(mut harts) = calls[c as usize] {
-        harts.remove(t);
-        calls[c as usize] = Some(harts);
-    }
+    forget_in(&mut calls[c as usize], t);
 }
 
 /// A call waits for hart `t` no more.

@@ -67,7 +67,11 @@ impl<F: Copy> Pending<F> {
         ensures after { self.new ≡ popped self.old t }
     {
         let caller = self.callers.pop(t)?;
-        Some(request_of(&self.fences, self.idle, caller))
+        let flush = self.fences[caller.from as usize];
+        Some(Request {
+            from: caller.from,
+            flush,
+        })
     }
 
     /// Takes all requests out of hart `t`'s queue.
