@@ -54,15 +54,21 @@ def started(harts, lines, pages=1):
         yield f"{hart} advance"
 
 
-def mapped(harts, lines):
+def mapped(harts, lines, mode=8):
     """All harts are started, and run with the same 32 pages: those of even ids in address space 5, the others in 6."""
-    yield from started(harts, lines, pages=16)
+    first, *others = started(harts, lines, pages=16 if mode == 8 else 17)
+    yield first if mode == 8 else f"{first} 16 48"
+    yield from others
+    root = 0x80001
+    if mode == 9:
+        root = 0x80010
+        yield f"0 store {root << 12:#x} 0x20000401"
     yield "0 store 0x80001000 0x20000801"
     yield "0 store 0x80002000 0x20000c01"
     for page in range(32):
         yield f"0 store {0x80003000 + 8 * page:#x} {(0x80004 + page % 12) << 10 | 0xCF:#x}"
     for hart in range(harts):
-        yield f"{hart} satp {8 << 60 | (5 + hart % 2) << 44 | 0x80001:#x}"
+        yield f"{hart} satp {mode << 60 | (5 + hart % 2) << 44 | root:#x}"
 
 
 def calls(harts, lines):
@@ -104,11 +110,16 @@ def loads_that_hit(harts, lines):
         yield f"{turn % harts} load {turn // harts % 8 << 12:#x}"
 
 
-def loads_that_walk(harts, lines):
+def loads_that_walk(harts, lines, mode=8):
     """The harts in turn load from 32 pages, of which their TLBs have 16 others: three levels are walked each time."""
-    yield from mapped(harts, lines)
+    yield from mapped(harts, lines, mode)
     for turn in count():
         yield f"{turn % harts} load {turn // harts % 32 << 12:#x}"
+
+
+def loads_that_walk_under_sv48(harts, lines):
+    """The same by Sv48: four levels are walked each time."""
+    yield from loads_that_walk(harts, lines, mode=9)
 
 
 def stores(harts, lines):
@@ -172,6 +183,7 @@ WORKLOADS = (
     (timers, 500_000),
     (loads_that_hit, 500_000),
     (loads_that_walk, 500_000),
+    (loads_that_walk_under_sv48, 500_000),
     (stores, 500_000),
     (fences_and_loads, 500_000),
     (full_fences, 1_000_000),

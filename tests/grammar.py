@@ -7,6 +7,8 @@ a line into words, and the tests of a line stand in the order in which its first
 MOST_BYTES = 16_777_216
 MOST = (1 << 64) - 1
 LAST_HART = 127
+# ASIDLEN and WIDTH where a board line leaves them out.
+USUAL_SPACES = (16, 39)
 
 # How many words may follow an operation, at least and at most.
 COUNTS = {
@@ -59,9 +61,9 @@ class Script:
         self.has_clock = False
 
     def is_good_board(self):
-        harts, pages, limit, boot_hart, boot_addr, _ = self.board
+        harts, pages, limit, boot_hart, boot_addr, _, asid_len, width = self.board
         sizes = 1 <= harts <= 128 and 1 <= pages <= 256 and 1 <= limit <= 1_000_000
-        return sizes and boot_hart < harts and boot_addr % 2 == 0 and 0 <= boot_addr - 0x80000000 < 4096 * pages
+        return sizes and asid_len <= 16 and width in (39, 48) and boot_hart < harts and boot_addr % 2 == 0 and 0 <= boot_addr - 0x80000000 < 4096 * pages
 
 
 def lines_of(text):
@@ -145,8 +147,10 @@ def board(words):
     name, *rest = words
     if name != "board":
         raise Fault(2)
-    must_count(rest, 6, 6)
-    return [must_be_number(word) for word in rest]
+    must_count(rest, 6, 8)
+    if len(rest) == 7:
+        raise Fault(5)
+    return [*(must_be_number(word) for word in rest), *USUAL_SPACES][:8]
 
 
 def head(script, words):

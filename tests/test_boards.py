@@ -16,6 +16,11 @@ BAD_BOARDS = [
     (b"board 2 1 10 0 0x80000001 0", b"board 2 1 10 0 0x80000002 0"),
     (b"board 2 1 10 0 0x80001000 0", b"board 2 1 10 0 0x80000ffe 0"),
     (b"board 2 256 10 0 0x80100000 0", b"board 2 256 10 0 0x800ffffe 0xffffffffffffffff"),
+    (b"board 2 1 10 0 0x80000000 0 17 39", b"board 2 1 10 0 0x80000000 0 16 39"),
+    (b"board 2 1 10 0 0x80000000 0 0 38", b"board 2 1 10 0 0x80000000 0 0 39"),
+    (b"board 2 1 10 0 0x80000000 0 16 49", b"board 2 1 10 0 0x80000000 0 16 48"),
+    (b"board 2 1 10 0 0x80000000 0 0xffffffffffffffff 48", b"board 2 1 10 0 0x80000000 0 0 48"),
+    (b"board 2 1 10 0 0x80000000 0 9 0xffffffffffffffff", b"board 2 1 10 0 0x80000000 0 9 0x30"),
 ]
 
 

@@ -96,6 +96,8 @@ UNTESTED = (
     ("board 200 1 9 0 0x80000000 0\n", ": bad board: HARTS is 1 to 128"), ("board 1 0 9 0 0x80000000 0\n", ": bad board: PAGES is 1 to 256"),
     ("board 1 1 0 0 0x80000000 0\n", ": bad board: LIMIT is 1 to 1000000"), ("board 1 1 9 1 0x80000000 0\n", ": bad board: BOOT is below HARTS"),
     ("board 1 1 9 0 0x70000000 0\n", ": bad board: ADDRESS is even, and in RAM"),
+    ("board 1 1 9 0 0x70000000 0 17 40\n", ": bad board: ADDRESS is even, and in RAM"),
+    ("board 1 1 9 0 0x80000000 0 17 40\n", ": bad board: ASIDLEN is 0 to 16"), ("board 1 1 9 0 0x80000000 0 0 40\n", ": bad board: WIDTH is 39 or 48"),
 )  # fmt: skip
 
 

@@ -16,6 +16,8 @@ DONE, WAITING, GONE = ("done",), ("waiting",), ("gone",)
 MISALIGNED = {"fetch": 0, "load": 4, "store": 6}
 ACCESS_FAULT = {"fetch": 1, "load": 5, "store": 7}
 PAGE_FAULT = {"fetch": 12, "load": 13, "store": 15}
+# The bits of a virtual address by satp's MODE: Sv39 and Sv48.
+WIDTHS = {8: 39, 9: 48}
 
 
 class Fault(Exception):
@@ -86,8 +88,9 @@ def covers(fence, entry):
 
 
 class Board:
-    def __init__(self, harts, pages, limit, boot_hart, boot_addr, boot_opaque):
+    def __init__(self, harts, pages, limit, boot_hart, boot_addr, boot_opaque, asid_len=16, width=39):
         self.config = (harts, pages, limit, boot_hart, boot_addr, boot_opaque)
+        self.asids, self.width = (1 << asid_len) - 1, width
         self.harts = [Hart() for _ in range(harts)]
         # Which of the harts no copy of this board shares.
         self.owned = set(range(harts))
@@ -222,8 +225,10 @@ class Board:
 
     def do_satp(self, h, value):
         mode = value >> 60
-        if mode in (0, 8):
-            self.mine(h).satp = value if mode else 0
+        if mode == 0:
+            self.mine(h).satp = 0
+        elif WIDTHS.get(mode, ALL) <= self.width:
+            self.mine(h).satp = value & ~((0xFFFF & ~self.asids) << 44)
         return DONE
 
     def do_sie(self, h, value):
@@ -244,8 +249,8 @@ class Board:
     def do_sfence(self, h, va, asid):
         span = None
         if va is not None:
-            span = (va, va + 1) if is_valid(va) else (0, 0)
-        self.apply(h, (span, None if asid is None else asid & 0xFFFF))
+            span = (va, va + 1) if is_valid(va, self.width) else (0, 0)
+        self.apply(h, (span, None if asid is None else asid & self.asids))
         return DONE
 
     def do_fencei(self, h):
@@ -294,7 +299,7 @@ class Board:
         hart = self.mine(h)
         if not hart.satp:
             return va
-        if not is_valid(va):
+        if not is_valid(va, WIDTHS[hart.satp >> 60]):
             raise Fault(PAGE_FAULT[kind])
         asid = hart.satp >> 44 & 0xFFFF
         entry = next((item[1] for item in reversed(hart.tlb) if is_in(va, item[1]) and (item[1][3] or item[1][2] == asid)), None)
@@ -321,7 +326,7 @@ class Board:
     def walk(self, satp, kind, va):
         """The leaf as a TLB entry: page, level, ASID, whether it is global, physical page, rights."""
         table, is_global = (satp & (1 << 44) - 1) << 12, False
-        for level in (2, 1, 0):
+        for level in range((WIDTHS[satp >> 60] - 12) // 9 - 1, -1, -1):
             at = table + 8 * (va >> 12 + 9 * level & 0x1FF)
             if not self.in_ram(at):
                 raise Fault(ACCESS_FAULT[kind])
@@ -380,7 +385,7 @@ class Board:
             return INVALID_ADDRESS
         fence = None
         if fid:
-            fence = (None if is_full(start, size) else (start, start + size), asid & 0xFFFF if fid == 2 else None)
+            fence = (None if is_full(start, size) else (start, start + size), asid & self.asids if fid == 2 else None)
         asked = frozenset(t for t in named if self.harts[t].state in INTERRUPTIBLE)
         if h in asked:
             self.apply(h, fence)
@@ -439,8 +444,8 @@ class Board:
         return GONE
 
 
-def is_valid(va):
-    return va >> 38 in (0, (1 << 26) - 1)
+def is_valid(va, width):
+    return va >> width - 1 in (0, (1 << 65 - width) - 1)
 
 
 def is_in(va, entry):

@@ -80,7 +80,10 @@ pub struct Hart {
 }
 
 pub struct Board {
-    config: [u64; 6],
+    config: [u64; 8],
+    /// The bits of an ASID that are kept.
+    asids: u16,
+    width: u32,
     pub harts: Vec<Hart>,
     ram: Ram,
     pub fences: Fences,
@@ -125,16 +128,19 @@ fn fence_of(start: u64, size: u64, asid: Option<u16>) -> Option<Fence> {
 }
 
 impl Board {
-    pub fn new(config: &[u64; 6]) -> Option<Board> {
-        let [harts, pages, limit, boot_hart, boot_addr, boot_opaque] = *config;
+    pub fn new(config: &[u64; 8]) -> Option<Board> {
+        let [harts, pages, limit, boot_hart, boot_addr, boot_opaque, asid_len, width] = *config;
         let is_sized = (1..=128).contains(&harts)
             && (1..=256).contains(&pages)
             && (1..=1_000_000).contains(&limit);
-        if !is_sized || boot_hart >= harts || !is_start_address(pages, boot_addr) {
+        let has_spaces = asid_len <= 16 && (width == 39 || width == 48);
+        if !is_sized || !has_spaces || boot_hart >= harts || !is_start_address(pages, boot_addr) {
             return None;
         }
         let mut board = Board {
             config: *config,
+            asids: ((1_u32 << asid_len) - 1) as u16,
+            width: width as u32,
             harts: (0..harts)
                 .map(|_| Hart {
                     state: State::Stopped,
@@ -293,7 +299,9 @@ impl Board {
             }
             Name::Satp => match numbers[0] >> 60 {
                 0 => self.harts[h].satp = 0,
-                8 => self.harts[h].satp = numbers[0],
+                mode if mode == 8 || mode == 9 && self.width == 48 => {
+                    self.harts[h].satp = numbers[0] & !(u64::from(!self.asids) << 44);
+                }
                 _ => {}
             },
             Name::Sie => {
@@ -328,8 +336,8 @@ impl Board {
     /// A local SFENCE.VMA: an address that isn't valid is a range of no byte.
     fn fence(&mut self, h: usize, va: Option<u64>, asid: Option<u64>) {
         let fence = Fence::Entries {
-            range: va.map(|va| (va, u64::from(is_valid(va)))),
-            asid: asid.map(|asid| asid as u16),
+            range: va.map(|va| (va, u64::from(is_valid(va, self.width)))),
+            asid: asid.map(|asid| asid as u16 & self.asids),
         };
         self.harts[h].caches.apply(fence);
     }
@@ -392,7 +400,7 @@ impl Board {
             (0x5246_4E43, 0) => self.remote_fence(h, a(0), a(1), Some(Fence::Words)),
             (0x5246_4E43, 1) => self.remote_fence(h, a(0), a(1), fence_of(a(2), a(3), None)),
             (0x5246_4E43, 2) => {
-                let fence = fence_of(a(2), a(3), Some(a(4) as u16));
+                let fence = fence_of(a(2), a(3), Some(a(4) as u16 & self.asids));
                 self.remote_fence(h, a(0), a(1), fence)
             }
             (0x48_534D, 0) => self.hart_start(a(0), a(1), a(2)),
@@ -494,7 +502,7 @@ impl Board {
             self.ram.clear();
         }
         if kind != 0 {
-            let [_, _, _, hart, addr, opaque] = self.config;
+            let [_, _, _, hart, addr, opaque, ..] = self.config;
             self.start(hart as usize, addr, opaque);
         }
         Reply::Gone

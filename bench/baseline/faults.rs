@@ -146,7 +146,11 @@ pub fn of_board_line(bytes: &[u8]) -> u8 {
     if words[0] != b"board" {
         return 2;
     }
-    if words.len() != 7 { 5 } else { 4 }
+    if words.len() == 7 || words.len() == 9 {
+        4
+    } else {
+        5
+    }
 }
 
 /// The first fault of these bytes, of which the first line is line `first`. Somewhere in them is a line that the quick

@@ -19,7 +19,7 @@ pub fn op_of(word: &str) -> Option<Op> {
 
 /// Opens a board of eight harts and starts all.
 fn open() -> Option<(SharedBoard, Vec<Seat>)> {
-    let config = [HARTS, 1, 1_000_000, 0, 0x8000_0000, 0];
+    let config = [HARTS, 1, 1_000_000, 0, 0x8000_0000, 0, 16, 39];
     let (shared, mut seats) = SharedBoard::open(&config)?;
     let advance = Op::new(Name::Advance, &[]);
     shared.call(&mut seats[0], advance).ok()?;

@@ -197,8 +197,13 @@ fn fence_covers(range: Option<(u64, u64)>, asid: Option<u16>, entry: &Entry) -> 
         })
 }
 
-pub fn is_valid(va: u64) -> bool {
-    (va as i64) << 25 >> 25 == va as i64
+/// The bits of a virtual address, by satp.
+fn width_of(satp: u64) -> u32 {
+    if satp >> 60 == 9 { 48 } else { 39 }
+}
+
+pub fn is_valid(va: u64, width: u32) -> bool {
+    (va as i64) << (64 - width) >> (64 - width) == va as i64
 }
 
 pub struct Ram(Vec<u64>);
@@ -222,7 +227,7 @@ impl Ram {
     fn walk(&self, satp: u64, va: u64, access: Access) -> Result<Entry, u8> {
         let mut table = satp << 20 >> 8;
         let mut global = 0;
-        for level in [2, 1, 0] {
+        for level in (0..(width_of(satp) - 12) / 9).rev() {
             let at = table + 8 * (va >> (12 + 9 * level) & 511);
             let place = self.place(at).ok_or(access.access_fault())?;
             let pte = self.0[place];
@@ -262,7 +267,7 @@ fn translate(
     va: u64,
     access: Access,
 ) -> (Result<u64, u8>, Option<Entry>) {
-    if !is_valid(va) {
+    if !is_valid(va, width_of(satp)) {
         return (Err(access.page_fault()), None);
     }
     let asid = (satp >> 44) as u16;

@@ -3,7 +3,7 @@
 use crate::board::{Board, Hart, Refusal, Reply, State, has};
 use crate::fences::{Fence, Request};
 use crate::memory::{D, Entry, G, R, W, Word, X};
-use crate::script::{CLOCK, Line, Name};
+use crate::script::{CLOCK, Line, Name, USUAL_SPACES};
 use std::fs::File;
 use std::io::{self, Write};
 
@@ -114,7 +114,7 @@ impl Out {
         Ok(())
     }
 
-    pub fn board_line(&mut self, config: &[u64; 6]) -> io::Result<()> {
+    pub fn board_line(&mut self, config: &[u64; 8]) -> io::Result<()> {
         self.text(b"board");
         for n in &config[..4] {
             self.text(b" ");
@@ -122,6 +122,12 @@ impl Out {
         }
         self.hex(config[4]);
         self.hex(config[5]);
+        if config[6..] != USUAL_SPACES {
+            for n in &config[6..] {
+                self.text(b" ");
+                self.decimal(*n);
+            }
+        }
         self.end_line()
     }
 

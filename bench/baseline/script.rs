@@ -11,6 +11,9 @@ pub const MOST_BYTES: usize = 16_777_216;
 /// The actor that is no hart.
 pub const CLOCK: u8 = 255;
 
+/// ASIDLEN and WIDTH of a board whose line leaves them out.
+pub const USUAL_SPACES: [u64; 2] = [16, 39];
+
 /// An operation by its name.
 #[derive(Clone, Copy, PartialEq, Eq)]
 pub enum Name {
@@ -169,7 +172,7 @@ pub struct Block {
 }
 
 pub struct Script {
-    pub config: [u64; 6],
+    pub config: [u64; 8],
     pub kind: Kind,
     pub lines: Vec<Line>,
     /// Those of a program, and the lines of its clock.
@@ -347,7 +350,7 @@ impl<'a> Reader<'a> {
     }
 
     /// The board's numbers, if the line has words.
-    fn board_line(&mut self) -> Option<Option<[u64; 6]>> {
+    fn board_line(&mut self) -> Option<Option<[u64; 8]>> {
         if matches!(self.skip_gap(), b'\n' | b'\r' | b'#') {
             return self.end_line().map(|()| None);
         }
@@ -355,7 +358,9 @@ impl<'a> Reader<'a> {
             return None;
         }
         let mut found = Vec::new();
-        self.numbers(6, u64::MAX, &mut found)?;
+        if self.numbers(8, u64::MAX, &mut found)? == 6 {
+            found.extend(USUAL_SPACES);
+        }
         self.is_at_end().then_some(())?;
         self.end_line()?;
         found.try_into().ok().map(Some)

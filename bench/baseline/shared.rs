@@ -162,7 +162,7 @@ impl Desk {
 
 impl SharedBoard {
     /// A board behind a lock, and the seats of its harts and its clock.
-    pub fn open(config: &[u64; 6]) -> Option<(SharedBoard, Vec<Seat>)> {
+    pub fn open(config: &[u64; 8]) -> Option<(SharedBoard, Vec<Seat>)> {
         let board = Board::new(config)?;
         let harts = board.harts.len();
         let actors = (0..harts as u8).chain([CLOCK]);

@@ -7,8 +7,7 @@ use Rattle.sv39.specs.declared.page.Leaf.{Leaf}
 use Rattle.sv39.specs.Causes.{misaligned, page_fault}
 use Rattle.sv39.specs.Maps.{maps}
 use Rattle.sv39.specs.Memory.{written}
-use Rattle.sv39.specs.Pages.{is_valid}
-use Rattle.sv39.specs.Satp.{asid_of, is_sv39}
+use Rattle.sv39.specs.Satp.{asid_of, is_valid, translates}
 use Rattle.tlb_model.specs.declared.entry.Address.{Address}
 use Rattle.tlb_model.specs.declared.entry.Entry.{Entry}
 use Rattle.tlb_model.specs.declared.word.FetchWord.{FetchWord}
@@ -71,16 +70,16 @@ memory_alone c past h va Load reply used = refl
 memory_alone c past h va (Store value) reply used = refl
 memory_alone c past h va Fetch reply used = refl
 
-pub no_satp : (va : ℕ) (what : Access) (reply : Reply) → satp_by (access_op va what) reply ≡ None
-no_satp va Load reply = refl
-no_satp va (Store value) reply = refl
-no_satp va Fetch reply = refl
+pub no_satp : (c : Config) (va : ℕ) (what : Access) (reply : Reply) → satp_by c (access_op va what) reply ≡ None
+no_satp c va Load reply = refl
+no_satp c va (Store value) reply = refl
+no_satp c va Fetch reply = refl
 
 -- an access fills what it used, where it hit nothing
 pub filled_unless_hit : (memory : ℕ → Option ℕ) (satp : ℕ) (tlb : Address → Option Entry) (va : ℕ) (kind : Kind)
     → filling_of (tlb (address_by satp va)) (used_by (way memory satp tlb va kind)) ≡ fill_by (way memory satp tlb va kind)
 filled_unless_hit memory satp tlb va kind =
-    by_tests (va % 8 == 0) (is_sv39 satp) (is_valid va) (tlb (address_by satp va)) (maps memory satp va kind)
+    by_tests (va % 8 == 0) (translates satp) (is_valid satp va) (tlb (address_by satp va)) (maps memory satp va kind)
   where
     by_tests : (aligned mode valid : Bool) (hit : Option Entry) (walked : Result Leaf Cause)
         → (let w = (if not aligned then Fault (misaligned kind) else if not mode then Plain else if not valid then Fault (page_fault kind) else way_by hit (asid_of satp) walked) in

@@ -174,9 +174,9 @@ module _ (c : Config) (past : List Event) where
     where
       by_op : (op : Op) → reply c past x op ≡ r → deed c past (record { actor = Hart x; op = op; reply = r; translation = used }) ≡ still
       by_op (Ecall regs) is = failed_call x (call_of regs) r is error
-      by_op (Load va) is = absurd (let e = sym (accessed_well accesses.Load (whole.answer (memory c past) (satp past x) (hit c past x) (cached c past x) va accesses.Load)) ∙ ap is_error is ∙ error in cc)
-      by_op (Store va value) is = absurd (let e = sym (accessed_well (accesses.Store value) (whole.answer (memory c past) (satp past x) (hit c past x) (cached c past x) va (accesses.Store value))) ∙ ap is_error is ∙ error in cc)
-      by_op (Fetch va) is = absurd (let e = sym (accessed_well accesses.Fetch (whole.answer (memory c past) (satp past x) (hit c past x) (cached c past x) va accesses.Fetch)) ∙ ap is_error is ∙ error in cc)
+      by_op (Load va) is = absurd (let e = sym (accessed_well accesses.Load (whole.answer (memory c past) (satp c past x) (hit c past x) (cached c past x) va accesses.Load)) ∙ ap is_error is ∙ error in cc)
+      by_op (Store va value) is = absurd (let e = sym (accessed_well (accesses.Store value) (whole.answer (memory c past) (satp c past x) (hit c past x) (cached c past x) va (accesses.Store value))) ∙ ap is_error is ∙ error in cc)
+      by_op (Fetch va) is = absurd (let e = sym (accessed_well accesses.Fetch (whole.answer (memory c past) (satp c past x) (hit c past x) (cached c past x) va accesses.Fetch)) ∙ ap is_error is ∙ error in cc)
       by_op (WriteSatp value) is = absurd (let e = rw (← is) at error in cc)
       by_op (WriteSie value) is = absurd (let e = rw (← is) at error in cc)
       by_op (WriteSstatusSie value) is = absurd (let e = rw (← is) at error in cc)

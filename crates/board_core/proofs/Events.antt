@@ -100,9 +100,9 @@ module _ (c : Config) (past : List Event) where
       reach = reaches_by c past event.op event.reply;
     };
     memory = record {
-      satp = satp_by event.op event.reply;
+      satp = satp_by c event.op event.reply;
       writing = writing_by event.op event.reply event.translation;
-      tlb_act = λ h. act_by (effect (turns c past) (turn_of c past event.actor event.op event.reply) h) (own_filling (is_hart h event.actor) (entry_filling event.op event.translation (satp past h) (tlb_acts c past h)));
+      tlb_act = λ h. act_by (effect (turns c past) (turn_of c past event.actor event.op event.reply) h) (own_filling (is_hart h event.actor) (entry_filling event.op event.translation (satp c past h) (tlb_acts c past h)));
       word_act = λ h. act_by (effect (turns c past) (turn_of c past event.actor event.op event.reply) h) (own_filling (is_hart h event.actor) (word_filling event.op event.reply event.translation (memory c past) (word_acts c past h)));
     };
     turn = turn_of c past event.actor event.op event.reply;
@@ -154,7 +154,7 @@ module _ (c : Config) (past : List Event) where
     does_call regs call reply is = ap (λ it. deed_of_call it reply) (sym is)
 
     -- a remote fence that waits is a turn, and one that fails is nothing
-    pub does_remote : (call : RfenceCall) (remote : Remote) → remote_by_rfence call ≡ remote → deed_of_call (Rfence call) Waiting ≡ deed_of_turn (turn_by_remote c past x (Some remote) Waiting)
+    pub does_remote : (call : RfenceCall) (remote : Remote) → remote_by_rfence c call ≡ remote → deed_of_call (Rfence call) Waiting ≡ deed_of_turn (turn_by_remote c past x (Some remote) Waiting)
     does_remote call remote is = ap (λ r. deed_of_turn (turn_by_remote c past x (Some r) Waiting)) is
 
     pub does_no_remote : (call : RfenceCall) (answer : Sbiret) → deed_of_call (Rfence call) (Ret answer) ≡ still

@@ -19,7 +19,7 @@ use Rattle.board_core.specs.declared.memory.Memory.{Memory}
 use Rattle.board_core.specs.Course.{harts_of, is_hart}
 use Rattle.board_core.specs.Fences.{turn_of, turns}
 use Rattle.sv39.specs.Memory.{pages_of, word_in, zero_memory}
-use Rattle.sv39.specs.Satp.{is_sv39, mode_of, satp_written}
+use Rattle.sv39.specs.Satp.{is_stored, kept_of, mode_of, satp_written}
 use Rattle.tlb_model.specs.declared.caches.Caches.{Caches}
 use Rattle.tlb_model.specs.declared.fence.Flush.{Flush}
 use Rattle.tlb_model.specs.Acts.{Act, Drop, Nothing, acted}
@@ -27,6 +27,7 @@ use Rattle.tlb_model.specs.Contents.{fenced}
 use Rattle.tlb_model.specs.Entries.{covers_entry}
 use Rattle.tlb_model.specs.Words.{covers_word}
 use Rattle.tlb_model.proofs.Living.{keeps_what_lives}
+use Rattle.board_core.specs.Limits.{spaces_of}
 use Rattle.board_core.specs.Memory.{act_by, entry_filling, own_filling, memory, satp, satp_by, satp_of_write, tlb_acts, word_acts, word_filling, writing_by, written_by, Zeroed, zeroed_by}
 use Rattle.board_core.specs.Stands.{FencesStand, MemoryStand, caches_at, caches_of}
 use Rattle.board_core.specs.Resets.{is_cold}
@@ -63,49 +64,49 @@ tabulate-changed change f k (suc n) = ap (λ rest. change k (f k) ∷ rest) (tab
 
 module _ (c : Config) (past : List Event) (event : Event) (d : Deed) (does : deed c past event ≡ d) where
   -- what the event does, part by part
-  writes_satp : satp_by event.op event.reply ≡ d.memory.satp
+  writes_satp : satp_by c event.op event.reply ≡ d.memory.satp
   writes_satp = ap (λ (e : Deed). e.memory.satp) does
 
   writes : writing_by event.op event.reply event.translation ≡ d.memory.writing
   writes = ap (λ (e : Deed). e.memory.writing) does
 
-  acts_on_tlb : (h : ℕ) → act_by (effect (turns c past) (turn_of c past event.actor event.op event.reply) h) (own_filling (is_hart h event.actor) (entry_filling event.op event.translation (satp past h) (tlb_acts c past h))) ≡ d.memory.tlb_act h
+  acts_on_tlb : (h : ℕ) → act_by (effect (turns c past) (turn_of c past event.actor event.op event.reply) h) (own_filling (is_hart h event.actor) (entry_filling event.op event.translation (satp c past h) (tlb_acts c past h))) ≡ d.memory.tlb_act h
   acts_on_tlb h = ap (λ (e : Deed). e.memory.tlb_act h) does
 
   acts_on_words : (h : ℕ) → act_by (effect (turns c past) (turn_of c past event.actor event.op event.reply) h) (own_filling (is_hart h event.actor) (word_filling event.op event.reply event.translation (memory c past) (word_acts c past h))) ≡ d.memory.word_act h
   acts_on_words h = ap (λ (e : Deed). e.memory.word_act h) does
 
   -- satp is written by its hart
-  pub satps-written : (satps : List ℕ) (h value : ℕ) → event.actor ≡ actors.Hart h → d.memory.satp ≡ Some (Here value) → satps ≡ map (satp past) (harts_of c)
-      → slice_set satps h value ≡ map (satp (event ∷ past)) (harts_of c)
+  pub satps-written : (satps : List ℕ) (h value : ℕ) → event.actor ≡ actors.Hart h → d.memory.satp ≡ Some (Here value) → satps ≡ map (satp c past) (harts_of c)
+      → slice_set satps h value ≡ map (satp c (event ∷ past)) (harts_of c)
   satps-written satps h value own written stand =
       ap (λ (xs : List ℕ). slice_set xs h value) stand
-      ∙ ap (slice_set (map (satp past) (harts_of c)) h) (sym (rw (writes_satp, written, own, eqb-same h) refl))
-      ∙ tabulate-set (satp past) (satp (event ∷ past)) c.harts h
+      ∙ ap (slice_set (map (satp c past) (harts_of c)) h) (sym (rw (writes_satp, written, own, eqb-same h) refl))
+      ∙ tabulate-set (satp c past) (satp c (event ∷ past)) c.harts h
       (λ j other. rw (writes_satp, written, own, eqb-other j h (λ e. other (sym e))) refl)
 
   -- by a write, which may have no effect
-  pub satps-put : (satps : List ℕ) (h value : ℕ) → event.actor ≡ actors.Hart h → d.memory.satp ≡ satp_of_write value → satps ≡ map (satp past) (harts_of c)
-      → slice_set satps h (satp_written (satp past h) value) ≡ map (satp (event ∷ past)) (harts_of c)
+  pub satps-put : (satps : List ℕ) (h value : ℕ) → event.actor ≡ actors.Hart h → d.memory.satp ≡ satp_of_write (spaces_of c) value → satps ≡ map (satp c past) (harts_of c)
+      → slice_set satps h (satp_written (spaces_of c) (satp c past h) value) ≡ map (satp c (event ∷ past)) (harts_of c)
   satps-put satps h value own written stand =
-      ap (λ (xs : List ℕ). slice_set xs h (satp_written (satp past h) value)) stand
-      ∙ ap (slice_set (map (satp past) (harts_of c)) h) (sym (rw (writes_satp, written, own, eqb-same h) (put (mode_of value == 0) (is_sv39 value) value (satp past h))))
-      ∙ tabulate-set (satp past) (satp (event ∷ past)) c.harts h
-      (λ j other. rw (writes_satp, written, own, eqb-other j h (λ e. other (sym e))) (spared (mode_of value == 0) (is_sv39 value) value (satp past j)))
+      ap (λ (xs : List ℕ). slice_set xs h (satp_written (spaces_of c) (satp c past h) value)) stand
+      ∙ ap (slice_set (map (satp c past) (harts_of c)) h) (sym (rw (writes_satp, written, own, eqb-same h) (put (mode_of value == 0) (is_stored (spaces_of c) value) (kept_of (spaces_of c) value) (satp c past h))))
+      ∙ tabulate-set (satp c past) (satp c (event ∷ past)) c.harts h
+      (λ j other. rw (writes_satp, written, own, eqb-other j h (λ e. other (sym e))) (spared (mode_of value == 0) (is_stored (spaces_of c) value) (kept_of (spaces_of c) value) (satp c past j)))
     where
-      put : (bare sv39 : Bool) (value before : ℕ)
-          → latest (if bare then Some (Here 0) else if sv39 then Some (Here value) else None) true before ≡ (if bare then 0 else if sv39 then value else before)
-      put true sv39 value before = refl
+      put : (bare stored : Bool) (value before : ℕ)
+          → latest (if bare then Some (Here 0) else if stored then Some (Here value) else None) true before ≡ (if bare then 0 else if stored then value else before)
+      put true stored value before = refl
       put false true value before = refl
       put false false value before = refl
 
-      spared : (bare sv39 : Bool) (value before : ℕ) → latest (if bare then Some (Here 0) else if sv39 then Some (Here value) else None) false before ≡ before
-      spared true sv39 value before = refl
+      spared : (bare stored : Bool) (value before : ℕ) → latest (if bare then Some (Here 0) else if stored then Some (Here value) else None) false before ≡ before
+      spared true stored value before = refl
       spared false true value before = refl
       spared false false value before = refl
 
-  pub satps-quiet : (satps : List ℕ) → d.memory.satp ≡ None → satps ≡ map (satp past) (harts_of c) → satps ≡ map (satp (event ∷ past)) (harts_of c)
-  satps-quiet satps none stand = stand ∙ tabulate-same (satp past) (satp (event ∷ past)) (λ j. rw (writes_satp, none) refl) (harts_of c)
+  pub satps-quiet : (satps : List ℕ) → d.memory.satp ≡ None → satps ≡ map (satp c past) (harts_of c) → satps ≡ map (satp c (event ∷ past)) (harts_of c)
+  satps-quiet satps none stand = stand ∙ tabulate-same (satp c past) (satp c (event ∷ past)) (λ j. rw (writes_satp, none) refl) (harts_of c)
 
   pub ram-still : (ram : List ℕ) → d.memory.writing ≡ None → word_in ram ≡ memory c past → word_in ram ≡ memory c (event ∷ past)
   ram-still ram none stand = stand ∙ sym (ap (λ writing. written_by c writing (memory c past)) (writes ∙ none))
@@ -161,7 +162,7 @@ module _ (c : Config) (past : List Event) (event : Event) (d : Deed) (does : dee
 
   -- what changes satp alone, or caches alone
   pub memory-satps : (m m' : Memory) → d.memory ≡ record still.memory { satp = d.memory.satp } → MemoryStand c past m
-      → m'.ram ≡ m.ram → m'.caches.items ≡ m.caches.items → m'.satps.items ≡ map (satp (event ∷ past)) (harts_of c) → MemoryStand c (event ∷ past) m'
+      → m'.ram ≡ m.ram → m'.caches.items ≡ m.caches.items → m'.satps.items ≡ map (satp c (event ∷ past)) (harts_of c) → MemoryStand c (event ∷ past) m'
   memory-satps m m' alone stand ram caches satps = record {
     pages = ap pages_of ram ∙ stand.pages;
     ram = ap word_in ram ∙ ram-still m.ram (ap (λ (e : MemoryDeed). e.writing) alone) stand.ram;
@@ -191,7 +192,7 @@ module _ (c : Config) (past : List Event) (event : Event) (d : Deed) (does : dee
       → m'.satps.items ≡ replicate (length m.satps.items) 0 → word_in m'.ram ≡ (if is_cold reset.kind then zero_memory (pages_of m.ram) else word_in m.ram)
       → pages_of m'.ram ≡ pages_of m.ram → m'.caches.items ≡ map (caches_of c (event ∷ past)) (harts_of c) → MemoryStand c (event ∷ past) m'
   memory-reset m m' reset is writing stand satps ram pages caches =
-      let long = length-map-range_with_len (satp past) 0 c.harts in
+      let long = length-map-range_with_len (satp c past) 0 c.harts in
       record {
         pages = pages ∙ stand.pages;
         ram =
@@ -200,7 +201,7 @@ module _ (c : Config) (past : List Event) (event : Event) (d : Deed) (does : dee
         satps =
             satps ∙ ap (λ n. replicate n 0) (ap length stand.satps ∙ long)
             ∙ splat_is_map (harts_of c) c.harts 0 (length-range_with_len 0 c.harts)
-            ∙ tabulate-same (λ j. 0) (satp (event ∷ past)) (λ j. rw (writes_satp, is) refl) (harts_of c);
+            ∙ tabulate-same (λ j. 0) (satp c (event ∷ past)) (λ j. rw (writes_satp, is) refl) (harts_of c);
         caches = caches;
       }
     where

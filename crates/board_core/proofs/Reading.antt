@@ -54,12 +54,12 @@ module _ (c : Config) (past : List Event) where
   word_hit-read m h inside stand = ap word_hit (caches-read m h inside stand) ∙ (λ i pa. hit_is_last covers_word is_at pa (word_acts c past h) i)
 
   pub length-satps : (m : Memory) → MemoryStand c past m → length m.satps.items ≡ c.harts
-  length-satps m stand = ap length stand.satps ∙ length-map-range_with_len (satp past) 0 c.harts
+  length-satps m stand = ap length stand.satps ∙ length-map-range_with_len (satp c past) 0 c.harts
 
-  pub satp-read : (m : Memory) (h d : ℕ) → h < c.harts → MemoryStand c past m → slice_index_or m.satps.items h d ≡ satp past h
+  pub satp-read : (m : Memory) (h d : ℕ) → h < c.harts → MemoryStand c past m → slice_index_or m.satps.items h d ≡ satp c past h
   satp-read m h d inside stand =
       ap (λ (xs : List ℕ). slice_index_or xs h d) stand.satps
-      ∙ get_or-map-range_with_len (satp past) 0 c.harts h h d inside (omega arith)
+      ∙ get_or-map-range_with_len (satp c past) 0 c.harts h h d inside (omega arith)
 
   pub deadline-read : (timers : Timing) (h : ℕ) → h < c.harts → TimersStand c past timers → deadline_of timers h ≡ deadline c past h
   deadline-read timers h inside stand =

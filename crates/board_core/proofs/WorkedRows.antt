@@ -24,7 +24,7 @@ answers b (step ∷ steps) = answer b.config b.past step.0 step.1 ∷ answers (s
 
 abbrev opened : (harts : ℕ) → Course
 opened harts = record {
-  config = record { harts = harts; pages = 16; limit = 1000; boot_hart = 0; boot_addr = 0x80000000; boot_opaque = 0 };
+  config = record { harts = harts; pages = 16; limit = 1000; boot_hart = 0; boot_addr = 0x80000000; boot_opaque = 0; asid_len = 16; width = 39 };
   past = [];
 }
 

@@ -34,13 +34,13 @@ module _ (c : Config) (past : List Event) (x : ℕ) where
   -- the entry that an access of hart x uses, found or filled, if any
   abbrev pub used_by_access : Option Reach → Option Entry
   used_by_access None = None
-  used_by_access (Some reach) = whole.used (memory c past) (satp past x) hit reach.va reach.access
+  used_by_access (Some reach) = whole.used (memory c past) (satp c past x) hit reach.va reach.access
 
   abbrev pub used : Op → Option Entry
   used op = used_by_access (access_of op)
 
   abbrev pub access_reply : (va : ℕ) → Access → Reply
-  access_reply va access = access_reply_of access (whole.answer (memory c past) (satp past x) hit cached va access)
+  access_reply va access = access_reply_of access (whole.answer (memory c past) (satp c past x) hit cached va access)
 
 -- the clock makes no access
 abbrev pub used_by_actor : Config → List Event → Actor → Op → Option Entry

@@ -32,7 +32,7 @@ pub record LooksSame (c : Config) (past later : List Event) : Type 0 where
   pub stip : (h : ℕ) → interrupts.stip c later h ≡ interrupts.stip c past h
   pub wake : (h : ℕ) → interrupts.wake c later h ≡ interrupts.wake c past h
   pub deadline : (h : ℕ) → interrupts.deadline c later h ≡ interrupts.deadline c past h
-  pub satp : (h : ℕ) → memory.satp later h ≡ memory.satp past h
+  pub satp : (h : ℕ) → memory.satp c later h ≡ memory.satp c past h
   pub word : (at : ℕ) → memory.memory c later at ≡ memory.memory c past at
   pub tlb : (h : ℕ) → (cache_after covers_entry (memory.tlb_acts c later h)).live ≡ (cache_after covers_entry (memory.tlb_acts c past h)).live
   pub fetched : (h : ℕ) → (cache_after covers_word (memory.word_acts c later h)).live ≡ (cache_after covers_word (memory.word_acts c past h)).live

@@ -26,13 +26,14 @@ use Rattle.board_core.specs.Calls.Hsm.{turn_by_hsm}
 pub use Rattle.board_core.specs.Calls.Rfence.{Remote}
 use Rattle.board_core.specs.Calls.Rfence.{remote_by_rfence}
 use Rattle.board_core.specs.Calls.Srst.{turn_by_srst}
+use Rattle.board_core.specs.Limits.{spaces_of}
 use Rattle.board_core.specs.States.{state}
 use Rattle.board_core.specs.Targets.{is_reached}
 
 -- The remote fence that a call is, if it is one.
-abbrev pub remote_of : Call → Option Remote
-remote_of (Rfence call) = Some (remote_by_rfence call)
-remote_of call = None
+abbrev pub remote_of : Config → Call → Option Remote
+remote_of c (Rfence call) = Some (remote_by_rfence c call)
+remote_of c call = None
 
 module _ (c : Config) (past : List Event) where
   -- The harts of which a fence is asked: those that the hart list names and that are in an interruptible state (SBI 8;
@@ -52,12 +53,12 @@ module _ (c : Config) (past : List Event) where
   abbrev pub turn_by_call : (x : ℕ) → Call → Reply → Turn Flush
   turn_by_call x (Hsm call) reply = turn_by_hsm x call reply
   turn_by_call x (Srst call) reply = turn_by_srst call reply
-  turn_by_call x call reply = turn_by_remote x (remote_of call) reply
+  turn_by_call x call reply = turn_by_remote x (remote_of c call) reply
 
   -- What an operation of hart x means for fences.
   abbrev pub turn_by : (x : ℕ) → Op → Reply → Turn Flush
   turn_by x (ops.Ecall regs) reply = turn_by_call x (call_of regs) reply
-  turn_by x (ops.Sfence va asid) reply = Own x (Entries (fence_of_address va asid))
+  turn_by x (ops.Sfence va asid) reply = Own x (Entries (fence_of_address (spaces_of c) va asid))
   turn_by x ops.FenceI reply = Own x Words
   turn_by x ops.Serve reply = Serve x
   turn_by x ops.Poll reply = Poll x

@@ -1,5 +1,8 @@
 -- The limits of a board (profile).
-use Rattle.std.specs.Prelude.{ℕ, ◌+◌, ◌*◌, ◌%◌, ◌<◌, ◌≤◌, Bool, IsTrue, ◌==◌, ◌&&◌, nat_le, nat_lt}
+use Rattle.std.specs.Prelude.{ℕ, ◌+◌, ◌*◌, ◌%◌, ◌<◌, ◌≤◌, Bool, IsTrue, ◌==◌, ◌&&◌, ◌||◌, nat_le, nat_lt, if◌then◌else◌, List, [], ◌∷◌}
+use Rattle.sv39.specs.declared.paging.Paging.TheVariants.{Sv39, Sv48}
+use Rattle.sv39.specs.declared.paging.Spaces.{Spaces}
+use Rattle.sv39.specs.Memory.{ram_start}
 use Rattle.board_core.specs.declared.config.BuildFault.{BuildFault}
 use Rattle.board_core.specs.declared.config.BuildFault.TheVariants.{BadConfig, NoMemory}
 use Rattle.board_core.specs.declared.config.Config.{Config}
@@ -7,7 +10,7 @@ use Rattle.board_core.specs.declared.config.Config.{Config}
 -- An address where a hart may begin is even and in RAM, which is so many pages of 4,096 bytes from 0x80000000.
 abbrev pub is_start_address : (pages address : ℕ) → Bool
 is_start_address pages address =
-    address % 2 == 0 && (nat_le 0x80000000 address && nat_lt address (0x80000000 + 4096 * pages))
+    address % 2 == 0 && (nat_le ram_start address && nat_lt address (ram_start + 4096 * pages))
 
 -- why no board was made, by number
 abbrev pub build_fault_number : BuildFault → ℕ
@@ -23,3 +26,27 @@ pub record IsGood (c : Config) : Type 0 where
   pub at_most_a_million_events : c.limit ≤ 1000000
   pub boot_hart_is_there : c.boot_hart < c.harts
   pub boot_address : IsTrue (is_start_address c.pages c.boot_addr)
+  pub at_most_16_bits_of_an_asid : c.asid_len ≤ 16
+  pub width_of_a_mode : IsTrue ((c.width == 39) || (c.width == 48))
+
+-- How wide a board's address spaces are: what it keeps of an ASID, and its widest paging mode.
+abbrev pub spaces_of : Config → Spaces
+spaces_of c = record { asid_len = c.asid_len; widest = if c.width == 48 then Sv48 else Sv39 }
+
+-- The numbers of a board, in their order: the first six, and two that a board line may leave out.
+abbrev pub first_numbers : Config → List ℕ
+first_numbers c = c.harts ∷ c.pages ∷ c.limit ∷ c.boot_hart ∷ c.boot_addr ∷ c.boot_opaque ∷ []
+
+abbrev pub numbers_of : Config → List ℕ
+numbers_of c =
+    c.harts ∷ c.pages ∷ c.limit ∷ c.boot_hart ∷ c.boot_addr ∷ c.boot_opaque ∷ c.asid_len ∷ c.width ∷ []
+
+-- Those two where they are left out: all 16 bits of an ASID are kept, and there is Sv39 alone.
+abbrev pub usual_asid_len : ℕ
+usual_asid_len = 16
+
+abbrev pub usual_width : ℕ
+usual_width = 39
+
+abbrev pub has_usual_spaces : Config → Bool
+has_usual_spaces c = (c.asid_len == usual_asid_len) && (c.width == usual_width)

@@ -3,7 +3,8 @@ use Rattle.std.specs.Prelude.{ℕ, List, [], ◌∷◌, Bool, ◌==◌, if◌the
 use Rattle.sbi_abi.specs.declared.reset.Reset.{Reset}
 use Rattle.rfence.specs.Applied.{Effect, Nothing, Drops, Empties, effect}
 use Rattle.sv39.specs.Memory.{written, zero_memory}
-use Rattle.sv39.specs.Satp.{asid_of, is_sv39, mode_of}
+use Rattle.sv39.specs.declared.paging.Spaces.{Spaces}
+use Rattle.sv39.specs.Satp.{asid_of, is_stored, kept_of, mode_of}
 use Rattle.tlb_model.specs.declared.entry.Address.{Address}
 use Rattle.tlb_model.specs.declared.entry.Entry.{Entry}
 use Rattle.tlb_model.specs.declared.fence.Flush.{Flush}
@@ -22,26 +23,30 @@ use Rattle.board_core.specs.declared.event.Reply.TheVariants as replies
 use Rattle.board_core.specs.Course.{is_hart}
 use Rattle.board_core.specs.Fences.{turn_of, turns}
 use Rattle.board_core.specs.History.{Event}
+use Rattle.board_core.specs.Limits.{spaces_of}
 use Rattle.board_core.specs.Resets.{is_cold, reset_by}
 use Rattle.board_core.specs.Writes.{Write, Here, at_reset, latest}
 
 -- ---- satp
 
--- What a write puts into satp: 0 with MODE Bare (profile), the value with MODE Sv39, and nothing with another MODE, which
--- has no effect (Privileged 4.1.11).
-abbrev pub satp_of_write : ℕ → Option (Write ℕ)
-satp_of_write value = if mode_of value == 0 then Some (Here 0) else if is_sv39 value then Some (Here value) else None
+-- What a write puts into satp: 0 with MODE Bare (profile), what is kept of the value with the MODE of a paging mode that
+-- the board has, and nothing with another MODE, which has no effect (Privileged 4.1.11).
+abbrev pub satp_of_write : Spaces → ℕ → Option (Write ℕ)
+satp_of_write spaces value =
+    if mode_of value == 0 then Some (Here 0)
+    else if is_stored spaces value then Some (Here (kept_of spaces value))
+    else None
 
 -- A guest writes satp, and each entry clears it (SBI 9.1 and 9.4), and a reset everywhere (profile).
-abbrev pub satp_by : Op → Reply → Option (Write ℕ)
-satp_by (ops.WriteSatp value) reply = satp_of_write value
-satp_by ops.Advance (replies.Entry addr hart opaque) = Some (Here 0)
-satp_by op reply = at_reset (reset_by op reply) 0
+abbrev pub satp_by : Config → Op → Reply → Option (Write ℕ)
+satp_by c (ops.WriteSatp value) reply = satp_of_write (spaces_of c) value
+satp_by c ops.Advance (replies.Entry addr hart opaque) = Some (Here 0)
+satp_by c op reply = at_reset (reset_by op reply) 0
 
 -- satp of a hart: what its last write, entry or reset made of it, and 0 before any.
-abbrev pub satp : List Event → ℕ → ℕ
-satp [] h = 0
-satp (event ∷ past) h = latest (satp_by event.op event.reply) (is_hart h event.actor) (satp past h)
+abbrev pub satp : Config → List Event → ℕ → ℕ
+satp c [] h = 0
+satp c (event ∷ past) h = latest (satp_by c event.op event.reply) (is_hart h event.actor) (satp c past h)
 
 -- an address in the space that satp names
 abbrev pub address_by : (satp va : ℕ) → Address
@@ -116,7 +121,7 @@ abbrev pub tlb_acts : Config → List Event → ℕ → List (Act Entry)
 tlb_acts c [] h = []
 tlb_acts c (event ∷ past) h =
     act_by (effect (turns c past) (turn_of c past event.actor event.op event.reply) h)
-    (own_filling (is_hart h event.actor) (entry_filling event.op event.translation (satp past h) (tlb_acts c past h)))
+    (own_filling (is_hart h event.actor) (entry_filling event.op event.translation (satp c past h) (tlb_acts c past h)))
     ∷ tlb_acts c past h
 
 -- the word that was fetched last from a physical address, of those that live

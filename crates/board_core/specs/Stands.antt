@@ -86,7 +86,7 @@ caches_of c past h = record { tlb = cache_after covers_entry (tlb_acts c past h)
 pub record MemoryStand (c : Config) (past : List Event) (m : Memory) : Type 0 where
   pub pages : pages_of m.ram ≡ c.pages
   pub ram : word_in m.ram ≡ memory c past
-  pub satps : m.satps.items ≡ map (satp past) (harts_of c)
+  pub satps : m.satps.items ≡ map (satp c past) (harts_of c)
   pub caches : m.caches.items ≡ map (caches_of c past) (harts_of c)
 
 -- the fences stand for the turns of the past, each of which could be made

@@ -290,7 +290,7 @@ impl Board {
     /// satp of hart `h` (Privileged 4.1.11).
     pub fn satp(&self, h: u64) -> u64
         requires { h < self.now.config.harts }
-        ensures { result ≡ satp self.now.past h }
+        ensures { result ≡ satp self.now.config self.now.past h }
     {
         self.machine.memory.satp(h).bits()
     }

@@ -1,6 +1,7 @@
 ghost use Rattle.std.specs.Prelude.{◌≡◌, ◌≤◌, ◌↔◌, IsTrue};
-ghost use Rattle.board_core.specs.Limits.{IsGood, build_fault_number, is_start_address};
+ghost use Rattle.board_core.specs.Limits.{IsGood, build_fault_number, has_usual_spaces, is_start_address, spaces_of};
 
+use sv39::{Paging, Spaces};
 use thiserror::Error;
 
 /// What a board is opened with. Every number is tested by `Board::new` alone.
@@ -18,7 +19,17 @@ pub struct Config {
     pub boot_addr: u64,
     /// The opaque value that the boot hart is given.
     pub boot_opaque: u64,
+    /// ASIDLEN: how many bits of an ASID are kept, 0 to 16 (Privileged 4.1.11).
+    pub asid_len: u64,
+    /// The bits of the widest virtual addresses: 39 for Sv39 alone, or 48 where there is Sv48 too.
+    pub width: u64,
 }
+
+/// ASIDLEN of a board whose line doesn't say it: all bits of an ASID are kept.
+pub const USUAL_ASID_LEN: u64 = 16;
+
+/// The width of a board whose line doesn't say it: it has Sv39 alone.
+pub const USUAL_WIDTH: u64 = 39;
 
 /// Why no board was made.
 #[derive(Clone, Copy, Debug, PartialEq, Eq, Error)]
@@ -55,7 +66,35 @@ impl Config {
         let has_size = (1..=128).contains(&self.harts)
             && (1..=256).contains(&self.pages)
             && (1..=1_000_000).contains(&self.limit);
-        has_size && self.boot_hart < self.harts && is_start_address(self.pages, self.boot_addr)
+        let has_spaces = self.asid_len <= 16 && (self.width == 39 || self.width == 48);
+        has_size
+            && self.boot_hart < self.harts
+            && is_start_address(self.pages, self.boot_addr)
+            && has_spaces
+    }
+
+    /// How wide the board's address spaces are.
+    pub fn spaces(&self) -> Spaces
+        requires { IsGood self.now }
+        ensures spaces { result ≡ spaces_of self.now }
+        ensures limit { result.asid_len ≤ 16 }
+    {
+        let widest = if self.width == 48 {
+            Paging::Sv48
+        } else {
+            Paging::Sv39
+        };
+        Spaces {
+            asid_len: self.asid_len,
+            widest,
+        }
+    }
+
+    /// Whether the board's address spaces are those of one whose line doesn't say them.
+    pub fn has_usual_spaces(&self) -> bool
+        ensures { result ≡ has_usual_spaces self.now }
+    {
+        self.asid_len == USUAL_ASID_LEN && self.width == USUAL_WIDTH
     }
 }
 

@@ -16,7 +16,7 @@ mod memory;
 mod phase;
 
 pub use board::{Board, Totals, errors_change_nothing, starts_are_entered};
-pub use config::{BuildFault, Config};
+pub use config::{BuildFault, Config, USUAL_ASID_LEN, USUAL_WIDTH};
 pub use csrs::Sie;
 pub use event::{Actor, Event, Op, Refusal, Reply};
 pub use fence_queue::Request;

@@ -1,4 +1,4 @@
-ghost use Rattle.std.specs.Prelude.{◌≡◌, ◌<◌, IfOk, [], if◌then◌else◌, length, replicate, slice_set};
+ghost use Rattle.std.specs.Prelude.{◌≡◌, ◌<◌, ◌≤◌, IfOk, [], if◌then◌else◌, length, replicate, slice_set};
 ghost use Rattle.sv39.specs.Memory.{pages_of, word_in, zero_memory};
 ghost use Rattle.sv39.specs.Satp.{satp_written};
 ghost use Rattle.tlb_model.specs.Contents.{fenced, filled_if};
@@ -11,7 +11,7 @@ ghost use Rattle.board_core.specs.Stands.{CanFill, MemoryStand, caches_at, satp_
 use crate::config::Config;
 use hart_access::{Access, Accessed, access};
 use std::alloc::{AllocError, Global};
-use sv39::{Ram, Satp};
+use sv39::{Ram, Satp, Spaces};
 use tlb_model::{Caches, Flush};
 
 /// The RAM, and what each hart translates its addresses by.
@@ -46,14 +46,15 @@ impl Memory {
         self.satps[h as usize]
     }
 
-    /// Writes satp of hart `h` (Privileged 4.1.11).
-    pub fn write_satp(&mut self, h: u64, value: u64)
-        requires { h < length self.old.satps.items }
-        ensures satps { self.new.satps.items ≡ slice_set self.old.satps.items h (satp_written (satp_at self.old h) value) }
+    /// Writes satp of hart `h`, on a board with these address spaces (Privileged 4.1.11).
+    pub fn write_satp(&mut self, h: u64, value: u64, spaces: Spaces)
+        requires in_range { h < length self.old.satps.items }
+        requires limit { spaces.asid_len ≤ 16 }
+        ensures satps { self.new.satps.items ≡ slice_set self.old.satps.items h (satp_written spaces (satp_at self.old h) value) }
         ensures ram { self.new.ram ≡ self.old.ram }
         ensures caches { self.new.caches.items ≡ self.old.caches.items }
     {
-        self.satps[h as usize] = self.satps[h as usize].write(value);
+        self.satps[h as usize] = self.satps[h as usize].write(value, spaces);
     }
 
     /// The entry of a start or of a resume of hart `h`: its addresses aren't translated any more (SBI 9.1 and 9.4).

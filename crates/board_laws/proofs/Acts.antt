@@ -107,9 +107,9 @@ fill-acted own Empties None item e = cc
 module _ (c : Config) (t : ℕ) (event : Event) (older : List Event) where
   -- an entry is filled by an access of its hart
   pub entry-filled : (item : Entry) → last_act (tlb_acts c (event ∷ older) t) ≡ Fill item
-      → (event.actor ≡ Hart t) × (entry_filling event.op event.translation (satp older t) (tlb_acts c older t) ≡ Some item)
+      → (event.actor ≡ Hart t) × (entry_filling event.op event.translation (satp c older t) (tlb_acts c older t) ≡ Some item)
   entry-filled item e =
-      let facts = fill-acted (is_hart t event.actor) (effect (turns c older) (turn_of c older event.actor event.op event.reply) t) (entry_filling event.op event.translation (satp older t) (tlb_acts c older t)) item e in
+      let facts = fill-acted (is_hart t event.actor) (effect (turns c older) (turn_of c older event.actor event.op event.reply) t) (entry_filling event.op event.translation (satp c older t) (tlb_acts c older t)) item e in
       (own-actor event.actor t facts.0, facts.1)
 
   -- and so is a word
@@ -130,17 +130,17 @@ pub turn-strikes : (c : Config) (t : ℕ) (event : Event) (older : List Event) (
     → Strikes flush (last_act (tlb_acts c (event ∷ older) t)) × Strikes flush (last_act (word_acts c (event ∷ older) t))
 turn-strikes c t event older flush strikes =
     let done = effect (turns c older) (turn_of c older event.actor event.op event.reply) t in (
-      effect-strikes done (own_filling (is_hart t event.actor) (entry_filling event.op event.translation (satp older t) (tlb_acts c older t))) flush strikes,
+      effect-strikes done (own_filling (is_hart t event.actor) (entry_filling event.op event.translation (satp c older t) (tlb_acts c older t))) flush strikes,
       effect-strikes done (own_filling (is_hart t event.actor) (word_filling event.op event.reply event.translation (memory c older) (word_acts c older t))) flush strikes,
     )
 
 -- a local fence is a turn of the hart alone
-fence-turn : (c : Config) (older : List Event) (t : ℕ) (op : Op) (reply : Reply) (flush : Flush) → own_fence op ≡ Some flush → turn_by c older t op reply ≡ Own t flush
+fence-turn : (c : Config) (older : List Event) (t : ℕ) (op : Op) (reply : Reply) (flush : Flush) → own_fence c op ≡ Some flush → turn_by c older t op reply ≡ Own t flush
 fence-turn c older t (Sfence va asid) reply flush e = cc
 fence-turn c older t FenceI reply flush e = cc
 fence-turn c older t op reply flush e = cc
 
-pub own-strikes : (c : Config) (t : ℕ) (event : Event) (older : List Event) (flush : Flush) → event.actor ≡ Hart t → own_fence event.op ≡ Some flush
+pub own-strikes : (c : Config) (t : ℕ) (event : Event) (older : List Event) (flush : Flush) → event.actor ≡ Hart t → own_fence c event.op ≡ Some flush
     → turns_laws.Strikes flush (effect (turns c older) (turn_of c older event.actor event.op event.reply) t)
 own-strikes c t event older flush own fences =
     let turn_is : turn_of c older event.actor event.op event.reply ≡ Own t flush =

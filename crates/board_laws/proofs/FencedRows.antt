@@ -13,7 +13,7 @@ use Rattle.sv39.specs.declared.page.Leaf.{Leaf}
 use Rattle.sv39.specs.declared.page.Level.TheVariants.{Giga}
 use Rattle.sv39.specs.Maps.{maps}
 use Rattle.sv39.specs.Memory.{is_in_ram, zero_memory}
-use Rattle.sv39.specs.Pages.{is_valid}
+use Rattle.sv39.specs.Paging.{is_valid_by}
 use Rattle.tlb_model.specs.declared.entry.Entry.{Entry as CacheEntry}
 use Rattle.tlb_model.specs.declared.fence.Fence.{Fence}
 use Rattle.tlb_model.specs.declared.fence.Flush.{Flush}
@@ -33,7 +33,7 @@ use Rattle.board_core.specs.declared.event.Reply.TheVariants.{Done, Entry, Gone,
 use Rattle.board_core.specs.Calls.Rfence.{flush_of_range}
 use Rattle.board_core.specs.Fences.{turns}
 use Rattle.board_core.specs.History.{Event, Reach}
-use Rattle.board_core.specs.Limits.{IsGood}
+use Rattle.board_core.specs.Limits.{IsGood, spaces_of}
 use Rattle.board_core.specs.Memory.{memory, satp}
 use Rattle.board_core.specs.Replies.{IsLegal}
 use Rattle.board_core.specs.Resets.{reset_by}
@@ -84,7 +84,7 @@ of_space asid satp_now (Some used) = is_of_space asid satp_now used.leaf
 -- ---- a hart fences itself
 
 abbrev alone : Config
-alone = record { harts = 1; pages = 16; limit = 1000; boot_hart = 0; boot_addr = 0x80000000; boot_opaque = 0 }
+alone = record { harts = 1; pages = 16; limit = 1000; boot_hart = 0; boot_addr = 0x80000000; boot_opaque = 0; asid_len = 16; width = 39 }
 
 is-good : IsGood alone
 is-good = record {
@@ -96,6 +96,8 @@ is-good = record {
   at_most_a_million_events = omega arith;
   boot_hart_is_there = omega arith;
   boot_address = refl;
+  at_most_16_bits_of_an_asid = omega arith;
+  width_of_a_mode = refl;
 }
 
 -- hart 0 fences itself, and then loads
@@ -108,11 +110,11 @@ fenced_by op =
     ∷ did 0 Advance (Entry 0x80000000 0 0)
     ∷ []
 
-own-reached : (op : Op) (flush : Flush) → own_fence op ≡ Some flush → Reached alone (past_at (fenced_by op) 4) 0 3 flush
+own-reached : (op : Op) (flush : Flush) → own_fence alone op ≡ Some flush → Reached alone (past_at (fenced_by op) 4) 0 3 flush
 own-reached op flush fences = Itself (record { event = did 0 op Done; happened = record { newer = []; made = refl }; by_hart = refl; fences = fences })
 
-abbrev fenced-access : (op : Op) (fence : Fence) → own_fence op ≡ Some (Entries fence) → is_of_page fence.range 0x80002000 ≡ true
-    → is_of_space fence.asid (satp (past_at (fenced_by op) 4) 0) leaf ≡ true → FencedAccess alone (fenced_by op) 0 3 4 fence reach
+abbrev fenced-access : (op : Op) (fence : Fence) → own_fence alone op ≡ Some (Entries fence) → is_of_page fence.range 0x80002000 ≡ true
+    → is_of_space fence.asid (satp alone (past_at (fenced_by op) 4) 0) leaf ≡ true → FencedAccess alone (fenced_by op) 0 3 4 fence reach
 fenced-access op fence fences page space = record {
   event = loaded 0;
   happened = record { newer = []; made = refl };
@@ -120,7 +122,7 @@ fenced-access op fence fences page space = record {
   access = refl;
   reached = own-reached op (Entries fence) fences;
   page = page;
-  space = λ used e. sym (ap (of_space fence.asid (satp (past_at (fenced_by op) 4) 0)) e) ∙ space;
+  space = λ used e. sym (ap (of_space fence.asid (satp alone (past_at (fenced_by op) 4) 0)) e) ∙ space;
 }
 
 -- By an SFENCE.VMA of an address space ..
@@ -128,53 +130,53 @@ abbrev of_asid : Op
 of_asid = Sfence None (Some 5)
 
 asid-legal : IsLegal alone (fenced_by of_asid)
-unfolding maps is_valid zero_memory is_in_ram
+unfolding maps is_valid_by zero_memory is_in_ram
 asid-legal = (recorded_is_recomputed alone (fenced_by of_asid)).1 refl
 
-abbrev asid-fenced : FencedAccess alone (fenced_by of_asid) 0 3 4 (fence_of_address None (Some 5)) reach
-asid-fenced = fenced-access of_asid (fence_of_address None (Some 5)) refl refl refl
+abbrev asid-fenced : FencedAccess alone (fenced_by of_asid) 0 3 4 (fence_of_address (spaces_of alone) None (Some 5)) reach
+asid-fenced = fenced-access of_asid (fence_of_address (spaces_of alone) None (Some 5)) refl refl refl
 
 asid-fresh : GivenAfter alone (fenced_by of_asid) 0 3 4 0x80002000 leaf
-asid-fresh = translations_are_fresh alone (fenced_by of_asid) 0 3 4 (fence_of_address None (Some 5)) reach mapped is-good asid-legal asid-fenced refl
+asid-fresh = translations_are_fresh alone (fenced_by of_asid) 0 3 4 (fence_of_address (spaces_of alone) None (Some 5)) reach mapped is-good asid-legal asid-fenced refl
 
 -- .. and by one of an address.
 abbrev of_address : Op
 of_address = Sfence (Some 0x80002000) None
 
 address-legal : IsLegal alone (fenced_by of_address)
-unfolding maps is_valid zero_memory is_in_ram
+unfolding maps is_valid_by zero_memory is_in_ram
 address-legal = (recorded_is_recomputed alone (fenced_by of_address)).1 refl
 
-address-page : is_of_page (fence_of_address (Some 0x80002000) None).range 0x80002000 ≡ true
-unfolding is_valid
+address-page : is_of_page (fence_of_address (spaces_of alone) (Some 0x80002000) None).range 0x80002000 ≡ true
+unfolding is_valid_by
 address-page = refl
 
-abbrev address-fenced : FencedAccess alone (fenced_by of_address) 0 3 4 (fence_of_address (Some 0x80002000) None) reach
-address-fenced = fenced-access of_address (fence_of_address (Some 0x80002000) None) refl address-page refl
+abbrev address-fenced : FencedAccess alone (fenced_by of_address) 0 3 4 (fence_of_address (spaces_of alone) (Some 0x80002000) None) reach
+address-fenced = fenced-access of_address (fence_of_address (spaces_of alone) (Some 0x80002000) None) refl address-page refl
 
 address-fresh : GivenAfter alone (fenced_by of_address) 0 3 4 0x80002000 leaf
 address-fresh =
-    translations_are_fresh alone (fenced_by of_address) 0 3 4 (fence_of_address (Some 0x80002000) None) reach mapped is-good address-legal address-fenced refl
+    translations_are_fresh alone (fenced_by of_address) 0 3 4 (fence_of_address (spaces_of alone) (Some 0x80002000) None) reach mapped is-good address-legal address-fenced refl
 
 -- From the fence on satp and the page tables say one thing of the load, which decides it.
 only-four : (P : ℕ → Type 0) → P 4 → (m : ℕ) → 3 < m → m ≤ 4 → P m
 only-four P four m after upto = let e : m ≡ 4 = omega arith in rw e four
 
 leaf-steady : IsSteady alone (fenced_by of_asid) 0 3 4 reach (Ok leaf)
-unfolding maps is_valid zero_memory is_in_ram
+unfolding maps is_valid_by zero_memory is_in_ram
 leaf-steady = record {
-  same_satp = only-four (λ m. satp (past_at (fenced_by of_asid) m) 0 ≡ satp (past_at (fenced_by of_asid) 4) 0) refl;
+  same_satp = only-four (λ m. satp alone (past_at (fenced_by of_asid) m) 0 ≡ satp alone (past_at (fenced_by of_asid) 4) 0) refl;
   one_result =
-      only-four (λ m. maps (memory alone (past_at (fenced_by of_asid) m)) (satp (past_at (fenced_by of_asid) 4) 0) 0x80002000 kinds.Load ≡ Ok leaf) refl;
+      only-four (λ m. maps (memory alone (past_at (fenced_by of_asid) m)) (satp alone (past_at (fenced_by of_asid) 4) 0) 0x80002000 kinds.Load ≡ Ok leaf) refl;
 }
 
 is-translated : IsTranslated in_space 0x80002000
-unfolding is_valid
+unfolding is_valid_by
 is-translated = record { aligned = refl; mode = refl; valid = refl }
 
 leaf-decides : IsDecidedBy alone (past_at (fenced_by of_asid) 4) 0 (loaded 0) reach (Ok leaf)
 leaf-decides =
-    steady_tables_decide alone (fenced_by of_asid) 0 3 4 (fence_of_address None (Some 5)) reach (Ok leaf) is-good asid-legal asid-fenced is-translated leaf-steady
+    steady_tables_decide alone (fenced_by of_asid) 0 3 4 (fence_of_address (spaces_of alone) None (Some 5)) reach (Ok leaf) is-good asid-legal asid-fenced is-translated leaf-steady
 
 -- ---- a hart stores what it fetches
 
@@ -188,7 +190,7 @@ refetched =
     ∷ []
 
 refetched-legal : IsLegal alone refetched
-unfolding maps is_valid zero_memory is_in_ram
+unfolding maps is_valid_by zero_memory is_in_ram
 refetched-legal = (recorded_is_recomputed alone refetched).1 refl
 
 abbrev fetch-fenced : FencedFetch alone refetched 0 3 4 0x80003000 7
@@ -210,7 +212,7 @@ refetched-lives = lives_from_its_date alone refetched 0 refetched-legal
 -- ---- a hart asks another one for a fence of a range and an address space
 
 abbrev two : Config
-two = record { harts = 2; pages = 16; limit = 1000; boot_hart = 0; boot_addr = 0x80000000; boot_opaque = 0 }
+two = record { harts = 2; pages = 16; limit = 1000; boot_hart = 0; boot_addr = 0x80000000; boot_opaque = 0; asid_len = 16; width = 39 }
 
 two-good : IsGood two
 two-good = record {
@@ -222,13 +224,15 @@ two-good = record {
   at_most_a_million_events = omega arith;
   boot_hart_is_there = omega arith;
   boot_address = refl;
+  at_most_16_bits_of_an_asid = omega arith;
+  width_of_a_mode = refl;
 }
 
 abbrev range_regs : Regs
 range_regs = record { eid = 0x52464e43; fid = 2; a = 2 ∷ 0 ∷ 0x80002000 ∷ 0x1000 ∷ 5 ∷ 0 ∷ [] }
 
 abbrev range_fence : Fence
-range_fence = fence_of_range 0x80002000 0x1000 (Some 5)
+range_fence = fence_of_range (spaces_of two) 0x80002000 0x1000 (Some 5)
 
 abbrev success : Reply
 success = Ret (record { error = pos 0; value = 0 })
@@ -247,7 +251,7 @@ ranged =
     ∷ []
 
 ranged-legal : IsLegal two ranged
-unfolding maps is_valid zero_memory is_in_ram call_of targets_of names_stray ids_where
+unfolding maps is_valid_by zero_memory is_in_ram call_of targets_of names_stray ids_where
 ranged-legal = (recorded_is_recomputed two ranged).1 refl
 
 range-asks : Asks two (past_at ranged 8) 0 1 5 (Entries range_fence)
@@ -259,7 +263,7 @@ range-asks = record {
   regs = range_regs;
   call = refl;
   accepted = refl;
-  remote = record { mask = 2; base = 0; flush = flush_of_range 0x80002000 0x1000 (Some 5) };
+  remote = record { mask = 2; base = 0; flush = flush_of_range (spaces_of two) 0x80002000 0x1000 (Some 5) };
   fences = refl;
   drops = refl;
   asked = refl;
@@ -286,7 +290,7 @@ range-reached = ByCall 0 range-asks
       kept = no-reset;
     })
 
-range-satp : satp (past_at ranged 8) 1 ≡ in_space
+range-satp : satp two (past_at ranged 8) 1 ≡ in_space
 unfolding call_of
 range-satp = refl
 
@@ -344,7 +348,7 @@ abbrev reboot : Event
 reboot = did 0 (Ecall (record { eid = 0x53525354; fid = 0; a = 1 ∷ 0 ∷ 0 ∷ 0 ∷ 0 ∷ 0 ∷ [] })) Gone
 
 reboot-legal : IsLegal alone (reboot ∷ refetched)
-unfolding maps is_valid zero_memory is_in_ram call_of reset_kind_of
+unfolding maps is_valid_by zero_memory is_in_ram call_of reset_kind_of
 reboot-legal = (recorded_is_recomputed alone (reboot ∷ refetched)).1 refl
 
 reboot-resets : reset_by reboot.op reboot.reply ≡ Some cold

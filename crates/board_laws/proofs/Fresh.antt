@@ -54,7 +54,7 @@ found {A} {B} P Q p f y (x ∷ xs) all both e = by_test (p x) refl e (found P Q 
 module _ (c : Config) (past : List Event) (t a p : ℕ) (good : IsGood c) (legal : IsLegal c past) where
   -- the entry that an access hits was given at its date, if the fence covers it
   given-hit : (fence : Fence) (reach : Reach) (entry : Entry) (x : FencedAccess c past t a p fence reach) → x.event.translation ≡ Some entry
-      → Hits (satp (past_at past p) t) (hit c (past_at past p) t) reach.va entry → GivenAfter c past t a p reach.va entry.leaf
+      → Hits (satp c (past_at past p) t) (hit c (past_at past p) t) reach.va entry → GivenAfter c past t a p reach.va entry.leaf
   given-hit fence reach entry x translation hits =
       let older = past_at past p in
       let inside : p < length past = within past p x.event x.happened in
@@ -63,11 +63,11 @@ module _ (c : Config) (past : List Event) (t a p : ℕ) (good : IsGood c) (legal
       let alive = lives_from_its_date c older t older_legal in
       let gone = fenced_is_gone c older t a (Entries fence) good older_legal x.reached in
       let here = found (EntryWasFilled c older t) (λ (y : Filling Entry). y.date ≤ a → covers_entry (Entries fence) y.item ≡ false)
-      (λ y. matches (record { va = reach.va; asid = asid_of (satp older t) }) y.item) (λ y. y.item) entry (live_entries c older t) alive.entries gone.entries hits.hit in
-      let filled = subst (λ (e : Entry). Fills (memory c (past_at older here.x.date)) (satp (past_at older here.x.date) t) (hit c (past_at older here.x.date) t) here.first_holds.reach.va here.first_holds.reach.access e) here.gives here.first_holds.fills in
-      let match = matched entry reach.va (asid_of (satp older t)) (subst (λ (e : Entry). matches (record { va = reach.va; asid = asid_of (satp older t) }) e ≡ true) here.gives here.passes) in
-      let page = leaf_page (memory c (past_at older here.x.date)) (satp (past_at older here.x.date) t) here.first_holds.reach.va (kind_of here.first_holds.reach.access) entry.leaf filled.mapped in
-      let covered = covers-matched fence entry reach.va (satp older t) here.first_holds.reach.va match page x.page (x.space entry translation) in
+      (λ y. matches (record { va = reach.va; asid = asid_of (satp c older t) }) y.item) (λ y. y.item) entry (live_entries c older t) alive.entries gone.entries hits.hit in
+      let filled = subst (λ (e : Entry). Fills (memory c (past_at older here.x.date)) (satp c (past_at older here.x.date) t) (hit c (past_at older here.x.date) t) here.first_holds.reach.va here.first_holds.reach.access e) here.gives here.first_holds.fills in
+      let match = matched entry reach.va (asid_of (satp c older t)) (subst (λ (e : Entry). matches (record { va = reach.va; asid = asid_of (satp c older t) }) e ≡ true) here.gives here.passes) in
+      let page = leaf_page (memory c (past_at older here.x.date)) (satp c (past_at older here.x.date) t) here.first_holds.reach.va (kind_of here.first_holds.reach.access) entry.leaf filled.mapped in
+      let covered = covers-matched fence entry reach.va (satp c older t) here.first_holds.reach.va match page x.page (x.space entry translation) in
       let later : a < here.x.date = elim (cases_lt a here.x.date) [
         | inl is ↦ is
         | inr early ↦ absurd (both_ways (covers_entry (Entries fence) entry) (ap (covers_entry (Entries fence)) (sym here.gives) ∙ here.second_holds early) covered)
@@ -80,13 +80,13 @@ module _ (c : Config) (past : List Event) (t a p : ℕ) (good : IsGood c) (legal
         upto = omega arith;
         there = here.first_holds.reach;
         made = accesses-later past p here.x.date t here.first_holds.reach (omega arith) here.first_holds.made;
-        gives = subst (λ (before : List Event). maps (memory c before) (satp before t) reach.va (kind_of here.first_holds.reach.access) ≡ Ok entry.leaf) again
-            (same-leaf (memory c (past_at older here.x.date)) (satp (past_at older here.x.date) t) here.first_holds.reach.va reach.va (kind_of here.first_holds.reach.access) entry.leaf filled.mapped match.from match.before);
+        gives = subst (λ (before : List Event). maps (memory c before) (satp c before t) reach.va (kind_of here.first_holds.reach.access) ≡ Ok entry.leaf) again
+            (same-leaf (memory c (past_at older here.x.date)) (satp c (past_at older here.x.date) t) here.first_holds.reach.va reach.va (kind_of here.first_holds.reach.access) entry.leaf filled.mapped match.from match.before);
       }
 
   -- and what it fills is given at its own place
   given-filled : (fence : Fence) (reach : Reach) (entry : Entry) (x : FencedAccess c past t a p fence reach)
-      → Fills (memory c (past_at past p)) (satp (past_at past p) t) (hit c (past_at past p) t) reach.va reach.access entry → GivenAfter c past t a p reach.va entry.leaf
+      → Fills (memory c (past_at past p)) (satp c (past_at past p) t) (hit c (past_at past p) t) reach.va reach.access entry → GivenAfter c past t a p reach.va entry.leaf
   given-filled fence reach entry x fills =
       let inside : p < length past = within past p x.event x.happened in
       let size = length-past_at past p (omega arith) in
@@ -116,7 +116,7 @@ translations_are_fresh c past t a p fence reach entry good legal x translation =
     let older = past_at past p in
     let with_event = legal-with c past p x.event legal x.happened in
     let used_entry = sym (used-reach c older t x.event.actor x.event.op reach x.by_hart x.access) ∙ sym with_event.1 ∙ translation in
-    elim ((is_used (memory c older) (satp older t) (hit c older t) reach.va reach.access entry).0 used_entry) [
+    elim ((is_used (memory c older) (satp c older t) (hit c older t) reach.va reach.access entry).0 used_entry) [
       | inl hits ↦ given-hit c past t a p good legal fence reach entry x translation hits
       | inr fills ↦ given-filled c past t a p good legal fence reach entry x fills
     ]
@@ -159,7 +159,7 @@ module _ (c : Config) (past : List Event) (t a p va value : ℕ) (good : IsGood 
       let size = length-past_at past p (omega arith) in
       let older_legal = (legal-with c past p x.event legal x.happened).2 in
       let later = struck-within c older t a Words (fences_strike c older t a Words good older_legal x.reached) in
-      let fills = (word_filled (memory c older) (satp older t) (hit c older t) (cached c older t) va accesses.Fetch (record { pa = pa; word = unwrap_or (memory c older pa) 0 })).0
+      let fills = (word_filled (memory c older) (satp c older t) (hit c older t) (cached c older t) va accesses.Fetch (record { pa = pa; word = unwrap_or (memory c older pa) 0 })).0
       (ap (λ place. whole.word_filling_by (memory c older) (cached c older t) place accesses.Fetch) got.place
       ∙ ap (λ found. whole.fetched_from found pa (unwrap_or (memory c older pa) 0)) missed) in
       let read = ap (λ found. whole.fetched_or found (unwrap_or (memory c older pa) 0)) (sym missed) ∙ got.read in

@@ -110,7 +110,7 @@ module _ (c : Config) (past : List Event) (before : (h place : ℕ) → open_cal
       call-keeps (Hsm (HartSuspend kind addr opaque)) replies.Gone replied = λ place inside. moved h x place states.SuspendPending no-call-of inside
       call-keeps (Hsm (HartSuspend kind addr opaque)) replies.Waiting replied = λ place inside. moved h x place states.SuspendPending no-call-of inside
       call-keeps (Srst (SystemReset (Ok reset))) replies.Gone replied = λ place e. absurd (let none = e in cc)
-      call-keeps call r replied = remote-keeps (remote_of call) r
+      call-keeps call r replied = remote-keeps (remote_of c call) r
 
     op-keeps : (op : Op) (r : Reply) → IsTaken c past x op r → Keeps h (turn_by c past x op r) (move_by c x op r)
     op-keeps (Ecall regs) r is =

@@ -109,7 +109,7 @@ module _ (c : Config) (past : List Event) (right : IsRight c.harts (turns c past
     call-keeps (Hsm (HartSuspend kind addr opaque)) replies.Gone replied some = moved-can h x states.SuspendPending refl some
     call-keeps (Hsm (HartSuspend kind addr opaque)) replies.Waiting replied some = moved-can h x states.SuspendPending refl some
     call-keeps (Srst (SystemReset (Ok reset))) replies.Gone replied some = absurd (omega arith)
-    call-keeps call r replied some = remote-keeps (remote_of call) r some
+    call-keeps call r replied some = remote-keeps (remote_of c call) r some
 
     op-keeps : (op : Op) (r : Reply) → IsTaken c past x op r → Keeps h (turn_by c past x op r) (move_by c x op r)
     op-keeps (ops.Ecall regs) r is some = call-keeps (call_of regs) r is.replied some

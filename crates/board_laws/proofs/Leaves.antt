@@ -5,7 +5,7 @@ use Rattle.std.proofs.lemmas.Bool.{and_from, and_parts, eqb-true, leb-true, lt-l
 use Rattle.sv39.specs.declared.cause.Kind.{Kind}
 use Rattle.sv39.specs.declared.page.Leaf.{Leaf}
 use Rattle.sv39.specs.declared.page.Level.{Level}
-use Rattle.sv39.specs.declared.page.Level.TheVariants.{Kilo, Mega, Giga}
+use Rattle.sv39.specs.declared.page.Level.TheVariants.{Kilo, Mega, Giga, Tera}
 use Rattle.sv39.specs.Maps.{maps}
 use Rattle.sv39.specs.Pages.{page_of, size}
 use Rattle.sv39.specs.Satp.{asid_of}
@@ -21,6 +21,7 @@ pub page-bounds : (level : Level) (va : ℕ) → (page_of level va ≤ va) × (v
 page-bounds Kilo va = (omega arith, omega arith)
 page-bounds Mega va = (omega arith, omega arith)
 page-bounds Giga va = (omega arith, omega arith)
+page-bounds Tera va = (omega arith, omega arith)
 
 -- a leaf that the page tables give one address of its page they give each one, for the same kind of access
 pub same-leaf : (memory : ℕ → Option ℕ) (satp a b : ℕ) (kind : Kind) (leaf : Leaf)
@@ -52,6 +53,7 @@ meets-page : (level : Level) (start bytes va other : ℕ) → page_of level othe
 meets-page Kilo start bytes va other from before met = omega arith
 meets-page Mega start bytes va other from before met = omega arith
 meets-page Giga start bytes va other from before met = omega arith
+meets-page Tera start bytes va other from before met = omega arith
 
 reaches-page : (range : Option Range) (leaf : Leaf) (va other : ℕ) → leaf.page ≡ page_of leaf.level other → leaf.page ≤ va → va < leaf.page + size leaf.level
     → is_of_page range va ≡ true → reaches range leaf ≡ true

@@ -41,7 +41,7 @@ refused-ok (Some refusal) r answered e = cc
 
 -- an access by hart t used what the rule of accesses says
 pub used-reach : (c : Config) (older : List Event) (t : ℕ) (actor : Actor) (op : Op) (reach : Reach) → actor ≡ Hart t → access_of op ≡ Some reach
-    → used_by_actor c older actor op ≡ whole.used (memory c older) (satp older t) (hit c older t) reach.va reach.access
+    → used_by_actor c older actor op ≡ whole.used (memory c older) (satp c older t) (hit c older t) reach.va reach.access
 used-reach c older t actor op reach own access = ap (λ x. used_by_actor c older x op) own ∙ ap (used_by_access c older t) access
 
 -- and answered what it says
@@ -102,11 +102,11 @@ entry-was-filled : (c : Config) (past : List Event) (t : ℕ) → IsLegal c past
 entry-was-filled c past t legal x was =
     let found = seen-of (λ past. tlb_acts c past t) (one_tlb_act c t) past was.newer (Fill x.item) was.older was.acted in
     let facts = entry-filled c t found.event found.older x.item found.same in
-    let filled = filled-by found.event.op found.event.translation (satp found.older t) (tlb_acts c found.older t) x.item facts.1 in
+    let filled = filled-by found.event.op found.event.translation (satp c found.older t) (tlb_acts c found.older t) x.item facts.1 in
     let placed : length found.older ≡ x.date = sym (length-seen (λ past. tlb_acts c past t) (one_tlb_act c t) found.older) ∙ ap length found.rest ∙ was.dated in
     let was_legal : IsLegal c (found.event ∷ found.older) = legal-older c found.newer (found.event ∷ found.older) (subst (IsLegal c) found.made legal) in
     let entry_used = sym (used-reach c found.older t found.event.actor found.event.op filled.reach facts.0 filled.access) ∙ sym was_legal.1 ∙ filled.is_used in
-    let fills = fills-used (memory c found.older) (satp found.older t) (hit c found.older t) filled.reach.va filled.reach.access x.item entry_used filled.missed in
+    let fills = fills-used (memory c found.older) (satp c found.older t) (hit c found.older t) filled.reach.va filled.reach.access x.item entry_used filled.missed in
     let before = past_at-split past found.newer found.event found.older x.date found.made placed in
     record {
       reach = filled.reach;
@@ -116,7 +116,7 @@ entry-was-filled c past t legal x was =
         by_hart = facts.0;
         access = filled.access;
       };
-      fills = subst (λ (older : List Event). Fills (memory c older) (satp older t) (hit c older t) filled.reach.va filled.reach.access x.item) (sym before) fills;
+      fills = subst (λ (older : List Event). Fills (memory c older) (satp c older t) (hit c older t) filled.reach.va filled.reach.access x.item) (sym before) fills;
     }
 
 -- ---- words
@@ -148,7 +148,7 @@ read-at memory_now words (Err cause) value e = cc
 
 -- a fetch that answers a value, in a legal history
 pub record Fetched (c : Config) (older : List Event) (t va value : ℕ) (translation : Option Entry) : Type 0 where
-  pub place : whole.place (memory c older) (satp older t) (hit c older t) va accesses.Fetch ≡ Ok (phys_at translation va)
+  pub place : whole.place (memory c older) (satp c older t) (hit c older t) va accesses.Fetch ≡ Ok (phys_at translation va)
   pub read : whole.fetched_or (cached c older t (phys_at translation va)) (unwrap_or (memory c older (phys_at translation va)) 0) ≡ value
 
 pub fetched : (c : Config) (older : List Event) (t va value : ℕ) (actor : Actor) (op : Op) (r : Reply) (translation : Option Entry)
@@ -156,10 +156,10 @@ pub fetched : (c : Config) (older : List Event) (t va value : ℕ) (actor : Acto
 fetched c older t va value actor op r translation own fetch answered legal used_is =
     let access : access_of op ≡ Some (record { va = va; access = accesses.Fetch }) = ap access_of fetch in
     let replied = answered-reach c older t actor op r (record { va = va; access = accesses.Fetch }) own access legal in
-    let found = read-at (memory c older) (cached c older t) (whole.place (memory c older) (satp older t) (hit c older t) va accesses.Fetch) value (sym replied ∙ answered) in
+    let found = read-at (memory c older) (cached c older t) (whole.place (memory c older) (satp c older t) (hit c older t) va accesses.Fetch) value (sym replied ∙ answered) in
     let used_entry = used_is ∙ used-reach c older t actor op (record { va = va; access = accesses.Fetch }) own access in
     let pa_is : found.pa ≡ phys_at translation va =
-    place_of_used (memory c older) (whole.way_of (memory c older) (satp older t) (hit c older t) va accesses.Fetch) va _ found.pa found.place ∙ ap (λ u. phys_at u va) (sym used_entry) in
+    place_of_used (memory c older) (whole.way_of (memory c older) (satp c older t) (hit c older t) va accesses.Fetch) va _ found.pa found.place ∙ ap (λ u. phys_at u va) (sym used_entry) in
     record {
       place = found.place ∙ ap (λ n. let r : Result ℕ Cause = Ok n in r) pa_is;
       read = subst (λ pa. whole.fetched_or (cached c older t pa) (unwrap_or (memory c older pa) 0) ≡ value) pa_is found.read;
@@ -173,7 +173,7 @@ word-was-filled c past t legal x was =
     let placed : length found.older ≡ x.date = sym (length-seen (λ past. word_acts c past t) (one_word_act c t) found.older) ∙ ap length found.rest ∙ was.dated in
     let was_legal : IsLegal c (found.event ∷ found.older) = legal-older c found.newer (found.event ∷ found.older) (subst (IsLegal c) found.made legal) in
     let got = fetched c found.older t filled.va filled.value found.event.actor found.event.op found.event.reply found.event.translation facts.0 filled.fetch filled.answered was_legal.0 was_legal.1 in
-    let fetches = (word_filled (memory c found.older) (satp found.older t) (hit c found.older t) (cached c found.older t) filled.va accesses.Fetch x.item).0
+    let fetches = (word_filled (memory c found.older) (satp c found.older t) (hit c found.older t) (cached c found.older t) filled.va accesses.Fetch x.item).0
     (ap (λ place. whole.word_filling_by (memory c found.older) (cached c found.older t) place accesses.Fetch) got.place ∙ filled.filled) in
     let before = past_at-split past found.newer found.event found.older x.date found.made placed in
     record {
@@ -184,7 +184,7 @@ word-was-filled c past t legal x was =
         by_hart = facts.0;
         access = ap access_of filled.fetch;
       };
-      fetches = subst (λ (older : List Event). Fetches (memory c older) (satp older t) (hit c older t) (cached c older t) filled.va accesses.Fetch x.item) (sym before) fetches;
+      fetches = subst (λ (older : List Event). Fetches (memory c older) (satp c older t) (hit c older t) (cached c older t) filled.va accesses.Fetch x.item) (sym before) fetches;
     }
 
 pub lives_from_its_date : (c : Config) (past : List Event) (t : ℕ) → IsLegal c past → LivesFromItsDate c past t

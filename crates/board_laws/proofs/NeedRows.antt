@@ -22,7 +22,7 @@ use Rattle.board_laws.proofs.Again.{recorded_is_recomputed}
 use Rattle.board_laws.proofs.Needs.{are-few, can-end, is-left, needed-accepted, none-raises-needs, serve-lowers-needs}
 
 abbrev three : Config
-three = record { harts = 3; pages = 1; limit = 1000; boot_hart = 0; boot_addr = 0x80000000; boot_opaque = 0 }
+three = record { harts = 3; pages = 1; limit = 1000; boot_hart = 0; boot_addr = 0x80000000; boot_opaque = 0; asid_len = 16; width = 39 }
 
 three-good : IsGood three
 three-good = record {
@@ -34,6 +34,8 @@ three-good = record {
   at_most_a_million_events = omega arith;
   boot_hart_is_there = omega arith;
   boot_address = refl;
+  at_most_16_bits_of_an_asid = omega arith;
+  width_of_a_mode = refl;
 }
 
 abbrev did : ℕ → Op → Reply → Event

@@ -70,7 +70,7 @@ module _ (c : Config) (past : List Event) where
       by_hart true = refl
       by_hart false = refl
   call-needs x t k (Srst (SystemReset (Ok reset))) replies.Gone = neither (t == x) k
-  call-needs x t k call r = remote-needs x t k (remote_of call) r ∙ neither (t == x) k
+  call-needs x t k call r = remote-needs x t k (remote_of c call) r ∙ neither (t == x) k
 
   op-needs : (x t k : ℕ) (op : Op) (r : Reply)
       → needed (turn_of c past (Hart x) op r) t k ≡ (if (t == x) && is_stop op r then 0 else if (t == x) && is_serve op then k - 1 else k)
@@ -102,7 +102,7 @@ module _ (c : Config) (past : List Event) where
   call-goes : (x h : ℕ) (call : Call) (r : Reply) → is_some (reset_by_call call r) ≡ false → turn_needs.ends h (turn_by_call c past x call r) ≡ false
   call-goes x h (Hsm HartStop) replies.Gone goes = refl
   call-goes x h (Srst (SystemReset (Ok reset))) replies.Gone goes = cc
-  call-goes x h call r goes = remote-goes x h (remote_of call) r
+  call-goes x h call r goes = remote-goes x h (remote_of c call) r
 
   op-goes : (x h : ℕ) (op : Op) (r : Reply) → ((h == x) && is_poll op) ≡ false → is_some (reset_by op r) ≡ false → turn_needs.ends h (turn_of c past (Hart x) op r) ≡ false
   op-goes x h (ops.Ecall regs) r polls resets = call-goes x h (call_of regs) r resets

@@ -25,7 +25,7 @@ use Rattle.board_laws.proofs.Places.{at-earlier, length-past_at, past_at-again, 
 use Rattle.board_laws.proofs.Right.{turns_are_right}
 
 -- a local fence strikes at its place
-itself-strikes : (c : Config) (past : List Event) (t place : ℕ) (flush : Flush) → FencesItself past t place flush → Struck c past t place flush
+itself-strikes : (c : Config) (past : List Event) (t place : ℕ) (flush : Flush) → FencesItself c past t place flush → Struck c past t place flush
 itself-strikes c past t place flush x =
     let inside = within past place x.event x.happened in
     let size = length-past_at past place (omega arith) in
@@ -61,7 +61,7 @@ event-strikes c past t place flush was =
     }
 
 -- a remote fence that was accepted is the turn that asks it
-call-turn : (c : Config) (past : List Event) (x : ℕ) (call : Call) (remote : Remote) → remote_of call ≡ Some remote
+call-turn : (c : Config) (past : List Event) (x : ℕ) (call : Call) (remote : Remote) → remote_of c call ≡ Some remote
     → turn_by_call c past x call replies.Waiting ≡ turn_by_remote c past x (Some remote) replies.Waiting
 call-turn c past x (calls.Rfence call) remote e = ap (λ r. turn_by_remote c past x r replies.Waiting) e
 call-turn c past x call remote e = cc

@@ -164,7 +164,7 @@ module _ (c : Config) (past : List Event) (x : ℕ) (good : IsGood c) (legal : I
   right-call : (call : Call) (r : Reply) → calls.open_call (turns c past) x ≡ None → IsRightTurn c.harts (turns c past) (turn_by_call c past x call r)
   right-call (Hsm HartStop) replies.Gone none = inside
   right-call (Srst (SystemReset (Ok reset))) replies.Gone none = tt
-  right-call call r none = right-remote (remote_of call) r none
+  right-call call r none = right-remote (remote_of c call) r none
 
   -- a guest runs outside of a call
   outside-call : not (is_running (situation c past x)) ≡ false → calls.open_call (turns c past) x ≡ None

@@ -17,23 +17,24 @@ use Rattle.board_core.specs.declared.event.Op.TheVariants.{Ecall, FenceI, Poll, 
 use Rattle.board_core.specs.declared.event.Reply.TheVariants.{Gone, Waiting}
 use Rattle.board_core.specs.Fences.{Remote, is_asked_by, outstanding, remote_of, turn_of, turns, waiting}
 use Rattle.board_core.specs.History.{Event}
+use Rattle.board_core.specs.Limits.{spaces_of}
 use Rattle.board_core.specs.Resets.{reset_by}
 use Rattle.board_core.specs.States.{state}
 use Rattle.board_laws.specs.Lives.{live_entries, live_words}
 use Rattle.board_laws.specs.Places.{IsAt, past_at}
 
 -- What a guest's local fence drops: an SFENCE.VMA translations, and a FENCE.I fetched words (Privileged 4.2.1; Zifencei).
-abbrev pub own_fence : Op → Option Flush
-own_fence (Sfence va asid) = Some (Entries (fence_of_address va asid))
-own_fence FenceI = Some Words
-own_fence op = None
+abbrev pub own_fence : Config → Op → Option Flush
+own_fence c (Sfence va asid) = Some (Entries (fence_of_address (spaces_of c) va asid))
+own_fence c FenceI = Some Words
+own_fence c op = None
 
 -- Hart t fenced itself at this place.
-pub record FencesItself (past : List Event) (t place : ℕ) (flush : Flush) : Type 0 where
+pub record FencesItself (c : Config) (past : List Event) (t place : ℕ) (flush : Flush) : Type 0 where
   pub event : Event
   pub happened : IsAt past place event
   pub by_hart : event.actor ≡ Hart t
-  pub fences : own_fence event.op ≡ Some flush
+  pub fences : own_fence c event.op ≡ Some flush
 
 -- Hart x asked a fence of hart t at this place: by a call that was accepted, whose hart list names t, while t was in an
 -- interruptible state (SBI 8).
@@ -45,7 +46,7 @@ pub record Asks (c : Config) (past : List Event) (x t place : ℕ) (flush : Flus
   pub call : event.op ≡ Ecall regs
   pub accepted : event.reply ≡ Waiting
   pub remote : Remote
-  pub fences : remote_of (call_of regs) ≡ Some remote
+  pub fences : remote_of c (call_of regs) ≡ Some remote
   pub drops : remote.flush ≡ Ok flush
   pub asked : is_asked_by c (past_at past place) remote.mask remote.base t ≡ true
 
@@ -63,7 +64,7 @@ pub record Succeeded (past : List Event) (x place : ℕ) : Type 0 where
 -- A fence that was asked at a place of the past has reached hart t: it is the hart's own, or it was asked of the hart by
 -- a call that was a success.
 pub data Reached (c : Config) (past : List Event) (t place : ℕ) (flush : Flush) : Type 0 where
-  Itself : FencesItself past t place flush → Reached c past t place flush
+  Itself : FencesItself c past t place flush → Reached c past t place flush
   ByCall : (x : ℕ) → Asks c past x t place flush → Succeeded past x place → Reached c past t place flush
 
 -- A fence that the event of a place asks of hart t was applied there once, or waits there once; one that it doesn't ask

@@ -42,7 +42,7 @@ pub record FencedAccess (c : Config) (past : List Event) (t a p : ℕ) (fence : 
   pub access : access_of event.op ≡ Some reach
   pub reached : Reached c (past_at past p) t a (Entries fence)
   pub page : is_of_page fence.range reach.va ≡ true
-  pub space : (entry : Entry) → event.translation ≡ Some entry → is_of_space fence.asid (satp (past_at past p) t) entry.leaf ≡ true
+  pub space : (entry : Entry) → event.translation ≡ Some entry → is_of_space fence.asid (satp c (past_at past p) t) entry.leaf ≡ true
 
 -- At a place after a and not after p hart t made an access, of its kind; and the page tables in the memory of that place
 -- give an access of that kind to this address the leaf, by the hart's satp of that place.
@@ -52,7 +52,7 @@ pub record GivenAfter (c : Config) (past : List Event) (t a p va : ℕ) (leaf : 
   pub upto : place ≤ p
   pub there : Reach
   pub made : Accesses past place t there
-  pub gives : maps (memory c (past_at past place)) (satp (past_at past place) t) va (kind_of there.access) ≡ Ok leaf
+  pub gives : maps (memory c (past_at past place)) (satp c (past_at past place) t) va (kind_of there.access) ≡ Ok leaf
 
 -- ---- fetched words
 

@@ -24,18 +24,18 @@ live_words c past t = live covers_word (word_acts c past t)
 
 -- ---- where it comes from
 
--- An access by hart t filled the entry at its date: by its satp of that date it was translated by Sv39 and hit nothing,
+-- An access by hart t filled the entry at its date: by its satp of that date it was translated and hit nothing,
 -- the page tables in the memory of that date gave the entry's leaf, and the entry has that satp's ASID.
 pub record EntryWasFilled (c : Config) (past : List Event) (t : ℕ) (x : Filling Entry) : Type 0 where
   pub reach : Reach
   pub made : Accesses past x.date t reach
-  pub fills : Fills (memory c (past_at past x.date)) (satp (past_at past x.date) t) (hit c (past_at past x.date) t) reach.va reach.access x.item
+  pub fills : Fills (memory c (past_at past x.date)) (satp c (past_at past x.date) t) (hit c (past_at past x.date) t) reach.va reach.access x.item
 
 -- A fetch by hart t filled the word at its date: it is the word that the memory of that date had there.
 pub record WordWasFilled (c : Config) (past : List Event) (t : ℕ) (x : Filling FetchWord) : Type 0 where
   pub reach : Reach
   pub made : Accesses past x.date t reach
-  pub fetches : Fetches (memory c (past_at past x.date)) (satp (past_at past x.date) t) (hit c (past_at past x.date) t) (cached c (past_at past x.date) t) reach.va reach.access x.item
+  pub fetches : Fetches (memory c (past_at past x.date)) (satp c (past_at past x.date) t) (hit c (past_at past x.date) t) (cached c (past_at past x.date) t) reach.va reach.access x.item
 
 -- What lives in a hart's caches is what the page tables and the memory gave one of its accesses at its date.
 pub record LivesFromItsDate (c : Config) (past : List Event) (t : ℕ) : Type 0 where

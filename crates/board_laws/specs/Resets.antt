@@ -35,7 +35,7 @@ pub record IsFresh (c : Config) (reset : Reset) (past now : List Event) : Type 0
   pub ssip : (h : ℕ) → interrupts.ssip c now h ≡ false
   pub deadline : (h : ℕ) → interrupts.deadline c now h ≡ None
   -- No hart translates: satp is 0.
-  pub satp : (h : ℕ) → memories.satp now h ≡ 0
+  pub satp : (h : ℕ) → memories.satp c now h ≡ 0
   -- Nothing lives in the TLB or the instruction cache of any hart.
   pub tlb : (h : ℕ) → (cache_after covers_entry (memories.tlb_acts c now h)).live ≡ []
   pub fetched : (h : ℕ) → (cache_after covers_word (memories.word_acts c now h)).live ≡ []

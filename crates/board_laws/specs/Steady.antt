@@ -17,8 +17,8 @@ use Rattle.board_laws.specs.Places.{past_at}
 
 -- At all places after a up to p hart t's satp is the one of p, and with it the page tables give this access one result.
 pub record IsSteady (c : Config) (past : List Event) (t a p : ℕ) (reach : Reach) (result : Result Leaf Cause) : Type 0 where
-  pub same_satp : (m : ℕ) → a < m → m ≤ p → satp (past_at past m) t ≡ satp (past_at past p) t
-  pub one_result : (m : ℕ) → a < m → m ≤ p → maps (memory c (past_at past m)) (satp (past_at past p) t) reach.va (kind_of reach.access) ≡ result
+  pub same_satp : (m : ℕ) → a < m → m ≤ p → satp c (past_at past m) t ≡ satp c (past_at past p) t
+  pub one_result : (m : ℕ) → a < m → m ≤ p → maps (memory c (past_at past m)) (satp c (past_at past p) t) reach.va (kind_of reach.access) ≡ result
 
 -- a TLB with nothing in it
 abbrev pub no_tlb : Address → Option Entry
@@ -29,4 +29,4 @@ no_tlb at = None
 pub record IsDecidedBy (c : Config) (past : List Event) (t : ℕ) (event : Event) (reach : Reach) (result : Result Leaf Cause) : Type 0 where
   pub address : (leaf : Leaf) → result ≡ Ok leaf → phys_at event.translation reach.va ≡ phys_in leaf reach.va
   pub fault : (cause : Cause) → result ≡ Err cause → event.reply ≡ Fault cause
-  pub reply : event.reply ≡ access_reply_of reach.access (whole.answer (memory c past) (satp past t) no_tlb (cached c past t) reach.va reach.access)
+  pub reply : event.reply ≡ access_reply_of reach.access (whole.answer (memory c past) (satp c past t) no_tlb (cached c past t) reach.va reach.access)

@@ -43,7 +43,7 @@ pub fn steady_tables_decide()
         → IsGood c
         → IsLegal c past
         → (x : FencedAccess c past t a p fence reach)
-        → IsTranslated (satp (past_at past p) t) reach.va
+        → IsTranslated (satp c (past_at past p) t) reach.va
         → IsSteady c past t a p reach result
         → IsDecidedBy c (past_at past p) t x.event reach result }
 {}

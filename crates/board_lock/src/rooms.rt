@@ -20,7 +20,7 @@ pub trait Room: Ledger {
 }
 
 impl Room for Brand {
-    ghost opening = { record { harts = 0; pages = 0; limit = 0; boot_hart = 0; boot_addr = 0; boot_opaque = 0 } };
+    ghost opening = { record { harts = 0; pages = 0; limit = 0; boot_hart = 0; boot_addr = 0; boot_opaque = 0; asid_len = 0; width = 0 } };
 
     ghost log = { 0 };
 

@@ -51,6 +51,10 @@ all_from_none : (b : Bool) (fault : Fault) → cond b None (Some fault) ≡ None
 all_from_none true fault none = refl
 all_from_none false fault none = absurd cc
 
+pub arguments_read : (dash : Bool) (limit : ℕ) (words : List (List ℕ)) → NoneHolds (argument_tests dash limit words)
+    → AreArguments dash limit words (arguments_in limit words)
+arguments_read dash limit words none = arguments_spelled dash limit words (all_from_none _ _ (sym (first_argument_fault dash limit words) ∙ none))
+
 pub arguments_tested : (least most : ℕ) (dash : Bool) (limit : ℕ) (words : List (List ℕ)) → NoneHolds (arguments_tests least most dash limit words)
     → AreCounted least most dash limit words (arguments_in limit words)
 arguments_tested least most dash limit words none =
@@ -59,7 +63,7 @@ arguments_tested least most dash limit words none =
     record {
       enough = ltb-false _ _ counts.0;
       not_more = ltb-false _ _ counts.1;
-      are_arguments = arguments_spelled dash limit words (all_from_none _ _ (sym (first_argument_fault dash limit words) ∙ rows.1));
+      are_arguments = arguments_read dash limit words rows.1;
     }
 
 pub arguments_pass : (least most : ℕ) (dash : Bool) (limit : ℕ) (words : List (List ℕ)) (ns : List (Option ℕ)) → AreCounted least most dash limit words ns

@@ -1,5 +1,5 @@
 -- What is wrong with bytes that are no script: the first test that holds, from the first line on (profile).
-use Rattle.std.specs.Prelude.{ℕ, ◌+◌, Bool, true, false, not, ◌&&◌, ◌||◌, nat_lt, if◌then◌else◌, List, [], ◌∷◌, ◌++◌, length, map, codes, Option, Some, None, is_some}
+use Rattle.std.specs.Prelude.{ℕ, ◌+◌, Bool, true, false, not, ◌==◌, ◌&&◌, ◌||◌, nat_lt, if◌then◌else◌, List, [], ◌∷◌, ◌++◌, length, map, codes, Option, Some, None, is_some}
 use Rattle.std.specs.List.{list_all}
 use Rattle.std.specs.Str.{bytes_eq}
 use Rattle.std.specs.Str.Lines.{lines}
@@ -119,11 +119,15 @@ line_tests draft [] = []
 line_tests draft (first ∷ words) =
     (not (may_follow draft (kind_of first words)), OtherKind) ∷ kind_tests (kind_of first words) draft first words
 
+-- a board has six numbers or eight, and then each is looked at from left to right
+abbrev pub board_number_tests : List (List ℕ) → List (Bool × Fault)
+board_number_tests words =
+    (not ((length words == 6) || (length words == 8)), WordCount) ∷ argument_tests false last_number words
+
 -- the word `board`, and then its numbers
 abbrev pub board_tests : List (List ℕ) → List (Bool × Fault)
 board_tests [] = []
-board_tests (first ∷ words) =
-    (not (bytes_eq first (codes "board")), NoBoardLine) ∷ arguments_tests 6 6 false last_number words
+board_tests (first ∷ words) = (not (bytes_eq first (codes "board")), NoBoardLine) ∷ board_number_tests words
 
 -- each byte is allowed, also in a comment
 abbrev pub byte_test : List ℕ → Bool × Fault

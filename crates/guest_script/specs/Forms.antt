@@ -1,5 +1,5 @@
 -- Names with their arguments: the operations, and what a trace says of them (profile).
-use Rattle.std.specs.Prelude.{◌≡◌, ◌⊎◌, ℕ, ℤ, ◌≤◌, Bool, true, false, IsTrue, ◌==◌, List, [], ◌∷◌, ◌++◌, length, slice_index_or, map, codes, Option, Some, None, unwrap_or}
+use Rattle.std.specs.Prelude.{◌≡◌, ◌⊎◌, ℕ, ℤ, ◌≤◌, Bool, true, false, IsTrue, ◌==◌, nat_lt, if◌then◌else◌, List, [], ◌∷◌, ◌++◌, length, slice_index_or, map, codes, Option, Some, None, unwrap_or}
 use Rattle.std.specs.List.{AllZip}
 use Rattle.std.specs.Str.{bytes_eq}
 use Rattle.sbi_abi.specs.declared.call.Regs.{Regs}
@@ -27,6 +27,10 @@ argument_at arguments i = slice_index_or arguments i None
 
 abbrev pub number_at : List (Option ℕ) → ℕ → ℕ
 number_at arguments i = unwrap_or (argument_at arguments i) 0
+
+-- the number in a place, or another one where there are fewer
+abbrev pub number_or : (other : ℕ) → List (Option ℕ) → ℕ → ℕ
+number_or other arguments i = if nat_lt i (length arguments) then number_at arguments i else other
 
 -- What may follow a name: from `least` to `most` numbers, none above `limit`, whether a dash may stand in a number's place; and what they
 -- make.

@@ -3,6 +3,7 @@ use Rattle.std.specs.Prelude.{◌≡◌, ◌⊎◌, ℕ, ◌+◌, ◌≤◌, Boo
 use Rattle.std.specs.List.{list_any}
 use Rattle.std.specs.Str.Lines.{lines}
 use Rattle.board_core.specs.declared.config.Config.{Config}
+use Rattle.board_core.specs.Limits.{first_numbers, numbers_of, usual_asid_len, usual_width}
 use Rattle.board_core.specs.declared.event.Actor.{Actor}
 use Rattle.board_core.specs.declared.event.Actor.TheVariants.{Hart, Clock}
 use Rattle.board_core.specs.declared.event.Op.{Op}
@@ -166,15 +167,17 @@ content_of (Traced lines) = Trace lines
 
 -- ---- the script
 
--- a board's numbers, as its line has them
-abbrev pub numbers_of : Config → List ℕ
-numbers_of c = c.harts ∷ c.pages ∷ c.limit ∷ c.boot_hart ∷ c.boot_addr ∷ c.boot_opaque ∷ []
+-- the last two numbers of a board are those that its line may leave out
+pub record HasUsualSpaces (c : Config) : Type 0 where
+  pub asid_len : c.asid_len ≡ usual_asid_len
+  pub width : c.width ≡ usual_width
 
--- the word `board`, and six numbers
+-- the word `board`, and all eight numbers, or the first six where the last two are the usual ones
 pub record IsBoard (words : List (List ℕ)) (config : Config) : Type 0 where
   pub arguments : List (List ℕ)
   pub parts : words ≡ codes "board" ∷ arguments
   pub are_numbers : AreNumbers last_number arguments (numbers_of config)
+      ⊎ (AreNumbers last_number arguments (first_numbers config) × HasUsualSpaces config)
 
 -- the first line with words is the board's, and those after it are of one kind
 abbrev pub AreScript : (n : ℕ) → List (List ℕ) → Written → Type 0

@@ -5,6 +5,7 @@ use Rattle.std.specs.List.{filter, list_any, list_all, slice_split}
 use Rattle.std.specs.Str.{bytes_eq}
 use Rattle.std.specs.Str.Parse.{digits_value}
 use Rattle.board_core.specs.declared.config.Config.{Config}
+use Rattle.board_core.specs.Limits.{usual_asid_len, usual_width}
 use Rattle.board_core.specs.declared.event.Actor.{Actor}
 use Rattle.board_core.specs.declared.event.Actor.TheVariants.{Hart, Clock}
 use Rattle.board_core.specs.declared.event.Op.{Op}
@@ -15,7 +16,7 @@ use Rattle.guest_script.specs.declared.said.Said.{Said}
 use Rattle.guest_script.specs.declared.said.Said.TheVariants.{Ret, Done}
 use Rattle.guest_script.specs.declared.script.Line.{Line}
 use Rattle.guest_script.specs.Words.{is_blank, is_hash, last_above, last_below, last_hart, last_number}
-use Rattle.guest_script.specs.Forms.{Form, form_of, guest_form_of, number_at, said_form_of}
+use Rattle.guest_script.specs.Forms.{Form, form_of, guest_form_of, number_at, number_or, said_form_of}
 use Rattle.guest_script.specs.Grammar.{clock_of, content_of, Draft, Nothing, Blocked, Stepped, Traced, guest_at, Guest, guests_of, Open, OfClock, OfGuest, opened, with_op, with_tick, Written}
 
 -- ---- words
@@ -214,7 +215,7 @@ draft_in n draft (text ∷ texts) = draft_in (n + 1) (next_in n draft (words_in 
 
 -- ---- the script
 
--- a board by its numbers
+-- a board by its numbers, of which the last two may be left out
 unfoldable pub config_of : List (Option ℕ) → Config
 config_of ns = record {
   harts = number_at ns 0;
@@ -223,6 +224,8 @@ config_of ns = record {
   boot_hart = number_at ns 3;
   boot_addr = number_at ns 4;
   boot_opaque = number_at ns 5;
+  asid_len = number_or usual_asid_len ns 6;
+  width = number_or usual_width ns 7;
 }
 
 -- the board of a line, if it has words

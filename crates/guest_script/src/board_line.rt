@@ -1,14 +1,16 @@
 ghost use Rattle.std.specs.Prelude.{◌≡◌, ◌∷◌};
-ghost use Rattle.guest_script.specs.FirstFault.{board_tests, byte_test};
-ghost use Rattle.guest_script.specs.Reading.{tested};
-ghost use Rattle.guest_script.specs.Values.{board_in, config_of, words_in};
+ghost use Rattle.guest_script.specs.FirstFault.{board_number_tests, board_tests, byte_test};
+ghost use Rattle.guest_script.specs.Reading.{Gives, tested};
+ghost use Rattle.guest_script.specs.Values.{arguments_in, board_in, config_of, words_in};
+ghost use Rattle.guest_script.specs.Words.{last_number};
 
 use crate::fault::Fault;
-use crate::numbers::{arguments_in, number_at};
+use crate::numbers::{MOST_ARGUMENTS, arguments_in, number_at, number_or};
 use crate::places::any_numbers;
 use crate::text::is_clean;
 use crate::words::next_word;
-use board_core::Config;
+use arrayvec::ArrayVec;
+use board_core::{Config, USUAL_ASID_LEN, USUAL_WIDTH};
 
 /// The board that a line's words name, if the line has words.
 pub fn board_words(text: &[u8]) -> Result<Option<Config>, Fault>
@@ -23,22 +25,37 @@ pub fn board_words(text: &[u8]) -> Result<Option<Config>, Fault>
             if first != b"board".as_slice() {
                 return Err(Fault::NoBoardLine);
             }
-            let arguments = arguments_in(rest, false, &any_numbers(6, 6))?;
-            Ok(Some(config(&arguments)))
+            let numbers = board_numbers(rest)?;
+            Ok(Some(config(&numbers)))
         }
     }
 }
 
+/// The numbers that a text's words are: a board has six or eight.
+fn board_numbers(text: &[u8]) -> Result<ArrayVec<Option<u64>, MOST_ARGUMENTS>, Fault>
+    ensures { Gives (λ found. found.items) result
+        (tested (board_number_tests (words_in text.now)) (arguments_in last_number (words_in text.now))) }
+{
+    match arguments_in(text, false, &any_numbers(6, 6)) {
+        Err(Fault::WordCount) => arguments_in(text, false, &any_numbers(8, 8)),
+        Err(fault) => Err(fault),
+        Ok(found) => Ok(found),
+    }
+}
+
+/// The board of these numbers. Where the last two are left out, they are the usual ones.
 #[tactic(auto, unfolding(crate::specs::Values::config_of))]
-fn config(arguments: &[Option<u64>]) -> Config
-    ensures { result ≡ config_of arguments.now }
+fn config(numbers: &[Option<u64>]) -> Config
+    ensures { result ≡ config_of numbers.now }
 {
     Config {
-        harts: number_at(arguments, 0),
-        pages: number_at(arguments, 1),
-        limit: number_at(arguments, 2),
-        boot_hart: number_at(arguments, 3),
-        boot_addr: number_at(arguments, 4),
-        boot_opaque: number_at(arguments, 5),
+        harts: number_at(numbers, 0),
+        pages: number_at(numbers, 1),
+        limit: number_at(numbers, 2),
+        boot_hart: number_at(numbers, 3),
+        boot_addr: number_at(numbers, 4),
+        boot_opaque: number_at(numbers, 5),
+        asid_len: number_or(USUAL_ASID_LEN, numbers, 6),
+        width: number_or(USUAL_WIDTH, numbers, 7),
     }
 }

@@ -1,5 +1,5 @@
 ghost use Rattle.std.specs.Prelude.{◌≡◌, ◌≤◌, ◌&&◌, ◌||◌, is_some};
-ghost use Rattle.guest_script.specs.Forms.{argument_at, number_at};
+ghost use Rattle.guest_script.specs.Forms.{argument_at, number_at, number_or};
 ghost use Rattle.guest_script.specs.FirstFault.{arguments_tests, is_dash};
 ghost use Rattle.guest_script.specs.Reading.{Gives, tested};
 ghost use Rattle.guest_script.specs.Scanning.{words_until};
@@ -70,4 +70,15 @@ pub fn number_at(arguments: &[Option<u64>], place: usize) -> u64
     ensures { result ≡ number_at arguments.now place }
 {
     argument_at(arguments, place).unwrap_or(0)
+}
+
+/// The number in a place, or another one where there are fewer.
+pub fn number_or(other: u64, arguments: &[Option<u64>], place: usize) -> u64
+    ensures { result ≡ number_or other arguments.now place }
+{
+    if place < arguments.len() {
+        number_at(arguments, place)
+    } else {
+        other
+    }
 }

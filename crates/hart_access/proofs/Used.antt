@@ -8,8 +8,7 @@ use Rattle.sv39.specs.declared.page.Leaf.{Leaf}
 use Rattle.sv39.specs.Causes.{access_fault, misaligned, page_fault}
 use Rattle.sv39.specs.Leaves.{allows}
 use Rattle.sv39.specs.Maps.{maps}
-use Rattle.sv39.specs.Pages.{is_valid}
-use Rattle.sv39.specs.Satp.{asid_of, is_sv39}
+use Rattle.sv39.specs.Satp.{asid_of, is_valid, translates}
 use Rattle.tlb_model.specs.declared.entry.Address.{Address}
 use Rattle.tlb_model.specs.declared.entry.Entry.{Entry}
 use Rattle.tlb_model.specs.declared.word.FetchWord.{FetchWord}
@@ -69,10 +68,10 @@ filled-way : (hit : Option Entry) (asid : ℕ) (walked : Result Leaf Cause) (ent
 filled-way hit asid walked entry mapped = rw (mapped.missed, mapped.leaf, ← mapped.space) refl
 
 module _ (memory : ℕ → Option ℕ) (satp : ℕ) (tlb : Address → Option Entry) (va : ℕ) where
-  passed : Passes (eqb (va % 8) 0) (is_sv39 satp) (is_valid va) → IsTranslated satp va
+  passed : Passes (eqb (va % 8) 0) (translates satp) (is_valid satp va) → IsTranslated satp va
   passed passes = record { aligned = eqb-true (va % 8) 0 passes.aligned_to; mode = passes.in_mode; valid = passes.is_right }
 
-  passing : IsTranslated satp va → Passes (eqb (va % 8) 0) (is_sv39 satp) (is_valid va)
+  passing : IsTranslated satp va → Passes (eqb (va % 8) 0) (translates satp) (is_valid satp va)
   passing is = record { aligned_to = eq-eqb (va % 8) 0 is.aligned; in_mode = is.mode; is_right = is.valid }
 
   module _ (access : Access) (entry : Entry) where
@@ -87,13 +86,13 @@ module _ (memory : ℕ → Option ℕ) (satp : ℕ) (tlb : Address → Option En
       where
         there : filling memory satp tlb va access ≡ Some entry → Fills memory satp tlb va access entry
         there e =
-            let parts = fill-checked (eqb (va % 8) 0) (is_sv39 satp) (is_valid va) (misaligned (kind_of access)) (page_fault (kind_of access)) (way_by (hit_at satp tlb va) (asid_of satp) (maps memory satp va (kind_of access))) entry e in
+            let parts = fill-checked (eqb (va % 8) 0) (translates satp) (is_valid satp va) (misaligned (kind_of access)) (page_fault (kind_of access)) (way_by (hit_at satp tlb va) (asid_of satp) (maps memory satp va (kind_of access))) entry e in
             filled_by (fill-way (hit_at satp tlb va) (asid_of satp) (maps memory satp va (kind_of access)) entry parts.1) (passed parts.0)
 
         back : Fills memory satp tlb va access entry → filling memory satp tlb va access ≡ Some entry
         back fills =
             ap fill_by
-            (checked-passes (eqb (va % 8) 0) (is_sv39 satp) (is_valid va) (misaligned (kind_of access)) (page_fault (kind_of access)) (way_by (hit_at satp tlb va) (asid_of satp) (maps memory satp va (kind_of access))) (passing fills.translated)
+            (checked-passes (eqb (va % 8) 0) (translates satp) (is_valid satp va) (misaligned (kind_of access)) (page_fault (kind_of access)) (way_by (hit_at satp tlb va) (asid_of satp) (maps memory satp va (kind_of access))) (passing fills.translated)
             ∙ filled-way (hit_at satp tlb va) (asid_of satp) (maps memory satp va (kind_of access)) entry (mapped_by fills))
 
     pub is_used : used memory satp tlb va access ≡ Some entry ↔ (Hits satp tlb va entry ⊎ Fills memory satp tlb va access entry)
@@ -101,14 +100,14 @@ module _ (memory : ℕ → Option ℕ) (satp : ℕ) (tlb : Address → Option En
       where
         there : used memory satp tlb va access ≡ Some entry → Hits satp tlb va entry ⊎ Fills memory satp tlb va access entry
         there e =
-            let parts = used-checked (eqb (va % 8) 0) (is_sv39 satp) (is_valid va) (misaligned (kind_of access)) (page_fault (kind_of access)) (way_by (hit_at satp tlb va) (asid_of satp) (maps memory satp va (kind_of access))) entry e in
+            let parts = used-checked (eqb (va % 8) 0) (translates satp) (is_valid satp va) (misaligned (kind_of access)) (page_fault (kind_of access)) (way_by (hit_at satp tlb va) (asid_of satp) (maps memory satp va (kind_of access))) entry e in
             elim (used-way (hit_at satp tlb va) (asid_of satp) (maps memory satp va (kind_of access)) entry parts.1) [
               | inl hit ↦ inl (record { translated = passed parts.0; hit = hit })
               | inr mapped ↦ inr (filled_by mapped (passed parts.0))
             ]
 
-        all_checked : IsTranslated satp va → checked (eqb (va % 8) 0) (is_sv39 satp) (is_valid va) (misaligned (kind_of access)) (page_fault (kind_of access)) (way_by (hit_at satp tlb va) (asid_of satp) (maps memory satp va (kind_of access))) ≡ way_by (hit_at satp tlb va) (asid_of satp) (maps memory satp va (kind_of access))
-        all_checked is = checked-passes (eqb (va % 8) 0) (is_sv39 satp) (is_valid va) (misaligned (kind_of access)) (page_fault (kind_of access)) (way_by (hit_at satp tlb va) (asid_of satp) (maps memory satp va (kind_of access))) (passing is)
+        all_checked : IsTranslated satp va → checked (eqb (va % 8) 0) (translates satp) (is_valid satp va) (misaligned (kind_of access)) (page_fault (kind_of access)) (way_by (hit_at satp tlb va) (asid_of satp) (maps memory satp va (kind_of access))) ≡ way_by (hit_at satp tlb va) (asid_of satp) (maps memory satp va (kind_of access))
+        all_checked is = checked-passes (eqb (va % 8) 0) (translates satp) (is_valid satp va) (misaligned (kind_of access)) (page_fault (kind_of access)) (way_by (hit_at satp tlb va) (asid_of satp) (maps memory satp va (kind_of access))) (passing is)
 
         back : Hits satp tlb va entry ⊎ Fills memory satp tlb va access entry → used memory satp tlb va access ≡ Some entry
         back (inl hits) = ap used_by (all_checked hits.translated ∙ ap (λ hit. way_by hit (asid_of satp) (maps memory satp va (kind_of access))) hits.hit)

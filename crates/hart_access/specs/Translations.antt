@@ -1,8 +1,7 @@
 -- Which entry an access uses, and what it fills, by conditions.
 use Rattle.std.specs.Prelude.{◌≡◌, ℕ, ◌%◌, true, Option, Some, None, Ok}
 use Rattle.sv39.specs.Maps.{maps}
-use Rattle.sv39.specs.Pages.{is_valid}
-use Rattle.sv39.specs.Satp.{asid_of, is_sv39}
+use Rattle.sv39.specs.Satp.{asid_of, is_valid, translates}
 use Rattle.tlb_model.specs.declared.entry.Address.{Address}
 use Rattle.tlb_model.specs.declared.entry.Entry.{Entry}
 use Rattle.tlb_model.specs.declared.word.FetchWord.{FetchWord}
@@ -11,11 +10,11 @@ use Rattle.hart_access.specs.declared.operation.Access.TheVariants.{Fetch}
 use Rattle.hart_access.specs.Accesses.{place}
 use Rattle.hart_access.specs.Operations.{kind_of}
 
--- The address is aligned to 8 and valid, and satp translates it by Sv39 (Privileged 4.1.11, 4.4.1).
+-- The address is aligned to 8, and satp translates it by a paging mode of which it is one (Privileged 4.1.11, 4.4.1, 4.5.1).
 pub record IsTranslated (satp va : ℕ) : Type 0 where
   pub aligned : va % 8 ≡ 0
-  pub mode : is_sv39 satp ≡ true
-  pub valid : is_valid va ≡ true
+  pub mode : translates satp ≡ true
+  pub valid : is_valid satp va ≡ true
 
 -- what the TLB has for the address, in satp's address space
 abbrev pub hit_at : (satp : ℕ) → (tlb : Address → Option Entry) → (va : ℕ) → Option Entry

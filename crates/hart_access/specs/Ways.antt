@@ -7,8 +7,7 @@ use Rattle.sv39.specs.declared.page.Leaf.{Leaf}
 use Rattle.sv39.specs.Causes.{access_fault, misaligned, page_fault}
 use Rattle.sv39.specs.Leaves.{allows}
 use Rattle.sv39.specs.Maps.{maps}
-use Rattle.sv39.specs.Pages.{is_valid}
-use Rattle.sv39.specs.Satp.{asid_of, is_sv39}
+use Rattle.sv39.specs.Satp.{asid_of, is_valid, translates}
 use Rattle.tlb_model.specs.declared.entry.Address.{Address}
 use Rattle.tlb_model.specs.declared.entry.Entry.{Entry}
 use Rattle.hart_access.specs.declared.way.Way.{Way}
@@ -22,12 +21,13 @@ way_by None asid (Ok leaf) = Fill (record { leaf = leaf; asid = asid })
 way_by None asid (Err cause) = Fault cause
 
 -- The order of the checks: the alignment to 8 comes first (profile). With satp's MODE Bare the physical address is the
--- address itself; with Sv39 an address that isn't valid is a page fault (Privileged 4.1.11, 4.4.1).
+-- address itself; with a paging mode an address that isn't one of the mode is a page fault (Privileged 4.1.11, 4.4.1,
+-- 4.5.1).
 abbrev pub way : (memory : ℕ → Option ℕ) → (satp : ℕ) → (tlb : Address → Option Entry) → (va : ℕ) → Kind → Way
 way memory satp tlb va kind =
     if not (va % 8 == 0) then Fault (misaligned kind)
-    else if not (is_sv39 satp) then Plain
-    else if not (is_valid va) then Fault (page_fault kind)
+    else if not (translates satp) then Plain
+    else if not (is_valid satp va) then Fault (page_fault kind)
     else way_by (tlb (record { va = va; asid = asid_of satp })) (asid_of satp) (maps memory satp va kind)
 
 -- the entry that translates the address, found or filled

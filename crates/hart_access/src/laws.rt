@@ -8,7 +8,7 @@ ghost use Rattle.hart_access.specs.Accesses.{filling, place, used, word_filling}
 ghost use Rattle.hart_access.specs.Translations.{Fetches, Fills, Hits};
 ghost use Rattle.hart_access.specs.Ways.{phys_at};
 
-/// An access fills an entry exactly where it is aligned, satp's MODE is Sv39, the address is valid, nothing is hit and
+/// An access fills an entry exactly where it is aligned, satp translates, the address is valid, nothing is hit and
 /// the page tables give the entry's leaf.
 pub fn entry_is_filled()
     ensures { (memory : ℕ → Option ℕ) (satp : ℕ) (tlb : Address → Option Entry) (va : ℕ) (access : Access) (entry : Entry) → filling memory satp tlb va access ≡ Some entry ↔ Fills memory satp tlb va access entry }

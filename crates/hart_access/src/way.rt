@@ -4,7 +4,7 @@ ghost use Rattle.tlb_model.specs.Contents.{hit};
 ghost use Rattle.tlb_model.specs.Entries.{matches};
 ghost use Rattle.hart_access.specs.Ways.{in_memory, place_by, translated, used_by, way};
 
-use sv39::{Cause, Kind, Leaf, Ram, Satp, is_valid, walk};
+use sv39::{Cause, Kind, Leaf, Ram, Satp, walk};
 use tlb_model::{Address, Entry, Tlb};
 
 /// How an access comes from its virtual address to the physical one.
@@ -29,10 +29,10 @@ impl Way {
         if va % 8 != 0 {
             return Way::Fault(kind.misaligned());
         }
-        if !satp.is_sv39() {
+        if !satp.translates() {
             return Way::Plain;
         }
-        if !is_valid(va) {
+        if !satp.is_valid(va) {
             return Way::Fault(kind.page_fault());
         }
         let asid = satp.asid() as u16;

@@ -18,7 +18,7 @@ mod working;
 use crate::closing::closed;
 use crate::seen::{Noted, Seen, Why};
 use crate::working::{Work, ipi};
-use board_core::{Config, Op};
+use board_core::{Config, Op, USUAL_ASID_LEN, USUAL_WIDTH};
 use board_lock::{NewRoom, Receipt, Room, Seat, SharedBoard};
 use std::alloc::Global;
 use std::marker::Brand;
@@ -93,6 +93,8 @@ fn board(harts: u64, limit: u64) -> Config {
         boot_hart: 0,
         boot_addr: 0x8000_0000,
         boot_opaque: 0,
+        asid_len: USUAL_ASID_LEN,
+        width: USUAL_WIDTH,
     }
 }
 

@@ -12,7 +12,7 @@ use Rattle.hart_mask.specs.Ids.{ids_where}
 use Rattle.monitor.specs.Table.{entry_cells, fence_cells, hart_cells, head_cells, table, time_cells, totals_cells}
 
 abbrev one_hart : Config
-one_hart = record { harts = 1; pages = 1; limit = 10; boot_hart = 0; boot_addr = 0x80000000; boot_opaque = 0 }
+one_hart = record { harts = 1; pages = 1; limit = 10; boot_hart = 0; boot_addr = 0x80000000; boot_opaque = 0; asid_len = 16; width = 39 }
 
 -- after the boot hart's entry and one call
 table-version : table one_hart
@@ -48,7 +48,7 @@ unfolding digits call_of reset_kind_of time_cells totals_cells head_cells hart_c
 table-shutdown = refl
 
 abbrev two_harts : Config
-two_harts = record { harts = 2; pages = 1; limit = 10; boot_hart = 0; boot_addr = 0x80000000; boot_opaque = 0 }
+two_harts = record { harts = 2; pages = 1; limit = 10; boot_hart = 0; boot_addr = 0x80000000; boot_opaque = 0; asid_len = 16; width = 39 }
 
 -- inside a call of remote_sfence_vma_asid, whose fence waits at hart 1
 table-waiting : table two_harts

@@ -140,7 +140,7 @@ hart_cells c past h =
     ∷ right 2 (decimal (bit_of (stip c past h)))
     ∷ hex_column 2 (bits_of (sie c past h))
     ∷ right 2 (decimal (bit_of (sstatus_sie past h)))
-    ∷ hex16 (satp past h)
+    ∷ hex16 (satp c past h)
     ∷ deadline_cell (deadline c past h)
     ∷ right 3 (decimal (length (entries c past h)))
     ∷ right 2 (decimal (length (words c past h)))

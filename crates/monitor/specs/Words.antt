@@ -12,6 +12,7 @@ use Rattle.board_core.specs.declared.event.Op.TheVariants.{Ecall, Load, Store, F
 use Rattle.board_core.specs.declared.event.Refusal.{Refusal}
 use Rattle.board_core.specs.declared.event.Reply.{Reply}
 use Rattle.board_core.specs.declared.event.Reply.TheVariants.{Ret, Waiting, Gone, Entry, Value, Fault, Served, Moved, Done}
+use Rattle.board_core.specs.Limits.{has_usual_spaces}
 use Rattle.board_core.specs.Refusals.{refusal_number}
 
 -- `0x` and lower case hexadecimal digits with no leading zero
@@ -61,6 +62,10 @@ reply_words (Ok (Moved s)) = codes "moved" ∷ decimal (state_number s) ∷ []
 reply_words (Ok Done) = codes "done" ∷ []
 reply_words (Err refusal) = codes "refused" ∷ decimal (refusal_number refusal) ∷ []
 
+-- the last two numbers of a board, which its line leaves out where they are the usual ones
+abbrev pub spaces_words : Config → List (List ℕ)
+spaces_words c = if has_usual_spaces c then [] else decimal c.asid_len ∷ decimal c.width ∷ []
+
 abbrev pub board_words : Config → List (List ℕ)
 board_words c =
     codes "board"
@@ -70,7 +75,7 @@ board_words c =
     ∷ decimal c.boot_hart
     ∷ hex c.boot_addr
     ∷ hex c.boot_opaque
-    ∷ []
+    ∷ spaces_words c
 
 -- what an actor does, up to the arrow
 abbrev pub step_words : Actor → Op → List (List ℕ)

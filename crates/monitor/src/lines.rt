@@ -1,9 +1,9 @@
-ghost use Rattle.std.specs.Prelude.{◌≡◌, ◌+◌, ◌^◌, ◌<◌, ◌≤◌, ◌∷◌, ◌++◌, length, map, codes, decimal, Ok};
+ghost use Rattle.std.specs.Prelude.{◌≡◌, ◌+◌, ◌*◌, ◌^◌, ◌<◌, ◌≤◌, ◌∷◌, ◌++◌, length, map, codes, decimal, Ok};
 ghost use Rattle.std.specs.Fmt.{signed_decimal};
 ghost use Rattle.std.specs.List.{join_with_byte};
 ghost use Rattle.monitor.specs.LineText.{arguments_room, decimal_room, hex_room, line_room, op_room, page_room, reply_room, signed_room, with_words};
 ghost use Rattle.monitor.specs.Sinks.{Puts};
-ghost use Rattle.monitor.specs.Words.{bit_of, hex, hex_or_dash, actor_word, board_words, event_words, line_of, op_words, reply_words};
+ghost use Rattle.monitor.specs.Words.{bit_of, hex, hex_or_dash, actor_word, board_words, event_words, line_of, op_words, reply_words, spaces_words};
 ghost use Rattle.board_core.specs.declared.event.Op.TheVariants.{Ecall};
 ghost use Rattle.board_core.specs.declared.event.Reply.TheVariants.{Entry};
 
@@ -26,7 +26,20 @@ pub fn print_head<W: Sink>(config: &Config, sink: &mut W) -> Result<(), Failed>
     line.decimal(config.boot_hart);
     line.hex(config.boot_addr);
     line.hex(config.boot_opaque);
+    spaces_onto(&mut line, config);
     line.put(sink)
+}
+
+/// Appends the last two numbers of a board, which its line leaves out where they are the usual ones.
+fn spaces_onto(line: &mut LineText, config: &Config)
+    requires { length line.old + 2 * decimal_room ≤ page_room }
+    ensures text { line.new ≡ with_words line.old (spaces_words config.now) }
+    ensures len { length line.new ≤ length line.old + 2 * decimal_room }
+{
+    if !config.has_usual_spaces() {
+        line.decimal(config.asid_len);
+        line.decimal(config.width);
+    }
 }
 
 /// Prints the line of a step and of what it answered.

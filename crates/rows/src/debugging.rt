@@ -2,7 +2,9 @@
 //! whether the text begins with the type's name, and differs for two values that differ.
 
 use anyhow::{Context, Result, bail};
-use board_core::{Actor, Board, BuildFault, Config, Op, Refusal, Reply, Sie, Totals};
+use board_core::{
+    Actor, Board, BuildFault, Config, Op, Refusal, Reply, Sie, Totals, USUAL_ASID_LEN, USUAL_WIDTH,
+};
 use board_lock::{HartNow, HartView, Rest};
 use conditions::conditions;
 use fence_queue::Request;
@@ -20,7 +22,7 @@ use seeded_orders::Step;
 use std::alloc::Global;
 use std::fmt::Debug;
 use std::io;
-use sv39::{Cause, Kind, Leaf, Level, Ram, Satp};
+use sv39::{Cause, Kind, Leaf, Level, Paging, Ram, Satp, Spaces};
 use tlb_model::{Address, Caches, Entry, Fence, FetchWord, Flush, Numbered, Range};
 
 const REGS: Regs = Regs {
@@ -36,6 +38,13 @@ const CONFIG: Config = Config {
     boot_hart: 1,
     boot_addr: 0x8000_0000,
     boot_opaque: 7,
+    asid_len: USUAL_ASID_LEN,
+    width: USUAL_WIDTH,
+};
+
+const SPACES: Spaces = Spaces {
+    asid_len: 2,
+    widest: Paging::Sv48,
 };
 
 const LEAF: Leaf = Leaf {
@@ -132,6 +141,7 @@ pub fn show_memory<R: Print>(rt: &R) -> io::Result<()> {
     println!(rt; "{:?}", Cause::StorePageFault)?;
     println!(rt; "{:?}", Level::Kilo)?;
     println!(rt; "{LEAF:?}")?;
+    println!(rt; "{SPACES:?}")?;
     println!(rt; "{address:?}")?;
     println!(rt; "{ENTRY:?}")?;
     println!(rt; "{word:?}")?;
@@ -245,7 +255,7 @@ pub fn show_private_harts<R: AllocGlobal + Print>(rt: &R) -> Result<()> {
     tell(rt, "HartSet", &empty, &full)?;
     tell(rt, "HartIds", &empty.iter(), &full.iter())?;
     tell(rt, "Ipis", &Ipis::new(), &ipis)?;
-    tell(rt, "Satp", &Satp::bare(), &Satp::bare().write(1 << 63))?;
+    tell(rt, "Satp", &Satp::bare(), &Satp::bare().write(1 << 63, SPACES))?;
     tell(rt, "Device", &Device::new(1), &Device::new(2))
 }
 

@@ -1,7 +1,7 @@
 //! Printed lines that no schedule gives.
 
 use anyhow::{Context, Result};
-use board_core::{Actor, Board, Config, Op, Refusal, Reply};
+use board_core::{Actor, Board, Config, Op, Refusal, Reply, USUAL_ASID_LEN, USUAL_WIDTH};
 use monitor::{print_event, print_head, print_line, print_reply};
 use sbi_abi::{Regs, Sbiret};
 use sbiboard::Device;
@@ -13,6 +13,8 @@ const CONFIG: Config = Config {
     boot_hart: 0,
     boot_addr: 0x8000_0000,
     boot_opaque: 0,
+    asid_len: USUAL_ASID_LEN,
+    width: USUAL_WIDTH,
 };
 
 fn ecall(eid: u64, a: [u64; 6]) -> Op {

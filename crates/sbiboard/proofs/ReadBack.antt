@@ -1,9 +1,10 @@
 -- What is printed of a trace is read back.
-use Rattle.std.proofs.Common.{◌≡◌, ℕ, zero, suc, ◌+◌, ◌≤◌, true, false, List, [], ◌∷◌, ◌++◌, length, map, get_or, Option, Some, None, codes, subst, refl, sym, ap, ◌∙◌, inl, inr, arith}
-use Rattle.std.specs.Prelude.{IfSome, Result, Ok, Err, ℤ, pos, negsuc, neg_ℤ, decimal}
+use Rattle.std.proofs.Common.{◌≡◌, ℕ, zero, suc, ◌+◌, ◌≤◌, Bool, true, false, eqb, List, [], ◌∷◌, ◌++◌, length, map, get_or, Option, Some, None, codes, subst, refl, sym, ap, ◌∙◌, inl, inr, arith}
+use Rattle.std.specs.Prelude.{◌⊎◌, if◌then◌else◌, IfSome, Result, Ok, Err, ℤ, pos, negsuc, neg_ℤ, decimal}
 use Rattle.std.specs.Fmt.{digits, signed_decimal}
 use Rattle.std.specs.List.{AllByRecursion, flat_map, join_with_byte}
 use Rattle.std.specs.Str.Lines.{lines}
+use Rattle.std.proofs.lemmas.Bool.{and_parts, eqb-true}
 use Rattle.std.proofs.lemmas.Fmt.{decimal_is_IsNumeral, digits_is_IsNumeral}
 use Rattle.std.proofs.lemmas.List.{append_assoc, append-nil, length-map}
 use Rattle.std.proofs.lemmas.List.FromFn.{fill_by_all}
@@ -23,12 +24,13 @@ use Rattle.board_core.specs.declared.event.Refusal.{Refusal}
 use Rattle.board_core.specs.declared.event.Refusal.TheVariants as refusals
 use Rattle.board_core.specs.declared.event.Reply.{Reply}
 use Rattle.board_core.specs.declared.event.Reply.TheVariants as replies
+use Rattle.board_core.specs.Limits.{first_numbers, has_usual_spaces, numbers_of}
 use Rattle.board_core.specs.Refusals.{refusal_number}
 use Rattle.guest_script.specs.declared.said.Said.{Said}
 use Rattle.guest_script.specs.declared.script.Line.{Line}
 use Rattle.guest_script.specs.Agreeing.{said_of}
 use Rattle.guest_script.specs.Forms.{AreArguments, Form, form_of, IsArgument, IsNamed, IsSaid, number_at, regs_of, said_form_of}
-use Rattle.guest_script.specs.Grammar.{AreLines, Draft, Nothing, Traced, IsActor, IsStep, numbers_of, content_of}
+use Rattle.guest_script.specs.Grammar.{AreLines, Draft, HasUsualSpaces, Nothing, Traced, IsActor, IsStep, content_of}
 use Rattle.guest_script.specs.Words.{AreNumbers, IsLine, IsNumber, last_hart, last_number}
 use Rattle.monitor.specs.Words.{actor_word, board_words, hex, hex_or_dash, line_of, op_words, reply_words}
 use Rattle.sbiboard.specs.PrintedScripts.{Answered, AreComments, FitsActor, FitsAnswer, FitsAnswered, FitsConfig, FitsError, FitsOp, LineReadsBack, NumberReadsBack, SignedReadsBack, TraceReadsBack, trace_line, trace_lines, trace_of, words_of}
@@ -331,12 +333,38 @@ content_drafted : (lines : List Line) → trace_of lines ≡ content_of (draft_o
 content_drafted [] = refl
 content_drafted (line ∷ lines) = refl
 
-abbrev arguments_of : Config → List (List ℕ)
-arguments_of c = decimal c.harts ∷ decimal c.pages ∷ decimal c.limit ∷ decimal c.boot_hart ∷ hex c.boot_addr ∷ hex c.boot_opaque ∷ []
+-- the words of a board's numbers, of which the last two are left out where they are the usual ones
+abbrev arguments_of : Config → (usual : Bool) → List (List ℕ)
+arguments_of c usual =
+    decimal c.harts ∷ decimal c.pages ∷ decimal c.limit ∷ decimal c.boot_hart ∷ hex c.boot_addr ∷ hex c.boot_opaque
+    ∷ (if usual then [] else decimal c.asid_len ∷ decimal c.width ∷ [])
 
-board_numbers : (c : Config) → FitsConfig c → AreNumbers last_number (arguments_of c) (numbers_of c)
-board_numbers c fits =
-    let number = λ (n : ℕ) (small : n ≤ last_number). number_read_back last_number n small (omega arith) in (
+-- they are all numbers, or the first six of a board with the usual two
+abbrev AreBoard : Config → (usual : Bool) → Type 0
+AreBoard c usual =
+    AreNumbers last_number (arguments_of c usual) (numbers_of c)
+    ⊎ (AreNumbers last_number (arguments_of c usual) (first_numbers c) × HasUsualSpaces c)
+
+board_numbers : (c : Config) (usual : Bool) → has_usual_spaces c ≡ usual → FitsConfig c → AreBoard c usual
+board_numbers c true is fits =
+    let number = λ (n : ℕ) (small : n ≤ last_number). number_read_back last_number n small (omega arith) in
+    let parts = and_parts (eqb c.asid_len 16) (eqb c.width 39) is in
+    inr (
+      (
+        (number c.harts fits.0).0,
+        (
+          (number c.pages fits.1.0).0,
+          (
+            (number c.limit fits.1.1.0).0,
+            ((number c.boot_hart fits.1.1.1.0).0, ((number c.boot_addr fits.1.1.1.1.0).1, ((number c.boot_opaque fits.1.1.1.1.1.0).1, tt))),
+          ),
+        ),
+      ),
+      record { asid_len = eqb-true c.asid_len 16 parts.0; width = eqb-true c.width 39 parts.1 },
+    )
+board_numbers c false is fits =
+    let number = λ (n : ℕ) (small : n ≤ last_number). number_read_back last_number n small (omega arith) in
+    inl (
       (number c.harts fits.0).0,
       (
         (number c.pages fits.1.0).0,
@@ -348,7 +376,7 @@ board_numbers c fits =
               (number c.boot_addr fits.1.1.1.1.0).1,
               (
                 (number c.boot_opaque fits.1.1.1.1.1.0).1,
-                tt,
+                ((number c.asid_len fits.1.1.1.1.1.1.0).0, ((number c.width fits.1.1.1.1.1.1.1.0).0, tt)),
               ),
             ),
           ),
@@ -356,8 +384,15 @@ board_numbers c fits =
       ),
     )
 
+numbers_are_plain : (c : Config) (usual : Bool) → AreBoard c usual → AllByRecursion IsPlain (arguments_of c usual)
+numbers_are_plain c usual (inl all) = numbers_plain last_number (arguments_of c usual) (numbers_of c) all
+numbers_are_plain c usual (inr first) = numbers_plain last_number (arguments_of c usual) (first_numbers c) first.0
+
 board_plain : (c : Config) → FitsConfig c → AllByRecursion IsPlain (board_words c)
-board_plain c fits = (name_plain (codes "board") (λ e. cc) (omega arith), numbers_plain last_number (arguments_of c) (numbers_of c) (board_numbers c fits))
+board_plain c fits = (
+  name_plain (codes "board") (λ e. cc) (omega arith),
+  numbers_are_plain c (has_usual_spaces c) (board_numbers c (has_usual_spaces c) refl fits),
+)
 
 pub trace_read_back : TraceReadsBack
 trace_read_back c steps comments fits fit are short =
@@ -369,7 +404,7 @@ trace_read_back c steps comments fits fit are short =
             board_words c,
             draft_of (trace_lines 2 steps),
             joined_line (board_words c) plain,
-            record { arguments = arguments_of c; parts = refl; are_numbers = board_numbers c fits },
+            record { arguments = arguments_of c (has_usual_spaces c); parts = refl; are_numbers = board_numbers c (has_usual_spaces c) refl fits },
             all_read_back 2 steps comments fit are,
             content_drafted (trace_lines 2 steps),
           )),

@@ -1,6 +1,6 @@
 -- What is read of a script may be written in a trace.
-use Rattle.std.proofs.Common.{◌≡◌, ℕ, ◌+◌, ◌≤◌, Bool, true, false, List, [], ◌∷◌, ◌++◌, Some, subst, sym, inl, inr}
-use Rattle.std.specs.Prelude.{Result}
+use Rattle.std.proofs.Common.{◌≡◌, ℕ, ◌+◌, ◌≤◌, Bool, true, false, List, [], ◌∷◌, ◌++◌, Some, subst, sym, arith, inl, inr}
+use Rattle.std.specs.Prelude.{◌⊎◌, Result}
 use Rattle.std.specs.List.{AllByRecursion}
 use Rattle.std.specs.Str.Lines.{lines}
 use Rattle.board_core.specs.declared.event.Actor.{Actor}
@@ -8,10 +8,11 @@ use Rattle.board_core.specs.declared.event.Actor.TheVariants.{Hart, Clock}
 use Rattle.board_core.specs.declared.event.Refusal.{Refusal}
 use Rattle.board_core.specs.declared.event.Reply.{Reply}
 use Rattle.board_core.specs.Course.{Course}
-use Rattle.board_core.specs.Limits.{IsGood}
+use Rattle.board_core.specs.declared.config.Config.{Config}
+use Rattle.board_core.specs.Limits.{IsGood, first_numbers, numbers_of}
 use Rattle.guest_script.specs.declared.script.Line.{Line}
-use Rattle.guest_script.specs.Grammar.{AreLines, AreScript, Content, content_of, Draft, Empty, Nothing, Blocked, IsActor, IsNext, IsStepLine, numbers_of, Program, Reads, Schedule, Stepped, Trace, Traced, Written}
-use Rattle.guest_script.specs.Words.{AreNumbers}
+use Rattle.guest_script.specs.Grammar.{AreLines, AreScript, Content, content_of, Draft, Empty, Nothing, Blocked, IsActor, IsNext, IsStepLine, HasUsualSpaces, IsBoard, Program, Reads, Schedule, Stepped, Trace, Traced, Written}
+use Rattle.guest_script.specs.Words.{AreNumbers, last_number}
 use Rattle.sbiboard.specs.declared.running.Job.{Job}
 use Rattle.sbiboard.specs.declared.running.Job.TheVariants.{Check, Replay}
 use Rattle.sbiboard.specs.Fitting.{ActorsFit, AllFit, AreRead}
@@ -72,11 +73,21 @@ content_read (Blocked p) fits = tt
 content_read (Stepped lines) fits = fits
 content_read (Traced lines) fits = fits
 
+board_read : (words : List (List ℕ)) (c : Config) → IsBoard words c → FitsConfig c
+board_read words c board = by_numbers board.are_numbers
+  where
+    by_numbers : AreNumbers last_number board.arguments (numbers_of c) ⊎ (AreNumbers last_number board.arguments (first_numbers c) × HasUsualSpaces c) → FitsConfig c
+    by_numbers (inl all) = numbers_read _ board.arguments (numbers_of c) all
+    by_numbers (inr first) =
+        let fits = numbers_read _ board.arguments (first_numbers c) first.0 in
+        let usual = first.1 in
+        (fits.0, (fits.1.0, (fits.1.1.0, (fits.1.1.1.0, (fits.1.1.1.1.0, (fits.1.1.1.1.1.0, (rw usual.asid_len (omega arith), (rw usual.width (omega arith), tt))))))))
+
 script_read : (n : ℕ) (texts : List (List ℕ)) (s : Written) → AreScript n texts s → FitsConfig s.config × ContentFits s.content
 script_read n [] s are = absurd are
 script_read n (text ∷ texts) s (inl empty) = script_read (n + 1) texts s empty.1
 script_read n (text ∷ texts) s (inr board) = (
-  numbers_read _ board.3.arguments (numbers_of s.config) board.3.are_numbers,
+  board_read _ s.config board.3,
   subst ContentFits (sym board.5) (content_read board.1 (lines_read (n + 1) Nothing texts board.1 tt board.4)),
 )
 

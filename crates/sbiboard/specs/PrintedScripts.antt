@@ -4,6 +4,7 @@ use Rattle.std.specs.Fmt.{signed_decimal}
 use Rattle.std.specs.List.{AllByRecursion, flat_map, join_with_byte}
 use Rattle.std.specs.Str.Lines.{lines}
 use Rattle.board_core.specs.declared.config.Config.{Config}
+use Rattle.board_core.specs.Limits.{numbers_of}
 use Rattle.board_core.specs.declared.event.Actor.{Actor}
 use Rattle.board_core.specs.declared.event.Actor.TheVariants.{Hart, Clock}
 use Rattle.board_core.specs.declared.event.Op.{Op}
@@ -14,7 +15,7 @@ use Rattle.board_core.specs.declared.event.Reply.TheVariants.{Ret, Entry, Value}
 use Rattle.board_core.specs.History.{Event}
 use Rattle.guest_script.specs.declared.script.Line.{Line}
 use Rattle.guest_script.specs.Agreeing.{said_of}
-use Rattle.guest_script.specs.Grammar.{Content, Empty, IsStepLine, most_bytes, numbers_of, Reads, Trace}
+use Rattle.guest_script.specs.Grammar.{Content, Empty, IsStepLine, most_bytes, Reads, Trace}
 use Rattle.guest_script.specs.Words.{IsLine, IsNumber, IsSigned, last_above, last_below, last_hart, last_number}
 use Rattle.monitor.specs.Table.{table}
 use Rattle.monitor.specs.Words.{board_words, event_words, hex, line_of}

@@ -1,4 +1,4 @@
-use board_core::Config;
+use board_core::{Config, USUAL_ASID_LEN, USUAL_WIDTH};
 use conditions::{Condition, Wrong, conditions};
 use guest_script::{Fault, Script, ScriptFault, parse};
 use std::fmt::{self, Display, Formatter};
@@ -107,8 +107,21 @@ fn bad_number(config: &Config) -> &'static str {
         "LIMIT is 1 to 1000000"
     } else if config.boot_hart >= config.harts {
         "BOOT is below HARTS"
-    } else {
+    } else if !with_usual_spaces(config).is_good() {
         "ADDRESS is even, and in RAM"
+    } else if config.asid_len > 16 {
+        "ASIDLEN is 0 to 16"
+    } else {
+        "WIDTH is 39 or 48"
+    }
+}
+
+/// The board with the address spaces of one whose line leaves them out.
+fn with_usual_spaces(config: &Config) -> Config {
+    Config {
+        asid_len: USUAL_ASID_LEN,
+        width: USUAL_WIDTH,
+        ..*config
     }
 }
 

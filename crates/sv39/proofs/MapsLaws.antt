@@ -5,12 +5,15 @@ use Rattle.sv39.specs.declared.cause.Cause.{Cause}
 use Rattle.sv39.specs.declared.cause.Kind.{Kind}
 use Rattle.sv39.specs.declared.page.Leaf.{Leaf}
 use Rattle.sv39.specs.declared.page.Level.{Level}
-use Rattle.sv39.specs.declared.page.Level.TheVariants.{Kilo, Mega, Giga}
+use Rattle.sv39.specs.declared.page.Level.TheVariants.{Kilo, Mega, Giga, Tera}
+use Rattle.sv39.specs.declared.paging.Paging.{Paging}
+use Rattle.sv39.specs.declared.paging.Paging.TheVariants.{Sv39, Sv48}
 use Rattle.sv39.specs.Causes.{access_fault, page_fault}
 use Rattle.sv39.specs.Entries.{below, has_g, is_pointer, page_number}
 use Rattle.sv39.specs.Maps.{Maps, MapsBy, are_pointers, entry_in, found_from, is_any_global, is_some_global, is_some_pointer, maps, outcome, table_below, table_of}
-use Rattle.sv39.specs.Pages.{is_valid, levels_from, part, sv39}
-use Rattle.sv39.specs.Satp.{root_of}
+use Rattle.sv39.specs.Pages.{levels_from, part}
+use Rattle.sv39.specs.Paging.{scheme}
+use Rattle.sv39.specs.Satp.{is_valid, paging_of, root_of}
 
 -- no pointer stands at the lowest level
 pub none_lowest : (entry : Option ℕ) → is_some_pointer Kilo entry ≡ false
@@ -94,11 +97,16 @@ relates memory root va kind levels result lowest = (
       },
 )
 
+-- the lowest level of a mode is that of 4 KiB
+levels_end : (mode : Paging) → EndLowest (levels_from (scheme mode).root)
+levels_end Sv39 = refl
+levels_end Sv48 = refl
+
 pub maps_is_the_rule : (memory : ℕ → Option ℕ) (satp va : ℕ) (kind : Kind) (result : Result Leaf Cause)
     → Maps memory satp va kind result ↔ (result ≡ maps memory satp va kind)
 unfolding Maps maps
-maps_is_the_rule memory satp va kind result = elim (cases_Bool (is_valid va)) [
-  | inl valid ↦ rw valid (relates memory (4096 * root_of satp) va kind (levels_from sv39.root) result refl)
+maps_is_the_rule memory satp va kind result = elim (cases_Bool (is_valid satp va)) [
+  | inl valid ↦ rw valid (relates memory (4096 * root_of satp) va kind (levels_from (scheme (paging_of satp)).root) result (levels_end (paging_of satp)))
   | inr invalid ↦ rw invalid (λ e. e, λ e. e)
 ]
 
@@ -107,13 +115,14 @@ pub record Reached (memory : ℕ → Option ℕ) (satp va : ℕ) (kind : Kind) (
   pub rest : maps memory satp va kind ≡ found_from memory va kind table global (levels_from level)
   pub fits : table < 2 ^ 57
 
-pub reached_first : (memory : ℕ → Option ℕ) (satp va : ℕ) (kind : Kind) → is_valid va ≡ true → root_of satp < 2 ^ 44
-    → Reached memory satp va kind sv39.root (4096 * root_of satp) false
+pub reached_first : (memory : ℕ → Option ℕ) (satp va : ℕ) (kind : Kind) → is_valid satp va ≡ true → root_of satp < 2 ^ 44
+    → Reached memory satp va kind (scheme (paging_of satp)).root (4096 * root_of satp) false
 unfolding maps
 reached_first memory satp va kind valid fits = record { rest = rw valid refl; fits = omega arith }
 
 -- the levels from one on are itself and those from the next one on
 levels_below : (level lower : Level) → below level ≡ Some lower → levels_from level ≡ level ∷ levels_from lower
+levels_below Tera lower e = let is : Giga ≡ lower = cc in rw (← is) refl
 levels_below Giga lower e = let is : Mega ≡ lower = cc in rw (← is) refl
 levels_below Mega lower e = let is : Kilo ≡ lower = cc in rw (← is) refl
 levels_below Kilo lower e = cc
@@ -122,6 +131,7 @@ levels_below Kilo lower e = cc
 ended : (memory : ℕ → Option ℕ) (va : ℕ) (kind : Kind) (level : Level) (table : ℕ) (global : Bool)
     → is_some_pointer level (entry_in memory va table level) ≡ false
     → found_from memory va kind table global (levels_from level) ≡ outcome (entry_in memory va table level) va kind level global
+ended memory va kind Tera table global none = rw none refl
 ended memory va kind Giga table global none = rw none refl
 ended memory va kind Mega table global none = rw none refl
 ended memory va kind Kilo table global none = rw none refl
@@ -138,6 +148,7 @@ ended_outside memory satp va kind level table global r outside =
     r.rest ∙ ended memory va kind level table global (ap (is_some_pointer level) none) ∙ ap (λ entry. outcome entry va kind level global) none
 
 not-pointed : (level : Level) (entry : ℕ) → cond (is_pointer level entry) (below level) None ≡ None → is_pointer level entry ≡ false
+not-pointed Tera entry none = elim (cases_Bool (is_pointer Tera entry)) [ inl good ↦ let e = rw good at none in cc | inr other ↦ other ]
 not-pointed Giga entry none = elim (cases_Bool (is_pointer Giga entry)) [ inl good ↦ let e = rw good at none in cc | inr other ↦ other ]
 not-pointed Mega entry none = elim (cases_Bool (is_pointer Mega entry)) [ inl good ↦ let e = rw good at none in cc | inr other ↦ other ]
 not-pointed Kilo entry none = refl
@@ -170,6 +181,6 @@ goes_on memory satp va kind level lower table entry global r here some = elim (c
 ]
 
 -- a walk of an address that isn't valid
-pub ended_invalid : (memory : ℕ → Option ℕ) (satp va : ℕ) (kind : Kind) → is_valid va ≡ false → maps memory satp va kind ≡ Err (page_fault kind)
+pub ended_invalid : (memory : ℕ → Option ℕ) (satp va : ℕ) (kind : Kind) → is_valid satp va ≡ false → maps memory satp va kind ≡ Err (page_fault kind)
 unfolding maps
 ended_invalid memory satp va kind invalid = rw invalid refl

@@ -1,15 +1,18 @@
 -- One leaf for all addresses of its page and all kinds of access.
-use Rattle.std.proofs.Common.{◌≡◌, ℕ, ◌+◌, ◌/◌, ◌^◌, ◌<◌, ◌≤◌, ◌*◌, Bool, true, false, ◌||◌, List, [], ◌∷◌, Option, Some, None, Ok, refl, sym, ap, ◌∙◌, arith, inl, inr}
+use Rattle.std.proofs.Common.{◌≡◌, ℕ, ◌+◌, ◌-◌, ◌/◌, ◌^◌, ◌<◌, ◌≤◌, ◌*◌, Bool, true, false, ◌||◌, List, [], ◌∷◌, Option, Some, None, Ok, refl, sym, ap, ◌∙◌, arith, inl, inr}
 use Rattle.std.proofs.lemmas.Bool.{cases_Bool}
 use Rattle.sv39.specs.declared.cause.Kind.{Kind}
 use Rattle.sv39.specs.declared.page.Leaf.{Leaf}
 use Rattle.sv39.specs.declared.page.Level.{Level}
-use Rattle.sv39.specs.declared.page.Level.TheVariants.{Kilo, Mega, Giga}
+use Rattle.sv39.specs.declared.page.Level.TheVariants.{Kilo, Mega, Giga, Tera}
+use Rattle.sv39.specs.declared.paging.Paging.{Paging}
+use Rattle.sv39.specs.declared.paging.Paging.TheVariants.{Sv39, Sv48}
 use Rattle.sv39.specs.Entries.{is_leaf, leaf_of}
 use Rattle.sv39.specs.Leaves.{allows, by_right}
 use Rattle.sv39.specs.Maps.{entry_in, found_from, is_some_global, is_some_pointer, maps, outcome, table_of}
-use Rattle.sv39.specs.Pages.{is_valid, level_number, levels_from, page_of, part, size, sv39}
-use Rattle.sv39.specs.Satp.{root_of}
+use Rattle.sv39.specs.Pages.{level_number, levels_from, page_of, part, size}
+use Rattle.sv39.specs.Paging.{is_valid_by, scheme}
+use Rattle.sv39.specs.Satp.{is_valid, paging_of, root_of}
 use Rattle.sv39.proofs.Addresses.{is_valid_by_top}
 
 -- two addresses of a page have the same part for its level and each one above it
@@ -17,27 +20,42 @@ same_part : (low level : Level) (a b : ℕ) → level_number low ≤ level_numbe
 same_part Kilo Kilo a b le e = omega arith
 same_part Kilo Mega a b le e = omega arith
 same_part Kilo Giga a b le e = omega arith
+same_part Kilo Tera a b le e = omega arith
 same_part Mega Kilo a b le e = omega arith
 same_part Mega Mega a b le e = omega arith
 same_part Mega Giga a b le e = omega arith
+same_part Mega Tera a b le e = omega arith
 same_part Giga Kilo a b le e = omega arith
 same_part Giga Mega a b le e = omega arith
 same_part Giga Giga a b le e = omega arith
+same_part Giga Tera a b le e = omega arith
+same_part Tera Kilo a b le e = omega arith
+same_part Tera Mega a b le e = omega arith
+same_part Tera Giga a b le e = omega arith
+same_part Tera Tera a b le e = omega arith
 
 -- an address in a page is one of that page
 of-page : (level : Level) (a b : ℕ) → page_of level a ≤ b → b < page_of level a + size level → page_of level b ≡ page_of level a
+of-page Tera a b from before = omega arith
 of-page Giga a b from before = omega arith
 of-page Mega a b from before = omega arith
 of-page Kilo a b from before = omega arith
 
--- and two of one page are both valid, or neither is
-same-top : (level : Level) (a b : ℕ) → page_of level b ≡ page_of level a → b / 2 ^ 38 ≡ a / 2 ^ 38
-same-top Giga a b e = omega arith
-same-top Mega a b e = omega arith
-same-top Kilo a b e = omega arith
+-- and two of one page, which is of one of the mode's levels, are both valid, or neither is
+same-top : (mode : Paging) (level : Level) (a b : ℕ) → level_number level ≤ level_number (scheme mode).root → page_of level b ≡ page_of level a
+    → b / 2 ^ ((scheme mode).width - 1) ≡ a / 2 ^ ((scheme mode).width - 1)
+same-top Sv39 Kilo a b low e = omega arith
+same-top Sv39 Mega a b low e = omega arith
+same-top Sv39 Giga a b low e = omega arith
+same-top Sv39 Tera a b low e = omega arith
+same-top Sv48 Kilo a b low e = omega arith
+same-top Sv48 Mega a b low e = omega arith
+same-top Sv48 Giga a b low e = omega arith
+same-top Sv48 Tera a b low e = omega arith
 
-same-valid : (level : Level) (a b : ℕ) → page_of level b ≡ page_of level a → is_valid b ≡ is_valid a
-same-valid level a b e = is_valid_by_top b ∙ rw (same-top level a b e) (sym (is_valid_by_top a))
+same-valid : (mode : Paging) (level : Level) (a b : ℕ) → level_number level ≤ level_number (scheme mode).root → page_of level b ≡ page_of level a
+    → is_valid_by mode b ≡ is_valid_by mode a
+same-valid mode level a b low e = is_valid_by_top mode b ∙ rw (same-top mode level a b low e) (sym (is_valid_by_top mode a))
 
 -- What a leaf says that the entry gives for an address: its level is the entry's, its page the address's, and it decides
 -- each access to that page.
@@ -115,24 +133,28 @@ one_more level under below le has memory a table global kind leaf e = elim (case
 no_levels : HasLeaves [] 0
 no_levels memory a table global kind leaf e = cc
 
-leaves_of_all : HasLeaves (levels_from sv39.root) 2
-leaves_of_all = one_more Giga (levels_from Mega) 1 (omega arith) (one_more Mega (levels_from Kilo) 0 (omega arith) (one_more Kilo [] 0 (omega arith) no_levels))
+leaves_of_three : HasLeaves (levels_from Giga) 2
+leaves_of_three = one_more Giga (levels_from Mega) 1 (omega arith) (one_more Mega (levels_from Kilo) 0 (omega arith) (one_more Kilo [] 0 (omega arith) no_levels))
+
+leaves_of : (mode : Paging) → HasLeaves (levels_from (scheme mode).root) (level_number (scheme mode).root)
+leaves_of Sv39 = leaves_of_three
+leaves_of Sv48 = one_more Tera (levels_from Giga) 2 (omega arith) leaves_of_three
 
 -- the leaf of an address is of its page
 pub leaf_page : (memory : ℕ → Option ℕ) (satp va : ℕ) (kind : Kind) (leaf : Leaf) → maps memory satp va kind ≡ Ok leaf → leaf.page ≡ page_of leaf.level va
 unfolding maps
-leaf_page memory satp va kind leaf e = elim (cases_Bool (is_valid va)) [
-  | inl valid ↦ (leaves_of_all memory va (4096 * root_of satp) false kind leaf (rw valid at e)).page
+leaf_page memory satp va kind leaf e = elim (cases_Bool (is_valid satp va)) [
+  | inl valid ↦ (leaves_of (paging_of satp) memory va (4096 * root_of satp) false kind leaf (rw valid at e)).page
   | inr invalid ↦ let found = rw invalid at e in cc
 ]
 
 pub one_leaf_for_a_page : (memory : ℕ → Option ℕ) (satp a b : ℕ) (kind other : Kind) (leaf : Leaf)
     → maps memory satp a kind ≡ Ok leaf → leaf.page ≤ b → b < leaf.page + size leaf.level → maps memory satp b other ≡ by_right other leaf
 unfolding maps
-one_leaf_for_a_page memory satp a b kind other leaf e from before = elim (cases_Bool (is_valid a)) [
+one_leaf_for_a_page memory satp a b kind other leaf e from before = elim (cases_Bool (is_valid satp a)) [
   | inl valid ↦
-      let l = leaves_of_all memory a (4096 * root_of satp) false kind leaf (rw valid at e) in
+      let l = leaves_of (paging_of satp) memory a (4096 * root_of satp) false kind leaf (rw valid at e) in
       let same : page_of leaf.level b ≡ page_of leaf.level a = of-page leaf.level a b (rw l.page at from) (rw l.page at before) in
-      rw (same-valid leaf.level a b same, valid) (l.each b other same)
+      rw (same-valid (paging_of satp) leaf.level a b l.low same, valid) (l.each b other same)
   | inr invalid ↦ let found = rw invalid at e in cc
 ]

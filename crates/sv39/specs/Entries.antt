@@ -1,13 +1,13 @@
--- The entries of page tables (Privileged 4.3.1, 4.4.1).
+-- The entries of page tables (Privileged 4.3.1, 4.4.1, 4.5.1).
 use Rattle.std.specs.Prelude.{ℕ, ◌*◌, ◌/◌, ◌%◌, ◌^◌, Bool, not, ◌==◌, ◌&&◌, ◌||◌, Option, Some, None, is_some}
 use Rattle.std.specs.Int.{bit_at}
 use Rattle.sv39.specs.declared.page.Level.{Level}
-use Rattle.sv39.specs.declared.page.Level.TheVariants.{Kilo, Mega, Giga}
+use Rattle.sv39.specs.declared.page.Level.TheVariants.{Kilo, Mega, Giga, Tera}
 use Rattle.sv39.specs.declared.page.Leaf.{Leaf}
 use Rattle.sv39.specs.Pages.{level_number, page_of}
 
 -- Whether a bit of an entry is 1: V 0, R 1, W 2, X 3, U 4, G 5, A 6, D 7; bits 8 and 9, RSW, are ignored (Privileged
--- 4.3.1, 4.4.1).
+-- 4.3.1, 4.4.1, 4.5.1).
 abbrev pub has_bit : ℕ → ℕ → Bool
 has_bit n entry = bit_at entry n == 1
 
@@ -48,12 +48,13 @@ abbrev pub page_number : ℕ → ℕ
 page_number entry = entry / 2 ^ 10 % 2 ^ 44
 
 -- An entry can be a pointer or a leaf only with V, and with bits 63 to 54 all 0: those are reserved, or of an extension
--- (Privileged 4.3.2, 4.4.1; that a board has neither Svnapot nor Svpbmt: profile).
+-- (Privileged 4.3.2, 4.4.1, 4.5.1; that a board has neither Svnapot nor Svpbmt: profile).
 abbrev pub is_present : ℕ → Bool
 is_present entry = has_v entry && (entry / 2 ^ 54 == 0)
 
 -- the level below another one, if there is one
 abbrev pub below : Level → Option Level
+below Tera = Some Giga
 below Giga = Some Mega
 below Mega = Some Kilo
 below Kilo = None
@@ -72,7 +73,7 @@ is_aligned level entry = page_number entry % 512 ^ level_number level == 0
 
 -- The entry is a right leaf, whatever the access: it has R or X, and W only with R; the page isn't the user's (a board
 -- has no SUM: profile), was accessed (a board faults in place of setting A: profile), and is aligned (Privileged 4.3.1,
--- 4.3.2, 4.4.1).
+-- 4.3.2, 4.4.1, 4.5.1).
 abbrev pub is_leaf : Level → ℕ → Bool
 is_leaf level entry =
     is_present entry && (has_r entry || has_x entry) && (has_r entry || not (has_w entry))

@@ -1,5 +1,6 @@
 pub mod Causes
 pub mod Pages
+pub mod Paging
 pub mod Leaves
 pub mod Memory
 pub mod Satp

@@ -1,4 +1,4 @@
--- What the page tables in a memory say of an address (Privileged 4.3.2, 4.4.1).
+-- What the page tables in a memory say of an address (Privileged 4.3.2, 4.4.1, 4.5.1).
 use Rattle.std.specs.Prelude.{◌≡◌, ℕ, ◌+◌, ◌*◌, Bool, true, false, ◌&&◌, ◌||◌, MatchBool, if◌then◌else◌, List, [], ◌∷◌, ◌++◌, Option, Some, None, Result, Err}
 use Rattle.sv39.specs.declared.cause.Cause.{Cause}
 use Rattle.sv39.specs.declared.cause.Kind.{Kind}
@@ -7,8 +7,9 @@ use Rattle.sv39.specs.declared.page.Level.{Level}
 use Rattle.sv39.specs.Causes.{access_fault, page_fault}
 use Rattle.sv39.specs.Entries.{has_g, is_leaf, is_pointer, leaf_of, page_number}
 use Rattle.sv39.specs.Leaves.{by_right}
-use Rattle.sv39.specs.Pages.{is_valid, levels_from, part, sv39}
-use Rattle.sv39.specs.Satp.{root_of}
+use Rattle.sv39.specs.Pages.{levels_from, part}
+use Rattle.sv39.specs.Paging.{scheme}
+use Rattle.sv39.specs.Satp.{is_valid, paging_of, root_of}
 
 -- the memory's entry for an address, in the table at an address, by the part of its level
 abbrev pub entry_in : (ℕ → Option ℕ) → (va : ℕ) → (table : ℕ) → Level → Option ℕ
@@ -73,11 +74,11 @@ pub record MapsBy
       (is_any_global memory va root above)
 
 -- The rule, as a relation: the result for a valid address is what the tables give, and for another one a page fault
--- (Privileged 4.3.2, 4.4.1).
+-- (Privileged 4.3.2, 4.4.1, 4.5.1).
 unfoldable pub Maps : (ℕ → Option ℕ) → (satp va : ℕ) → Kind → Result Leaf Cause → Type 0
 Maps memory satp va kind result =
-    MatchBool (is_valid va)
-    (MapsBy memory (4096 * root_of satp) va kind (levels_from sv39.root) result)
+    MatchBool (is_valid satp va)
+    (MapsBy memory (4096 * root_of satp) va kind (levels_from (scheme (paging_of satp)).root) result)
     (result ≡ Err (page_fault kind))
 
 -- What a walk gives from a table on, whose levels are these: it goes down at a good pointer, and ends at another entry.
@@ -94,6 +95,6 @@ found_from memory va kind table global (level ∷ under) =
 -- The rule, as a function.
 unfoldable pub maps : (ℕ → Option ℕ) → (satp va : ℕ) → Kind → Result Leaf Cause
 maps memory satp va kind =
-    if is_valid va
-    then found_from memory va kind (4096 * root_of satp) false (levels_from sv39.root)
+    if is_valid satp va
+    then found_from memory va kind (4096 * root_of satp) false (levels_from (scheme (paging_of satp)).root)
     else Err (page_fault kind)

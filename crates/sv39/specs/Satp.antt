@@ -1,8 +1,11 @@
 -- The supervisor address translation and protection register (Privileged 4.1.11).
-use Rattle.std.specs.Prelude.{◌≡◌, ℕ, ◌/◌, ◌%◌, ◌^◌, Bool, false, ◌==◌, if◌then◌else◌}
-use Rattle.sv39.specs.Pages.{sv39}
+use Rattle.std.specs.Prelude.{◌≡◌, ℕ, ◌+◌, ◌*◌, ◌/◌, ◌%◌, ◌^◌, Bool, false, ◌==◌, ◌&&◌, if◌then◌else◌, is_some, unwrap_or}
+use Rattle.sv39.specs.declared.paging.Paging.{Paging}
+use Rattle.sv39.specs.declared.paging.Paging.TheVariants.{Sv39}
+use Rattle.sv39.specs.declared.paging.Spaces.{Spaces}
+use Rattle.sv39.specs.Paging.{cut_asid, is_valid_by, named, supports}
 
--- MODE, bits 63 to 60: 0 is Bare, 8 is Sv39 (Privileged 4.1.11).
+-- MODE, bits 63 to 60: 0 is Bare, 8 is Sv39, 9 is Sv48 (Privileged 4.1.11).
 abbrev pub mode_of : ℕ → ℕ
 mode_of satp = satp / 2 ^ 60 % 2 ^ 4
 
@@ -14,18 +17,34 @@ asid_of satp = satp / 2 ^ 44 % 2 ^ 16
 abbrev pub root_of : ℕ → ℕ
 root_of satp = satp % 2 ^ 44
 
--- Whether addresses are translated by Sv39; else they are physical addresses.
-abbrev pub is_sv39 : ℕ → Bool
-is_sv39 satp = mode_of satp == sv39.number
+-- Whether addresses are translated, by one of the paging modes; else they are physical addresses.
+abbrev pub translates : ℕ → Bool
+translates satp = is_some (named (mode_of satp))
 
--- What a write leaves: 0 for Bare, whatever the other fields (profile); the value for Sv39; and with another MODE the
--- write has no effect (Privileged 4.1.11; that Sv48 and Sv57 aren't supported: profile).
-abbrev pub satp_written : (satp value : ℕ) → ℕ
-satp_written satp value =
+-- The mode by which addresses are translated; where they aren't, it says nothing.
+abbrev pub paging_of : ℕ → Paging
+paging_of satp = unwrap_or (named (mode_of satp)) Sv39
+
+-- Whether an address is a virtual one of satp's mode.
+abbrev pub is_valid : (satp va : ℕ) → Bool
+is_valid satp va = is_valid_by (paging_of satp) va
+
+-- The value with the bits of its ASID above ASIDLEN cleared (Privileged 4.1.11).
+abbrev pub kept_of : Spaces → ℕ → ℕ
+kept_of spaces value = value / 2 ^ 60 * 2 ^ 60 + cut_asid spaces (asid_of value) * 2 ^ 44 + root_of value
+
+-- Whether a write stores the value: its MODE is a paging mode that the board has.
+abbrev pub is_stored : Spaces → ℕ → Bool
+is_stored spaces value = translates value && supports spaces (paging_of value)
+
+-- What a write leaves: 0 for Bare, whatever the other fields (profile); what is kept of the value for a mode that the
+-- board has; and with another MODE the write has no effect (Privileged 4.1.11; that Sv57 isn't supported: profile).
+abbrev pub satp_written : Spaces → (satp value : ℕ) → ℕ
+satp_written spaces satp value =
     if mode_of value == 0 then 0
-    else if mode_of value == sv39.number then value
+    else if is_stored spaces value then kept_of spaces value
     else satp
 
--- What satp holds: 0, or a value with Sv39's MODE.
+-- What satp holds: 0, or a value with the MODE of a paging mode.
 abbrev pub IsSatp : ℕ → Type 0
-IsSatp satp = is_sv39 satp ≡ false → satp ≡ 0
+IsSatp satp = translates satp ≡ false → satp ≡ 0

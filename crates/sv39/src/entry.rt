@@ -23,7 +23,7 @@ const A: u64 = 6;
 
 const D: u64 = 7;
 
-/// An entry of a page table (Privileged 4.3.1, 4.4.1).
+/// An entry of a page table (Privileged 4.3.1, 4.4.1, 4.5.1).
 #[derive(Clone, Copy)]
 pub struct TableEntry {
     pub bits: u64,

@@ -1,11 +1,11 @@
 ghost use Rattle.std.specs.Prelude.{◌≡◌};
 ghost use Rattle.sv39.specs.Entries.{below};
 ghost use Rattle.sv39.specs.Leaves.{allows};
-ghost use Rattle.sv39.specs.Pages.{is_valid, level_number, part, size};
+ghost use Rattle.sv39.specs.Pages.{level_number, part, size};
 
 use crate::cause::Kind;
 
-/// The levels of page tables, each by the page that a leaf in it maps (Privileged 4.4.1).
+/// The levels of page tables, each by the page that a leaf in it maps (Privileged 4.4.1, 4.5.1).
 #[derive(Clone, Copy, Debug, PartialEq, Eq)]
 pub enum Level {
     /// Level 0: pages of 4 KiB.
@@ -14,6 +14,8 @@ pub enum Level {
     Mega,
     /// Level 2: gigapages, of 1 GiB.
     Giga,
+    /// Level 3: terapages, of 512 GiB.
+    Tera,
 }
 
 impl Level {
@@ -25,6 +27,7 @@ impl Level {
             Level::Kilo => 0,
             Level::Mega => 1,
             Level::Giga => 2,
+            Level::Tera => 3,
         }
     }
 
@@ -36,6 +39,7 @@ impl Level {
             Level::Kilo => 1 << 12,
             Level::Mega => 1 << 21,
             Level::Giga => 1 << 30,
+            Level::Tera => 1 << 39,
         }
     }
 
@@ -47,6 +51,7 @@ impl Level {
             Level::Kilo => None,
             Level::Mega => Some(Level::Kilo),
             Level::Giga => Some(Level::Mega),
+            Level::Tera => Some(Level::Giga),
         }
     }
 
@@ -58,7 +63,7 @@ impl Level {
     }
 }
 
-/// What a leaf of the page tables says of a page (Privileged 4.3.1, 4.4.1).
+/// What a leaf of the page tables says of a page (Privileged 4.3.1, 4.4.1, 4.5.1).
 #[derive(Clone, Copy, Debug, PartialEq, Eq)]
 pub struct Leaf {
     /// The page's first virtual address.
@@ -90,13 +95,4 @@ impl Leaf {
             Kind::Store => self.w && self.d,
         }
     }
-}
-
-/// Whether a virtual address of 64 bits is one of Sv39: its bits 63 to 39 equal bit 38 (Privileged 4.4.1).
-#[tactic(auto, using(crate::proofs::Addresses::is_valid_by_top))]
-pub fn is_valid(va: u64) -> bool
-    ensures { result ≡ is_valid va }
-{
-    let top = va >> 38;
-    top == 0 || top == (1 << 26) - 1
 }

@@ -6,20 +6,20 @@ ghost use Rattle.sv39.specs.Pages.{page_of, size};
 
 use crate::cause::{Cause, Kind};
 use crate::entry::TableEntry;
-use crate::page::{Leaf, Level, is_valid};
+use crate::page::Leaf;
 use crate::ram::Ram;
 use crate::satp::Satp;
 
 /// What the page tables in the RAM say of a virtual address: the leaf that maps it and allows an access of this kind,
-/// or why the access fails (Privileged 4.3.2, 4.4.1). At most three words are looked at. The tables are those that
+/// or why the access fails (Privileged 4.3.2, 4.4.1, 4.5.1). At most four words are looked at. The tables are those that
 /// satp names, whatever its MODE.
 pub fn walk(ram: &Ram, satp: Satp, va: u64, kind: Kind) -> Result<Leaf, Cause>
     ensures { result ≡ maps (word_in ram.now) satp va kind }
 {
-    if !is_valid(va) {
+    if !satp.is_valid(va) {
         return Err(kind.page_fault());
     }
-    let mut level = Level::Giga;
+    let mut level = satp.paging().root();
     let mut table = satp.root();
     let mut global = false;
     'levels: loop {
@@ -38,7 +38,7 @@ pub fn walk(ram: &Ram, satp: Satp, va: u64, kind: Kind) -> Result<Leaf, Cause>
 }
 
 /// What `walk` gives is the rule: there is one level with good pointers at all levels above and none there, and the
-/// entry there decides (Privileged 4.3.2, 4.4.1). A law: there is nothing to run.
+/// entry there decides (Privileged 4.3.2, 4.4.1, 4.5.1). A law: there is nothing to run.
 pub fn maps_is_the_rule()
     ensures { (memory : ℕ → Option ℕ) (satp va : ℕ) (kind : Kind) (result : Result Leaf Cause)
         → Maps memory satp va kind result ↔ (result ≡ maps memory satp va kind) }

@@ -1,6 +1,7 @@
-ghost use Rattle.std.specs.Prelude.{◌≡◌, ◌*◌, false};
-ghost use Rattle.sv39.specs.Satp.{asid_of, is_sv39, root_of, satp_written};
+ghost use Rattle.std.specs.Prelude.{◌≡◌, ◌≤◌, ◌*◌, false};
+ghost use Rattle.sv39.specs.Satp.{asid_of, is_valid, kept_of, paging_of, root_of, satp_written, translates};
 
+use crate::paging::{Paging, Spaces};
 use std::marker::Model;
 
 /// satp, which says whether and by which page tables addresses are translated (Privileged 4.1.11).
@@ -30,13 +31,17 @@ impl Satp {
         Satp { bits: 0 }
     }
 
-    /// What satp holds once this value was written to it.
-    pub fn write(self, value: u64) -> Satp
-        ensures { result ≡ satp_written self value }
+    /// What satp holds once this value was written to it, on a board with these address spaces.
+    pub fn write(self, value: u64, spaces: Spaces) -> Satp
+        requires { spaces.asid_len ≤ 16 }
+        ensures { result ≡ satp_written spaces self value }
     {
-        match value >> 60 {
-            0 => Satp::bare(),
-            8 => Satp { bits: value },
+        let mode = value >> 60;
+        match Paging::named(mode) {
+            Some(paging) if paging.width() <= spaces.widest.width() => Satp {
+                bits: kept(value, spaces),
+            },
+            None if mode == 0 => Satp::bare(),
             _ => self,
         }
     }
@@ -48,12 +53,26 @@ impl Satp {
         self.bits
     }
 
-    /// Whether addresses are translated, by Sv39. Where they aren't, satp is 0.
-    pub fn is_sv39(self) -> bool
-        ensures answer { result ≡ is_sv39 self }
+    /// Whether addresses are translated, by one of the paging modes. Where they aren't, satp is 0.
+    pub fn translates(self) -> bool
+        ensures answer { result ≡ translates self }
         ensures bare { result ≡ false → self ≡ 0 }
     {
-        self.bits >> 60 == 8
+        Paging::named(self.bits >> 60).is_some()
+    }
+
+    /// The mode by which addresses are translated, where they are.
+    pub fn paging(self) -> Paging
+        ensures { result ≡ paging_of self }
+    {
+        Paging::named(self.bits >> 60).unwrap_or(Paging::Sv39)
+    }
+
+    /// Whether a virtual address of 64 bits is one of satp's mode (Privileged 4.4.1, 4.5.1).
+    pub fn is_valid(self, va: u64) -> bool
+        ensures { result ≡ is_valid self va }
+    {
+        self.paging().is_valid(va)
     }
 
     /// ASID: the address space.
@@ -69,4 +88,13 @@ impl Satp {
     {
         (self.bits % (1 << 44)) << 12
     }
+}
+
+/// What is kept of a value that is stored: all but the bits of its ASID above ASIDLEN (Privileged 4.1.11).
+fn kept(value: u64, spaces: Spaces) -> u64
+    requires { spaces.asid_len ≤ 16 }
+    ensures { result ≡ kept_of spaces value }
+{
+    let asid = spaces.cut_asid(value >> 44 & 0xFFFF);
+    (value >> 60 << 60) + (asid << 44) + value % (1 << 44)
 }

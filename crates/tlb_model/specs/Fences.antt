@@ -1,6 +1,7 @@
 -- Fences of translations, local and remote (Privileged 4.2.1; SBI 8).
 use Rattle.std.specs.Prelude.{ℕ, ◌+◌, ◌-◌, ◌%◌, ◌^◌, ◌<◌, ◌≤◌, nat_lt, max, min, Bool, ◌==◌, ◌&&◌, ◌||◌, not, if◌then◌else◌, Option, Some, None, option_map}
-use Rattle.sv39.specs.Pages.{is_valid}
+use Rattle.sv39.specs.declared.paging.Spaces.{Spaces}
+use Rattle.sv39.specs.Paging.{cut_asid, is_valid_by}
 use Rattle.tlb_model.specs.declared.fence.Fence.{Fence}
 use Rattle.tlb_model.specs.declared.fence.Range.{Range}
 
@@ -16,17 +17,18 @@ pub record HaveInCommon (range : Range) (page bytes : ℕ) : Type 0 where
   pub from_page : page ≤ address
   pub before_page_end : address < page + bytes
 
--- The ASID of a register is its low 16 bits (Privileged 4.2.1).
-abbrev pub low_asid : Option ℕ → Option ℕ
-low_asid = option_map (λ register. register % 2 ^ 16)
+-- The ASID of a register is its low ASIDLEN bits (Privileged 4.2.1).
+abbrev pub low_asid : Spaces → Option ℕ → Option ℕ
+low_asid spaces = option_map (cut_asid spaces)
 
 -- An SFENCE.VMA of an address is one of [va, va + 1), and one of x0 is of all. An address that isn't valid is of no page
--- (Privileged 4.2.1).
-abbrev pub range_of_address : Option ℕ → Option Range
-range_of_address = option_map (λ va. record { start = va; size = if is_valid va then 1 else 0 })
+-- (Privileged 4.2.1); that it counts as valid where it is by the board's widest mode: profile.
+abbrev pub range_of_address : Spaces → Option ℕ → Option Range
+range_of_address spaces =
+    option_map (λ va. record { start = va; size = if is_valid_by spaces.widest va then 1 else 0 })
 
-abbrev pub fence_of_address : (va asid : Option ℕ) → Fence
-fence_of_address va asid = record { asid = low_asid asid; range = range_of_address va }
+abbrev pub fence_of_address : Spaces → (va asid : Option ℕ) → Fence
+fence_of_address spaces va asid = record { asid = low_asid spaces asid; range = range_of_address spaces va }
 
 -- A remote fence is of all addresses where start and size are 0, or size is 2^64-1 (SBI 8).
 abbrev pub is_full : (start size : ℕ) → Bool
@@ -37,6 +39,6 @@ is_full start size = ((start == 0) && (size == 0)) || (size == 2 ^ 64 - 1)
 abbrev pub is_wrong_range : (start size : ℕ) → Bool
 is_wrong_range start size = not (is_full start size) && nat_lt (2 ^ 64) (start + size)
 
-abbrev pub fence_of_range : (start size : ℕ) (asid : Option ℕ) → Fence
-fence_of_range start size asid =
-    record { asid = low_asid asid; range = if is_full start size then None else Some (record { start = start; size = size }) }
+abbrev pub fence_of_range : Spaces → (start size : ℕ) (asid : Option ℕ) → Fence
+fence_of_range spaces start size asid =
+    record { asid = low_asid spaces asid; range = if is_full start size then None else Some (record { start = start; size = size }) }

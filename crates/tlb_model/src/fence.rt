@@ -1,7 +1,7 @@
-ghost use Rattle.std.specs.Prelude.{◌≡◌, ◌<◌, ◌+◌, None};
+ghost use Rattle.std.specs.Prelude.{◌≡◌, ◌<◌, ◌≤◌, ◌+◌, None};
 ghost use Rattle.tlb_model.specs.Fences.{fence_of_address, fence_of_range, is_full, is_wrong_range, low_asid, meets};
 
-use sv39::is_valid;
+use sv39::Spaces;
 
 /// The addresses from `start` on, so many of them as whole numbers: their end may lie at 2^64 or past it.
 #[derive(Clone, Copy, Debug, PartialEq, Eq)]
@@ -37,29 +37,32 @@ pub struct Fence {
 
 impl Fence {
     /// The fence that an SFENCE.VMA makes of its operands, each None where it is x0: of this address alone, and of the
-    /// address space in the low 16 bits (Privileged 4.2.1). An address that isn't valid is of no page.
-    pub fn of_address(va: Option<u64>, asid: Option<u64>) -> Fence
-        ensures { result ≡ fence_of_address va asid }
+    /// address space in the low ASIDLEN bits (Privileged 4.2.1). An address that isn't valid by the board's widest mode is
+    /// of no page.
+    pub fn of_address(spaces: Spaces, va: Option<u64>, asid: Option<u64>) -> Fence
+        requires { spaces.asid_len ≤ 16 }
+        ensures { result ≡ fence_of_address spaces va asid }
     {
         Fence {
-            asid: low_asid(asid),
+            asid: low_asid(spaces, asid),
             range: match va {
                 None => None,
                 Some(start) => Some(Range {
                     start,
-                    size: is_valid(start) as u64,
+                    size: spaces.widest.is_valid(start) as u64,
                 }),
             },
         }
     }
 
     /// The fence that a remote SFENCE.VMA asks for, with an ASID or without: of a range, which is full where `start`
-    /// and `size` are 0 or `size` is 2^64-1 (SBI 8), and of the address space in the low 16 bits (profile).
-    pub fn of_range(start: u64, size: u64, asid: Option<u64>) -> Fence
-        ensures { result ≡ fence_of_range start size asid }
+    /// and `size` are 0 or `size` is 2^64-1 (SBI 8), and of the address space in the low ASIDLEN bits (profile).
+    pub fn of_range(spaces: Spaces, start: u64, size: u64, asid: Option<u64>) -> Fence
+        requires { spaces.asid_len ≤ 16 }
+        ensures { result ≡ fence_of_range spaces start size asid }
     {
         Fence {
-            asid: low_asid(asid),
+            asid: low_asid(spaces, asid),
             range: if is_full(start, size) {
                 None
             } else {
@@ -84,13 +87,14 @@ fn is_full(start: u64, size: u64) -> bool
     start == 0 && size == 0 || size == u64::MAX
 }
 
-/// The address space that the low 16 bits of a register name, which are ASIDMAX bits (Privileged 4.2.1).
-fn low_asid(asid: Option<u64>) -> Option<u16>
-    ensures { result ≡ low_asid asid }
+/// The address space that the low ASIDLEN bits of a register name (Privileged 4.2.1).
+fn low_asid(spaces: Spaces, asid: Option<u64>) -> Option<u16>
+    requires { spaces.asid_len ≤ 16 }
+    ensures { result ≡ low_asid spaces asid }
 {
     match asid {
         None => None,
-        Some(register) => Some((register % (1 << 16)) as u16),
+        Some(register) => Some(spaces.cut_asid(register) as u16),
     }
 }
 

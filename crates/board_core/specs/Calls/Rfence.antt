@@ -5,16 +5,18 @@ use Rattle.sbi_abi.specs.declared.answer.SbiError.TheVariants.{InvalidAddress, I
 use Rattle.sbi_abi.specs.declared.call.rfence.RfenceCall.{RfenceCall}
 use Rattle.sbi_abi.specs.declared.call.rfence.RfenceCall.TheVariants.{RemoteFenceI, RemoteSfenceVma, RemoteSfenceVmaAsid}
 use Rattle.hart_mask.specs.HartList.{targets_of}
+use Rattle.sv39.specs.declared.paging.Spaces.{Spaces}
 use Rattle.tlb_model.specs.declared.fence.Flush.{Flush}
 use Rattle.tlb_model.specs.declared.fence.Flush.TheVariants.{Words, Entries}
 use Rattle.tlb_model.specs.Fences.{fence_of_range, is_wrong_range}
 use Rattle.board_core.specs.declared.config.Config.{Config}
+use Rattle.board_core.specs.Limits.{spaces_of}
 use Rattle.board_core.specs.Returns.{CallReply, Returns, Waits}
 
 -- What a remote SFENCE.VMA of a range drops, or the error that its range brings (SBI 8; what a wrong range is: profile).
-abbrev pub flush_of_range : (start size : ℕ) (asid : Option ℕ) → Result Flush SbiError
-flush_of_range start size asid =
-    if is_wrong_range start size then Err InvalidAddress else Ok (Entries (fence_of_range start size asid))
+abbrev pub flush_of_range : Spaces → (start size : ℕ) (asid : Option ℕ) → Result Flush SbiError
+flush_of_range spaces start size asid =
+    if is_wrong_range start size then Err InvalidAddress else Ok (Entries (fence_of_range spaces start size asid))
 
 -- a remote fence that a call asks for: its hart list, and what it drops
 pub record Remote : Type 0 where
@@ -23,11 +25,11 @@ pub record Remote : Type 0 where
   pub flush : Result Flush SbiError
 
 -- The remote fence that a call is (SBI 8.1 to 8.3).
-abbrev pub remote_by_rfence : RfenceCall → Remote
-remote_by_rfence (RemoteFenceI mask base) = record { mask = mask; base = base; flush = Ok Words }
-remote_by_rfence (RemoteSfenceVma mask base start size) = record { mask = mask; base = base; flush = flush_of_range start size None }
-remote_by_rfence (RemoteSfenceVmaAsid mask base start size asid) =
-    record { mask = mask; base = base; flush = flush_of_range start size (Some asid) }
+abbrev pub remote_by_rfence : Config → RfenceCall → Remote
+remote_by_rfence c (RemoteFenceI mask base) = record { mask = mask; base = base; flush = Ok Words }
+remote_by_rfence c (RemoteSfenceVma mask base start size) = record { mask = mask; base = base; flush = flush_of_range (spaces_of c) start size None }
+remote_by_rfence c (RemoteSfenceVmaAsid mask base start size asid) =
+    record { mask = mask; base = base; flush = flush_of_range (spaces_of c) start size (Some asid) }
 
 -- The reply to a remote fence of the harts of a hart list: it waits inside the call, until it is polled. The list is
 -- looked at first, and then the range (SBI 8; that it waits, and the order: profile).
@@ -40,4 +42,4 @@ abbrev pub fence_reply : Config → Remote → CallReply
 fence_reply c remote = fence_reply_to (targets_of remote.mask remote.base c.harts) remote.flush
 
 abbrev pub rfence_reply : Config → RfenceCall → CallReply
-rfence_reply c call = fence_reply c (remote_by_rfence call)
+rfence_reply c call = fence_reply c (remote_by_rfence c call)

@@ -1,6 +1,6 @@
 //! The RFENCE extension (SBI 8).
 
-ghost use Rattle.std.specs.Prelude.{◌≡◌, ℕ, ◌<◌, List, ◌∷◌, None, Option, Result};
+ghost use Rattle.std.specs.Prelude.{◌≡◌, ℕ, ◌<◌, ◌≤◌, List, ◌∷◌, None, Option, Result};
 ghost use Rattle.sbi_abi.specs.declared.answer.SbiError.{SbiError};
 ghost use Rattle.sbi_abi.specs.declared.call.Call.TheVariants as calls;
 ghost use Rattle.sbi_abi.specs.declared.call.rfence.RfenceCall.{RfenceCall};
@@ -21,6 +21,7 @@ use crate::machine::Machine;
 use hart_mask::targets;
 use sbi_abi::SbiError;
 use sbi_abi::call::RfenceCall;
+use sv39::Spaces;
 use tlb_model::{Fence, Flush, is_wrong_range};
 
 impl Machine {
@@ -44,7 +45,13 @@ impl Machine {
                 base,
                 start,
                 size,
-            } => self.remote_fence(config, h, mask, base, flush_of_range(start, size, None)),
+            } => self.remote_fence(
+                config,
+                h,
+                mask,
+                base,
+                flush_of_range(config.spaces(), start, size, None),
+            ),
             RfenceCall::RemoteSfenceVmaAsid {
                 mask,
                 base,
@@ -52,7 +59,7 @@ impl Machine {
                 size,
                 asid,
             } => {
-                let flush = flush_of_range(start, size, Some(asid));
+                let flush = flush_of_range(config.spaces(), start, size, Some(asid));
                 self.remote_fence(config, h, mask, base, flush)
             }
         }
@@ -75,7 +82,7 @@ impl Machine {
         requires standing { IsStanding config.now self.old }
         requires outside { call_at self.old.fences h ≡ None }
         ensures answered { result ≡ as_reply (fence_reply config.now (record { mask = mask; base = base; flush = flush })) }
-        ensures after { (past : List Event) (regs : Regs) (call : RfenceCall) → remote_by_rfence call ≡ record { mask = mask; base = base; flush = flush } →
+        ensures after { (past : List Event) (regs : Regs) (call : RfenceCall) → remote_by_rfence config.now call ≡ record { mask = mask; base = base; flush = flush } →
             calls.Rfence call ≡ call_of regs → StandsFor config.now past self.old → StandsFor config.now (by_hart h (Ecall regs) result ∷ past) self.new }
     {
         let harts = match targets(mask, base, config.harts) {
@@ -94,11 +101,17 @@ impl Machine {
 }
 
 /// What a remote SFENCE.VMA of a range drops, or the error that its range brings (SBI 8; what a wrong range is: profile).
-fn flush_of_range(start: u64, size: u64, asid: Option<u64>) -> Result<Flush, SbiError>
-    ensures { result ≡ flush_of_range start size asid }
+fn flush_of_range(
+    spaces: Spaces,
+    start: u64,
+    size: u64,
+    asid: Option<u64>,
+) -> Result<Flush, SbiError>
+    requires { spaces.asid_len ≤ 16 }
+    ensures { result ≡ flush_of_range spaces start size asid }
 {
     if is_wrong_range(start, size) {
         return Err(SbiError::InvalidAddress);
     }
-    Ok(Flush::Entries(Fence::of_range(start, size, asid)))
+    Ok(Flush::Entries(Fence::of_range(spaces, start, size, asid)))
 }

@@ -5,7 +5,8 @@ use Rattle.tlb_model.specs.Contents.{fenced}
 use Rattle.tlb_model.specs.Entries.{covers_entry}
 use Rattle.tlb_model.specs.Fences.{fence_of_address}
 use Rattle.tlb_model.specs.Words.{covers_word}
-use Rattle.board_core.specs.Stands.{caches_at, situation_in}
+use Rattle.board_core.specs.Limits.{spaces_of}
+use Rattle.board_core.specs.Stands.{caches_at, satp_at, situation_in}
 use Rattle.std.specs.Vec.{with_items}
 use Rattle.rfence.specs.Turns as fence_turns
 use Rattle.board_core.specs.Fences.{turns}
@@ -14,6 +15,7 @@ use Rattle.fence_queue.specs.Queues.{queue_at}
 use Rattle.rfence.specs.State.{call_at}
 use Rattle.board_core.proofs.Situations.{call-over, counts-room, fences-room, poll-right, serve-right, some-wait}
 use Rattle.board_core.proofs.Tables.{tabulated-items}
+use Rattle.sv39.specs.declared.paging.Spaces.{Spaces}
 use Rattle.sv39.specs.Satp.{satp_written}
 use Rattle.board_core.specs.declared.event.Op.TheVariants.{ClearSsip, FenceI, Poll, ReadSip, Serve, Sfence, Wfi, WriteSatp, WriteSie, WriteSstatusSie}
 use Rattle.board_core.specs.declared.event.Reply.TheVariants.{Done, Ret, Served, Value}
@@ -40,7 +42,8 @@ returns-in-WriteSatp-clause-after c = λ past stands.
     rw c.in-WriteSatp.is
     (stands-memory config past event does refl m _ refl stands (memory-satps config past event does refl m.memory _ refl stands.memory c.write_satp.ensures.ram c.write_satp.ensures.caches
     (c.write_satp.ensures.satps
-    ∙ ap (λ satp. slice_set m.memory.satps.items h (satp_written satp c.in-WriteSatp.value)) (satp-read config past m.memory h 0 c.requires.in_range stands.memory)
+    ∙ ap (λ (s : Spaces). slice_set m.memory.satps.items h (satp_written s (satp_at m.memory h) c.in-WriteSatp.value)) c.spaces.ensures.spaces
+    ∙ ap (λ satp. slice_set m.memory.satps.items h (satp_written (spaces_of config) satp c.in-WriteSatp.value)) (satp-read config past m.memory h 0 c.requires.in_range stands.memory)
     ∙ satps-put config past event does refl m.memory.satps.items h c.in-WriteSatp.value refl refl stands.memory.satps)))
 
 pub returns-in-Sfence-clause-after : goal.returns-in-Sfence-clause-after
@@ -48,13 +51,13 @@ returns-in-Sfence-clause-after c = λ past stands.
     let config = c.args.config.now in
     let m = c.args.self.now in
     let h = c.args.h in
-    let flush = Entries (fence_of_address c.in-Sfence.va c.in-Sfence.asid) in
+    let flush = Entries (fence_of_address (spaces_of config) c.in-Sfence.va c.in-Sfence.asid) in
     let event = by_hart h (Sfence c.in-Sfence.va c.in-Sfence.asid) Done in
     let d = deed config past event in
     rw (c.in-Sfence.is)
     (stands-fences config past event d refl m _ m.fences refl stands (memory-caches config past event d refl m.memory _ refl refl stands.memory c.fence.ensures.ram c.fence.ensures.satps
     (c.fence.ensures.caches
-    ∙ ap (λ f. slice_set m.memory.caches.items h (record { tlb = fenced covers_entry (caches_at m.memory h).tlb (Entries f); words = fenced covers_word (caches_at m.memory h).words (Entries f) })) c.of_address.ensures
+    ∙ ap (λ f. slice_set m.memory.caches.items h (record { tlb = fenced covers_entry (caches_at m.memory h).tlb (Entries f); words = fenced covers_word (caches_at m.memory h).words (Entries f) })) (c.of_address.ensures ∙ ap (λ (s : Spaces). fence_of_address s c.in-Sfence.va c.in-Sfence.asid) c.spaces-in-Sfence.ensures.spaces)
     ∙ caches-fenced config past event d refl m.memory h flush (λ j other. (own-spares (turns config past) h flush j other, own-spares (turns config past) h flush j other))
     (caches-read config past m.memory h c.requires.in_range stands.memory) (own-drops (turns config past) h flush) (own-drops (turns config past) h flush) stands.memory.caches))
     (fences-own config past event d refl m.fences h flush c.requires.in_range refl stands.fences))

@@ -1,0 +1,41 @@
+-- The paging modes, and how wide address spaces are (Privileged 4.1.11, 4.4.1, 4.5.1).
+use Rattle.std.specs.Prelude.{ℕ, ◌-◌, ◌*◌, ◌/◌, ◌%◌, ◌^◌, Bool, ◌==◌, nat_le, if◌then◌else◌, Option, Some, None}
+use Rattle.std.specs.Int.{bit_at}
+use Rattle.sv39.specs.declared.page.Level.{Level}
+use Rattle.sv39.specs.declared.page.Level.TheVariants.{Giga, Tera}
+use Rattle.sv39.specs.declared.paging.Paging.{Paging}
+use Rattle.sv39.specs.declared.paging.Paging.TheVariants.{Sv39, Sv48}
+use Rattle.sv39.specs.declared.paging.Spaces.{Spaces}
+
+-- What makes a paging mode: its number in satp's MODE, the bits of its virtual addresses, and the level of its root page
+-- table.
+pub record Scheme : Type 0 where
+  pub number : ℕ
+  pub width : ℕ
+  pub root : Level
+
+-- The modes (Privileged 4.1.11, 4.4.1, 4.5.1).
+abbrev pub scheme : Paging → Scheme
+scheme Sv39 = record { number = 8; width = 39; root = Giga }
+scheme Sv48 = record { number = 9; width = 48; root = Tera }
+
+-- the mode with this number in MODE, if there is one
+abbrev pub named : ℕ → Option Paging
+named number =
+    if number == (scheme Sv39).number then Some Sv39
+    else if number == (scheme Sv48).number then Some Sv48
+    else None
+
+-- The bits of an address from the mode's width on, as one number, are all 0 or all 1, as the bit below them is
+-- (Privileged 4.4.1, 4.5.1).
+unfoldable pub is_valid_by : Paging → ℕ → Bool
+is_valid_by mode va =
+    va / 2 ^ (scheme mode).width == (2 ^ (64 - (scheme mode).width) - 1) * bit_at va ((scheme mode).width - 1)
+
+-- A board with a mode has all narrower ones too (Privileged 4.1.11).
+abbrev pub supports : Spaces → Paging → Bool
+supports spaces mode = nat_le (scheme mode).width (scheme spaces.widest).width
+
+-- Of an ASID the low ASIDLEN bits are kept (Privileged 4.1.11, 4.2.1).
+abbrev pub cut_asid : Spaces → ℕ → ℕ
+cut_asid spaces asid = asid % 2 ^ spaces.asid_len

@@ -1,0 +1,79 @@
+ghost use Rattle.std.specs.Prelude.{◌≡◌, ◌≤◌, ◌<◌, ◌^◌};
+ghost use Rattle.sv39.specs.Paging.{cut_asid, is_valid_by, named, scheme};
+
+use crate::page::Level;
+
+/// The paging modes, by which page tables translate addresses (Privileged 4.1.11).
+#[derive(Clone, Copy, Debug, PartialEq, Eq)]
+pub enum Paging {
+    /// Sv39: virtual addresses of 39 bits, and three levels (Privileged 4.4).
+    Sv39,
+    /// Sv48: virtual addresses of 48 bits, and four levels (Privileged 4.5).
+    Sv48,
+}
+
+impl Paging {
+    /// The mode that has this number in satp's MODE, if there is one (Privileged 4.1.11).
+    pub(crate) fn named(number: u64) -> Option<Paging>
+        ensures { result ≡ named number }
+    {
+        match number {
+            8 => Some(Paging::Sv39),
+            9 => Some(Paging::Sv48),
+            _ => None,
+        }
+    }
+
+    /// How many bits the mode's virtual addresses have.
+    pub fn width(self) -> u64
+        ensures { result ≡ (scheme self).width }
+    {
+        match self {
+            Paging::Sv39 => 39,
+            Paging::Sv48 => 48,
+        }
+    }
+
+    /// The level of the mode's root page table.
+    pub(crate) fn root(self) -> Level
+        ensures { result ≡ (scheme self).root }
+    {
+        match self {
+            Paging::Sv39 => Level::Giga,
+            Paging::Sv48 => Level::Tera,
+        }
+    }
+
+    /// Whether a virtual address of 64 bits is one of the mode: all its bits from the mode's width on equal the one below
+    /// them (Privileged 4.4.1, 4.5.1).
+    #[tactic(auto, using(crate::proofs::Addresses::is_valid_by_top))]
+    pub fn is_valid(self, va: u64) -> bool
+        ensures { result ≡ is_valid_by self va }
+    {
+        let (top, ones) = match self {
+            Paging::Sv39 => (va >> 38, (1 << 26) - 1),
+            Paging::Sv48 => (va >> 47, (1 << 17) - 1),
+        };
+        top == 0 || top == ones
+    }
+}
+
+/// How wide the address spaces of a board are.
+#[derive(Clone, Copy, Debug, PartialEq, Eq)]
+pub struct Spaces {
+    /// ASIDLEN: how many bits of an ASID are kept, the lowest ones; 16 at most (Privileged 4.1.11).
+    pub asid_len: u64,
+    /// The widest mode that the board has. It has all narrower ones too (Privileged 4.1.11).
+    pub widest: Paging,
+}
+
+impl Spaces {
+    /// What is kept of an ASID: its low ASIDLEN bits (Privileged 4.1.11, 4.2.1).
+    pub fn cut_asid(self, asid: u64) -> u64
+        requires { self.asid_len ≤ 16 }
+        ensures kept { result ≡ cut_asid self asid }
+        ensures small { result < 2 ^ 16 }
+    {
+        asid % (1 << self.asid_len)
+    }
+}

@@ -1,0 +1,155 @@
+"""Boards with other address spaces: Sv48 and short ASIDs, beside a model in plain Python."""
+import os
+import random
+import sys
+
+from harness import EXAMPLES, ROOT, Wrong, must_be, ran, script, stored
+
+sys.path.insert(0, os.path.join(ROOT, "tools"))
+import board_model  # noqa: E402
+
+ROWS = os.path.join(ROOT, "crates/rows/data")
+# ASIDLEN and WIDTH of other boards than the usual one.
+SPACES = ("16 48", "9 39", "1 48", "0 39")
+
+
+def schedules():
+    """The schedules of all rows: their board lines of six numbers, and their steps."""
+    for name in sorted(os.listdir(ROWS)):
+        with open(os.path.join(ROWS, name), encoding="utf-8") as file:
+            rows = file.read().split("\nrow ")[1:]
+        for row in rows:
+            title, *lines = row.split("\n")
+            if lines and lines[0].startswith("board ") and len(lines[0].split()) == 7:
+                steps = [board_model.words_of(line.partition("->")[0]) for line in lines[1:]]
+                found = list(takewhile_steps(steps))
+                if found:
+                    yield f"{name}, {title}", lines[0], found
+
+
+def takewhile_steps(steps):
+    """The steps up to the first line that is none."""
+    for words in steps:
+        if len(words) < 2 or not (words[0] == "c" or words[0].isdigit()) or words[1] not in NAMES:
+            return
+        yield words
+
+
+NAMES = {*board_model.GUEST, "poll", "serve", "advance", "tick"}
+
+
+def answered(board_line, steps):
+    """What the model answers, as lines of a trace, and the TLB lines of its table."""
+    board = board_model.board_of(board_line.split())
+    lines = []
+    for words in steps:
+        actor, op = board_model.step_of(words)
+        lines.append(f"{board_model.spelled_step(actor, op)} -> {board_model.spelled_answer(board.step(actor, op))}")
+    return lines, [spelled_entry(h, item[1]) for h, hart in enumerate(board.harts) for item in hart.tlb]
+
+
+def spelled_entry(h, entry):
+    page, level, asid, is_global, pa, *rights = entry
+    letters = "".join(letter if has else "-" for letter, has in zip("rwxd", rights))
+    return f"# tlb {h:3} {page:016x} {level} {asid:04x} {'g' if is_global else '-'} {pa:016x} {letters}"
+
+
+def must_agree(room, name, board_line, steps):
+    text = "\n".join([board_line, *(" ".join(words) for words in steps)]) + "\n"
+    found = ran(["replay", script(room, text.encode())])
+    lines, entries = answered(board_line, steps)
+    printed = found.stdout.decode().splitlines()
+    if printed[1 : 1 + len(lines)] != lines or [it for it in printed if it.startswith("# tlb")] != entries:
+        differs = next((pair for pair in zip(printed[1:], lines) if pair[0] != pair[1]), entries)
+        raise Wrong(f"{name} with {board_line!r}: {differs}")
+
+
+def all_rows(room):
+    """Each row's schedule on each of the other boards: its answers and its TLB lines are the model's."""
+    count = 0
+    for name, board_line, steps in schedules():
+        for spaces in SPACES:
+            must_agree(room, name, f"{board_line} {spaces}", steps)
+            count += 1
+    if count < 400:
+        raise Wrong(f"only {count} schedules")
+
+
+# Page tables of four levels in pages 1 to 4 of the RAM, and pages of data after them.
+PAGES = 16
+PTE_BITS = (0xCF, 0xC7, 0xC3, 0xCB, 0xE7, 0xD7, 0x47, 0x87, 0x01, 0x21, 0x41, 0x00, 0xC5, 0x4CF)
+
+
+def random_entry(some):
+    page = some.choice((0x80000 + some.randrange(PAGES), 0x80000 + some.randrange(1, 5), 0, 0x40000, 0x80200, some.getrandbits(44)))
+    return page << 10 | some.choice(PTE_BITS) | (1 << some.randrange(54, 64) if some.random() < 0.02 else 0)
+
+
+def random_address(some):
+    """Mostly of few pages of each level, and near the ends of the addresses of each mode."""
+    if some.random() < 0.15:
+        near = some.choice((0, 1 << 38, 1 << 39, 1 << 47, 1 << 48, 1 << 63, (1 << 64) - (1 << 38), (1 << 64) - (1 << 39), (1 << 64) - (1 << 47)))
+        return (near + 8 * some.randrange(-2, 3) + some.choice((0, 0x80004000))) % (1 << 64)
+    parts = [some.choice((0, 0, 1, 2, 255, 256, 511)) for _ in range(4)]
+    va = sum(part << 12 + 9 * level for level, part in enumerate(parts)) + 8 * some.randrange(4)
+    width = some.choice((39, 48, 48))
+    va %= 1 << width
+    return va if va < 1 << width - 1 else va + (1 << 64) - (1 << width)
+
+
+def random_step(some):
+    """A step, or a fence by hart 2 with what ends it."""
+    actor, kind = str(some.randrange(2)), some.randrange(16)
+    if kind < 9:
+        va = random_address(some)
+        return [[actor, some.choice(("load", "load", "fetch")), f"{va:#x}"] if some.random() < 0.85 else [actor, "store", f"{va:#x}", "7"]]
+    if kind < 11:
+        table, slot = some.randrange(1, 5), some.choice((0, 0, 1, 2, 255, 256, 511))
+        return [["2", "store", f"{0x80000000 + 4096 * table + 8 * slot:#x}", f"{random_entry(some):#x}"]]
+    if kind == 11:
+        mode, asid = some.choice((8, 8, 9, 9, 9, 0, 10)), some.choice((0, 1, 2, 5, 9, 257, 0xFFFF))
+        return [[actor, "satp", f"{mode << 60 | asid << 44 | 0x80000 + some.choice((1, 1, 1, 2)):#x}"]]
+    if kind < 14:
+        return [["2", "store", f"{0x80001000 + 4096 * level:#x}", f"{0x20000801 + 0x400 * level:#x}"] for level in range(3)]
+    asid = some.choice(("0", "1", "5", "0x101", "0xffff", "0x10005"))
+    if kind == 14:
+        va = some.choice(("-", f"{random_address(some):#x}"))
+        return [[actor, "sfence", va, some.choice(("-", asid))]]
+    start, size = random_address(some), some.choice((0, 1, 2, 4096, 1 << 30, 1 << 39, (1 << 64) - 1))
+    ask = ["2", "ecall", "0x52464e43", some.choice("12"), "3", "0", f"{start:#x}", f"{size:#x}", asid]
+    return [ask, ["0", "serve"], ["1", "serve"], ["2", "poll"]]
+
+
+ENTRIES = "0 advance|0 ecall 0x48534d 0 1 0x80000000|1 advance|0 ecall 0x48534d 0 2 0x80000000|2 advance"
+# Leaves of each level of four, and of two harts with each mode.
+TABLES = {0x80001008: 0xC7, 0x80001800: 0xC7, 0x80001FF8: 0xCF, 0x80002008: 0x200000C7, 0x80002800: 0x200000CF, 0x80003008: 0x200000CF}
+TABLES |= {0x80004000: 0x200010C7, 0x80004008: 0x200014CF, 0x80004010: 0x200010E7, 0x800047F8: 0x200014C3}
+SETUP = [["2", "store", f"{at:#x}", f"{entry:#x}"] for at, entry in TABLES.items()]
+SETUP += [["0", "satp", "0x8000500000080001"], ["1", "satp", "0x9000500000080001"]]
+
+
+def random_steps(room):
+    """Random accesses, tables, writes of satp and fences, on boards of each width."""
+    for seed in range(60):
+        some = random.Random(seed)
+        for width in (39, 48):
+            steps = [line.split() for line in ENTRIES.split("|")] + SETUP + [step for _ in range(300) for step in random_step(some)]
+            must_agree(room, f"seed {seed}", f"board 3 {PAGES} 1000 0 0x80000000 0x0 {some.choice((16, 16, 9, 2, 1, 0))} {width}", steps)
+
+
+def usual_spaces(room):
+    """An example with 16 and 39 written out prints what is stored of it, which has six numbers."""
+    for name in sorted(it for it in os.listdir(EXAMPLES) if it.endswith(".sched")):
+        with open(os.path.join(EXAMPLES, name), "rb") as file:
+            text = file.read()
+        line = next(it for it in text.split(b"\n") if it.startswith(b"board ") and len(it.partition(b"#")[0].split()) == 7)
+        words = line.partition(b"#")[0].rstrip()
+        found = ran(["replay", script(room, text.replace(words, words + b" 16 39", 1))])
+        must_be(found, found.returncode, stored(f"{name}.out"), None)
+
+
+TESTS = [
+    ("all rows on other boards", all_rows),
+    ("random steps by both modes", random_steps),
+    ("16 and 39 written out", usual_spaces),
+]
