@@ -2,7 +2,7 @@
 //! whether the text begins with the type's name, and differs for two values that differ.
 
 use anyhow::{Context, Result, bail};
-use board_core::{Actor, Board, BuildFault, Config, Op, Refusal, Reply, Sie, Totals};
+use board_core::{Actor, Board, BuildFault, Config, Op, Phase, Refusal, Reply, Sie, Totals};
 use board_lock::{HartNow, HartView, Rest};
 use conditions::conditions;
 use fence_queue::Request;
@@ -165,7 +165,7 @@ pub fn show_board<R: Print>(rt: &R) -> io::Result<()> {
     println!(rt; "{:?}", Actor::Hart(3))?;
     println!(rt; "{:?}", Op::Sfence(None, Some(4)))?;
     println!(rt; "{entered:?}")?;
-    println!(rt; "{:?}", Refusal::TimeFull)?;
+    println!(rt; "{:?} {:?}", Refusal::TimeFull, Phase::Inside)?;
     println!(rt; "{totals:?}")?;
     println!(rt; "{:?}", Sie::of(0x20))
 }
