@@ -1,6 +1,7 @@
 ghost use Rattle.std.specs.Prelude.{◌≡◌, ℕ, ◌<◌, ◌≤◌, List, Some, slice_get, length};
 ghost use Rattle.board_core.specs.declared.event.Actor.{Actor};
 ghost use Rattle.board_core.specs.History.{Event};
+ghost use Rattle.board_core.specs.Limits.{IsGood};
 ghost use Rattle.board_core.specs.Replies.{IsLegal};
 ghost use Rattle.board_lock.specs.Events.{events_in, events_of};
 
@@ -30,9 +31,11 @@ impl<K: Room> Model for Record<K> {
 }
 
 impl<K: Room> Record<K> {
-    /// The accepted events, oldest first. They are a legal history, so all that `board_laws` says of those holds of it.
+    /// The accepted events, oldest first. They are a legal history of a good opening, so all that `board_laws` says of those
+    /// holds of it.
     pub fn events(&self) -> &[Event]
         ensures events { result.now ≡ events_in self.now }
+        ensures good { IsGood self.now.config }
         ensures legal { IsLegal self.now.config self.now.past }
         ensures within { length result.now ≤ self.now.config.limit }
     {

@@ -14,9 +14,11 @@
 //!   after each, or in the state behind `#`.
 #![tactic(auto)]
 
+mod built;
 mod components;
 mod debugging;
 mod devices;
+mod needs;
 mod printing;
 mod row;
 
@@ -52,6 +54,8 @@ fn show<R: AllocGlobal + Print + Eprint>(rt: &R) -> Result<()> {
     debugging::show_ends(rt)?;
     show_private(rt)?;
     printing::show_lines(rt)?;
+    built::show_built(rt)?;
+    needs::show_needs(rt)?;
     devices::show_calls(rt)?;
     devices::show_pieces(rt)?;
     show_failures(rt, Task::Replay, "replay")?;
