@@ -167,7 +167,7 @@ fn check_read<R: AllocGlobal + Threads + Wait + Sync>(
 ) -> Result<()> {
     for answer in ANSWERS.into_iter().skip(1) {
         let (outcome, calls, printed) = run_from(rt, task, behind, at, answer);
-        let is_right = outcome == Outcome::Io && calls == at + 1 && printed.is_empty();
+        let is_right = outcome == Outcome::Io && calls == at.wrapping_add(1) && printed.is_empty();
         ensure!(
             is_right,
             "read {at}, {answer:?}, {behind:?}: {outcome}, {calls} calls"
@@ -203,7 +203,7 @@ fn check_write<R: AllocGlobal + Threads + Wait + Sync>(
         let (outcome, calls, _) = run_to(rt, task, behind, at, answer);
         let is_good = matches!(answer, Answer::Zero) && calls == last;
         let wanted = if is_good { Outcome::Good } else { Outcome::Io };
-        let is_right = outcome == wanted && calls == at + 1;
+        let is_right = outcome == wanted && calls == at.wrapping_add(1);
         ensure!(
             is_right,
             "write {at}, {answer:?}, {behind:?}: {outcome}, {calls} calls"
