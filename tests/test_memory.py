@@ -1,4 +1,5 @@
 """Want of memory, and how much a run takes."""
+import itertools
 import os
 import resource
 import subprocess
@@ -35,19 +36,23 @@ from test_runs import RAN
 
 
 def each_in_turn(made, room, words):
-    """Each allocation of a run refused in turn: no memory and nothing printed, or, where it can do without, the whole output."""
+    """
+    Each allocation of a run refused in turn, by itself and with all after it: no memory and nothing printed, or, where it can
+    do without, the whole output.
+    """
     good, sizes = allocating(made, room, words)
     if not sizes:
         raise Wrong("no allocation was seen")
-    for number in range(1, len(sizes) + 1):
-        found, _ = allocating(made, room, words, number)
+    for number, is_last in itertools.product(range(1, len(sizes) + 1), (False, True)):
+        found, _ = allocating(made, room, words, number, **({"FROM": str(number)} if is_last else {}))
         try:
             if found.returncode == 6:
                 must_be(found, 6, b"", NO_MEMORY)
             else:
                 must_be(found, good.returncode, good.stdout, good.stderr)
         except Wrong as wrong:
-            raise Wrong(f"{words}: allocation {number} of {len(sizes)}, of {sizes[number - 1]} bytes, refused: {wrong}")
+            later = " with all after it" if is_last else ""
+            raise Wrong(f"{words}: allocation {number} of {len(sizes)}, of {sizes[number - 1]} bytes, refused{later}: {wrong}")
     return good
 
 
@@ -110,7 +115,7 @@ def little_room_for_threads(room):
 
 
 def steps_take_none(room):
-    """The room for the history, at most 80 bytes an event, is the last allocation: no step of those after it takes any."""
+    """The room for the history, at most 80 bytes an event, is the last allocation: no step of those after it takes any, or lacks it."""
     made, limit = shim(room), 5_003
     for steps in (10, 1_000):
         schedule = every(steps, limit)
@@ -122,6 +127,8 @@ def steps_take_none(room):
                 raise Wrong(f"{task}: the last of {len(sizes)} allocations, of {sizes[-1]} bytes, isn't the room for {limit} events")
             if sizes[-1] // limit > 80:
                 raise Wrong(f"an event takes {sizes[-1] // limit} bytes")
+            without, _ = allocating(made, room, [task, script(room, text)], FROM=str(len(sizes) + 1))
+            must_be(without, 0, found.stdout, b"")
 
 # Lines with the setup that lets the board accept them, of which a million is a script.
 MILLION = [

@@ -1,5 +1,6 @@
 /* Loaded before the program's libraries: writes the size of each allocation, a line each, to the descriptor
-   SIZES, and refuses the one whose number, from 1, is REFUSED, and the thread whose number is THREAD. Of the calls that
+   SIZES, and refuses the one whose number, from 1, is REFUSED, all from the one on whose number is FROM, and the thread
+   whose number is THREAD. Of the calls that
    open, read and write, the one whose number is FAILED fails with the error ERROR, and none moves more than MOST bytes,
    if that is given. Each of these calls is told to the descriptor CALLS, if that is given: a letter, and the bytes moved.
    LENGTH is what every file's length is said to be, if that is given; where it is "none", the length can't be asked. */
@@ -38,7 +39,8 @@ static int is_refused(size_t size)
     if (__write(number_in("SIZES"), line, length) != length)
         abort();
     *__errno_location() = NO_MEMORY;
-    return __sync_add_and_fetch(&allocations, 1) == number_in("REFUSED");
+    int number = __sync_add_and_fetch(&allocations, 1), from = number_in("FROM");
+    return number == number_in("REFUSED") || (from && number >= from);
 }
 
 void *malloc(size_t size)

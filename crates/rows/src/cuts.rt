@@ -1,0 +1,122 @@
+//! Scripts that are cut anywhere, at once and in pieces, and scripts at the limit of their length.
+
+ghost use Rattle.std.specs.Prelude.{◌≤◌, length, take};
+ghost use Rattle.guest_script.specs.Pieces.{AreWhole};
+
+use anyhow::{Result, ensure};
+use guest_script::{Reader, parse};
+use std::alloc::Global;
+use std::io;
+
+/// A script of each kind, of few bytes.
+const CUT: [(&str, &[u8]); 3] = [
+    (
+        "schedule",
+        b"board 1 1 10 0 0x80000000 0x0\n0 advance\n0 ecall 0x10 0\n",
+    ),
+    (
+        "program",
+        b"board 1 1 10 0 0x80000000 0x0\nat 0x80000000\nsip\nclock\ntick 3\n",
+    ),
+    (
+        "trace",
+        b"board 1 1 10 0 0x80000000 0x0\n0 advance -> entry 0x80000000 0 0\nc tick 3 -> done\n",
+    ),
+];
+
+/// How many bytes a script may have.
+const MOST_BYTES: usize = 16_777_216;
+
+/// What is answered of bytes: a script, or its fault.
+fn said(alloc: Global, bytes: &[u8]) -> Result<String> {
+    match parse(alloc, bytes) {
+        Ok(_) => Ok(format!(in alloc; "a script")?),
+        Err(fault) => Ok(format!(in alloc; "line {}, fault {}", fault.line, fault.fault.number())?),
+    }
+}
+
+/// Shows what each beginning of each script answers.
+pub fn show_cuts<R: AllocGlobal + Print>(rt: &R) -> Result<()> {
+    for (name, whole) in CUT {
+        show_cut(rt, name, whole)?;
+    }
+    Ok(())
+}
+
+/// Shows what each beginning of a script answers, those that answer the same together. In whatever pieces of whole lines a
+/// reader is given one, it answers the same script or the same fault.
+fn show_cut<R: AllocGlobal + Print>(rt: &R, name: &str, whole: &[u8]) -> Result<()> {
+    let mut first = 0;
+    for size in 0..=whole.len() {
+        check_pieces(rt.alloc(), &whole[..size])?;
+        let answer = said(rt.alloc(), &whole[..size])?;
+        let longer = size.saturating_add(1);
+        let next = said(rt.alloc(), &whole[..longer.min(whole.len())])?;
+        if size == whole.len() || next != answer {
+            println!(rt; "{name}, {first} to {size} bytes: {answer}")?;
+            first = longer;
+        }
+    }
+    Ok(())
+}
+
+/// A reader answers the same of the bytes, whichever line feeds part its pieces.
+fn check_pieces(alloc: Global, bytes: &[u8]) -> Result<()> {
+    let whole = format!(in alloc; "{:?}", parse(alloc, bytes))?;
+    let feeds = bytes.iter().filter(|byte| **byte == b'\n').count();
+    for chosen in 0..1_u64 << feeds.min(8) {
+        let parted = read_in_pieces(alloc, bytes, chosen)?;
+        ensure!(
+            parted == whole,
+            "parted at {chosen:#b}: {parted}, not {whole}"
+        );
+    }
+    Ok(())
+}
+
+/// What a reader answers that is given a piece up to each chosen line feed, and at the end the rest.
+fn read_in_pieces(alloc: Global, bytes: &[u8], chosen: u64) -> Result<String> {
+    let mut reader = Reader::expecting(0);
+    let mut piece = Vec::new(alloc);
+    for (place, line) in bytes.split_inclusive(|byte| *byte == b'\n').enumerate() {
+        piece.extend_from_slice(line)?;
+        if line.ends_with(b"\n") && place < 64 && chosen >> place & 1 == 1 {
+            reader = reader.read(alloc, whole_lines(&piece))?;
+            piece.clear();
+        }
+    }
+    Ok(format!(in alloc; "{:?}", reader.end(alloc, &piece))?)
+}
+
+/// The bytes up to their last line feed.
+fn whole_lines(bytes: &[u8]) -> &[u8]
+    ensures { AreWhole result.now }
+{
+    let mut front = bytes;
+    while let [rest @ .., last] = front {
+        if *last == b'\n' {
+            return front;
+        }
+        front = rest;
+    }
+    front
+}
+
+/// So many bytes, all the same.
+fn filled(alloc: Global, size: usize, byte: u8) -> io::Result<Vec<u8>> {
+    let mut bytes = Vec::new(alloc);
+    bytes.resize(size, byte)?;
+    Ok(bytes)
+}
+
+/// Shows what is answered of as many bytes as a script may have, and of one more; and of a byte that none may have.
+pub fn show_lengths<R: AllocGlobal + Print>(rt: &R) -> Result<()> {
+    let alloc = rt.alloc();
+    for more in [0, 1] {
+        let blanks = filled(alloc, MOST_BYTES + more, b' ')?;
+        println!(rt; "{} blanks: {}", blanks.len(), said(alloc, &blanks)?)?;
+    }
+    let odd = b"board 1 1 10 0 0x80000000 0x0\n0 advance\n# \x80\n0 sip\n";
+    println!(rt; "a byte 0x80 in a comment: {}", said(alloc, odd)?)?;
+    Ok(())
+}
