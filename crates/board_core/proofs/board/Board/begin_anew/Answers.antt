@@ -1,0 +1,7 @@
+use Rattle.std.proofs.Common.{arith}
+use Rattle.board_core.proofs.board.Board.begin_anew.Goals as goal
+
+pub invariant_of-self : goal.invariant_of-self
+invariant_of-self c =
+    let cleared = c.clear.ensures in
+    rw cleared.items (record { good = c.self.invariant.0.good; legal = tt; within = omega arith }, c.in_ok-self-inside.ensures, rw cleared.capacity c.self.invariant.2)
