@@ -1,7 +1,7 @@
 //! How many serves fence calls need: by steps on a board of three harts, and where all harts fence each other.
 
 use anyhow::Result;
-use board_core::{Actor, Board, Config, Op, Phase};
+use board_core::{Actor, Board, Config, Op, Phase, USUAL_ASID_LEN, USUAL_WIDTH};
 use sbi_abi::Regs;
 use std::alloc::Global;
 
@@ -33,6 +33,8 @@ fn started(alloc: Global, harts: u64) -> Result<Board> {
         boot_hart: 0,
         boot_addr: START,
         boot_opaque: 0,
+        asid_len: USUAL_ASID_LEN,
+        width: USUAL_WIDTH,
     };
     let mut board = Board::new(alloc, &config)?;
     board.step(Actor::Hart(0), Op::Advance)?;
