@@ -138,12 +138,13 @@ def random_steps(room):
 
 
 def usual_spaces(room):
-    """An example with 16 and 39 written out prints what is stored of it, which has six numbers."""
+    """An example of six numbers prints what is stored of it, with 16 and 39 written out, too."""
     for name in sorted(it for it in os.listdir(EXAMPLES) if it.endswith(".sched")):
         with open(os.path.join(EXAMPLES, name), "rb") as file:
             text = file.read()
-        line = next(it for it in text.split(b"\n") if it.startswith(b"board ") and len(it.partition(b"#")[0].split()) == 7)
-        words = line.partition(b"#")[0].rstrip()
+        words = next(it for it in text.split(b"\n") if it.startswith(b"board ")).partition(b"#")[0].rstrip()
+        if len(words.split()) != 7:
+            continue
         found = ran(["replay", script(room, text.replace(words, words + b" 16 39", 1))])
         must_be(found, found.returncode, stored(f"{name}.out"), None)
 
