@@ -167,8 +167,7 @@ pub fn show_faults<R: Print>(rt: &R) -> io::Result<()> {
         Fault::TooLong,
         Fault::NoMemory,
     ] {
-        let found = ScriptFault { line: 3, fault };
-        println!(rt; "{} {} {found}", fault.number(), found.number())?;
+        println!(rt; "{} {}", fault.number(), ScriptFault { line: 3, fault })?;
     }
     let fault = ReadFault::Script(ScriptFault {
         line: 3,

@@ -3,8 +3,7 @@
 
 use anyhow::{Context, Result, bail};
 use board_core::{
-    Actor, Board, BuildFault, Config, Op, Phase, Refusal, Reply, Sie, Totals, USUAL_ASID_LEN,
-    USUAL_WIDTH,
+    Actor, Board, BuildFault, Config, Op, Refusal, Reply, Sie, Totals, USUAL_ASID_LEN, USUAL_WIDTH,
 };
 use board_lock::{HartNow, HartView, Rest};
 use conditions::conditions;
@@ -176,7 +175,7 @@ pub fn show_board<R: Print>(rt: &R) -> io::Result<()> {
     println!(rt; "{:?}", Actor::Hart(3))?;
     println!(rt; "{:?}", Op::Sfence(None, Some(4)))?;
     println!(rt; "{entered:?}")?;
-    println!(rt; "{:?} {:?}", Refusal::TimeFull, Phase::Inside)?;
+    println!(rt; "{:?}", Refusal::TimeFull)?;
     println!(rt; "{totals:?}")?;
     println!(rt; "{:?}", Sie::of(0x20))
 }
@@ -256,12 +255,7 @@ pub fn show_private_harts<R: AllocGlobal + Print>(rt: &R) -> Result<()> {
     tell(rt, "HartSet", &empty, &full)?;
     tell(rt, "HartIds", &empty.iter(), &full.iter())?;
     tell(rt, "Ipis", &Ipis::new(), &ipis)?;
-    tell(
-        rt,
-        "Satp",
-        &Satp::bare(),
-        &Satp::bare().write(1 << 63, SPACES),
-    )?;
+    tell(rt, "Satp", &Satp::bare(), &Satp::bare().write(1 << 63, SPACES))?;
     tell(rt, "Device", &Device::new(1), &Device::new(2))
 }
 

@@ -1,16 +1,153 @@
-//! Devices over readers and writers that move a few bytes at a call, or fail.
+//! Readers and writers whose calls fail.
 
-use crate::failing::{ANSWERS, Answer, Failing};
-use crate::failures::{SCHEDULE, Task};
+ghost use Rattle.std.specs.Prelude.{◌^◌, ◌<◌};
+
+use crate::row::{checked, replayed};
 use anyhow::{Result, ensure};
 use monitor::{Failed, Sink};
 use sbiboard::{Device, Outcome, Source};
 use std::alloc::Global;
-use std::io;
+use std::io::{self, ErrorKind, Read, Write};
+
+const SCHEDULE: &[u8] = b"board 2 1 9 0 0x80000000 0\n0 advance\n0 ecall 0x10 0\n1 advance\n";
+
+const TRACE: &[u8] =
+    b"board 2 1 9 0 0x80000000 0\n0 advance -> entry 0x80000000 0 0\n1 advance -> refused 3\n";
+
+/// A task of the library.
+#[derive(Clone, Copy)]
+pub enum Task {
+    /// A schedule is replayed.
+    Replay,
+    /// A trace is checked.
+    Check,
+}
+
+impl Task {
+    /// A script for it.
+    fn script(self) -> &'static [u8] {
+        match self {
+            Task::Replay => SCHEDULE,
+            Task::Check => TRACE,
+        }
+    }
+
+    /// All that it prints.
+    fn text(self, alloc: Global) -> Vec<u8> {
+        match self {
+            Task::Replay => replayed(alloc, SCHEDULE).1,
+            Task::Check => checked(alloc, TRACE).1,
+        }
+    }
+
+    fn run<R: Read, W: Write>(
+        self,
+        alloc: Global,
+        reader: &mut Device<R>,
+        writer: &mut Device<W>,
+    ) -> Outcome
+        requires reads { reader.old.failures < 2 ^ 63 }
+        requires writes { writer.old.failures < 2 ^ 63 }
+    {
+        match self {
+            Task::Replay => sbiboard::replay(alloc, reader, writer),
+            Task::Check => sbiboard::check(alloc, reader, writer),
+        }
+    }
+}
+
+/// What a call of the system answers in place of what it would do.
+#[derive(Clone, Copy, Debug)]
+enum Answer {
+    /// As many bytes as it moves.
+    Moves,
+    /// No byte.
+    Zero,
+    /// A failure.
+    Fails(ErrorKind),
+}
+
+const ANSWERS: [Answer; 5] = [
+    Answer::Zero,
+    Answer::Fails(ErrorKind::Interrupted),
+    Answer::Fails(ErrorKind::WouldBlock),
+    Answer::Fails(ErrorKind::OutOfMemory),
+    Answer::Fails(ErrorKind::Other),
+];
+
+/// A reader and a writer of the system that moves a few bytes at a call. One of its calls, from 0, has another
+/// answer.
+#[derive(Drop)]
+struct System<'a> {
+    rest: &'a [u8],
+    taken: Vec<u8>,
+    most: usize,
+    calls: u64,
+    flushes: u64,
+    at: u64,
+    answer: Answer,
+}
+
+impl System<'_> {
+    /// With the script to be read, and nothing written.
+    fn new(
+        alloc: Global,
+        script: &'static [u8],
+        most: usize,
+        at: u64,
+        answer: Answer,
+    ) -> System<'static> {
+        System {
+            rest: script,
+            taken: Vec::new(alloc),
+            most,
+            calls: 0,
+            flushes: 0,
+            at,
+            answer,
+        }
+    }
+
+    /// How many bytes a call moves that has room for `room`.
+    fn moves(&mut self, room: usize) -> io::Result<usize> {
+        let call = self.calls;
+        self.calls = call.wrapping_add(1);
+        match self.answer {
+            Answer::Zero if call == self.at => Ok(0),
+            Answer::Fails(kind) if call == self.at => Err(io::Error::from(kind)),
+            _ => Ok(room.min(self.most)),
+        }
+    }
+}
+
+impl Read for System<'_> {
+    fn read(&mut self, buffer: &mut [u8]) -> io::Result<usize> {
+        let count = self.moves(buffer.len())?.min(buffer.len());
+        let count = count.min(self.rest.len());
+        let (front, rest) = self.rest.split_at(count);
+        buffer[..count].copy_from_slice(front);
+        self.rest = rest;
+        Ok(count)
+    }
+}
+
+impl Write for System<'_> {
+    fn write(&mut self, piece: &[u8]) -> io::Result<usize> {
+        let count = self.moves(piece.len())?.min(piece.len());
+        self.taken.extend_from_slice(&piece[..count])?;
+        Ok(count)
+    }
+
+    fn flush(&mut self) -> io::Result<()> {
+        self.flushes = self.flushes.wrapping_add(1);
+        let _ = self.moves(0)?;
+        Ok(())
+    }
+}
 
 /// What a read into five bytes answers, how many calls were made, and how much is left.
 fn read_once(alloc: Global, most: usize, answer: Answer) -> (Result<usize, Failed>, u64, usize) {
-    let mut device = Device::new(Failing::new(alloc, SCHEDULE, most, 0, answer));
+    let mut device = Device::new(System::new(alloc, SCHEDULE, most, 0, answer));
     let answer = device.read(&mut [0; 5]);
     let system = device.into_inner();
     (answer, system.calls, system.rest.len())
@@ -23,7 +160,7 @@ fn write_once(
     most: usize,
     answer: Answer,
 ) -> (Result<usize, Failed>, u64, usize) {
-    let mut device = Device::new(Failing::new(alloc, SCHEDULE, most, 0, answer));
+    let mut device = Device::new(System::new(alloc, SCHEDULE, most, 0, answer));
     let answer = device.write(piece);
     let system = device.into_inner();
     (answer, system.calls, system.taken.len())
@@ -31,7 +168,7 @@ fn write_once(
 
 /// What a flush answers, how many calls were made, and how many of them were flushes.
 fn flush_once(alloc: Global, answer: Answer) -> (Result<(), Failed>, u64, u64) {
-    let mut device = Device::new(Failing::new(alloc, SCHEDULE, 5, 0, answer));
+    let mut device = Device::new(System::new(alloc, SCHEDULE, 5, 0, answer));
     let answer = device.flush();
     let system = device.into_inner();
     (answer, system.calls, system.flushes)
@@ -57,6 +194,56 @@ pub fn show_calls<R: AllocGlobal + Print>(rt: &R) -> io::Result<()> {
     Ok(())
 }
 
+/// How a task ends that reads three bytes at a call, how many calls it makes, and what it prints.
+fn run_from(alloc: Global, task: Task, at: u64, answer: Answer) -> (Outcome, u64, Vec<u8>) {
+    let mut reader = Device::new(System::new(alloc, task.script(), 3, at, answer));
+    let mut writer = Device::new(Vec::new(alloc));
+    let outcome = task.run(alloc, &mut reader, &mut writer);
+    (outcome, reader.into_inner().calls, writer.into_inner())
+}
+
+/// How a task ends that writes three bytes at a call, how many calls it makes, and what it prints.
+fn run_to(alloc: Global, task: Task, at: u64, answer: Answer) -> (Outcome, u64, Vec<u8>) {
+    let mut reader = Device::new(task.script());
+    let mut writer = Device::new(System::new(alloc, b"", 3, at, answer));
+    let outcome = task.run(alloc, &mut reader, &mut writer);
+    let system = writer.into_inner();
+    (outcome, system.calls, system.taken)
+}
+
+/// Each read in turn fails: nothing is written then, and no more is read. A read of nothing is the end.
+pub fn check_reads(alloc: Global, task: Task) -> Result<u64> {
+    let (outcome, calls, printed) = run_from(alloc, task, u64::MAX, Answer::Moves);
+    ensure!(outcome == Outcome::Good, "{outcome}");
+    ensure!(printed == task.text(alloc), "another text");
+    for at in 0..calls {
+        for answer in ANSWERS.into_iter().skip(1) {
+            let (outcome, calls, printed) = run_from(alloc, task, at, answer);
+            let is_right = outcome == Outcome::Io && calls == at + 1 && printed.is_empty();
+            ensure!(is_right, "read {at}, {answer:?}: {outcome}, {calls} calls");
+        }
+    }
+    Ok(calls)
+}
+
+/// Each write in turn fails or takes nothing, and so does the flush at the end: no call is made after it. A flush
+/// moves no bytes, so it ends well where it answers so.
+pub fn check_writes(alloc: Global, task: Task) -> Result<u64> {
+    let (outcome, last, printed) = run_to(alloc, task, u64::MAX, Answer::Moves);
+    ensure!(outcome == Outcome::Good, "{outcome}");
+    ensure!(printed == task.text(alloc), "another text");
+    for at in 0..last {
+        for answer in ANSWERS {
+            let (outcome, calls, _) = run_to(alloc, task, at, answer);
+            let is_good = matches!(answer, Answer::Zero) && calls == last;
+            let wanted = if is_good { Outcome::Good } else { Outcome::Io };
+            let is_right = outcome == wanted && calls == at + 1;
+            ensure!(is_right, "write {at}, {answer:?}: {outcome}, {calls} calls");
+        }
+    }
+    Ok(last)
+}
+
 /// The schedule with comments of a length, one behind its board line and one at its end.
 fn commented(alloc: Global, length: usize) -> Result<Vec<u8>> {
     let mut comment = Vec::new(alloc);
@@ -74,7 +261,7 @@ fn commented(alloc: Global, length: usize) -> Result<Vec<u8>> {
 /// many bytes are expected. What has no end is too long.
 pub fn show_pieces<R: AllocGlobal + Print>(rt: &R) -> Result<()> {
     let alloc = rt.alloc();
-    let text = Task::Replay.text(alloc)?;
+    let text = Task::Replay.text(alloc);
     for length in [0, 1, 65_000, 65_508, 65_509, 65_510, 65_536, 200_000] {
         let script = commented(alloc, length)?;
         for expected in [0, 1, 62, usize::MAX] {

@@ -14,23 +14,16 @@
 //!   after each, or in the state behind `#`.
 #![tactic(auto)]
 
-mod built;
 mod components;
-mod cuts;
 mod debugging;
 mod devices;
-mod failing;
-mod failures;
-mod needs;
 mod printing;
 mod row;
 
-use crate::failures::Task;
+use crate::devices::Task;
 use crate::row::{Row, check, check_cases, check_outcomes, check_text, check_traces};
 use anyhow::{Context, Result};
 use std::rt::{Env, Files};
-use std::sync::Wait;
-use std::thread::Threads;
 use std::{env, fs};
 
 fn main(rt: HostRuntime) -> Result<()> {
@@ -43,7 +36,7 @@ fn main(rt: HostRuntime) -> Result<()> {
 }
 
 /// Shows what no script can.
-fn show<R: AllocGlobal + Print + Eprint + Threads + Wait + Sync>(rt: &R) -> Result<()> {
+fn show<R: AllocGlobal + Print + Eprint>(rt: &R) -> Result<()> {
     components::show_sets(rt)?;
     components::show_software_interrupts(rt)?;
     components::show_timers(rt)?;
@@ -59,15 +52,10 @@ fn show<R: AllocGlobal + Print + Eprint + Threads + Wait + Sync>(rt: &R) -> Resu
     debugging::show_ends(rt)?;
     show_private(rt)?;
     printing::show_lines(rt)?;
-    built::show_built(rt)?;
-    needs::show_needs(rt)?;
     devices::show_calls(rt)?;
     devices::show_pieces(rt)?;
     show_failures(rt, Task::Replay, "replay")?;
-    show_failures(rt, Task::Check, "check")?;
-    show_failures(rt, Task::Run, "run")?;
-    cuts::show_cuts(rt)?;
-    cuts::show_lengths(rt)
+    show_failures(rt, Task::Check, "check")
 }
 
 /// Shows what `Debug` writes of the types whose fields are private.
@@ -82,13 +70,9 @@ fn show_private<R: AllocGlobal + Print>(rt: &R) -> Result<()> {
 }
 
 /// Shows how many reads and writes a task makes, each of which failed in turn.
-fn show_failures<R: AllocGlobal + Print + Threads + Wait + Sync>(
-    rt: &R,
-    task: Task,
-    name: &str,
-) -> Result<()> {
-    let reads = failures::check_reads(rt, task)?;
-    let writes = failures::check_writes(rt, task)?;
+fn show_failures<R: AllocGlobal + Print>(rt: &R, task: Task, name: &str) -> Result<()> {
+    let reads = devices::check_reads(rt.alloc(), task)?;
+    let writes = devices::check_writes(rt.alloc(), task)?;
     println!(rt; "{name}: {reads} reads, {writes} writes")?;
     Ok(())
 }
