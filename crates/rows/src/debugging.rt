@@ -255,7 +255,12 @@ pub fn show_private_harts<R: AllocGlobal + Print>(rt: &R) -> Result<()> {
     tell(rt, "HartSet", &empty, &full)?;
     tell(rt, "HartIds", &empty.iter(), &full.iter())?;
     tell(rt, "Ipis", &Ipis::new(), &ipis)?;
-    tell(rt, "Satp", &Satp::bare(), &Satp::bare().write(1 << 63, SPACES))?;
+    tell(
+        rt,
+        "Satp",
+        &Satp::bare(),
+        &Satp::bare().write(1 << 63, SPACES),
+    )?;
     tell(rt, "Device", &Device::new(1), &Device::new(2))
 }
 
