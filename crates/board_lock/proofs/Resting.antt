@@ -1,6 +1,6 @@
 -- Who rests: harts of the board, and when they are all.
-use Rattle.std.proofs.Common.{◌≡◌, ℕ, ◌+◌, ◌<◌, ◌≤◌, Bool, true, List, [], length, replicate, refl, subst, sym, ap, ◌∙◌, inl, inr, arith}
-use Rattle.std.specs.Prelude.{◌==◌, ◌||◌, ◌↔◌, IsTrue, nat_eq, nat_lt, slice_index_or}
+use Rattle.std.proofs.Common.{◌≡◌, ℕ, ◌+◌, ◌<◌, ◌≤◌, Bool, true, false, List, [], length, replicate, refl, subst, sym, ap, ◌∙◌, inl, inr, arith}
+use Rattle.std.specs.Prelude.{◌==◌, ◌&&◌, ◌||◌, ◌↔◌, not, IsTrue, nat_eq, nat_lt, slice_index_or}
 use Rattle.std.specs.List.{AllByRecursion}
 use Rattle.std.specs.Cmp.Lexicographic.{pointwise}
 use Rattle.std.proofs.lemmas.Bool.{cases_Bool, cases_lt, le-ltb, lt-ltb}
@@ -17,28 +17,40 @@ use Rattle.board_core.specs.Course.{Course}
 use Rattle.board_core.specs.History.{Event}
 use Rattle.board_core.specs.Limits.{IsGood}
 use Rattle.board_lock.specs.Kept.{IsDesk, count_of, number_of}
-use Rattle.board_lock.specs.Rests.{IsRests, none_rest, resting}
+use Rattle.board_lock.specs.Rests.{IsRests, awake, none_rest, resting}
 use Rattle.board_lock.specs.declared.rests.Rests.{Rests}
+use Rattle.board_lock.specs.declared.rests.Until.{Until}
+use Rattle.board_lock.specs.declared.rests.Woken.{Woken}
 use Rattle.board_lock.proofs.Actors.{number-within}
 
-no-ids : IsIdSet []
+pub and-left : (a b : Bool) → (a && b) ≡ true → a ≡ true
+and-left true b is = refl
+and-left false b is = absurd (let e = is in cc)
+
+pub no-ids : IsIdSet []
 unfolding IsIdSet
 no-ids = sym (ids_where-none (has []) (λ i _. refl))
 
 pub none-rests : (harts : ℕ) → IsRests harts none_rest
 none-rests harts = record { set = no-ids; below = λ h is. absurd (let e = is in cc) }
 
-pub one-rests : (c : Config) (r : Rests) (a : Actor) → IsActor c a → IsRests c.harts r → IsRests c.harts (resting r a)
-one-rests c r (Hart h) acting is = record { set = IsIdSet-ids_where (λ i. i == h || has r.harts i); below = below }
+pub one-rests : (c : Config) (r : Rests) (a : Actor) (until : Until) → IsActor c a → IsRests c.harts r → IsRests c.harts (resting r a until)
+one-rests c r (Hart h) until acting is = record { set = IsIdSet-ids_where (λ i. i == h || has r.harts i); below = below }
   where
-    below : (i : ℕ) → has (resting r (Hart h)).harts i ≡ true → i < c.harts
+    below : (i : ℕ) → has (resting r (Hart h) until).harts i ≡ true → i < c.harts
     below i there =
         let passes : (i == h || has r.harts i) ≡ true = (passes-ids_where (λ k. k == h || has r.harts k) i there).1 in
         elim (eqb_tells i h) [
           | inl same ↦ (let one = same.1 in omega arith)
           | inr other ↦ is.below i (rw other.0 at passes)
         ]
-one-rests c r Clock acting is = record { set = is.set; below = is.below }
+one-rests c r Clock until acting is = record { set = is.set; below = is.below }
+
+pub fewer-rest : (harts : ℕ) (r : Rests) (w : Woken) → IsRests harts r → IsRests harts (awake r w)
+fewer-rest harts r w is = record { set = IsIdSet-ids_where still; below = λ h there. is.below h (and-left (has r.harts h) _ (passes-ids_where still h there).1) }
+  where
+    still : ℕ → Bool
+    still i = has r.harts i && not (has w.harts i)
 
 -- the harts below a number are all those of the board that rest, or some doesn't
 has-below : (harts i : ℕ) → harts ≤ 128 → i < harts → has (ids_below harts) i ≡ true

@@ -3,6 +3,8 @@ pub mod Seats
 pub mod Receipts
 pub mod Rooms
 pub mod Views
+pub mod Coming
 pub mod Rests
+pub mod Waking
 pub mod Kept
 pub mod Settling

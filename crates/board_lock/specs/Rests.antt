@@ -1,26 +1,70 @@
--- Rests: which seats rest at the present number of events, and when a rest is over (profile).
-use Rattle.std.specs.Prelude.{◌≡◌, ◌≢◌, ℕ, ◌<◌, ◌==◌, ◌||◌, Bool, true, false, not, [], length}
-use Rattle.hart_mask.specs.Ids.{IsIdSet, has, with_id}
+-- Rests: which seats rest, until what, and when a rest is over (profile).
+use Rattle.std.specs.Prelude.{◌≡◌, ◌≢◌, ℕ, ◌<◌, ◌&&◌, Bool, true, false, not, List, [], length, Option}
+use Rattle.hart_mask.specs.Ids.{IsIdSet, has, ids_where, with_bit, with_id}
 use Rattle.board_core.specs.declared.event.Actor.{Actor}
 use Rattle.board_core.specs.declared.event.Actor.TheVariants.{Hart, Clock}
 use Rattle.board_core.specs.Course.{Course}
 use Rattle.board_lock.specs.declared.desk.Pause.{Pause}
 use Rattle.board_lock.specs.declared.desk.Pause.TheVariants.{Waits, Over, Last}
+use Rattle.board_lock.specs.Coming.{has_come_to}
+use Rattle.board_lock.specs.declared.rests.Awaits.{Awaits}
+use Rattle.board_lock.specs.declared.rests.Awaits.TheVariants.{Firmware, Wake, End}
 use Rattle.board_lock.specs.declared.rests.Rest.TheVariants as rest
 use Rattle.board_lock.specs.declared.rests.Rests.{Rests}
+use Rattle.board_lock.specs.declared.rests.Until.{Until}
+use Rattle.board_lock.specs.declared.rests.Until.TheVariants.{Event, For}
+use Rattle.board_lock.specs.declared.rests.Woken.{Woken}
+use Rattle.board_lock.specs.declared.views.HartNow.{HartNow}
 
 -- no seat rests
 abbrev pub none_rest : Rests
-none_rest = record { harts = []; clock = false }
+none_rest = record { harts = []; events = []; turns = []; wakes = []; clock = false; clock_events = false }
 
--- whether some seat rests
-abbrev pub some_rest : Rests → Bool
-some_rest r = r.clock || not (length r.harts == 0)
+-- whether any event ends a rest
+abbrev pub is_any : Until → Bool
+is_any Event = true
+is_any (For awaits) = false
+
+-- whether its hart's turn ends it
+abbrev pub for_turn : Until → Bool
+for_turn Event = false
+for_turn (For Firmware) = true
+for_turn (For Wake) = true
+for_turn (For End) = false
+
+-- whether wake ends it, too
+abbrev pub for_wake : Until → Bool
+for_wake Event = false
+for_wake (For Firmware) = false
+for_wake (For Wake) = true
+for_wake (For End) = false
 
 -- an actor's seat rests too
-abbrev pub resting : Rests → Actor → Rests
-resting r (Hart h) = record { harts = with_id r.harts h; clock = r.clock }
-resting r Clock = record { harts = r.harts; clock = true }
+abbrev pub resting : Rests → Actor → Until → Rests
+resting r (Hart h) until = record {
+  harts = with_id r.harts h;
+  events = with_bit r.events h (is_any until);
+  turns = with_bit r.turns h (for_turn until);
+  wakes = with_bit r.wakes h (for_wake until);
+  clock = r.clock;
+  clock_events = r.clock_events;
+}
+resting r Clock until = record { harts = r.harts; events = r.events; turns = r.turns; wakes = r.wakes; clock = true; clock_events = is_any until }
+
+-- the ids of a set that aren't in another
+abbrev pub less : List ℕ → List ℕ → List ℕ
+less ids others = ids_where (λ i. has ids i && not (has others i))
+
+-- these seats rest no more
+abbrev pub awake : Rests → Woken → Rests
+awake r w = record {
+  harts = less r.harts w.harts;
+  events = r.events;
+  turns = r.turns;
+  wakes = r.wakes;
+  clock = r.clock && not w.clock;
+  clock_events = r.clock_events;
+}
 
 -- Every seat of a board of so many harts rests: each hart's, and the clock's.
 pub record AllRest (harts : ℕ) (r : Rests) : Type 0 where
@@ -41,15 +85,26 @@ pub record Held : Type 0 where
 abbrev pub held : Course → Rests → Bool → Held
 held board rests ended = record { board = board; rests = rests; ended = ended }
 
+-- The actor's seat rests too, and was the last one or not.
+abbrev pub IsStay : Pause → (old new : Held) → Actor → Until → Type 0
+IsStay (Over r) old new a until = ⊥
+IsStay Waits old new a until =
+    (new ≡ held old.board (resting old.rests a until) false) × ¬ AllRest old.board.config.harts new.rests
+IsStay Last old new a until =
+    (new ≡ held old.board (resting old.rests a until) true) × AllRest old.board.config.harts new.rests
+
 -- What an actor's seat that has seen so many events is told when it would rest. Every rest is over just where the end was
--- called for or all rested before; else it has changed just where another number of events is there; else the seat rests too,
--- and was the last one or not.
+-- called for or all rested before; else it has changed just where another number of events is there; else the seat rests.
 abbrev pub IsPause : Pause → (old new : Held) → Actor → (seen : ℕ) → Type 0
 IsPause (Over rest.AllRest) old new a seen = (old.ended ≡ true) × (new ≡ old)
 IsPause (Over rest.Changed) old new a seen = (old.ended ≡ false) × (length old.board.past ≢ seen) × (new ≡ old)
-IsPause Waits old new a seen =
-    (old.ended ≡ false) × (length old.board.past ≡ seen) × (new ≡ held old.board (resting old.rests a) false)
-    × ¬ AllRest old.board.config.harts new.rests
-IsPause Last old new a seen =
-    (old.ended ≡ false) × (length old.board.past ≡ seen) × (new ≡ held old.board (resting old.rests a) true)
-    × AllRest old.board.config.harts new.rests
+IsPause Waits old new a seen = (old.ended ≡ false) × (length old.board.past ≡ seen) × IsStay Waits old new a Event
+IsPause Last old new a seen = (old.ended ≡ false) × (length old.board.past ≡ seen) × IsStay Last old new a Event
+
+-- The same of a seat that would rest for what it waits for, where this is what its hart shows: it has changed just where that
+-- has come.
+abbrev pub IsPauseFor : Pause → (old new : Held) → Actor → Awaits → (now : Option HartNow) → Type 0
+IsPauseFor (Over rest.AllRest) old new a awaits now = (old.ended ≡ true) × (new ≡ old)
+IsPauseFor (Over rest.Changed) old new a awaits now = (old.ended ≡ false) × (has_come_to awaits now ≡ true) × (new ≡ old)
+IsPauseFor Waits old new a awaits now = (old.ended ≡ false) × (has_come_to awaits now ≡ false) × IsStay Waits old new a (For awaits)
+IsPauseFor Last old new a awaits now = (old.ended ≡ false) × (has_come_to awaits now ≡ false) × IsStay Last old new a (For awaits)

@@ -1,17 +1,18 @@
-ghost use Rattle.std.specs.Prelude.{◌≡◌, ◌+◌, ◌<◌, ◌∷◌, ◌++◌, [], IfOk, IfErr, OnOk, OnErr, Ok, length, true};
+ghost use Rattle.std.specs.Prelude.{◌≡◌, ◌+◌, ◌<◌, ◌∷◌, ◌++◌, [], IfOk, IfErr, OnOk, OnErr, Ok, length, false, true};
 ghost use mathlib.Core.List.{IsPrefix};
 ghost use Rattle.board_core.specs.Replies.{answer, stepped};
 ghost use Rattle.board_lock.specs.Events.{IsActor, events_in};
 ghost use Rattle.board_lock.specs.Kept.{number_of};
-ghost use Rattle.board_lock.specs.Rests.{IsPause, held, none_rest, some_rest};
+ghost use Rattle.board_lock.specs.Rests.{IsPause, IsPauseFor, IsStay, held};
 ghost use Rattle.board_lock.specs.Seats.{seeing};
 ghost use Rattle.board_lock.specs.Views.{IsDone, IsRefused, IsView, Shows};
 
 use crate::receipts::Receipt;
-use crate::rests::{Rest, Rests};
+use crate::rests::{Awaits, Rest, Rests, Until};
 use crate::rooms::Room;
 use crate::seats::Seat;
 use crate::views::{HartNow, HartView};
+use crate::waking::has_come;
 use board_core::{Actor, Board, Event, Op, Refusal};
 use chronicle::Chronicle;
 use std::marker::{Model, PhantomData};
@@ -145,7 +146,7 @@ impl<K: Room> Desk<K> {
     }
 
     /// What hart `h` may do next.
-    fn hart_now(&self, h: u64) -> HartNow
+    pub(crate) fn hart_now(&self, h: u64) -> HartNow
         requires { h < K.opening.harts }
         ensures { Shows self.now.board h result }
     {
@@ -177,7 +178,35 @@ impl<K: Room> Desk<K> {
         if self.events() != seen {
             return Pause::Over(Rest::Changed);
         }
-        self.rests.insert(seat.actor);
+        self.stay(seat.actor, Until::Event)
+    }
+
+    /// The seat would rest until what it waits for has come. What its hart may do next is shown. No event happens.
+    pub(crate) fn rest_for(&mut self, seat: &mut Seat<K>, awaits: Awaits) -> (Pause, HartView)
+        ensures pause { IsPauseFor result.0 self.old self.new seat.old.actor awaits result.1.hart }
+        ensures view { IsView K.opening seat.new result.1 }
+        ensures seat { seat.new ≡ seeing seat.old (events_in self.old.board) }
+        ensures later { IsPrefix seat.old.saw seat.new.saw }
+    {
+        let shown = self.view(seat);
+        if self.ended {
+            return (Pause::Over(Rest::AllRest), shown);
+        }
+        if let Some(now) = &shown.hart
+            && has_come(awaits, now)
+        {
+            return (Pause::Over(Rest::Changed), shown);
+        }
+        (self.stay(seat.actor, Until::For(awaits)), shown)
+    }
+
+    /// The actor's seat rests, and all do if it was the last that didn't. No event happens.
+    fn stay(&mut self, actor: Actor, until: Until) -> Pause
+        requires acting { IsActor K.opening actor }
+        requires going { self.old.ended ≡ false }
+        ensures { IsStay result self.old self.new actor until }
+    {
+        self.rests.insert(actor, until);
         if !self.rests.is_all(self.board.config().harts) {
             return Pause::Waits;
         }
@@ -190,14 +219,6 @@ impl<K: Room> Desk<K> {
         ensures { self.new ≡ held self.old.board self.old.rests true }
     {
         self.ended = true;
-    }
-
-    /// No seat rests any more, since there is another event; and whether one did. No event happens.
-    pub(crate) fn wake(&mut self) -> bool
-        ensures answer { result ≡ some_rest self.old.rests }
-        ensures none { self.new ≡ held self.old.board none_rest self.old.ended }
-    {
-        self.rests.end()
     }
 
     /// An actor's number: a hart's id, and after those the clock's.

@@ -12,10 +12,11 @@ mod rooms;
 mod seats;
 mod shared;
 mod views;
+mod waking;
 
 pub use receipts::Receipt;
 pub use records::{Record, later_calls_are_later};
-pub use rests::Rest;
+pub use rests::{Awaits, Rest};
 pub use rooms::{NewRoom, Room};
 pub use seats::Seat;
 pub use shared::{NotAll, SharedBoard};

@@ -1,6 +1,7 @@
 ghost use Rattle.std.specs.Prelude.{◌≡◌, ◌↔◌, ℕ, ◌<◌, ◌≤◌, IsTrue};
 ghost use Rattle.board_core.specs.declared.event.Actor.TheVariants.{Hart};
-ghost use Rattle.board_lock.specs.Rests.{AllRest, IsRests, none_rest, resting, some_rest};
+ghost use Rattle.hart_mask.specs.Ids.{IsIdSet};
+ghost use Rattle.board_lock.specs.Rests.{AllRest, IsRests, awake, for_turn, for_wake, is_any, less, none_rest, resting};
 
 use board_core::{Actor, HartSet};
 
@@ -13,10 +14,72 @@ pub enum Rest {
     AllRest,
 }
 
-/// Which seats rest at the present number of events.
+/// What a seat that rests waits for, besides the end of all rests.
+#[derive(Clone, Copy, Debug, PartialEq, Eq)]
+pub enum Awaits {
+    /// The firmware of its hart has something to do: a fence to serve, a call to end, or a state that goes on.
+    Firmware,
+    /// That, or wake: its hart's guest is at a WFI.
+    Wake,
+    /// Nothing.
+    End,
+}
+
+/// What ends a seat's rest, besides the end of all rests.
+#[derive(Clone, Copy, Debug)]
+pub(crate) enum Until {
+    /// Any event.
+    Event,
+    /// What it waits for has come to its hart.
+    For(Awaits),
+}
+
+impl Until {
+    /// Whether any event ends the rest.
+    fn is_any(self) -> bool
+        ensures { result ≡ is_any self }
+    {
+        matches!(self, Until::Event)
+    }
+
+    /// Whether its hart's turn ends it.
+    fn is_turn(self) -> bool
+        ensures { result ≡ for_turn self }
+    {
+        matches!(self, Until::For(Awaits::Firmware | Awaits::Wake))
+    }
+
+    /// Whether its hart's wake ends it, too.
+    fn is_wake(self) -> bool
+        ensures { result ≡ for_wake self }
+    {
+        matches!(self, Until::For(Awaits::Wake))
+    }
+}
+
+/// Which seats rest, and until what.
 #[derive(Clone, Copy, Debug)]
 pub(crate) struct Rests {
+    /// The harts whose seats rest.
     pub(crate) harts: HartSet,
+    /// Of these, those whose rest any event ends.
+    pub(crate) events: HartSet,
+    /// And those whose rest their hart's turn ends.
+    pub(crate) turns: HartSet,
+    /// And of these, those whose rest wake ends, too.
+    pub(crate) wakes: HartSet,
+    /// Whether the clock's seat rests.
+    pub(crate) clock: bool,
+    /// And whether any event ends that.
+    pub(crate) clock_events: bool,
+}
+
+/// Seats whose rest is over.
+#[derive(Clone, Copy, Debug)]
+pub(crate) struct Woken {
+    /// The harts.
+    pub(crate) harts: HartSet,
+    /// Whether it is the clock's, too.
     pub(crate) clock: bool,
 }
 
@@ -26,29 +89,40 @@ impl Rests {
     {
         Rests {
             harts: HartSet::new(),
+            events: HartSet::new(),
+            turns: HartSet::new(),
+            wakes: HartSet::new(),
             clock: false,
+            clock_events: false,
         }
     }
 
     /// The actor's seat rests.
-    pub(crate) fn insert(&mut self, actor: Actor)
+    pub(crate) fn insert(&mut self, actor: Actor, until: Until)
         requires { (h : ℕ) → actor ≡ Hart h → h < 128 }
-        ensures { self.new ≡ resting self.old actor }
+        ensures { self.new ≡ resting self.old actor until }
     {
         match actor {
-            Actor::Hart(h) => self.harts.insert(h),
-            Actor::Clock => self.clock = true,
+            Actor::Hart(h) => {
+                self.harts.insert(h);
+                self.events.set(h, until.is_any());
+                self.turns.set(h, until.is_turn());
+                self.wakes.set(h, until.is_wake());
+            }
+            Actor::Clock => {
+                self.clock = true;
+                self.clock_events = until.is_any();
+            }
         }
     }
 
-    /// No seat rests, since there is another event; and whether one did.
-    pub(crate) fn end(&mut self) -> bool
-        ensures answer { result ≡ some_rest self.old }
-        ensures none { self.new ≡ none_rest }
+    /// These seats rest no more.
+    pub(crate) fn end(&mut self, woken: Woken)
+        requires { IsIdSet self.old.harts }
+        ensures { self.new ≡ awake self.old woken }
     {
-        let rested = self.clock || !self.harts.is_empty();
-        *self = Rests::new();
-        rested
+        self.harts = less(self.harts, woken.harts);
+        self.clock = self.clock && !woken.clock;
     }
 
     /// Whether so many harts rest, and the clock.
@@ -59,4 +133,17 @@ impl Rests {
     {
         self.clock && self.harts == HartSet::below(harts)
     }
+}
+
+/// The harts of a set that aren't in another.
+fn less(harts: HartSet, others: HartSet) -> HartSet
+    requires { IsIdSet harts }
+    ensures { result ≡ less harts others }
+{
+    let mut kept = harts;
+    let mut left = others;
+    while let Some(h) = left.pop_first() {
+        kept.remove(h);
+    }
+    kept
 }

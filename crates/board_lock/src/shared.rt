@@ -1,11 +1,13 @@
-ghost use Rattle.std.specs.Prelude.{◌≡◌, ◌≢◌, ◌+◌, ◌↔◌, ◌∷◌, ◌++◌, [], All, IfOk, IfErr, IsOk, IsErrOf, OnOk, OnErr, length};
+ghost use Rattle.std.specs.Prelude.{◌≡◌, ◌≢◌, ℕ, ◌+◌, ◌<◌, ◌≤◌, ◌↔◌, ◌∷◌, ◌++◌, [], All, IfOk, IfErr, IfSome, IsOk, IsErrOf, OnOk, OnErr, length, true};
 ghost use mathlib.Core.List.{IsPrefix};
 ghost use Rattle.board_core.specs.declared.config.BuildFault.TheVariants.{BadConfig};
 ghost use Rattle.board_core.specs.Limits.{IsGood};
 ghost use Rattle.board_core.specs.Replies.{IsLegal};
-ghost use Rattle.board_lock.specs.Events.{events_in, events_of, ops_of};
+ghost use Rattle.hart_mask.specs.Ids.{has};
+ghost use Rattle.board_lock.specs.Events.{IsActor, events_in, events_of, ops_of};
 ghost use Rattle.board_lock.specs.Seats.{IsOneEach, new_seats, seeing};
 ghost use Rattle.board_lock.specs.Views.{IsDone, IsRefused, IsView};
+ghost use Rattle.board_lock.specs.Coming.{has_come_to};
 ghost use Rattle.board_lock.specs.declared.rests.Rest.TheVariants.{Changed};
 
 use crate::closing::{is_one_each, settle};
@@ -13,12 +15,12 @@ use crate::desk::{Desk, Pause};
 use crate::opening::open_desk;
 use crate::receipts::Receipt;
 use crate::records::Record;
-use crate::rests::Rest;
+use crate::rests::{Awaits, Rest, Woken};
 use crate::rooms::{NewRoom, Room};
 use crate::seats::Seat;
 use crate::views::HartView;
-use board_core::{BuildFault, Config, Op, Refusal};
-use std::alloc::Global;
+use board_core::{Actor, BuildFault, Config, HartSet, Op, Refusal};
+use std::alloc::{AllocError, Global};
 use std::marker::PhantomData;
 use std::sync::{Condvar, Mutex, MutexGuard, Wait};
 
@@ -27,8 +29,10 @@ use std::sync::{Condvar, Mutex, MutexGuard, Wait};
 pub struct SharedBoard<K: Room> {
     config: Config,
     desk: Mutex<Desk<K>>,
-    changed: Condvar,
+    /// What each seat rests by: those of the harts in order, and then the clock's.
+    bells: Vec<Condvar>,
     ghost opening: { config ≡ K.opening },
+    ghost belled: { length bells.items ≡ config.harts + 1 },
     ghost good: { IsGood config },
     ghost whole: { K.all ≡ K.opening.harts + 1 },
 }
@@ -53,10 +57,13 @@ impl<K: Room> SharedBoard<K> {
     {
         let config = room.config;
         let (desk, seats) = open_desk(alloc, room)?;
+        let Ok(bells) = bells(alloc, config.harts) else {
+            return Err(BuildFault::NoMemory);
+        };
         let shared = SharedBoard {
             config,
             desk: Mutex::new(desk),
-            changed: Condvar::new(),
+            bells,
         };
         Ok((shared, seats))
     }
@@ -76,7 +83,7 @@ impl<K: Room> SharedBoard<K> {
     {
         let mut desk = self.desk.lock(rt);
         let told = desk.call(seat, op);
-        self.let_go(desk, told.is_ok());
+        self.let_go(desk, op, told.is_ok());
         told
     }
 
@@ -100,17 +107,48 @@ impl<K: Room> SharedBoard<K> {
     {
         let mut desk = self.desk.lock(rt);
         let told = desk.call_and_view(seat, op);
-        self.let_go(desk, told.is_ok());
+        self.let_go(desk, op, told.is_ok());
         told
     }
 
-    /// Lets go of the lock, and wakes all that rest where there is another event.
-    fn let_go(&self, desk: MutexGuard<'_, Desk<K>>, has_more: bool) {
+    /// Lets go of the lock, and wakes those whose rest the operation ends where it was accepted.
+    fn let_go(&self, desk: MutexGuard<'_, Desk<K>>, op: Op, has_more: bool) {
         let mut desk = desk;
-        let rested = has_more && desk.wake();
-        drop(desk);
-        if rested {
-            self.changed.notify_all();
+        if has_more {
+            let woken = desk.wake(op);
+            drop(desk);
+            self.ring(woken);
+        }
+    }
+
+    /// Wakes these seats' threads.
+    fn ring(&self, woken: Woken)
+        requires { (h : ℕ) → has woken.harts h ≡ true → h < K.opening.harts }
+    {
+        let mut left = woken.harts;
+        while let Some(h) = left.pop_first() {
+            self.bells[h as usize].notify_one();
+        }
+        if woken.clock {
+            self.bells[self.config.harts as usize].notify_one();
+        }
+    }
+
+    /// Wakes the threads of all seats.
+    fn ring_all(&self) {
+        self.ring(Woken {
+            harts: HartSet::below(self.config.harts),
+            clock: true,
+        });
+    }
+
+    /// What the actor's seat rests by.
+    fn bell(&self, actor: Actor) -> &Condvar
+        requires { IsActor K.opening actor }
+    {
+        match actor {
+            Actor::Hart(h) => &self.bells[h as usize],
+            Actor::Clock => &self.bells[self.config.harts as usize],
         }
     }
 
@@ -135,12 +173,38 @@ impl<K: Room> SharedBoard<K> {
             match desk.rest(seat, seen) {
                 Pause::Over(rest) => return rest,
                 Pause::Last => {
-                    self.changed.notify_all();
+                    drop(desk);
+                    self.ring_all();
                     return Rest::AllRest;
                 }
                 Pause::Waits => {}
             }
-            desk = self.changed.wait(rt, desk);
+            desk = self.bell(seat.actor()).wait(rt, desk);
+        }
+        unreachable!()
+    }
+
+    /// Waits until what it waits for has come to the seat's hart, and shows what that may do next; None where every seat rests,
+    /// or the end was called for. The lock is given back while it waits, and only events that may concern the hart wake it.
+    pub fn rest_for<R: Wait>(&self, rt: &R, seat: &mut Seat<K>, awaits: Awaits) -> Option<HartView>
+        ensures view { IfSome result (λ v. IsView K.opening seat.new v) }
+        ensures come { IfSome result (λ v. has_come_to awaits v.hart ≡ true) }
+        ensures seat { seat.new ≡ seeing seat.old seat.new.saw }
+        ensures later { IsPrefix seat.old.saw seat.new.saw }
+    {
+        let mut desk = self.desk.lock(rt);
+        for _ in rt.forever() {
+            let (pause, view) = desk.rest_for(seat, awaits);
+            match pause {
+                Pause::Over(Rest::Changed) => return Some(view),
+                Pause::Over(Rest::AllRest) => return None,
+                Pause::Last => {
+                    drop(desk);
+                    self.ring_all();
+                    return None;
+                }
+                Pause::Waits => desk = self.bell(seat.actor()).wait(rt, desk),
+            }
         }
         unreachable!()
     }
@@ -148,7 +212,7 @@ impl<K: Room> SharedBoard<K> {
     /// Ends every rest, those that will be asked for too.
     pub fn end(&self, rt: &impl Wait) {
         self.desk.lock(rt).end();
-        self.changed.notify_all();
+        self.ring_all();
     }
 
     /// Takes the board from behind its lock, with all seats: the record, in which each receipt stands.
@@ -168,4 +232,16 @@ impl<K: Room> SharedBoard<K> {
         }
         Ok(settle(self.desk.into_inner(), seats))
     }
+}
+
+/// What the seats of so many harts rest by, and the clock's.
+fn bells(alloc: Global, harts: u64) -> Result<Vec<Condvar>, AllocError>
+    requires { harts ≤ 128 }
+    ensures { IfOk result (λ bells. length bells.items ≡ harts + 1) }
+{
+    let mut bells = Vec::with_capacity(alloc, harts as usize + 1)?;
+    while (bells.len() as u64) <= harts {
+        bells.push(Condvar::new())?;
+    }
+    Ok(bells)
 }

@@ -1,0 +1,72 @@
+-- Whom an event wakes, of the seats that rest (profile).
+use Rattle.std.specs.Prelude.{ℕ, Bool, ◌&&◌, ◌||◌, if◌then◌else◌, nat_lt, List, [], length, Option, Some, None}
+use Rattle.sbi_abi.specs.declared.call.Call.{Call}
+use Rattle.sbi_abi.specs.declared.call.Call.TheVariants as calls
+use Rattle.sbi_abi.specs.Calls.{call_of}
+use Rattle.hart_mask.specs.HartList.{targets_of}
+use Rattle.hart_mask.specs.Ids.{has, ids_below, ids_where, with_id}
+use Rattle.board_core.specs.declared.event.Op.{Op}
+use Rattle.board_core.specs.declared.event.Op.TheVariants.{Ecall, Serve, Tick}
+use Rattle.board_core.specs.Course.{Course}
+use Rattle.board_core.specs.Fences.{outstanding, waiting}
+use Rattle.board_core.specs.Interrupts.{wake}
+use Rattle.board_core.specs.States.{state}
+use Rattle.board_lock.specs.Coming.{has_come}
+use Rattle.board_lock.specs.Rests.{Held}
+use Rattle.board_lock.specs.declared.rests.Awaits.TheVariants.{Firmware, Wake}
+use Rattle.board_lock.specs.declared.rests.Woken.{Woken}
+use Rattle.board_lock.specs.declared.views.HartNow.{HartNow}
+
+abbrev pub all_or_none : Option (List ℕ) → List ℕ
+all_or_none (Some ids) = ids
+all_or_none None = []
+
+-- the harts that a hart list names; none where it is refused
+abbrev pub named : (harts mask base : ℕ) → List ℕ
+named harts mask base = all_or_none (targets_of mask base harts)
+
+-- the set of one hart, if there is such a hart
+abbrev pub alone : (harts h : ℕ) → List ℕ
+alone harts h = if nat_lt h harts then with_id [] h else []
+
+-- The harts whose seats a call may concern, besides that of its caller, on a board of so many: an interrupt and a fence those
+-- that it names, a start the one that it starts, and a stop and a reset all.
+abbrev pub concerned_by : (harts : ℕ) → Call → List ℕ
+concerned_by harts (calls.SendIpi mask base) = named harts mask base
+concerned_by harts (calls.RemoteFenceI mask base) = named harts mask base
+concerned_by harts (calls.RemoteSfenceVma mask base start size) = named harts mask base
+concerned_by harts (calls.RemoteSfenceVmaAsid mask base start size asid) = named harts mask base
+concerned_by harts (calls.HartStart h addr opaque) = alone harts h
+concerned_by harts calls.HartStop = ids_below harts
+concerned_by harts (calls.SystemReset reset) = ids_below harts
+concerned_by harts call = []
+
+-- The harts whose seats an operation may concern, besides that of its actor: a call those above, and a served fence and a tick
+-- all.
+abbrev pub concerned : (harts : ℕ) → Op → List ℕ
+concerned harts (Ecall regs) = concerned_by harts (call_of regs)
+concerned harts Serve = ids_below harts
+concerned harts (Tick n) = ids_below harts
+concerned harts op = []
+
+-- what hart h may do next
+abbrev pub now_of : Course → ℕ → HartNow
+now_of b h = record {
+  state = state b.config b.past h;
+  outstanding = outstanding b.config b.past h;
+  waiting = length (waiting b.config b.past h);
+  wake = wake b.config b.past h;
+}
+
+-- whether what hart h's seat waits for has come, where it waits for a turn
+abbrev pub comes_to : Held → ℕ → Bool
+comes_to d h = has_come (if has d.rests.wakes h then Wake else Firmware) (now_of d.board h)
+
+-- The seats that rest and are woken after an event of this operation: those whose rest any event ends, and of those that wait
+-- for a turn, and whom it may concern, those to whom that has come.
+abbrev pub woken : Held → Op → Woken
+woken d op = record {
+  harts = ids_where (λ h. has d.rests.harts h
+      && (has d.rests.events h || (has d.rests.turns h && (has (concerned d.board.config.harts op) h && comes_to d h))));
+  clock = d.rests.clock && d.rests.clock_events;
+}

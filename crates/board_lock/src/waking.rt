@@ -1,0 +1,145 @@
+//! Whom an event wakes.
+
+ghost use Rattle.std.specs.Prelude.{◌≡◌, ℕ, ◌<◌, ◌≤◌, ◌&&◌, true};
+ghost use Rattle.hart_mask.specs.Ids.{has, ids_where};
+ghost use Rattle.board_lock.specs.Rests.{awake, held};
+ghost use Rattle.board_lock.specs.Coming.{has_come, has_turn, has_wake};
+ghost use Rattle.board_lock.specs.Waking.{alone, comes_to, concerned, concerned_by, named, woken};
+
+use crate::desk::Desk;
+use crate::rests::{Awaits, Woken};
+use crate::rooms::Room;
+use crate::views::HartNow;
+use board_core::{HartSet, Op};
+use hart_mask::targets;
+use sbi_abi::{Call, decode};
+
+impl<K: Room> Desk<K> {
+    /// There is another event, of this operation: the seats whose rest it ends rest no more. No event happens.
+    pub(crate) fn wake(&mut self, op: Op) -> Woken
+        ensures answer { result ≡ woken self.old op }
+        ensures left { self.new ≡ held self.old.board (awake self.old.rests result) self.old.ended }
+        ensures below { (h : ℕ) → has result.harts h ≡ true → h < K.opening.harts }
+    {
+        let rests = self.rests;
+        let turns = rests.harts.intersection(rests.turns);
+        let concerned = concerned(op, self.board.config().harts);
+        let come = self.come_to(turns.intersection(concerned));
+        let woken = Woken {
+            harts: rests.harts.intersection(rests.events).union(come),
+            clock: rests.clock && rests.clock_events,
+        };
+        self.rests.end(woken);
+        woken
+    }
+
+    /// The harts of a set to whose seats has come what they wait for.
+    fn come_to(&self, harts: HartSet) -> HartSet
+        requires { (h : ℕ) → has harts h ≡ true → h < K.opening.harts }
+        ensures { result ≡ ids_where (λ h. has harts h && comes_to self.now h) }
+    {
+        let mut left = harts;
+        let mut come = HartSet::new();
+        while let Some(h) = left.pop_first() {
+            if self.comes_to(h) {
+                come.insert(h);
+            }
+        }
+        come
+    }
+
+    /// Whether what hart `h`'s seat waits for has come, where it waits for a turn.
+    fn comes_to(&self, h: u64) -> bool
+        requires { h < K.opening.harts }
+        ensures { result ≡ comes_to self.now h }
+    {
+        let awaits = if self.rests.wakes.contains(h) {
+            Awaits::Wake
+        } else {
+            Awaits::Firmware
+        };
+        has_come(awaits, &self.hart_now(h))
+    }
+}
+
+/// Whether what a hart's seat waits for has come.
+pub(crate) fn has_come(awaits: Awaits, now: &HartNow) -> bool
+    ensures { result ≡ has_come awaits now.now }
+{
+    match awaits {
+        Awaits::Firmware => has_turn(now),
+        Awaits::Wake => has_turn(now) || has_wake(now),
+        Awaits::End => false,
+    }
+}
+
+/// Whether the firmware of a hart has something to do: a fence to serve, a call to end, or a state that goes on.
+fn has_turn(now: &HartNow) -> bool
+    ensures { result ≡ has_turn now.now }
+{
+    if now.waiting > 0 && now.state.is_interruptible() {
+        return true;
+    }
+    match now.outstanding {
+        Some(harts) => harts.is_empty(),
+        None => now.state.goes_on(now.wake),
+    }
+}
+
+/// Whether a hart's guest goes on from a WFI.
+fn has_wake(now: &HartNow) -> bool
+    ensures { result ≡ has_wake now.now }
+{
+    now.outstanding.is_none() && now.state.is_started() && now.wake
+}
+
+/// The harts whose seats an operation may concern, besides that of its actor, on a board of so many.
+fn concerned(op: Op, harts: u64) -> HartSet
+    requires { harts ≤ 128 }
+    ensures { result ≡ concerned harts op }
+{
+    match op {
+        Op::Ecall(regs) => concerned_by(decode(&regs), harts),
+        Op::Serve | Op::Tick(_) => HartSet::below(harts),
+        _ => HartSet::new(),
+    }
+}
+
+/// The harts whose seats a call may concern, besides that of its caller.
+fn concerned_by(call: Call, harts: u64) -> HartSet
+    requires { harts ≤ 128 }
+    ensures { result ≡ concerned_by harts call }
+{
+    match call {
+        Call::SendIpi { mask, base }
+        | Call::RemoteFenceI { mask, base }
+        | Call::RemoteSfenceVma { mask, base, .. }
+        | Call::RemoteSfenceVmaAsid { mask, base, .. } => named(mask, base, harts),
+        Call::HartStart { hart, .. } => alone(hart, harts),
+        Call::HartStop | Call::SystemReset(_) => HartSet::below(harts),
+        _ => HartSet::new(),
+    }
+}
+
+/// The harts that a hart list names; none where it is refused.
+fn named(mask: u64, base: u64, harts: u64) -> HartSet
+    requires { harts ≤ 128 }
+    ensures { result ≡ named harts mask base }
+{
+    match targets(mask, base, harts) {
+        Ok(set) => set,
+        Err(_) => HartSet::new(),
+    }
+}
+
+/// The set of this hart alone; the empty one where there is no such hart.
+fn alone(hart: u64, harts: u64) -> HartSet
+    requires { harts ≤ 128 }
+    ensures { result ≡ alone harts hart }
+{
+    let mut set = HartSet::new();
+    if hart < harts {
+        set.insert(hart);
+    }
+    set
+}
