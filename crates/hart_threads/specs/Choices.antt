@@ -4,6 +4,8 @@ use Rattle.board_core.specs.declared.event.Op.{Op}
 use Rattle.board_core.specs.declared.event.Op.TheVariants.{Poll, Serve, Advance, Wfi}
 use Rattle.hsm.specs.States.{goes_on, is_interruptible, is_started}
 use Rattle.board_core.specs.Refusals.{IsAccepted, Situation, first_that_holds}
+use Rattle.board_lock.specs.declared.rests.Awaits.{Awaits}
+use Rattle.board_lock.specs.declared.rests.Awaits.TheVariants.{Firmware, Wake, End}
 use Rattle.board_lock.specs.declared.views.HartNow.{HartNow}
 use Rattle.board_lock.specs.declared.views.HartView.{HartView}
 use Rattle.hart_threads.specs.declared.met.Met.{Met}
@@ -55,6 +57,17 @@ choice_of (Some now) guest = first_choice now guest
 abbrev pub next_choice : HartView → Met → (guest : Option Op) → Option Op
 next_choice view Nothing guest = if view.is_off then None else choice_of view.hart guest
 next_choice view met guest = None
+
+abbrev pub awaited_by : (guest : Option Op) → Awaits
+awaited_by None = Firmware
+awaited_by (Some Wfi) = Wake
+awaited_by (Some op) = Firmware
+
+-- What a hart's thread waits for that does nothing: for its firmware's turn, and for wake where its guest is at a Wfi; and for
+-- nothing without power, nor after it met something.
+abbrev pub awaited : HartView → Met → (guest : Option Op) → Awaits
+awaited view Nothing guest = if view.is_off then End else awaited_by guest
+awaited view met guest = End
 
 -- A thread sees the situation of its hart.
 pub record Sees (s : Situation) (now : HartNow) : Type 0 where

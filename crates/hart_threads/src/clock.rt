@@ -10,7 +10,7 @@ use crate::met::Met;
 use crate::plans::Plan;
 use crate::work::{Work, Worked};
 use board_core::Op;
-use board_lock::{Rest, Seat};
+use board_lock::{Awaits, Seat};
 use std::sync::Wait;
 
 /// The clock's thread: its ticks in order, up to one that is refused, and then rest.
@@ -26,12 +26,7 @@ pub(crate) fn tick<K: Plan, G: Gate, R: Wait>(
 {
     let mut seat = seat;
     let met = tick_all(rt, work, &mut seat);
-    for _ in rt.forever() {
-        let seen = work.board.view(rt, &mut seat).events;
-        if work.board.rest(rt, &mut seat, seen) == Rest::AllRest {
-            break;
-        }
-    }
+    work.board.rest_for(rt, &mut seat, Awaits::End);
     Worked { seat, met }
 }
 

@@ -2,7 +2,8 @@ ghost use Rattle.std.specs.Prelude.{◌≡◌, ◌≢◌, [], reverse};
 ghost use Rattle.board_core.specs.declared.event.Actor.TheVariants.{Clock};
 ghost use Rattle.board_lock.specs.Events.{IsActor};
 ghost use Rattle.board_lock.specs.Seats.{sitting};
-ghost use Rattle.hart_threads.specs.Choices.{next_choice};
+ghost use Rattle.board_lock.specs.Views.{IsView};
+ghost use Rattle.hart_threads.specs.Choices.{awaited, next_choice};
 ghost use Rattle.hart_threads.specs.Guests.{left_of, next_of};
 ghost use Rattle.hart_threads.specs.Works.{Goes, HasTurn, IsGate, WorkedAt, task};
 ghost use Rattle.hart_threads.specs.declared.met.Met.TheVariants.{Nothing};
@@ -14,7 +15,7 @@ use crate::met::Met;
 use crate::plans::Plan;
 use crate::work::{Work, Worked};
 use board_core::Op;
-use board_lock::{HartView, Rest, Seat};
+use board_lock::{Awaits, HartView, Seat};
 use std::sync::Wait;
 
 /// A hart's thread: by what it sees it serves, polls, advances, does the next operation of its guest's block, or rests, until
@@ -34,11 +35,16 @@ pub(crate) fn follow<K: Plan, G: Gate, R: Wait>(
     let mut seat = seat;
     let mut guest = Guest::new();
     let mut met = Met::Nothing;
+    let mut view = work.board.view(rt, &mut seat);
     for _ in rt.forever() {
-        let view = work.board.view(rt, &mut seat);
         if let Some(op) = next(&view, met, &guest) {
-            met = attempt(rt, work, &mut seat, &mut guest, op);
-        } else if work.board.rest(rt, &mut seat, view.events) == Rest::AllRest {
+            met = attempt(rt, work, &mut seat, &mut guest, &mut view, op);
+        } else if let Some(now) = work
+            .board
+            .rest_for(rt, &mut seat, awaited(&view, met, &guest))
+        {
+            view = now;
+        } else {
             break;
         }
     }
@@ -59,28 +65,49 @@ fn next(view: &HartView, met: Met, guest: &Guest<'_>) -> Option<Op>
     }
 }
 
+/// What a hart's thread waits for that does nothing by what it sees: nothing without power, nor after it met something.
+fn awaited(view: &HartView, met: Met, guest: &Guest<'_>) -> Awaits
+    ensures { result ≡ awaited view.now met (next_of (left_of guest.now)) }
+{
+    match met {
+        Met::FullHistory | Met::ClosedGate => Awaits::End,
+        Met::Nothing if view.is_off => Awaits::End,
+        Met::Nothing => match guest.next() {
+            Some(Op::Wfi) => Awaits::Wake,
+            _ => Awaits::Firmware,
+        },
+    }
+}
+
 /// An operation whose turn it is, if the gate lets its hart go on; and what the thread met.
 fn attempt<'a, K: Plan, G: Gate, R: Wait>(
     rt: &R,
     work: &Work<'a, K, G>,
     seat: &mut Seat<K>,
     guest: &mut Guest<'a>,
+    view: &mut HartView,
     op: Op,
 ) -> Met
     requires gate { IsGate (G.lets work.now.gate.now) K.lets }
     requires going { Goes (task K.lets K.opening K.blocks K.ticks) seat.old (left_of guest.old) Nothing }
     requires turn { HasTurn (task K.lets K.opening K.blocks K.ticks) seat.old.actor seat.old.count (reverse seat.old.saw) op }
+    requires view { IsView K.opening seat.old view.old }
     ensures actor { seat.new.actor ≡ seat.old.actor }
     ensures going { Goes (task K.lets K.opening K.blocks K.ticks) seat.new (left_of guest.new) result }
+    ensures view { IsView K.opening seat.new view.new }
 {
     if !work.is_let(seat) {
         return Met::ClosedGate;
     }
-    match work.board.call(rt, seat, op) {
-        Ok(receipt) => {
+    match work.board.call_and_view(rt, seat, op) {
+        Ok((receipt, now)) => {
             guest.sees(work.program.blocks, op, receipt.reply());
+            *view = now;
             Met::Nothing
         }
-        Err(refusal) => Met::by_refusal(refusal),
+        Err(refusal) => {
+            *view = work.board.view(rt, seat);
+            Met::by_refusal(refusal)
+        }
     }
 }

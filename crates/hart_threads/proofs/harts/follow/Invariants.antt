@@ -1,4 +1,5 @@
 use Rattle.std.specs.Prelude.{◌≡◌}
+use Rattle.board_lock.specs.Views.{IsView}
 use Rattle.hart_threads.specs.Guests.{left_of}
 use Rattle.hart_threads.specs.Works.{Goes, task}
 use Rattle.hart_threads.proofs.harts.follow.Given as goal
@@ -7,3 +8,4 @@ abbrev pub invariant-loop : goal.invariant-loop
 invariant-loop g l =
     (l.seat.actor ≡ l.fn.seat.actor)
     × Goes (task g.K.Plan.lets g.K.Room.opening g.K.Plan.blocks g.K.Plan.ticks) l.seat (left_of l.guest) l.met
+    × IsView g.K.Room.opening l.seat l.view
