@@ -13,6 +13,7 @@ The programs are of --harts harts (default 2, 8, 32, 128), of which hart 0 start
 - *independent*: each reads sip and stores to a word of its own, by turns: no thread has to wait for another.
 - *ipis*: each sends IPIs to all harts and clears its own, by turns: the same, but each IPI goes to all.
 - *fences*: each asks fences of all addresses of all harts, one after another: a call returns when all have served it.
+- *alone*: hart 0 alone is started; it interrupts itself, suspends and resumes, over and over, beside harts that do nothing.
 
 An event is a line of the record. Events a second are by the clock on the wall, for the whole process: the file is read, the
 threads are started, and the record is written in it. The processor's time, in user and system and of all threads, is beside
@@ -63,6 +64,10 @@ def fences(hart, turn):
     return f"ecall 0x52464e43 1 0 {ALL}"
 
 
+def alone(hart, turn):
+    return ("ecall 0x735049 0 1 0", "ecall 0x48534d 3 0", "clearssip")[turn % 3]
+
+
 def one_event(harts):
     return 1
 
@@ -72,8 +77,18 @@ def fence_events(harts):
     return harts + 1
 
 
+def sleep_events(harts):
+    """Of three operations one is a suspend, with three steps of the firmware."""
+    return 2
+
+
 # Each with the events of an operation, and about how many there are in sum.
-PROGRAMS = ((independent, one_event, 500_000), (ipis, one_event, 300_000), (fences, fence_events, 150_000))
+PROGRAMS = (
+    (independent, one_event, 500_000),
+    (ipis, one_event, 300_000),
+    (fences, fence_events, 150_000),
+    (alone, sleep_events, 30_000),
+)
 
 
 def lines_of(program, harts, operations):
@@ -84,12 +99,20 @@ def lines_of(program, harts, operations):
         yield from (program(hart, turn) for turn in range(operations))
 
 
+def lines_alone(operations):
+    """Each round is of three operations."""
+    yield f"at {BASE:#x}"
+    yield "sie 0x2"
+    yield from (alone(0, turn) for turn in range(operations // 3 * 3))
+
+
 def written(folder, program, harts, operations, most):
     """The file of a program, which has at most so many events."""
     path = os.path.join(folder, f"{program.__name__}-{harts}.program")
+    lines = lines_alone(operations) if program is alone else lines_of(program, harts, operations)
     with open(path, "w") as file:
         file.write(f"board {harts} {PAGES} {most} 0 {BASE:#x} 0\n")
-        file.writelines(line + "\n" for line in lines_of(program, harts, operations))
+        file.writelines(line + "\n" for line in lines)
     return path
 
 
@@ -117,7 +140,7 @@ def events_of(program, output, is_exact, most):
     with open(output, "rb") as file:
         file.seek(-len("# end quiet\n"), os.SEEK_END)
         is_quiet = file.read() == b"# end quiet\n"
-    if not agreed or not is_quiet or is_exact and int(agreed.group(1)) != most:
+    if not agreed or not is_quiet or is_exact and int(agreed.group(1)) != most - 1:
         sys.exit(f"{output}: check {said!r}, quiet {is_quiet}")
     return int(agreed.group(1))
 
@@ -189,8 +212,9 @@ def print_rows(folder, pair, chosen):
         if chosen.programs and program.__name__ not in chosen.programs:
             continue
         for harts in chosen.harts:
-            operations = max(1, total // (harts * events_each(harts)))
-            most = 2 * harts - 1 + harts * operations * events_each(harts)
+            busy = 1 if program is alone else harts
+            operations = max(1, total // (busy * events_each(harts)))
+            most = 2 * harts + busy * operations * events_each(harts)
             path = written(folder, program, harts, operations, most)
             # Of fences, those aren't asked of a hart that wasn't entered yet.
             is_exact = events_each is one_event
