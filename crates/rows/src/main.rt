@@ -24,6 +24,8 @@ use crate::devices::Task;
 use crate::row::{Row, check, check_cases, check_outcomes, check_text, check_traces};
 use anyhow::{Context, Result};
 use std::rt::{Env, Files};
+use std::sync::Wait;
+use std::thread::Threads;
 use std::{env, fs};
 
 fn main(rt: HostRuntime) -> Result<()> {
@@ -36,7 +38,7 @@ fn main(rt: HostRuntime) -> Result<()> {
 }
 
 /// Shows what no script can.
-fn show<R: AllocGlobal + Print + Eprint>(rt: &R) -> Result<()> {
+fn show<R: AllocGlobal + Print + Eprint + Threads + Wait + Sync>(rt: &R) -> Result<()> {
     components::show_sets(rt)?;
     components::show_software_interrupts(rt)?;
     components::show_timers(rt)?;
@@ -55,7 +57,8 @@ fn show<R: AllocGlobal + Print + Eprint>(rt: &R) -> Result<()> {
     devices::show_calls(rt)?;
     devices::show_pieces(rt)?;
     show_failures(rt, Task::Replay, "replay")?;
-    show_failures(rt, Task::Check, "check")
+    show_failures(rt, Task::Check, "check")?;
+    show_failures(rt, Task::Run, "run")
 }
 
 /// Shows what `Debug` writes of the types whose fields are private.
@@ -70,9 +73,13 @@ fn show_private<R: AllocGlobal + Print>(rt: &R) -> Result<()> {
 }
 
 /// Shows how many reads and writes a task makes, each of which failed in turn.
-fn show_failures<R: AllocGlobal + Print>(rt: &R, task: Task, name: &str) -> Result<()> {
-    let reads = devices::check_reads(rt.alloc(), task)?;
-    let writes = devices::check_writes(rt.alloc(), task)?;
+fn show_failures<R: AllocGlobal + Print + Threads + Wait + Sync>(
+    rt: &R,
+    task: Task,
+    name: &str,
+) -> Result<()> {
+    let reads = devices::check_reads(rt, task)?;
+    let writes = devices::check_writes(rt, task)?;
     println!(rt; "{name}: {reads} reads, {writes} writes")?;
     Ok(())
 }
