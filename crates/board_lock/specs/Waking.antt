@@ -2,6 +2,12 @@
 use Rattle.std.specs.Prelude.{ℕ, Bool, ◌&&◌, ◌||◌, if◌then◌else◌, nat_lt, List, [], length, Option, Some, None}
 use Rattle.sbi_abi.specs.declared.call.Call.{Call}
 use Rattle.sbi_abi.specs.declared.call.Call.TheVariants as calls
+use Rattle.sbi_abi.specs.declared.call.hsm.HsmCall.{HsmCall}
+use Rattle.sbi_abi.specs.declared.call.hsm.HsmCall.TheVariants.{HartStart, HartStop, HartGetStatus, HartSuspend}
+use Rattle.sbi_abi.specs.declared.call.ipi.IpiCall.{IpiCall}
+use Rattle.sbi_abi.specs.declared.call.ipi.IpiCall.TheVariants.{SendIpi}
+use Rattle.sbi_abi.specs.declared.call.rfence.RfenceCall.{RfenceCall}
+use Rattle.sbi_abi.specs.declared.call.rfence.RfenceCall.TheVariants.{RemoteFenceI, RemoteSfenceVma, RemoteSfenceVmaAsid}
 use Rattle.sbi_abi.specs.Calls.{call_of}
 use Rattle.hart_mask.specs.HartList.{targets_of}
 use Rattle.hart_mask.specs.Ids.{has, ids_below, ids_where, with_id}
@@ -29,16 +35,28 @@ named harts mask base = all_or_none (targets_of mask base harts)
 abbrev pub alone : (harts h : ℕ) → List ℕ
 alone harts h = if nat_lt h harts then with_id [] h else []
 
+-- the harts that a remote fence names
+abbrev pub named_by : (harts : ℕ) → RfenceCall → List ℕ
+named_by harts (RemoteFenceI mask base) = named harts mask base
+named_by harts (RemoteSfenceVma mask base start size) = named harts mask base
+named_by harts (RemoteSfenceVmaAsid mask base start size asid) = named harts mask base
+
+abbrev pub concerned_by_hsm : (harts : ℕ) → HsmCall → List ℕ
+concerned_by_hsm harts (HartStart h addr opaque) = alone harts h
+concerned_by_hsm harts HartStop = ids_below harts
+concerned_by_hsm harts (HartGetStatus h) = []
+concerned_by_hsm harts (HartSuspend kind addr opaque) = []
+
+abbrev pub concerned_by_ipi : (harts : ℕ) → IpiCall → List ℕ
+concerned_by_ipi harts (SendIpi mask base) = named harts mask base
+
 -- The harts whose seats a call may concern, besides that of its caller, on a board of so many: an interrupt and a fence those
 -- that it names, a start the one that it starts, and a stop and a reset all.
 abbrev pub concerned_by : (harts : ℕ) → Call → List ℕ
-concerned_by harts (calls.SendIpi mask base) = named harts mask base
-concerned_by harts (calls.RemoteFenceI mask base) = named harts mask base
-concerned_by harts (calls.RemoteSfenceVma mask base start size) = named harts mask base
-concerned_by harts (calls.RemoteSfenceVmaAsid mask base start size asid) = named harts mask base
-concerned_by harts (calls.HartStart h addr opaque) = alone harts h
-concerned_by harts calls.HartStop = ids_below harts
-concerned_by harts (calls.SystemReset reset) = ids_below harts
+concerned_by harts (calls.Ipi call) = concerned_by_ipi harts call
+concerned_by harts (calls.Rfence call) = named_by harts call
+concerned_by harts (calls.Hsm call) = concerned_by_hsm harts call
+concerned_by harts (calls.Srst call) = ids_below harts
 concerned_by harts call = []
 
 -- The harts whose seats an operation may concern, besides that of its actor: a call those above, and a served fence and a tick

@@ -4,7 +4,7 @@ ghost use Rattle.std.specs.Prelude.{◌≡◌, ℕ, ◌<◌, ◌≤◌, ◌&&◌
 ghost use Rattle.hart_mask.specs.Ids.{has, ids_where};
 ghost use Rattle.board_lock.specs.Rests.{awake, held};
 ghost use Rattle.board_lock.specs.Coming.{has_come, has_turn, has_wake};
-ghost use Rattle.board_lock.specs.Waking.{alone, comes_to, concerned, concerned_by, named, woken};
+ghost use Rattle.board_lock.specs.Waking.{alone, comes_to, concerned, concerned_by, named, named_by, woken};
 
 use crate::desk::Desk;
 use crate::rests::{Awaits, Woken};
@@ -12,6 +12,7 @@ use crate::rooms::Room;
 use crate::views::HartNow;
 use board_core::{HartSet, Op};
 use hart_mask::targets;
+use sbi_abi::call::{HsmCall, IpiCall, RfenceCall};
 use sbi_abi::{Call, decode};
 
 impl<K: Room> Desk<K> {
@@ -111,13 +112,23 @@ fn concerned_by(call: Call, harts: u64) -> HartSet
     ensures { result ≡ concerned_by harts call }
 {
     match call {
-        Call::SendIpi { mask, base }
-        | Call::RemoteFenceI { mask, base }
-        | Call::RemoteSfenceVma { mask, base, .. }
-        | Call::RemoteSfenceVmaAsid { mask, base, .. } => named(mask, base, harts),
-        Call::HartStart { hart, .. } => alone(hart, harts),
-        Call::HartStop | Call::SystemReset(_) => HartSet::below(harts),
+        Call::Ipi(IpiCall::SendIpi { mask, base }) => named(mask, base, harts),
+        Call::Rfence(fence) => named_by(fence, harts),
+        Call::Hsm(HsmCall::HartStart { hart, .. }) => alone(hart, harts),
+        Call::Hsm(HsmCall::HartStop) | Call::Srst(_) => HartSet::below(harts),
         _ => HartSet::new(),
+    }
+}
+
+/// The harts that a remote fence names.
+fn named_by(fence: RfenceCall, harts: u64) -> HartSet
+    requires { harts ≤ 128 }
+    ensures { result ≡ named_by harts fence }
+{
+    match fence {
+        RfenceCall::RemoteFenceI { mask, base }
+        | RfenceCall::RemoteSfenceVma { mask, base, .. }
+        | RfenceCall::RemoteSfenceVmaAsid { mask, base, .. } => named(mask, base, harts),
     }
 }
 
