@@ -1,4 +1,4 @@
-ghost use Rattle.std.specs.Prelude.{◌≡◌, ◌<◌, ◌≤◌, ◌↔◌, ◌++◌, List, [], ◌∷◌, vec_capacity, vec_len, true, false, IfOk, IsErrOf, None, Ok, Some, length, reverse};
+ghost use Rattle.std.specs.Prelude.{◌≡◌, ◌<◌, ◌≤◌, ◌↔◌, ◌++◌, List, [], ◌∷◌, vec_capacity, vec_len, true, false, IfOk, IsErrOf, None, Ok, OnErr, OnOk, Some, length, reverse};
 ghost use Rattle.hsm.specs.declared.hart.HartState.{HartState};
 ghost use Rattle.interrupts.specs.Timing.{last_time};
 ghost use Rattle.tlb_model.specs.Acts.{cache_after};
@@ -102,6 +102,21 @@ impl Board {
             events,
             machine,
         })
+    }
+
+    /// Begins anew: the board is at its opening again, and keeps the memory for its history, so that this takes no longer
+    /// where the limit is larger.
+    ///
+    /// # Errors
+    ///
+    /// Memory was refused, and the board is as it was.
+    pub fn begin_anew(&mut self, alloc: Global) -> Result<(), AllocError>
+        ensures opening { OnOk result (self.new ≡ record { config = self.old.config; past = [] }) }
+        ensures kept { OnErr result (self.new ≡ self.old) }
+    {
+        self.machine = opening(alloc, &self.config)?;
+        self.events.clear();
+        Ok(())
     }
 
     /// One step of one actor: the one event that it records, or a refusal that leaves all as it was.

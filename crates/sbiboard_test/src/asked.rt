@@ -57,6 +57,18 @@ impl<'a> Case<'a> {
         None
     }
 
+    /// The line of the head of the block at an address.
+    pub(crate) fn block_line(&self, addr: u64) -> Option<u64> {
+        for (i, text) in self.text.split(|b| *b == b'\n').enumerate() {
+            if let Some((b"at", after)) = next_word(text)
+                && number_in(after) == Some(addr)
+            {
+                return Some(i as u64 + 1);
+            }
+        }
+        None
+    }
+
     /// The text of a line, from 1.
     fn line(&self, line: u64) -> &'a str {
         for (i, found) in self.text.split(|b| *b == b'\n').enumerate() {

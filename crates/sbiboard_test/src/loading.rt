@@ -1,10 +1,11 @@
+use crate::spots::{Spot, spot_of};
 use board_core::Config;
 use conditions::{Condition, Wrong, conditions};
 use guest_script::{Fault, Script, ScriptFault, parse};
-use std::fmt::{self, Display, Formatter};
-use std::fs;
+use std::alloc::{AllocError, Global};
 use std::io::{self, ErrorKind, Read};
 use std::rt::Files;
+use std::{fs, str};
 
 /// One byte more than a script may have.
 const READ_LIMIT: u64 = 16_777_217;
@@ -20,71 +21,18 @@ pub(crate) struct Loaded {
     pub(crate) conditions: Vec<Condition>,
 }
 
-/// Why a file can't be tested.
-#[derive(Clone, Copy, Debug)]
-pub(crate) enum Untested {
-    /// It can't be read.
-    Unread(ErrorKind),
-    /// Its bytes are no script.
-    Script(ScriptFault),
-    /// One of its conditions can't be read.
-    Condition(conditions::Fault),
-    /// Its board line is outside of the board's limits.
-    Board(Config),
-}
-
 /// Why nothing was loaded.
-#[derive(Clone, Copy, Debug)]
+#[derive(Debug, Drop)]
 pub(crate) enum Unloaded {
-    /// The file can't be tested.
-    File(Untested),
+    /// The file can't be tested: what stands behind its name, the place where there is one, and what is wrong.
+    File(String),
     /// Memory was refused.
     NoMemory,
 }
 
-impl From<io::Error> for Unloaded {
-    fn from(error: io::Error) -> Unloaded {
-        match error.kind() {
-            ErrorKind::OutOfMemory => Unloaded::NoMemory,
-            kind => Unloaded::File(Untested::Unread(kind)),
-        }
-    }
-}
-
-impl From<ScriptFault> for Unloaded {
-    fn from(found: ScriptFault) -> Unloaded {
-        if found.fault == Fault::NoMemory {
-            return Unloaded::NoMemory;
-        }
-        Unloaded::File(Untested::Script(found))
-    }
-}
-
-impl From<conditions::Fault> for Unloaded {
-    fn from(found: conditions::Fault) -> Unloaded {
-        if found.wrong == Wrong::NoMemory {
-            return Unloaded::NoMemory;
-        }
-        Unloaded::File(Untested::Condition(found))
-    }
-}
-
-/// What stands behind the file's name: the place, where there is one, and what is wrong.
-impl Display for Untested {
-    fn fmt<W: fmt::Write>(&self, f: &mut Formatter<W>) -> fmt::Result {
-        match self {
-            Untested::Unread(kind) => write!(f, ": {}", unread(*kind)),
-            Untested::Script(ScriptFault { line: 0, fault }) => {
-                write!(f, ": {fault} (fault {})", fault.number())
-            }
-            Untested::Script(ScriptFault { line, fault }) => {
-                write!(f, ":{line}: {fault} (fault {})", fault.number())
-            }
-            Untested::Condition(fault) => {
-                write!(f, ":{}:{}: {}", fault.line, fault.column, fault.wrong)
-            }
-            Untested::Board(config) => write!(f, ": bad board: {}", bad_number(config)),
-        }
+impl From<AllocError> for Unloaded {
+    fn from(_: AllocError) -> Unloaded {
+        Unloaded::NoMemory
     }
 }
 
@@ -97,34 +45,97 @@ fn unread(kind: ErrorKind) -> &'static str {
     }
 }
 
-/// What the first number is that is outside of a board's limits.
-fn bad_number(config: &Config) -> &'static str {
-    if !(1..=128).contains(&config.harts) {
-        "HARTS is 1 to 128"
-    } else if !(1..=256).contains(&config.pages) {
-        "PAGES is 1 to 256"
-    } else if !(1..=1_000_000).contains(&config.limit) {
-        "LIMIT is 1 to 1000000"
-    } else if config.boot_hart >= config.harts {
-        "BOOT is below HARTS"
-    } else {
-        "ADDRESS is even, and in RAM"
+/// Says where a script has its fault, by the line, the column and the word, and what it is.
+fn faulty(alloc: Global, text: &[u8], found: ScriptFault) -> Result<String, AllocError> {
+    let ScriptFault { line, fault } = found;
+    let number = fault.number();
+    if line == 0 {
+        return format!(in alloc; ": {fault} (fault {number})");
     }
+    let Some(Spot { column, word, what }) = spot_of(text, found) else {
+        return format!(in alloc; ":{line}: {fault} (fault {number})");
+    };
+    match str::from_utf8(word) {
+        Ok("") | Err(_) => format!(in alloc; ":{line}:{column}: {what} (fault {number})"),
+        Ok(word) => format!(in alloc; ":{line}:{column}: {what} '{word}' (fault {number})"),
+    }
+}
+
+/// Says which number of a board line is outside its limits.
+fn bad_board(alloc: Global, config: &Config) -> Result<String, AllocError> {
+    let Config {
+        harts,
+        pages,
+        limit,
+        boot_hart,
+        boot_addr,
+        ..
+    } = *config;
+    if !(1..=128).contains(&harts) {
+        outside(alloc, "HARTS", harts, 128)
+    } else if !(1..=256).contains(&pages) {
+        outside(alloc, "PAGES", pages, 256)
+    } else if !(1..=1_000_000).contains(&limit) {
+        outside(alloc, "LIMIT", limit, 1_000_000)
+    } else if boot_hart >= harts {
+        outside(alloc, "BOOTHART", boot_hart, harts.saturating_sub(1))
+    } else {
+        format!(in alloc; ": bad board: BOOTADDR is {boot_addr:#x}, not an even address of the RAM")
+    }
+}
+
+fn outside(alloc: Global, name: &str, number: u64, most: u64) -> Result<String, AllocError> {
+    if number == 0 {
+        return format!(in alloc; ": bad board: {name} is 0, at least 1");
+    }
+    format!(in alloc; ": bad board: {name} is {number}, at most {most}")
 }
 
 /// Reads a script and its conditions.
 pub(crate) fn load<R: AllocGlobal + Files>(rt: &R, file: &str) -> Result<Loaded, Unloaded> {
-    let text = read(rt, file)?;
-    let script = parse(rt.alloc(), &text)?;
+    let alloc = rt.alloc();
+    let text = match read(rt, file) {
+        Ok(text) => text,
+        Err(error) => return Err(unreadable(alloc, error.kind())?),
+    };
+    let script = match parse(alloc, &text) {
+        Ok(script) => script,
+        Err(found) if found.fault == Fault::NoMemory => return Err(Unloaded::NoMemory),
+        Err(found) => return Err(Unloaded::File(faulty(alloc, &text, found)?)),
+    };
     if !script.config.is_good() {
-        return Err(Unloaded::File(Untested::Board(script.config)));
+        return Err(Unloaded::File(bad_board(alloc, &script.config)?));
     }
-    let conditions = conditions(rt.alloc(), &text)?;
+    let conditions = match conditions(alloc, &text) {
+        Ok(conditions) => conditions,
+        Err(found) => return Err(bad_condition(alloc, found)?),
+    };
     Ok(Loaded {
         text,
         script,
         conditions,
     })
+}
+
+fn unreadable(alloc: Global, kind: ErrorKind) -> Result<Unloaded, AllocError> {
+    if kind == ErrorKind::OutOfMemory {
+        return Ok(Unloaded::NoMemory);
+    }
+    let why = unread(kind);
+    Ok(Unloaded::File(format!(in alloc; ": {why}")?))
+}
+
+/// Says where a condition can't be read, and why.
+fn bad_condition(alloc: Global, found: conditions::Fault) -> Result<Unloaded, AllocError> {
+    let conditions::Fault {
+        line,
+        column,
+        wrong,
+    } = found;
+    if wrong == Wrong::NoMemory {
+        return Ok(Unloaded::NoMemory);
+    }
+    Ok(Unloaded::File(format!(in alloc; ":{line}:{column}: {wrong}")?))
 }
 
 /// Reads a file, as far as a script may go.

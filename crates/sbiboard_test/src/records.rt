@@ -4,9 +4,6 @@ use board_core::{Actor, Board, Event, Op, Refusal, Reply};
 use monitor::{Failed, Sink, print, print_event, print_head, print_line};
 use std::alloc::{AllocError, Global};
 
-/// The actor of a choice that is the clock; harts are below it.
-const CLOCK: u8 = 128;
-
 /// Bytes in memory that text is put into.
 #[derive(Drop)]
 struct Text {
@@ -99,30 +96,4 @@ pub(crate) fn record(alloc: Global, board: &Board) -> Result<Vec<u8>, AllocError
     let table = table.taken(put)?;
     bytes.extend_from_slice(&table)?;
     Ok(bytes)
-}
-
-/// What tells a program's record from its others: of each step its actor, and which of the steps of that actor it is.
-pub(crate) fn choices(alloc: Global, events: &[Event]) -> Result<Vec<u8>, AllocError> {
-    let mut found = Vec::new(alloc);
-    for event in events {
-        found.push(actor_choice(event.actor()))?;
-        found.push(op_choice(event.op()))?;
-    }
-    Ok(found)
-}
-
-fn actor_choice(actor: Actor) -> u8 {
-    match actor {
-        Actor::Hart(h) => u8::try_from(h).unwrap_or(u8::MAX),
-        Actor::Clock => CLOCK,
-    }
-}
-
-fn op_choice(op: Op) -> u8 {
-    match op {
-        Op::Serve => 1,
-        Op::Poll => 2,
-        Op::Advance => 3,
-        _ => 0,
-    }
 }

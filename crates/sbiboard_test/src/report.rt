@@ -1,6 +1,6 @@
-use hart_threads::End;
 use std::alloc::{AllocError, Global};
 use std::fmt::Write;
+use tallies::Ends;
 
 /// What is told of all files: points of the Test Anything Protocol, version 14.
 #[derive(Drop)]
@@ -15,32 +15,25 @@ pub(crate) struct Report {
     is_cut: bool,
 }
 
-/// How many orders ended in which way.
-#[derive(Clone, Copy, Debug)]
-struct Ends {
-    off: u64,
-    full: u64,
-    quiet: u64,
-    stuck: u64,
-}
-
 impl Report {
     /// Before any file.
     pub(crate) fn new(alloc: Global) -> Result<Report, AllocError> {
-        Ok(Report {
-            text: String::from_str(alloc, "TAP version 14\n")?,
+        let mut report = Report::blank(alloc);
+        report.text.push_str("TAP version 14\n")?;
+        Ok(report)
+    }
+
+    /// A part of a report in which nothing stands yet.
+    pub(crate) fn blank(alloc: Global) -> Report {
+        Report {
+            text: String::new(alloc),
             points: 0,
             failed: 0,
             files: 0,
             records: 0,
-            ends: Ends {
-                off: 0,
-                full: 0,
-                quiet: 0,
-                stuck: 0,
-            },
+            ends: Ends::new(),
             is_cut: false,
-        })
+        }
     }
 
     /// A file begins.
@@ -48,15 +41,9 @@ impl Report {
         self.files = self.files.saturating_add(1);
     }
 
-    /// An order ended so.
-    pub(crate) fn count_end(&mut self, end: End) {
-        let count = match end {
-            End::Off => &mut self.ends.off,
-            End::HistoryFull => &mut self.ends.full,
-            End::Quiet => &mut self.ends.quiet,
-            End::Stuck | End::GateLimit => &mut self.ends.stuck,
-        };
-        *count = count.saturating_add(1);
+    /// Orders of a program ended so.
+    pub(crate) fn count_ends(&mut self, ends: Ends) {
+        self.ends.add(ends);
     }
 
     /// Not all orders were tried.
@@ -81,6 +68,15 @@ impl Report {
         self.put_escaped(about)?;
         self.text.push('\n')?;
         Ok(())
+    }
+
+    /// Puts a point of which nothing was tried.
+    pub(crate) fn skip(&mut self, about: &str) -> Result<(), AllocError> {
+        self.points = self.points.saturating_add(1);
+        let number = self.points;
+        write!(self.text, "ok {number} - ")?;
+        self.put_escaped(about)?;
+        self.text.push_str(" # SKIP not tried\n")
     }
 
     /// Tells of the condition of a line that its patterns met no step.
@@ -125,10 +121,7 @@ impl Report {
             quiet,
             stuck,
         } = self.ends;
-        let orders = off
-            .saturating_add(full)
-            .saturating_add(quiet)
-            .saturating_add(stuck);
+        let orders = self.ends.orders();
         write!(
             self.text,
             "1..{}\n# {} points, {} failed\n",
@@ -143,6 +136,7 @@ impl Report {
             self.text,
             "# ends: {off} off, {full} history-full, {quiet} quiet, {stuck} stuck\n"
         )?;
+
         if self.is_cut {
             self.text
                 .push_str("# cut short: not all orders were tried\n")?;

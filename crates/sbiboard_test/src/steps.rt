@@ -1,11 +1,9 @@
 use crate::asked::Case;
 use crate::command_line::Options;
 use crate::detail::put_record;
-use crate::judging::{failing_step, judge};
 use crate::records::step_line;
 use crate::report::Report;
 use crate::stop::Stop;
-use crate::tally::Tally;
 use board_core::Board;
 use conditions::{Condition, Rule};
 use guest_script::{KeptLine, Lines};
@@ -13,6 +11,7 @@ use std::alloc::{AllocError, Global};
 use std::fmt::Write;
 use std::rt::Files;
 use std::str;
+use tallies::{failing_step, is_met, meets};
 
 /// Makes each step of a schedule, whatever is refused. Without conditions that is the point.
 pub(crate) fn replay(
@@ -115,13 +114,11 @@ fn tell<R: AllocGlobal + Files>(
 ) -> Result<(), Stop> {
     let events = board.history();
     let rule = &condition.rule;
-    let mut tally = Tally::new();
-    judge(rule, &mut tally, 0, events, None);
+    let holds = meets(rule, events, None);
     let file = case.file;
     let line = condition.line;
     let asked = case.asked_at(line);
     let about = format!(in rt.alloc(); "{file}: line {line}: {asked}")?;
-    let holds = tally.holds(Some(rule));
     report.point(holds, about.as_str())?;
     if matches!(rule, Rule::End(_)) {
         report
@@ -140,7 +137,7 @@ fn tell<R: AllocGlobal + Files>(
         )?;
         report.text.push_str("  ...\n")?;
     }
-    if !tally.is_met {
+    if !is_met(rule, events) {
         report.never_met(line)?;
     }
     Ok(())

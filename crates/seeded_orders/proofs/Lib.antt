@@ -3,3 +3,5 @@ pub mod Listing
 pub mod Seeing
 pub mod Ordering
 pub mod Taking
+pub mod Choosing
+pub mod Ranking

@@ -2,7 +2,6 @@
 use Rattle.std.proofs.Common.{◌≡◌, ℕ, zero, suc, ◌+◌, ◌-◌, ◌%◌, ◌<◌, if◌then◌else◌, List, [], ◌∷◌, refl, sym, ap, ◌∙◌, inl, inr, length, map, get_or, arith}
 use Rattle.std.specs.Prelude.{Option, Some, None, Result, Ok, Err, Bool, true, false, slice_get}
 use Rattle.std.proofs.lemmas.Option.{slice_get-get_or}
-use Rattle.rand_pcg.specs.Lcg.{Lcg}
 use Rattle.rand_pcg.specs.Pcg.{pcg64_dxsm}
 use Rattle.board_core.specs.declared.config.Config.{Config}
 use Rattle.board_core.specs.declared.event.Actor.{Actor}
@@ -16,25 +15,35 @@ use Rattle.hart_threads.specs.declared.blocks.Program.{Program}
 use Rattle.hart_threads.specs.Programs.{blocks_of, ticks_of}
 use Rattle.seeded_orders.specs.declared.steps.Step.{Step}
 use Rattle.seeded_orders.specs.declared.steps.Step.TheVariants as takes
-use Rattle.seeded_orders.specs.Orders.{ordered, past_after, past_with, picked}
+use Rattle.seeded_orders.specs.declared.pickers.Picker.{Picker}
+use Rattle.seeded_orders.specs.declared.pickers.Picker.TheVariants.{Even, Ranked}
+use Rattle.seeded_orders.specs.Orders.{ordered, past_after, past_with, pick, picked}
+use Rattle.seeded_orders.specs.Ranks.{higher, highest, reranked}
 use Rattle.seeded_orders.specs.Steps.{actor_of, AreOwn, IsActorsOwn, next_op, op_of, steps, Task, task_in, task_of}
 
+-- of no steps none is picked
+nothing-picked : (picker : Picker) (turn : ℕ) → (pick picker turn []).0 ≡ None
+unfolding highest
+nothing-picked (Even words) turn = refl
+nothing-picked (Ranked ranks) turn = refl
+
 -- with no step to take nothing happens any more
-pub idle : (c : Config) (p : Task) (most : ℕ) (words : Lcg) (past : List Event) → steps c p past ≡ [] → ordered c p most words past ≡ past
+pub idle : (c : Config) (p : Task) (most turn : ℕ) (picker : Picker) (past : List Event) → steps c p past ≡ [] → ordered c p most turn picker past ≡ past
 unfolding ordered
-idle c p zero words past none = refl
-idle c p (suc most) words past none =
-    let none_picked : past_with c p past (picked (pcg64_dxsm words).0 (steps c p past)) ≡ past =
-    ap (λ (found : List Step). past_with c p past (picked (pcg64_dxsm words).0 found)) none in
-    ap (λ (now : List Event). ordered c p most (pcg64_dxsm words).1 now) none_picked ∙ idle c p most (pcg64_dxsm words).1 past none
+idle c p zero turn picker past none = refl
+idle c p (suc most) turn picker past none =
+    let none_picked : past_with c p past (pick picker turn (steps c p past)).0 ≡ past =
+    ap (λ (found : List Step). past_with c p past (pick picker turn found).0) none ∙ ap (λ (step : Option Step). past_with c p past step) (nothing-picked picker turn) in
+    ap (λ (now : List Event). ordered c p most (turn + 1) (pick picker turn (steps c p past)).1 now) none_picked ∙ idle c p most (turn + 1) (pick picker turn (steps c p past)).1 past none
 
 -- one step more
-pub ordered-next : (c : Config) (p : Task) (most i : ℕ) (words : Lcg) (past : List Event) → i < most
-    → ordered c p (most - i) words past ≡ ordered c p (most - (i + 1)) (pcg64_dxsm words).1 (past_with c p past (picked (pcg64_dxsm words).0 (steps c p past)))
+pub ordered-next : (c : Config) (p : Task) (most i turn : ℕ) (picker : Picker) (past : List Event) → i < most
+    → ordered c p (most - i) turn picker past
+    ≡ ordered c p (most - (i + 1)) (turn + 1) (pick picker turn (steps c p past)).1 (past_with c p past (pick picker turn (steps c p past)).0)
 unfolding ordered
-ordered-next c p most i words past below =
+ordered-next c p most i turn picker past below =
     let more : most - i ≡ suc (most - (i + 1)) = omega arith in
-    ap (λ (n : ℕ). ordered c p n words past) more
+    ap (λ (n : ℕ). ordered c p n turn picker past) more
 
 -- ---- each step is an actor's own
 
@@ -67,11 +76,11 @@ own-with c p past None owns = owns
 own-with c p past (Some step) owns = own-after c p past (actor_of step) (op_of c p past step) (own-step c p past step) owns
 
 -- Each event of a picked order was its actor's own.
-pub ordered-own : (c : Config) (p : Task) (most : ℕ) (words : Lcg) (past : List Event) → AreOwn p past → AreOwn p (ordered c p most words past)
+pub ordered-own : (c : Config) (p : Task) (most turn : ℕ) (picker : Picker) (past : List Event) → AreOwn p past → AreOwn p (ordered c p most turn picker past)
 unfolding ordered
-ordered-own c p zero words past owns = owns
-ordered-own c p (suc most) words past owns =
-    ordered-own c p most (pcg64_dxsm words).1 (past_with c p past (picked (pcg64_dxsm words).0 (steps c p past))) (own-with c p past (picked (pcg64_dxsm words).0 (steps c p past)) owns)
+ordered-own c p zero turn picker past owns = owns
+ordered-own c p (suc most) turn picker past owns =
+    ordered-own c p most (turn + 1) (pick picker turn (steps c p past)).1 (past_with c p past (pick picker turn (steps c p past)).0) (own-with c p past (pick picker turn (steps c p past)).0 owns)
 
 -- ---- what the loop keeps
 
@@ -84,27 +93,40 @@ none-picked word (step ∷ more) none =
     slice_get-get_or (step ∷ more) (word % length (step ∷ more)) step within in
     absurd (let t = sym none ∙ at in cc)
 
+none-highest : (ranks : List ℕ) (best : Option Step) (found : List Step) → highest ranks best found ≡ None → (best ≡ None) × (found ≡ [])
+unfolding highest
+none-highest ranks best [] none = (none, refl)
+none-highest ranks best (step ∷ more) none =
+    let before : Some (higher ranks best step) ≡ None = (none-highest ranks (Some (higher ranks best step)) more none).0 in
+    absurd (let t = before in cc)
+
+-- Where none is picked, there was none.
+pub none-there : (picker : Picker) (turn : ℕ) (found : List Step) → (pick picker turn found).0 ≡ None → found ≡ []
+none-there (Even words) turn found none = none-picked (pcg64_dxsm words).0 found none
+none-there (Ranked ranks) turn found none = (none-highest (reranked ranks turn (highest ranks.ranks None found)).ranks None found none).1
+
 -- Where no step is picked, the past is what the order makes.
-pub stops : (c : Config) (p : Task) (most : ℕ) (words : Lcg) (past whole : List Event) (word : ℕ) (found : List Step) (step : Option Step)
-    → found ≡ steps c p past → step ≡ picked word found → step ≡ None → ordered c p most words past ≡ whole → past ≡ whole
-stops c p most words past whole word found step is by none keeps =
-    sym (idle c p most words past (sym is ∙ none-picked word found (sym by ∙ none))) ∙ keeps
+pub stops : (c : Config) (p : Task) (most turn : ℕ) (picker next : Picker) (past whole : List Event) (found : List Step) (step : Option Step)
+    → found ≡ steps c p past → (step, next) ≡ pick picker turn found → step ≡ None → ordered c p most turn picker past ≡ whole → past ≡ whole
+stops c p most turn picker next past whole found step is by none keeps =
+    let none_picked : (pick picker turn found).0 ≡ None = sym (ap (λ (pair : Option Step × Picker). pair.0) by) ∙ none in
+    sym (idle c p most turn picker past (sym is ∙ none-there picker turn found none_picked)) ∙ keeps
 
 -- After as many turns as there may be events, too.
-pub ends : (c : Config) (p : Task) (most : ℕ) (words : Lcg) (past whole : List Event) → most ≡ 0 → ordered c p most words past ≡ whole → past ≡ whole
+pub ends : (c : Config) (p : Task) (most turn : ℕ) (picker : Picker) (past whole : List Event) → most ≡ 0 → ordered c p most turn picker past ≡ whole → past ≡ whole
 unfolding ordered
-ends c p most words past whole over keeps = sym (ap (λ (n : ℕ). ordered c p n words past) over) ∙ keeps
+ends c p most turn picker past whole over keeps = sym (ap (λ (n : ℕ). ordered c p n turn picker past) over) ∙ keeps
 
 -- A turn of the loop.
-pub goes : (c : Config) (p : Task) (most i : ℕ) (words next : Lcg) (past after whole : List Event) (word : ℕ) (found : List Step) (picks : Option Step) (step : Step) → i < most
-    → (word, next) ≡ pcg64_dxsm words → found ≡ steps c p past → picks ≡ picked word found → picks ≡ Some step → after ≡ past_with c p past (Some step)
-    → ordered c p (most - i) words past ≡ whole → ordered c p (most - (i + 1)) next after ≡ whole
-goes c p most i words next past after whole word found picks step below drawn is by some taken keeps =
-    let chosen : picked (pcg64_dxsm words).0 (steps c p past) ≡ Some step =
-    ap (λ (w : ℕ). picked w (steps c p past)) (sym (ap (λ (pair : ℕ × Lcg). pair.0) drawn)) ∙ ap (λ (xs : List Step). picked word xs) (sym is) ∙ sym by ∙ some in
-    ap (λ (g : Lcg). ordered c p (most - (i + 1)) g after) (ap (λ (pair : ℕ × Lcg). pair.1) drawn)
-    ∙ ap (λ (now : List Event). ordered c p (most - (i + 1)) (pcg64_dxsm words).1 now) (taken ∙ ap (λ (o : Option Step). past_with c p past o) (sym chosen))
-    ∙ sym (ordered-next c p most i words past below) ∙ keeps
+pub goes : (c : Config) (p : Task) (most i : ℕ) (picker next : Picker) (past after whole : List Event) (found : List Step) (picks : Option Step) (step : Step) → i < most
+    → found ≡ steps c p past → (picks, next) ≡ pick picker i found → picks ≡ Some step → after ≡ past_with c p past (Some step)
+    → ordered c p (most - i) i picker past ≡ whole → ordered c p (most - (i + 1)) (i + 1) next after ≡ whole
+goes c p most i picker next past after whole found picks step below is by some taken keeps =
+    let both : (picks, next) ≡ pick picker i (steps c p past) = by ∙ ap (λ (xs : List Step). pick picker i xs) is in
+    let chosen : (pick picker i (steps c p past)).0 ≡ Some step = sym (ap (λ (pair : Option Step × Picker). pair.0) both) ∙ some in
+    ap (λ (g : Picker). ordered c p (most - (i + 1)) (i + 1) g after) (ap (λ (pair : Option Step × Picker). pair.1) both)
+    ∙ ap (λ (now : List Event). ordered c p (most - (i + 1)) (i + 1) (pick picker i (steps c p past)).1 now) (taken ∙ ap (λ (o : Option Step). past_with c p past o) (sym chosen))
+    ∙ sym (ordered-next c p most i i picker past below) ∙ keeps
 
 pub same-task : (program : Program) (body : Content) → map guest program.blocks.now ≡ blocks_of body → program.ticks.now ≡ ticks_of body → task_in program ≡ task_of body
 same-task program body blocks ticks = cc

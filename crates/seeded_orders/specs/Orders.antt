@@ -1,5 +1,5 @@
 -- The order that a seed picks (profile).
-use Rattle.std.specs.Prelude.{ℕ, zero, suc, ◌%◌, List, [], ◌∷◌, length, slice_get, Option, Some, None}
+use Rattle.std.specs.Prelude.{ℕ, zero, suc, ◌+◌, ◌%◌, ◌==◌, if◌then◌else◌, List, [], ◌∷◌, length, slice_get, Option, Some, None}
 use Rattle.rand_pcg.specs.Lcg.{increment_of, Lcg, started}
 use Rattle.rand_pcg.specs.Pcg.{cheap_multiplier, pcg64_dxsm}
 use Rattle.board_core.specs.declared.config.Config.{Config}
@@ -7,17 +7,31 @@ use Rattle.board_core.specs.declared.event.Actor.{Actor}
 use Rattle.board_core.specs.declared.event.Op.{Op}
 use Rattle.board_core.specs.History.{Event}
 use Rattle.board_core.specs.Replies.{stepped}
+use Rattle.seeded_orders.specs.declared.pickers.Picker.{Picker}
+use Rattle.seeded_orders.specs.declared.pickers.Picker.TheVariants.{Even, Ranked}
 use Rattle.seeded_orders.specs.declared.steps.Step.{Step}
+use Rattle.seeded_orders.specs.Ranks.{highest, ranking, reranked}
 use Rattle.seeded_orders.specs.Steps.{actor_of, op_of, steps, Task}
 
 -- the generator of an order: PCG64 DXSM, whose state is begun with the seed and whose stream is the order's number
 abbrev pub words_of : (seed order : ℕ) → Lcg
 words_of seed order = started 128 cheap_multiplier seed (increment_of 128 order)
 
+-- What picks the steps of an order: two ways take turns.
+abbrev pub picker_of : (harts seed order : ℕ) → Picker
+picker_of harts seed order = if order % 2 == 0 then Even (words_of seed order) else Ranked (ranking harts (words_of seed order))
+
 -- the step that a word picks of these: the one in the place that it leaves, divided by their number
 abbrev pub picked : (word : ℕ) → List Step → Option Step
 picked word [] = None
 picked word (step ∷ more) = slice_get (step ∷ more) (word % length (step ∷ more))
+
+-- What is picked of these steps in a turn, and how the picker goes on.
+abbrev pub pick : Picker → (turn : ℕ) → List Step → Option Step × Picker
+pick (Even words) turn found = (picked (pcg64_dxsm words).0 found, Even (pcg64_dxsm words).1)
+pick (Ranked ranks) turn found =
+    let now = reranked ranks turn (highest ranks.ranks None found) in
+    (highest now.ranks None found, Ranked now)
 
 -- the past after an operation, if there is one
 abbrev pub past_after : Config → List Event → Actor → Option Op → List Event
@@ -29,12 +43,12 @@ abbrev pub past_with : Config → Task → List Event → Option Step → List E
 past_with c p past None = past
 past_with c p past (Some step) = past_after c past (actor_of step) (op_of c p past step)
 
--- What at most so many steps make of a past, each picked by the generator's next word.
-unfoldable pub ordered : Config → Task → (most : ℕ) → Lcg → List Event → List Event
-ordered c p zero words past = past
-ordered c p (suc most) words past =
-    ordered c p most (pcg64_dxsm words).1 (past_with c p past (picked (pcg64_dxsm words).0 (steps c p past)))
+-- What at most so many turns make of a past, from this one on.
+unfoldable pub ordered : Config → Task → (most turn : ℕ) → Picker → List Event → List Event
+ordered c p zero turn picker past = past
+ordered c p (suc most) turn picker past =
+    ordered c p most (turn + 1) (pick picker turn (steps c p past)).1 (past_with c p past (pick picker turn (steps c p past)).0)
 
 -- The record of an order of a seed.
 abbrev pub order_of : Config → Task → (seed order : ℕ) → List Event
-order_of c p seed order = ordered c p c.limit (words_of seed order) []
+order_of c p seed order = ordered c p c.limit 0 (picker_of c.harts seed order) []

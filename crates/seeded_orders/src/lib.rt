@@ -1,9 +1,13 @@
 //! Orders of a program's steps, each picked by a generator from a seed in place of threads.
 #![tactic(auto)]
 
+mod kept;
 mod orders;
+mod pickers;
 mod places;
+mod ranks;
 mod steps;
 
+pub use kept::{choices, choices_tell_records};
 pub use orders::try_order;
 pub use steps::Step;

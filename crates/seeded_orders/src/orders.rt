@@ -1,52 +1,71 @@
-ghost use Rattle.std.specs.Prelude.{◌≡◌, ◌↔◌, IfOk, IsErrOf, OnOk};
-ghost use Rattle.board_core.specs.Limits.{IsGood};
+ghost use Rattle.std.specs.Prelude.{◌≡◌, IfOk, OnOk};
 ghost use Rattle.board_core.specs.Replies.{IsLegal};
 ghost use Rattle.guest_script.specs.Grammar.{content};
 ghost use Rattle.hart_threads.specs.Ends.{IsEnd};
 ghost use Rattle.hart_threads.specs.Programs.{IsProgram, blocks_of};
-ghost use Rattle.hart_threads.specs.declared.ends.RunFault.TheVariants.{BadConfig};
-ghost use Rattle.seeded_orders.specs.Orders.{order_of, ordered, past_with, words_of};
+ghost use Rattle.seeded_orders.specs.Orders.{order_of, ordered, past_with};
 ghost use Rattle.seeded_orders.specs.Places.{AreAt};
 ghost use Rattle.seeded_orders.specs.Steps.{AreOwn, task_in, task_of};
 
+use crate::pickers::Picker;
 use crate::places::Places;
-use crate::steps::{Step, picked};
-use board_core::{Actor, Board};
+use crate::steps::Step;
+use board_core::Board;
 use guest_script::Script;
-use hart_threads::{Met, Program, RunEnd, RunFault, end_of, program_in};
-use rand_core::utils::NextWord;
-use rand_pcg::Pcg64Dxsm;
+use hart_threads::{End, Met, Program, end_of, program_in};
 use std::alloc::{AllocError, Global};
 
-/// Runs a program on a new board in the order that a seed and a number pick: each time one of all steps that its actors can
-/// take of themselves.
-pub fn try_order(alloc: Global, script: &Script, seed: u64, order: u64) -> Result<RunEnd, RunFault>
-    requires { IsProgram (content script.now.body) }
-    ensures bad { IsErrOf result BadConfig ↔ ¬ IsGood script.now.config }
-    ensures opening { IfOk result (λ run. run.board.config ≡ script.now.config) }
-    ensures legal { IfOk result (λ run. IsLegal run.board.config run.board.past) }
-    ensures same { IfOk result (λ run. run.board.past ≡ order_of script.now.config (task_of (content script.now.body)) seed order) }
-    ensures own { IfOk result (λ run. AreOwn (task_of (content script.now.body)) run.board.past) }
-    ensures end { IfOk result (λ run. IsEnd run.end run.board.config run.board.past (blocks_of (content script.now.body))) }
+/// Runs a program on a board, which begins anew, in the order that a seed and a number pick: each time one of all steps that
+/// its actors can take of themselves.
+///
+/// # Errors
+///
+/// Memory was refused.
+pub fn try_order(
+    alloc: Global,
+    script: &Script,
+    board: &mut Board,
+    seed: u64,
+    order: u64,
+) -> Result<End, AllocError>
+    requires program { IsProgram (content script.now.body) }
+    requires its_own { board.old.config ≡ script.now.config }
+    ensures opening { board.new.config ≡ board.old.config }
+    ensures legal { IsLegal board.new.config board.new.past }
+    ensures same { OnOk result (board.new.past ≡ order_of script.now.config (task_of (content script.now.body)) seed order) }
+    ensures own { OnOk result (AreOwn (task_of (content script.now.body)) board.new.past) }
+    ensures end { IfOk result (λ end. IsEnd end board.new.config board.new.past (blocks_of (content script.now.body))) }
+{
+    let ended = follow_anew(alloc, script, board, seed, order);
+    let _legal = board.history();
+    ended
+}
+
+/// Runs a program on a board, which begins anew, in the order of a seed and a number.
+fn follow_anew(
+    alloc: Global,
+    script: &Script,
+    board: &mut Board,
+    seed: u64,
+    order: u64,
+) -> Result<End, AllocError>
+    requires program { IsProgram (content script.now.body) }
+    requires its_own { board.old.config ≡ script.now.config }
+    ensures opening { board.new.config ≡ board.old.config }
+    ensures same { OnOk result (board.new.past ≡ order_of script.now.config (task_of (content script.now.body)) seed order) }
+    ensures own { OnOk result (AreOwn (task_of (content script.now.body)) board.new.past) }
+    ensures end { IfOk result (λ end. IsEnd end board.new.config board.new.past (blocks_of (content script.now.body))) }
 {
     let program = program_in(&script.body);
-    let mut board = Board::new(alloc, &script.config)?;
-    let mut places = Places::new(alloc, script.config.harts, program.ticks)?;
-    let mut words = words_of(seed, order);
-    let met = follow(alloc, &mut board, program, &mut places, &mut words)?;
-    let end = end_of(alloc, &board, program.blocks, met)?;
-    let _legal = board.history();
-    Ok(RunEnd { end, board })
+    let harts = board.config().harts;
+    let mut places = Places::new(alloc, harts, program.ticks)?;
+    let mut picker = Picker::new(alloc, harts, seed, order)?;
+    board.begin_anew(alloc)?;
+    let met = follow(alloc, board, program, &mut places, &mut picker)?;
+    end_of(alloc, board, program.blocks, met)
 }
 
-/// The generator of an order.
-fn words_of(seed: u64, order: u64) -> Pcg64Dxsm
-    ensures { result ≡ words_of seed order }
-{
-    Pcg64Dxsm::new(u128::from(seed), u128::from(order))
-}
-
-/// Takes steps, each picked by the next word, until none can be taken or the history is full; and tells which.
+/// Takes steps, one a turn, until none can be taken or the history is full; and tells which.
 ///
 /// # Errors
 ///
@@ -56,16 +75,16 @@ fn follow<'a>(
     board: &mut Board,
     program: Program<'a>,
     places: &mut Places<'a>,
-    words: &mut Pcg64Dxsm,
+    picker: &mut Picker,
 ) -> Result<Met, AllocError>
     requires { AreAt (task_in program) board.old.config.harts board.old.past places.old }
     ensures opening { board.new.config ≡ board.old.config }
-    ensures past { OnOk result (board.new.past ≡ ordered board.old.config (task_in program.entry) board.old.config.limit words.old board.old.past) }
+    ensures past { OnOk result (board.new.past ≡ ordered board.old.config (task_in program.entry) board.old.config.limit 0 picker.old board.old.past) }
 {
     let mut steps = Vec::new(alloc);
     for i in 0..board.config().limit {
         places.list(board, &mut steps)?;
-        let Some(step) = picked(words.next_word(), &steps) else {
+        let Some(step) = picker.pick(i, &steps) else {
             return Ok(Met::Nothing);
         };
         take(board, program, places, step);

@@ -9,8 +9,8 @@ use Rattle.seeded_orders.proofs.orders.follow.Goals as goal
 pub returns-in_default-clause-past : goal.returns-in_default-clause-past
 returns-in_default-clause-past c =
     let p : Task = task_in c.args.program in
-    stops c.loop-i.board.config p (c.args.board.now.config.limit - c.loop-i.i) c.loop-i.words c.loop-i.board.past _ c.next_word.result c.deref.result.now c.picked.result
-    (c.deref.ensures.value ∙ c.in_ok-list.ensures p c.loop-i.invariant.1) c.picked.ensures c.in_default.is c.loop-i.invariant.2
+    stops c.loop-i.board.config p (c.args.board.now.config.limit - c.loop-i.i) c.loop-i.i c.loop-i.picker c.pick.new.self c.loop-i.board.past _ c.deref.result.now c.pick.result
+    (c.deref.ensures.value ∙ c.in_ok-list.ensures p c.loop-i.invariant.1) c.pick.ensures c.in_default.is c.loop-i.invariant.2
 
 pub loop-i-preserved : goal.loop-i-preserved
 loop-i-preserved c =
@@ -19,13 +19,13 @@ loop-i-preserved c =
     let P : Config → Type 0 = λ k. AreAt p k.harts c.take.new.board.past c.take.new.places in (
       c.take.ensures.opening ∙ c.loop-i.invariant.0,
       subst P (sym c.take.ensures.opening) c.take.ensures.places,
-      ap (λ (k : Config). ordered k p (c.args.board.now.config.limit - (c.loop-i.i + 1)) c.next_word.new.self c.take.new.board.past) c.take.ensures.opening
-          ∙ goes c.loop-i.board.config p c.args.board.now.config.limit c.loop-i.i c.loop-i.words c.next_word.new.self c.loop-i.board.past c.take.new.board.past _ c.next_word.result
-          c.deref.result.now c.picked.result c.in-Some.step (omega arith) c.next_word.ensures (c.deref.ensures.value ∙ c.in_ok-list.ensures p c.loop-i.invariant.1) c.picked.ensures c.in-Some.is
+      ap (λ (k : Config). ordered k p (c.args.board.now.config.limit - (c.loop-i.i + 1)) (c.loop-i.i + 1) c.pick.new.self c.take.new.board.past) c.take.ensures.opening
+          ∙ goes c.loop-i.board.config p c.args.board.now.config.limit c.loop-i.i c.loop-i.picker c.pick.new.self c.loop-i.board.past c.take.new.board.past _
+          c.deref.result.now c.pick.result c.in-Some.step (omega arith) (c.deref.ensures.value ∙ c.in_ok-list.ensures p c.loop-i.invariant.1) c.pick.ensures c.in-Some.is
           c.take.ensures.past c.loop-i.invariant.2,
     )
 
 pub returns-clause-past : goal.returns-clause-past
 returns-clause-past c =
     let limit : c.config.result.now.limit ≡ c.args.board.now.config.limit = ap (λ (k : Config). k.limit) c.config.ensures.opening in
-    ends c.loop-i.board.config (task_in c.args.program) (c.args.board.now.config.limit - c.loop-i.i) c.loop-i.words c.loop-i.board.past _ (omega arith) c.loop-i.invariant.2
+    ends c.loop-i.board.config (task_in c.args.program) (c.args.board.now.config.limit - c.loop-i.i) c.loop-i.i c.loop-i.picker c.loop-i.board.past _ (omega arith) c.loop-i.invariant.2

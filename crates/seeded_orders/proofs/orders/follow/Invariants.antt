@@ -8,5 +8,5 @@ abbrev pub invariant-loop-i : goal.invariant-loop-i
 invariant-loop-i l =
     (l.board.config ≡ l.initial.board.config)
     × AreAt (task_in l.program) l.board.config.harts l.board.past l.places
-    × (ordered l.board.config (task_in l.program) (l.initial.board.config.limit - l.i) l.words l.board.past
-    ≡ ordered l.initial.board.config (task_in l.program) l.initial.board.config.limit l.initial.words l.initial.board.past)
+    × (ordered l.board.config (task_in l.program) (l.initial.board.config.limit - l.i) l.i l.picker l.board.past
+    ≡ ordered l.initial.board.config (task_in l.program) l.initial.board.config.limit 0 l.initial.picker l.initial.board.past)

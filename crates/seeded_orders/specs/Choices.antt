@@ -1,0 +1,22 @@
+-- What is kept of a record (profile).
+use Rattle.std.specs.Prelude.{ℕ, ◌+◌, ◌*◌, ◌%◌}
+use Rattle.board_core.specs.declared.event.Actor.{Actor}
+use Rattle.board_core.specs.declared.event.Actor.TheVariants as actors
+use Rattle.board_core.specs.declared.event.Op.{Op}
+use Rattle.board_core.specs.declared.event.Op.TheVariants as ops
+use Rattle.board_core.specs.History.{Event}
+
+-- which of the four kinds of steps of a hart an operation is
+abbrev pub own_number : Op → ℕ
+own_number ops.Serve = 1
+own_number ops.Poll = 2
+own_number ops.Advance = 3
+own_number op = 0
+
+abbrev pub choice : Actor → Op → ℕ
+choice (actors.Hart h) op = 4 * (h % 128) + own_number op
+choice actors.Clock op = 512
+
+-- Of a step: whose it was, and which of its actor's.
+abbrev pub choice_of : Event → ℕ
+choice_of e = choice e.actor e.op

@@ -1,0 +1,50 @@
+ghost use Rattle.std.specs.Prelude.{◌≡◌, ◌≤◌, IfOk};
+ghost use Rattle.seeded_orders.specs.Orders.{pick, picker_of};
+
+use crate::ranks::Ranks;
+use crate::steps::{Step, picked};
+use rand_core::utils::NextWord;
+use rand_pcg::Pcg64Dxsm;
+use std::alloc::{AllocError, Global};
+
+/// What picks each step of an order (profile).
+#[derive(Drop)]
+pub(crate) enum Picker {
+    /// The next word: each step is as likely.
+    Even(Pcg64Dxsm),
+    /// The rank of its kind.
+    Ranked(Ranks),
+}
+
+impl Picker {
+    /// What picks the steps of an order of a seed, for so many harts.
+    ///
+    /// # Errors
+    ///
+    /// Memory was refused.
+    pub(crate) fn new(
+        alloc: Global,
+        harts: u64,
+        seed: u64,
+        order: u64,
+    ) -> Result<Picker, AllocError>
+        requires { harts ≤ 128 }
+        ensures { IfOk result (λ picker. picker ≡ picker_of harts seed order) }
+    {
+        let mut words = Pcg64Dxsm::new(u128::from(seed), u128::from(order));
+        if order % 2 == 0 {
+            return Ok(Picker::Even(words));
+        }
+        Ok(Picker::Ranked(Ranks::new(alloc, harts, &mut words)?))
+    }
+
+    /// The step that it picks of these in a turn, from 0, if there is one; and it goes on.
+    pub(crate) fn pick(&mut self, turn: u64, steps: &[Step]) -> Option<Step>
+        ensures { (result, self.new) ≡ pick self.old turn steps.now }
+    {
+        match self {
+            Picker::Even(words) => picked(words.next_word(), steps),
+            Picker::Ranked(ranks) => ranks.pick(turn, steps),
+        }
+    }
+}

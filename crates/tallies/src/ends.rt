@@ -1,0 +1,63 @@
+use hart_threads::End;
+
+/// How many orders ended in which way.
+#[derive(Clone, Copy, Debug, PartialEq, Eq)]
+pub struct Ends {
+    /// The power was off.
+    pub off: u64,
+    /// The limit cut them off.
+    pub full: u64,
+    /// Each hart was done.
+    pub quiet: u64,
+    /// Some hart wasn't, and none went on.
+    pub stuck: u64,
+}
+
+impl Ends {
+    /// Before any order was tried.
+    pub fn new() -> Ends
+    {
+        Ends {
+            off: 0,
+            full: 0,
+            quiet: 0,
+            stuck: 0,
+        }
+    }
+
+    /// An order ended so.
+    pub fn see(&mut self, end: End)
+    {
+        self.off = with(self.off, end == End::Off);
+        self.full = with(self.full, end == End::HistoryFull);
+        self.quiet = with(self.quiet, end == End::Quiet);
+        self.stuck = with(self.stuck, end == End::Stuck);
+    }
+
+    /// Orders were tried behind these.
+    pub fn add(&mut self, later: Ends)
+    {
+        self.off = self.off.saturating_add(later.off);
+        self.full = self.full.saturating_add(later.full);
+        self.quiet = self.quiet.saturating_add(later.quiet);
+        self.stuck = self.stuck.saturating_add(later.stuck);
+    }
+
+    /// How many orders were tried.
+    pub fn orders(&self) -> u64 {
+        self.off
+            .saturating_add(self.full)
+            .saturating_add(self.quiet)
+            .saturating_add(self.stuck)
+    }
+}
+
+/// A count with one more, where that is such.
+fn with(count: u64, is_such: bool) -> u64
+{
+    if is_such {
+        count.saturating_add(1)
+    } else {
+        count
+    }
+}
