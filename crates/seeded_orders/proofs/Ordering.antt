@@ -1,6 +1,6 @@
 -- What a picked order is.
 use Rattle.std.proofs.Common.{◌≡◌, ℕ, zero, suc, ◌+◌, ◌-◌, ◌%◌, ◌<◌, if◌then◌else◌, List, [], ◌∷◌, refl, sym, ap, ◌∙◌, inl, inr, length, map, get_or, arith}
-use Rattle.std.specs.Prelude.{Option, Some, None, Result, Ok, Err, Bool, true, false, slice_get}
+use Rattle.std.specs.Prelude.{Option, Some, None, Result, Ok, Err, OnOk, Bool, true, false, slice_get}
 use Rattle.std.proofs.lemmas.Option.{slice_get-get_or}
 use Rattle.rand_pcg.specs.Pcg.{pcg64_dxsm}
 use Rattle.board_core.specs.declared.config.Config.{Config}
@@ -130,3 +130,7 @@ goes c p most i picker next past after whole found picks step below is by some t
 
 pub same-task : (program : Program) (body : Content) → map guest program.blocks.now ≡ blocks_of body → program.ticks.now ≡ ticks_of body → task_in program ≡ task_of body
 same-task program body blocks ticks = cc
+
+pub on-ok : {T E : Type 0} (found : Result T E) (P : Type 0) → P → OnOk found P
+on-ok (Ok x) P holds = holds
+on-ok (Err e) P holds = tt

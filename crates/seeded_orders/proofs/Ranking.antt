@@ -48,14 +48,14 @@ drawn-whole done many i w whole over keeps =
     let none : many - i ≡ 0 = omega arith in
     sym (append-nil done) ∙ ap (λ (n : ℕ). done ++ ranks_from n w) (sym none) ∙ keeps
 
-pub highest-next : (ranks : List ℕ) (best whole : Option Step) (steps : List Step) (i : ℕ) (step : Step) → i < length steps → step ≡ get_or steps i step
-    → highest ranks best (drop i steps) ≡ whole → highest ranks (Some (higher ranks best step)) (drop (i + 1) steps) ≡ whole
+pub highest-next : (ranks : List ℕ) (best whole : Option Step) (steps : List Step) (i : ℕ) (d step : Step) → i < length steps → step ≡ higher ranks best (get_or steps i d)
+    → highest ranks best (drop i steps) ≡ whole → highest ranks (Some step) (drop (i + 1) steps) ≡ whole
 unfolding highest
-highest-next ranks best whole steps i step below is keeps =
-    let first : drop i steps ≡ get_or steps i step ∷ drop (suc i) steps = drop-cons steps i step below in
+highest-next ranks best whole steps i d step below is keeps =
+    let first : drop i steps ≡ get_or steps i d ∷ drop (suc i) steps = drop-cons steps i d below in
     let next : suc i ≡ i + 1 = omega arith in
-    ap (λ (n : ℕ). highest ranks (Some (higher ranks best step)) (drop n steps)) (sym next)
-    ∙ ap (λ (x : Step). highest ranks (Some (higher ranks best x)) (drop (suc i) steps)) is
+    ap (λ (s : Step). highest ranks (Some s) (drop (i + 1) steps)) is
+    ∙ ap (λ (n : ℕ). highest ranks (Some (higher ranks best (get_or steps i d))) (drop n steps)) (sym next)
     ∙ ap (λ (xs : List Step). highest ranks best xs) (sym first) ∙ keeps
 
 pub highest-whole : (ranks : List ℕ) (best whole : Option Step) (steps : List Step) (i : ℕ) → drop i steps ≡ [] → highest ranks best (drop i steps) ≡ whole → best ≡ whole

@@ -49,7 +49,7 @@ abbrev pub ranking_within : (harts span : ℕ) → Lcg → Ranking
 ranking_within harts span words = record {
   ranks = ranks_from (4 * harts + 1) (pcg64_dxsm (pcg64_dxsm words).1).1;
   first = (pcg64_dxsm words).0 % span;
-  second = (pcg64_dxsm (pcg64_dxsm words).1).0 % span
+  second = (pcg64_dxsm (pcg64_dxsm words).1).0 % span;
 }
 
 -- The ranking that a generator gives so many harts: a power of 2 of turns, and two of them.

@@ -9,5 +9,5 @@ mod ranks;
 mod steps;
 
 pub use kept::{choices, choices_tell_records};
-pub use orders::try_order;
+pub use orders::{try_order, try_order_on};
 pub use steps::Step;

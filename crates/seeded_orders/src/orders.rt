@@ -1,8 +1,10 @@
-ghost use Rattle.std.specs.Prelude.{◌≡◌, IfOk, OnOk};
+ghost use Rattle.std.specs.Prelude.{◌≡◌, ◌↔◌, IfOk, IsErrOf, OnOk};
+ghost use Rattle.board_core.specs.Limits.{IsGood};
 ghost use Rattle.board_core.specs.Replies.{IsLegal};
 ghost use Rattle.guest_script.specs.Grammar.{content};
 ghost use Rattle.hart_threads.specs.Ends.{IsEnd};
 ghost use Rattle.hart_threads.specs.Programs.{IsProgram, blocks_of};
+ghost use Rattle.hart_threads.specs.declared.ends.RunFault.TheVariants.{BadConfig};
 ghost use Rattle.seeded_orders.specs.Orders.{order_of, ordered, past_with};
 ghost use Rattle.seeded_orders.specs.Places.{AreAt};
 ghost use Rattle.seeded_orders.specs.Steps.{AreOwn, task_in, task_of};
@@ -12,8 +14,28 @@ use crate::places::Places;
 use crate::steps::Step;
 use board_core::Board;
 use guest_script::Script;
-use hart_threads::{End, Met, Program, end_of, program_in};
+use hart_threads::{End, Met, Program, RunEnd, RunFault, end_of, program_in};
 use std::alloc::{AllocError, Global};
+
+/// Runs a program on a new board in the order that a seed and a number pick: each time one of all steps that its actors can
+/// take of themselves.
+///
+/// # Errors
+///
+/// The board line is outside the board's limits, or memory was refused.
+pub fn try_order(alloc: Global, script: &Script, seed: u64, order: u64) -> Result<RunEnd, RunFault>
+    requires { IsProgram (content script.now.body) }
+    ensures bad { IsErrOf result BadConfig ↔ ¬ IsGood script.now.config }
+    ensures opening { IfOk result (λ run. run.board.config ≡ script.now.config) }
+    ensures legal { IfOk result (λ run. IsLegal run.board.config run.board.past) }
+    ensures same { IfOk result (λ run. run.board.past ≡ order_of script.now.config (task_of (content script.now.body)) seed order) }
+    ensures own { IfOk result (λ run. AreOwn (task_of (content script.now.body)) run.board.past) }
+    ensures end { IfOk result (λ run. IsEnd run.end run.board.config run.board.past (blocks_of (content script.now.body))) }
+{
+    let mut board = Board::new(alloc, &script.config)?;
+    let end = try_order_on(alloc, script, &mut board, seed, order)?;
+    Ok(RunEnd { end, board })
+}
 
 /// Runs a program on a board, which begins anew, in the order that a seed and a number pick: each time one of all steps that
 /// its actors can take of themselves.
@@ -21,7 +43,7 @@ use std::alloc::{AllocError, Global};
 /// # Errors
 ///
 /// Memory was refused.
-pub fn try_order(
+pub fn try_order_on(
     alloc: Global,
     script: &Script,
     board: &mut Board,

@@ -29,11 +29,7 @@ impl Ranks {
     /// # Errors
     ///
     /// Memory was refused.
-    pub(crate) fn new(
-        alloc: Global,
-        harts: u64,
-        words: &mut Pcg64Dxsm,
-    ) -> Result<Ranks, AllocError>
+    pub(crate) fn new(alloc: Global, harts: u64, words: &mut Pcg64Dxsm) -> Result<Ranks, AllocError>
         requires { harts ≤ 128 }
         ensures { IfOk result (λ ranks. ranks ≡ ranking harts words.old) }
     {

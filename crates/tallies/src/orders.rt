@@ -6,7 +6,7 @@ use board_core::Board;
 use conditions::Condition;
 use guest_script::Script;
 use hart_threads::RunFault;
-use seeded_orders::try_order;
+use seeded_orders::try_order_on;
 use std::alloc::Global;
 
 /// Tries the orders of a program that a seed picks, from one number up to another, and judges each record.
@@ -27,7 +27,7 @@ pub fn try_orders(
     let mut board = Board::new(alloc, &script.config)?;
     let mut found = Findings::new(alloc, conditions.len())?;
     for order in from..to {
-        let end = try_order(alloc, script, &mut board, seed, order)?;
+        let end = try_order_on(alloc, script, &mut board, seed, order)?;
         found.see(alloc, conditions, order, &board, end)?;
     }
     Ok(found)
