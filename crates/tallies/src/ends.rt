@@ -1,3 +1,8 @@
+ghost use Rattle.std.specs.Prelude.{◌≡◌, ◌↔◌, ◌∷◌, ◌++◌, List, Some, true, []};
+ghost use Rattle.conditions.specs.declared.rules.Ending.{Ending as HowEnded};
+ghost use Rattle.tallies.specs.Records.{Tried, ending};
+ghost use Rattle.tallies.specs.Findings.{AreEnded, HaveEnded};
+
 use hart_threads::End;
 
 /// How many orders ended in which way.
@@ -16,6 +21,7 @@ pub struct Ends {
 impl Ends {
     /// Before any order was tried.
     pub fn new() -> Ends
+        ensures { AreEnded [] result }
     {
         Ends {
             off: 0,
@@ -27,6 +33,7 @@ impl Ends {
 
     /// An order ended so.
     pub fn see(&mut self, end: End)
+        ensures { (tried : List Tried) (x : Tried) → x.end ≡ ending end → AreEnded tried self.old → AreEnded (x ∷ tried) self.new }
     {
         self.off = with(self.off, end == End::Off);
         self.full = with(self.full, end == End::HistoryFull);
@@ -36,6 +43,7 @@ impl Ends {
 
     /// Orders were tried behind these.
     pub fn add(&mut self, later: Ends)
+        ensures { (tried more : List Tried) → AreEnded tried self.old → AreEnded more later → AreEnded (more ++ tried) self.new }
     {
         self.off = self.off.saturating_add(later.off);
         self.full = self.full.saturating_add(later.full);
@@ -54,6 +62,7 @@ impl Ends {
 
 /// A count with one more, where that is such.
 fn with(count: u64, is_such: bool) -> u64
+    ensures { (ended : HowEnded) (x : Tried) (xs : List Tried) → (is_such ≡ true) ↔ (x.end ≡ Some ended) → HaveEnded ended xs count → HaveEnded ended (x ∷ xs) result }
 {
     if is_such {
         count.saturating_add(1)

@@ -1,3 +1,8 @@
+ghost use Rattle.std.specs.Prelude.{◌≡◌, ◌∷◌, ◌++◌, List, [], IfOk, OnOk, length, reverse};
+ghost use Rattle.conditions.specs.declared.reading.Condition.{Condition as Asked};
+ghost use Rattle.tallies.specs.Records.{Tried, ending};
+ghost use Rattle.tallies.specs.Findings.{AreFound, EachTells};
+
 use crate::ends::Ends;
 use crate::judging::{ending, is_met, judge};
 use crate::tally::Tally;
@@ -40,6 +45,7 @@ impl Findings {
     ///
     /// Memory was refused.
     pub fn new(alloc: Global, conditions: usize) -> Result<Findings, AllocError>
+        ensures { IfOk result (λ found. (asked : List Asked) → length asked ≡ conditions → AreFound asked [] found) }
     {
         let none = Judged {
             tally: Tally::new(),
@@ -67,6 +73,10 @@ impl Findings {
         board: &Board,
         end: End,
     ) -> Result<(), AllocError>
+        requires { length self.old.judged.items ≡ length conditions.now }
+        ensures many { length self.new.judged.items ≡ length conditions.now }
+        ensures found { OnOk result ((tried : List Tried) (x : Tried) → x.number ≡ number → x.events ≡ reverse board.now.past → x.end ≡ ending end
+            → AreFound conditions.now tried self.old → AreFound conditions.now (x ∷ tried) self.new) }
     {
         let events = board.history();
         judge_each(conditions, &mut self.judged, number, events, ending(end));
@@ -83,6 +93,7 @@ impl Findings {
     ///
     /// Memory was refused.
     pub fn add(&mut self, mut later: Findings) -> Result<(), AllocError>
+        ensures { OnOk result ((asked : List Asked) (tried more : List Tried) → AreFound asked tried self.old → AreFound asked more later → AreFound asked (more ++ tried) self.new) }
     {
         add_each(&mut self.judged, &later.judged);
         self.well.add(later.well);
@@ -99,21 +110,29 @@ fn judge_each(
     number: u64,
     events: &[Event],
     end: Option<Ending>,
-) {
-    for (i, of_it) in judged.iter_mut().enumerate() {
-        if let Some(condition) = conditions.get(i) {
-            judge(&condition.rule, &mut of_it.tally, number, events, end);
-            of_it.is_met = of_it.is_met || is_met(&condition.rule, events);
-        }
+)
+    requires { length judged.old ≡ length conditions.now }
+    ensures many { length judged.new ≡ length judged.old }
+    ensures each { (tried : List Tried) (x : Tried) → x.number ≡ number → x.events ≡ events.now → x.end ≡ end
+        → EachTells conditions.now tried judged.old → EachTells conditions.now (x ∷ tried) judged.new }
+{
+    for i in 0..conditions.len() {
+        let rule = &conditions[i].rule;
+        let of_it = &mut judged[i];
+        judge(rule, &mut of_it.tally, number, events, end);
+        of_it.is_met = of_it.is_met || is_met(rule, events);
     }
 }
 
 /// Puts what was found by each condition of later records behind what was found before.
-fn add_each(judged: &mut [Judged], later: &[Judged]) {
-    for (i, of_it) in judged.iter_mut().enumerate() {
-        if let Some(more) = later.get(i) {
-            of_it.tally.add(more.tally);
-            of_it.is_met = of_it.is_met || more.is_met;
-        }
+fn add_each(judged: &mut [Judged], later: &[Judged])
+    ensures many { length judged.new ≡ length judged.old }
+    ensures each { (asked : List Asked) (tried more : List Tried) → length judged.old ≡ length asked → length later.now ≡ length asked
+        → EachTells asked tried judged.old → EachTells asked more later.now → EachTells asked (more ++ tried) judged.new }
+{
+    for i in 0..judged.len().min(later.len()) {
+        let of_it = &mut judged[i];
+        of_it.tally.add(later[i].tally);
+        of_it.is_met = of_it.is_met || later[i].is_met;
     }
 }

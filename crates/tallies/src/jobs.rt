@@ -1,5 +1,8 @@
+ghost use Rattle.std.specs.Prelude.{◌≡◌, ◌≤◌, ◌<◌, ◌+◌, ◌*◌, min, List, IfOk};
 ghost use Rattle.guest_script.specs.Grammar.{content};
 ghost use Rattle.hart_threads.specs.Programs.{IsProgram};
+ghost use Rattle.tallies.specs.Records.{Tried};
+ghost use Rattle.tallies.specs.Findings.{AreFound, AreOrders};
 
 use crate::findings::Findings;
 use crate::orders::try_orders;
@@ -24,15 +27,19 @@ pub fn try_in_jobs<R: Threads + Sync>(
     from: u64,
     to: u64,
 ) -> Result<Findings, RunFault>
-    requires { IsProgram (content script.now.body) }
+    requires program { IsProgram (content script.now.body) }
+    requires up { from ≤ to }
+    requires some { 0 < jobs }
+    ensures { IfOk result (λ found. (tried : List Tried) × AreOrders script.now.config (content script.now.body) seed from tried to × AreFound conditions.now tried found) }
 {
-    if jobs <= 1 {
+    if jobs == 1 {
         return try_orders(alloc, script, conditions, seed, from, to);
     }
-    let size = (to.saturating_sub(from) / jobs).saturating_add(1);
-    let shares = Shares { from, to, size };
+    let share = (to - from) / jobs + 1;
     let all = thread::map_indices(rt, alloc, jobs as usize, &|i| {
-        try_share(alloc, script, conditions, seed, shares, i)
+        let low = edge(from, to, share, i as u64);
+        let high = edge(from, to, share, (i as u64).saturating_add(1));
+        try_orders(alloc, script, conditions, seed, low, high)
     })?;
     let mut found = Findings::new(alloc, conditions.len())?;
     for more in all {
@@ -41,35 +48,10 @@ pub fn try_in_jobs<R: Threads + Sync>(
     Ok(found)
 }
 
-/// Orders from one number up to another, in shares of so many.
-#[derive(Clone, Copy, Debug)]
-struct Shares {
-    from: u64,
-    to: u64,
-    size: u64,
-}
-
-impl Shares {
-    /// Where share `i` begins, and the one before ends.
-    fn edge(self, i: u64) -> u64 {
-        self.from
-            .saturating_add(self.size.saturating_mul(i))
-            .min(self.to)
-    }
-}
-
-/// Tries the orders of a share.
-fn try_share(
-    alloc: Global,
-    script: &Script,
-    conditions: &[Condition],
-    seed: u64,
-    shares: Shares,
-    i: usize,
-) -> Result<Findings, RunFault>
-    requires { IsProgram (content script.now.body) }
+/// Where share `i` of the orders begins, and the one before ends.
+fn edge(from: u64, to: u64, share: u64, i: u64) -> u64
+    requires { from ≤ to }
+    ensures { result ≡ min to (from + i * share) }
 {
-    let from = shares.edge(i as u64);
-    let to = shares.edge((i as u64).saturating_add(1));
-    try_orders(alloc, script, conditions, seed, from, to)
+    from.saturating_add(share.saturating_mul(i)).min(to)
 }

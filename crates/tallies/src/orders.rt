@@ -1,5 +1,8 @@
+ghost use Rattle.std.specs.Prelude.{◌≡◌, ◌≤◌, List, IfOk};
 ghost use Rattle.guest_script.specs.Grammar.{content};
 ghost use Rattle.hart_threads.specs.Programs.{IsProgram};
+ghost use Rattle.tallies.specs.Records.{Tried};
+ghost use Rattle.tallies.specs.Findings.{AreFound, AreOrders};
 
 use crate::findings::Findings;
 use board_core::Board;
@@ -22,7 +25,9 @@ pub fn try_orders(
     from: u64,
     to: u64,
 ) -> Result<Findings, RunFault>
-    requires { IsProgram (content script.now.body) }
+    requires program { IsProgram (content script.now.body) }
+    requires up { from ≤ to }
+    ensures { IfOk result (λ found. (tried : List Tried) × AreOrders script.now.config (content script.now.body) seed from tried to × AreFound conditions.now tried found) }
 {
     let mut board = Board::new(alloc, &script.config)?;
     let mut found = Findings::new(alloc, conditions.len())?;
