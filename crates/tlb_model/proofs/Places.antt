@@ -1,24 +1,32 @@
 -- What sixteen places keep: after a fill, after a fence, and as a look-up goes over them.
-use Rattle.std.proofs.Common.{◌≡◌, ◌≢◌, add-one, ℕ, zero, suc, ◌+◌, ◌-◌, ◌*◌, ◌/◌, ◌%◌, ◌^◌, ◌<◌, ◌≤◌, min, Bool, true, false, cond, not, ◌&&◌, ◌||◌, ◌==◌, List, [], ◌∷◌, ◌++◌, length, take, drop, set, ltb, refl, sym, ap, ◌∙◌, Option, Some, None, arith, append-nil, append_assoc}
+use Rattle.std.proofs.Common.{◌≡◌, ◌≢◌, add-one, ℕ, zero, suc, ◌+◌, ◌-◌, ◌*◌, ◌/◌, ◌%◌, ◌^◌, ◌<◌, ◌≤◌, min, Bool, true, false, cond, not, ◌||◌, ◌==◌, List, [], ◌∷◌, ◌++◌, length, take, drop, set, ltb, refl, sym, ap, ◌∙◌, Option, Some, None, arith, append-nil, append_assoc}
 use Rattle.std.specs.Prelude.{filter, find, map, option_map, reverse, slice_get}
-use Rattle.std.proofs.Math.Nat.{div-div-eq-div-mul, div-one, mul_left_comm, pow-suc, pow-succ'}
-use Rattle.std.specs.Int.{from_bool}
+use Rattle.std.proofs.Math.Nat.{mod-lt, pow-succ'}
+use Rattle.std.specs.Int.{bit_at, w32}
+use Rattle.std.specs.Int.Count.{count_leading_zeros, count_trailing_zeros}
+use Rattle.std.specs.Int.RustNames.{bit_and}
 use Rattle.std.specs.List.{refill}
 use Rattle.std.specs.Option.{option_or}
-use Rattle.std.proofs.lemmas.Bool.{eqb-false, eqb-true, le-ltb, lt-ltb, ltb-false, ltb-true, ne_eqb}
+use Rattle.std.proofs.lemmas.Bool.{eqb-false, eqb-true, le-ltb, lt-ltb, ltb-false, ltb-true}
 use Rattle.std.proofs.lemmas.List.{drop-append-le, drop_all, length-append, length-take, map-append, reverse-append, take-append-le, take_all}
 use Rattle.std.proofs.lemmas.List.Folds.{find-append}
-use Rattle.std.proofs.lemmas.Nat.{div-add-mod', pow_pos}
+use Rattle.std.proofs.lemmas.Nat.{and_le_l, div-add-mod', div-mul-add, leading_top, pow_pos}
+use Rattle.std.proofs.lemmas.Nat.Bits.{bit_at-lt, bit_at-trailing_zeros, bit_at-zero, bit_at_above, bit_at_cat_high, bit_at_cat_low, bit_at_clear_other, bit_at_clear_same}
 use Rattle.tlb_model.specs.declared.cache.Numbered.{Numbered}
 use Rattle.tlb_model.specs.Contents.{Contents, filled, is_young}
-use Rattle.tlb_model.specs.Places.{kept, seen}
+use Rattle.tlb_model.specs.Places.{kept, marked, marked_at, seen}
 
--- the lowest bit, and the others
-even-low : (t : ℕ) (d : ℕ) → (d + 2 * t) % 2 ≡ d % 2
-even-low t d = omega arith
+-- a set bit of a word is one of its bits
+bit-below : (a k i : ℕ) → a < 2 ^ k → bit_at a i ≡ 1 → i < k
+bit-below a k i small set = by_size (ltb i k) refl
+  where
+    by_size : (b : Bool) → ltb i k ≡ b → i < k
+    by_size true is = ltb-true i k is
+    by_size false is = absurd (omega (arith, set, bit_at_above a k i small (ltb-false i k is)))
 
-even-high : (t : ℕ) (d : ℕ) → (d + 2 * t) / 2 ≡ d / 2 + t
-even-high t d = omega arith
+-- the low bits of a word
+pub bit-mod : (a k i : ℕ) → i < k → bit_at (a % 2 ^ k) i ≡ bit_at a i
+bit-mod a k i below = sym (ap (λ v. bit_at v i) (sym (div-add-mod' a (2 ^ k))) ∙ bit_at_cat_low (a / 2 ^ k) k (a % 2 ^ k) i below)
 
 -- an item of a list written over, and one more at its end
 module _ {E : Type 0} where
@@ -65,9 +73,9 @@ module _ {E : Type 0} where
   length-seen zero k places d = omega arith
   length-seen (suc n) zero places d = omega arith
   length-seen (suc n) (suc k) places d =
-      let one = length-kept (slice_get places (n % 16)) (d % 2 == 1) n in
-      let rest = length-seen n k places (d / 2) in
-      omega (arith, one, rest, length-append (kept (slice_get places (n % 16)) (d % 2 == 1) n) (seen n k places (d / 2)))
+      let one = length-kept (slice_get places (n % 16)) (bit_at d (n % 16) == 1) n in
+      let rest = length-seen n k places d in
+      omega (arith, one, rest, length-append (kept (slice_get places (n % 16)) (bit_at d (n % 16) == 1) n) (seen n k places d))
 
   pub seen-none : (n : ℕ) (places : List E) (d : ℕ) → seen n 0 places d ≡ []
   seen-none zero places d = refl
@@ -79,7 +87,7 @@ module _ {E : Type 0} where
   seen-all (suc n) zero j places d few many = absurd (omega arith)
   seen-all (suc n) (suc k) zero places d few many = absurd (omega arith)
   seen-all (suc n) (suc k) (suc j) places d few many =
-      ap (λ rest. kept (slice_get places (n % 16)) (d % 2 == 1) n ++ rest) (seen-all n k j places (d / 2) (omega arith) (omega arith))
+      ap (λ rest. kept (slice_get places (n % 16)) (bit_at d (n % 16) == 1) n ++ rest) (seen-all n k j places d (omega arith) (omega arith))
 
   pub seen-room : (n : ℕ) (places : List E) (d : ℕ) → length places ≡ min 16 n → seen n (length places) places d ≡ seen n 16 places d
   seen-room n places d full = by_room (ltb n 16) refl
@@ -88,46 +96,28 @@ module _ {E : Type 0} where
       by_room true few = let below = ltb-true n 16 few in seen-all n (length places) 16 places d (omega (arith, full)) (omega arith)
       by_room false many = let above = ltb-false n 16 many in ap (λ k. seen n k places d) (omega (arith, full))
 
-  -- bits above those of the fills say nothing
-  pub seen-high : (n k q : ℕ) (places : List E) (d : ℕ) → seen n k places (d + q * 2 ^ k) ≡ seen n k places d
-  seen-high zero k q places d = refl
-  seen-high (suc n) zero q places d = refl
-  seen-high (suc n) (suc k) q places d =
-      let more : d + q * 2 ^ suc k ≡ d + 2 * (q * 2 ^ k) = ap (λ t. d + t) (ap (λ t. q * t) (pow-succ' 2 k) ∙ mul_left_comm q 2 (2 ^ k)) in
-      let low : (d + q * 2 ^ suc k) % 2 ≡ d % 2 = ap (λ t. t % 2) more ∙ even-low (q * 2 ^ k) d in
-      let high : (d + q * 2 ^ suc k) / 2 ≡ d / 2 + q * 2 ^ k = ap (λ t. t / 2) more ∙ even-high (q * 2 ^ k) d in
-      ap (λ b. kept (slice_get places (n % 16)) (b == 1) n ++ seen n k places ((d + q * 2 ^ suc k) / 2)) low
-      ∙ ap (λ rest. kept (slice_get places (n % 16)) (d % 2 == 1) n ++ rest) (ap (seen n k places) high ∙ seen-high n k q places (d / 2))
-
   -- where all are dropped none is kept
-  pub seen-dropped : (n k : ℕ) (places : List E) (d : ℕ) → suc d ≡ 2 ^ k → seen n k places d ≡ []
+  pub seen-dropped : (n k : ℕ) (places : List E) (d : ℕ) → ((i : ℕ) → i < 16 → bit_at d i ≡ 1) → seen n k places d ≡ []
   seen-dropped zero k places d all = refl
   seen-dropped (suc n) zero places d all = refl
   seen-dropped (suc n) (suc k) places d all =
-      let twice : suc d ≡ 2 * 2 ^ k = all ∙ pow-succ' 2 k in
-      let low : d % 2 ≡ 1 = odd (2 ^ k) twice in
-      let high : suc (d / 2) ≡ 2 ^ k = half (2 ^ k) twice in
-      ap (λ b. kept (slice_get places (n % 16)) (b == 1) n ++ seen n k places (d / 2)) low
-      ∙ gone (slice_get places (n % 16)) ∙ seen-dropped n k places (d / 2) high
+      ap (λ b. kept (slice_get places (n % 16)) (b == 1) n ++ seen n k places d) (all (n % 16) (omega arith))
+      ∙ gone (slice_get places (n % 16)) ∙ seen-dropped n k places d all
     where
-      odd : (t : ℕ) → suc d ≡ 2 * t → d % 2 ≡ 1
-      odd t e = omega arith
-
-      half : (t : ℕ) → suc d ≡ 2 * t → suc (d / 2) ≡ t
-      half t e = omega arith
-
-      gone : (place : Option E) → kept place true n ++ seen n k places (d / 2) ≡ seen n k places (d / 2)
+      gone : (place : Option E) → kept place true n ++ seen n k places d ≡ seen n k places d
       gone (Some item) = refl
       gone None = refl
 
   -- what stands elsewhere stays
-  seen-elsewhere : (m n k : ℕ) (places others : List E) (d : ℕ) → n ≤ m → k + m < n + 16 → ((i : ℕ) → i ≢ m % 16 → slice_get others i ≡ slice_get places i)
-      → seen n k others d ≡ seen n k places d
-  seen-elsewhere m zero k places others d up near same = refl
-  seen-elsewhere m (suc n) zero places others d up near same = refl
-  seen-elsewhere m (suc n) (suc k) places others d up near same =
-      ap (λ place. kept place (d % 2 == 1) n ++ seen n k others (d / 2)) (same (n % 16) (λ e. apart e))
-      ∙ ap (λ rest. kept (slice_get places (n % 16)) (d % 2 == 1) n ++ rest) (seen-elsewhere m n k places others (d / 2) (omega arith) (omega arith) same)
+  seen-elsewhere : (m n k : ℕ) (places others : List E) (d w : ℕ) → n ≤ m → k + m < n + 16
+      → ((i : ℕ) → i ≢ m % 16 → slice_get others i ≡ slice_get places i) → ((i : ℕ) → i < 16 → i ≢ m % 16 → bit_at w i ≡ bit_at d i)
+      → seen n k others w ≡ seen n k places d
+  seen-elsewhere m zero k places others d w up near same bits = refl
+  seen-elsewhere m (suc n) zero places others d w up near same bits = refl
+  seen-elsewhere m (suc n) (suc k) places others d w up near same bits =
+      ap (λ place. kept place (bit_at w (n % 16) == 1) n ++ seen n k others w) (same (n % 16) (λ e. apart e))
+      ∙ ap (λ b. kept (slice_get places (n % 16)) (b == 1) n ++ seen n k others w) (bits (n % 16) (omega arith) (λ e. apart e))
+      ∙ ap (λ rest. kept (slice_get places (n % 16)) (bit_at d (n % 16) == 1) n ++ rest) (seen-elsewhere m n k places others d w (omega arith) (omega arith) same bits)
     where
       apart : n % 16 ≢ m % 16
       apart e = omega arith
@@ -137,125 +127,180 @@ module _ {E : Type 0} where
   seen-young m zero k places d up near = refl
   seen-young m (suc n) zero places d up near =
       let old : ltb m (n + 16) ≡ false = le-ltb m (n + 16) (omega arith) in
-      ap (λ rest. filter (is_young m) (kept (slice_get places (n % 16)) (d % 2 == 1) n ++ rest)) (seen-none n places (d / 2))
-      ∙ out (slice_get places (n % 16)) (d % 2 == 1) old
+      ap (λ rest. filter (is_young m) (kept (slice_get places (n % 16)) (bit_at d (n % 16) == 1) n ++ rest)) (seen-none n places d)
+      ∙ out (slice_get places (n % 16)) (bit_at d (n % 16) == 1) old
     where
       out : (place : Option E) (is_dropped : Bool) → ltb m (n + 16) ≡ false → filter (is_young m) (kept place is_dropped n ++ []) ≡ []
       out (Some item) false old = rw old refl
       out (Some item) true old = refl
       out None is_dropped old = refl
   seen-young m (suc n) (suc k) places d up near =
-      stays (slice_get places (n % 16)) (d % 2 == 1) (lt-ltb m (n + 16) (omega arith)) (seen-young m n k places (d / 2) (omega arith) (omega arith))
+      stays (slice_get places (n % 16)) (bit_at d (n % 16) == 1) (lt-ltb m (n + 16) (omega arith)) (seen-young m n k places d (omega arith) (omega arith))
     where
-      stays : (place : Option E) (is_dropped : Bool) → ltb m (n + 16) ≡ true → filter (is_young m) (seen n (suc k) places (d / 2)) ≡ seen n k places (d / 2)
-          → filter (is_young m) (kept place is_dropped n ++ seen n (suc k) places (d / 2)) ≡ kept place is_dropped n ++ seen n k places (d / 2)
+      stays : (place : Option E) (is_dropped : Bool) → ltb m (n + 16) ≡ true → filter (is_young m) (seen n (suc k) places d) ≡ seen n k places d
+          → filter (is_young m) (kept place is_dropped n ++ seen n (suc k) places d) ≡ kept place is_dropped n ++ seen n k places d
       stays (Some item) false young rest = rw young (ap (λ zs. record { number = n; item = item } ∷ zs) rest)
       stays (Some item) true young rest = rest
       stays None is_dropped young rest = rest
 
   -- a fill comes to its place, and the one sixteen before it goes
-  pub seen-filled : (n : ℕ) (places others : List E) (d : ℕ) (item : E) → slice_get others (n % 16) ≡ Some item → ((i : ℕ) → i ≢ n % 16 → slice_get others i ≡ slice_get places i)
-      → seen (suc n) 16 others (d * 2 % 65536) ≡ record { number = n; item = item } ∷ filter (is_young n) (seen n 16 places d)
-  seen-filled n places others d item here same =
-      let low : d * 2 % 65536 % 2 ≡ 0 = omega arith in
-      let high : d * 2 % 65536 / 2 ≡ d % 32768 = omega arith in
-      let parts : d ≡ d % 32768 + d / 32768 * 2 ^ 15 = omega arith in
-      let rest : seen n 15 others (d * 2 % 65536 / 2) ≡ filter (is_young n) (seen n 16 places d) =
-      ap (seen n 15 others) high ∙ seen-elsewhere n n 15 places others (d % 32768) (omega arith) (omega arith) same
-      ∙ sym (seen-high n 15 (d / 32768) places (d % 32768)) ∙ ap (seen n 15 places) (sym parts)
-      ∙ sym (seen-young n n 15 places d (omega arith) (omega arith)) in
-      ap (λ b. kept (slice_get others (n % 16)) (b == 1) n ++ seen n 15 others (d * 2 % 65536 / 2)) low
-      ∙ ap (λ place. kept place false n ++ seen n 15 others (d * 2 % 65536 / 2)) here
+  pub seen-filled : (n : ℕ) (places others : List E) (d w : ℕ) (item : E) → slice_get others (n % 16) ≡ Some item → bit_at w (n % 16) ≡ 0
+      → ((i : ℕ) → i ≢ n % 16 → slice_get others i ≡ slice_get places i) → ((i : ℕ) → i < 16 → i ≢ n % 16 → bit_at w i ≡ bit_at d i)
+      → seen (suc n) 16 others w ≡ record { number = n; item = item } ∷ filter (is_young n) (seen n 16 places d)
+  seen-filled n places others d w item here clear same bits =
+      let rest : seen n 15 others w ≡ filter (is_young n) (seen n 16 places d) =
+      seen-elsewhere n n 15 places others d w (omega arith) (omega arith) same bits ∙ sym (seen-young n n 15 places d (omega arith) (omega arith)) in
+      ap (λ b. kept (slice_get others (n % 16)) (b == 1) n ++ seen n 15 others w) clear
+      ∙ ap (λ place. kept place false n ++ seen n 15 others w) here
       ∙ ap (λ zs. record { number = n; item = item } ∷ zs) rest
 
   -- one fill more, older than the others
-  pub seen-more : (n k m : ℕ) (places : List E) (d : ℕ) → m + suc k ≡ n → seen n (suc k) places d ≡ seen n k places d ++ kept (slice_get places (m % 16)) (d / 2 ^ k % 2 == 1) m
+  pub seen-more : (n k m : ℕ) (places : List E) (d : ℕ) → m + suc k ≡ n
+      → seen n (suc k) places d ≡ seen n k places d ++ kept (slice_get places (m % 16)) (bit_at d (m % 16) == 1) m
   seen-more zero k m places d last = absurd (omega arith)
   seen-more (suc n) zero m places d last =
       let same : n ≡ m = omega arith in
-      ap (λ rest. kept (slice_get places (n % 16)) (d % 2 == 1) n ++ rest) (seen-none n places (d / 2)) ∙ append-nil (kept (slice_get places (n % 16)) (d % 2 == 1) n)
-      ∙ ap (λ i. kept (slice_get places (i % 16)) (d % 2 == 1) i) same ∙ ap (λ w. kept (slice_get places (m % 16)) (w % 2 == 1) m) (sym (div-one d))
+      ap (λ rest. kept (slice_get places (n % 16)) (bit_at d (n % 16) == 1) n ++ rest) (seen-none n places d)
+      ∙ append-nil (kept (slice_get places (n % 16)) (bit_at d (n % 16) == 1) n)
+      ∙ ap (λ i. kept (slice_get places (i % 16)) (bit_at d (i % 16) == 1) i) same
   seen-more (suc n) (suc k) m places d last =
-      let shifted : d / 2 / 2 ^ k ≡ d / 2 ^ suc k = div-div-eq-div-mul d 2 (2 ^ k) ∙ ap (λ t. d / t) (sym (pow-succ' 2 k)) in
-      ap (λ rest. kept (slice_get places (n % 16)) (d % 2 == 1) n ++ rest)
-      (seen-more n k m places (d / 2) (omega arith) ∙ ap (λ w. seen n k places (d / 2) ++ kept (slice_get places (m % 16)) (w % 2 == 1) m) shifted)
-      ∙ sym (append_assoc (kept (slice_get places (n % 16)) (d % 2 == 1) n) (seen n k places (d / 2)) (kept (slice_get places (m % 16)) (d / 2 ^ suc k % 2 == 1) m))
+      ap (λ rest. kept (slice_get places (n % 16)) (bit_at d (n % 16) == 1) n ++ rest) (seen-more n k m places d (omega arith))
+      ∙ sym (append_assoc (kept (slice_get places (n % 16)) (bit_at d (n % 16) == 1) n) (seen n k places d) (kept (slice_get places (m % 16)) (bit_at d (m % 16) == 1) m))
 
   -- the newest of the fills, and the others
-  seen-at : (m j n k : ℕ) (places : List E) (d : ℕ) → m ≡ suc n → j ≡ suc k → seen m j places d ≡ kept (slice_get places (n % 16)) (d % 2 == 1) n ++ seen n k places (d / 2)
+  seen-at : (m j n k : ℕ) (places : List E) (d : ℕ) → m ≡ suc n → j ≡ suc k → seen m j places d ≡ kept (slice_get places (n % 16)) (bit_at d (n % 16) == 1) n ++ seen n k places d
   seen-at m j n k places d first many = rw (first, many) refl
 
   -- two contents with equal parts
   pub same_contents : (n m : ℕ) (xs ys : List (Numbered E)) → n ≡ m → xs ≡ ys → (let a : Contents E = record { next = n; live = xs } in a) ≡ record { next = m; live = ys }
   same_contents n m xs ys e k = cc
 
-  pub filled-contents : (n : ℕ) (places others : List E) (d : ℕ) (item : E) → slice_get others (n % 16) ≡ Some item → ((i : ℕ) → i ≢ n % 16 → slice_get others i ≡ slice_get places i)
-      → (let a : Contents E = record { next = n + 1; live = seen (n + 1) 16 others (d * 2 % 65536) } in a) ≡ filled (record { next = n; live = seen n 16 places d }) item
-  filled-contents n places others d item here same =
-      same_contents (n + 1) (n + 1) (seen (n + 1) 16 others (d * 2 % 65536)) (record { number = n; item = item } ∷ filter (is_young n) (seen n 16 places d)) refl
-      (ap (λ m. seen m 16 others (d * 2 % 65536)) (add-one n) ∙ seen-filled n places others d item here same)
+  pub filled-contents : (n : ℕ) (places others : List E) (d w : ℕ) (item : E) → slice_get others (n % 16) ≡ Some item → bit_at w (n % 16) ≡ 0
+      → ((i : ℕ) → i ≢ n % 16 → slice_get others i ≡ slice_get places i) → ((i : ℕ) → i < 16 → i ≢ n % 16 → bit_at w i ≡ bit_at d i)
+      → (let a : Contents E = record { next = n + 1; live = seen (n + 1) 16 others w } in a) ≡ filled (record { next = n; live = seen n 16 places d }) item
+  filled-contents n places others d w item here clear same bits =
+      same_contents (n + 1) (n + 1) (seen (n + 1) 16 others w) (record { number = n; item = item } ∷ filter (is_young n) (seen n 16 places d)) refl
+      (ap (λ m. seen m 16 others w) (add-one n) ∙ seen-filled n places others d w item here clear same bits)
 
   -- a list whose items were all written
   pub refill-same : (xs ws : List E) → length ws ≡ length xs → refill (length xs) xs ws ≡ ws
   refill-same xs ws long = take-append-le (length xs) ws (drop (length ws) xs) (omega arith) ∙ take_all (length xs) ws (omega arith)
 
-  -- what a fence leaves of one fill more
-  pub fenced-more : (p : Numbered E → Bool) (m j n k : ℕ) (places : List E) (d w : ℕ) (item : E) → m ≡ suc n → j ≡ suc k → slice_get places (n % 16) ≡ Some item
-      → (gone : Bool) → gone ≡ (d % 2 == 1) || not (p (record { number = n; item = item }))
-      → seen n k places w ≡ filter p (seen n k places (d / 2)) → seen m j places (w * 2 + cond gone 1 0) ≡ filter p (seen m j places d)
-  fenced-more p m j n k places d w item first many here gone which rest =
-      seen-at m j n k places (w * 2 + cond gone 1 0) first many
-      ∙ ap (λ place. kept place ((w * 2 + cond gone 1 0) % 2 == 1) n ++ seen n k places ((w * 2 + cond gone 1 0) / 2)) here
-      ∙ ap (λ v. kept (Some item) ((w * 2 + cond gone 1 0) % 2 == 1) n ++ seen n k places v) (high gone)
-      ∙ ap (λ b. kept (Some item) b n ++ seen n k places w) (low gone ∙ which)
-      ∙ by_test (d % 2 == 1) (p (record { number = n; item = item })) refl
-      ∙ sym (ap (filter p) (seen-at m j n k places d first many ∙ ap (λ place. kept place (d % 2 == 1) n ++ seen n k places (d / 2)) here))
+  -- what a fence leaves, by its places
+  fenced-places : (p : Numbered E → Bool) (q : E → Bool) → ((fill : Numbered E) → p fill ≡ not (q fill.item)) → (n k : ℕ) (places : List E) (d w : ℕ)
+      → ((i : ℕ) (item : E) → i < 16 → slice_get places i ≡ Some item → (bit_at w i == 1) ≡ (bit_at d i == 1) || q item)
+      → seen n k places w ≡ filter p (seen n k places d)
+  fenced-places p q is zero k places d w which = refl
+  fenced-places p q is (suc n) zero places d w which = refl
+  fenced-places p q is (suc n) (suc k) places d w which =
+      by_place (slice_get places (n % 16)) (which (n % 16)) (fenced-places p q is n k places d w which)
     where
-      high : (b : Bool) → (w * 2 + cond b 1 0) / 2 ≡ w
-      high true = omega arith
-      high false = omega arith
+      by_bits : (item : E) (new old gone : Bool) → new ≡ old || gone → p (record { number = n; item = item }) ≡ not gone
+          → seen n k places w ≡ filter p (seen n k places d) → kept (Some item) new n ++ seen n k places w ≡ filter p (kept (Some item) old n ++ seen n k places d)
+      by_bits item true true gone e keeps rest = rest
+      by_bits item false true gone e keeps rest = cc
+      by_bits item true false false e keeps rest = cc
+      by_bits item true false true e keeps rest = rw keeps rest
+      by_bits item false false false e keeps rest = rw keeps (ap (λ zs. record { number = n; item = item } ∷ zs) rest)
+      by_bits item false false true e keeps rest = cc
 
-      low : (b : Bool) → ((w * 2 + cond b 1 0) % 2 == 1) ≡ b
-      low true = let e : (w * 2 + 1) % 2 ≡ 1 = omega arith in rw e refl
-      low false = let e : (w * 2 + 0) % 2 ≡ 0 = omega arith in rw e refl
+      by_place : (place : Option E) → ((item : E) → n % 16 < 16 → place ≡ Some item → (bit_at w (n % 16) == 1) ≡ (bit_at d (n % 16) == 1) || q item)
+          → seen n k places w ≡ filter p (seen n k places d)
+          → kept place (bit_at w (n % 16) == 1) n ++ seen n k places w ≡ filter p (kept place (bit_at d (n % 16) == 1) n ++ seen n k places d)
+      by_place None here rest = rest
+      by_place (Some item) here rest =
+          by_bits item (bit_at w (n % 16) == 1) (bit_at d (n % 16) == 1) (q item) (here item (omega arith) refl) (is (record { number = n; item = item })) rest
 
-      by_test : (old keep : Bool) → p (record { number = n; item = item }) ≡ keep
-          → kept (Some item) (old || not keep) n ++ seen n k places w ≡ filter p (kept (Some item) old n ++ seen n k places (d / 2))
-      by_test true keep is = rest
-      by_test false true is = rw is (ap (λ zs. record { number = n; item = item } ∷ zs) rest)
-      by_test false false is = rw is rest
+  -- a fence that has looked at all places but those whose bits are left
+  pub record IsFenced (q : E → Bool) (places : List E) (d left w : ℕ) : Type 0 where
+    pub done : (i : ℕ) (item : E) → i < 16 → slice_get places i ≡ Some item → bit_at left i ≡ 0 → (bit_at w i == 1) ≡ (bit_at d i == 1) || q item
+    pub undone : (i : ℕ) → i < 16 → bit_at left i ≡ 1 → (bit_at w i ≡ 0) × (bit_at d i ≡ 0)
 
-  -- a search that goes past the newest of the fills, or ends there
-  pub found-past : (p : Numbered E → Bool) (m j n k : ℕ) (places : List E) (d : ℕ) (item : E) → m ≡ suc n → j ≡ suc k → slice_get places (n % 16) ≡ Some item
-      → ((d % 2 == 0) && p (record { number = n; item = item })) ≡ false → find p (seen m j places d) ≡ find p (seen n k places (d / 2))
-  found-past p m j n k places d item first many here past =
-      ap (find p) (seen-at m j n k places d first many ∙ ap (λ place. kept place (d % 2 == 1) n ++ seen n k places (d / 2)) here)
-      ∙ by_bit (d % 2) (p (record { number = n; item = item })) (omega arith) refl past
+  -- no two items stand in one place
+  same_place : (q : E → Bool) (places : List E) (i j : ℕ) (x y : E) → i ≡ j → slice_get places i ≡ Some x → slice_get places j ≡ Some y → q x ≡ q y
+  same_place q places i j x y e here there = ap test (sym here ∙ ap (slice_get places) e ∙ there)
     where
-      by_bit : (bit : ℕ) (met : Bool) → bit < 2 → p (record { number = n; item = item }) ≡ met → ((bit == 0) && met) ≡ false
-          → find p (kept (Some item) (bit == 1) n ++ seen n k places (d / 2)) ≡ find p (seen n k places (d / 2))
-      by_bit zero true below is past = cc
-      by_bit zero false below is past = rw is refl
-      by_bit (suc zero) met below is past = refl
-      by_bit (suc (suc bit)) met below is past = absurd (omega arith)
+      test : Option E → Bool
+      test None = false
+      test (Some z) = q z
 
-  pub found-here : (p : Numbered E → Bool) (m j n k : ℕ) (places : List E) (d : ℕ) (item : E) → m ≡ suc n → j ≡ suc k → slice_get places (n % 16) ≡ Some item
-      → d % 2 ≡ 0 → p (record { number = n; item = item }) ≡ true → find p (seen m j places d) ≡ Some (record { number = n; item = item })
-  found-here p m j n k places d item first many here even met =
-      ap (find p) (seen-at m j n k places d first many ∙ ap (λ place. kept place (d % 2 == 1) n ++ seen n k places (d / 2)) here)
-      ∙ ap (λ bit. find p (kept (Some item) (bit == 1) n ++ seen n k places (d / 2))) even ∙ (rw met refl)
+  pub fence_begins : (q : E → Bool) (places : List E) (d left : ℕ) → length places ≤ 16 → left < 2 ^ length places
+      → ((i : ℕ) → i < length places → bit_at left i ≡ 1 - bit_at d i) → IsFenced q places d left d
+  fence_begins q places d left few small bits = record {
+    done = λ i item below here clear.
+        let within = below_length places i item here in
+        let gone : bit_at d i ≡ 1 = omega (arith, bits i within, clear, bit_at-lt d i) in
+        rw gone refl;
+    undone = λ i below set.
+        let kept : bit_at d i ≡ 0 = omega (arith, bits i (bit-below left (length places) i small set), set) in
+        (kept, kept);
+  }
+    where
+      below_length : (xs : List E) (i : ℕ) (x : E) → slice_get xs i ≡ Some x → i < length xs
+      below_length [] i x here = cc
+      below_length (y ∷ xs) zero x here = omega arith
+      below_length (y ∷ xs) (suc i) x here = let l = below_length xs i x here in omega arith
+
+  pub fence_drops : (q : E → Bool) (places : List E) (d left w rest v place : ℕ) (item : E) → IsFenced q places d left w → place < 16
+      → slice_get places place ≡ Some item → q item ≡ true → bit_at left place ≡ 1 → bit_at rest place ≡ 0
+      → ((i : ℕ) → i < 16 → i ≢ place → bit_at rest i ≡ bit_at left i) → bit_at v place ≡ 1 → ((i : ℕ) → i ≢ place → bit_at v i ≡ bit_at w i)
+      → IsFenced q places d rest v
+  fence_drops q places d left w rest v place item before below here covered set clear same dropped others = record {
+    done = λ i x within there looked. done i x within there looked (i == place) refl;
+    undone = λ i within is.
+        let other : i ≢ place = λ e. absurd (omega (arith, is, ap (bit_at rest) e, clear)) in
+        let was = before.undone i within (sym (same i within other) ∙ is) in
+        (others i other ∙ was.0, was.1);
+  }
+    where
+      done : (i : ℕ) (x : E) → i < 16 → slice_get places i ≡ Some x → bit_at rest i ≡ 0 → (b : Bool) → (i == place) ≡ b → (bit_at v i == 1) ≡ (bit_at d i == 1) || q x
+      done i x within there looked true is =
+          let e = eqb-true i place is in
+          let old : bit_at d i ≡ 0 = ap (bit_at d) e ∙ (before.undone place below set).1 in
+          let new : bit_at v i ≡ 1 = ap (bit_at v) e ∙ dropped in
+          let one : q x ≡ true = same_place q places i place x item e there here ∙ covered in
+          rw (old, new, one) refl
+      done i x within there looked false is =
+          let other = eqb-false i place is in
+          ap (λ b. b == 1) (others i other) ∙ before.done i x within there (sym (same i within other) ∙ looked)
+
+  pub fence_spares : (q : E → Bool) (places : List E) (d left w rest place : ℕ) (item : E) → IsFenced q places d left w → place < 16
+      → slice_get places place ≡ Some item → q item ≡ false → bit_at left place ≡ 1 → bit_at rest place ≡ 0
+      → ((i : ℕ) → i < 16 → i ≢ place → bit_at rest i ≡ bit_at left i) → IsFenced q places d rest w
+  fence_spares q places d left w rest place item before below here spared set clear same = record {
+    done = λ i x within there looked. done i x within there looked (i == place) refl;
+    undone = λ i within is.
+        let other : i ≢ place = λ e. absurd (omega (arith, is, ap (bit_at rest) e, clear)) in
+        before.undone i within (sym (same i within other) ∙ is);
+  }
+    where
+      done : (i : ℕ) (x : E) → i < 16 → slice_get places i ≡ Some x → bit_at rest i ≡ 0 → (b : Bool) → (i == place) ≡ b → (bit_at w i == 1) ≡ (bit_at d i == 1) || q x
+      done i x within there looked true is =
+          let e = eqb-true i place is in
+          let was = before.undone place below set in
+          let old : bit_at d i ≡ 0 = ap (bit_at d) e ∙ was.1 in
+          let new : bit_at w i ≡ 0 = ap (bit_at w) e ∙ was.0 in
+          let one : q x ≡ false = same_place q places i place x item e there here ∙ spared in
+          rw (old, new, one) refl
+      done i x within there looked false is =
+          let other = eqb-false i place is in
+          before.done i x within there (sym (same i within other) ∙ looked)
+
+  pub fence_ends : (p : Numbered E → Bool) (q : E → Bool) → ((fill : Numbered E) → p fill ≡ not (q fill.item)) → (n k : ℕ) (places : List E) (d w : ℕ)
+      → IsFenced q places d 0 w → seen n k places w ≡ filter p (seen n k places d)
+  fence_ends p q is n k places d w all = fenced-places p q is n k places d w (λ i item below here. all.done i item below here (bit_at-zero i))
 
   -- the newest fills, and the others
-  seen-split : (n a b k m : ℕ) (places : List E) → m + a ≡ n → a + b ≡ k → seen n k places 0 ≡ seen n a places 0 ++ seen m b places 0
-  seen-split n zero b k m places parts whole =
+  seen-split : (n a b k m : ℕ) (places : List E) (d : ℕ) → m + a ≡ n → a + b ≡ k → seen n k places d ≡ seen n a places d ++ seen m b places d
+  seen-split n zero b k m places d parts whole =
       let same : n ≡ m = omega arith in
       let all : k ≡ b = omega arith in
-      ap (λ i. seen i k places 0) same ∙ ap (λ q. seen m q places 0) all ∙ ap (λ zs. zs ++ seen m b places 0) (sym (seen-none n places 0))
-  seen-split zero (suc a) b k m places parts whole = absurd (omega arith)
-  seen-split (suc n) (suc a) b zero m places parts whole = absurd (omega arith)
-  seen-split (suc n) (suc a) b (suc k) m places parts whole =
-      ap (λ zs. kept (slice_get places (n % 16)) false n ++ zs) (seen-split n a b k m places (omega arith) (omega arith))
-      ∙ sym (append_assoc (kept (slice_get places (n % 16)) false n) (seen n a places 0) (seen m b places 0))
+      ap (λ i. seen i k places d) same ∙ ap (λ q. seen m q places d) all ∙ ap (λ zs. zs ++ seen m b places d) (sym (seen-none n places d))
+  seen-split zero (suc a) b k m places d parts whole = absurd (omega arith)
+  seen-split (suc n) (suc a) b zero m places d parts whole = absurd (omega arith)
+  seen-split (suc n) (suc a) b (suc k) m places d parts whole =
+      ap (λ zs. kept (slice_get places (n % 16)) (bit_at d (n % 16) == 1) n ++ zs) (seen-split n a b k m places d (omega arith) (omega arith))
+      ∙ sym (append_assoc (kept (slice_get places (n % 16)) (bit_at d (n % 16) == 1) n) (seen n a places d) (seen m b places d))
 
   -- so many fills within one turn over the places, by the items of the places, from the last one down
   items_down : (n base i j : ℕ) (places : List E) → n ≡ base + i → base % 16 ≡ 0 → i ≤ 16 → i ≤ length places → j ≤ i
@@ -268,6 +313,7 @@ module _ {E : Type 0} where
       let place : (base + i) % 16 ≡ i = omega arith in
       let one : map (λ fill. fill.item) (seen n (suc j) places 0) ≡ x.item ∷ map (λ fill. fill.item) (seen (base + i) j places 0) =
       ap (map (λ fill. fill.item)) (seen-at n (suc j) (base + i) j places 0 (omega arith) refl
+      ∙ ap (λ b. kept (slice_get places ((base + i) % 16)) (b == 1) (base + i) ++ seen (base + i) j places 0) (bit_at-zero ((base + i) % 16))
       ∙ ap (λ q. kept (slice_get places q) false (base + i) ++ seen (base + i) j places 0) place
       ∙ ap (λ q. kept q false (base + i) ++ seen (base + i) j places 0) x.here) in
       let less : suc i - suc j ≡ i - j = omega arith in
@@ -287,7 +333,7 @@ module _ {E : Type 0} where
       let newer : map (λ fill. fill.item) (seen n c places 0) ≡ reverse (take c places) =
       items_down n (n - c) c c places (omega arith) (omega arith) (omega arith) (omega (arith, full)) (omega arith)
       ∙ ap (λ q. reverse (drop q (take c places))) nothing in
-      ap (map (λ fill. fill.item)) (seen-split n c (16 - c) 16 (n - c) places (omega arith) whole)
+      ap (map (λ fill. fill.item)) (seen-split n c (16 - c) 16 (n - c) places 0 (omega arith) whole)
       ∙ map-append (λ fill. fill.item) (seen n c places 0) (seen (n - c) (16 - c) places 0)
       ∙ ap (λ zs. zs ++ map (λ fill. fill.item) (seen (n - c) (16 - c) places 0)) newer
       ∙ ap (λ zs. reverse (take c places) ++ zs) (older (ltb n 16) refl)
@@ -319,103 +365,220 @@ module _ {E : Type 0} where
   hit-halves h n places full =
       find_item h (seen n 16 places 0) ∙ ap (find h) (items_all n places full) ∙ find-append h (reverse (take (n % 16) places)) (reverse (drop (n % 16) places))
 
-  -- the fills that were made before these
-  pub seen-rest : (n : ℕ) (places : List E) (d : ℕ) → length places ≡ min 16 n → seen (n - length places) (16 - length places) places d ≡ []
-  seen-rest n places d full = by_room (ltb n 16) refl
+  -- none of so many places has its bit set
+  pub marked-none : (k : ℕ) (places : List E) (w : ℕ) → ((i : ℕ) → i < k → bit_at w i ≡ 0) → marked k places w ≡ []
+  marked-none zero places w none = refl
+  marked-none (suc k) places w none =
+      ap (λ b. marked_at (slice_get places k) (b == 1) ++ marked k places w) (none k (omega arith))
+      ∙ out (slice_get places k) ∙ marked-none k places w (λ i below. none i (omega arith))
     where
-      by_room : (b : Bool) → ltb n 16 ≡ b → seen (n - length places) (16 - length places) places d ≡ []
-      by_room true few =
-          let below = ltb-true n 16 few in
-          let none : n - length places ≡ 0 = omega (arith, full) in
-          ap (λ m. seen m (16 - length places) places d) none
-      by_room false many =
-          let above = ltb-false n 16 many in
-          let none : 16 - length places ≡ 0 = omega (arith, full) in
-          ap (λ k. seen (n - length places) k places d) none ∙ seen-none (n - length places) places d
+      out : (place : Option E) → marked_at place false ++ marked k places w ≡ marked k places w
+      out (Some item) = refl
+      out None = refl
 
-  -- none is kept of the fills that were made before these, where all were dropped
-  pub seen-behind : (n m : ℕ) (places : List E) (d : ℕ) → length places ≡ min 16 n → m ≤ length places
-      → d / 2 ^ m % 2 ^ (length places - m) ≡ 2 ^ (length places - m) - 1 → seen (n - m) (16 - m) places (d / 2 ^ m) ≡ []
-  seen-behind n m places d full few gone =
-      let k = length places - m in
-      let w = d / 2 ^ m in
-      by_room (ltb n 16) refl
-      ∙ ap (seen (n - m) k places) (sym (div-add-mod' w (2 ^ k)) ∙ omega arith)
-      ∙ seen-high (n - m) k (w / 2 ^ k) places (w % 2 ^ k)
-      ∙ seen-dropped (n - m) k places (w % 2 ^ k) (omega (arith, gone, pow_pos k))
+  -- no bit is set from a place on
+  marked-low : (j k : ℕ) (places : List E) (w : ℕ) → j ≤ k → ((i : ℕ) → j ≤ i → i < k → bit_at w i ≡ 0) → marked k places w ≡ marked j places w
+  marked-low j zero places w few none = let e : j ≡ 0 = omega arith in ap (λ q. marked q places w) (sym e)
+  marked-low j (suc k) places w few none =
+      by_size (ltb k j) refl (λ above. marked-low j k places w above (λ i from below. none i from (omega arith)))
     where
-      by_room : (b : Bool) → ltb n 16 ≡ b → seen (n - m) (16 - m) places (d / 2 ^ m) ≡ seen (n - m) (length places - m) places (d / 2 ^ m)
-      by_room true young = let below = ltb-true n 16 young in seen-all (n - m) (16 - m) (length places - m) places (d / 2 ^ m) (omega arith) (omega (arith, full))
-      by_room false old =
-          let above = ltb-false n 16 old in
-          let all : 16 - m ≡ length places - m = omega (arith, full) in
-          ap (λ k. seen (n - m) k places (d / 2 ^ m)) all
+      out : (place : Option E) → marked_at place false ++ marked k places w ≡ marked k places w
+      out (Some item) = refl
+      out None = refl
+
+      by_size : (b : Bool) → ltb k j ≡ b → (j ≤ k → marked k places w ≡ marked j places w) → marked (suc k) places w ≡ marked j places w
+      by_size true is rest = let e : j ≡ suc k = omega (arith, ltb-true k j is) in ap (λ q. marked q places w) (sym e)
+      by_size false is rest =
+          let above = ltb-false k j is in
+          ap (λ b. marked_at (slice_get places k) (b == 1) ++ marked k places w) (none k above (omega arith)) ∙ out (slice_get places k) ∙ rest above
+
+  marked-agree : (k : ℕ) (places : List E) (v w : ℕ) → ((i : ℕ) → i < k → bit_at v i ≡ bit_at w i) → marked k places v ≡ marked k places w
+  marked-agree zero places v w same = refl
+  marked-agree (suc k) places v w same =
+      ap (λ b. marked_at (slice_get places k) (b == 1) ++ marked k places v) (same k (omega arith))
+      ∙ ap (λ zs. marked_at (slice_get places k) (bit_at w k == 1) ++ zs) (marked-agree k places v w (λ i below. same i (omega arith)))
+
+  -- the item of the last place whose bit is set, and the others
+  pub marked-last : (j k : ℕ) (places : List E) (v w : ℕ) (item : E) → j < k → slice_get places j ≡ Some item → bit_at v j ≡ 1
+      → ((i : ℕ) → j < i → i < k → bit_at v i ≡ 0) → bit_at w j ≡ 0 → ((i : ℕ) → i < k → i ≢ j → bit_at w i ≡ bit_at v i)
+      → marked k places v ≡ item ∷ marked k places w
+  marked-last j k places v w item below here set none clear same =
+      marked-low (suc j) k places v below (λ i from to. none i from to)
+      ∙ ap (λ b. marked_at (slice_get places j) (b == 1) ++ marked j places v) set
+      ∙ ap (λ place. marked_at place true ++ marked j places v) here
+      ∙ ap (λ zs. item ∷ zs) (marked-agree j places v w (λ i few. sym (same i (omega arith) (λ e. omega arith)))
+      ∙ sym (marked-low j k places w (omega arith) (λ i from to. above i from to (ltb j i) refl)))
+    where
+      above : (i : ℕ) → j ≤ i → i < k → (b : Bool) → ltb j i ≡ b → bit_at w i ≡ 0
+      above i from to true is = let up = ltb-true j i is in same i to (λ e. omega arith) ∙ none i up to
+      above i from to false is = let e : i ≡ j = omega (arith, ltb-false j i is) in ap (bit_at w) e ∙ clear
+
+  -- so many fills within one turn over the places, from the last place down
+  seen_marked : (n base i j : ℕ) (places : List E) (d w : ℕ) → n ≡ base + i → base % 16 ≡ 0 → i ≤ 16 → j ≤ i
+      → ((q : ℕ) → q < i → i ≤ q + j → bit_at w q ≡ 1 - bit_at d q) → ((q : ℕ) → q + j < i → bit_at w q ≡ 0)
+      → map (λ fill. fill.item) (seen n j places d) ≡ marked i places w
+  seen_marked n base i zero places d w is turn within down bits none =
+      ap (map (λ fill. fill.item)) (seen-none n places d) ∙ sym (marked-none i places w (λ q below. none q (omega arith)))
+  seen_marked n base zero (suc j) places d w is turn within down bits none = absurd (omega arith)
+  seen_marked n base (suc i) (suc j) places d w is turn within down bits none =
+      let place : (base + i) % 16 ≡ i = omega arith in
+      ap (map (λ fill. fill.item)) (seen-at n (suc j) (base + i) j places d (omega arith) refl
+      ∙ ap (λ q. kept (slice_get places q) (bit_at d q == 1) (base + i) ++ seen (base + i) j places d) place)
+      ∙ map-append (λ fill. fill.item) (kept (slice_get places i) (bit_at d i == 1) (base + i)) (seen (base + i) j places d)
+      ∙ ap (λ zs. zs ++ map (λ fill. fill.item) (seen (base + i) j places d)) (one (slice_get places i) (bit_at d i) (bit_at w i) (bit_at-lt d i) (bits i (omega arith) (omega arith)))
+      ∙ ap (λ zs. marked_at (slice_get places i) (bit_at w i == 1) ++ zs)
+      (seen_marked (base + i) base i j places d w refl turn (omega arith) (omega arith) (λ q below from. bits q (omega arith) (omega arith)) (λ q below. none q (omega arith)))
+    where
+      one : (place : Option E) (old new : ℕ) → old < 2 → new ≡ 1 - old → map (λ fill. fill.item) (kept place (old == 1) (base + i)) ≡ marked_at place (new == 1)
+      one None old new small is = refl
+      one (Some item) zero new small is = rw is refl
+      one (Some item) (suc zero) new small is = rw is refl
+      one (Some item) (suc (suc old)) new small is = absurd (omega arith)
+
+  -- the look-up where some were dropped, in two parts: the bits of the places before that of the next fill, and the others
+  pub hit-marked : (h : E → Bool) (n : ℕ) (places : List E) (d w : ℕ) → length places ≡ min 16 n → w < 2 ^ length places
+      → ((q : ℕ) → q < length places → bit_at w q ≡ 1 - bit_at d q)
+      → option_map (λ fill. fill.item) (find (λ fill. h fill.item) (seen n 16 places d))
+      ≡ option_or (find h (marked (length places) places (w % 2 ^ (n % 16)))) (find h (marked (length places) places (w - w % 2 ^ (n % 16))))
+  hit-marked h n places d w full small bits =
+      let c = n % 16 in
+      let whole : c + (16 - c) ≡ 16 = omega arith in
+      let above : w - w % 2 ^ c ≡ (w / 2 ^ c) * 2 ^ c + 0 = omega (arith, div-add-mod' w (2 ^ c)) in
+      find_item h (seen n 16 places d)
+      ∙ ap (λ fills. find h (map (λ fill. fill.item) fills)) (seen-split n c (16 - c) 16 (n - c) places d (omega arith) whole)
+      ∙ ap (find h) (map-append (λ fill. fill.item) (seen n c places d) (seen (n - c) (16 - c) places d)
+      ∙ ap (λ zs. zs ++ map (λ fill. fill.item) (seen (n - c) (16 - c) places d)) newer
+      ∙ ap (λ zs. marked 16 places (w % 2 ^ c) ++ zs) (older (ltb n 16) refl ∙ ap (marked 16 places) (sym above))
+      ∙ ap (λ zs. zs ++ marked 16 places (w - w % 2 ^ c)) (within (w % 2 ^ c) (omega (arith, div-add-mod' w (2 ^ c))))
+      ∙ ap (λ zs. marked (length places) places (w % 2 ^ c) ++ zs) (within (w - w % 2 ^ c) (omega arith)))
+      ∙ find-append h (marked (length places) places (w % 2 ^ c)) (marked (length places) places (w - w % 2 ^ c))
+    where
+      within : (v : ℕ) → v ≤ w → marked 16 places v ≡ marked (length places) places v
+      within v few = marked-low (length places) 16 places v (omega (arith, full)) (λ q from to. bit_at_above v (length places) q (omega (arith, small)) from)
+
+      high : (q : ℕ) → n % 16 ≤ q → bit_at ((w / 2 ^ (n % 16)) * 2 ^ (n % 16) + 0) q ≡ bit_at w q
+      high q from =
+          bit_at_cat_high (w / 2 ^ (n % 16)) (n % 16) 0 q (pow_pos (n % 16)) from
+          ∙ sym (ap (λ v. bit_at v q) (sym (div-add-mod' w (2 ^ (n % 16)))) ∙ bit_at_cat_high (w / 2 ^ (n % 16)) (n % 16) (w % 2 ^ (n % 16)) q (mod-lt w (pow_pos (n % 16))) from)
+
+      newer : map (λ fill. fill.item) (seen n (n % 16) places d) ≡ marked 16 places (w % 2 ^ (n % 16))
+      newer =
+          seen_marked n (n - n % 16) (n % 16) (n % 16) places d (w % 2 ^ (n % 16)) (omega arith) (omega arith) (omega arith) (omega arith)
+          (λ q below from. bit-mod w (n % 16) q below ∙ bits q (omega (arith, full))) (λ q below. absurd (omega arith))
+          ∙ sym (marked-low (n % 16) 16 places (w % 2 ^ (n % 16)) (omega arith) (λ q from to. bit_at_above (w % 2 ^ (n % 16)) (n % 16) q (mod-lt w (pow_pos (n % 16))) from))
+
+      older : (b : Bool) → ltb n 16 ≡ b → map (λ fill. fill.item) (seen (n - n % 16) (16 - n % 16) places d) ≡ marked 16 places ((w / 2 ^ (n % 16)) * 2 ^ (n % 16) + 0)
+      older true young =
+          let few = ltb-true n 16 young in
+          let none : n - n % 16 ≡ 0 = omega arith in
+          let same : length places ≡ n % 16 = omega (arith, full) in
+          ap (λ m. map (λ fill. fill.item) (seen m (16 - n % 16) places d)) none
+          ∙ sym (marked-none 16 places ((w / 2 ^ (n % 16)) * 2 ^ (n % 16) + 0)
+          (λ q below. empty q (ltb q (n % 16)) refl same))
+        where
+          empty : (q : ℕ) (b : Bool) → ltb q (n % 16) ≡ b → length places ≡ n % 16 → bit_at ((w / 2 ^ (n % 16)) * 2 ^ (n % 16) + 0) q ≡ 0
+          empty q true is same = bit_at_cat_low (w / 2 ^ (n % 16)) (n % 16) 0 q (ltb-true q (n % 16) is) ∙ bit_at-zero q
+          empty q false is same =
+              let from = ltb-false q (n % 16) is in
+              high q from ∙ bit_at_above w (length places) q small (omega (arith, same))
+      older false old =
+          let many = ltb-false n 16 old in
+          seen_marked (n - n % 16) (n - n % 16 - 16) 16 (16 - n % 16) places d ((w / 2 ^ (n % 16)) * 2 ^ (n % 16) + 0) (omega arith) (omega arith) (omega arith) (omega arith)
+          (λ q below from. high q (omega arith) ∙ bits q (omega (arith, full)))
+          (λ q below. bit_at_cat_low (w / 2 ^ (n % 16)) (n % 16) 0 q (omega arith) ∙ bit_at-zero q)
 
   -- what is left to show, from the oldest on: the fill of this number first, or not where it was dropped
-  pub live-first : (n k m : ℕ) (places : List E) (d : ℕ) (item : E) → m + suc k ≡ n → slice_get places (m % 16) ≡ Some item → d / 2 ^ k % 2 ≡ 0
+  pub live-first : (n k m : ℕ) (places : List E) (d : ℕ) (item : E) → m + suc k ≡ n → slice_get places (m % 16) ≡ Some item → bit_at d (m % 16) ≡ 0
       → reverse (seen n (suc k) places d) ≡ record { number = m; item = item } ∷ reverse (seen n k places d)
   live-first n k m places d item last here even =
-      ap reverse (seen-more n k m places d last ∙ ap (λ place. seen n k places d ++ kept place (d / 2 ^ k % 2 == 1) m) here
+      ap reverse (seen-more n k m places d last ∙ ap (λ place. seen n k places d ++ kept place (bit_at d (m % 16) == 1) m) here
       ∙ ap (λ bit. seen n k places d ++ kept (Some item) (bit == 1) m) even)
       ∙ reverse-append (seen n k places d) (record { number = m; item = item } ∷ [])
 
-  pub live-past : (n k m : ℕ) (places : List E) (d : ℕ) → m + suc k ≡ n → d / 2 ^ k % 2 ≢ 0 → seen n (suc k) places d ≡ seen n k places d
+  pub live-past : (n k m : ℕ) (places : List E) (d : ℕ) → m + suc k ≡ n → bit_at d (m % 16) ≢ 0 → seen n (suc k) places d ≡ seen n k places d
   live-past n k m places d last odd =
-      let one : d / 2 ^ k % 2 ≡ 1 = odd_is_one (d / 2 ^ k) odd in
+      let one : bit_at d (m % 16) ≡ 1 = one_of (m % 16) odd in
       seen-more n k m places d last ∙ ap (λ bit. seen n k places d ++ kept (slice_get places (m % 16)) (bit == 1) m) one
       ∙ ap (λ zs. seen n k places d ++ zs) (gone (slice_get places (m % 16))) ∙ append-nil (seen n k places d)
     where
-      odd_is_one : (x : ℕ) → x % 2 ≢ 0 → x % 2 ≡ 1
-      odd_is_one x other = omega (arith, other)
+      one_of : (i : ℕ) → bit_at d i ≢ 0 → bit_at d i ≡ 1
+      one_of i other = omega (arith, other, bit_at-lt d i)
 
       gone : (place : Option E) → kept place true m ≡ []
       gone (Some item) = refl
       gone None = refl
 
-  pub count-more : (n k m : ℕ) (places : List E) (d : ℕ) → m + suc k ≡ n → length places ≡ min 16 n → d / 2 ^ k % 2 ≡ 0
+  pub count-more : (n k m : ℕ) (places : List E) (d : ℕ) → m + suc k ≡ n → length places ≡ min 16 n → bit_at d (m % 16) ≡ 0
       → length (seen n (suc k) places d) ≡ length (seen n k places d) + 1
   count-more n k m places d last full even =
       let x = at places (m % 16) (omega (arith, full)) in
-      ap length (seen-more n k m places d last ∙ ap (λ place. seen n k places d ++ kept place (d / 2 ^ k % 2 == 1) m) x.here
+      ap length (seen-more n k m places d last ∙ ap (λ place. seen n k places d ++ kept place (bit_at d (m % 16) == 1) m) x.here
       ∙ ap (λ bit. seen n k places d ++ kept (Some x.item) (bit == 1) m) even)
       ∙ length-append (seen n k places d) (record { number = m; item = x.item } ∷ [])
 
--- bits of a word that goes down by halves
-pub half-pow : (d a b : ℕ) → suc a ≡ b → d / 2 ^ a / 2 ≡ d / 2 ^ b
-half-pow d a b more = div-div-eq-div-mul d (2 ^ a) 2 ∙ ap (λ t. d / t) (sym (pow-suc 2 a)) ∙ ap (λ k. d / 2 ^ k) more
+-- the last bit of a word that is set, and the word without it
+pub record IsLast (a place : ℕ) : Type 0 where
+  pub set : bit_at a place ≡ 1
+  pub none : (i : ℕ) → place < i → bit_at a i ≡ 0
+  pub clear : bit_at (bit_and a (4294967295 - 1 * 2 ^ place % 4294967296)) place ≡ 0
+  pub same : (i : ℕ) → i < 32 → i ≢ place → bit_at (bit_and a (4294967295 - 1 * 2 ^ place % 4294967296)) i ≡ bit_at a i
+  pub less : bit_and a (4294967295 - 1 * 2 ^ place % 4294967296) < a
+  pub below : (k : ℕ) → a < 2 ^ k → place < k
+  pub small : place < 32
 
-pub double-below : (w bit k j : ℕ) → bit < 2 → j ≡ suc k → w < 2 ^ k → w * 2 + bit < 2 ^ j
-double-below w bit k j small more below =
-    let twice : 2 ^ j ≡ 2 ^ k * 2 = ap (λ t. 2 ^ t) more ∙ pow-suc 2 k in
-    omega (arith, twice)
+-- a word without one of its bits is less
+pub bit-less : (a place w : ℕ) → bit_at a place ≡ 1 → bit_at (bit_and a w) place ≡ 0 → bit_and a w < a
+bit-less a place w set clear = by_size (ltb (bit_and a w) a) refl
+  where
+    by_size : (b : Bool) → ltb (bit_and a w) a ≡ b → bit_and a w < a
+    by_size true is = ltb-true (bit_and a w) a is
+    by_size false is =
+        let e : bit_and a w ≡ a = omega (arith, ltb-false (bit_and a w) a is, and_le_l a w) in
+        absurd (omega (arith, set, clear, ap (λ v. bit_at v place) e))
+
+pub last-bit : (a : ℕ) → 0 < a → a < 2 ^ 32 → IsLast a (31 - count_leading_zeros 32 a)
+last-bit a some word =
+    let top = leading_top 32 a some word in
+    let j = top.0 in
+    let at : 31 - count_leading_zeros 32 a ≡ j = omega (arith, top.1) in
+    let small : j < 32 = omega (arith, top.1) in
+    let two : 2 ^ suc j ≡ 2 * 2 ^ j = pow-succ' 2 j in
+    let one : a / 2 ^ j ≡ 1 =
+    ap (λ v. v / 2 ^ j) (let e : a ≡ 1 * 2 ^ j + (a - 2 ^ j) = omega (arith, top.2) in e) ∙ div-mul-add 1 (2 ^ j) (a - 2 ^ j) (omega (arith, top.2, top.3, two)) in
+    let set : bit_at a j ≡ 1 = ap (λ v. v % 2) one in
+    let clear = bit_at_clear_same w32 a j small in
+    rw at (record {
+      set = set;
+      none = λ i up. bit_at_above a (suc j) i top.3 (omega arith);
+      clear = clear;
+      same = λ i within other. bit_at_clear_other w32 a j small i within other;
+      less = bit-less a j (4294967295 - 1 * 2 ^ j % 4294967296) set clear;
+      below = λ k few. bit-below a k j few set;
+      small = small;
+    })
+
+-- the first bit of a word that is set, and the word without it
+pub record IsFirst (a place : ℕ) : Type 0 where
+  pub set : bit_at a place ≡ 1
+  pub clear : bit_at (bit_and a (4294967295 - 1 * 2 ^ place % 4294967296)) place ≡ 0
+  pub same : (i : ℕ) → i < 32 → i ≢ place → bit_at (bit_and a (4294967295 - 1 * 2 ^ place % 4294967296)) i ≡ bit_at a i
+  pub less : bit_and a (4294967295 - 1 * 2 ^ place % 4294967296) < a
+  pub below : (k : ℕ) → a < 2 ^ k → place < k
+
+pub first-bit : (a : ℕ) → 0 < a → a < 2 ^ 32 → IsFirst a (count_trailing_zeros 32 a)
+first-bit a some word =
+    let first = bit_at-trailing_zeros w32 a some word in
+    let clear = bit_at_clear_same w32 a (count_trailing_zeros 32 a) first.0 in
+    record {
+      set = first.1;
+      clear = clear;
+      same = λ i within other. bit_at_clear_other w32 a (count_trailing_zeros 32 a) first.0 i within other;
+      less = bit-less a (count_trailing_zeros 32 a) (4294967295 - 1 * 2 ^ count_trailing_zeros 32 a % 4294967296) first.1 clear;
+      below = λ k few. bit-below a k (count_trailing_zeros 32 a) few first.1;
+    }
 
 pub eq_holds : (x y : ℕ) → (x == y) ≡ true → x ≡ y
 eq_holds x y same = eqb-true x y same
 
 pub eq_fails : (x y : ℕ) → (x == y) ≡ false → x ≢ y
 eq_fails x y differ = eqb-false x y differ
-
-pub is_one : (x : ℕ) → x ≡ 1 → (x == 1) ≡ true
-is_one x one = rw one refl
-
-pub isnt_one : (x : ℕ) → x ≢ 1 → (x == 1) ≡ false
-isnt_one x other = ne_eqb x 1 other
-
-pub isnt_zero : (x : ℕ) → x ≢ 0 → (x == 0) ≡ false
-isnt_zero x other = ne_eqb x 0 other
-
-pub and-false : (b : Bool) → (b && false) ≡ false
-and-false true = refl
-and-false false = refl
-
-pub not-not : (b : Bool) → not (not b) ≡ b
-not-not true = refl
-not-not false = refl
-
-pub from_bool-bit : (b : Bool) → from_bool b ≡ cond b 1 0
-from_bool-bit true = refl
-from_bool-bit false = refl
-
-pub one_or_none : (b : Bool) → cond b 1 0 < 2
-one_or_none true = omega arith
-one_or_none false = omega arith

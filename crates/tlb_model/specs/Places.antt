@@ -1,5 +1,6 @@
 -- Where a cache keeps its fills: sixteen places, which they take in turn, over and over (profile).
-use Rattle.std.specs.Prelude.{ℕ, zero, suc, ◌/◌, ◌%◌, List, [], ◌∷◌, ◌++◌, Bool, true, false, ◌==◌, Option, Some, None, slice_get}
+use Rattle.std.specs.Prelude.{ℕ, zero, suc, ◌%◌, List, [], ◌∷◌, ◌++◌, Bool, true, false, ◌==◌, Option, Some, None, slice_get}
+use Rattle.std.specs.Int.{bit_at}
 use Rattle.tlb_model.specs.declared.cache.Numbered.{Numbered}
 
 module _ {E : Type 0} where
@@ -9,10 +10,21 @@ module _ {E : Type 0} where
   kept (Some item) true number = []
   kept None is_dropped number = []
 
-  -- What is kept of so many fills before this number, newest first: fill n is in place n mod 16, and a bit of the word,
-  -- the lowest one for the newest fill, says that it was dropped.
+  -- What is kept of so many fills before this number, newest first: fill n is in place n mod 16, and the place's bit of the
+  -- word says that it was dropped.
   abbrev pub seen : (number count : ℕ) → (places : List E) → (dropped : ℕ) → List (Numbered E)
   seen zero count places dropped = []
   seen (suc number) zero places dropped = []
   seen (suc number) (suc count) places dropped =
-      kept (slice_get places (number % 16)) (dropped % 2 == 1) number ++ seen number count places (dropped / 2)
+      kept (slice_get places (number % 16)) (bit_at dropped (number % 16) == 1) number ++ seen number count places dropped
+
+  -- the item of a place, if its bit is set
+  abbrev pub marked_at : Option E → (is_marked : Bool) → List E
+  marked_at (Some item) true = item ∷ []
+  marked_at (Some item) false = []
+  marked_at None is_marked = []
+
+  -- The items of those of so many places whose bits are set in the word, from the last place down.
+  abbrev pub marked : (count : ℕ) → (places : List E) → (word : ℕ) → List E
+  marked zero places word = []
+  marked (suc place) places word = marked_at (slice_get places place) (bit_at word place == 1) ++ marked place places word

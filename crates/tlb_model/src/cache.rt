@@ -1,5 +1,7 @@
-ghost use Rattle.std.specs.Prelude.{◌≡◌, ◌-◌, ◌/◌, ◌%◌, ◌<◌, ◌≤◌, ◌^◌, Bool, find, length, reverse};
+ghost use Rattle.std.specs.Prelude.{◌≡◌, ◌-◌, ◌/◌, ◌%◌, ◌<◌, ◌≤◌, ◌^◌, ℕ, Bool, find, length, reverse};
+ghost use Rattle.std.specs.Int.{bit_at};
 ghost use Rattle.tlb_model.specs.Contents.{cleared, empty, fenced, filled, hit};
+ghost use Rattle.tlb_model.specs.Places.{marked};
 
 use crate::fence::Flush;
 use crate::live::Live;
@@ -40,7 +42,7 @@ pub struct Numbered<E> {
 #[derive(Debug, Drop)]
 pub struct Cache<E> {
     next: u64,
-    // (a bit for each of the last sixteen fills, the lowest one for the newest)
+    // (a bit for each place)
     dropped: u16,
     places: ArrayVec<E, 16>,
 }
@@ -89,17 +91,12 @@ impl<E: Cached> Cache<E> {
     fn latest_kept(&self, key: E::Key) -> Option<E>
         ensures { result ≡ hit E.holds key self.now }
     {
-        let looked_at = up_to_the_oldest(self.places.len() as u64, self.dropped);
-        let mut dropped = self.dropped;
-        for age in 0..looked_at {
-            let number = self.next - 1 - age;
-            let item = &self.places[(number % 16) as usize];
-            if dropped % 2 == 0 && item.holds(key) {
-                return Some(*item);
-            }
-            dropped /= 2;
+        let kept = kept_places(self.places.len() as u64, self.dropped);
+        let newer = kept % (1 << (self.next % 16));
+        match latest_at(&self.places, newer, key) {
+            Some(item) => Some(item),
+            None => latest_at(&self.places, kept - newer, key),
         }
-        None
     }
 
     /// Fills an item in. The one that was filled sixteen fills before goes, where it is still live (profile).
@@ -107,12 +104,13 @@ impl<E: Cached> Cache<E> {
         requires { self.old.next < 2 ^ 63 }
         ensures { self.new ≡ filled self.old item }
     {
+        let place = self.next % 16;
         if self.places.is_full() {
-            self.places[(self.next % 16) as usize] = item;
+            self.places[place as usize] = item;
         } else {
             self.places.push(item);
         }
-        self.dropped <<= 1;
+        self.dropped &= !(1 << place);
         self.next += 1;
     }
 
@@ -120,16 +118,16 @@ impl<E: Cached> Cache<E> {
     pub fn apply(&mut self, flush: Flush)
         ensures { self.new ≡ fenced E.covers self.old flush }
     {
-        // (most often nothing lives here, or what was filled last alone)
-        let looked_at = up_to_the_oldest(self.places.len() as u64, self.dropped);
-        let mut dropped = u32::from(self.dropped) >> looked_at;
-        for age in (0..looked_at).rev() {
-            let number = self.next - 1 - age;
-            let item = &self.places[(number % 16) as usize];
-            let is_dropped = (self.dropped >> age) % 2 == 1 || item.is_covered_by(flush);
-            dropped = dropped * 2 + u32::from(is_dropped);
+        let mut left = kept_places(self.places.len() as u64, self.dropped);
+        let mut dropped = self.dropped;
+        while left != 0 {
+            let place = left.trailing_zeros();
+            left &= !(1 << place);
+            if self.places[place as usize].is_covered_by(flush) {
+                dropped |= 1 << place;
+            }
         }
-        self.dropped = dropped as u16;
+        self.dropped = dropped;
     }
 
     /// Drops everything, as a stop of the hart or a reset does (profile).
@@ -155,16 +153,33 @@ impl<E: Cached> Cache<E> {
     }
 }
 
-/// Of so many last fills, those up to the oldest one that isn't dropped: how many they are.
+/// A bit for each of so many places, set where what was filled into it last isn't dropped.
 #[inline(always)]
-fn up_to_the_oldest(fills: u64, dropped: u16) -> u64
-    requires { fills ≤ 16 }
-    ensures few { result ≤ fills }
-    ensures others { dropped / 2 ^ result % 2 ^ (fills - result) ≡ 2 ^ (fills - result) - 1 }
+fn kept_places(places: u64, dropped: u16) -> u32
+    requires { places ≤ 16 }
+    ensures within { result < 2 ^ places }
+    ensures kept { (place : ℕ) → place < places → bit_at result place ≡ 1 - bit_at dropped place }
 {
-    // (a bit for each of them that is live)
-    let live = u32::from(u16::MAX - dropped) % (1 << fills);
-    u64::from(32 - live.leading_zeros())
+    u32::from(!dropped) % (1 << places)
+}
+
+/// Of the items at these places, a bit for each, that are this key's, the one at the last place.
+#[inline(always)]
+fn latest_at<E: Cached>(places: &[E], marks: u32, key: E::Key) -> Option<E>
+    requires few { length places.now ≤ 16 }
+    requires within { marks < 2 ^ length places.now }
+    ensures { result ≡ find (E.holds key) (marked (length places.now) places.now marks) }
+{
+    let mut left = marks;
+    while left != 0 {
+        let place = 31 - left.leading_zeros();
+        left &= !(1 << place);
+        let item = &places[place as usize];
+        if item.holds(key) {
+            return Some(*item);
+        }
+    }
+    None
 }
 
 /// Of the items that are this key's, the last one.

@@ -53,9 +53,10 @@ impl<'a, E: Copy> Iterator for Live<'a, E> {
     fn next(&mut self) -> Option<Numbered<E>> {
         for age in (0..self.left).rev() {
             self.left = age;
-            if (self.dropped >> age) % 2 == 0 {
-                let number = self.next - 1 - age;
-                let item = self.places[(number % 16) as usize];
+            let number = self.next - 1 - age;
+            let place = number % 16;
+            if (self.dropped >> place) % 2 == 0 {
+                let item = self.places[place as usize];
                 return Some(Numbered { number, item });
             }
         }
@@ -72,7 +73,8 @@ impl<'a, E: Copy> ExactSizeIterator for Live<'a, E> {
     fn len(&self) -> usize {
         let mut len = 0;
         for age in 0..self.left {
-            if (self.dropped >> age) % 2 == 0 {
+            let place = (self.next - 1 - age) % 16;
+            if (self.dropped >> place) % 2 == 0 {
                 len += 1;
             }
         }

@@ -1,10 +1,11 @@
-use Rattle.std.proofs.Common.{◌≡◌, ◌-◌, ◌/◌, ◌^◌, ◌<◌, ◌≤◌, filter, length, not}
-use Rattle.tlb_model.specs.Places.{seen}
+use Rattle.std.proofs.Common.{◌^◌, ◌<◌, length}
+use Rattle.tlb_model.proofs.Places.{IsFenced}
 use Rattle.tlb_model.proofs.cache.Cache.apply.Given as goal
 
-abbrev pub invariant-loop-age : goal.invariant-loop-age
-invariant-loop-age g l =
-    (seen (l.self-inside.next - l.age) (16 - l.age) l.self-inside.places.items l.dropped
-    ≡ filter (λ fill. not (g.E.Cached.covers l.flush fill.item))
-    (seen (l.self-inside.next - l.age) (16 - l.age) l.self-inside.places.items (l.self-inside.dropped / 2 ^ l.age)))
-    × (l.dropped < 2 ^ (16 - l.age)) × (l.age ≤ length l.self-inside.places.items)
+abbrev pub invariant-loop-left : goal.invariant-loop-left
+invariant-loop-left g l =
+    (l.left < 2 ^ length l.self-inside.places.items)
+    × IsFenced (g.E.Cached.covers l.flush) l.self-inside.places.items l.self-inside.dropped l.left l.dropped
+
+abbrev pub decreases-loop-left : goal.decreases-loop-left
+decreases-loop-left g l = l.left

@@ -2,7 +2,7 @@ use Rattle.std.proofs.Common.{◌≡◌, ◌+◌, ◌-◌, length, suc, add-one,
 use Rattle.tlb_model.specs.Places.{seen}
 use Rattle.tlb_model.proofs.Places.{count-more, length-seen, live-past}
 use Rattle.tlb_model.proofs.live.LiveExactSizeIterator.len.Goals as goal
-use Rattle.tlb_model.proofs.live.LiveExactSizeIterator.len.Goals.{then-self-age-eq0, else-self-age-eq0}
+use Rattle.tlb_model.proofs.live.LiveExactSizeIterator.len.Goals.{then-self-place-eq0, else-self-place-eq0}
 
 pub overflow_add-len : goal.overflow_add-len
 overflow_add-len g c =
@@ -16,7 +16,7 @@ loop-age-preserved g c =
     let age = c.loop-age.age in
     let last : n - 1 - age + suc age ≡ n = omega (arith, c.self.invariant.0, c.self.invariant.1, c.loop-age-test.true) in
     let next : length (seen n (suc age) places d) ≡ length (seen n (age + 1) places d) = ap (λ q. length (seen n q places d)) (sym (add-one age)) in
-    elim c.if-self-age-eq0.branch [
-      | then-self-age-eq0 w ↦ w.len-is ∙ ap (λ q. q + 1) c.loop-age.invariant ∙ sym (count-more n age (n - 1 - age) places d last c.self.invariant.0 w.if-self-age-eq0.true) ∙ next
-      | else-self-age-eq0 w ↦ w.len-is ∙ c.loop-age.invariant ∙ sym (ap length (live-past n age (n - 1 - age) places d last w.if-self-age-eq0.false)) ∙ next
+    elim c.if-self-place-eq0.branch [
+      | then-self-place-eq0 w ↦ w.len-is ∙ ap (λ q. q + 1) c.loop-age.invariant ∙ sym (count-more n age (n - 1 - age) places d last c.self.invariant.0 w.if-self-place-eq0.true) ∙ next
+      | else-self-place-eq0 w ↦ w.len-is ∙ c.loop-age.invariant ∙ sym (ap length (live-past n age (n - 1 - age) places d last w.if-self-place-eq0.false)) ∙ next
     ]

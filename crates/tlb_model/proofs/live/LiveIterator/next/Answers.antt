@@ -4,8 +4,8 @@ use Rattle.tlb_model.specs.Places.{seen}
 use Rattle.tlb_model.proofs.Places.{live-first, live-past}
 use Rattle.tlb_model.proofs.live.LiveIterator.next.Goals as goal
 
-pub returns-then-self-age-eq0-clause-steps : goal.returns-then-self-age-eq0-clause-steps
-returns-then-self-age-eq0-clause-steps g c =
+pub returns-then-self-place-eq0-clause-steps : goal.returns-then-self-place-eq0-clause-steps
+returns-then-self-place-eq0-clause-steps g c =
     let n = c.loop-age.self-inside.next in
     let places = c.loop-age.self-inside.places.now in
     let d = c.loop-age.self-inside.dropped in
@@ -14,12 +14,12 @@ returns-then-self-age-eq0-clause-steps g c =
     let more : suc k ≡ c.loop-age.age = omega (arith, c.loop-age-test.true) in
     let last : n - 1 - k + suc k ≡ n = omega (arith, held.2, held.3, c.loop-age-test.true) in
     let within : (n - 1 - k) % 16 < length places = omega (arith, held.2, held.3, c.loop-age-test.true) in
-    let here = slice_get-get_or places ((n - 1 - k) % 16) c.index-self-number.result within in
+    let here = slice_get-get_or places ((n - 1 - k) % 16) c.index-self-place.result within in
     sym held.0 ∙ ap (λ q. reverse (seen n q places d)) (held.1 ∙ sym more)
-    ∙ live-first n k (n - 1 - k) places d (get_or places ((n - 1 - k) % 16) c.index-self-number.result) last here c.if-self-age-eq0.true
+    ∙ live-first n k (n - 1 - k) places d (get_or places ((n - 1 - k) % 16) c.index-self-place.result) last here c.if-self-place-eq0.true
 
-pub returns-then-self-age-eq0-clause-goes : goal.returns-then-self-age-eq0-clause-goes
-returns-then-self-age-eq0-clause-goes g c = rw (returns-then-self-age-eq0-clause-steps g c) (search rules)
+pub returns-then-self-place-eq0-clause-goes : goal.returns-then-self-place-eq0-clause-goes
+returns-then-self-place-eq0-clause-goes g c = rw (returns-then-self-place-eq0-clause-steps g c) (search rules)
 
 pub loop-age-preserved : goal.loop-age-preserved
 loop-age-preserved g c =
@@ -30,7 +30,7 @@ loop-age-preserved g c =
     let held = c.loop-age.invariant in
     let more : suc k ≡ c.loop-age.age = omega (arith, c.loop-age-test.true) in
     let last : n - 1 - k + suc k ≡ n = omega (arith, held.2, held.3, c.loop-age-test.true) in (
-      sym (ap reverse (live-past n k (n - 1 - k) places d last c.if-self-age-eq0.false)) ∙ ap (λ q. reverse (seen n q places d)) (more ∙ sym held.1) ∙ held.0,
+      sym (ap reverse (live-past n k (n - 1 - k) places d last c.if-self-place-eq0.false)) ∙ ap (λ q. reverse (seen n q places d)) (more ∙ sym held.1) ∙ held.0,
       refl,
       held.2,
       omega (arith, held.3),
