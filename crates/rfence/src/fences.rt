@@ -53,6 +53,21 @@ impl<F: Copy> Fences<F> {
         })
     }
 
+    /// Fences that are equal to these. It fails where memory runs out.
+    pub fn try_copy(&self, alloc: Global) -> Result<Fences<F>, AllocError>
+        ensures { IfOk result (λ copy. copy ≡ self.now) }
+    {
+        let queues = self.queues.try_copy(alloc)?;
+        let mut calls = Vec::with_capacity(alloc, self.calls.len())?;
+        calls.extend_from_slice(&self.calls)?;
+        Ok(Fences {
+            queues,
+            calls,
+            asked: self.asked,
+            applied: self.applied,
+        })
+    }
+
     /// Hart `c`, which is outside of a call, asks a fence of these harts (SBI 8): at itself, if it is one of them, it is
     /// applied at once, and at each other one it waits (profile). The hart is now inside its call.
     pub fn ask<C: Fenced<F>>(&mut self, caches: &mut [C], c: u64, asked: HartSet, flush: F)

@@ -39,6 +39,15 @@ impl Ram {
         Ok(Ram { words })
     }
 
+    /// A RAM that is equal to this one. It fails where memory runs out.
+    pub fn try_copy(&self, alloc: Global) -> Result<Ram, AllocError>
+        ensures { IfOk result (λ copy. copy ≡ self.now) }
+    {
+        let mut words = Vec::with_capacity(alloc, self.words.len())?;
+        words.extend_from_slice(&self.words)?;
+        Ok(Ram { words })
+    }
+
     /// How many pages there are.
     pub fn pages(&self) -> u64
         ensures pages { result ≡ pages_of self.now }

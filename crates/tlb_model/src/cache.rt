@@ -1,4 +1,4 @@
-ghost use Rattle.std.specs.Prelude.{◌≡◌, ◌-◌, ◌/◌, ◌%◌, ◌<◌, ◌≤◌, ◌^◌, ℕ, Bool, find, length, reverse};
+ghost use Rattle.std.specs.Prelude.{◌≡◌, ◌-◌, ◌/◌, ◌%◌, ◌<◌, ◌≤◌, ◌^◌, ℕ, Bool, IfOk, find, length, reverse};
 ghost use Rattle.std.specs.Int.{bit_at};
 ghost use Rattle.tlb_model.specs.Contents.{cleared, empty, fenced, filled, hit};
 ghost use Rattle.tlb_model.specs.Places.{marked};
@@ -6,6 +6,7 @@ ghost use Rattle.tlb_model.specs.Places.{marked};
 use crate::fence::Flush;
 use crate::live::Live;
 use arrayvec::ArrayVec;
+use std::alloc::AllocError;
 use std::marker::Model;
 
 /// What a cache keeps.
@@ -135,6 +136,21 @@ impl<E: Cached> Cache<E> {
         ensures { self.new ≡ cleared self.old }
     {
         self.dropped = u16::MAX;
+    }
+
+    /// A cache that is equal to this one. It fails where memory runs out.
+    pub fn try_copy(&self) -> Result<Cache<E>, AllocError>
+        ensures { IfOk result (λ copy. copy ≡ self.now) }
+    {
+        let mut places = ArrayVec::new();
+        let Ok(()) = places.try_extend_from_slice(&self.places) else {
+            unreachable!()
+        };
+        Ok(Cache {
+            next: self.next,
+            dropped: self.dropped,
+            places,
+        })
     }
 
     /// The number of the next fill: how many were made.
