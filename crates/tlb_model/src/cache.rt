@@ -89,6 +89,7 @@ impl<E: Cached> Cache<E> {
     }
 
     /// The look-up where some are dropped.
+    #[inline(never)]
     fn latest_kept(&self, key: E::Key) -> Option<E>
         ensures { result ≡ hit E.holds key self.now }
     {
