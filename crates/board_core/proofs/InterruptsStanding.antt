@@ -147,8 +147,8 @@ module _ (c : Config) (past : List Event) (event : Event) (d : Deed) (does : dee
   -- the time goes on
   pub timers-ticked : (timers : Timing) (n : ℕ) → d.interrupts.deadline ≡ None → d.interrupts.ticks ≡ n → TimersStand c past timers
       → TimersStand c (event ∷ past) (record timers { time = timers.time + n })
-  timers-ticked timers n none ticked stand = record {
-    time = ap (λ t. t + n) stand.time ∙ rw (ticks, ticked) refl;
+  timers-ticked timers n none after_ticks stand = record {
+    time = ap (λ t. t + n) stand.time ∙ rw (ticks, after_ticks) refl;
     deadlines = stand.deadlines ∙ tabulate-same (deadline c past) (deadline c (event ∷ past)) (λ j. rw (sets, none) refl) (harts_of c);
   }
 

@@ -9,7 +9,7 @@ use Rattle.hsm.specs.declared.hart.Moved.{Moved}
 use Rattle.hsm.specs.declared.hart.Moved.TheVariants as moves
 use Rattle.hsm.specs.Harts.{Hart, running}
 use Rattle.hsm.specs.States.{goes_on, is_start_pending, is_started, is_stopped}
-use Rattle.hsm.specs.Transitions.{Step, advanced, advanced_from, changed, hart_at, resumed, started_from}
+use Rattle.hsm.specs.Transitions.{Step, after_advance, advance_from, with_hart, hart_at, told_by_resume, start_from}
 use Rattle.board_core.specs.declared.config.Config.{Config}
 use Rattle.board_core.specs.History.{Event}
 use Rattle.interrupts.specs.Timing.{last_time}
@@ -31,7 +31,7 @@ use Rattle.board_core.specs.Suspends.{resume_point}
 use Rattle.board_core.proofs.HartsStanding.{hart_at-inside}
 
 -- a hart that a start moves was STOPPED, and one that it doesn't wasn't
-pub started_stopped : (kept : Kept) (s : HartState) → true ≡ is_some (started_from kept s) → s ≡ Stopped
+pub started_stopped : (kept : Kept) (s : HartState) → true ≡ is_some (start_from kept s) → s ≡ Stopped
 started_stopped kept Stopped started = refl
 started_stopped kept Started started = cc
 started_stopped kept StartPending started = cc
@@ -40,7 +40,7 @@ started_stopped kept Suspended started = cc
 started_stopped kept SuspendPending started = cc
 started_stopped kept ResumePending started = cc
 
-pub unstarted_not_stopped : (kept : Kept) (s : HartState) → false ≡ is_some (started_from kept s) → is_stopped s ≡ false
+pub unstarted_not_stopped : (kept : Kept) (s : HartState) → false ≡ is_some (start_from kept s) → is_stopped s ≡ false
 unstarted_not_stopped kept Stopped unstarted = cc
 unstarted_not_stopped kept Started unstarted = refl
 unstarted_not_stopped kept StartPending unstarted = refl
@@ -49,7 +49,7 @@ unstarted_not_stopped kept Suspended unstarted = refl
 unstarted_not_stopped kept SuspendPending unstarted = refl
 unstarted_not_stopped kept ResumePending unstarted = refl
 
-pub unstarted_same : (kept : Kept) (s : HartState) → false ≡ is_some (started_from kept s) → started_from kept s ≡ None
+pub unstarted_same : (kept : Kept) (s : HartState) → false ≡ is_some (start_from kept s) → start_from kept s ≡ None
 unstarted_same kept Stopped unstarted = cc
 unstarted_same kept Started unstarted = refl
 unstarted_same kept StartPending unstarted = refl
@@ -162,12 +162,12 @@ pub record Row (x : ℕ) (s : HartState) (start : Start) (resume : Option Kept) 
   pub after : hart ≡ record { state = state_after moved; kept = kept_in (state_after moved) start resume }
   pub enters : is_start_pending s ≡ is_entered moved
 
-resume_row : (x : ℕ) (start : Start) (resume : Option Kept) → Row x ResumePending start resume (resumed resume) running
+resume_row : (x : ℕ) (start : Start) (resume : Option Kept) → Row x ResumePending start resume (told_by_resume resume) running
 resume_row x start None = record { reply = refl; after = refl; enters = refl }
 resume_row x start (Some kept) = record { reply = refl; after = refl; enters = refl }
 
 module _ (x : ℕ) (start : Start) (resume : Option Kept) where
-  row : (wake : Bool) (s : HartState) (step : Step) → advanced_from wake s (kept_in s start resume) ≡ Some step → Row x s start resume step.moved step.hart
+  row : (wake : Bool) (s : HartState) (step : Step) → advance_from wake s (kept_in s start resume) ≡ Some step → Row x s start resume step.moved step.hart
   row wake Started step is = absurd cc
   row wake Stopped step is = absurd cc
   row wake StartPending step is = subst (λ st. Row x StartPending start resume st.moved st.hart) (same_Some _ _ is) (record { reply = refl; after = refl; enters = refl })
@@ -180,24 +180,24 @@ module _ (x : ℕ) (start : Start) (resume : Option Kept) where
 -- what a step of the hart's firmware told, by the past
 pub record Told (c : Config) (past : List Event) (harts : List Hart) (x : ℕ) (wake : Bool) (moved : Moved) : Type 0 where
   pub reply : reply_of x moved ≡ advance_reply x (state c past x) (last_start c past x) (resume_point past x)
-  pub after : changed harts x (option_map (λ (step : Step). step.hart) (advanced wake (hart_at harts x)))
+  pub after : with_hart harts x (option_map (λ (step : Step). step.hart) (after_advance wake (hart_at harts x)))
       ≡ slice_set harts x (record { state = state_after moved; kept = kept_in (state_after moved) (last_start c past x) (resume_point past x) })
   pub enters : is_start_pending (state c past x) ≡ is_entered moved
 
 module _ (c : Config) (past : List Event) (harts : List Hart) (x : ℕ) (wake : Bool) (moved : Moved) where
-  pub told : HartsStand c past harts → x < length harts → option_map (λ (step : Step). step.moved) (advanced wake (hart_at harts x)) ≡ Some moved → Told c past harts x wake moved
-  told stand inside is = by_step (advanced wake (hart_at harts x)) refl is
+  pub told : HartsStand c past harts → x < length harts → option_map (λ (step : Step). step.moved) (after_advance wake (hart_at harts x)) ≡ Some moved → Told c past harts x wake moved
+  told stand inside is = by_step (after_advance wake (hart_at harts x)) refl is
     where
-      own : advanced wake (hart_at harts x) ≡ advanced_from wake (state c past x) (kept_in (state c past x) (last_start c past x) (resume_point past x))
-      own = ap (advanced wake) (hart_at-inside c past harts stand x inside)
+      own : after_advance wake (hart_at harts x) ≡ advance_from wake (state c past x) (kept_in (state c past x) (last_start c past x) (resume_point past x))
+      own = ap (after_advance wake) (hart_at-inside c past harts stand x inside)
 
-      by_step : (o : Option Step) → advanced wake (hart_at harts x) ≡ o → option_map (λ (step : Step). step.moved) o ≡ Some moved → Told c past harts x wake moved
+      by_step : (o : Option Step) → after_advance wake (hart_at harts x) ≡ o → option_map (λ (step : Step). step.moved) o ≡ Some moved → Told c past harts x wake moved
       by_step None at e = absurd cc
       by_step (Some step) at e =
           let same : step.moved ≡ moved = same_Some step.moved moved e in
           let r = row x (last_start c past x) (resume_point past x) wake (state c past x) step (sym own ∙ at) in
           subst (Told c past harts x wake) same (record {
             reply = r.reply;
-            after = ap (λ o. changed harts x (option_map (λ (st : Step). st.hart) o)) at ∙ ap (slice_set harts x) r.after;
+            after = ap (λ o. with_hart harts x (option_map (λ (st : Step). st.hart) o)) at ∙ ap (slice_set harts x) r.after;
             enters = r.enters;
           })

@@ -11,22 +11,22 @@ use Rattle.hsm.specs.declared.hart.Moved.TheVariants.{Entered, Resumed, Returned
 use Rattle.hsm.specs.Harts.{Hart, running, resting, starting, stopping, suspending, sleeping, resuming}
 
 -- A STOPPED hart can be started; one in any other state is already available (SBI 9.1; for all but STARTED: profile).
-abbrev pub started_from : Kept → HartState → Option Hart
-started_from kept Stopped = Some (starting kept)
-started_from kept Started = None
-started_from kept StartPending = None
-started_from kept StopPending = None
-started_from kept Suspended = None
-started_from kept SuspendPending = None
-started_from kept ResumePending = None
+abbrev pub start_from : Kept → HartState → Option Hart
+start_from kept Stopped = Some (starting kept)
+start_from kept Started = None
+start_from kept StartPending = None
+start_from kept StopPending = None
+start_from kept Suspended = None
+start_from kept SuspendPending = None
+start_from kept ResumePending = None
 
 -- A start of another hart: from STOPPED to START_PENDING (SBI 9.1).
-abbrev pub started : Kept → Hart → Option Hart
-started kept hart = started_from kept hart.state
+abbrev pub after_start : Kept → Hart → Option Hart
+after_start kept hart = start_from kept hart.state
 
 -- A hart's stop of itself: from STARTED to STOP_PENDING (SBI 9.2).
-abbrev pub stopped : Hart
-stopped = stopping
+abbrev pub after_stop : Hart
+after_stop = stopping
 
 -- A non-retentive suspend keeps where the hart goes on, and a retentive one keeps nothing (SBI 9.4).
 abbrev pub kept_by : SuspendKind → Kept → Option Kept
@@ -34,8 +34,8 @@ kept_by Retentive kept = None
 kept_by NonRetentive kept = Some kept
 
 -- A hart's suspend of itself: from STARTED to SUSPEND_PENDING (SBI 9.4).
-abbrev pub suspended : SuspendKind → Kept → Hart
-suspended kind kept = suspending (kept_by kind kept)
+abbrev pub after_suspend : SuspendKind → Kept → Hart
+after_suspend kind kept = suspending (kept_by kind kept)
 
 -- what a step makes of a hart, and what it tells
 pub record Step : Type 0 where
@@ -43,39 +43,39 @@ pub record Step : Type 0 where
   pub moved : Moved
 
 -- A suspended hart resumes where it has wake, an enabled interrupt that is pending, and else sleeps on (SBI 9.4).
-abbrev pub woken : Bool → Option Kept → Option Step
-woken true kept = Some (record { hart = resuming kept; moved = To ResumePending })
-woken false kept = None
+abbrev pub after_wake : Bool → Option Kept → Option Step
+after_wake true kept = Some (record { hart = resuming kept; moved = To ResumePending })
+after_wake false kept = None
 
 -- A resume from a non-retentive suspend begins where the suspend said, and one from a retentive suspend returns to
 -- the call (SBI 9.4).
-abbrev pub resumed : Option Kept → Moved
-resumed (Some kept) = Resumed kept
-resumed None = Returned
+abbrev pub told_by_resume : Option Kept → Moved
+told_by_resume (Some kept) = Resumed kept
+told_by_resume None = Returned
 
 -- What is pending goes on; a hart that is STARTED or STOPPED has nothing to go on to (profile).
-abbrev pub advanced_from : Bool → HartState → Option Kept → Option Step
-advanced_from wake StartPending kept = option_map (λ k. record { hart = running; moved = Entered k }) kept
-advanced_from wake StopPending kept = Some (record { hart = resting; moved = To Stopped })
-advanced_from wake SuspendPending kept = Some (record { hart = sleeping kept; moved = To Suspended })
-advanced_from wake Suspended kept = woken wake kept
-advanced_from wake ResumePending kept = Some (record { hart = running; moved = resumed kept })
-advanced_from wake Started kept = None
-advanced_from wake Stopped kept = None
+abbrev pub advance_from : Bool → HartState → Option Kept → Option Step
+advance_from wake StartPending kept = option_map (λ k. record { hart = running; moved = Entered k }) kept
+advance_from wake StopPending kept = Some (record { hart = resting; moved = To Stopped })
+advance_from wake SuspendPending kept = Some (record { hart = sleeping kept; moved = To Suspended })
+advance_from wake Suspended kept = after_wake wake kept
+advance_from wake ResumePending kept = Some (record { hart = running; moved = told_by_resume kept })
+advance_from wake Started kept = None
+advance_from wake Stopped kept = None
 
 -- The firmware's own step: a pending start becomes STARTED and is entered with what it kept, a pending stop becomes
 -- STOPPED, and a suspend goes on by SUSPENDED, with wake by RESUME_PENDING, to STARTED (SBI 9, HSM states).
-abbrev pub advanced : Bool → Hart → Option Step
-advanced wake hart = advanced_from wake hart.state hart.kept
+abbrev pub after_advance : Bool → Hart → Option Step
+after_advance wake hart = advance_from wake hart.state hart.kept
 
 -- the hart of an id, of those that there are
 abbrev pub hart_at : List Hart → ℕ → Hart
 hart_at harts h = slice_index_or harts h resting
 
 -- the harts with hart h as it is afterwards, where it changes
-abbrev pub changed : List Hart → ℕ → Option Hart → List Hart
-changed harts h (Some hart) = slice_set harts h hart
-changed harts h None = harts
+abbrev pub with_hart : List Hart → ℕ → Option Hart → List Hart
+with_hart harts h (Some hart) = slice_set harts h hart
+with_hart harts h None = harts
 
 -- a hart at the opening
 abbrev pub hart_at_opening : ℕ → Kept → ℕ → Hart

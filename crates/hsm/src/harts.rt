@@ -1,7 +1,7 @@
 //! All harts of a board: each call, and the firmware's own step, for one of them.
 
 ghost use Rattle.std.specs.Prelude.{◌≡◌, ◌<◌, ◌≤◌, IfOk, count_by, length, option_map, is_ok, is_some, false, slice_set};
-ghost use Rattle.hsm.specs.Transitions.{advanced, changed, hart_at, hart_at_opening, opening, reset_to, started, stopped, suspended};
+ghost use Rattle.hsm.specs.Transitions.{after_advance, with_hart, hart_at, hart_at_opening, opening, reset_to, after_start, after_stop, after_suspend};
 ghost use Rattle.hsm.specs.States.{goes_on, is_in_suspend, is_start_pending};
 ghost use Rattle.hsm.specs.Interruptible.{interruptible_ids};
 ghost use Rattle.hsm.specs.Inside.Phases.{hart_of};
@@ -54,8 +54,8 @@ impl Hsm {
     /// refused, and left as it is.
     pub fn start(&mut self, t: u64, addr: u64, opaque: u64) -> Result<(), AlreadyAvailable>
         requires { t < length self.old }
-        ensures answer { is_ok result ≡ is_some (started (record { addr = addr; opaque = opaque }) (hart_at self.old t)) }
-        ensures after { self.new ≡ changed self.old t (started (record { addr = addr; opaque = opaque }) (hart_at self.old t)) }
+        ensures answer { is_ok result ≡ is_some (after_start (record { addr = addr; opaque = opaque }) (hart_at self.old t)) }
+        ensures after { self.new ≡ with_hart self.old t (after_start (record { addr = addr; opaque = opaque }) (hart_at self.old t)) }
     {
         match self.phases[t as usize] {
             Phase::Stopped => {
@@ -70,7 +70,7 @@ impl Hsm {
     pub fn stop(&mut self, h: u64)
         requires in_range { h < length self.old }
         requires running { (hart_at self.old h).state ≡ HartState.Started }
-        ensures { self.new ≡ slice_set self.old h stopped }
+        ensures { self.new ≡ slice_set self.old h after_stop }
     {
         self.put(h, Phase::StopPending);
     }
@@ -80,7 +80,7 @@ impl Hsm {
     pub fn suspend(&mut self, h: u64, kind: SuspendKind, addr: u64, opaque: u64)
         requires in_range { h < length self.old }
         requires running { (hart_at self.old h).state ≡ HartState.Started }
-        ensures { self.new ≡ slice_set self.old h (suspended kind (record { addr = addr; opaque = opaque })) }
+        ensures { self.new ≡ slice_set self.old h (after_suspend kind (record { addr = addr; opaque = opaque })) }
     {
         let kept = kept_by(kind, Kept { addr, opaque });
         self.put(h, Phase::SuspendPending(kept));
@@ -91,11 +91,11 @@ impl Hsm {
     /// end (SBI 9.4). In any other state nothing changes.
     pub fn advance(&mut self, h: u64, wake: bool) -> Option<Moved>
         requires { h < length self.old }
-        ensures answer { result ≡ option_map (λ step. step.moved) (advanced wake (hart_at self.old h)) }
+        ensures answer { result ≡ option_map (λ step. step.moved) (after_advance wake (hart_at self.old h)) }
         ensures some { is_some result ≡ goes_on wake (hart_at self.old h).state }
-        ensures after { self.new ≡ changed self.old h (option_map (λ step. step.hart) (advanced wake (hart_at self.old h))) }
+        ensures after { self.new ≡ with_hart self.old h (option_map (λ step. step.hart) (after_advance wake (hart_at self.old h))) }
     {
-        let (phase, moved) = self.phases[h as usize].advanced(wake)?;
+        let (phase, moved) = self.phases[h as usize].after_advance(wake)?;
         self.put(h, phase);
         Some(moved)
     }

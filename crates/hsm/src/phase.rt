@@ -2,7 +2,7 @@
 
 ghost use Rattle.std.specs.Prelude.{◌≡◌, option_map};
 ghost use Rattle.hsm.specs.Inside.Phases.{hart_of};
-ghost use Rattle.hsm.specs.Transitions.{advanced, kept_by};
+ghost use Rattle.hsm.specs.Transitions.{after_advance, kept_by};
 
 use crate::hart::{HartState, Kept, Moved};
 use sbi_abi::SuspendKind;
@@ -49,8 +49,8 @@ impl Phase {
     }
 
     /// The phase that the firmware's own step brings this one to, and what it tells.
-    pub fn advanced(self, wake: bool) -> Option<(Phase, Moved)>
-        ensures { option_map (λ step. record { hart = hart_of step.0; moved = step.1 }) result ≡ advanced wake (hart_of self) }
+    pub fn after_advance(self, wake: bool) -> Option<(Phase, Moved)>
+        ensures { option_map (λ step. record { hart = hart_of step.0; moved = step.1 }) result ≡ after_advance wake (hart_of self) }
     {
         match self {
             Phase::StartPending(kept) => Some((Phase::Started, Moved::Entered(kept))),

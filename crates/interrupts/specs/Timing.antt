@@ -40,5 +40,5 @@ abbrev pub last_time : ℕ
 last_time = 2 ^ 64 - 2
 
 -- The time goes on by n ticks, where the sum isn't past the last time (profile).
-abbrev pub ticked : Timing → ℕ → Option Timing
-ticked timing n = if nat_le (timing.time + n) last_time then Some (record timing { time = timing.time + n }) else None
+abbrev pub after_ticks : Timing → ℕ → Option Timing
+after_ticks timing n = if nat_le (timing.time + n) last_time then Some (record timing { time = timing.time + n }) else None

@@ -5,7 +5,7 @@ ghost use Rattle.std.specs.List.{All};
 ghost use Rattle.interrupts.specs.declared.ahead.Member.{Member};
 ghost use Rattle.interrupts.specs.Inside.Ahead.{IsLater, without_hart};
 ghost use Rattle.interrupts.specs.Inside.Listed.{due_after, is_ahead, left_after};
-ghost use Rattle.interrupts.specs.Timing.{deadline_of, is_timer_pending, last_time, opening_timing, ticked, with_deadline, without_deadlines};
+ghost use Rattle.interrupts.specs.Timing.{deadline_of, is_timer_pending, last_time, opening_timing, after_ticks, with_deadline, without_deadlines};
 
 use crate::ahead::Ahead;
 use hart_mask::HartSet;
@@ -119,8 +119,8 @@ impl Timers {
 
     /// The time goes on by `n` ticks. Past 2^64-2 that is refused, and nothing changes.
     pub fn tick(&mut self, n: u64) -> Result<(), TimeFull>
-        ensures answer { is_ok result ≡ is_some (ticked self.old n) }
-        ensures after { self.new ≡ unwrap_or (ticked self.old n) self.old }
+        ensures answer { is_ok result ≡ is_some (after_ticks self.old n) }
+        ensures after { self.new ≡ unwrap_or (after_ticks self.old n) self.old }
     {
         if n > LAST_TIME - self.time {
             return Err(TimeFull);

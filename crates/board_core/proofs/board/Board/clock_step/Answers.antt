@@ -1,6 +1,6 @@
 use Rattle.std.proofs.Common.{◌≡◌, ◌+◌, ◌++◌, ◌∷◌, [], ap, refl, sym, ◌∙◌, arith, reverse, false, true}
 use Rattle.std.specs.Prelude.{is_some, nat_lt, not}
-use Rattle.interrupts.specs.Timing.{last_time, ticked}
+use Rattle.interrupts.specs.Timing.{last_time, after_ticks}
 use Rattle.board_core.specs.History.{Event, by_clock}
 use Rattle.board_core.specs.declared.event.Op.TheVariants.{Tick}
 use Rattle.board_core.specs.declared.event.Reply.TheVariants.{Done}
@@ -24,7 +24,7 @@ invariant_of-self-2 c =
     let d = deed config past tick in
     let timers = m.interrupts.timers in
     let room : is_full config past ≡ false = ap (λ (b : Course). is_full b.config b.past) c.self.view_is ∙ sym c.is_full.ensures ∙ c.if-is_full.false in
-    let taken : is_some (ticked timers n) ≡ true = sym c.tick.ensures.answer ∙ c.is_err.ensures.negation ∙ ap not c.if-is_err.false in
+    let taken : is_some (after_ticks timers n) ≡ true = sym c.tick.ensures.answer ∙ c.is_err.ensures.negation ∙ ap not c.if-is_err.false in
     let on = ticked_on timers n taken in
     let power : is_off past ≡ false = ap (λ (b : Course). is_off b.past) c.self.view_is ∙ c.requires in
     let answered = clock_answered config past n power room (ap (λ t. nat_lt last_time (t + n)) (sym stands.interrupts.timers.time) ∙ on.1) in

@@ -3,7 +3,7 @@ use Rattle.std.proofs.lemmas.Bool.{lt-leb}
 use Rattle.hsm.specs.declared.hart.Kept.{Kept}
 use Rattle.hsm.specs.Harts.{Hart}
 use Rattle.hsm.specs.States.{is_stopped}
-use Rattle.hsm.specs.Transitions.{changed, hart_at, started_from}
+use Rattle.hsm.specs.Transitions.{with_hart, hart_at, start_from}
 use Rattle.sbi_abi.specs.declared.answer.SbiError.TheVariants.{AlreadyAvailable, InvalidAddress, InvalidParam}
 use Rattle.sbi_abi.specs.declared.call.Call.TheVariants.{Hsm}
 use Rattle.sbi_abi.specs.declared.call.hsm.HsmCall.TheVariants.{HartStart}
@@ -47,7 +47,7 @@ returns-in-Ok-clause-after c = λ x past regs is stands.
     rw c.success.ensures
     (stands-harts-counts config past event d does m _ _ refl stands (record {
       each =
-          c.start.ensures.after ∙ ap (λ s. changed m.hsm c.args.t (started_from start s)) stopped
+          c.start.ensures.after ∙ ap (λ s. with_hart m.hsm c.args.t (start_from start s)) stopped
           ∙ (harts-started config past event d does m.hsm c.args.t c.args.addr c.args.opaque refl refl refl stands.harts).each;
     }) (counts-started config past event d does m.counts _ refl stands.counts))
 
@@ -67,6 +67,6 @@ returns-in-Err-clause-after c = λ x past regs is stands.
     let start : Kept = record { addr = c.args.addr; opaque = c.args.opaque } in
     let call = Hsm (HartStart c.args.t c.args.addr c.args.opaque) in
     let reply = Ret (failure AlreadyAvailable) in
-    let same = c.start.ensures.after ∙ ap (changed m.hsm c.args.t) (unstarted_same start (hart_at m.hsm c.args.t).state c.in-Err.ensures.answer) in
+    let same = c.start.ensures.after ∙ ap (with_hart m.hsm c.args.t) (unstarted_same start (hart_at m.hsm c.args.t).state c.in-Err.ensures.answer) in
     rw (c.failure-in-Err.ensures, c.into.ensures, same)
     (stands-quiet config past (by_hart x (Ecall regs) reply) (deed_of_call config past x call reply) (does_call config past x regs call reply is) m refl stands)
