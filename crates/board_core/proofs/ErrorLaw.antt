@@ -33,7 +33,7 @@ use Rattle.board_core.specs.declared.event.Op.{Op}
 use Rattle.board_core.specs.declared.event.Op.TheVariants.{Ecall, Load, Store, Fetch, WriteSatp, WriteSie, WriteSstatusSie, ReadSip, ClearSsip, Wfi, Sfence, FenceI, Poll, Serve, Advance, Tick}
 use Rattle.board_core.specs.declared.event.Refusal.{Refusal}
 use Rattle.board_core.specs.declared.event.Reply.{Reply}
-use Rattle.board_core.specs.declared.event.Reply.TheVariants.{Ret, Gone, Done}
+use Rattle.board_core.specs.declared.event.Reply.TheVariants.{Ret, Done}
 use Rattle.board_core.specs.Course.{harts_of}
 use Rattle.sv39.specs.declared.cause.Cause.{Cause}
 use Rattle.tlb_model.specs.declared.caches.Caches.{Caches}
@@ -57,7 +57,7 @@ use Rattle.board_core.specs.Calls.Rfence.{fence_reply_to}
 use Rattle.board_core.specs.Calls.Srst.{srst_reply}
 use Rattle.board_core.specs.Calls.Time.{time_reply}
 use Rattle.board_core.specs.Returns.{Leaves, Returns, as_reply}
-use Rattle.board_core.specs.Replies.{IsLegal, advance_reply, answer, call_reply, failure, refused_or, reply, unless}
+use Rattle.board_core.specs.Replies.{IsLegal, advance_reply, answer, call_reply, refused_or, reply, unless}
 use Rattle.board_core.specs.Resets.{is_off, last_reset, newer_or}
 use Rattle.board_core.specs.Starts.{Start, entries, last_start, pending, starts}
 use Rattle.board_core.specs.States.{state}

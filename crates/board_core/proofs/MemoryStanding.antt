@@ -1,6 +1,6 @@
 -- How memory and caches stand for one event more.
 use Rattle.std.proofs.Common.{◌≡◌, ◌≢◌, ℕ, ◌+◌, Bool, true, false, List, ◌∷◌, suc, zero, length, map, replicate, refl, sym, ap, ◌∙◌}
-use Rattle.std.specs.Prelude.{Option, Some, None, ◌==◌, if◌then◌else◌, slice_set}
+use Rattle.std.specs.Prelude.{Option, Some, None, option_map, unwrap_or, if◌then◌else◌, slice_set}
 use Rattle.std.specs.List.{range_with_len}
 use Rattle.std.proofs.lemmas.List.FromFn.{length-map-range_with_len, length-range_with_len}
 use Rattle.std.proofs.lemmas.Simd.{splat_is_map}
@@ -19,7 +19,7 @@ use Rattle.board_core.specs.declared.memory.Memory.{Memory}
 use Rattle.board_core.specs.Course.{harts_of, is_hart}
 use Rattle.board_core.specs.Fences.{turn_of, turns}
 use Rattle.sv39.specs.Memory.{pages_of, word_in, zero_memory}
-use Rattle.sv39.specs.Satp.{is_stored, kept_of, mode_of, satp_written}
+use Rattle.sv39.specs.Satp.{satp_of_write, satp_written}
 use Rattle.tlb_model.specs.declared.caches.Caches.{Caches}
 use Rattle.tlb_model.specs.declared.fence.Flush.{Flush}
 use Rattle.tlb_model.specs.Acts.{Act, Drop, Nothing, acted}
@@ -28,7 +28,7 @@ use Rattle.tlb_model.specs.Entries.{covers_entry}
 use Rattle.tlb_model.specs.Words.{covers_word}
 use Rattle.tlb_model.proofs.Living.{keeps_what_lives}
 use Rattle.board_core.specs.Limits.{spaces_of}
-use Rattle.board_core.specs.Memory.{act_by, entry_filling, own_filling, memory, satp, satp_by, satp_of_write, tlb_acts, word_acts, word_filling, writing_by, written_by, Zeroed, zeroed_by}
+use Rattle.board_core.specs.Memory.{act_by, entry_filling, own_filling, memory, satp, satp_by, tlb_acts, word_acts, word_filling, writing_by, written_by, Zeroed, zeroed_by}
 use Rattle.board_core.specs.Stands.{FencesStand, MemoryStand, caches_at, caches_of}
 use Rattle.board_core.specs.Resets.{is_cold}
 use Rattle.board_core.specs.Writes.{Everywhere, Here, latest}
@@ -86,24 +86,21 @@ module _ (c : Config) (past : List Event) (event : Event) (d : Deed) (does : dee
       (λ j other. rw (writes_satp, written, own, eqb-other j h (λ e. other (sym e))) refl)
 
   -- by a write, which may have no effect
-  pub satps-put : (satps : List ℕ) (h value : ℕ) → event.actor ≡ actors.Hart h → d.memory.satp ≡ satp_of_write (spaces_of c) value → satps ≡ map (satp c past) (harts_of c)
+  pub satps-put : (satps : List ℕ) (h value : ℕ) → event.actor ≡ actors.Hart h → d.memory.satp ≡ option_map Here (satp_of_write (spaces_of c) value) → satps ≡ map (satp c past) (harts_of c)
       → slice_set satps h (satp_written (spaces_of c) (satp c past h) value) ≡ map (satp c (event ∷ past)) (harts_of c)
   satps-put satps h value own written stand =
       ap (λ (xs : List ℕ). slice_set xs h (satp_written (spaces_of c) (satp c past h) value)) stand
-      ∙ ap (slice_set (map (satp c past) (harts_of c)) h) (sym (rw (writes_satp, written, own, eqb-same h) (put (mode_of value == 0) (is_stored (spaces_of c) value) (kept_of (spaces_of c) value) (satp c past h))))
+      ∙ ap (slice_set (map (satp c past) (harts_of c)) h) (sym (rw (writes_satp, written, own, eqb-same h) (put (satp_of_write (spaces_of c) value) (satp c past h))))
       ∙ tabulate-set (satp c past) (satp c (event ∷ past)) c.harts h
-      (λ j other. rw (writes_satp, written, own, eqb-other j h (λ e. other (sym e))) (spared (mode_of value == 0) (is_stored (spaces_of c) value) (kept_of (spaces_of c) value) (satp c past j)))
+      (λ j other. rw (writes_satp, written, own, eqb-other j h (λ e. other (sym e))) (spared (satp_of_write (spaces_of c) value) (satp c past j)))
     where
-      put : (bare stored : Bool) (value before : ℕ)
-          → latest (if bare then Some (Here 0) else if stored then Some (Here value) else None) true before ≡ (if bare then 0 else if stored then value else before)
-      put true stored value before = refl
-      put false true value before = refl
-      put false false value before = refl
+      put : (written : Option ℕ) (before : ℕ) → latest (option_map Here written) true before ≡ unwrap_or written before
+      put (Some value) before = refl
+      put None before = refl
 
-      spared : (bare stored : Bool) (value before : ℕ) → latest (if bare then Some (Here 0) else if stored then Some (Here value) else None) false before ≡ before
-      spared true stored value before = refl
-      spared false true value before = refl
-      spared false false value before = refl
+      spared : (written : Option ℕ) (before : ℕ) → latest (option_map Here written) false before ≡ before
+      spared (Some value) before = refl
+      spared None before = refl
 
   pub satps-quiet : (satps : List ℕ) → d.memory.satp ≡ None → satps ≡ map (satp c past) (harts_of c) → satps ≡ map (satp c (event ∷ past)) (harts_of c)
   satps-quiet satps none stand = stand ∙ tabulate-same (satp c past) (satp c (event ∷ past)) (λ j. rw (writes_satp, none) refl) (harts_of c)

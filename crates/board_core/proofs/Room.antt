@@ -1,35 +1,26 @@
 -- What a board answers has room in an event.
-use Rattle.std.proofs.Common.{◌<◌, ℕ, Bool, true, false, List, refl, arith, FitsSigned, w8}
-use Rattle.std.specs.Prelude.{if◌then◌else◌, pos, Option, Some, None, Result, Ok, Err}
+use Rattle.std.proofs.Common.{◌<◌, ℕ, List, refl, arith, FitsSigned, w8}
+use Rattle.std.specs.Prelude.{pos, Option, Some, None, Result, Ok, Err}
 use Rattle.sbi_abi.specs.declared.answer.SbiError.{SbiError}
 use Rattle.sbi_abi.specs.declared.answer.SbiError.TheVariants as errors
-use Rattle.sbi_abi.specs.declared.reset.Reset.{Reset}
-use Rattle.sbi_abi.specs.declared.suspend.SuspendKind.{SuspendKind}
-use Rattle.sbi_abi.specs.declared.suspend.SuspendKind.TheVariants.{Retentive, NonRetentive}
 use Rattle.sbi_abi.specs.Calls.{call_of}
 use Rattle.sbi_abi.specs.Errors.{error_number}
-use Rattle.hart_mask.specs.HartList.{targets_of}
 use Rattle.hart_access.specs.declared.operation.Access.{Access}
 use Rattle.hart_access.specs.declared.operation.Access.TheVariants as accesses
 use Rattle.hsm.specs.declared.hart.HartState.{HartState}
 use Rattle.hsm.specs.declared.hart.HartState.TheVariants as states
 use Rattle.hsm.specs.declared.hart.Kept.{Kept}
-use Rattle.hsm.specs.States.{state_number}
 use Rattle.sv39.specs.declared.cause.Cause.{Cause}
-use Rattle.tlb_model.specs.declared.fence.Flush.{Flush}
 use Rattle.board_core.specs.declared.config.Config.{Config}
 use Rattle.board_core.specs.declared.event.Actor.TheVariants.{Hart}
 use Rattle.board_core.specs.declared.event.Op.{Op}
 use Rattle.board_core.specs.declared.event.Op.TheVariants as ops
 use Rattle.board_core.specs.declared.event.Reply.{Reply}
-use Rattle.board_core.specs.declared.event.Reply.TheVariants.{Ret, Gone}
 use Rattle.board_core.specs.Accesses.{access_reply_of}
 use Rattle.board_core.specs.Csrs.{sstatus_sie}
 use Rattle.board_core.specs.Calls.{reply_to}
 use Rattle.board_core.specs.History.{Event}
 use Rattle.board_core.specs.Keeping.{IsByteError, IsOwnEntry, IsShort}
-use Rattle.board_core.specs.Limits.{is_start_address}
-use Rattle.board_core.specs.Refusals.{first_that_holds}
 use Rattle.board_core.specs.Replies.{advance_reply, reply, resume_reply}
 use Rattle.board_core.specs.Returns.{CallReply, Leaves, Returns, Waits, as_reply, unless}
 use Rattle.board_core.specs.Starts.{Start, last_start}

@@ -24,7 +24,7 @@ use Rattle.board_core.specs.History.{Event}
 use Rattle.board_core.specs.declared.event.Op.{Op}
 use Rattle.board_core.specs.declared.event.Op.TheVariants.{Ecall, Load, Store, Fetch, WriteSatp, WriteSie, WriteSstatusSie, ReadSip, ClearSsip, Wfi, Sfence, FenceI, Poll, Serve, Advance, Tick}
 use Rattle.board_core.specs.declared.event.Reply.{Reply}
-use Rattle.board_core.specs.declared.event.Reply.TheVariants.{Ret, Gone, Entry}
+use Rattle.board_core.specs.declared.event.Reply.TheVariants.{Ret, Entry}
 use Rattle.tlb_model.specs.declared.entry.Entry.{Entry as CacheEntry}
 use Rattle.board_core.specs.Csrs.{sstatus_sie}
 use Rattle.board_core.specs.Limits.{is_start_address}
@@ -33,7 +33,7 @@ use Rattle.board_core.specs.Interrupts.{wake}
 use Rattle.board_core.specs.Suspends.{resume_point}
 use Rattle.board_core.specs.Calls.Hsm.{suspend_reply}
 use Rattle.board_core.specs.Returns.{Leaves, Returns, as_reply}
-use Rattle.board_core.specs.Replies.{IsLegal, advance_reply, answer, call_reply, failure, reply, resume_reply, unless}
+use Rattle.board_core.specs.Replies.{IsLegal, advance_reply, answer, call_reply, reply, resume_reply, unless}
 use Rattle.board_core.specs.Starts.{Anew, Growth, More, Start, grown, growth, starts_at, StartsAreEntered, boot_start, entries, entry_by, is_of, last_start, pending, start_by_call, starts}
 use Rattle.board_core.specs.Resets.{begins_anew, is_off, reset_by_call}
 use Rattle.board_core.specs.States.{Each, Move, One, state_at_opening, state_at_reset, move_by, move_by_call, moved_to, state}

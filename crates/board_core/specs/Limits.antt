@@ -1,16 +1,17 @@
 -- The limits of a board (profile).
-use Rattle.std.specs.Prelude.{ℕ, ◌+◌, ◌*◌, ◌%◌, ◌<◌, ◌≤◌, Bool, IsTrue, ◌==◌, ◌&&◌, ◌||◌, nat_le, nat_lt, if◌then◌else◌, List, [], ◌∷◌}
+use Rattle.std.specs.Prelude.{ℕ, ◌%◌, ◌<◌, ◌≤◌, Bool, IsTrue, ◌==◌, ◌&&◌, ◌||◌, if◌then◌else◌, List, [], ◌∷◌}
 use Rattle.sv39.specs.declared.paging.Paging.TheVariants.{Sv39, Sv48}
 use Rattle.sv39.specs.declared.paging.Spaces.{Spaces}
-use Rattle.sv39.specs.Memory.{ram_start}
+use Rattle.sv39.specs.declared.paging.TheConstants.{ASID_BITS}
+use Rattle.sv39.specs.Memory.{is_ram_address}
 use Rattle.board_core.specs.declared.config.BuildFault.{BuildFault}
 use Rattle.board_core.specs.declared.config.BuildFault.TheVariants.{BadConfig, NoMemory}
 use Rattle.board_core.specs.declared.config.Config.{Config}
+use Rattle.board_core.specs.declared.config.TheConstants.{USUAL_ASID_LEN, USUAL_WIDTH}
 
--- An address where a hart may begin is even and in RAM, which is so many pages of 4,096 bytes from 0x80000000.
+-- An address where a hart may begin is even and in the RAM, of so many pages.
 abbrev pub is_start_address : (pages address : ℕ) → Bool
-is_start_address pages address =
-    address % 2 == 0 && (nat_le ram_start address && nat_lt address (ram_start + 4096 * pages))
+is_start_address pages address = address % 2 == 0 && is_ram_address pages address
 
 -- why no board was made, by number
 abbrev pub build_fault_number : BuildFault → ℕ
@@ -26,7 +27,7 @@ pub record IsGood (c : Config) : Type 0 where
   pub at_most_a_million_events : c.limit ≤ 1000000
   pub boot_hart_is_there : c.boot_hart < c.harts
   pub boot_address : IsTrue (is_start_address c.pages c.boot_addr)
-  pub at_most_16_bits_of_an_asid : c.asid_len ≤ 16
+  pub at_most_16_bits_of_an_asid : c.asid_len ≤ ASID_BITS
   pub width_of_a_mode : IsTrue ((c.width == 39) || (c.width == 48))
 
 -- How wide a board's address spaces are: what it keeps of an ASID, and its widest paging mode.
@@ -43,10 +44,10 @@ numbers_of c =
 
 -- Those two where they are left out: all 16 bits of an ASID are kept, and there is Sv39 alone.
 abbrev pub usual_asid_len : ℕ
-usual_asid_len = 16
+usual_asid_len = USUAL_ASID_LEN
 
 abbrev pub usual_width : ℕ
-usual_width = 39
+usual_width = USUAL_WIDTH
 
 abbrev pub has_usual_spaces : Config → Bool
 has_usual_spaces c = (c.asid_len == usual_asid_len) && (c.width == usual_width)

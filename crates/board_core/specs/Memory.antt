@@ -1,10 +1,9 @@
 -- Memory, its translation, and the harts' caches (Privileged 4.1.11, 4.2, 4.3; Zifencei).
-use Rattle.std.specs.Prelude.{ℕ, List, [], ◌∷◌, Bool, ◌==◌, if◌then◌else◌, Option, Some, None, unwrap_or}
+use Rattle.std.specs.Prelude.{ℕ, List, [], ◌∷◌, Bool, if◌then◌else◌, Option, Some, None, option_map, unwrap_or}
 use Rattle.sbi_abi.specs.declared.reset.Reset.{Reset}
 use Rattle.rfence.specs.Applied.{Effect, Nothing, Drops, Empties, effect}
 use Rattle.sv39.specs.Memory.{written, zero_memory}
-use Rattle.sv39.specs.declared.paging.Spaces.{Spaces}
-use Rattle.sv39.specs.Satp.{asid_of, is_stored, kept_of, mode_of}
+use Rattle.sv39.specs.Satp.{asid_of, satp_of_write}
 use Rattle.tlb_model.specs.declared.entry.Address.{Address}
 use Rattle.tlb_model.specs.declared.entry.Entry.{Entry}
 use Rattle.tlb_model.specs.declared.fence.Flush.{Flush}
@@ -29,17 +28,9 @@ use Rattle.board_core.specs.Writes.{Write, Here, at_reset, latest}
 
 -- ---- satp
 
--- What a write puts into satp: 0 with MODE Bare (profile), what is kept of the value with the MODE of a paging mode that
--- the board has, and nothing with another MODE, which has no effect (Privileged 4.1.11).
-abbrev pub satp_of_write : Spaces → ℕ → Option (Write ℕ)
-satp_of_write spaces value =
-    if mode_of value == 0 then Some (Here 0)
-    else if is_stored spaces value then Some (Here (kept_of spaces value))
-    else None
-
--- A guest writes satp, and each entry clears it (SBI 9.1 and 9.4), and a reset everywhere (profile).
+-- A guest writes satp (Privileged 4.1.11), and each entry clears it (SBI 9.1 and 9.4), and a reset everywhere (profile).
 abbrev pub satp_by : Config → Op → Reply → Option (Write ℕ)
-satp_by c (ops.WriteSatp value) reply = satp_of_write (spaces_of c) value
+satp_by c (ops.WriteSatp value) reply = option_map Here (satp_of_write (spaces_of c) value)
 satp_by c ops.Advance (replies.Entry addr hart opaque) = Some (Here 0)
 satp_by c op reply = at_reset (reset_by op reply) 0
 

@@ -1,7 +1,7 @@
 ghost use Rattle.std.specs.Prelude.{◌≡◌, ◌≤◌, ◌↔◌, IsTrue};
 ghost use Rattle.board_core.specs.Limits.{IsGood, build_fault_number, has_usual_spaces, is_start_address, spaces_of};
 
-use sv39::{Paging, Spaces};
+use sv39::{ASID_BITS, PAGE_BYTES, Paging, RAM_START, Spaces};
 use thiserror::Error;
 
 /// What a board is opened with. Every number is tested by `Board::new` alone.
@@ -26,7 +26,7 @@ pub struct Config {
 }
 
 /// ASIDLEN of a board whose line doesn't say it: all bits of an ASID are kept.
-pub const USUAL_ASID_LEN: u64 = 16;
+pub const USUAL_ASID_LEN: u64 = ASID_BITS;
 
 /// The width of a board whose line doesn't say it: it has Sv39 alone.
 pub const USUAL_WIDTH: u64 = 39;
@@ -54,10 +54,6 @@ impl BuildFault {
     }
 }
 
-const RAM_BASE: u64 = 0x8000_0000;
-
-const PAGE_BYTES: u64 = 4096;
-
 impl Config {
     /// Whether every number is within the limits (profile).
     pub fn is_good(&self) -> bool
@@ -66,7 +62,7 @@ impl Config {
         let has_size = (1..=128).contains(&self.harts)
             && (1..=256).contains(&self.pages)
             && (1..=1_000_000).contains(&self.limit);
-        let has_spaces = self.asid_len <= 16 && (self.width == 39 || self.width == 48);
+        let has_spaces = self.asid_len <= ASID_BITS && (self.width == 39 || self.width == 48);
         has_size
             && self.boot_hart < self.harts
             && is_start_address(self.pages, self.boot_addr)
@@ -77,7 +73,7 @@ impl Config {
     pub fn spaces(&self) -> Spaces
         requires { IsGood self.now }
         ensures spaces { result ≡ spaces_of self.now }
-        ensures limit { result.asid_len ≤ 16 }
+        ensures limit { result.asid_len ≤ ASID_BITS }
     {
         let widest = if self.width == 48 {
             Paging::Sv48
@@ -103,5 +99,5 @@ pub fn is_start_address(pages: u64, address: u64) -> bool
     requires { pages ≤ 256 }
     ensures { result ≡ is_start_address pages address }
 {
-    address.is_multiple_of(2) && (RAM_BASE..RAM_BASE + PAGE_BYTES * pages).contains(&address)
+    address.is_multiple_of(2) && (RAM_START..RAM_START + PAGE_BYTES * pages).contains(&address)
 }

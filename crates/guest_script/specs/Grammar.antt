@@ -7,6 +7,7 @@ use Rattle.board_core.specs.Limits.{first_numbers, numbers_of, usual_asid_len, u
 use Rattle.board_core.specs.declared.event.Actor.{Actor}
 use Rattle.board_core.specs.declared.event.Actor.TheVariants.{Hart, Clock}
 use Rattle.board_core.specs.declared.event.Op.{Op}
+use Rattle.guest_script.specs.declared.reader.TheConstants.{MOST_BYTES}
 use Rattle.guest_script.specs.declared.said.Said.{Said}
 use Rattle.guest_script.specs.declared.script.Block.{Block}
 use Rattle.guest_script.specs.declared.script.Body.{Body}
@@ -188,7 +189,7 @@ AreScript n (text ∷ texts) s =
 
 -- the size of the largest script
 abbrev pub most_bytes : ℕ
-most_bytes = 16777216
+most_bytes = MOST_BYTES
 
 -- The bytes are this script.
 abbrev pub Reads : List ℕ → Written → Type 0

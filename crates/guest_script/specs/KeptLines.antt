@@ -1,7 +1,8 @@
 -- Lines as they are kept.
-use Rattle.std.specs.Prelude.{◌≡◌, ℕ, ◌+◌, ◌^◌, ◌<◌, ◌≤◌, List, [], ◌∷◌, take, drop, length, map, is_some}
+use Rattle.std.specs.Prelude.{◌≡◌, ℕ, ◌+◌, ◌<◌, ◌≤◌, List, [], ◌∷◌, take, drop, length, map, is_some}
 use Rattle.std.specs.List.{AllByRecursion}
 use Rattle.guest_script.specs.declared.kept.Kept.{Kept}
+use Rattle.guest_script.specs.declared.lines.TheConstants.{MOST_LINES}
 use Rattle.guest_script.specs.declared.plain.Plain.{Plain}
 use Rattle.guest_script.specs.declared.script.Line.{Line}
 use Rattle.guest_script.specs.Packing.{FitsKept, actor_made, op_made, said_count, said_made}
@@ -42,7 +43,7 @@ IsLike (first ∷ lines) line = is_some first.said ≡ is_some line.said
 -- A line can follow these: it is of their kind, its hart is at most 127, and its number and how many there are lie below 2^28
 -- (profile).
 pub record CanFollow (lines : List Line) (line : Line) : Type 0 where
-  pub few : length lines < 2 ^ 28
-  pub number : line.number < 2 ^ 28
+  pub few : length lines < MOST_LINES
+  pub number : line.number < MOST_LINES
   pub actor : FitsKept line.actor
   pub like : IsLike lines line

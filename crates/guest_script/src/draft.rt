@@ -1,4 +1,4 @@
-ghost use Rattle.std.specs.Prelude.{◌≡◌, ◌⊎◌, ◌∷◌, [], ◌++◌, Bool, ℕ, List, true, false, is_some, None, IfOk, OnOk, Err, MatchOption, MatchResult, ◌+◌, ◌<◌, ◌≤◌, ◌^◌, length};
+ghost use Rattle.std.specs.Prelude.{◌≡◌, ◌⊎◌, ◌∷◌, [], ◌++◌, Bool, ℕ, List, true, false, is_some, None, IfOk, OnOk, Err, MatchOption, MatchResult, ◌+◌, ◌<◌, ◌≤◌, length};
 ghost use Rattle.std.specs.Str.Lines.{lines};
 ghost use Rattle.guest_script.specs.Packing.{FitsKept};
 ghost use Rattle.guest_script.specs.declared.fault.Fault.TheVariants.{NoMemory, SecondBlock};
@@ -13,7 +13,7 @@ ghost use Rattle.guest_script.specs.Values.{clock_in, guests_in, lines_in, next_
 use crate::blocks::BlocksDraft;
 use crate::fault::{Fault, NO_MEMORY, ScriptFault};
 use crate::kind::Kind;
-use crate::lines::Lines;
+use crate::lines::{Lines, MOST_LINES};
 use crate::plain::read_plain_lines;
 use crate::script::{Body, Line};
 use crate::step::{one_number, step_line};
@@ -37,8 +37,8 @@ pub enum BodyDraft {
 impl BodyDraft {
     /// Reads line `n`.
     pub fn read_line(&mut self, alloc: Global, n: u64, text: &[u8]) -> Result<(), ScriptFault>
-        requires number { n < 2 ^ 28 }
-        requires few { length (lines_in (draft_of self.old)) < 2 ^ 28 }
+        requires number { n < MOST_LINES }
+        requires few { length (lines_in (draft_of self.old)) < MOST_LINES }
         ensures { GivesOrLacks (λ _. draft_of self.new) result (line_from n (draft_of self.old) text.now) }
     {
         match self.line(alloc, n, text) {
@@ -58,7 +58,7 @@ impl BodyDraft {
         bytes: &'a [u8],
     ) -> Result<(u64, &'a [u8]), ScriptFault>
         requires some { 0 < length bytes.now }
-        requires number { n + length bytes.now < 2 ^ 28 }
+        requires number { n + length bytes.now < MOST_LINES }
         requires few { length (lines_in (draft_of self.old)) ≤ n }
         ensures read { MatchResult result
             (λ found. GoesOn n (draft_of self.old) bytes.now found.0 (draft_of self.new) found.1.now)
@@ -86,7 +86,7 @@ impl BodyDraft {
         n: u64,
         bytes: &'a [u8],
     ) -> Result<(u64, &'a [u8]), AllocError>
-        requires number { n + length bytes.now < 2 ^ 28 }
+        requires number { n + length bytes.now < MOST_LINES }
         requires few { length (lines_in (draft_of self.old)) ≤ n }
         ensures read { IfOk result (λ found. GoesOn n (draft_of self.old) bytes.now found.0 (draft_of self.new) found.1.now) }
         ensures within { IfOk result (λ found. found.0 + length found.1.now ≤ n + length bytes.now) }
@@ -107,8 +107,8 @@ impl BodyDraft {
     }
 
     fn line(&mut self, alloc: Global, n: u64, text: &[u8]) -> Result<(), Fault>
-        requires number { n < 2 ^ 28 }
-        requires few { length (lines_in (draft_of self.old)) < 2 ^ 28 }
+        requires number { n < MOST_LINES }
+        requires few { length (lines_in (draft_of self.old)) < MOST_LINES }
         ensures { GivesOrWants (λ _. draft_of self.new) result
             (tested (byte_test text.now ∷ line_tests (draft_of self.old) (words_in text.now)) (next_in n (draft_of self.old) (words_in text.now))) }
     {
@@ -123,8 +123,8 @@ impl BodyDraft {
 
     /// Reads the words of line `n`.
     fn words(&mut self, alloc: Global, n: u64, first: &[u8], rest: &[u8]) -> Result<(), Fault>
-        requires number { n < 2 ^ 28 }
-        requires few { length (lines_in (draft_of self.old)) < 2 ^ 28 }
+        requires number { n < MOST_LINES }
+        requires few { length (lines_in (draft_of self.old)) < MOST_LINES }
         ensures { GivesOrWants (λ _. draft_of self.new) result
             (tested (line_tests (draft_of self.old) (first.now ∷ words_in rest.now)) (next_in n (draft_of self.old) (first.now ∷ words_in rest.now))) }
     {
@@ -205,9 +205,9 @@ impl BodyDraft {
     /// A step more.
     fn step(&mut self, alloc: Global, in_trace: bool, line: &Line) -> Result<(), AllocError>
         requires kind { may_follow (draft_of self.old) (Step in_trace) ≡ true }
-        requires number { line.now.number < 2 ^ 28 }
+        requires number { line.now.number < MOST_LINES }
         requires actor { FitsKept line.now.actor }
-        requires few { length (lines_in (draft_of self.old)) < 2 ^ 28 }
+        requires few { length (lines_in (draft_of self.old)) < MOST_LINES }
         ensures { OnOk result (draft_of self.new ≡ with_step in_trace (draft_of self.old) line.now) }
     {
         match self {

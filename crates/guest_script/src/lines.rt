@@ -1,4 +1,4 @@
-ghost use Rattle.std.specs.Prelude.{◌≡◌, ◌↔◌, ◌==◌, ◌++◌, ◌∷◌, [], ◌*◌, ◌+◌, ◌<◌, ◌≤◌, ◌^◌, true, IsErrOf, List, OnErr, OnOk, length, slice_get, vec_len};
+ghost use Rattle.std.specs.Prelude.{◌≡◌, ◌↔◌, ◌==◌, ◌++◌, ◌∷◌, [], ◌*◌, ◌+◌, ◌<◌, ◌≤◌, true, IsErrOf, List, OnErr, OnOk, length, slice_get, vec_len};
 ghost use Rattle.std.specs.Iterator.{YieldsFirst, item_count};
 ghost use Rattle.guest_script.specs.declared.script.Line.{Line};
 ghost use Rattle.guest_script.specs.declared.lines.LineFault.TheVariants.{BadLine, NoMemory};
@@ -26,7 +26,7 @@ const MANY_BYTES: usize = 1 << 16;
 const LINE_BYTES: usize = 8;
 
 /// How many lines there are at most, and below which their numbers are: 2^28 (profile).
-const MOST: usize = 1 << 28;
+pub const MOST_LINES: usize = 1 << 28;
 
 /// Why a line can't be added to others.
 #[derive(Clone, Copy, Debug, PartialEq, Eq, Error)]
@@ -104,7 +104,10 @@ impl Lines {
     fn can_follow(&self, line: &Line) -> bool
         ensures { (result ≡ true) ↔ CanFollow self.now line.now }
     {
-        self.len() < MOST && line.number < MOST as u64 && fits(line.actor) && self.is_like(line)
+        self.len() < MOST_LINES
+            && line.number < MOST_LINES as u64
+            && fits(line.actor)
+            && self.is_like(line)
     }
 
     /// Whether a line says what was given exactly where the first of these does, if there is one.
@@ -137,9 +140,9 @@ impl Lines {
     ///
     /// Memory was refused.
     pub(crate) fn push(&mut self, line: &Line) -> Result<(), AllocError>
-        requires number { line.now.number < 2 ^ 28 }
+        requires number { line.now.number < MOST_LINES }
         requires actor { FitsKept line.now.actor }
-        requires few { length self.old < 2 ^ 28 }
+        requires few { length self.old < MOST_LINES }
         ensures pushed { OnOk result (self.new ≡ self.old ++ line.now ∷ []) }
         ensures refused { OnErr result (self.new ≡ self.old) }
     {
@@ -172,10 +175,10 @@ impl Lines {
         plain: Plain,
         numbers: &[u64],
     ) -> Result<(), AllocError>
-        requires number { number < 2 ^ 28 }
+        requires number { number < MOST_LINES }
         requires actor { FitsKept plain.actor }
         requires numbers { length numbers.now ≤ OP_NUMBERS }
-        requires few { length self.old < 2 ^ 28 }
+        requires few { length self.old < MOST_LINES }
         ensures { OnOk result (self.new ≡ self.old ++ plain_line number plain numbers.now ∷ []) }
     {
         self.kept.reserve(1)?;

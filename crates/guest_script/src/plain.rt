@@ -8,7 +8,7 @@ ghost use Rattle.guest_script.specs.PlainLines.{BeginsActor, BeginsArgument, Beg
 ghost use Rattle.guest_script.specs.KeptLines.{plain_line};
 ghost use Rattle.guest_script.specs.Packing.{FitsKept, op_made};
 
-use crate::lines::Lines;
+use crate::lines::{Lines, MOST_LINES};
 use crate::number::{LAST_ABOVE, LAST_BELOW, below_zero, push_digit};
 use crate::numbers::MOST_ARGUMENTS;
 use crate::op_name::OpName;
@@ -47,7 +47,7 @@ pub fn read_plain_lines<'a>(
     in_trace: bool,
     bytes: &'a [u8],
 ) -> Result<(u64, &'a [u8]), AllocError>
-    requires number { first + length bytes.now < 2 ^ 28 }
+    requires number { first + length bytes.now < MOST_LINES }
     requires few { length steps.old ≤ first }
     ensures read { IfOk result (λ found. GoesOn first (steps_of in_trace steps.old) bytes.now found.0 (steps_of in_trace steps.new) found.1.now) }
     ensures within { IfOk result (λ found. found.0 + length found.1.now ≤ first + length bytes.now) }
@@ -76,8 +76,8 @@ fn read_plain<'a>(
     in_trace: bool,
     bytes: &'a [u8],
 ) -> Result<Option<&'a [u8]>, AllocError>
-    requires number { n < 2 ^ 28 }
-    requires few { length lines.old < 2 ^ 28 }
+    requires number { n < MOST_LINES }
+    requires few { length lines.old < MOST_LINES }
     ensures { IfOk result (λ found. MatchOption found (lines.new ≡ lines.old)
         (λ after. (line : Line) × BeginsLine n in_trace bytes.now line after.now × (lines.new ≡ lines.old ++ line ∷ []) × (length after.now < length bytes.now))) }
 {

@@ -1,4 +1,4 @@
-ghost use Rattle.std.specs.Prelude.{◌≡◌, ◌+◌, ◌<◌, ◌≤◌, ◌^◌, ◌++◌, ◌∷◌, [], List, Ok, IfOk, OnOk, ℕ, length};
+ghost use Rattle.std.specs.Prelude.{◌≡◌, ◌+◌, ◌<◌, ◌≤◌, ◌++◌, ◌∷◌, [], List, Ok, IfOk, OnOk, ℕ, length};
 ghost use Rattle.std.specs.Str.Lines.{lines};
 ghost use Rattle.guest_script.specs.Drafts.{draft_of};
 ghost use Rattle.guest_script.specs.Grammar.{written};
@@ -8,6 +8,7 @@ ghost use Rattle.guest_script.specs.Reading.{GivesOrLacks, script_from, with_con
 use crate::board_line::board_words;
 use crate::draft::BodyDraft;
 use crate::fault::{Fault, NO_MEMORY, ScriptFault};
+use crate::lines::MOST_LINES;
 use crate::script::Script;
 use crate::text::next_line;
 use board_core::Config;
@@ -50,7 +51,7 @@ impl Progress {
         expected: usize,
         bytes: &[u8],
     ) -> Result<(), AllocError>
-        requires number { self.old.next + length bytes.now < 2 ^ 28 }
+        requires number { self.old.next + length bytes.now < MOST_LINES }
         requires few { length (lines_so_far self.old) ≤ self.old.next }
         ensures read { OnOk result ((more : List (List ℕ)) → script_after self.old (lines bytes.now ++ more) ≡ script_after self.new more) }
         ensures within { OnOk result (self.new.next ≤ self.old.next + length bytes.now) }
@@ -72,7 +73,7 @@ impl Progress {
         bytes: &'a [u8],
     ) -> Result<&'a [u8], AllocError>
         requires some { 0 < length bytes.now }
-        requires number { self.old.next + length bytes.now < 2 ^ 28 }
+        requires number { self.old.next + length bytes.now < MOST_LINES }
         requires few { length (lines_so_far self.old) ≤ self.old.next }
         ensures read { IfOk result (λ rest. (more : List (List ℕ)) → script_after self.old (lines bytes.now ++ more) ≡ script_after self.new (lines rest.now ++ more)) }
         ensures within { IfOk result (λ rest. self.new.next + length rest.now ≤ self.old.next + length bytes.now) }

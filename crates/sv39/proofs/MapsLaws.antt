@@ -9,11 +9,12 @@ use Rattle.sv39.specs.declared.page.Level.TheVariants.{Kilo, Mega, Giga, Tera}
 use Rattle.sv39.specs.declared.paging.Paging.{Paging}
 use Rattle.sv39.specs.declared.paging.Paging.TheVariants.{Sv39, Sv48}
 use Rattle.sv39.specs.Causes.{access_fault, page_fault}
-use Rattle.sv39.specs.Entries.{below, has_g, is_pointer, page_number}
+use Rattle.sv39.specs.declared.page.TheConstants.{PAGE_BYTES}
+use Rattle.sv39.specs.Entries.{has_g, is_pointer, page_number}
 use Rattle.sv39.specs.Maps.{Maps, MapsBy, are_pointers, entry_in, found_from, is_any_global, is_some_global, is_some_pointer, maps, outcome, table_below, table_of}
-use Rattle.sv39.specs.Pages.{levels_from, part}
+use Rattle.sv39.specs.Pages.{below, levels_from, part}
 use Rattle.sv39.specs.Paging.{scheme}
-use Rattle.sv39.specs.Satp.{is_valid, paging_of, root_of}
+use Rattle.sv39.specs.Satp.{is_valid, paging_of, root_address, root_of}
 
 -- no pointer stands at the lowest level
 pub none_lowest : (entry : Option ℕ) → is_some_pointer Kilo entry ≡ false
@@ -106,7 +107,7 @@ pub maps_is_the_rule : (memory : ℕ → Option ℕ) (satp va : ℕ) (kind : Kin
     → Maps memory satp va kind result ↔ (result ≡ maps memory satp va kind)
 unfolding Maps maps
 maps_is_the_rule memory satp va kind result = elim (cases_Bool (is_valid satp va)) [
-  | inl valid ↦ rw valid (relates memory (4096 * root_of satp) va kind (levels_from (scheme (paging_of satp)).root) result (levels_end (paging_of satp)))
+  | inl valid ↦ rw valid (relates memory (root_address satp) va kind (levels_from (scheme (paging_of satp)).root) result (levels_end (paging_of satp)))
   | inr invalid ↦ rw invalid (λ e. e, λ e. e)
 ]
 
@@ -116,7 +117,7 @@ pub record Reached (memory : ℕ → Option ℕ) (satp va : ℕ) (kind : Kind) (
   pub fits : table < 2 ^ 57
 
 pub reached_first : (memory : ℕ → Option ℕ) (satp va : ℕ) (kind : Kind) → is_valid satp va ≡ true → root_of satp < 2 ^ 44
-    → Reached memory satp va kind (scheme (paging_of satp)).root (4096 * root_of satp) false
+    → Reached memory satp va kind (scheme (paging_of satp)).root (root_address satp) false
 unfolding maps
 reached_first memory satp va kind valid fits = record { rest = rw valid refl; fits = omega arith }
 
@@ -165,13 +166,13 @@ ended_there memory satp va kind level table entry global r here none =
 -- a walk that goes down, from the levels that are left
 down : (memory : ℕ → Option ℕ) (va : ℕ) (kind : Kind) (level : Level) (under : List Level) (table entry : ℕ) (global : Bool)
     → memory (table + 8 * part level va) ≡ Some entry → is_pointer level entry ≡ true
-    → found_from memory va kind table global (level ∷ under) ≡ found_from memory va kind (4096 * page_number entry) (global || has_g entry) under
+    → found_from memory va kind table global (level ∷ under) ≡ found_from memory va kind (PAGE_BYTES * page_number entry) (global || has_g entry) under
 down memory va kind level under table entry global here good = rw (here, good) refl
 
 -- a walk that finds a good pointer
 pub goes_on : (memory : ℕ → Option ℕ) (satp va : ℕ) (kind : Kind) (level lower : Level) (table entry : ℕ) (global : Bool) → Reached memory satp va kind level table global
     → memory (table + 8 * part level va) ≡ Some entry → cond (is_pointer level entry) (below level) None ≡ Some lower
-    → Reached memory satp va kind lower (4096 * page_number entry) (global || has_g entry)
+    → Reached memory satp va kind lower (PAGE_BYTES * page_number entry) (global || has_g entry)
 goes_on memory satp va kind level lower table entry global r here some = elim (cases_Bool (is_pointer level entry)) [
   | inl good ↦ record {
     rest = r.rest ∙ ap (found_from memory va kind table global) (levels_below level lower (rw good at some)) ∙ down memory va kind level (levels_from lower) table entry global here good;

@@ -1,5 +1,5 @@
 -- One leaf for all addresses of its page and all kinds of access.
-use Rattle.std.proofs.Common.{◌≡◌, ℕ, ◌+◌, ◌-◌, ◌/◌, ◌^◌, ◌<◌, ◌≤◌, ◌*◌, Bool, true, false, ◌||◌, List, [], ◌∷◌, Option, Some, None, Ok, refl, sym, ap, ◌∙◌, arith, inl, inr}
+use Rattle.std.proofs.Common.{◌≡◌, ℕ, ◌+◌, ◌-◌, ◌/◌, ◌^◌, ◌<◌, ◌≤◌, ◌*◌, Bool, true, false, ◌||◌, List, [], ◌∷◌, Option, Some, None, Ok, sym, ap, ◌∙◌, arith, inl, inr}
 use Rattle.std.proofs.lemmas.Bool.{cases_Bool}
 use Rattle.sv39.specs.declared.cause.Kind.{Kind}
 use Rattle.sv39.specs.declared.page.Leaf.{Leaf}
@@ -12,7 +12,7 @@ use Rattle.sv39.specs.Leaves.{allows, by_right}
 use Rattle.sv39.specs.Maps.{entry_in, found_from, is_some_global, is_some_pointer, maps, outcome, table_of}
 use Rattle.sv39.specs.Pages.{level_number, levels_from, page_of, part, size}
 use Rattle.sv39.specs.Paging.{is_valid_by, scheme}
-use Rattle.sv39.specs.Satp.{is_valid, paging_of, root_of}
+use Rattle.sv39.specs.Satp.{is_valid, paging_of, root_address}
 use Rattle.sv39.proofs.Addresses.{is_valid_by_top}
 
 -- two addresses of a page have the same part for its level and each one above it
@@ -144,7 +144,7 @@ leaves_of Sv48 = one_more Tera (levels_from Giga) 2 (omega arith) leaves_of_thre
 pub leaf_page : (memory : ℕ → Option ℕ) (satp va : ℕ) (kind : Kind) (leaf : Leaf) → maps memory satp va kind ≡ Ok leaf → leaf.page ≡ page_of leaf.level va
 unfolding maps
 leaf_page memory satp va kind leaf e = elim (cases_Bool (is_valid satp va)) [
-  | inl valid ↦ (leaves_of (paging_of satp) memory va (4096 * root_of satp) false kind leaf (rw valid at e)).page
+  | inl valid ↦ (leaves_of (paging_of satp) memory va (root_address satp) false kind leaf (rw valid at e)).page
   | inr invalid ↦ let found = rw invalid at e in cc
 ]
 
@@ -153,7 +153,7 @@ pub one_leaf_for_a_page : (memory : ℕ → Option ℕ) (satp a b : ℕ) (kind o
 unfolding maps
 one_leaf_for_a_page memory satp a b kind other leaf e from before = elim (cases_Bool (is_valid satp a)) [
   | inl valid ↦
-      let l = leaves_of (paging_of satp) memory a (4096 * root_of satp) false kind leaf (rw valid at e) in
+      let l = leaves_of (paging_of satp) memory a (root_address satp) false kind leaf (rw valid at e) in
       let same : page_of leaf.level b ≡ page_of leaf.level a = of-page leaf.level a b (rw l.page at from) (rw l.page at before) in
       rw (same-valid (paging_of satp) leaf.level a b l.low same, valid) (l.each b other same)
   | inr invalid ↦ let found = rw invalid at e in cc

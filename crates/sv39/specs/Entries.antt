@@ -1,10 +1,11 @@
 -- The entries of page tables (Privileged 4.3.1, 4.4.1, 4.5.1).
-use Rattle.std.specs.Prelude.{ℕ, ◌*◌, ◌/◌, ◌%◌, ◌^◌, Bool, not, ◌==◌, ◌&&◌, ◌||◌, Option, Some, None, is_some}
+use Rattle.std.specs.Prelude.{ℕ, ◌*◌, ◌/◌, ◌%◌, ◌^◌, Bool, not, ◌==◌, ◌&&◌, ◌||◌, is_some}
 use Rattle.std.specs.Int.{bit_at}
 use Rattle.sv39.specs.declared.page.Level.{Level}
-use Rattle.sv39.specs.declared.page.Level.TheVariants.{Kilo, Mega, Giga, Tera}
+use Rattle.sv39.specs.declared.page.TheConstants.{PAGE_BYTES, TABLE_ENTRIES}
 use Rattle.sv39.specs.declared.page.Leaf.{Leaf}
-use Rattle.sv39.specs.Pages.{level_number, page_of}
+use Rattle.sv39.specs.declared.satp.TheConstants.{PPN_BITS}
+use Rattle.sv39.specs.Pages.{below, level_number, page_of}
 
 -- Whether a bit of an entry is 1: V 0, R 1, W 2, X 3, U 4, G 5, A 6, D 7; bits 8 and 9, RSW, are ignored (Privileged
 -- 4.3.1, 4.4.1, 4.5.1).
@@ -45,19 +46,12 @@ has_d = has_bit 7
 
 -- PPN, bits 53 to 10: the number of the physical page that the entry names.
 abbrev pub page_number : ℕ → ℕ
-page_number entry = entry / 2 ^ 10 % 2 ^ 44
+page_number entry = entry / 2 ^ 10 % 2 ^ PPN_BITS
 
 -- An entry can be a pointer or a leaf only with V, and with bits 63 to 54 all 0: those are reserved, or of an extension
 -- (Privileged 4.3.2, 4.4.1, 4.5.1; that a board has neither Svnapot nor Svpbmt: profile).
 abbrev pub is_present : ℕ → Bool
 is_present entry = has_v entry && (entry / 2 ^ 54 == 0)
-
--- the level below another one, if there is one
-abbrev pub below : Level → Option Level
-below Tera = Some Giga
-below Giga = Some Mega
-below Mega = Some Kilo
-below Kilo = None
 
 -- The entry is a good pointer to a table of the level below: it has none of R, W and X, and none of A, D and U, which
 -- are reserved in a pointer (Privileged 4.3.1, 4.3.2).
@@ -69,7 +63,7 @@ is_pointer level entry =
 
 -- The low parts of a superpage's PPN, one of 9 bits for each level below, are 0 (Privileged 4.3.2).
 abbrev pub is_aligned : Level → ℕ → Bool
-is_aligned level entry = page_number entry % 512 ^ level_number level == 0
+is_aligned level entry = page_number entry % TABLE_ENTRIES ^ level_number level == 0
 
 -- The entry is a right leaf, whatever the access: it has R or X, and W only with R; the page isn't the user's (a board
 -- has no SUM: profile), was accessed (a board faults in place of setting A: profile), and is aligned (Privileged 4.3.1,
@@ -86,7 +80,7 @@ leaf_of entry va level global_above = record {
   page = page_of level va;
   level = level;
   global = has_g entry || global_above;
-  pa = 4096 * page_number entry;
+  pa = PAGE_BYTES * page_number entry;
   r = has_r entry;
   w = has_w entry;
   x = has_x entry;

@@ -4,12 +4,13 @@ use Rattle.sv39.specs.declared.cause.Cause.{Cause}
 use Rattle.sv39.specs.declared.cause.Kind.{Kind}
 use Rattle.sv39.specs.declared.page.Leaf.{Leaf}
 use Rattle.sv39.specs.declared.page.Level.{Level}
+use Rattle.sv39.specs.declared.page.TheConstants.{PAGE_BYTES}
 use Rattle.sv39.specs.Causes.{access_fault, page_fault}
 use Rattle.sv39.specs.Entries.{has_g, is_leaf, is_pointer, leaf_of, page_number}
 use Rattle.sv39.specs.Leaves.{by_right}
 use Rattle.sv39.specs.Pages.{levels_from, part}
 use Rattle.sv39.specs.Paging.{scheme}
-use Rattle.sv39.specs.Satp.{is_valid, paging_of, root_of}
+use Rattle.sv39.specs.Satp.{is_valid, paging_of, root_address}
 
 -- the memory's entry for an address, in the table at an address, by the part of its level
 abbrev pub entry_in : (ℕ → Option ℕ) → (va : ℕ) → (table : ℕ) → Level → Option ℕ
@@ -17,7 +18,7 @@ entry_in memory va table level = memory (table + 8 * part level va)
 
 -- the table that an entry points to
 abbrev pub table_of : Option ℕ → ℕ
-table_of (Some entry) = 4096 * page_number entry
+table_of (Some entry) = PAGE_BYTES * page_number entry
 table_of None = 0
 
 -- whether an entry is in the RAM and a good pointer
@@ -78,7 +79,7 @@ pub record MapsBy
 unfoldable pub Maps : (ℕ → Option ℕ) → (satp va : ℕ) → Kind → Result Leaf Cause → Type 0
 Maps memory satp va kind result =
     MatchBool (is_valid satp va)
-    (MapsBy memory (4096 * root_of satp) va kind (levels_from (scheme (paging_of satp)).root) result)
+    (MapsBy memory (root_address satp) va kind (levels_from (scheme (paging_of satp)).root) result)
     (result ≡ Err (page_fault kind))
 
 -- What a walk gives from a table on, whose levels are these: it goes down at a good pointer, and ends at another entry.
@@ -96,5 +97,5 @@ found_from memory va kind table global (level ∷ under) =
 unfoldable pub maps : (ℕ → Option ℕ) → (satp va : ℕ) → Kind → Result Leaf Cause
 maps memory satp va kind =
     if is_valid satp va
-    then found_from memory va kind (4096 * root_of satp) false (levels_from (scheme (paging_of satp)).root)
+    then found_from memory va kind (root_address satp) false (levels_from (scheme (paging_of satp)).root)
     else Err (page_fault kind)

@@ -1,21 +1,28 @@
 -- The supervisor address translation and protection register (Privileged 4.1.11).
-use Rattle.std.specs.Prelude.{◌≡◌, ℕ, ◌+◌, ◌*◌, ◌/◌, ◌%◌, ◌^◌, Bool, false, ◌==◌, ◌&&◌, if◌then◌else◌, is_some, unwrap_or}
+use Rattle.std.specs.Prelude.{◌≡◌, ℕ, ◌+◌, ◌*◌, ◌/◌, ◌%◌, ◌^◌, Bool, false, ◌==◌, ◌&&◌, if◌then◌else◌, Option, Some, None, is_some, unwrap_or}
+use Rattle.sv39.specs.declared.page.TheConstants.{PAGE_BYTES}
 use Rattle.sv39.specs.declared.paging.Paging.{Paging}
 use Rattle.sv39.specs.declared.paging.Paging.TheVariants.{Sv39}
 use Rattle.sv39.specs.declared.paging.Spaces.{Spaces}
+use Rattle.sv39.specs.declared.paging.TheConstants.{ASID_BITS}
+use Rattle.sv39.specs.declared.satp.TheConstants.{MODE_BIT, PPN_BITS}
 use Rattle.sv39.specs.Paging.{cut_asid, is_valid_by, named, supports}
 
 -- MODE, bits 63 to 60: 0 is Bare, 8 is Sv39, 9 is Sv48 (Privileged 4.1.11).
 abbrev pub mode_of : ℕ → ℕ
-mode_of satp = satp / 2 ^ 60 % 2 ^ 4
+mode_of satp = satp / 2 ^ MODE_BIT % 2 ^ 4
 
 -- ASID, bits 59 to 44: the address space.
 abbrev pub asid_of : ℕ → ℕ
-asid_of satp = satp / 2 ^ 44 % 2 ^ 16
+asid_of satp = satp / 2 ^ PPN_BITS % 2 ^ ASID_BITS
 
 -- PPN, bits 43 to 0: the number of the physical page with the root page table.
 abbrev pub root_of : ℕ → ℕ
-root_of satp = satp % 2 ^ 44
+root_of satp = satp % 2 ^ PPN_BITS
+
+-- the physical address of that page
+abbrev pub root_address : ℕ → ℕ
+root_address satp = PAGE_BYTES * root_of satp
 
 -- Whether addresses are translated, by one of the paging modes; else they are physical addresses.
 abbrev pub translates : ℕ → Bool
@@ -31,19 +38,25 @@ is_valid satp va = is_valid_by (paging_of satp) va
 
 -- The value with the bits of its ASID above ASIDLEN cleared (Privileged 4.1.11).
 abbrev pub kept_of : Spaces → ℕ → ℕ
-kept_of spaces value = value / 2 ^ 60 * 2 ^ 60 + cut_asid spaces (asid_of value) * 2 ^ 44 + root_of value
+kept_of spaces value =
+    value / 2 ^ MODE_BIT * 2 ^ MODE_BIT + cut_asid spaces (asid_of value) * 2 ^ PPN_BITS + root_of value
 
 -- Whether a write stores the value: its MODE is a paging mode that the board has.
 abbrev pub is_stored : Spaces → ℕ → Bool
 is_stored spaces value = translates value && supports spaces (paging_of value)
 
--- What a write leaves: 0 for Bare, whatever the other fields (profile); what is kept of the value for a mode that the
--- board has; and with another MODE the write has no effect (Privileged 4.1.11; that Sv57 isn't supported: profile).
+-- What a write puts into satp: 0 for Bare, whatever the other fields (profile); what is kept of the value for a mode that
+-- the board has; and nothing with another MODE, which has no effect (Privileged 4.1.11; that Sv57 isn't supported:
+-- profile).
+abbrev pub satp_of_write : Spaces → (value : ℕ) → Option ℕ
+satp_of_write spaces value =
+    if mode_of value == 0 then Some 0
+    else if is_stored spaces value then Some (kept_of spaces value)
+    else None
+
+-- What satp holds after a write.
 abbrev pub satp_written : Spaces → (satp value : ℕ) → ℕ
-satp_written spaces satp value =
-    if mode_of value == 0 then 0
-    else if is_stored spaces value then kept_of spaces value
-    else satp
+satp_written spaces satp value = unwrap_or (satp_of_write spaces value) satp
 
 -- What satp holds: 0, or a value with the MODE of a paging mode.
 abbrev pub IsSatp : ℕ → Type 0

@@ -1,9 +1,11 @@
 ghost use Rattle.std.specs.Prelude.{◌≡◌, ◌*◌, ◌<◌, Some, None, if◌then◌else◌};
-ghost use Rattle.sv39.specs.Entries.{below, has_bit, has_g, is_aligned, is_leaf, is_pointer, is_present, leaf_of, page_number};
+ghost use Rattle.sv39.specs.Entries.{has_bit, has_g, is_aligned, is_leaf, is_pointer, is_present, leaf_of, page_number};
 ghost use Rattle.sv39.specs.Maps.{outcome};
+ghost use Rattle.sv39.specs.Pages.{below};
 
 use crate::cause::{Cause, Kind};
-use crate::page::{Leaf, Level};
+use crate::page::{Leaf, Level, PAGE_BYTES};
+use crate::satp::PPN_BITS;
 
 // The bits of an entry (Privileged 4.3.1).
 
@@ -47,9 +49,9 @@ impl TableEntry {
 
     /// The physical address of the page that the entry names.
     pub fn address(self) -> u64
-        ensures { result ≡ 4096 * page_number self.bits }
+        ensures { result ≡ PAGE_BYTES * page_number self.bits }
     {
-        (self.bits >> 10) % (1 << 44) << 12
+        (self.bits >> 10) % (1 << PPN_BITS) * PAGE_BYTES
     }
 
     /// The level of the table that the entry points to, where it is a good pointer.

@@ -10,8 +10,8 @@ mod ram;
 mod satp;
 
 pub use cause::{Cause, Kind};
-pub use page::{Leaf, Level};
+pub use page::{Leaf, Level, PAGE_BYTES};
 pub use page_tables::{maps_is_the_rule, one_leaf_for_a_page, walk};
-pub use paging::{Paging, Spaces};
-pub use ram::Ram;
+pub use paging::{ASID_BITS, Paging, Spaces};
+pub use ram::{RAM_START, Ram};
 pub use satp::Satp;

@@ -1,9 +1,14 @@
 ghost use Rattle.std.specs.Prelude.{◌≡◌};
-ghost use Rattle.sv39.specs.Entries.{below};
 ghost use Rattle.sv39.specs.Leaves.{allows};
-ghost use Rattle.sv39.specs.Pages.{level_number, part, size};
+ghost use Rattle.sv39.specs.Pages.{below, level_number, part, size};
 
 use crate::cause::Kind;
+
+/// The bytes of a page of the lowest level, which a page table fills, too (Privileged 4.3.1).
+pub const PAGE_BYTES: u64 = 4096;
+
+/// The entries of a page table, of 8 bytes each (Privileged 4.3.1).
+pub const TABLE_ENTRIES: u64 = 512;
 
 /// The levels of page tables, each by the page that a leaf in it maps (Privileged 4.4.1, 4.5.1).
 #[derive(Clone, Copy, Debug, PartialEq, Eq)]
@@ -59,7 +64,7 @@ impl Level {
     pub(crate) fn part(self, va: u64) -> u64
         ensures { result ≡ part self va }
     {
-        va / self.size() % 512
+        va / self.size() % TABLE_ENTRIES
     }
 }
 

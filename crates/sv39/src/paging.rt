@@ -3,6 +3,9 @@ ghost use Rattle.sv39.specs.Paging.{cut_asid, is_valid_by, named, scheme};
 
 use crate::page::Level;
 
+/// The bits of an ASID, of which a board may keep fewer (Privileged 4.1.11).
+pub const ASID_BITS: u64 = 16;
+
 /// The paging modes, by which page tables translate addresses (Privileged 4.1.11).
 #[derive(Clone, Copy, Debug, PartialEq, Eq)]
 pub enum Paging {
@@ -70,9 +73,9 @@ pub struct Spaces {
 impl Spaces {
     /// What is kept of an ASID: its low ASIDLEN bits (Privileged 4.1.11, 4.2.1).
     pub fn cut_asid(self, asid: u64) -> u64
-        requires { self.asid_len ≤ 16 }
+        requires { self.asid_len ≤ ASID_BITS }
         ensures kept { result ≡ cut_asid self asid }
-        ensures small { result < 2 ^ 16 }
+        ensures small { result < 2 ^ ASID_BITS }
     {
         asid % (1 << self.asid_len)
     }

@@ -5,10 +5,10 @@ use std::alloc::{AllocError, Global};
 use std::marker::Model;
 
 /// The RAM's first address (profile).
-const START: u64 = 0x8000_0000;
+pub const RAM_START: u64 = 0x8000_0000;
 
 /// The words of a page.
-const PAGE_WORDS: usize = 512;
+pub const PAGE_WORDS: usize = 512;
 
 /// The RAM: from 1 to 256 pages of 4,096 bytes from 0x80000000 on, in words of 8 bytes (profile).
 #[derive(Debug, Drop)]
@@ -45,7 +45,7 @@ impl Ram {
         ensures word { result ≡ is_some (word_in self.now at) }
         ensures place { result ≡ is_in_ram (pages_of self.now) at }
     {
-        let Some(offset) = at.checked_sub(START) else {
+        let Some(offset) = at.checked_sub(RAM_START) else {
             return false;
         };
         offset % 8 == 0 && offset / 8 < self.words.len() as u64
@@ -92,8 +92,8 @@ fn zeros(alloc: Global, count: usize) -> Result<Vec<u64>, AllocError>
 
 /// The place of the word at an address among the RAM's words.
 fn word_place(at: u64) -> usize
-    requires { START ≤ at }
-    ensures { result ≡ (at - START) / 8 }
+    requires { RAM_START ≤ at }
+    ensures { result ≡ (at - RAM_START) / 8 }
 {
-    ((at - START) / 8) as usize
+    ((at - RAM_START) / 8) as usize
 }

@@ -1,8 +1,15 @@
-ghost use Rattle.std.specs.Prelude.{◌≡◌, ◌≤◌, ◌*◌, false};
-ghost use Rattle.sv39.specs.Satp.{asid_of, is_valid, kept_of, paging_of, root_of, satp_written, translates};
+ghost use Rattle.std.specs.Prelude.{◌≡◌, ◌≤◌, false};
+ghost use Rattle.sv39.specs.Satp.{asid_of, is_valid, kept_of, paging_of, root_address, satp_written, translates};
 
-use crate::paging::{Paging, Spaces};
+use crate::page::PAGE_BYTES;
+use crate::paging::{ASID_BITS, Paging, Spaces};
 use std::marker::Model;
+
+/// The bits of a PPN, the number of a physical page, which stands in satp below the ASID (Privileged 4.1.11, 4.3.1).
+pub const PPN_BITS: u64 = 44;
+
+/// The lowest bit of satp's MODE (Privileged 4.1.11).
+pub const MODE_BIT: u64 = 60;
 
 /// satp, which says whether and by which page tables addresses are translated (Privileged 4.1.11).
 #[derive(Clone, Copy, Debug, PartialEq, Eq)]
@@ -33,10 +40,10 @@ impl Satp {
 
     /// What satp holds once this value was written to it, on a board with these address spaces.
     pub fn write(self, value: u64, spaces: Spaces) -> Satp
-        requires { spaces.asid_len ≤ 16 }
+        requires { spaces.asid_len ≤ ASID_BITS }
         ensures { result ≡ satp_written spaces self value }
     {
-        let mode = value >> 60;
+        let mode = value >> MODE_BIT;
         match Paging::named(mode) {
             Some(paging) if paging.width() <= spaces.widest.width() => Satp {
                 bits: kept(value, spaces),
@@ -58,14 +65,14 @@ impl Satp {
         ensures answer { result ≡ translates self }
         ensures bare { result ≡ false → self ≡ 0 }
     {
-        Paging::named(self.bits >> 60).is_some()
+        Paging::named(self.bits >> MODE_BIT).is_some()
     }
 
     /// The mode by which addresses are translated, where they are.
     pub fn paging(self) -> Paging
         ensures { result ≡ paging_of self }
     {
-        Paging::named(self.bits >> 60).unwrap_or(Paging::Sv39)
+        Paging::named(self.bits >> MODE_BIT).unwrap_or(Paging::Sv39)
     }
 
     /// Whether a virtual address of 64 bits is one of satp's mode (Privileged 4.4.1, 4.5.1).
@@ -79,22 +86,22 @@ impl Satp {
     pub fn asid(self) -> u64
         ensures { result ≡ asid_of self }
     {
-        self.bits >> 44 & 0xFFFF
+        (self.bits >> PPN_BITS) % (1 << ASID_BITS)
     }
 
     /// The physical address of the root page table.
     pub(crate) fn root(self) -> u64
-        ensures { result ≡ 4096 * root_of self }
+        ensures { result ≡ root_address self }
     {
-        (self.bits % (1 << 44)) << 12
+        self.bits % (1 << PPN_BITS) * PAGE_BYTES
     }
 }
 
 /// What is kept of a value that is stored: all but the bits of its ASID above ASIDLEN (Privileged 4.1.11).
 fn kept(value: u64, spaces: Spaces) -> u64
-    requires { spaces.asid_len ≤ 16 }
+    requires { spaces.asid_len ≤ ASID_BITS }
     ensures { result ≡ kept_of spaces value }
 {
-    let asid = spaces.cut_asid(value >> 44 & 0xFFFF);
-    (value >> 60 << 60) + (asid << 44) + value % (1 << 44)
+    let asid = spaces.cut_asid((value >> PPN_BITS) % (1 << ASID_BITS));
+    (value >> MODE_BIT << MODE_BIT) + (asid << PPN_BITS) + value % (1 << PPN_BITS)
 }
