@@ -78,6 +78,21 @@ def room_refused(room):
         must_be(found, 0, good.stdout, b"")
 
 
+# From so many bytes on that a script is said to have, room for its lines is taken at once.
+MANY_BYTES = 65_536
+
+
+def room_by_length(room):
+    """A script that is said to be short takes the room that its lines fill, as one of which nothing is said."""
+    made, path = shim(room), script(room, BOARD + b"0 advance\n" * 3)
+    found, wanted = allocating(made, room, ["replay", path], LENGTH="0")
+    for told in (1, 60, 1_000, MANY_BYTES - 1, MANY_BYTES):
+        again, sizes = allocating(made, room, ["replay", path], LENGTH=str(told))
+        must_be(again, 0, found.stdout, b"")
+        if (sizes == wanted) != (told < MANY_BYTES):
+            raise Wrong(f"said to have {told} bytes: allocations of {sizes} bytes, and of {wanted} where nothing is said")
+
+
 # The bytes that the program asks for and writes at a time, and those of a page, the least that a pipe hands on at a time
 # where more come.
 PIECE, PAGE = 65_536, 4_096
@@ -117,5 +132,6 @@ TESTS = [
     ("a script on a pipe", pipes),
     ("lengths of files that are wrong", lengths_told),
     ("no memory for a length", room_refused),
+    ("room for a short script's lines", room_by_length),
     ("few calls of the system", few_calls),
 ]

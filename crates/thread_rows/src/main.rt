@@ -40,7 +40,12 @@ fn ends<R: AllocGlobal + Print + Threads + Wait + Sync>(rt: &R) -> io::Result<()
     show(rt, "off-and-stuck", scripts::UNFINISHED, &Open)?;
     show(rt, "off-at-the-limit", scripts::LAST, &Open)?;
     show(rt, "quiet-at-the-limit", scripts::EXACT, &Open)?;
-    show(rt, "stuck-at-the-limit", scripts::ASLEEP, &Open)
+    show(rt, "stuck-at-the-limit", scripts::ASLEEP, &Open)?;
+    show(rt, "run-ends, quiet", scripts::ONE_ORDER, &Open)?;
+    show(rt, "run-ends, stuck", scripts::WAITING, &Open)?;
+    show(rt, "run-history-full", scripts::ENTERING, &Open)?;
+    show(rt, "run-off", scripts::SHUTDOWN, &Open)?;
+    show(rt, "run-clock", scripts::ONE_TICK, &Open)
 }
 
 /// A clock does all of three thousand ticks, or as many as there is room for beside a hart that is through.

@@ -12,6 +12,32 @@ at 0x80000000
 ecall 0x53525354 0
 ";
 
+/// Hart 0 starts hart 1, which stops.
+pub const ONE_ORDER: &[u8] = b"board 2 4 100 0 0x80000000 0x0
+at 0x80000000
+ecall 0x48534d 0 1 0x80001000 0x7
+at 0x80001000
+ecall 0x48534d 1
+";
+
+/// A hart that waits for an interrupt which none sends.
+pub const WAITING: &[u8] = b"board 1 1 10 0 0x80000000 0x0
+at 0x80000000
+wfi
+";
+
+/// A hart with an operation to do, whose entry is all that the history holds.
+pub const ENTERING: &[u8] = b"board 1 1 1 0 0x80000000 0x0
+at 0x80000000
+sip
+";
+
+/// A clock that ticks once, beside a hart with nothing to do.
+pub const ONE_TICK: &[u8] = b"board 1 1 10 0 0x80000000 0x0
+clock
+tick 3
+";
+
 /// A hart that does more operations than the history holds.
 pub const LONG: &[u8] = b"board 1 1 3 0 0x80000000 0x0
 at 0x80000000
@@ -41,7 +67,7 @@ tick 6
 ";
 
 /// Hart 0 starts hart 1, and each fences the other.
-pub const CROSSING: &[u8] = b"board 2 2 20 0 0x80000000 0x0
+pub const CROSSING: &[u8] = b"board 2 4 100 0 0x80000000 0x0
 at 0x80000000
 ecall 0x48534d 0 1 0x80001000 0
 ecall 0x52464e43 1 0x2 0
@@ -50,7 +76,7 @@ ecall 0x52464e43 1 0x1 0
 ";
 
 /// Hart 0 starts hart 1, and each reads sip twice.
-pub const READING: &[u8] = b"board 2 2 20 0 0x80000000 0x0
+pub const READING: &[u8] = b"board 2 4 100 0 0x80000000 0x0
 at 0x80000000
 ecall 0x48534d 0 1 0x80001000 0
 sip
