@@ -41,7 +41,7 @@ enum Row {
 
 /// The rows: the harts of a board, the limit of its history, and what is done on it.
 const ROWS: [(u64, u64, Row); 9] = [
-    (1, 3, Row::LockReceipts),
+    (1, 10, Row::LockReceipts),
     (2, 3, Row::SeatsMissing),
     (8, 1000, Row::IpiStorm),
     (4, 10, Row::EndOfRests),
