@@ -55,6 +55,7 @@ pub enum Call {
 
 /// The call that the registers ask for.
 #[tactic(auto, unfolding(crate::specs::Calls::call_of))]
+#[inline(always)]
 pub fn decode(regs: &Regs) -> Call
     ensures { result ≡ call_of regs.now }
 {

@@ -40,6 +40,7 @@ pub enum HsmCall {
 }
 
 /// The function of this extension that the registers name.
+#[inline(always)]
 pub fn hsm_call(regs: &Regs) -> Call
     ensures { result ≡ named regs.now.fid Unsupported (hsm_listing regs.now) }
 {
