@@ -1,18 +1,16 @@
-use crate::asked::Case;
 use crate::command_line::Options;
 use crate::detail::put_record;
-use crate::judging::{failing_step, judge};
-use crate::records::step_line;
-use crate::report::Report;
 use crate::stop::Stop;
-use crate::tally::Tally;
 use board_core::Board;
 use conditions::{Condition, Rule};
 use guest_script::{KeptLine, Lines};
+use points::{Report, step_line};
+use script_text::{Case, Walk};
 use std::alloc::{AllocError, Global};
 use std::fmt::Write;
 use std::rt::Files;
 use std::str;
+use tallies::{failing_step, is_met, meets};
 
 /// Makes each step of a schedule, whatever is refused. Without conditions that is the point.
 pub(crate) fn replay(
@@ -41,12 +39,13 @@ pub(crate) fn compare(
 ) -> Result<(), AllocError> {
     let mut differing: u64 = 0;
     let mut text = String::new(alloc);
+    let mut walk = Walk::new(case.text);
     for line in lines.iter() {
         let answer = board.step(line.actor(), line.op());
         if !line.said().is_some_and(|said| said.agrees(&answer)) {
             differing = differing.saturating_add(1);
             let got = step_line(alloc, line.actor(), line.op(), answer)?;
-            put_difference(case, &line, &got, &mut text)?;
+            put_difference(&mut walk, &line, &got, &mut text)?;
         }
     }
     put_point(alloc, case, lines, differing == 0, report)?;
@@ -62,13 +61,13 @@ pub(crate) fn compare(
 
 /// Puts what a line wants, and the line with what the board gave.
 fn put_difference(
-    case: &Case<'_>,
+    walk: &mut Walk<'_>,
     line: &KeptLine<'_>,
     got: &[u8],
     text: &mut String,
 ) -> Result<(), AllocError> {
     let number = line.number();
-    let wanted = case.said_at(number);
+    let wanted = walk.said_at(number);
     let got = str::from_utf8(got).unwrap_or("").trim();
     write!(
         text,
@@ -115,13 +114,11 @@ fn tell<R: AllocGlobal + Files>(
 ) -> Result<(), Stop> {
     let events = board.history();
     let rule = &condition.rule;
-    let mut tally = Tally::new();
-    judge(rule, &mut tally, 0, events, None);
+    let holds = meets(rule, events, None);
     let file = case.file;
     let line = condition.line;
     let asked = case.asked_at(line);
     let about = format!(in rt.alloc(); "{file}: line {line}: {asked}")?;
-    let holds = tally.holds(Some(rule));
     report.point(holds, about.as_str())?;
     if matches!(rule, Rule::End(_)) {
         report
@@ -140,7 +137,7 @@ fn tell<R: AllocGlobal + Files>(
         )?;
         report.text.push_str("  ...\n")?;
     }
-    if !tally.is_met {
+    if !is_met(rule, events) {
         report.never_met(line)?;
     }
     Ok(())

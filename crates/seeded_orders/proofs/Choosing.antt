@@ -1,6 +1,6 @@
 -- What is kept of a record tells it from others.
-use Rattle.std.proofs.Common.{◌≡◌, ◌≢◌, ℕ, ◌+◌, ◌*◌, ◌%◌, ◌<◌, ◌≤◌, List, [], ◌∷◌, ◌++◌, refl, sym, ap, ◌∙◌, subst, inl, inr, if◌then◌else◌, map, arith}
-use Rattle.std.specs.Prelude.{Bool, true, false, Option, Some, None, Result, Ok, Err, nat_le, option_map, reverse}
+use Rattle.std.proofs.Common.{◌≡◌, ◌≢◌, ◌⊎◌, ℕ, ◌+◌, ◌*◌, ◌%◌, ◌<◌, ◌≤◌, List, [], ◌∷◌, ◌++◌, refl, sym, ap, ◌∙◌, subst, inl, inr, if◌then◌else◌, map, arith}
+use Rattle.std.specs.Prelude.{◌==◌, Bool, true, false, Option, Some, None, Result, Ok, Err, nat_le, option_map, reverse}
 use Rattle.std.proofs.lemmas.Bool.{leb-false}
 use Rattle.std.proofs.lemmas.List.{map-append, reverse-append, reverse-reverse}
 use Rattle.tlb_model.specs.declared.entry.Entry.{Entry}
@@ -21,88 +21,54 @@ use Rattle.hart_threads.specs.Choices.{IsOwn}
 use Rattle.seeded_orders.specs.Choices.{choice, choice_of, own_number}
 use Rattle.seeded_orders.specs.Steps.{AreOwn, IsActorsOwn, next_op, next_tick, Task}
 
+-- the firmware's operation of a number
+abbrev named : ℕ → Op
+named n = if n == 1 then ops.Serve else if n == 2 then ops.Poll else ops.Advance
+
+is-named : (op : Op) → (own_number op ≡ 0) ⊎ ((op ≡ named (own_number op)) × (own_number op < 4))
+is-named (ops.Ecall regs) = inl refl
+is-named (ops.Load va) = inl refl
+is-named (ops.Store va value) = inl refl
+is-named (ops.Fetch va) = inl refl
+is-named (ops.WriteSatp value) = inl refl
+is-named (ops.WriteSie value) = inl refl
+is-named (ops.WriteSstatusSie value) = inl refl
+is-named ops.ReadSip = inl refl
+is-named ops.ClearSsip = inl refl
+is-named ops.Wfi = inl refl
+is-named (ops.Sfence va asid) = inl refl
+is-named ops.FenceI = inl refl
+is-named ops.Poll = inr (refl, omega arith)
+is-named ops.Serve = inr (refl, omega arith)
+is-named ops.Advance = inr (refl, omega arith)
+is-named (ops.Tick n) = inl refl
+
 number-below : (op : Op) → own_number op < 4
-number-below (ops.Ecall regs) = omega arith
-number-below (ops.Load va) = omega arith
-number-below (ops.Store va value) = omega arith
-number-below (ops.Fetch va) = omega arith
-number-below (ops.WriteSatp value) = omega arith
-number-below (ops.WriteSie value) = omega arith
-number-below (ops.WriteSstatusSie value) = omega arith
-number-below ops.ReadSip = omega arith
-number-below ops.ClearSsip = omega arith
-number-below ops.Wfi = omega arith
-number-below (ops.Sfence va asid) = omega arith
-number-below ops.FenceI = omega arith
-number-below ops.Poll = omega arith
-number-below ops.Serve = omega arith
-number-below ops.Advance = omega arith
-number-below (ops.Tick n) = omega arith
+number-below op = elim (is-named op) [
+  | inl none ↦ omega arith
+  | inr one ↦ one.1
+]
 
-is-serve : (op : Op) → own_number op ≡ 1 → op ≡ ops.Serve
-is-serve (ops.Ecall regs) is = absurd (let t = is in cc)
-is-serve (ops.Load va) is = absurd (let t = is in cc)
-is-serve (ops.Store va value) is = absurd (let t = is in cc)
-is-serve (ops.Fetch va) is = absurd (let t = is in cc)
-is-serve (ops.WriteSatp value) is = absurd (let t = is in cc)
-is-serve (ops.WriteSie value) is = absurd (let t = is in cc)
-is-serve (ops.WriteSstatusSie value) is = absurd (let t = is in cc)
-is-serve ops.ReadSip is = absurd (let t = is in cc)
-is-serve ops.ClearSsip is = absurd (let t = is in cc)
-is-serve ops.Wfi is = absurd (let t = is in cc)
-is-serve (ops.Sfence va asid) is = absurd (let t = is in cc)
-is-serve ops.FenceI is = absurd (let t = is in cc)
-is-serve ops.Poll is = absurd (let t = is in cc)
-is-serve ops.Serve is = refl
-is-serve ops.Advance is = absurd (let t = is in cc)
-is-serve (ops.Tick n) is = absurd (let t = is in cc)
-
-is-poll : (op : Op) → own_number op ≡ 2 → op ≡ ops.Poll
-is-poll (ops.Ecall regs) is = absurd (let t = is in cc)
-is-poll (ops.Load va) is = absurd (let t = is in cc)
-is-poll (ops.Store va value) is = absurd (let t = is in cc)
-is-poll (ops.Fetch va) is = absurd (let t = is in cc)
-is-poll (ops.WriteSatp value) is = absurd (let t = is in cc)
-is-poll (ops.WriteSie value) is = absurd (let t = is in cc)
-is-poll (ops.WriteSstatusSie value) is = absurd (let t = is in cc)
-is-poll ops.ReadSip is = absurd (let t = is in cc)
-is-poll ops.ClearSsip is = absurd (let t = is in cc)
-is-poll ops.Wfi is = absurd (let t = is in cc)
-is-poll (ops.Sfence va asid) is = absurd (let t = is in cc)
-is-poll ops.FenceI is = absurd (let t = is in cc)
-is-poll ops.Poll is = refl
-is-poll ops.Serve is = absurd (let t = is in cc)
-is-poll ops.Advance is = absurd (let t = is in cc)
-is-poll (ops.Tick n) is = absurd (let t = is in cc)
-
-is-advance : (op : Op) → own_number op ≡ 3 → op ≡ ops.Advance
-is-advance (ops.Ecall regs) is = absurd (let t = is in cc)
-is-advance (ops.Load va) is = absurd (let t = is in cc)
-is-advance (ops.Store va value) is = absurd (let t = is in cc)
-is-advance (ops.Fetch va) is = absurd (let t = is in cc)
-is-advance (ops.WriteSatp value) is = absurd (let t = is in cc)
-is-advance (ops.WriteSie value) is = absurd (let t = is in cc)
-is-advance (ops.WriteSstatusSie value) is = absurd (let t = is in cc)
-is-advance ops.ReadSip is = absurd (let t = is in cc)
-is-advance ops.ClearSsip is = absurd (let t = is in cc)
-is-advance ops.Wfi is = absurd (let t = is in cc)
-is-advance (ops.Sfence va asid) is = absurd (let t = is in cc)
-is-advance ops.FenceI is = absurd (let t = is in cc)
-is-advance ops.Poll is = absurd (let t = is in cc)
-is-advance ops.Serve is = absurd (let t = is in cc)
-is-advance ops.Advance is = refl
-is-advance (ops.Tick n) is = absurd (let t = is in cc)
+-- two operations of the firmware of the same number are the same
+same-named : (op other : Op) → 0 < own_number op → own_number op ≡ own_number other → op ≡ other
+same-named op other some same = elim (is-named op) [
+  | inl none ↦ absurd (omega arith)
+  | inr one ↦ elim (is-named other) [
+    | inl none ↦ absurd (omega arith)
+    | inr two ↦ one.0 ∙ ap named same ∙ sym two.0
+  ]
+]
 
 -- two operations of an actor's own of the same number are the same
 same-own : (next : Option Op) (op other : Op) → IsOwn next op → IsOwn next other → own_number op ≡ own_number other → op ≡ other
 same-own next op other own owns same = elim own [
-  | inl serves ↦ serves ∙ sym (is-serve other (sym same ∙ ap own_number serves))
-  | inr (inl polls) ↦ polls ∙ sym (is-poll other (sym same ∙ ap own_number polls))
-  | inr (inr (inl advances)) ↦ advances ∙ sym (is-advance other (sym same ∙ ap own_number advances))
+  | inl serves ↦ same-named op other (let n = ap own_number serves in omega arith) same
+  | inr (inl polls) ↦ same-named op other (let n = ap own_number polls in omega arith) same
+  | inr (inr (inl advances)) ↦ same-named op other (let n = ap own_number advances in omega arith) same
   | inr (inr (inr here)) ↦ elim owns [
-    | inl serves ↦ is-serve op (same ∙ ap own_number serves) ∙ sym serves
-    | inr (inl polls) ↦ is-poll op (same ∙ ap own_number polls) ∙ sym polls
-    | inr (inr (inl advances)) ↦ is-advance op (same ∙ ap own_number advances) ∙ sym advances
+    | inl serves ↦ same-named op other (let n = ap own_number serves in omega arith) same
+    | inr (inl polls) ↦ same-named op other (let n = ap own_number polls in omega arith) same
+    | inr (inr (inl advances)) ↦ same-named op other (let n = ap own_number advances in omega arith) same
     | inr (inr (inr there)) ↦ (let t : Some op ≡ Some other = sym here ∙ there in cc)
   ]
 ]

@@ -1,6 +1,6 @@
 -- What a picked order is.
-use Rattle.std.proofs.Common.{◌≡◌, ℕ, zero, suc, ◌+◌, ◌-◌, ◌%◌, ◌<◌, if◌then◌else◌, List, [], ◌∷◌, refl, sym, ap, ◌∙◌, inl, inr, length, map, get_or, arith}
-use Rattle.std.specs.Prelude.{Option, Some, None, Result, Ok, Err, OnOk, Bool, true, false, slice_get}
+use Rattle.std.proofs.Common.{◌≡◌, ℕ, zero, suc, ◌+◌, ◌-◌, ◌%◌, ◌<◌, if◌then◌else◌, List, [], ◌∷◌, refl, sym, ap, ◌∙◌, inl, inr, length, map, get_or, subst, arith}
+use Rattle.std.specs.Prelude.{Option, Some, None, Result, Ok, Err, IfOk, Bool, true, false, slice_get}
 use Rattle.std.proofs.lemmas.Option.{slice_get-get_or}
 use Rattle.rand_pcg.specs.Pcg.{pcg64_dxsm}
 use Rattle.board_core.specs.declared.config.Config.{Config}
@@ -12,12 +12,14 @@ use Rattle.board_core.specs.History.{Event}
 use Rattle.board_core.specs.Replies.{answer, recorded}
 use Rattle.guest_script.specs.Grammar.{Content, guest}
 use Rattle.hart_threads.specs.declared.blocks.Program.{Program}
+use Rattle.hart_threads.specs.declared.ends.End.{End}
+use Rattle.hart_threads.specs.Ends.{IsEnd}
 use Rattle.hart_threads.specs.Programs.{blocks_of, ticks_of}
 use Rattle.seeded_orders.specs.declared.steps.Step.{Step}
 use Rattle.seeded_orders.specs.declared.steps.Step.TheVariants as takes
 use Rattle.seeded_orders.specs.declared.pickers.Picker.{Picker}
 use Rattle.seeded_orders.specs.declared.pickers.Picker.TheVariants.{Even, Ranked}
-use Rattle.seeded_orders.specs.Orders.{ordered, past_after, past_with, pick, picked}
+use Rattle.seeded_orders.specs.Orders.{IsTried, ordered, order_of, past_after, past_with, pick, picked, picker_of}
 use Rattle.seeded_orders.specs.Ranks.{higher, highest, reranked}
 use Rattle.seeded_orders.specs.Steps.{actor_of, AreOwn, IsActorsOwn, next_op, op_of, steps, Task, task_in, task_of}
 
@@ -131,6 +133,14 @@ goes c p most i picker next past after whole found picks step below is by some t
 pub same-task : (program : Program) (body : Content) → map guest program.blocks.now ≡ blocks_of body → program.ticks.now ≡ ticks_of body → task_in program ≡ task_of body
 same-task program body blocks ticks = cc
 
-pub on-ok : {T E : Type 0} (found : Result T E) (P : Type 0) → P → OnOk found P
-on-ok (Ok x) P holds = holds
-on-ok (Err e) P holds = tt
+pub if-ok : {T E : Type 0} (found : Result T E) (P Q : T → Type 0) → ((x : T) → P x → Q x) → IfOk found P → IfOk found Q
+if-ok (Ok x) P Q gives holds = gives x holds
+if-ok (Err e) P Q gives holds = holds
+
+-- What is followed from the opening on is the order, if its picker is.
+pub order-is-tried : (c : Config) (content : Content) (seed order : ℕ) (past : List Event) (picker : Picker) (end : End) → picker ≡ picker_of c.harts seed order
+    → past ≡ ordered c (task_of content) c.limit 0 picker [] → IsEnd end c past (blocks_of content) → IsTried c content seed order past end
+order-is-tried c content seed order past picker end picks follows ended =
+    let same : past ≡ order_of c (task_of content) seed order = follows ∙ ap (λ (g : Picker). ordered c (task_of content) c.limit 0 g []) picks in
+    let Q : List Event → Type 0 = λ xs. AreOwn (task_of content) xs in
+    record { same = same; own = subst Q (sym same) (ordered-own c (task_of content) c.limit 0 (picker_of c.harts seed order) [] tt); ended = ended }

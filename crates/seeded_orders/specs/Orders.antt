@@ -1,5 +1,5 @@
 -- The order that a seed picks (profile).
-use Rattle.std.specs.Prelude.{ℕ, zero, suc, ◌+◌, ◌%◌, ◌==◌, if◌then◌else◌, List, [], ◌∷◌, length, slice_get, Option, Some, None}
+use Rattle.std.specs.Prelude.{◌≡◌, ℕ, zero, suc, ◌+◌, ◌%◌, ◌==◌, if◌then◌else◌, List, [], ◌∷◌, length, slice_get, Option, Some, None}
 use Rattle.rand_pcg.specs.Lcg.{increment_of, Lcg, started}
 use Rattle.rand_pcg.specs.Pcg.{cheap_multiplier, pcg64_dxsm}
 use Rattle.board_core.specs.declared.config.Config.{Config}
@@ -7,11 +7,15 @@ use Rattle.board_core.specs.declared.event.Actor.{Actor}
 use Rattle.board_core.specs.declared.event.Op.{Op}
 use Rattle.board_core.specs.History.{Event}
 use Rattle.board_core.specs.Replies.{stepped}
+use Rattle.guest_script.specs.Grammar.{Content}
+use Rattle.hart_threads.specs.declared.ends.End.{End}
+use Rattle.hart_threads.specs.Ends.{IsEnd}
+use Rattle.hart_threads.specs.Programs.{blocks_of}
 use Rattle.seeded_orders.specs.declared.pickers.Picker.{Picker}
 use Rattle.seeded_orders.specs.declared.pickers.Picker.TheVariants.{Even, Ranked}
 use Rattle.seeded_orders.specs.declared.steps.Step.{Step}
 use Rattle.seeded_orders.specs.Ranks.{highest, ranking, reranked}
-use Rattle.seeded_orders.specs.Steps.{actor_of, op_of, steps, Task}
+use Rattle.seeded_orders.specs.Steps.{actor_of, AreOwn, op_of, steps, Task, task_of}
 
 -- the generator of an order: PCG64 DXSM, whose state is begun with the seed and whose stream is the order's number
 abbrev pub words_of : (seed order : ℕ) → Lcg
@@ -52,3 +56,9 @@ ordered c p (suc most) turn picker past =
 -- The record of an order of a seed.
 abbrev pub order_of : Config → Task → (seed order : ℕ) → List Event
 order_of c p seed order = ordered c p c.limit 0 (picker_of c.harts seed order) []
+
+-- What trying an order of a program gives: this past, in which each step is its actor's own, and this end.
+pub record IsTried (c : Config) (content : Content) (seed order : ℕ) (past : List Event) (end : End) : Type 0 where
+  pub same : past ≡ order_of c (task_of content) seed order
+  pub own : AreOwn (task_of content) past
+  pub ended : IsEnd end c past (blocks_of content)

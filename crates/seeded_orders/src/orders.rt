@@ -2,12 +2,11 @@ ghost use Rattle.std.specs.Prelude.{◌≡◌, ◌↔◌, IfOk, IsErrOf, OnOk};
 ghost use Rattle.board_core.specs.Limits.{IsGood};
 ghost use Rattle.board_core.specs.Replies.{IsLegal};
 ghost use Rattle.guest_script.specs.Grammar.{content};
-ghost use Rattle.hart_threads.specs.Ends.{IsEnd};
-ghost use Rattle.hart_threads.specs.Programs.{IsProgram, blocks_of};
+ghost use Rattle.hart_threads.specs.Programs.{IsProgram};
 ghost use Rattle.hart_threads.specs.declared.ends.RunFault.TheVariants.{BadConfig};
-ghost use Rattle.seeded_orders.specs.Orders.{order_of, ordered, past_with};
+ghost use Rattle.seeded_orders.specs.Orders.{IsTried, ordered, past_with};
 ghost use Rattle.seeded_orders.specs.Places.{AreAt};
-ghost use Rattle.seeded_orders.specs.Steps.{AreOwn, task_in, task_of};
+ghost use Rattle.seeded_orders.specs.Steps.{task_in};
 
 use crate::pickers::Picker;
 use crate::places::Places;
@@ -28,9 +27,7 @@ pub fn try_order(alloc: Global, script: &Script, seed: u64, order: u64) -> Resul
     ensures bad { IsErrOf result BadConfig ↔ ¬ IsGood script.now.config }
     ensures opening { IfOk result (λ run. run.board.config ≡ script.now.config) }
     ensures legal { IfOk result (λ run. IsLegal run.board.config run.board.past) }
-    ensures same { IfOk result (λ run. run.board.past ≡ order_of script.now.config (task_of (content script.now.body)) seed order) }
-    ensures own { IfOk result (λ run. AreOwn (task_of (content script.now.body)) run.board.past) }
-    ensures end { IfOk result (λ run. IsEnd run.end run.board.config run.board.past (blocks_of (content script.now.body))) }
+    ensures tried { IfOk result (λ run. IsTried script.now.config (content script.now.body) seed order run.board.past run.end) }
 {
     let mut board = Board::new(alloc, &script.config)?;
     let end = try_order_on(alloc, script, &mut board, seed, order)?;
@@ -54,9 +51,7 @@ pub fn try_order_on(
     requires its_own { board.old.config ≡ script.now.config }
     ensures opening { board.new.config ≡ board.old.config }
     ensures legal { IsLegal board.new.config board.new.past }
-    ensures same { OnOk result (board.new.past ≡ order_of script.now.config (task_of (content script.now.body)) seed order) }
-    ensures own { OnOk result (AreOwn (task_of (content script.now.body)) board.new.past) }
-    ensures end { IfOk result (λ end. IsEnd end board.new.config board.new.past (blocks_of (content script.now.body))) }
+    ensures tried { IfOk result (λ end. IsTried script.now.config (content script.now.body) seed order board.new.past end) }
 {
     let ended = follow_anew(alloc, script, board, seed, order);
     let _legal = board.history();
@@ -74,9 +69,7 @@ fn follow_anew(
     requires program { IsProgram (content script.now.body) }
     requires its_own { board.old.config ≡ script.now.config }
     ensures opening { board.new.config ≡ board.old.config }
-    ensures same { OnOk result (board.new.past ≡ order_of script.now.config (task_of (content script.now.body)) seed order) }
-    ensures own { OnOk result (AreOwn (task_of (content script.now.body)) board.new.past) }
-    ensures end { IfOk result (λ end. IsEnd end board.new.config board.new.past (blocks_of (content script.now.body))) }
+    ensures tried { IfOk result (λ end. IsTried script.now.config (content script.now.body) seed order board.new.past end) }
 {
     let program = program_in(&script.body);
     let harts = board.config().harts;
