@@ -130,12 +130,7 @@ fn described<'a>(alloc: Global) -> Result<Command<'a>, AllocError> {
 
 /// The same, with what says which orders are tried.
 fn with_orders<'a>(alloc: Global, command: Command<'a>) -> Result<Command<'a>, AllocError> {
-    let times = number(
-        alloc,
-        TIMES,
-        "N",
-        "How many orders of each program are tried",
-    );
+    let times = number(alloc, TIMES, "N", "How many orders of each program are tried");
     let command = command.arg(times.default_value("1000"))?;
     let seed = number(alloc, SEED, "S", "The seed of the orders");
     let command = command.arg(seed.default_value("0"))?;
@@ -145,8 +140,7 @@ fn with_orders<'a>(alloc: Global, command: Command<'a>) -> Result<Command<'a>, A
 
 /// The same, with what says how they are tried.
 fn with_ways<'a>(alloc: Global, command: Command<'a>) -> Result<Command<'a>, AllocError> {
-    let about =
-        "How many orders are tried at a time; as many as there are processors where nothing is said";
+    let about = "How many orders are tried at a time; as many as there are processors where nothing is said";
     let command = command.arg(number(alloc, JOBS, "J", about))?;
     let threads = Arg::new(alloc, THREADS)
         .long(THREADS)

@@ -1,15 +1,12 @@
 use crate::command_line::Options;
 use crate::stop::Stop;
 use board_core::{Board, Event};
-use conditions::Rule;
-use hart_threads::End;
-use points::{Report, event_line, put_stuck, record};
+use points::{Report, event_line, record};
 use script_text::Case;
 use std::alloc::{AllocError, Global};
 use std::fmt::Write;
 use std::rt::Files;
 use std::{fs, str};
-use tallies::failing_step;
 
 /// How many steps are shown before and behind the one that fails.
 const AROUND: usize = 6;
@@ -36,26 +33,6 @@ pub(crate) fn put_record<R: AllocGlobal + Files>(
         return Err(Stop::Unwritten(path, error));
     }
     put_steps(alloc, board.history(), place, report)?;
-    Ok(())
-}
-
-/// Writes the failing record of a program into a file, whose name has this label, and puts that name, the steps around the failing
-/// one, and where it ended stuck why.
-pub(crate) fn put_ended<R: AllocGlobal + Files>(
-    rt: &R,
-    options: &Options<'_>,
-    case: &Case<'_>,
-    rule: Option<&Rule>,
-    label: &str,
-    board: &Board,
-    end: End,
-    report: &mut Report,
-) -> Result<(), Stop> {
-    let place = failing_step(rule, board.history());
-    put_record(rt, options, case, label, board, place, report)?;
-    if end == End::Stuck {
-        put_stuck(case, board, report)?;
-    }
     Ok(())
 }
 

@@ -2,20 +2,20 @@ ghost use Rattle.guest_script.specs.Grammar.{content};
 ghost use Rattle.hart_threads.specs.Programs.{IsProgram};
 
 use crate::command_line::Options;
-use crate::detail::put_ended;
+use crate::detail::put_record;
 use crate::orders::holds;
 use crate::stop::Stop;
 use conditions::{Condition, Rule};
 use guest_script::Script;
-use hart_threads::{Open, RunEnd, run};
-use points::Report;
+use hart_threads::{End, Open, RunEnd, run};
+use points::{Report, put_stuck};
 use script_text::Case;
 use std::alloc::{AllocError, Global};
 use std::fmt::Write;
 use std::rt::{Clock, Files};
 use std::sync::Wait;
 use std::thread::Threads;
-use tallies::{Findings, Tally};
+use tallies::{Findings, Tally, failing_step};
 
 /// Runs a program on real threads, as often as is asked for, judges each record, and tells the points.
 pub(crate) fn test_runs<R: AllocGlobal + Clock + Files + Sync + Threads + Wait>(
@@ -88,16 +88,20 @@ fn put_failing<R: AllocGlobal + Files>(
     }
     write!(detail.text, "  run: {number}\n")?;
     let label = format!(in rt.alloc(); "threads-{number}.")?;
-    put_ended(
+    let place = failing_step(rule, ended.board.history());
+    put_record(
         rt,
         options,
         case,
-        rule,
         label.as_str(),
         &ended.board,
-        ended.end,
+        place,
         detail,
-    )
+    )?;
+    if ended.end == End::Stuck {
+        put_stuck(case, &ended.board, detail)?;
+    }
+    Ok(())
 }
 
 /// Tells what was found of the runs by one condition, or without one.

@@ -1,5 +1,6 @@
 -- The steps that the actors of a program can take of themselves (profile).
 use Rattle.std.specs.Prelude.{◌≡◌, ℕ, zero, suc, ◌+◌, Bool, true, false, not, ◌&&◌, nat_le, nat_lt, if◌then◌else◌, List, [], ◌∷◌, ◌++◌, length, map, slice_get, Option, Some, None, option_map}
+use Rattle.std.specs.List.{Contains}
 use Rattle.interrupts.specs.Timing.{last_time}
 use Rattle.board_core.specs.declared.config.Config.{Config}
 use Rattle.board_core.specs.declared.event.Actor.{Actor}
@@ -108,3 +109,7 @@ op_of c p past (takes.Poll h) = Some ops.Poll
 op_of c p past (takes.Advance h) = Some ops.Advance
 op_of c p past (takes.Guest h) = if nat_lt h c.harts then next_op p.blocks past h else None
 op_of c p past takes.Tick = option_map ops.Tick (next_tick p.ticks past)
+
+-- A step of this actor that does this operation is one of those that can be taken.
+abbrev pub IsAmong : Config → Task → List Event → Actor → Op → Type 0
+IsAmong c p past actor op = (step : Step) × Contains (steps c p past) step × (actor_of step ≡ actor) × (op_of c p past step ≡ Some op)
