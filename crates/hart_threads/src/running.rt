@@ -2,6 +2,7 @@ ghost use Rattle.std.specs.Prelude.{◌≡◌, ◌↔◌, All, IfOk, IsErrOf, ma
 ghost use Rattle.board_core.specs.declared.event.Actor.TheVariants.{Clock};
 ghost use Rattle.board_core.specs.Limits.{IsGood};
 ghost use Rattle.board_core.specs.Replies.{IsLegal};
+ghost use Rattle.board_laws.specs.Headline.{Headline};
 ghost use Rattle.board_lock.specs.Events.{events_in, ops_of};
 ghost use Rattle.guest_script.specs.Grammar.{content, guest};
 ghost use Rattle.hart_threads.specs.Ends.{IsEnd};
@@ -15,6 +16,7 @@ use crate::blocks::{Program, program_in};
 use crate::ends::{RunEnd, RunFault};
 use crate::finding::end_of;
 use crate::gate::Gate;
+use crate::headlines::headline_of;
 use crate::met::Met;
 use crate::plans::Plan;
 use crate::starting::work_all;
@@ -38,6 +40,7 @@ pub fn run<G: Gate + Sync, R: AllocGlobal + Threads + Wait + Sync>(
     ensures bad { IsErrOf result BadConfig ↔ ¬ IsGood script.now.config }
     ensures opening { IfOk result (λ run. run.board.config ≡ script.now.config) }
     ensures legal { IfOk result (λ run. IsLegal run.board.config run.board.past) }
+    ensures headline { IfOk result (λ run. Headline run.board.config run.board.past) }
     ensures ticks { IfOk result (λ run. AreFirst (ticks_of (content script.now.body)) (ops_of Clock (events_in run.board))) }
     ensures end { IfOk result (λ run. IsEnd run.end run.board.config run.board.past (blocks_of (content script.now.body))) }
     ensures threads { IfOk result (λ run. IsRun (G.lets gate.now) run.board.config (blocks_of (content script.now.body))
@@ -64,6 +67,7 @@ fn run_in<K: Plan + Send + Sync, G: Gate + Sync, R: AllocGlobal + Threads + Wait
     requires gate { IsGate (G.lets gate.now) K.lets }
     ensures bad { IsErrOf result BadConfig ↔ ¬ IsGood K.opening }
     ensures opening { IfOk result (λ r. r.0.config ≡ K.opening) }
+    ensures headline { IfOk result (λ r. Headline r.0.config r.0.past) }
     ensures ticks { IfOk result (λ r. AreFirst K.ticks (ops_of Clock (events_in r.0))) }
     ensures threads { IfOk result (λ r. AreThreads K.lets K.opening K.blocks K.ticks r.0.past r.1) }
 {
@@ -77,7 +81,10 @@ fn run_in<K: Plan + Send + Sync, G: Gate + Sync, R: AllocGlobal + Threads + Wait
     let all = work_all(rt, &work, seats)?;
     let (seats, met) = parted(rt.alloc(), all)?;
     match board.close(seats) {
-        Ok(record) => Ok((record.into_board(), met)),
+        Ok(record) => {
+            headline_of(&record);
+            Ok((record.into_board(), met))
+        }
         Err(_) => unreachable!(),
     }
 }
