@@ -167,7 +167,8 @@ pub fn show_faults<R: Print>(rt: &R) -> io::Result<()> {
         Fault::TooLong,
         Fault::NoMemory,
     ] {
-        println!(rt; "{} {}", fault.number(), ScriptFault { line: 3, fault })?;
+        let found = ScriptFault { line: 3, fault };
+        println!(rt; "{} {} {found}", fault.number(), found.number())?;
     }
     let fault = ReadFault::Script(ScriptFault {
         line: 3,

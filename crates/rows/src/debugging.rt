@@ -3,7 +3,8 @@
 
 use anyhow::{Context, Result, bail};
 use board_core::{
-    Actor, Board, BuildFault, Config, Op, Refusal, Reply, Sie, Totals, USUAL_ASID_LEN, USUAL_WIDTH,
+    Actor, Board, BuildFault, Config, Op, Phase, Refusal, Reply, Sie, Totals, USUAL_ASID_LEN,
+    USUAL_WIDTH,
 };
 use board_lock::{HartNow, HartView, Rest};
 use conditions::conditions;
@@ -175,7 +176,7 @@ pub fn show_board<R: Print>(rt: &R) -> io::Result<()> {
     println!(rt; "{:?}", Actor::Hart(3))?;
     println!(rt; "{:?}", Op::Sfence(None, Some(4)))?;
     println!(rt; "{entered:?}")?;
-    println!(rt; "{:?}", Refusal::TimeFull)?;
+    println!(rt; "{:?} {:?}", Refusal::TimeFull, Phase::Inside)?;
     println!(rt; "{totals:?}")?;
     println!(rt; "{:?}", Sie::of(0x20))
 }
