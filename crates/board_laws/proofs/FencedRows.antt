@@ -24,7 +24,7 @@ use Rattle.hart_access.specs.Translations.{IsTranslated}
 use Rattle.hart_access.specs.Ways.{phys_at}
 use Rattle.rfence.specs.Laws.{applied_places, times, waiting_places}
 use Rattle.rfence.specs.Right.{IsRight}
-use Rattle.board_core.specs.declared.config.Config.{Config}
+use Rattle.board_core.specs.Opening.{Opening}
 use Rattle.board_core.specs.declared.event.Actor.TheVariants.{Hart}
 use Rattle.board_core.specs.declared.event.Op.{Op}
 use Rattle.board_core.specs.declared.event.Op.TheVariants.{Advance, Ecall, Fetch, FenceI, Load, Poll, Serve, Sfence, Store, WriteSatp}
@@ -110,11 +110,11 @@ fenced_by op =
     ∷ did 0 Advance (Entry 0x80000000 0 0)
     ∷ []
 
-own-reached : (op : Op) (flush : Flush) → own_fence alone op ≡ Some flush → Reached alone (past_at (fenced_by op) 4) 0 3 flush
+own-reached : (op : Op) (flush : Flush) → own_fence alone op ≡ Some flush → Reached alone (past_at o (fenced_by op) 4) 0 3 flush
 own-reached op flush fences = Itself (record { event = did 0 op Done; happened = record { newer = []; made = refl }; by_hart = refl; fences = fences })
 
 abbrev fenced-access : (op : Op) (fence : Fence) → own_fence alone op ≡ Some (Entries fence) → is_of_page fence.range 0x80002000 ≡ true
-    → is_of_space fence.asid (satp alone (past_at (fenced_by op) 4) 0) leaf ≡ true → FencedAccess alone (fenced_by op) 0 3 4 fence reach
+    → is_of_space fence.asid (satp alone (past_at o (fenced_by op) 4) 0) leaf ≡ true → FencedAccess alone (fenced_by op) 0 3 4 fence reach
 fenced-access op fence fences page space = record {
   event = loaded 0;
   happened = record { newer = []; made = refl };
@@ -122,7 +122,7 @@ fenced-access op fence fences page space = record {
   access = refl;
   reached = own-reached op (Entries fence) fences;
   page = page;
-  space = λ used e. sym (ap (of_space fence.asid (satp alone (past_at (fenced_by op) 4) 0)) e) ∙ space;
+  space = λ used e. sym (ap (of_space fence.asid (satp alone (past_at o (fenced_by op) 4) 0)) e) ∙ space;
 }
 
 -- By an SFENCE.VMA of an address space ..
@@ -165,16 +165,16 @@ only-four P four m after upto = let e : m ≡ 4 = omega arith in rw e four
 leaf-steady : IsSteady alone (fenced_by of_asid) 0 3 4 reach (Ok leaf)
 unfolding maps is_valid_by zero_memory is_in_ram
 leaf-steady = record {
-  same_satp = only-four (λ m. satp alone (past_at (fenced_by of_asid) m) 0 ≡ satp alone (past_at (fenced_by of_asid) 4) 0) refl;
+  same_satp = only-four (λ m. satp alone (past_at o (fenced_by of_asid) m) 0 ≡ satp alone (past_at o (fenced_by of_asid) 4) 0) refl;
   one_result =
-      only-four (λ m. maps (memory alone (past_at (fenced_by of_asid) m)) (satp alone (past_at (fenced_by of_asid) 4) 0) 0x80002000 kinds.Load ≡ Ok leaf) refl;
+      only-four (λ m. maps (memory alone (past_at o (fenced_by of_asid) m)) (satp alone (past_at o (fenced_by of_asid) 4) 0) 0x80002000 kinds.Load ≡ Ok leaf) refl;
 }
 
 is-translated : IsTranslated in_space 0x80002000
 unfolding is_valid_by
 is-translated = record { aligned = refl; mode = refl; valid = refl }
 
-leaf-decides : IsDecidedBy alone (past_at (fenced_by of_asid) 4) 0 (loaded 0) reach (Ok leaf)
+leaf-decides : IsDecidedBy alone (past_at o (fenced_by of_asid) 4) 0 (loaded 0) reach (Ok leaf)
 leaf-decides =
     steady_tables_decide alone (fenced_by of_asid) 0 3 4 (fence_of_address (spaces_of alone) None (Some 5)) reach (Ok leaf) is-good asid-legal asid-fenced is-translated leaf-steady
 
@@ -273,10 +273,10 @@ abbrev first_reset : List Event → Option Reset
 first_reset [] = None
 first_reset (event ∷ past) = reset_by event.op event.reply
 
-no-reset : (m : ℕ) (other : Event) → 5 < m → m < 7 → IsAt (past_at ranged 8) m other → reset_by other.op other.reply ≡ None
+no-reset : (m : ℕ) (other : Event) → 5 < m → m < 7 → IsAt o (past_at ranged 8) m other → reset_by other.op other.reply ≡ None
 no-reset m other after before at =
     let place : m ≡ 6 = omega arith in
-    sym (ap first_reset (at-with (past_at ranged 8) m other at)) ∙ ap (λ n. first_reset (past_at (past_at ranged 8) (suc n))) place
+    sym (ap first_reset (at-with (past_at ranged 8) m other at)) ∙ ap (λ n. first_reset (past_at o (past_at ranged 8) (suc n))) place
 
 range-reached : Reached two (past_at ranged 8) 1 5 (Entries range_fence)
 range-reached = ByCall 0 range-asks

@@ -12,7 +12,7 @@ use Rattle.sbi_abi.specs.Calls.{call_of}
 use Rattle.sbi_abi.specs.ResetTypes.{reset_kind_of}
 use Rattle.hart_mask.specs.HartList.{names_stray, targets_of}
 use Rattle.hart_mask.specs.Ids.{ids_where}
-use Rattle.board_core.specs.declared.config.Config.{Config}
+use Rattle.board_core.specs.Opening.{Opening}
 use Rattle.board_core.specs.declared.event.Actor.TheVariants.{Hart}
 use Rattle.board_core.specs.declared.event.Op.{Op}
 use Rattle.board_core.specs.declared.event.Op.TheVariants.{Advance, Ecall, Fetch, FenceI, Load, Poll, Serve, Sfence, Store, WriteSatp}
@@ -258,6 +258,6 @@ after-seven P eight nine ten m after upto = elim (cases_eq m 8) [
 is-steady : IsSteady pair (load ∷ written) 1 7 10 reach (Err LoadPageFault)
 unfolding maps is_valid_by zero_memory is_in_ram call_of
 is-steady = record {
-  same_satp = after-seven (λ m. satp pair (past_at (load ∷ written) m) 1 ≡ satp pair (past_at (load ∷ written) 10) 1) refl refl refl;
-  one_result = after-seven (λ m. maps (memory pair (past_at (load ∷ written) m)) (satp pair (past_at (load ∷ written) 10) 1) 0x80002000 kinds.Load ≡ Err LoadPageFault) refl refl refl;
+  same_satp = after-seven (λ m. satp pair (past_at o (load ∷ written) m) 1 ≡ satp pair (past_at o (load ∷ written) 10) 1) refl refl refl;
+  one_result = after-seven (λ m. maps (memory pair (past_at o (load ∷ written) m)) (satp pair (past_at o (load ∷ written) 10) 1) 0x80002000 kinds.Load ≡ Err LoadPageFault) refl refl refl;
 }

@@ -10,7 +10,7 @@ use board_core::{Board, starts_are_entered};
 /// fence was applied once or waits once; what a successful fence covers is gone; and a fence call needs a bounded number of
 /// serves, after which it can end.
 pub fn headline(board: &Board)
-    ensures { Headline board.now.config board.now.past }
+    ensures { Headline board.now.opening board.now.past }
 {
     let _config = board.config();
     let _history = board.history();
