@@ -16,6 +16,9 @@
 //!
 //! `lock HARTS CALLS sip|ipi` does what `lock_rows` does with such words: so many of eight harts make so many calls each on
 //! a board behind a lock. `bench/lock.py` times both.
+//!
+//! `orders FILE TIMES JOBS` does what `sbiboard test` does with the program of `bench/orders.py`: it tries so many orders on so
+//! many threads, judges three conditions and counts the different records; each on a new board, and each step as likely.
 
 #[path = "baseline/board.rs"]
 mod board;
@@ -27,6 +30,8 @@ mod fences;
 mod lock;
 #[path = "baseline/memory.rs"]
 mod memory;
+#[path = "baseline/orders.rs"]
+mod orders;
 #[path = "baseline/printing.rs"]
 mod printing;
 #[path = "baseline/script.rs"]
@@ -189,14 +194,29 @@ fn make_calls(words: &[String]) -> (i32, String) {
     (0, String::new())
 }
 
+/// Tries orders of a program, and prints how many different records there were.
+fn try_orders(path: &str, times: &str, jobs: &str) -> (i32, String) {
+    let (Ok(times), Ok(jobs)) = (times.parse(), jobs.parse()) else {
+        return (2, "orders FILE TIMES JOBS".to_string());
+    };
+    run(path, Kind::Program, |script| {
+        let Some(records) = orders::run(script, times, jobs) else {
+            return Ok((1, "a condition fails"));
+        };
+        println!("{times} orders, {records} different records");
+        Ok((0, ""))
+    })
+}
+
 fn main() {
     let words: Vec<String> = std::env::args().skip(1).collect();
     let (status, text) = match words.as_slice() {
         [word, path] if word == "replay" => step_by(path, Kind::Schedule, replay),
         [word, path] if word == "check" => step_by(path, Kind::Trace, check),
         [word, path] if word == "run" => run(path, Kind::Program, run_on_threads),
+        [word, path, times, jobs] if word == "orders" => try_orders(path, times, jobs),
         [word, rest @ ..] if word == "lock" => make_calls(rest),
-        _ => (2, "replay FILE, check FILE, run FILE, or lock".to_string()),
+        _ => (2, "replay FILE, check FILE, run FILE, orders, or lock".to_string()),
     };
     if !text.is_empty() {
         eprintln!("sbiboard: {text}");

@@ -173,10 +173,13 @@ def head(script, words):
 
 def actor_line(words):
     actor, *rest = words
-    if actor != "c":
-        must_be_number(actor, LAST_HART)
     arrow = rest.index("->") if "->" in rest else len(rest)
-    operation(rest[:arrow], COUNTS)
+    if actor == "cut":
+        must_count(rest[:arrow], 0, 0)
+    else:
+        if actor != "c":
+            must_be_number(actor, LAST_HART)
+        operation(rest[:arrow], COUNTS)
     if arrow < len(rest):
         reply(rest[arrow + 1 :])
 
@@ -185,7 +188,7 @@ def kind_of(script, words):
     """The kind of script that a line belongs to."""
     if words[0] in ("at", "clock"):
         return PROGRAM
-    if words[0] == "c" or words[0][0] in "0123456789":
+    if words[0] in ("c", "cut") or words[0][0] in "0123456789":
         return TRACE if "->" in words else SCHEDULE
     return PROGRAM if script.kind == PROGRAM else None
 

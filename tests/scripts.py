@@ -28,6 +28,7 @@ c tick 7\r
 127 sstatus 0x1
 
 0x0 store 0x80000008 0xAb # a store
+ cut	# the history
 1 poll"""
 TRACE = b"""\
 board 2 2 100 0 0x80000000 0x0
@@ -36,6 +37,7 @@ board 2 2 100 0 0x80000000 0x0
 c tick 5 -> done
 1 sip -> refused 2
 0 load 1 -> fault 4 # misaligned
+cut -> done
 0 ecall 0x48534d 0 1 0x80000000 -> ret 0 0
 1 advance -> moved 1"""
 
@@ -190,7 +192,8 @@ ARROWS = """\
 0 load 1 2 -> value 0|0 sip->|0 sip-> done|0 sip ->done|0 sip - > done|0 sip # -> done|0 sip -># done
 x -> done|at -> done|at 1 -> done|clock -> done|clock ->|at ->|0 sip => done|0 sip -> done # ->
 0 sfence - - -> done|0 sfence - -> done|0 sfence -> - done|- -> done|0 sip -> -> done|0 ecall 1 -> done
-0 ecall 1 2 -> done|0 tick 1 -> refused 2|c sip -> refused 2""".replace("\n", "|").split("|")
+0 ecall 1 2 -> done|0 tick 1 -> refused 2|c sip -> refused 2|cut ->|cut -> done|cut -> ret 0 0|cut -> done 1|cut -> don
+cut ->done|cut 1 -> done|cut x ->|cut -> ->|cuts -> done|Cut -> done|0 cut -> done|c cut -> done|cut# -> done""".replace("\n", "|").split("|")
 
 
 def arrows():
@@ -201,7 +204,7 @@ def arrows():
 
 
 KINDS = ["0 sip", "c tick 1", "0 sip -> done", "at 0x10", "at 16", "at 17", "clock", "sip", "tick 1", "poll"]
-KINDS += ["# none", "lod", "128 x", "0"]
+KINDS += ["# none", "lod", "128 x", "0", "cut", "cut x", "0 cut", "c cut", "cut -> done", "cuts"]
 
 
 def kinds():
@@ -209,14 +212,14 @@ def kinds():
     for first in KINDS:
         for second in KINDS:
             yield text(first, second)
-            for third in ("0 sip", "0 sip -> done", "at 0X10", "at 0x0010", "clock", "clock 1", "sip", "tick 1"):
+            for third in ("0 sip", "0 sip -> done", "cut", "cut -> done", "at 0X10", "at 0x0010", "clock", "clock 1", "sip", "tick 1"):
                 yield text(first, second, third)
 
 
 def orders():
     """Lines with two faults of different tests, of which the first test decides."""
     faulty = ["\x01", "128", "12x", "lod", "load", "load x", "load 1 2", "sip 1", "->", "-> nope"]
-    faulty += ["-> value", "-> value x", "-> ret x y", "-> ret 0"]
+    faulty += ["-> value", "-> value x", "-> ret x y", "-> ret 0", "cut", "cut x"]
     for one in faulty:
         for other in faulty:
             yield text(f"0 {one} {other}")
@@ -239,6 +242,8 @@ PRINTED = [
     b"c tick 0x5",
     b"1 sstatus 1 -> refused 2",
     b"3 advance -> entry 0x80000000 3 0x7",
+    b"cut -> done",
+    b"cut",
 ]
 
 
@@ -271,7 +276,7 @@ def boards():
 def changed(seed, often):
     """Scripts of each kind with a few changes of bytes, words and lines."""
     random_of = random.Random(seed)
-    words = b"at clock c 0 1 127 128 sip load tick ecall -> done ret value refused 0x10 16 - # sfence board".split()
+    words = b"at clock cut c 0 1 127 128 sip load tick ecall -> done ret value refused 0x10 16 - # sfence board".split()
     for _ in range(often):
         whole = random_of.choice((EMPTY, PROGRAM, SCHEDULE, TRACE, SCHEDULE, TRACE, PROGRAM))
         for _ in range(random_of.choice((1, 1, 1, 2, 3))):

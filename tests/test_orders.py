@@ -1,9 +1,10 @@
 """Orders from a seed, and conditions: the program behind `sbiboard test`."""
 import os
+import pty
 import shutil
 import subprocess
 
-from harness import HANG, PROGRAM, ROOT, Passed, Wrong, ran
+from harness import HANG, NO_MEMORY, PROGRAM, ROOT, Passed, Wrong, allocating, ran, shim
 
 TESTER = os.path.join(ROOT, "crates/sbiboard_test/out/sbiboard_test")
 
@@ -87,17 +88,40 @@ FAULTS = (
     ("#! never 1 load 0x", 17, "not a number"), ("#! never 1 load 1 2", 19, "too few or too many words"),
     ("#! each 1 load", 15, "too few or too many words"), ("#! before 0 store 1 load", 21, "not a number"),
     ("#! before 0 store", 18, "no comma"), ("  #! never 1 sip -> refused 2", 21, "no accepted step is refused"), ("#! end soon", 8, "unknown word"),
+    ("#!", 3, "too few or too many words"), ("#! some", 8, "too few or too many words"), ("#! end", 7, "too few or too many words"),
+    ("#! never # 1 load", 9, "too few or too many words"), ("#! never 1 load ->", 19, "too few or too many words"), ("#! never 1 load after", 22, "too few or too many words"),
+    ("\t#!  never  x load", 13, "not a number"), ("#! never 0x80 load", 10, "not a number"), ("#! some 1 ecall 1 2 3 4 5 6 7 8 9", 33, "too few or too many words"),
+    ("#! some 1 load -> valu 1", 19, "unknown word"), ("#! each 1 load -> value 1 2", 27, "too few or too many words"), ("#! some 1 load 0x8000000000000000000", 16, "not a number"),
+    ("#! some 1 poll -> ret -9223372036854775809", 23, "not a number"), ("#! before 0 store,", 19, "too few or too many words"), ("#! before 0 store, 1 laod", 22, "unknown word"),
+    ("#! NEVER 1 load", 4, "unknown condition"), ("#! end quiet, off", 8, "unknown word"),
 )  # fmt: skip
 
-# What can't be tested: a file's text, and what is said of it.
+# What can't be tested: a file's text, and what is said of it: the place, what is wrong, and the word.
+HEAD = "board 1 1 9 0 0x80000000 0\n"
 UNTESTED = (
-    ("board 1 1 9 0 0x80000000 0\n0 ecal 0x10\n", ":2: no operation or reply has this name, or its block doesn't allow the operation (fault 3)"),
+    (HEAD + "0 ecal 0x10\n", ":2:3: unknown operation 'ecal' (fault 3)"),
+    (HEAD + "\t0 sip ->  valu 1\n", ":2:12: unknown reply 'valu' (fault 3)"),
+    (HEAD + "at 0x10\n poll # it is the firmware's\n", ":3:2: its block allows no operation 'poll' (fault 3)"),
+    (HEAD + "clock\nsip\n", ":3:1: its block allows no operation 'sip' (fault 3)"),
+    (HEAD + "128 sip\n", ":2:1: not a number, or too large: '128' (fault 4)"), (HEAD + "0 load  0X10\n", ":2:9: not a number, or too large: '0X10' (fault 4)"),
+    (HEAD + "0 sfence - x\n", ":2:12: not a number, or too large: 'x' (fault 4)"), (HEAD + "0 sstatus 2\n", ":2:11: not a number, or too large: '2' (fault 4)"),
+    (HEAD + "0 poll -> ret 0x1 2\n", ":2:15: not a number, or too large: '0x1' (fault 4)"),
+    (HEAD + "0 poll -> ret -1 -2\n", ":2:18: not a number, or too large: '-2' (fault 4)"),
+    ("board 1 1 9 0 0x80000000\n", ":1:25: a word is missing (fault 5)"), (HEAD + "0 # nothing\n", ":2:2: a word is missing (fault 5)"),
+    (HEAD + "0 load 1 2\n", ":2:10: a word too many: '2' (fault 5)"), (HEAD + "0 store 1 -> done\n", ":2:11: a word is missing before '->' (fault 5)"),
+    (HEAD + "0 sip ->\n", ":2:9: a word is missing (fault 5)"), (HEAD + "0 sip -> value\n", ":2:15: a word is missing (fault 5)"),
+    (HEAD + "0 sip -> done -> done\n", ":2:15: a word too many: '->' (fault 5)"), (HEAD + "at 1 2\n", ":2:6: a word too many: '2' (fault 5)"),
+    (HEAD + "sip\n", ":2:1: a line of another kind: 'sip' (fault 6)"), (HEAD + "at 16\nat 0x10\n", ":3:4: a second block of '0x10' (fault 7)"),
+    (HEAD + "clock\nclock\n", ":3:1: a second block of 'clock' (fault 7)"), ("bord 1\n", ":1:1: no board line, but 'bord' (fault 2)"),
+    ("\ufeff" + HEAD, ":1:1: a byte order mark (fault 1)"), (HEAD + "0 sip # \u00e9\n", ":2:9: a byte that is neither printable ASCII nor a tab (fault 1)"),
     ("", ": the first line with words isn't a board line, or no line has words (fault 2)"),
-    ("board 200 1 9 0 0x80000000 0\n", ": bad board: HARTS is 1 to 128"), ("board 1 0 9 0 0x80000000 0\n", ": bad board: PAGES is 1 to 256"),
-    ("board 1 1 0 0 0x80000000 0\n", ": bad board: LIMIT is 1 to 1000000"), ("board 1 1 9 1 0x80000000 0\n", ": bad board: BOOT is below HARTS"),
-    ("board 1 1 9 0 0x70000000 0\n", ": bad board: ADDRESS is even, and in RAM"),
-    ("board 1 1 9 0 0x70000000 0 17 40\n", ": bad board: ADDRESS is even, and in RAM"),
-    ("board 1 1 9 0 0x80000000 0 17 40\n", ": bad board: ASIDLEN is 0 to 16"), ("board 1 1 9 0 0x80000000 0 0 40\n", ": bad board: WIDTH is 39 or 48"),
+    ("board 200 1 9 0 0x80000000 0\n", ": bad board: HARTS is 200, at most 128"), ("board 1 0 9 0 0x80000000 0\n", ": bad board: PAGES is 0, at least 1"),
+    ("board 1 1 1000001 0 0x80000000 0\n", ": bad board: LIMIT is 1000001, at most 1000000"),
+    ("board 2 1 9 2 0x80000000 0\n", ": bad board: BOOTHART is 2, at most 1"),
+    ("board 1 1 9 0 0x70000000 0\n", ": bad board: BOOTADDR is 0x70000000, not an even address of the RAM"),
+    ("board 1 1 9 0 0x70000000 0 17 40\n", ": bad board: BOOTADDR is 0x70000000, not an even address of the RAM"),
+    ("board 1 1 9 0 0x80000000 0 17 40\n", ": bad board: ASIDLEN is 17, at most 16"),
+    ("board 1 1 9 0 0x80000000 0 0 40\n", ": bad board: WIDTH is 40, not 39 or 48"),
 )  # fmt: skip
 
 
@@ -151,7 +175,7 @@ def bad_files_are_told(room):
     told(room, RACE)
     os.mkdir(os.path.join(room, "folder"))
     for text, why in UNTESTED:
-        with open(os.path.join(room, "a.sched"), "w") as file:
+        with open(os.path.join(room, "a.sched"), "w", encoding="utf-8") as file:
             file.write(text)
         status, lines = told_of(room, "--times", "3", "a.sched", "race.program")
         must(f"{text!r}: {lines}", status == 1 and lines[1:3] == [f"not ok 1 - a.sched{why}", "ok 2 - race.program (3 orders)"])
@@ -159,10 +183,55 @@ def bad_files_are_told(room):
     must(f"{lines}", status == 1 and lines[1:3] == ["not ok 1 - none: no such file", "not ok 2 - folder: is a directory"])
 
 
+def closed_files_are_told(room):
+    """A file that may not be read is a point that fails; where root asks, who may read all, someone else asks."""
+    told(room, RACE)
+    path = os.path.join(room, "race.program")
+    os.chmod(path, 0)
+    copy = shutil.copy(TESTER, os.path.join(room, "tester"))
+    os.chmod(room, 0o777)
+    os.chmod(copy, 0o755)
+    above = os.path.dirname(room)
+    kept = os.stat(above).st_mode
+    os.chmod(above, kept | 0o111)
+    try:
+        other = {"user": 65534, "group": 65534, "extra_groups": []} if os.getuid() == 0 else {}
+        found = subprocess.run(["sbiboard", "race.program"], executable=copy, cwd=room, capture_output=True, text=True, timeout=HANG, **other)
+    finally:
+        os.chmod(above, kept)
+    must(f"{found}", found.returncode == 1 and found.stdout.splitlines()[1] == "not ok 1 - race.program: permission denied")
+
+
+def want_of_memory_is_told(room):
+    """Each allocation refused in turn: no memory, after whole points at most, or all is told as it is, where it can do without."""
+    made = shim(room)
+    with open(os.path.join(room, "race.program"), "w", encoding="ascii") as file:
+        file.write(f"#! never 1 load -> value 1\n#! end quiet\n{RACE}")
+    words = ["--times", "3", "--jobs", "1", "race.program"]
+    whole, sizes = allocating(made, room, words, program=TESTER, cwd=room)
+    must(f"{whole}", whole.returncode in (0, 1) and sizes)
+    refused = 0
+    for number in range(1, len(sizes) + 1):
+        found, _ = allocating(made, room, words, number, program=TESTER, cwd=room)
+        if found.returncode == 6:
+            refused += 1
+            must(f"{number}: {found}", found.stderr == NO_MEMORY and whole.stdout.startswith(found.stdout))
+        else:
+            must(f"{number}: {found}", (found.returncode, found.stdout, found.stderr) == (whole.returncode, whole.stdout, whole.stderr))
+    must(f"{refused} of {len(sizes)} are told", refused > 50)
+
+
+def many_differences_are_told_soon(room):
+    """A trace of which each line differs is compared in a time that grows with its length alone."""
+    many = 20_000
+    status, lines = told(room, f"board 1 1 {many} 0 0x80000000 0x0\n0 advance -> gone\n" + "0 sip -> value 1\n" * (many - 1), name="a.trace")
+    must(f"{lines[:9]}", status == 1 and lines[3] == f"  differing: {many}" and lines[-6].startswith("      got: "))
+
+
 def orders_are_all_met(room):
-    """Of small programs all orders are met, and no other: as many as can be counted."""
+    """Of small programs all orders are met by one job, and no other: as many as can be counted."""
     for text, many in COUNTED:
-        _, lines = told(room, "#! never 0 sip\n" + text, "--times", "2000")
+        _, lines = told(room, "#! never 0 sip\n" + text, "--times", "2000", "--jobs", "1")
         must(f"{many}: {lines}", f"# 1 files, 2000 orders, {many} different records" in lines)
 
 
@@ -181,7 +250,7 @@ def a_seed_is_one_order(room):
     with open(path) as file:
         must("the order alone has another record", file.read() == record)
     status, lines = told_of(room, os.path.basename(path))
-    must(f"{lines}", status == 0 and lines[1].startswith(f"ok 1 - {os.path.basename(path)} ("))
+    must(f"{lines}", status == 0 and lines[1] == f"ok 1 - {os.path.basename(path)} (6 lines)")
     checked = ran(["check", path])
     must(f"{checked}", checked.returncode == 0 and checked.stdout.startswith(b"agrees "))
 
@@ -245,7 +314,7 @@ def schedules_are_replayed(room):
 def statuses_are_told(room):
     """2 for what isn't asked rightly, or isn't there yet; 7 for a record that can't be written."""
     told(room, RACE)
-    for words in ([], ["--times"], ["--times", "x", "race.program"], ["--order", "1", "--times", "2", "race.program"], ["--jobs", "2", "race.program"]):
+    for words in ([], ["--times"], ["--times", "x", "race.program"], ["--order", "1", "--times", "2", "race.program"], ["--jobs", "x", "race.program"]):
         found = subprocess.run(["sbiboard", *words], executable=TESTER, cwd=room, capture_output=True, text=True, timeout=HANG)
         must(f"{words}: {found}", found.returncode == 2 and found.stdout == "" and found.stderr.startswith("error: "))
     told(room, "#! end off\n" + RACE)
@@ -265,7 +334,77 @@ def tap_is_written_too(room):
     must(f"{lines}", status == 0 and lines[-1] == "# cut short: not all orders were tried")
     for path in ("nowhere/points.tap", "/dev/full"):
         found = subprocess.run(["sbiboard", "--tap", path, "race.program"], executable=TESTER, cwd=room, capture_output=True, timeout=HANG)
-        must(f"{found}", found.returncode == 7 and found.stderr.startswith(b"sbiboard: "))
+        must(f"{found}", found.returncode == 7 and found.stderr.startswith(f"sbiboard: {path}: ".encode()))
+    status, lines = told(room, f"#! end off\n{RACE}", "--seconds", "0")
+    must(f"{lines}", status == 0 and lines[1] == "ok 1 - race.program: line 1: end off # SKIP not tried" and "1..1" in lines)
+
+
+def jobs_tell_the_same(room):
+    """What is told doesn't depend on the processors, nor on how many orders are tried at a time."""
+    text = "#! never 1 load -> value 1\n#! some 1 load -> value 0\n" + LOADS_AND_STORES
+    whole = told(room, text, "--times", "3000", "--seed", "5", "--jobs", "1")
+    for words in (["--jobs", "4"], ["--jobs", "3"], ["--jobs", "200"], []):
+        must(f"{words}", told(room, text, "--times", "3000", "--seed", "5", *words) == whole)
+    command = [TESTER, "--times", "3000", "--seed", "5", "race.program"]
+    alone = subprocess.run(command, cwd=room, capture_output=True, text=True, timeout=HANG, preexec_fn=lambda: os.sched_setaffinity(0, [min(os.sched_getaffinity(0))]))
+    must(f"one processor: {alone}", (alone.returncode, alone.stdout.splitlines()) == whole)
+
+
+def odd_programs_are_told(room):
+    """Blocks that no order entered, entries without a block, and calls that were always answered by an error are told."""
+    text = RACE.replace("at 0x80001000\n", "ecall 0x48534d 0 9 0x80001000 # no such hart\nat 0x80003000\nat 0x80001004\n")
+    _, lines = told(room, "#! end quiet\n" + text, "--times", "50")
+    wanted = [
+        "# line 6: each answer to 'ecall 0x48534d 0 9 0x80001000' was an error", "# line 7: no order entered the block at 0x80003000",
+        "# line 8: no order entered the block at 0x80001004", "# a hart was entered at 0x80001000, where no block is",
+    ]  # fmt: skip
+    must(f"{lines}", [line for line in lines if line.startswith(("# line", "# a "))] == wanted)
+    _, lines = told(room, "#! end quiet\n" + RACE.replace("store 0x80002000 0x1", "store 0x80002000 0x1 #! never 0 store"), "--times", "50")
+    must(f"{lines}", "# line 5: behind other words '#!' begins a comment, and no condition" in lines)
+    _, lines = told(room, "#! end quiet\n" + RACE, "--times", "50")
+    must(f"{lines}", not [line for line in lines if line.startswith(("# line", "# a "))])
+
+
+def threads_are_judged_too(room):
+    """With --threads a program is run as often on real threads, and each condition is judged by these runs, too."""
+    status, lines = told(room, "#! end quiet\n#! never 1 load -> value 2\n" + RACE, "--times", "20", "--threads")
+    points = [f"ok {n} - race.program: line {line}" for n, line in ((1, "1: end quiet"), (2, "2: never 1 load -> value 2"))]
+    points += ["ok 3 - race.program: line 1: end quiet, on threads", "ok 4 - race.program: line 2: never 1 load -> value 2, on threads"]
+    must(f"{lines}", status == 0 and [line for line in lines if line.startswith("ok ")] == points and "# ends: 0 off, 0 history-full, 40 quiet, 0 stuck" in lines)
+    status, lines = told(room, "#! end off\n" + RACE, "--times", "3", "--threads")
+    must(f"{lines}", status == 1 and "  runs: 3" in lines and '  record: "./race.program.threads-0.failed"' in lines)
+    checked = ran(["check", os.path.join(room, "race.program.threads-0.failed")])
+    must(f"{checked}", checked.returncode == 0)
+    status, lines = told(room, RACE, "--times", "3", "--threads")
+    must(f"{lines}", status == 0 and lines[2] == "ok 2 - race.program (3 runs on threads)")
+
+
+def at_a_terminal(room, *words, seconds=HANG):
+    """What a program of these words writes to a terminal, where both its standard output and its standard error are one."""
+    ours, its = pty.openpty()
+    child = subprocess.Popen(["sbiboard", *words], executable=TESTER, cwd=room, stdin=subprocess.DEVNULL, stdout=its, stderr=its)
+    os.close(its)
+    text = b""
+    try:
+        while piece := os.read(ours, 4096):
+            text += piece
+    except OSError:
+        pass  # (the terminal ends so)
+    os.close(ours)
+    return child.wait(seconds), text.decode().replace("\r\n", "\n")
+
+
+def a_terminal_is_told_plainly(room):
+    """At a terminal there is a plain text in place of points, and the progress where it takes long; --tap writes points all the same."""
+    told(room, "#! end quiet # as it is\n#! end off\n" + RACE)
+    status, text = at_a_terminal(room, "--times", "10", "--tap", "points.tap", "race.program")
+    lines = text.split("\n")
+    must(f"{text}", status == 1 and lines[0] == "ok    race.program: line 1: end quiet" and lines[1] == "FAIL  race.program: line 2: end off")
+    must(f"{text}", "      failing: 10" in lines and "2 points, 1 failed" in lines and "TAP" not in text and "---" not in text and lines[-2].startswith("time: "))
+    with open(os.path.join(room, "points.tap"), encoding="utf-8") as file:
+        must("no points", file.read().startswith("TAP version 14\nok 1 - "))
+    _, text = at_a_terminal(room, "--times", "1000000000", "--seconds", "4", "race.program")
+    must(f"{text}", " of 1000000000 orders, " in text and " a second, " in text and "\r\x1b[K" in text)
 
 
 def points_are_read_by_others(room):
@@ -308,10 +447,13 @@ def tour_is_as_written(room):
 
 TESTS = [
     ("conditions are judged", conditions_are_judged), ("points are told", points_are_told), ("bad conditions are told", bad_conditions_are_told),
-    ("files that can't be tested are told", bad_files_are_told), ("all orders of small programs are met", orders_are_all_met),
+    ("files that can't be tested are told", bad_files_are_told), ("files that may not be read are told", closed_files_are_told),
+    ("want of memory of a test", want_of_memory_is_told), ("many differences of a trace are told soon", many_differences_are_told_soon), ("all orders of small programs are met", orders_are_all_met),
     ("a seed is one order", a_seed_is_one_order), ("failing orders are counted", failures_are_counted),
     ("orders that end stuck fail", stuck_orders_fail), ("orders that the limit cut off are spared", full_histories_are_spared),
     ("all differences of a trace are told", all_differences_are_told), ("schedules are replayed and judged", schedules_are_replayed),
     ("statuses of tests", statuses_are_told), ("points are written into a file too", tap_is_written_too),
+    ("any number of jobs tells the same", jobs_tell_the_same), ("odd programs are told", odd_programs_are_told),
+    ("runs on threads are judged too", threads_are_judged_too), ("a terminal is told plainly", a_terminal_is_told_plainly),
     ("points are read by others", points_are_read_by_others), ("the tour on finding orders", tour_is_as_written),
 ]  # fmt: skip

@@ -52,7 +52,36 @@ def too_long_and_refused(room):
         must_be(found, 6, b"", NO_MEMORY)
 
 
+CUTS = b"board 2 4 9 0 0x80000000 0x0\n0 advance\n0 sip\ncut\n0 sip\ncut\n"
+
+
+def cuts_are_refused(room):
+    """Memory for a cut is refused: a replay has written the lines before it, and a check nothing; both end with status 6."""
+    made, words = shim(room), ["replay", script(room, CUTS)]
+    good, sizes = allocating(made, room, words)
+    must_be(good, 0, None, b"")
+    written = set()
+    for refused in range(1, len(sizes) + 1):
+        found, _ = allocating(made, room, words, refused)
+        if found.returncode == 0:
+            continue
+        must_be(found, 6, None, NO_MEMORY)
+        if not good.stdout.startswith(found.stdout):
+            raise Wrong(f"allocation {refused} refused: {found.stdout}")
+        written.add(found.stdout.count(b"\n"))
+    if written != {0, 3, 5}:
+        raise Wrong(f"with no memory {sorted(written)} lines were written")
+    words = ["check", script(room, good.stdout)]
+    good, sizes = allocating(made, room, words)
+    must_be(good, 0, b"agrees 5\n", b"")
+    for refused in range(1, len(sizes) + 1):
+        found, _ = allocating(made, room, words, refused)
+        if found.returncode != 0:
+            must_be(found, 6, b"", NO_MEMORY)
+
+
 TESTS = [
     ("no read follows refused memory", no_read_follows),
     ("a script that is too long and memory refused", too_long_and_refused),
+    ("cuts whose memory is refused", cuts_are_refused),
 ]

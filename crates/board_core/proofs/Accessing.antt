@@ -28,47 +28,48 @@ use Rattle.hart_access.specs.Ways.{fill_by, place_by, used_by, way, way_by}
 use Rattle.hart_access.proofs.Used.{place_of_used}
 use Rattle.board_core.specs.Accesses.{access_reply_of}
 use Rattle.board_core.specs.declared.config.Config.{Config}
+use Rattle.board_core.specs.Opening.{Opening}
 use Rattle.board_core.specs.declared.event.Reply.{Reply}
 use Rattle.board_core.specs.History.{Event, access_op, using}
 use Rattle.board_core.specs.Fences.{turn_by, turns}
-use Rattle.board_core.specs.Memory.{act_by, address_by, cached_in, entry_filling, filling_of, hit_in, own_filling, satp_by, word_filling, writing_by, written_by}
+use Rattle.board_core.specs.Memory.{act_by, address_by, entry_filling, filling_of, own_filling, satp_by, word_filling, writing_by, written_by}
 use Rattle.board_core.proofs.Events.{deed, still}
 use Rattle.board_core.proofs.MemoryStanding.{filled-elsewhere}
 use Rattle.board_core.proofs.Tables.{eqb-other, eqb-same}
 
-filled_by_act : {E : Type 0} (covers : Flush → E → Bool) (cache : Contents E) (own : Bool) → own ≡ true → (filling : Option E)
-    → acted covers cache (act_by Nothing (own_filling own filling)) ≡ filled_if cache filling
-filled_by_act covers cache own is None = refl
-filled_by_act covers cache own is (Some item) = rw is refl
+filled_by_act : {E : Type 0} (covers : Flush → E → Bool) (date : ℕ) (cache : Contents E) (own : Bool) → own ≡ true → (filling : Option E)
+    → acted covers date cache (act_by Nothing (own_filling own filling)) ≡ filled_if cache date filling
+filled_by_act covers date cache own is None = refl
+filled_by_act covers date cache own is (Some item) = rw is refl
 
-module _ (c : Config) (past : List Event) (h va : ℕ) (reply : Reply) where
+module _ (o : Opening) (past : List Event) (h va : ℕ) (reply : Reply) where
   -- what the act of an access makes of the two caches of its hart
-  pub tlb_by_act : (cache : Contents Entry) (what : Access) (used : Option Entry) (satp : ℕ) (acts : List (Act Entry))
-      → acted covers_entry cache (act_by (effect (turns c past) (turn_by c past h (access_op va what) reply) h) (own_filling (h == h) (entry_filling (access_op va what) used satp acts)))
-      ≡ filled_if cache (filling_of (hit_in acts (address_by satp va)) used)
-  tlb_by_act cache Load used satp acts = filled_by_act covers_entry cache _ (eqb-same h) (filling_of (hit_in acts (address_by satp va)) used)
-  tlb_by_act cache (Store value) used satp acts = filled_by_act covers_entry cache _ (eqb-same h) (filling_of (hit_in acts (address_by satp va)) used)
-  tlb_by_act cache Fetch used satp acts = filled_by_act covers_entry cache _ (eqb-same h) (filling_of (hit_in acts (address_by satp va)) used)
+  pub tlb_by_act : (date : ℕ) (cache : Contents Entry) (what : Access) (used : Option Entry) (satp : ℕ) (hit : Address → Option Entry)
+      → acted covers_entry date cache (act_by (effect o.fences (turns o past) (turn_by o past h (access_op va what) reply) h) (own_filling (h == h) (entry_filling (access_op va what) used satp hit)))
+      ≡ filled_if cache date (filling_of (hit (address_by satp va)) used)
+  tlb_by_act date cache Load used satp hit = filled_by_act covers_entry date cache _ (eqb-same h) (filling_of (hit (address_by satp va)) used)
+  tlb_by_act date cache (Store value) used satp hit = filled_by_act covers_entry date cache _ (eqb-same h) (filling_of (hit (address_by satp va)) used)
+  tlb_by_act date cache Fetch used satp hit = filled_by_act covers_entry date cache _ (eqb-same h) (filling_of (hit (address_by satp va)) used)
 
-  pub words_by_act : (cache : Contents FetchWord) (what : Access) (filling : Option FetchWord)
-      → acted covers_word cache (act_by (effect (turns c past) (turn_by c past h (access_op va what) reply) h) (own_filling (h == h) filling)) ≡ filled_if cache filling
-  words_by_act cache Load filling = filled_by_act covers_word cache _ (eqb-same h) filling
-  words_by_act cache (Store value) filling = filled_by_act covers_word cache _ (eqb-same h) filling
-  words_by_act cache Fetch filling = filled_by_act covers_word cache _ (eqb-same h) filling
+  pub words_by_act : (date : ℕ) (cache : Contents FetchWord) (what : Access) (filling : Option FetchWord)
+      → acted covers_word date cache (act_by (effect o.fences (turns o past) (turn_by o past h (access_op va what) reply) h) (own_filling (h == h) filling)) ≡ filled_if cache date filling
+  words_by_act date cache Load filling = filled_by_act covers_word date cache _ (eqb-same h) filling
+  words_by_act date cache (Store value) filling = filled_by_act covers_word date cache _ (eqb-same h) filling
+  words_by_act date cache Fetch filling = filled_by_act covers_word date cache _ (eqb-same h) filling
 
   -- and of those of another hart
   pub nothing_elsewhere : {E : Type 0} (what : Access) (j : ℕ) (filling : Option E) → h ≢ j
-      → act_by (effect (turns c past) (turn_by c past h (access_op va what) reply) j) (own_filling (j == h) filling) ≡ acts.Nothing
+      → act_by (effect o.fences (turns o past) (turn_by o past h (access_op va what) reply) j) (own_filling (j == h) filling) ≡ acts.Nothing
   nothing_elsewhere Load j filling other = ap (act_by Nothing) (ap (λ own. own_filling own filling) (eqb-other j h (λ e. other (sym e))) ∙ filled-elsewhere filling)
   nothing_elsewhere (Store value) j filling other = ap (act_by Nothing) (ap (λ own. own_filling own filling) (eqb-other j h (λ e. other (sym e))) ∙ filled-elsewhere filling)
   nothing_elsewhere Fetch j filling other = ap (act_by Nothing) (ap (λ own. own_filling own filling) (eqb-other j h (λ e. other (sym e))) ∙ filled-elsewhere filling)
 
 -- an access touches nothing but the memory
-pub memory_alone : (c : Config) (past : List Event) (h va : ℕ) (what : Access) (reply : Reply) (used : Option Entry)
-    → (let d = deed c past (using h (access_op va what) reply used) in d ≡ record still { memory = d.memory })
-memory_alone c past h va Load reply used = refl
-memory_alone c past h va (Store value) reply used = refl
-memory_alone c past h va Fetch reply used = refl
+pub memory_alone : (o : Opening) (past : List Event) (h va : ℕ) (what : Access) (reply : Reply) (used : Option Entry)
+    → (let d = deed o past (using h (access_op va what) reply used) in d ≡ record still { memory = d.memory })
+memory_alone o past h va Load reply used = refl
+memory_alone o past h va (Store value) reply used = refl
+memory_alone o past h va Fetch reply used = refl
 
 pub no_satp : (c : Config) (va : ℕ) (what : Access) (reply : Reply) → satp_by c (access_op va what) reply ≡ None
 no_satp c va Load reply = refl
@@ -116,21 +117,21 @@ module _ (c : Config) (memory : ℕ → Option ℕ) (w : Way) (va : ℕ) where
       by_place (Err cause) = refl
 
   -- and so is the word that it fetches
-  pub fetched_as : (acts : List (Act FetchWord)) (what : Access) → (let place = place_by memory w va (kind_of what) in
-      word_filling (access_op va what) (access_reply_of what (whole.answer_by memory (cached_in acts) place what)) (used_by w) memory acts ≡ whole.word_filling_by memory (cached_in acts) place what)
-  fetched_as acts Load = by_place (place_by memory w va (kind_of Load))
+  pub fetched_as : (cached : ℕ → Option FetchWord) (what : Access) → (let place = place_by memory w va (kind_of what) in
+      word_filling (access_op va what) (access_reply_of what (whole.answer_by memory cached place what)) (used_by w) memory cached ≡ whole.word_filling_by memory cached place what)
+  fetched_as cached Load = by_place (place_by memory w va (kind_of Load))
     where
-      by_place : (place : Result ℕ Cause) → None ≡ whole.word_filling_by memory (cached_in acts) place Load
+      by_place : (place : Result ℕ Cause) → None ≡ whole.word_filling_by memory cached place Load
       by_place (Ok pa) = refl
       by_place (Err cause) = refl
-  fetched_as acts (Store value) = by_place (place_by memory w va (kind_of (Store value)))
+  fetched_as cached (Store value) = by_place (place_by memory w va (kind_of (Store value)))
     where
-      by_place : (place : Result ℕ Cause) → None ≡ whole.word_filling_by memory (cached_in acts) place (Store value)
+      by_place : (place : Result ℕ Cause) → None ≡ whole.word_filling_by memory cached place (Store value)
       by_place (Ok pa) = refl
       by_place (Err cause) = refl
-  fetched_as acts Fetch = by_place (place_by memory w va (kind_of Fetch)) refl
+  fetched_as cached Fetch = by_place (place_by memory w va (kind_of Fetch)) refl
     where
       by_place : (place : Result ℕ Cause) → place_by memory w va (kind_of Fetch) ≡ place
-          → word_filling (access_op va Fetch) (access_reply_of Fetch (whole.answer_by memory (cached_in acts) place Fetch)) (used_by w) memory acts ≡ whole.word_filling_by memory (cached_in acts) place Fetch
-      by_place (Ok pa) is = ap (λ at. whole.fetched_from (cached_in acts at) at (unwrap_or (memory at) 0)) (sym (place_of_used memory w va (kind_of Fetch) pa is))
+          → word_filling (access_op va Fetch) (access_reply_of Fetch (whole.answer_by memory cached place Fetch)) (used_by w) memory cached ≡ whole.word_filling_by memory cached place Fetch
+      by_place (Ok pa) is = ap (λ at. whole.fetched_from (cached at) at (unwrap_or (memory at) 0)) (sym (place_of_used memory w va (kind_of Fetch) pa is))
       by_place (Err cause) is = refl

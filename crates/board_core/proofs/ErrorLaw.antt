@@ -1,5 +1,5 @@
 -- In a legal history an error does nothing, and what does nothing changes no look-up.
-use Rattle.std.proofs.Common.{◌≡◌, ℕ, Bool, true, false, List, [], ◌∷◌, length, refl, sym, ap, ◌∙◌, arith}
+use Rattle.std.proofs.Common.{◌≡◌, ◌+◌, ℕ, Bool, true, false, List, [], ◌∷◌, length, refl, sym, ap, ◌∙◌, arith}
 use Rattle.std.specs.Prelude.{Option, Some, None, Result, Ok, Err, nat_le, not, if◌then◌else◌, is_none, sum_by}
 use Rattle.std.specs.List.{filter_map}
 use Rattle.sbi_abi.specs.declared.answer.SbiError.{SbiError}
@@ -25,7 +25,7 @@ use Rattle.hsm.specs.declared.hart.HartState.{HartState}
 use Rattle.hsm.specs.declared.hart.HartState.TheVariants.{Started, Stopped, StartPending, StopPending, Suspended, SuspendPending, ResumePending}
 use Rattle.hsm.specs.declared.hart.Kept.{Kept}
 use Rattle.hsm.specs.States.{is_stopped}
-use Rattle.board_core.specs.declared.config.Config.{Config}
+use Rattle.board_core.specs.Opening.{Opening}
 use Rattle.board_core.specs.declared.event.Actor.{Actor}
 use Rattle.board_core.specs.declared.event.Actor.TheVariants.{Hart, Clock}
 use Rattle.board_core.specs.History.{Event}
@@ -59,67 +59,67 @@ use Rattle.board_core.specs.Calls.Time.{time_reply}
 use Rattle.board_core.specs.Returns.{Leaves, Returns, as_reply}
 use Rattle.board_core.specs.Replies.{IsLegal, advance_reply, answer, call_reply, refused_or, reply, unless}
 use Rattle.board_core.specs.Resets.{is_off, last_reset, newer_or}
-use Rattle.board_core.specs.Starts.{Start, entries, last_start, pending, starts}
+use Rattle.board_core.specs.Starts.{Start, entered_before, entries, last_start, pending, starts, unless_reset}
 use Rattle.board_core.specs.States.{state}
 use Rattle.board_core.specs.Suspends.{resume_point}
 use Rattle.board_core.proofs.Events.{Deed, deed, deed_of_call, still}
 use Rattle.board_core.proofs.Rows.{accepted, clock_ticks}
 
-module _ (c : Config) (past : List Event) where
+module _ (o : Opening) (past : List Event) where
   -- a call that answers an error does nothing
   module _ (x : ℕ) where
     fence_failed : (call : RfenceCall) (harts : Option (List ℕ)) (flush : Result Flush SbiError) (r : Reply)
-        → as_reply (fence_reply_to harts flush) ≡ r → is_error r ≡ true → deed_of_call c past x (calls.Rfence call) r ≡ still
+        → as_reply (fence_reply_to harts flush) ≡ r → is_error r ≡ true → deed_of_call o past x (calls.Rfence call) r ≡ still
     fence_failed call None flush r is error = rw (← is) refl
     fence_failed call (Some harts) (Err refused) r is error = rw (← is) refl
     fence_failed call (Some harts) (Ok flush) r is error = absurd (let e = rw (← is) at error in cc)
 
-    failed_time : (call : TimeCall) (r : Reply) → as_reply (time_reply call) ≡ r → is_error r ≡ true → deed_of_call c past x (calls.Time call) r ≡ still
+    failed_time : (call : TimeCall) (r : Reply) → as_reply (time_reply call) ≡ r → is_error r ≡ true → deed_of_call o past x (calls.Time call) r ≡ still
     failed_time (SetTimer deadline) r is error = absurd (let e = rw (← is) at error in cc)
 
-    failed_ipi : (call : IpiCall) (r : Reply) → as_reply (ipi_reply c call) ≡ r → is_error r ≡ true → deed_of_call c past x (calls.Ipi call) r ≡ still
-    failed_ipi (SendIpi mask base) r is error = rw (← is) (by_targets (is_none (targets_of mask base c.harts)) (rw (← is) at error))
+    failed_ipi : (call : IpiCall) (r : Reply) → as_reply (ipi_reply o.config call) ≡ r → is_error r ≡ true → deed_of_call o past x (calls.Ipi call) r ≡ still
+    failed_ipi (SendIpi mask base) r is error = rw (← is) (by_targets (is_none (targets_of mask base o.config.harts)) (rw (← is) at error))
       where
         by_targets : (none : Bool) → (let r = Ret (unless (first_that_holds ((none, InvalidParam) ∷ [])) 0) in
-            is_error r ≡ true → deed_of_call c past x (calls.Ipi (SendIpi mask base)) r ≡ still)
+            is_error r ≡ true → deed_of_call o past x (calls.Ipi (SendIpi mask base)) r ≡ still)
         by_targets true error = refl
         by_targets false error = cc
 
-    failed_hsm : (call : HsmCall) (r : Reply) → as_reply (hsm_reply c (sstatus_sie past x) (state c past) call) ≡ r → is_error r ≡ true → deed_of_call c past x (calls.Hsm call) r ≡ still
+    failed_hsm : (call : HsmCall) (r : Reply) → as_reply (hsm_reply o.config (sstatus_sie o past x) (state o past) call) ≡ r → is_error r ≡ true → deed_of_call o past x (calls.Hsm call) r ≡ still
     failed_hsm (HartStart t addr opaque) r is error =
-        rw (← is) (by_errors (nat_le c.harts t) (is_start_address c.pages addr) (is_stopped (state c past t)) (rw (← is) at error))
+        rw (← is) (by_errors (nat_le o.config.harts t) (is_start_address o.config.pages addr) (is_stopped (state o past t)) (rw (← is) at error))
       where
         by_errors : (missing right stopped : Bool)
             → (let r = Ret (unless (first_that_holds ((missing, InvalidParam) ∷ (not right, InvalidAddress) ∷ (not stopped, AlreadyAvailable) ∷ [])) 0) in
-            is_error r ≡ true → deed_of_call c past x (calls.Hsm (HartStart t addr opaque)) r ≡ still)
+            is_error r ≡ true → deed_of_call o past x (calls.Hsm (HartStart t addr opaque)) r ≡ still)
         by_errors true right stopped error = refl
         by_errors false false stopped error = refl
         by_errors false true false error = refl
         by_errors false true true error = cc
-    failed_hsm HartStop r is error = rw (← is) (by_enabled (sstatus_sie past x) (rw (← is) at error))
+    failed_hsm HartStop r is error = rw (← is) (by_enabled (sstatus_sie o past x) (rw (← is) at error))
       where
-        by_enabled : (enabled : Bool) → (let r = as_reply (if enabled then Returns (Some Failed) 0 else Leaves) in is_error r ≡ true → deed_of_call c past x (calls.Hsm HartStop) r ≡ still)
+        by_enabled : (enabled : Bool) → (let r = as_reply (if enabled then Returns (Some Failed) 0 else Leaves) in is_error r ≡ true → deed_of_call o past x (calls.Hsm HartStop) r ≡ still)
         by_enabled true error = refl
         by_enabled false error = cc
     failed_hsm (HartGetStatus t) r is error = refl
     failed_hsm (HartSuspend kind addr opaque) r is error = rw (← is) (by_kind kind (rw (← is) at error))
       where
         by_address : (right : Bool) → (let r = as_reply (if right then Leaves else Returns (Some InvalidAddress) 0) in
-            is_error r ≡ true → deed_of_call c past x (calls.Hsm (HartSuspend kind addr opaque)) r ≡ still)
+            is_error r ≡ true → deed_of_call o past x (calls.Hsm (HartSuspend kind addr opaque)) r ≡ still)
         by_address true error = cc
         by_address false error = refl
 
-        by_kind : (kind' : Result SuspendKind SbiError) → (let r = as_reply (suspend_reply c kind' addr) in
-            is_error r ≡ true → deed_of_call c past x (calls.Hsm (HartSuspend kind addr opaque)) r ≡ still)
+        by_kind : (kind' : Result SuspendKind SbiError) → (let r = as_reply (suspend_reply o.config kind' addr) in
+            is_error r ≡ true → deed_of_call o past x (calls.Hsm (HartSuspend kind addr opaque)) r ≡ still)
         by_kind (Err error') error = refl
         by_kind (Ok Retentive) error = cc
-        by_kind (Ok NonRetentive) error = by_address (is_start_address c.pages addr) error
+        by_kind (Ok NonRetentive) error = by_address (is_start_address o.config.pages addr) error
 
-    failed_srst : (call : SrstCall) (r : Reply) → as_reply (srst_reply call) ≡ r → is_error r ≡ true → deed_of_call c past x (calls.Srst call) r ≡ still
+    failed_srst : (call : SrstCall) (r : Reply) → as_reply (srst_reply call) ≡ r → is_error r ≡ true → deed_of_call o past x (calls.Srst call) r ≡ still
     failed_srst (SystemReset (Ok reset)) r is error = absurd (let e = rw (← is) at error in cc)
     failed_srst (SystemReset (Err refused)) r is error = rw (← is) refl
 
-    failed_call : (call : Call) (r : Reply) → call_reply c past x call ≡ r → is_error r ≡ true → deed_of_call c past x call r ≡ still
+    failed_call : (call : Call) (r : Reply) → call_reply o past x call ≡ r → is_error r ≡ true → deed_of_call o past x call r ≡ still
     failed_call (calls.Time call) r is error = failed_time call r is error
     failed_call (calls.Ipi call) r is error = failed_ipi call r is error
     failed_call (calls.Rfence call) r is error = fence_failed call _ _ r is error
@@ -152,31 +152,31 @@ module _ (c : Config) (past : List Event) where
   ticked_well None r e = cc
   ticked_well (Some refusal) r e = cc
 
-  failed : (actor : Actor) (op : Op) (r : Reply) (used : Option Entry) → answer c past actor op ≡ Ok r → is_error r ≡ true
-      → deed c past (record { actor = actor; op = op; reply = r; translation = used }) ≡ still
-  failed Clock (Ecall regs) r used e error = absurd (clock_ticks c past (Ecall regs) r refl e)
-  failed Clock (Load va) r used e error = absurd (clock_ticks c past (Load va) r refl e)
-  failed Clock (Store va value) r used e error = absurd (clock_ticks c past (Store va value) r refl e)
-  failed Clock (Fetch va) r used e error = absurd (clock_ticks c past (Fetch va) r refl e)
-  failed Clock (WriteSatp value) r used e error = absurd (clock_ticks c past (WriteSatp value) r refl e)
-  failed Clock (WriteSie value) r used e error = absurd (clock_ticks c past (WriteSie value) r refl e)
-  failed Clock (WriteSstatusSie value) r used e error = absurd (clock_ticks c past (WriteSstatusSie value) r refl e)
-  failed Clock ReadSip r used e error = absurd (clock_ticks c past ReadSip r refl e)
-  failed Clock ClearSsip r used e error = absurd (clock_ticks c past ClearSsip r refl e)
-  failed Clock Wfi r used e error = absurd (clock_ticks c past Wfi r refl e)
-  failed Clock (Sfence va asid) r used e error = absurd (clock_ticks c past (Sfence va asid) r refl e)
-  failed Clock FenceI r used e error = absurd (clock_ticks c past FenceI r refl e)
-  failed Clock Poll r used e error = absurd (clock_ticks c past Poll r refl e)
-  failed Clock Serve r used e error = absurd (clock_ticks c past Serve r refl e)
-  failed Clock Advance r used e error = absurd (clock_ticks c past Advance r refl e)
-  failed Clock (Tick n) r used e error = absurd (let e = sym (ap is_error (ticked_well (first_that_holds (clock_refusals c past (Tick n))) r e)) ∙ error in cc)
-  failed (Hart x) op r used e error = by_op op (accepted (is_off past) (nat_le c.harts x) (situation c past x) op (is_full c past) (reply c past x op) r e).1
+  failed : (actor : Actor) (op : Op) (r : Reply) (used : Option Entry) → answer o past actor op ≡ Ok r → is_error r ≡ true
+      → deed o past (record { actor = actor; op = op; reply = r; translation = used }) ≡ still
+  failed Clock (Ecall regs) r used e error = absurd (clock_ticks o past (Ecall regs) r refl e)
+  failed Clock (Load va) r used e error = absurd (clock_ticks o past (Load va) r refl e)
+  failed Clock (Store va value) r used e error = absurd (clock_ticks o past (Store va value) r refl e)
+  failed Clock (Fetch va) r used e error = absurd (clock_ticks o past (Fetch va) r refl e)
+  failed Clock (WriteSatp value) r used e error = absurd (clock_ticks o past (WriteSatp value) r refl e)
+  failed Clock (WriteSie value) r used e error = absurd (clock_ticks o past (WriteSie value) r refl e)
+  failed Clock (WriteSstatusSie value) r used e error = absurd (clock_ticks o past (WriteSstatusSie value) r refl e)
+  failed Clock ReadSip r used e error = absurd (clock_ticks o past ReadSip r refl e)
+  failed Clock ClearSsip r used e error = absurd (clock_ticks o past ClearSsip r refl e)
+  failed Clock Wfi r used e error = absurd (clock_ticks o past Wfi r refl e)
+  failed Clock (Sfence va asid) r used e error = absurd (clock_ticks o past (Sfence va asid) r refl e)
+  failed Clock FenceI r used e error = absurd (clock_ticks o past FenceI r refl e)
+  failed Clock Poll r used e error = absurd (clock_ticks o past Poll r refl e)
+  failed Clock Serve r used e error = absurd (clock_ticks o past Serve r refl e)
+  failed Clock Advance r used e error = absurd (clock_ticks o past Advance r refl e)
+  failed Clock (Tick n) r used e error = absurd (let e = sym (ap is_error (ticked_well (first_that_holds (clock_refusals (is_full o past) o past (Tick n))) r e)) ∙ error in cc)
+  failed (Hart x) op r used e error = by_op op (accepted (is_off o past) (nat_le o.config.harts x) (situation o past x) op (is_full o past) (reply o past x op) r e).1
     where
-      by_op : (op : Op) → reply c past x op ≡ r → deed c past (record { actor = Hart x; op = op; reply = r; translation = used }) ≡ still
+      by_op : (op : Op) → reply o past x op ≡ r → deed o past (record { actor = Hart x; op = op; reply = r; translation = used }) ≡ still
       by_op (Ecall regs) is = failed_call x (call_of regs) r is error
-      by_op (Load va) is = absurd (let e = sym (accessed_well accesses.Load (whole.answer (memory c past) (satp c past x) (hit c past x) (cached c past x) va accesses.Load)) ∙ ap is_error is ∙ error in cc)
-      by_op (Store va value) is = absurd (let e = sym (accessed_well (accesses.Store value) (whole.answer (memory c past) (satp c past x) (hit c past x) (cached c past x) va (accesses.Store value))) ∙ ap is_error is ∙ error in cc)
-      by_op (Fetch va) is = absurd (let e = sym (accessed_well accesses.Fetch (whole.answer (memory c past) (satp c past x) (hit c past x) (cached c past x) va accesses.Fetch)) ∙ ap is_error is ∙ error in cc)
+      by_op (Load va) is = absurd (let e = sym (accessed_well accesses.Load (whole.answer (memory o past) (satp o past x) (hit o past x) (cached o past x) va accesses.Load)) ∙ ap is_error is ∙ error in cc)
+      by_op (Store va value) is = absurd (let e = sym (accessed_well (accesses.Store value) (whole.answer (memory o past) (satp o past x) (hit o past x) (cached o past x) va (accesses.Store value))) ∙ ap is_error is ∙ error in cc)
+      by_op (Fetch va) is = absurd (let e = sym (accessed_well accesses.Fetch (whole.answer (memory o past) (satp o past x) (hit o past x) (cached o past x) va accesses.Fetch)) ∙ ap is_error is ∙ error in cc)
       by_op (WriteSatp value) is = absurd (let e = rw (← is) at error in cc)
       by_op (WriteSie value) is = absurd (let e = rw (← is) at error in cc)
       by_op (WriteSstatusSie value) is = absurd (let e = rw (← is) at error in cc)
@@ -187,11 +187,11 @@ module _ (c : Config) (past : List Event) where
       by_op FenceI is = absurd (let e = rw (← is) at error in cc)
       by_op Poll is = absurd (let e = rw (← is) at error in cc)
       by_op Serve is = absurd (let e = rw (← is) at error in cc)
-      by_op Advance is = absurd (let e = sym (advanced_well x (state c past x) (last_start c past x) (resume_point past x)) ∙ ap is_error is ∙ error in cc)
+      by_op Advance is = absurd (let e = sym (advanced_well x (state o past x) (last_start o past x) (resume_point o past x)) ∙ ap is_error is ∙ error in cc)
       by_op (Tick n) is = absurd (let e = rw (← is) at error in cc)
 
   -- what does nothing changes no look-up
-  looks_same : (event : Event) → deed c past event ≡ still → LooksSame c past (event ∷ past)
+  looks_same : (event : Event) → deed o past event ≡ still → LooksSame o past (event ∷ past)
   looks_same event none =
       let moves = ap (λ (d : Deed). d.harts.move) none in
       let begun = ap (λ (d : Deed). d.harts.start) none in
@@ -203,15 +203,16 @@ module _ (c : Config) (past : List Event) where
       let no_satp = ap (λ (d : Deed). d.memory.satp) none in
       let ticks = ap (λ (d : Deed). d.interrupts.ticks) none in
       let entry = ap (λ (d : Deed). d.counts.entry) none in
-      let turned : turn_of c past event.actor event.op event.reply ≡ Quiet = ap (λ (d : Deed). d.turn) none in
-      let reach : (h : ℕ) → reaches_by c past event.op event.reply h ≡ false = λ h. ap (λ (d : Deed). d.interrupts.reach h) none in
-      let started : length (starts c (event ∷ past)) ≡ length (starts c past) = rw begun refl in
-      let entered : length (entries c (event ∷ past)) ≡ length (entries c past) = rw entry refl in
-      let still_pending : (h : ℕ) → pending c (event ∷ past) h ≡ pending c past h = λ h. rw (moves, begun) refl in
-      let asked : total_asked (turns c (event ∷ past)) ≡ total_asked (turns c past) = rw turned (omega arith) in
-      let applied : total_applied c.harts (turns c (event ∷ past)) ≡ total_applied c.harts (turns c past) = rw turned (omega arith) in
-      let waits : (h : ℕ) → waiting c (event ∷ past) h ≡ waiting c past h = λ h. rw turned refl in
-      let later : time (event ∷ past) ≡ time past = rw ticks (omega arith) in
+      let turned : turn_of o past event.actor event.op event.reply ≡ Quiet = ap (λ (d : Deed). d.turn) none in
+      let reach : (h : ℕ) → reaches_by o past event.op event.reply h ≡ false = λ h. ap (λ (d : Deed). d.interrupts.reach h) none in
+      let started : length (starts o (event ∷ past)) ≡ length (starts o past) = rw begun refl in
+      let entered : length (entries o (event ∷ past)) ≡ length (entries o past) = rw entry refl in
+      let still_pending : (h : ℕ) → pending o (event ∷ past) h ≡ pending o past h = λ h. rw (moves, begun) refl in
+      let asked : total_asked o.fences (turns o (event ∷ past)) ≡ total_asked o.fences (turns o past) = rw turned (omega arith) in
+      let applied : total_applied o.fences o.config.harts (turns o (event ∷ past)) ≡ total_applied o.fences o.config.harts (turns o past) = rw turned (omega arith) in
+      let before : entered_before o (event ∷ past) ≡ entered_before o past = ap (λ reset. unless_reset reset (entered_before o past)) (ap (λ (d : Deed). d.reset) none) in
+      let waits : (h : ℕ) → waiting o (event ∷ past) h ≡ waiting o past h = λ h. rw turned refl in
+      let later : time o (event ∷ past) ≡ time o past = rw ticks (omega arith) in
       record {
         state = λ h. rw moves refl;
         kept = λ h. rw (moves, begun, resumes) refl;
@@ -222,22 +223,22 @@ module _ (c : Config) (past : List Event) where
         wake = λ h. rw (sie, reach h, ssip, deadline, later) refl;
         deadline = λ h. rw deadline refl;
         satp = λ h. rw no_satp refl;
-        word = λ at. ap (λ writing. written_by c writing (memory c past) at) (ap (λ (d : Deed). d.memory.writing) none);
-        tlb = λ h. ap (λ (caches : Caches). caches.tlb.live) (caches-same c past event still none h refl refl);
-        fetched = λ h. ap (λ (caches : Caches). caches.words.live) (caches-same c past event still none h refl refl);
+        word = λ at. ap (λ writing. written_by o.config writing (memory o past) at) (ap (λ (d : Deed). d.memory.writing) none);
+        tlb = λ h. ap (λ (caches : Caches). caches.tlb.live) (caches-same o past event still none h refl refl);
+        fetched = λ h. ap (λ (caches : Caches). caches.words.live) (caches-same o past event still none h refl refl);
         waiting = waits;
         outstanding = λ h. rw turned refl;
-        last_reset = ap (λ reset. newer_or reset (last_reset past)) (ap (λ (d : Deed). d.reset) none);
+        last_reset = ap (λ reset. newer_or reset (last_reset o past)) (ap (λ (d : Deed). d.reset) none);
         time = later;
         totals = λ i. record {
-          starts = started i;
-          entries = entered i;
-          pending = length (filter_map (λ h. still_pending h i) (harts_of c));
+          starts = started i + before i;
+          entries = entered i + before i;
+          pending = length (filter_map (λ h. still_pending h i) (harts_of o.config));
           asked = asked i;
           applied = applied i;
-          waiting = sum_by (λ h. length (waits h i)) (harts_of c);
+          waiting = sum_by (λ h. length (waits h i)) (harts_of o.config);
         };
       }
 
-pub errors_change_nothing : (c : Config) (event : Event) (past : List Event) → IsLegal c (event ∷ past) → is_error event.reply ≡ true → LooksSame c past (event ∷ past)
-errors_change_nothing c event past legal error = looks_same c past event (failed c past event.actor event.op event.reply event.translation legal.0 error)
+pub errors_change_nothing : (o : Opening) (event : Event) (past : List Event) → IsLegal o (event ∷ past) → is_error event.reply ≡ true → LooksSame o past (event ∷ past)
+errors_change_nothing o event past legal error = looks_same o past event (failed o past event.actor event.op event.reply event.translation legal.0 error)

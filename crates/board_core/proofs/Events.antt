@@ -17,7 +17,7 @@ use Rattle.rfence.specs.Applied.{effect}
 use Rattle.rfence.specs.Turns.{Turn, Quiet}
 use Rattle.tlb_model.specs.declared.fence.Flush.{Flush}
 use Rattle.tlb_model.specs.Acts.{Act, Nothing}
-use Rattle.board_core.specs.declared.config.Config.{Config}
+use Rattle.board_core.specs.Opening.{Opening}
 use Rattle.board_core.specs.declared.csrs.Sie.{Sie}
 use Rattle.board_core.specs.Course.{is_hart}
 use Rattle.board_core.specs.History.{Event, by_hart}
@@ -28,7 +28,7 @@ use Rattle.board_core.specs.Csrs.{none_enabled, sie_by, sstatus_sie_by}
 use Rattle.board_core.specs.Calls.Rfence.{Remote, remote_by_rfence}
 use Rattle.board_core.specs.Fences.{turn_by_call, turn_by_remote, turn_of, turns}
 use Rattle.board_core.specs.Interrupts.{deadline_by, deadline_by_call, reaches_by, reaches_by_call, ssip_by, ticks_by}
-use Rattle.board_core.specs.Memory.{Writing, act_by, entry_filling, memory, own_filling, satp, satp_by, tlb_acts, word_acts, word_filling, writing_by, zeroed_by}
+use Rattle.board_core.specs.Memory.{Writing, act_by, cached_in, entry_filling, hit_in, memory, own_filling, satp, satp_by, tlb_acts, word_acts, word_filling, writing_by, zeroed_by}
 use Rattle.board_core.specs.Starts.{Growth, More, entry_by, growth, start_by, start_by_call}
 use Rattle.board_core.specs.States.{Move, One, is_starting, move_by_call, move_of, state}
 use Rattle.board_core.specs.Resets.{reset_by, reset_by_call}
@@ -82,33 +82,33 @@ still = record {
   reset = None;
 }
 
-module _ (c : Config) (past : List Event) where
+module _ (o : Opening) (past : List Event) where
   -- what an event does
   abbrev pub deed : Event → Deed
   deed event = record {
     harts = record {
-      move = move_of c event.actor event.op event.reply;
-      start = start_by c event.op event.reply;
+      move = move_of o.config event.actor event.op event.reply;
+      start = start_by o.config event.op event.reply;
       resume = resume_by event.op event.reply;
     };
     interrupts = record {
       sstatus = sstatus_sie_by event.op event.reply;
-      sie = sie_by event.op event.reply (is_starting c past event.actor);
-      ssip = ssip_by event.op event.reply (is_starting c past event.actor);
-      deadline = deadline_by event.op event.reply (is_starting c past event.actor);
+      sie = sie_by event.op event.reply (is_starting o past event.actor);
+      ssip = ssip_by event.op event.reply (is_starting o past event.actor);
+      deadline = deadline_by event.op event.reply (is_starting o past event.actor);
       ticks = ticks_by event.op;
-      reach = reaches_by c past event.op event.reply;
+      reach = reaches_by o past event.op event.reply;
     };
     memory = record {
-      satp = satp_by c event.op event.reply;
+      satp = satp_by o.config event.op event.reply;
       writing = writing_by event.op event.reply event.translation;
-      tlb_act = λ h. act_by (effect (turns c past) (turn_of c past event.actor event.op event.reply) h) (own_filling (is_hart h event.actor) (entry_filling event.op event.translation (satp c past h) (tlb_acts c past h)));
-      word_act = λ h. act_by (effect (turns c past) (turn_of c past event.actor event.op event.reply) h) (own_filling (is_hart h event.actor) (word_filling event.op event.reply event.translation (memory c past) (word_acts c past h)));
+      tlb_act = λ h. act_by (effect o.fences (turns o past) (turn_of o past event.actor event.op event.reply) h) (own_filling (is_hart h event.actor) (entry_filling event.op event.translation (satp o past h) (hit_in o h (tlb_acts o past h))));
+      word_act = λ h. act_by (effect o.fences (turns o past) (turn_of o past event.actor event.op event.reply) h) (own_filling (is_hart h event.actor) (word_filling event.op event.reply event.translation (memory o past) (cached_in o h (word_acts o past h))));
     };
-    turn = turn_of c past event.actor event.op event.reply;
+    turn = turn_of o past event.actor event.op event.reply;
     counts = record {
-      start = start_by c event.op event.reply;
-      entry = entry_by event.op event.reply (is_starting c past event.actor);
+      start = start_by o.config event.op event.reply;
+      entry = entry_by event.op event.reply (is_starting o past event.actor);
     };
     reset = reset_by event.op event.reply;
   }
@@ -118,7 +118,7 @@ module _ (c : Config) (past : List Event) where
   -- what a turn does
   abbrev pub deed_of_turn : Turn Flush → Deed
   deed_of_turn turn = record still {
-    memory = record still.memory { tlb_act = λ h. act_by (effect (turns c past) turn h) None; word_act = λ h. act_by (effect (turns c past) turn h) None };
+    memory = record still.memory { tlb_act = λ h. act_by (effect o.fences (turns o past) turn h) None; word_act = λ h. act_by (effect o.fences (turns o past) turn h) None };
     turn = turn;
   }
 
@@ -128,8 +128,8 @@ module _ (c : Config) (past : List Event) where
     abbrev pub deed_of_call : Call → Reply → Deed
     deed_of_call call reply = record {
       harts = record {
-        move = move_by_call c x call reply;
-        start = start_by_call c call reply;
+        move = move_by_call o.config x call reply;
+        start = start_by_call o.config call reply;
         resume = resume_by_call call reply;
       };
       interrupts = record still.interrupts {
@@ -137,16 +137,16 @@ module _ (c : Config) (past : List Event) where
         sie = at_reset (reset_by_call call reply) none_enabled;
         ssip = at_reset (reset_by_call call reply) false;
         deadline = deadline_by_call call reply;
-        reach = reaches_by_call c past call reply;
+        reach = reaches_by_call o past call reply;
       };
       memory = record {
         satp = at_reset (reset_by_call call reply) 0;
         writing = zeroed_by (reset_by_call call reply);
-        tlb_act = λ h. act_by (effect (turns c past) (turn_by_call c past x call reply) h) None;
-        word_act = λ h. act_by (effect (turns c past) (turn_by_call c past x call reply) h) None;
+        tlb_act = λ h. act_by (effect o.fences (turns o past) (turn_by_call o past x call reply) h) None;
+        word_act = λ h. act_by (effect o.fences (turns o past) (turn_by_call o past x call reply) h) None;
       };
-      turn = turn_by_call c past x call reply;
-      counts = record { start = start_by_call c call reply; entry = growth None (reset_by_call call reply) (λ reset. []) };
+      turn = turn_by_call o past x call reply;
+      counts = record { start = start_by_call o.config call reply; entry = growth None (reset_by_call call reply) (λ reset. []) };
       reset = reset_by_call call reply;
     }
 
@@ -154,8 +154,8 @@ module _ (c : Config) (past : List Event) where
     does_call regs call reply is = ap (λ it. deed_of_call it reply) (sym is)
 
     -- a remote fence that waits is a turn, and one that fails is nothing
-    pub does_remote : (call : RfenceCall) (remote : Remote) → remote_by_rfence c call ≡ remote → deed_of_call (Rfence call) Waiting ≡ deed_of_turn (turn_by_remote c past x (Some remote) Waiting)
-    does_remote call remote is = ap (λ r. deed_of_turn (turn_by_remote c past x (Some r) Waiting)) is
+    pub does_remote : (call : RfenceCall) (remote : Remote) → remote_by_rfence o.config call ≡ remote → deed_of_call (Rfence call) Waiting ≡ deed_of_turn (turn_by_remote o past x (Some remote) Waiting)
+    does_remote call remote is = ap (λ r. deed_of_turn (turn_by_remote o past x (Some r) Waiting)) is
 
     pub does_no_remote : (call : RfenceCall) (answer : Sbiret) → deed_of_call (Rfence call) (Ret answer) ≡ still
     does_no_remote call answer = refl
@@ -180,8 +180,8 @@ module _ (c : Config) (past : List Event) where
       memory = record still.memory { satp = Some (Here 0) };
     }
 
-    pub does_entry : (addr opaque : ℕ) → is_start_pending (state c past x) ≡ true → deed (by_hart x Advance (Entry addr x opaque)) ≡ deed_of_entry addr opaque
+    pub does_entry : (addr opaque : ℕ) → is_start_pending (state o past x) ≡ true → deed (by_hart x Advance (Entry addr x opaque)) ≡ deed_of_entry addr opaque
     does_entry addr opaque starting = rw starting refl
 
-    pub does_resume : (addr opaque : ℕ) → is_start_pending (state c past x) ≡ false → deed (by_hart x Advance (Entry addr x opaque)) ≡ deed_of_resume
+    pub does_resume : (addr opaque : ℕ) → is_start_pending (state o past x) ≡ false → deed (by_hart x Advance (Entry addr x opaque)) ≡ deed_of_resume
     does_resume addr opaque other = rw other refl

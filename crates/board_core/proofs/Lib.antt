@@ -13,6 +13,14 @@ pub mod Resetting
 pub mod Targets
 pub mod Rows
 pub mod Steps
+pub mod Opened
+pub mod InCalls
+pub mod Interruptible
+pub mod Beginning
 pub mod StartsLaw
 pub mod WorkedRows
 mod ErrorLaw
+pub mod Counting
+pub mod Cutting
+pub mod Unseen
+pub mod Firsts

@@ -1,17 +1,18 @@
 -- How memory and caches stand for one event more.
-use Rattle.std.proofs.Common.{◌≡◌, ◌≢◌, ℕ, ◌+◌, Bool, true, false, List, ◌∷◌, suc, zero, length, map, replicate, refl, sym, ap, ◌∙◌}
+use Rattle.std.proofs.Common.{◌≡◌, ◌≢◌, ℕ, ◌+◌, Bool, true, false, List, [], ◌∷◌, suc, zero, length, map, replicate, refl, sym, ap, ◌∙◌}
 use Rattle.std.specs.Prelude.{Option, Some, None, option_map, unwrap_or, if◌then◌else◌, slice_set}
 use Rattle.std.specs.List.{range_with_len}
 use Rattle.std.proofs.lemmas.List.FromFn.{length-map-range_with_len, length-range_with_len}
 use Rattle.std.proofs.lemmas.Simd.{splat_is_map}
 use Rattle.rfence.specs.Applied as effects
+use Rattle.rfence.specs.Opening as fences
 use Rattle.rfence.specs.Applied.{Effect, Drops, Empties, effect}
 use Rattle.rfence.specs.Effects.{affected, caches_after, changed_from}
 use Rattle.rfence.specs.HartCaches.{dropped_of, emptied_of}
 use Rattle.rfence.specs.Right.{IsRightTurn}
 use Rattle.rfence.specs.State.{AreAffected, State}
 use Rattle.rfence.specs.Turns.{Turn, Own}
-use Rattle.board_core.specs.declared.config.Config.{Config}
+use Rattle.board_core.specs.Opening.{Opening, place_after, tlb_at, words_at}
 use Rattle.board_core.specs.declared.event.Actor.TheVariants as actors
 use Rattle.board_core.specs.History.{Event}
 use Rattle.sbi_abi.specs.declared.reset.Reset.{Reset}
@@ -28,7 +29,7 @@ use Rattle.tlb_model.specs.Entries.{covers_entry}
 use Rattle.tlb_model.specs.Words.{covers_word}
 use Rattle.tlb_model.proofs.Living.{keeps_what_lives}
 use Rattle.board_core.specs.Limits.{spaces_of}
-use Rattle.board_core.specs.Memory.{act_by, entry_filling, own_filling, memory, satp, satp_by, tlb_acts, word_acts, word_filling, writing_by, written_by, Zeroed, zeroed_by}
+use Rattle.board_core.specs.Memory.{act_by, cached_in, entry_filling, hit_in, own_filling, memory, satp, satp_by, tlb_acts, word_acts, word_filling, writing_by, written_by, Zeroed, zeroed_by}
 use Rattle.board_core.specs.Stands.{FencesStand, MemoryStand, caches_at, caches_of}
 use Rattle.board_core.specs.Resets.{is_cold}
 use Rattle.board_core.specs.Writes.{Everywhere, Here, latest}
@@ -42,57 +43,66 @@ filled-elsewhere None = refl
 filled-elsewhere (Some item) = refl
 
 -- what a turn does to the two caches of a hart
-acts-affect : (e : Effect Flush) (k : Caches)
-    → record { tlb = acted covers_entry k.tlb (act_by e None); words = acted covers_word k.words (act_by e None) } ≡ affected dropped_of emptied_of e k
-acts-affect effects.Nothing k = refl
-acts-affect (Drops flush) k = refl
-acts-affect Empties k = refl
+acts-affect : (date : ℕ) (e : Effect Flush) (k : Caches)
+    → record { tlb = acted covers_entry date k.tlb (act_by e None); words = acted covers_word date k.words (act_by e None) } ≡ affected dropped_of emptied_of e k
+acts-affect date effects.Nothing k = refl
+acts-affect date (Drops flush) k = refl
+acts-affect date Empties k = refl
 
 -- a fence of a hart by itself alone drops what it covers there, and nothing elsewhere
-pub own-drops : {E : Type 0} (all : List (Turn Flush)) (h : ℕ) (flush : Flush) → (let act : Act E = act_by (effect all (Own h flush) h) None in act) ≡ Drop flush
-own-drops all h flush = rw (eqb-same h) refl
+pub own-drops : {E : Type 0} (o : fences.Opening Flush) (all : List (Turn Flush)) (h : ℕ) (flush : Flush) → (let act : Act E = act_by (effect o all (Own h flush) h) None in act) ≡ Drop flush
+own-drops o all h flush = rw (eqb-same h) refl
 
-pub own-spares : {E : Type 0} (all : List (Turn Flush)) (h : ℕ) (flush : Flush) (j : ℕ) → h ≢ j → (let act : Act E = act_by (effect all (Own h flush) j) None in act) ≡ Nothing
-own-spares all h flush j other = rw (eqb-other h j other) refl
+pub own-spares : {E : Type 0} (o : fences.Opening Flush) (all : List (Turn Flush)) (h : ℕ) (flush : Flush) (j : ℕ) → h ≢ j → (let act : Act E = act_by (effect o all (Own h flush) j) None in act) ≡ Nothing
+own-spares o all h flush j other = rw (eqb-other h j other) refl
 
 -- caches that are changed by index
 tabulate-changed : {C : Type 0} (change : ℕ → C → C) (f : ℕ → C) (k n : ℕ) → changed_from change k (map f (range_with_len k n)) ≡ map (λ t. change t (f t)) (range_with_len k n)
 tabulate-changed change f k zero = refl
 tabulate-changed change f k (suc n) = ap (λ rest. change k (f k) ∷ rest) (tabulate-changed change f (k + 1) n)
 
+-- the acts are as many as the events
+pub length-tlb_acts : (o : Opening) (past : List Event) (h : ℕ) → length (tlb_acts o past h) ≡ length past
+length-tlb_acts o [] h = refl
+length-tlb_acts o (event ∷ past) h = ap suc (length-tlb_acts o past h)
+
+pub length-word_acts : (o : Opening) (past : List Event) (h : ℕ) → length (word_acts o past h) ≡ length past
+length-word_acts o [] h = refl
+length-word_acts o (event ∷ past) h = ap suc (length-word_acts o past h)
+
 -- ---- one event more
 
-module _ (c : Config) (past : List Event) (event : Event) (d : Deed) (does : deed c past event ≡ d) where
+module _ (o : Opening) (past : List Event) (event : Event) (d : Deed) (does : deed o past event ≡ d) where
   -- what the event does, part by part
-  writes_satp : satp_by c event.op event.reply ≡ d.memory.satp
+  writes_satp : satp_by o.config event.op event.reply ≡ d.memory.satp
   writes_satp = ap (λ (e : Deed). e.memory.satp) does
 
   writes : writing_by event.op event.reply event.translation ≡ d.memory.writing
   writes = ap (λ (e : Deed). e.memory.writing) does
 
-  acts_on_tlb : (h : ℕ) → act_by (effect (turns c past) (turn_of c past event.actor event.op event.reply) h) (own_filling (is_hart h event.actor) (entry_filling event.op event.translation (satp c past h) (tlb_acts c past h))) ≡ d.memory.tlb_act h
+  acts_on_tlb : (h : ℕ) → act_by (effect o.fences (turns o past) (turn_of o past event.actor event.op event.reply) h) (own_filling (is_hart h event.actor) (entry_filling event.op event.translation (satp o past h) (hit_in o h (tlb_acts o past h)))) ≡ d.memory.tlb_act h
   acts_on_tlb h = ap (λ (e : Deed). e.memory.tlb_act h) does
 
-  acts_on_words : (h : ℕ) → act_by (effect (turns c past) (turn_of c past event.actor event.op event.reply) h) (own_filling (is_hart h event.actor) (word_filling event.op event.reply event.translation (memory c past) (word_acts c past h))) ≡ d.memory.word_act h
+  acts_on_words : (h : ℕ) → act_by (effect o.fences (turns o past) (turn_of o past event.actor event.op event.reply) h) (own_filling (is_hart h event.actor) (word_filling event.op event.reply event.translation (memory o past) (cached_in o h (word_acts o past h)))) ≡ d.memory.word_act h
   acts_on_words h = ap (λ (e : Deed). e.memory.word_act h) does
 
   -- satp is written by its hart
-  pub satps-written : (satps : List ℕ) (h value : ℕ) → event.actor ≡ actors.Hart h → d.memory.satp ≡ Some (Here value) → satps ≡ map (satp c past) (harts_of c)
-      → slice_set satps h value ≡ map (satp c (event ∷ past)) (harts_of c)
+  pub satps-written : (satps : List ℕ) (h value : ℕ) → event.actor ≡ actors.Hart h → d.memory.satp ≡ Some (Here value) → satps ≡ map (satp o past) (harts_of o.config)
+      → slice_set satps h value ≡ map (satp o (event ∷ past)) (harts_of o.config)
   satps-written satps h value own written stand =
       ap (λ (xs : List ℕ). slice_set xs h value) stand
-      ∙ ap (slice_set (map (satp c past) (harts_of c)) h) (sym (rw (writes_satp, written, own, eqb-same h) refl))
-      ∙ tabulate-set (satp c past) (satp c (event ∷ past)) c.harts h
+      ∙ ap (slice_set (map (satp o past) (harts_of o.config)) h) (sym (rw (writes_satp, written, own, eqb-same h) refl))
+      ∙ tabulate-set (satp o past) (satp o (event ∷ past)) o.config.harts h
       (λ j other. rw (writes_satp, written, own, eqb-other j h (λ e. other (sym e))) refl)
 
   -- by a write, which may have no effect
-  pub satps-put : (satps : List ℕ) (h value : ℕ) → event.actor ≡ actors.Hart h → d.memory.satp ≡ option_map Here (satp_of_write (spaces_of c) value) → satps ≡ map (satp c past) (harts_of c)
-      → slice_set satps h (satp_written (spaces_of c) (satp c past h) value) ≡ map (satp c (event ∷ past)) (harts_of c)
+  pub satps-put : (satps : List ℕ) (h value : ℕ) → event.actor ≡ actors.Hart h → d.memory.satp ≡ option_map Here (satp_of_write (spaces_of o.config) value) → satps ≡ map (satp o past) (harts_of o.config)
+      → slice_set satps h (satp_written (spaces_of o.config) (satp o past h) value) ≡ map (satp o (event ∷ past)) (harts_of o.config)
   satps-put satps h value own written stand =
-      ap (λ (xs : List ℕ). slice_set xs h (satp_written (spaces_of c) (satp c past h) value)) stand
-      ∙ ap (slice_set (map (satp c past) (harts_of c)) h) (sym (rw (writes_satp, written, own, eqb-same h) (put (satp_of_write (spaces_of c) value) (satp c past h))))
-      ∙ tabulate-set (satp c past) (satp c (event ∷ past)) c.harts h
-      (λ j other. rw (writes_satp, written, own, eqb-other j h (λ e. other (sym e))) (spared (satp_of_write (spaces_of c) value) (satp c past j)))
+      ap (λ (xs : List ℕ). slice_set xs h (satp_written (spaces_of o.config) (satp o past h) value)) stand
+      ∙ ap (slice_set (map (satp o past) (harts_of o.config)) h) (sym (rw (writes_satp, written, own, eqb-same h) (put (satp_of_write (spaces_of o.config) value) (satp o past h))))
+      ∙ tabulate-set (satp o past) (satp o (event ∷ past)) o.config.harts h
+      (λ j other. rw (writes_satp, written, own, eqb-other j h (λ e. other (sym e))) (spared (satp_of_write (spaces_of o.config) value) (satp o past j)))
     where
       put : (written : Option ℕ) (before : ℕ) → latest (option_map Here written) true before ≡ unwrap_or written before
       put (Some value) before = refl
@@ -102,64 +112,66 @@ module _ (c : Config) (past : List Event) (event : Event) (d : Deed) (does : dee
       spared (Some value) before = refl
       spared None before = refl
 
-  pub satps-quiet : (satps : List ℕ) → d.memory.satp ≡ None → satps ≡ map (satp c past) (harts_of c) → satps ≡ map (satp c (event ∷ past)) (harts_of c)
-  satps-quiet satps none stand = stand ∙ tabulate-same (satp c past) (satp c (event ∷ past)) (λ j. rw (writes_satp, none) refl) (harts_of c)
+  pub satps-quiet : (satps : List ℕ) → d.memory.satp ≡ None → satps ≡ map (satp o past) (harts_of o.config) → satps ≡ map (satp o (event ∷ past)) (harts_of o.config)
+  satps-quiet satps none stand = stand ∙ tabulate-same (satp o past) (satp o (event ∷ past)) (λ j. rw (writes_satp, none) refl) (harts_of o.config)
 
-  pub ram-still : (ram : List ℕ) → d.memory.writing ≡ None → word_in ram ≡ memory c past → word_in ram ≡ memory c (event ∷ past)
-  ram-still ram none stand = stand ∙ sym (ap (λ writing. written_by c writing (memory c past)) (writes ∙ none))
+  pub ram-still : (ram : List ℕ) → d.memory.writing ≡ None → word_in ram ≡ memory o past → word_in ram ≡ memory o (event ∷ past)
+  ram-still ram none stand = stand ∙ sym (ap (λ writing. written_by o.config writing (memory o past)) (writes ∙ none))
 
   -- the caches of a hart after the event
-  caches-more : (h : ℕ) → caches_of c (event ∷ past) h
-      ≡ record { tlb = acted covers_entry (caches_of c past h).tlb (d.memory.tlb_act h); words = acted covers_word (caches_of c past h).words (d.memory.word_act h) }
+  caches-more : (h : ℕ) → caches_of o (event ∷ past) h
+      ≡ record { tlb = acted covers_entry (place_after o past) (caches_of o past h).tlb (d.memory.tlb_act h); words = acted covers_word (place_after o past) (caches_of o past h).words (d.memory.word_act h) }
   caches-more h =
-      let tlb = keeps_what_lives covers_entry _ (tlb_acts c past h) ∙ ap (acted covers_entry (caches_of c past h).tlb) (acts_on_tlb h) in
-      let words = keeps_what_lives covers_word _ (word_acts c past h) ∙ ap (acted covers_word (caches_of c past h).words) (acts_on_words h) in
+      let tlb = keeps_what_lives o.places (tlb_at o h) covers_entry _ (tlb_acts o past h)
+      ∙ (λ i. acted covers_entry (o.places + length-tlb_acts o past h i) (caches_of o past h).tlb (acts_on_tlb h i)) in
+      let words = keeps_what_lives o.places (words_at o h) covers_word _ (word_acts o past h)
+      ∙ (λ i. acted covers_word (o.places + length-word_acts o past h i) (caches_of o past h).words (acts_on_words h i)) in
       λ i. record { tlb = tlb i; words = words i }
 
-  pub caches-same : (h : ℕ) → d.memory.tlb_act h ≡ Nothing → d.memory.word_act h ≡ Nothing → caches_of c (event ∷ past) h ≡ caches_of c past h
+  pub caches-same : (h : ℕ) → d.memory.tlb_act h ≡ Nothing → d.memory.word_act h ≡ Nothing → caches_of o (event ∷ past) h ≡ caches_of o past h
   caches-same h no_tlb no_words =
-      caches-more h ∙ (λ i. record { tlb = acted covers_entry (caches_of c past h).tlb (no_tlb i); words = acted covers_word (caches_of c past h).words (no_words i) })
+      caches-more h ∙ (λ i. record { tlb = acted covers_entry (place_after o past) (caches_of o past h).tlb (no_tlb i); words = acted covers_word (place_after o past) (caches_of o past h).words (no_words i) })
 
   pub caches-still : (caches : List Caches) → ((h : ℕ) → d.memory.tlb_act h ≡ Nothing) → ((h : ℕ) → d.memory.word_act h ≡ Nothing)
-      → caches ≡ map (caches_of c past) (harts_of c) → caches ≡ map (caches_of c (event ∷ past)) (harts_of c)
+      → caches ≡ map (caches_of o past) (harts_of o.config) → caches ≡ map (caches_of o (event ∷ past)) (harts_of o.config)
   caches-still caches no_tlb no_words stand =
-      stand ∙ tabulate-same (caches_of c past) (caches_of c (event ∷ past)) (λ j. caches-same j (no_tlb j) (no_words j)) (harts_of c)
+      stand ∙ tabulate-same (caches_of o past) (caches_of o (event ∷ past)) (λ j. caches-same j (no_tlb j) (no_words j)) (harts_of o.config)
 
   -- those of one hart change, and no others
   pub caches-acted : (caches : List Caches) (h : ℕ) (changed : Caches) → ((j : ℕ) → h ≢ j → (d.memory.tlb_act j ≡ Nothing) × (d.memory.word_act j ≡ Nothing))
-      → changed ≡ record { tlb = acted covers_entry (caches_of c past h).tlb (d.memory.tlb_act h); words = acted covers_word (caches_of c past h).words (d.memory.word_act h) }
-      → caches ≡ map (caches_of c past) (harts_of c) → slice_set caches h changed ≡ map (caches_of c (event ∷ past)) (harts_of c)
+      → changed ≡ record { tlb = acted covers_entry (place_after o past) (caches_of o past h).tlb (d.memory.tlb_act h); words = acted covers_word (place_after o past) (caches_of o past h).words (d.memory.word_act h) }
+      → caches ≡ map (caches_of o past) (harts_of o.config) → slice_set caches h changed ≡ map (caches_of o (event ∷ past)) (harts_of o.config)
   caches-acted caches h changed others is stand =
       ap (slice_set caches h) (is ∙ sym (caches-more h))
-      ∙ ap (λ (xs : List Caches). slice_set xs h (caches_of c (event ∷ past) h)) stand
-      ∙ tabulate-set (caches_of c past) (caches_of c (event ∷ past)) c.harts h
+      ∙ ap (λ (xs : List Caches). slice_set xs h (caches_of o (event ∷ past) h)) stand
+      ∙ tabulate-set (caches_of o past) (caches_of o (event ∷ past)) o.config.harts h
       (λ j other. caches-same j (others j other).0 (others j other).1)
 
   -- a fence of a hart by itself alone drops what it covers there
-  pub caches-fenced : (m : Memory) (h : ℕ) (flush : Flush) → ((j : ℕ) → h ≢ j → (d.memory.tlb_act j ≡ Nothing) × (d.memory.word_act j ≡ Nothing)) → caches_at m h ≡ caches_of c past h
-      → d.memory.tlb_act h ≡ Drop flush → d.memory.word_act h ≡ Drop flush → m.caches.items ≡ map (caches_of c past) (harts_of c)
-      → slice_set m.caches.items h (record { tlb = fenced covers_entry (caches_at m h).tlb flush; words = fenced covers_word (caches_at m h).words flush }) ≡ map (caches_of c (event ∷ past)) (harts_of c)
+  pub caches-fenced : (m : Memory) (h : ℕ) (flush : Flush) → ((j : ℕ) → h ≢ j → (d.memory.tlb_act j ≡ Nothing) × (d.memory.word_act j ≡ Nothing)) → caches_at m h ≡ caches_of o past h
+      → d.memory.tlb_act h ≡ Drop flush → d.memory.word_act h ≡ Drop flush → m.caches.items ≡ map (caches_of o past) (harts_of o.config)
+      → slice_set m.caches.items h (record { tlb = fenced covers_entry (caches_at m h).tlb flush; words = fenced covers_word (caches_at m h).words flush }) ≡ map (caches_of o (event ∷ past)) (harts_of o.config)
   caches-fenced m h flush others was tlb words stand =
       caches-acted m.caches.items h _ others
       ((λ i. record { tlb = fenced covers_entry (was i).tlb flush; words = fenced covers_word (was i).words flush })
-      ∙ sym (λ i. record { tlb = acted covers_entry (caches_of c past h).tlb (tlb i); words = acted covers_word (caches_of c past h).words (words i) }))
+      ∙ sym (λ i. record { tlb = acted covers_entry (place_after o past) (caches_of o past h).tlb (tlb i); words = acted covers_word (place_after o past) (caches_of o past h).words (words i) }))
       stand
 
   -- and what a turn makes of all of them
-  pub caches-turned : (f : State Flush) (turn : Turn Flush) (caches changed : List Caches) → ((h : ℕ) → d.memory.tlb_act h ≡ act_by (effect (turns c past) turn h) None)
-      → ((h : ℕ) → d.memory.word_act h ≡ act_by (effect (turns c past) turn h) None) → IsRightTurn c.harts (turns c past) turn → FencesStand c past f
-      → AreAffected dropped_of emptied_of f turn caches changed → caches ≡ map (caches_of c past) (harts_of c) → changed ≡ map (caches_of c (event ∷ past)) (harts_of c)
+  pub caches-turned : (f : State Flush) (turn : Turn Flush) (caches changed : List Caches) → ((h : ℕ) → d.memory.tlb_act h ≡ act_by (effect o.fences (turns o past) turn h) None)
+      → ((h : ℕ) → d.memory.word_act h ≡ act_by (effect o.fences (turns o past) turn h) None) → IsRightTurn o.fences o.config.harts (turns o past) turn → FencesStand o past f
+      → AreAffected dropped_of emptied_of f turn caches changed → caches ≡ map (caches_of o past) (harts_of o.config) → changed ≡ map (caches_of o (event ∷ past)) (harts_of o.config)
   caches-turned f turn caches changed tlb words right stand are stand_for =
-      are c.harts (turns c past) stand.stands (right, stand.right)
-      ∙ ap (caches_after dropped_of emptied_of (turns c past) turn) stand_for
-      ∙ tabulate-changed (λ t k. affected dropped_of emptied_of (effect (turns c past) turn t) k) (caches_of c past) 0 c.harts
-      ∙ tabulate-same (λ t. affected dropped_of emptied_of (effect (turns c past) turn t) (caches_of c past t)) (caches_of c (event ∷ past))
-      (λ t. caches-more t ∙ (λ i. record { tlb = acted covers_entry (caches_of c past t).tlb (tlb t i); words = acted covers_word (caches_of c past t).words (words t i) }) ∙ acts-affect (effect (turns c past) turn t) (caches_of c past t))
-      (harts_of c)
+      are o.fences o.config.harts (turns o past) stand.stands (right, stand.right)
+      ∙ ap (caches_after dropped_of emptied_of o.fences (turns o past) turn) stand_for
+      ∙ tabulate-changed (λ t k. affected dropped_of emptied_of (effect o.fences (turns o past) turn t) k) (caches_of o past) 0 o.config.harts
+      ∙ tabulate-same (λ t. affected dropped_of emptied_of (effect o.fences (turns o past) turn t) (caches_of o past t)) (caches_of o (event ∷ past))
+      (λ t. caches-more t ∙ (λ i. record { tlb = acted covers_entry (place_after o past) (caches_of o past t).tlb (tlb t i); words = acted covers_word (place_after o past) (caches_of o past t).words (words t i) }) ∙ acts-affect (place_after o past) (effect o.fences (turns o past) turn t) (caches_of o past t))
+      (harts_of o.config)
 
   -- what changes satp alone, or caches alone
-  pub memory-satps : (m m' : Memory) → d.memory ≡ record still.memory { satp = d.memory.satp } → MemoryStand c past m
-      → m'.ram ≡ m.ram → m'.caches.items ≡ m.caches.items → m'.satps.items ≡ map (satp c (event ∷ past)) (harts_of c) → MemoryStand c (event ∷ past) m'
+  pub memory-satps : (m m' : Memory) → d.memory ≡ record still.memory { satp = d.memory.satp } → MemoryStand o past m
+      → m'.ram ≡ m.ram → m'.caches.items ≡ m.caches.items → m'.satps.items ≡ map (satp o (event ∷ past)) (harts_of o.config) → MemoryStand o (event ∷ past) m'
   memory-satps m m' alone stand ram caches satps = record {
     pages = ap pages_of ram ∙ stand.pages;
     ram = ap word_in ram ∙ ram-still m.ram (ap (λ (e : MemoryDeed). e.writing) alone) stand.ram;
@@ -167,8 +179,8 @@ module _ (c : Config) (past : List Event) (event : Event) (d : Deed) (does : dee
     caches = caches ∙ caches-still m.caches.items (λ h. ap (λ (e : MemoryDeed). e.tlb_act h) alone) (λ h. ap (λ (e : MemoryDeed). e.word_act h) alone) stand.caches;
   }
 
-  pub memory-caches : (m m' : Memory) → d.memory.writing ≡ None → d.memory.satp ≡ None → MemoryStand c past m
-      → m'.ram ≡ m.ram → m'.satps.items ≡ m.satps.items → m'.caches.items ≡ map (caches_of c (event ∷ past)) (harts_of c) → MemoryStand c (event ∷ past) m'
+  pub memory-caches : (m m' : Memory) → d.memory.writing ≡ None → d.memory.satp ≡ None → MemoryStand o past m
+      → m'.ram ≡ m.ram → m'.satps.items ≡ m.satps.items → m'.caches.items ≡ map (caches_of o (event ∷ past)) (harts_of o.config) → MemoryStand o (event ∷ past) m'
   memory-caches m m' no_storing no_satp stand ram satps caches = record {
     pages = ap pages_of ram ∙ stand.pages;
     ram = ap word_in ram ∙ ram-still m.ram no_storing stand.ram;
@@ -176,7 +188,7 @@ module _ (c : Config) (past : List Event) (event : Event) (d : Deed) (does : dee
     caches = caches;
   }
 
-  pub memory-still : (m : Memory) → d.memory ≡ still.memory → MemoryStand c past m → MemoryStand c (event ∷ past) m
+  pub memory-still : (m : Memory) → d.memory ≡ still.memory → MemoryStand o past m → MemoryStand o (event ∷ past) m
   memory-still m none stand = record {
     pages = stand.pages;
     ram = ram-still m.ram (ap (λ (e : MemoryDeed). e.writing) none) stand.ram;
@@ -185,23 +197,23 @@ module _ (c : Config) (past : List Event) (event : Event) (d : Deed) (does : dee
   }
 
   -- no hart has a satp, the RAM is cleared or stays, and the caches are as the turn leaves them
-  pub memory-reset : (m m' : Memory) (reset : Reset) → d.memory.satp ≡ Some (Everywhere 0) → d.memory.writing ≡ zeroed_by (Some reset) → MemoryStand c past m
+  pub memory-reset : (m m' : Memory) (reset : Reset) → d.memory.satp ≡ Some (Everywhere 0) → d.memory.writing ≡ zeroed_by (Some reset) → MemoryStand o past m
       → m'.satps.items ≡ replicate (length m.satps.items) 0 → word_in m'.ram ≡ (if is_cold reset.kind then zero_memory (pages_of m.ram) else word_in m.ram)
-      → pages_of m'.ram ≡ pages_of m.ram → m'.caches.items ≡ map (caches_of c (event ∷ past)) (harts_of c) → MemoryStand c (event ∷ past) m'
+      → pages_of m'.ram ≡ pages_of m.ram → m'.caches.items ≡ map (caches_of o (event ∷ past)) (harts_of o.config) → MemoryStand o (event ∷ past) m'
   memory-reset m m' reset is writing stand satps ram pages caches =
-      let long = length-map-range_with_len (satp c past) 0 c.harts in
+      let long = length-map-range_with_len (satp o past) 0 o.config.harts in
       record {
         pages = pages ∙ stand.pages;
         ram =
             ram ∙ (λ i. if is_cold reset.kind then zero_memory (stand.pages i) else stand.ram i) ∙ zeroed (is_cold reset.kind)
-            ∙ sym (ap (λ w. written_by c w (memory c past)) (writes ∙ writing));
+            ∙ sym (ap (λ w. written_by o.config w (memory o past)) (writes ∙ writing));
         satps =
             satps ∙ ap (λ n. replicate n 0) (ap length stand.satps ∙ long)
-            ∙ splat_is_map (harts_of c) c.harts 0 (length-range_with_len 0 c.harts)
-            ∙ tabulate-same (λ j. 0) (satp c (event ∷ past)) (λ j. rw (writes_satp, is) refl) (harts_of c);
+            ∙ splat_is_map (harts_of o.config) o.config.harts 0 (length-range_with_len 0 o.config.harts)
+            ∙ tabulate-same (λ j. 0) (satp o (event ∷ past)) (λ j. rw (writes_satp, is) refl) (harts_of o.config);
         caches = caches;
       }
     where
-      zeroed : (cold : Bool) → (if cold then zero_memory c.pages else memory c past) ≡ written_by c (if cold then Some Zeroed else None) (memory c past)
+      zeroed : (cold : Bool) → (if cold then zero_memory o.config.pages else memory o past) ≡ written_by o.config (if cold then Some Zeroed else None) (memory o past)
       zeroed true = refl
       zeroed false = refl

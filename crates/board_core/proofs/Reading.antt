@@ -1,11 +1,14 @@
 -- What a machine that stands for a past says of it, and how much of it there is.
-use Rattle.std.proofs.Common.{◌≡◌, ℕ, ◌<◌, ◌≤◌, Bool, true, false, List, [], ◌∷◌, suc, length, set, refl, ap, ◌∙◌, arith}
+use Rattle.std.proofs.Common.{◌≡◌, ℕ, ◌+◌, ◌^◌, ◌<◌, ◌≤◌, Bool, true, false, List, [], ◌∷◌, suc, length, set, refl, ap, ◌∙◌, arith}
 use Rattle.std.specs.Prelude.{Option, Some, None, if◌then◌else◌, slice_index_or}
-use Rattle.std.proofs.lemmas.List.FromFn.{get_or-map-range_with_len, length-map-range_with_len}
+use Rattle.std.specs.List.{cons_option, filter_map}
+use Rattle.std.proofs.lemmas.List.FromFn.{get_or-map-range_with_len, length-map-range_with_len, length-range_with_len}
 use Rattle.hart_mask.specs.Ids.{has, ids_where}
 use Rattle.hart_mask.proofs.Sets.{has-ids_where}
 use Rattle.interrupts.specs.Timing.{Timing, deadline_of, is_timer_pending}
-use Rattle.board_core.specs.declared.config.Config.{Config}
+use Rattle.tlb_model.specs.Contents.{Contents}
+use Rattle.board_core.specs.Opening.{IsOpening, Opening, place_after, tlb_at, words_at}
+use Rattle.board_core.proofs.MemoryStanding.{length-tlb_acts, length-word_acts}
 use Rattle.board_core.specs.declared.csrs.Csrs.{Csrs}
 use Rattle.board_core.specs.History.{Event}
 use Rattle.sbi_abi.specs.declared.call.Call.{Call}
@@ -15,116 +18,110 @@ use Rattle.board_core.specs.declared.event.Op.{Op}
 use Rattle.board_core.specs.declared.event.Op.TheVariants.{Ecall, Load, Store, Fetch, WriteSatp, WriteSie, WriteSstatusSie, ReadSip, ClearSsip, Wfi, Sfence, FenceI, Poll, Serve, Advance, Tick}
 use Rattle.board_core.specs.declared.interrupt_state.Interrupts.{Interrupts}
 use Rattle.board_core.specs.declared.memory.Memory.{Memory}
+use Rattle.hsm.specs.Transitions.{hart_at}
+use Rattle.board_core.specs.Course.{harts_of}
+use Rattle.board_core.specs.declared.config.Config.{Config}
 use Rattle.board_core.specs.Csrs.{enables, interrupt_bits, sie}
 use Rattle.board_core.specs.Interrupts.{deadline, ssip, stip, wake}
 use Rattle.tlb_model.specs.declared.caches.Caches.{Caches}
-use Rattle.tlb_model.specs.Acts.{Act, Fill, Drop, Clear, Nothing, fillings}
-use Rattle.tlb_model.specs.Entries.{covers_entry, matches}
-use Rattle.tlb_model.specs.Words.{covers_word, is_at}
-use Rattle.tlb_model.proofs.Living.{hit_is_last}
+use Rattle.tlb_model.specs.Acts.{Act, Fill, Drop, Clear, Nothing, next_number}
 use Rattle.board_core.specs.Accesses.{cached, hit}
 use Rattle.board_core.specs.Memory.{satp, tlb_acts, word_acts}
-use Rattle.board_core.specs.Starts.{Start, boot_start, entered_by, entries, grown, growth, start_by, start_by_call, started_by_call, starts, starts_at}
+use Rattle.board_core.specs.Starts.{Start, boot_start, entered_before, entered_by, entries, grown, growth, start_by, start_by_call, start_in, started_by_call, starts, starts_at, unless_reset}
 use Rattle.board_core.specs.Stands.{CanFill, CsrsStand, InterruptsStand, MemoryStand, TimersStand, caches_at, caches_of, no_caches, tlb_hit, word_hit}
 use Rattle.board_core.specs.States.{is_starting}
 use Rattle.board_core.specs.Resets.{begins_anew, reset_by, reset_by_call}
 
 -- ---- what the parts tell
 
-module _ (c : Config) (past : List Event) where
+module _ (o : Opening) (past : List Event) where
   pub bit-read : (p : ℕ → Bool) (set : List ℕ) (h : ℕ) → h < 128 → set ≡ ids_where p → has set h ≡ p h
   bit-read p set h below stand = ap (λ ids. has ids h) stand ∙ has-ids_where p h below
 
-  pub length-deadlines : (timers : Timing) → TimersStand c past timers → length timers.deadlines ≡ c.harts
-  length-deadlines timers stand = ap length stand.deadlines ∙ length-map-range_with_len (deadline c past) 0 c.harts
+  pub length-deadlines : (timers : Timing) → TimersStand o past timers → length timers.deadlines ≡ o.config.harts
+  length-deadlines timers stand = ap length stand.deadlines ∙ length-map-range_with_len (deadline o past) 0 o.config.harts
 
-  pub length-caches : (m : Memory) → MemoryStand c past m → length m.caches.items ≡ c.harts
-  length-caches m stand = ap length stand.caches ∙ length-map-range_with_len (caches_of c past) 0 c.harts
+  pub length-caches : (m : Memory) → MemoryStand o past m → length m.caches.items ≡ o.config.harts
+  length-caches m stand = ap length stand.caches ∙ length-map-range_with_len (caches_of o past) 0 o.config.harts
 
-  pub caches-read : (m : Memory) (h : ℕ) → h < c.harts → MemoryStand c past m → caches_at m h ≡ caches_of c past h
+  pub caches-read : (m : Memory) (h : ℕ) → h < o.config.harts → MemoryStand o past m → caches_at m h ≡ caches_of o past h
   caches-read m h inside stand =
       ap (λ (xs : List Caches). slice_index_or xs h no_caches) stand.caches
-      ∙ get_or-map-range_with_len (caches_of c past) 0 c.harts h h no_caches inside (omega arith)
+      ∙ get_or-map-range_with_len (caches_of o past) 0 o.config.harts h h no_caches inside (omega arith)
 
   -- what is hit in them
-  pub tlb_hit-read : (m : Memory) (h : ℕ) → h < c.harts → MemoryStand c past m → tlb_hit (caches_at m h) ≡ hit c past h
-  tlb_hit-read m h inside stand = ap tlb_hit (caches-read m h inside stand) ∙ (λ i at. hit_is_last covers_entry matches at (tlb_acts c past h) i)
+  pub tlb_hit-read : (m : Memory) (h : ℕ) → h < o.config.harts → MemoryStand o past m → tlb_hit (caches_at m h) ≡ hit o past h
+  tlb_hit-read m h inside stand = ap tlb_hit (caches-read m h inside stand)
 
-  pub word_hit-read : (m : Memory) (h : ℕ) → h < c.harts → MemoryStand c past m → word_hit (caches_at m h) ≡ cached c past h
-  word_hit-read m h inside stand = ap word_hit (caches-read m h inside stand) ∙ (λ i pa. hit_is_last covers_word is_at pa (word_acts c past h) i)
+  pub word_hit-read : (m : Memory) (h : ℕ) → h < o.config.harts → MemoryStand o past m → word_hit (caches_at m h) ≡ cached o past h
+  word_hit-read m h inside stand = ap word_hit (caches-read m h inside stand)
 
-  pub length-satps : (m : Memory) → MemoryStand c past m → length m.satps.items ≡ c.harts
-  length-satps m stand = ap length stand.satps ∙ length-map-range_with_len (satp c past) 0 c.harts
+  pub length-satps : (m : Memory) → MemoryStand o past m → length m.satps.items ≡ o.config.harts
+  length-satps m stand = ap length stand.satps ∙ length-map-range_with_len (satp o past) 0 o.config.harts
 
-  pub satp-read : (m : Memory) (h d : ℕ) → h < c.harts → MemoryStand c past m → slice_index_or m.satps.items h d ≡ satp c past h
+  pub satp-read : (m : Memory) (h d : ℕ) → h < o.config.harts → MemoryStand o past m → slice_index_or m.satps.items h d ≡ satp o past h
   satp-read m h d inside stand =
       ap (λ (xs : List ℕ). slice_index_or xs h d) stand.satps
-      ∙ get_or-map-range_with_len (satp c past) 0 c.harts h h d inside (omega arith)
+      ∙ get_or-map-range_with_len (satp o past) 0 o.config.harts h h d inside (omega arith)
 
-  pub deadline-read : (timers : Timing) (h : ℕ) → h < c.harts → TimersStand c past timers → deadline_of timers h ≡ deadline c past h
+  pub deadline-read : (timers : Timing) (h : ℕ) → h < o.config.harts → TimersStand o past timers → deadline_of timers h ≡ deadline o past h
   deadline-read timers h inside stand =
       ap (λ (ds : List (Option ℕ)). slice_index_or ds h None) stand.deadlines
-      ∙ get_or-map-range_with_len (deadline c past) 0 c.harts h h None inside (omega arith)
+      ∙ get_or-map-range_with_len (deadline o past) 0 o.config.harts h h None inside (omega arith)
 
-  pub stip-read : (timers : Timing) (h : ℕ) → h < c.harts → TimersStand c past timers → is_timer_pending timers h ≡ stip c past h
+  pub stip-read : (timers : Timing) (h : ℕ) → h < o.config.harts → TimersStand o past timers → is_timer_pending timers h ≡ stip o past h
   stip-read timers h inside stand = rw (stand.time, deadline-read timers h inside stand) refl
 
-  pub sie-read : (csrs : Csrs) (h : ℕ) → h < 128 → CsrsStand c past csrs
-      → record { ssie = has csrs.ssie h; stie = has csrs.stie h } ≡ sie c past h
+  pub sie-read : (csrs : Csrs) (h : ℕ) → h < 128 → CsrsStand o past csrs
+      → record { ssie = has csrs.ssie h; stie = has csrs.stie h } ≡ sie o past h
   sie-read csrs h below stand =
-      let software = bit-read (λ i. (sie c past i).ssie) csrs.ssie h below stand.ssie in
-      let timer = bit-read (λ i. (sie c past i).stie) csrs.stie h below stand.stie in
+      let software = bit-read (λ i. (sie o past i).ssie) csrs.ssie h below stand.ssie in
+      let timer = bit-read (λ i. (sie o past i).stie) csrs.stie h below stand.stie in
       λ i. record { ssie = software i; stie = timer i }
 
-  pub wake-read : (i : Interrupts) (h : ℕ) → h < 128 → h < c.harts → InterruptsStand c past i
-      → enables (record { ssie = has i.csrs.ssie h; stie = has i.csrs.stie h }) (has i.ipis h) (is_timer_pending i.timers h) ≡ wake c past h
+  pub wake-read : (i : Interrupts) (h : ℕ) → h < 128 → h < o.config.harts → InterruptsStand o past i
+      → enables (record { ssie = has i.csrs.ssie h; stie = has i.csrs.stie h }) (has i.ipis h) (is_timer_pending i.timers h) ≡ wake o past h
   wake-read i h below inside stands =
       let enabled = sie-read i.csrs h below stands.csrs in
-      let software = bit-read (ssip c past) i.ipis h below stands.ipis.ssip in
+      let software = bit-read (ssip o past) i.ipis h below stands.ipis.ssip in
       let timer = stip-read i.timers h inside stands.timers in
       λ j. enables (enabled j) (software j) (timer j)
 
-  pub sip-read : (i : Interrupts) (h : ℕ) → h < 128 → h < c.harts → InterruptsStand c past i
-      → interrupt_bits (has i.ipis h) (is_timer_pending i.timers h) ≡ interrupt_bits (ssip c past h) (stip c past h)
+  pub sip-read : (i : Interrupts) (h : ℕ) → h < 128 → h < o.config.harts → InterruptsStand o past i
+      → interrupt_bits (has i.ipis h) (is_timer_pending i.timers h) ≡ interrupt_bits (ssip o past h) (stip o past h)
   sip-read i h below inside stands =
-      let software = bit-read (ssip c past) i.ipis h below stands.ipis.ssip in
+      let software = bit-read (ssip o past) i.ipis h below stands.ipis.ssip in
       let timer = stip-read i.timers h inside stands.timers in
       λ j. interrupt_bits (software j) (timer j)
 
 -- ---- counts
 
 -- fills are at most as many as the events
-length-fillings-le : {E : Type 0} (acts : List (Act E)) → length (fillings acts) ≤ length acts
-length-fillings-le [] = omega arith
-length-fillings-le (Fill item ∷ acts) = let before = length-fillings-le acts in omega arith
-length-fillings-le (Drop flush ∷ acts) = let before = length-fillings-le acts in omega arith
-length-fillings-le (Clear ∷ acts) = let before = length-fillings-le acts in omega arith
-length-fillings-le (Nothing ∷ acts) = let before = length-fillings-le acts in omega arith
+pub next-le : {E : Type 0} (first : ℕ) (opening : Contents E) (acts : List (Act E)) → next_number first opening acts ≤ opening.next + length acts
+next-le first opening [] = omega arith
+next-le first opening (Fill item ∷ acts) = let before = next-le first opening acts in omega arith
+next-le first opening (Drop flush ∷ acts) = let before = next-le first opening acts in omega arith
+next-le first opening (Clear ∷ acts) = let before = next-le first opening acts in omega arith
+next-le first opening (Nothing ∷ acts) = let before = next-le first opening acts in omega arith
 
-length-tlb_acts : (c : Config) (past : List Event) (h : ℕ) → length (tlb_acts c past h) ≡ length past
-length-tlb_acts c [] h = refl
-length-tlb_acts c (event ∷ past) h = ap suc (length-tlb_acts c past h)
-
-length-word_acts : (c : Config) (past : List Event) (h : ℕ) → length (word_acts c past h) ≡ length past
-length-word_acts c [] h = refl
-length-word_acts c (event ∷ past) h = ap suc (length-word_acts c past h)
-
--- so a history of a million events leaves room for one more
-pub can-fill : (c : Config) (past : List Event) (m : Memory) (h : ℕ) → h < c.harts → length past ≤ 1000000 → MemoryStand c past m → CanFill m h
-can-fill c past m h inside few stand =
-    let own = caches-read c past m h inside stand in
+-- so a history of few events leaves room for one more
+pub can-fill : (o : Opening) (past : List Event) (m : Memory) (h : ℕ) → h < o.config.harts → IsOpening o → place_after o past < 2 ^ 56 → MemoryStand o past m → CanFill m h
+can-fill o past m h inside opens few stand =
+    let own = caches-read o past m h inside stand in
     record {
-      satps = omega (arith, length-satps c past m stand);
-      caches = omega (arith, length-caches c past m stand);
+      satps = omega (arith, length-satps o past m stand);
+      caches = omega (arith, length-caches o past m stand);
       tlb =
           let next = ap (λ (caches : Caches). caches.tlb.next) own in
-          let fills = length-fillings-le (tlb_acts c past h) in
-          let acts = length-tlb_acts c past h in
+          let fills = next-le o.places (tlb_at o h) (tlb_acts o past h) in
+          let before = opens.entries_few h in
+          let acts = length-tlb_acts o past h in
           omega arith;
       words =
           let next = ap (λ (caches : Caches). caches.words.next) own in
-          let fills = length-fillings-le (word_acts c past h) in
-          let acts = length-word_acts c past h in
+          let fills = next-le o.places (words_at o h) (word_acts o past h) in
+          let before = opens.words_few h in
+          let acts = length-word_acts o past h in
           omega arith;
     }
 
@@ -135,10 +132,10 @@ grown-le None None anew xs n small shorter = omega arith
 grown-le None (Some reset) anew xs n small shorter = small reset
 grown-le (Some start) reset anew xs n small shorter = omega arith
 
-pub length-entries-le : (c : Config) (past : List Event) → length (entries c past) ≤ length past
-length-entries-le c [] = omega arith
-length-entries-le c (event ∷ past) =
-    grown-le (entered_by event.op event.reply (is_starting c past event.actor)) (reset_by event.op event.reply) _ (entries c past) (length past) (λ reset. omega arith) (length-entries-le c past)
+pub length-entries-le : (o : Opening) (past : List Event) → length (entries o past) ≤ length past
+length-entries-le o [] = omega arith
+length-entries-le o (event ∷ past) =
+    grown-le (entered_by event.op event.reply (is_starting o past event.actor)) (reset_by event.op event.reply) _ (entries o past) (length past) (λ reset. omega arith) (length-entries-le o past)
 
 few_at : (c : Config) (n : ℕ) (reset : Reset) → length (starts_at c reset) ≤ suc n
 few_at c n reset = by_kind (begins_anew reset.kind)
@@ -147,14 +144,38 @@ few_at c n reset = by_kind (begins_anew reset.kind)
     by_kind true = omega arith
     by_kind false = omega arith
 
-pub length-starts-le : (c : Config) (past : List Event) → length (starts c past) ≤ suc (length past)
-length-starts-le c [] = omega arith
-length-starts-le c (event ∷ past) = by_op event.op (length-starts-le c past)
+-- what was entered before counts at most as long as it did at the opening
+pub entered-before-le : (o : Opening) (past : List Event) → entered_before o past ≤ o.entered
+entered-before-le o [] = omega arith
+entered-before-le o (event ∷ past) = by_reset (reset_by event.op event.reply) (entered-before-le o past)
   where
-    by_call : (call : Call) → length (starts c past) ≤ suc (length past) → length (grown (start_by_call c call event.reply) (starts c past)) ≤ suc (suc (length past))
-    by_call call before = grown-le (started_by_call call event.reply) (reset_by_call call event.reply) (starts_at c) (starts c past) (suc (length past)) (few_at c (suc (length past))) before
+    by_reset : (reset : Option Reset) → entered_before o past ≤ o.entered → unless_reset reset (entered_before o past) ≤ o.entered
+    by_reset None before = before
+    by_reset (Some reset) before = omega arith
 
-    by_op : (op : Op) → length (starts c past) ≤ suc (length past) → length (grown (start_by c op event.reply) (starts c past)) ≤ suc (suc (length past))
+filter_map-le : {A B : Type 0} (f : A → Option B) (xs : List A) → length (filter_map f xs) ≤ length xs
+filter_map-le f [] = omega arith
+filter_map-le {A} {B} f (x ∷ xs) = by_part (f x) (filter_map-le f xs)
+  where
+    by_part : (part : Option B) → length (filter_map f xs) ≤ length xs → length (cons_option part (filter_map f xs)) ≤ suc (length xs)
+    by_part None rest = omega arith
+    by_part (Some y) rest = omega arith
+
+pub length-starts-le : (o : Opening) (past : List Event) → length (starts o past) ≤ o.config.harts + suc (length past)
+length-starts-le o [] =
+    let opened = filter_map-le (λ h. start_in h (hart_at o.harts h).state (hart_at o.harts h).kept) (harts_of o.config) in
+    omega (arith, opened, length-range_with_len 0 o.config.harts)
+length-starts-le o (event ∷ past) = by_op event.op (length-starts-le o past)
+  where
+    n : ℕ
+    n = o.config.harts + suc (length past)
+
+    by_call : (call : Call) → length (starts o past) ≤ n → length (grown (start_by_call o.config call event.reply) (starts o past)) ≤ o.config.harts + suc (suc (length past))
+    by_call call before =
+        let more = grown-le (started_by_call call event.reply) (reset_by_call call event.reply) (starts_at o.config) (starts o past) n (few_at o.config n) before in
+        omega arith
+
+    by_op : (op : Op) → length (starts o past) ≤ n → length (grown (start_by o.config op event.reply) (starts o past)) ≤ o.config.harts + suc (suc (length past))
     by_op (Ecall regs) before = by_call (call_of regs) before
     by_op (Load va) before = omega arith
     by_op (Store va value) before = omega arith

@@ -11,7 +11,7 @@ use Rattle.hsm.specs.declared.hart.HartState.{HartState}
 use Rattle.hsm.specs.declared.hart.HartState.TheVariants as states
 use Rattle.hsm.specs.declared.hart.Kept.{Kept}
 use Rattle.sv39.specs.declared.cause.Cause.{Cause}
-use Rattle.board_core.specs.declared.config.Config.{Config}
+use Rattle.board_core.specs.Opening.{Opening}
 use Rattle.board_core.specs.declared.event.Actor.TheVariants.{Hart}
 use Rattle.board_core.specs.declared.event.Op.{Op}
 use Rattle.board_core.specs.declared.event.Op.TheVariants as ops
@@ -73,15 +73,15 @@ module _ (x : ℕ) where
   advance_room states.ResumePending start resume = resume_room resume
   advance_room s start resume = (tt, tt)
 
-  reply_room : (c : Config) (past : List Event) (op : Op) → HasRoom x op (reply c past x op)
-  reply_room c past (ops.Ecall regs) = call_room x (ops.Ecall regs) (reply_to c (sstatus_sie past x) (state c past) (call_of regs))
-  reply_room c past (ops.Load va) = access_room x (ops.Load va) accesses.Load _
-  reply_room c past (ops.Store va value) = access_room x (ops.Store va value) (accesses.Store value) _
-  reply_room c past (ops.Fetch va) = access_room x (ops.Fetch va) accesses.Fetch _
-  reply_room c past ops.Poll = (zero_short, tt)
-  reply_room c past ops.Advance = advance_room (state c past x) (last_start c past x) (resume_point past x)
-  reply_room c past op = (tt, tt)
+  reply_room : (o : Opening) (past : List Event) (op : Op) → HasRoom x op (reply o past x op)
+  reply_room o past (ops.Ecall regs) = call_room x (ops.Ecall regs) (reply_to o.config (sstatus_sie o past x) (state o past) (call_of regs))
+  reply_room o past (ops.Load va) = access_room x (ops.Load va) accesses.Load _
+  reply_room o past (ops.Store va value) = access_room x (ops.Store va value) (accesses.Store value) _
+  reply_room o past (ops.Fetch va) = access_room x (ops.Fetch va) accesses.Fetch _
+  reply_room o past ops.Poll = (zero_short, tt)
+  reply_room o past ops.Advance = advance_room (state o past x) (last_start o past x) (resume_point o past x)
+  reply_room o past op = (tt, tt)
 
 -- what a hart is answered has room
-pub replies_are_short : (c : Config) (past : List Event) (x : ℕ) (op : Op) → x < 256 → IsShort (Hart x) op (reply c past x op)
-replies_are_short c past x op inside = record { hart = inside; error = (reply_room x c past op).0; entry = (reply_room x c past op).1 }
+pub replies_are_short : (o : Opening) (past : List Event) (x : ℕ) (op : Op) → x < 256 → IsShort (Hart x) op (reply o past x op)
+replies_are_short o past x op inside = record { hart = inside; error = (reply_room x o past op).0; entry = (reply_room x o past op).1 }

@@ -10,7 +10,7 @@ use Rattle.hsm.specs.declared.hart.Moved.TheVariants as moves
 use Rattle.hsm.specs.Harts.{Hart, running}
 use Rattle.hsm.specs.States.{goes_on, is_start_pending, is_started, is_stopped}
 use Rattle.hsm.specs.Transitions.{Step, advanced, advanced_from, changed, hart_at, resumed, started_from}
-use Rattle.board_core.specs.declared.config.Config.{Config}
+use Rattle.board_core.specs.Opening.{Opening}
 use Rattle.board_core.specs.History.{Event}
 use Rattle.interrupts.specs.Timing.{last_time}
 use Rattle.board_core.specs.declared.event.Actor.TheVariants.{Clock}
@@ -101,8 +101,8 @@ accepted false false s op is_full r r' e = by_refusal (first_that_holds (refusal
     by_refusal (Some refusal) is same = cc
 
 -- the clock makes no other step than a tick
-pub clock_ticks : (c : Config) (past : List Event) (op : Op) (r : Reply) → is_tick op ≡ false → answer c past Clock op ≡ Ok r → ⊥
-clock_ticks c past op r other e = refuses (is_off past) (is_tick op) (is_full c past) (nat_lt last_time (time past + ticks_by op)) other e
+pub clock_ticks : (o : Opening) (past : List Event) (op : Op) (r : Reply) → is_tick op ≡ false → answer o past Clock op ≡ Ok r → ⊥
+clock_ticks o past op r other e = refuses (is_off o past) (is_tick op) (is_full o past) (nat_lt last_time (time o past + ticks_by op)) other e
   where
     refuses : (off tick full late : Bool) → tick ≡ false
         → refused_or (first_that_holds ((off, Off) ∷ (not tick, WrongPhase) ∷ (full, HistoryFull) ∷ (late, TimeFull) ∷ [])) replies.Done ≡ Ok r → ⊥
@@ -178,25 +178,25 @@ module _ (x : ℕ) (start : Start) (resume : Option Kept) where
   row wake ResumePending step is = subst (λ st. Row x ResumePending start resume st.moved st.hart) (same_Some _ _ is) (resume_row x start resume)
 
 -- what a step of the hart's firmware told, by the past
-pub record Told (c : Config) (past : List Event) (harts : List Hart) (x : ℕ) (wake : Bool) (moved : Moved) : Type 0 where
-  pub reply : reply_of x moved ≡ advance_reply x (state c past x) (last_start c past x) (resume_point past x)
+pub record Told (o : Opening) (past : List Event) (harts : List Hart) (x : ℕ) (wake : Bool) (moved : Moved) : Type 0 where
+  pub reply : reply_of x moved ≡ advance_reply x (state o past x) (last_start o past x) (resume_point o past x)
   pub after : changed harts x (option_map (λ (step : Step). step.hart) (advanced wake (hart_at harts x)))
-      ≡ slice_set harts x (record { state = state_after moved; kept = kept_in (state_after moved) (last_start c past x) (resume_point past x) })
-  pub enters : is_start_pending (state c past x) ≡ is_entered moved
+      ≡ slice_set harts x (record { state = state_after moved; kept = kept_in (state_after moved) (last_start o past x) (resume_point o past x) })
+  pub enters : is_start_pending (state o past x) ≡ is_entered moved
 
-module _ (c : Config) (past : List Event) (harts : List Hart) (x : ℕ) (wake : Bool) (moved : Moved) where
-  pub told : HartsStand c past harts → x < length harts → option_map (λ (step : Step). step.moved) (advanced wake (hart_at harts x)) ≡ Some moved → Told c past harts x wake moved
+module _ (o : Opening) (past : List Event) (harts : List Hart) (x : ℕ) (wake : Bool) (moved : Moved) where
+  pub told : HartsStand o past harts → x < length harts → option_map (λ (step : Step). step.moved) (advanced wake (hart_at harts x)) ≡ Some moved → Told o past harts x wake moved
   told stand inside is = by_step (advanced wake (hart_at harts x)) refl is
     where
-      own : advanced wake (hart_at harts x) ≡ advanced_from wake (state c past x) (kept_in (state c past x) (last_start c past x) (resume_point past x))
-      own = ap (advanced wake) (hart_at-inside c past harts stand x inside)
+      own : advanced wake (hart_at harts x) ≡ advanced_from wake (state o past x) (kept_in (state o past x) (last_start o past x) (resume_point o past x))
+      own = ap (advanced wake) (hart_at-inside o past harts stand x inside)
 
-      by_step : (o : Option Step) → advanced wake (hart_at harts x) ≡ o → option_map (λ (step : Step). step.moved) o ≡ Some moved → Told c past harts x wake moved
+      by_step : (found : Option Step) → advanced wake (hart_at harts x) ≡ found → option_map (λ (step : Step). step.moved) found ≡ Some moved → Told o past harts x wake moved
       by_step None at e = absurd cc
       by_step (Some step) at e =
           let same : step.moved ≡ moved = same_Some step.moved moved e in
-          let r = row x (last_start c past x) (resume_point past x) wake (state c past x) step (sym own ∙ at) in
-          subst (Told c past harts x wake) same (record {
+          let r = row x (last_start o past x) (resume_point o past x) wake (state o past x) step (sym own ∙ at) in
+          subst (Told o past harts x wake) same (record {
             reply = r.reply;
             after = ap (λ o. changed harts x (option_map (λ (st : Step). st.hart) o)) at ∙ ap (slice_set harts x) r.after;
             enters = r.enters;

@@ -1,5 +1,5 @@
 -- What a machine that stands for a past says of whether an operation happens, and what it has room for.
-use Rattle.std.proofs.Common.{◌≡◌, ℕ, ◌<◌, ◌≤◌, true, false, List, [], ◌∷◌, length, map, suc, refl, sym, ap, ◌∙◌, arith}
+use Rattle.std.proofs.Common.{◌≡◌, ℕ, ◌<◌, ◌≤◌, true, false, List, [], ◌∷◌, length, map, refl, sym, ap, ◌∙◌, arith}
 use Rattle.std.specs.Prelude.{Option, Some, None, is_none, is_some}
 use Rattle.fence_queue.specs.Queues.{queue_at}
 use Rattle.rfence.specs.Calls as calls
@@ -8,10 +8,14 @@ use Rattle.rfence.specs.State as fences
 use Rattle.rfence.specs.State.{State, call_at, in_call}
 use Rattle.rfence.specs.Turns.{Serve, Poll}
 use Rattle.rfence.specs.Waiting as queues
-use Rattle.rfence.proofs.Counts.{few-applied, few-asked, outstanding-set}
+use Rattle.rfence.specs.declared.opened.FenceCall.{FenceCall}
+use Rattle.rfence.specs.Opening as opened
+use Rattle.rfence.proofs.Counts.{few-asked, outstanding-set}
+use Rattle.rfence.proofs.Totals.{few-applied}
 use Rattle.rfence.proofs.Stands.{call_at-stands, length-calls, length-queues, queue_at-stands}
 use Rattle.tlb_model.specs.declared.fence.Flush.{Flush}
 use Rattle.board_core.specs.declared.config.Config.{Config}
+use Rattle.board_core.specs.Opening.{IsOpening, Opening, on}
 use Rattle.board_core.specs.declared.machine.Machine.{Machine}
 use Rattle.board_core.specs.Fences.{outstanding, turns, waiting}
 use Rattle.board_core.specs.History.{Event}
@@ -19,50 +23,49 @@ use Rattle.board_core.specs.Course.{Course}
 use Rattle.board_core.specs.declared.event.Op.{Op}
 use Rattle.board_core.specs.Limits.{IsGood}
 use Rattle.board_core.specs.Refusals.{first_that_holds, is_empty, is_full, refusals_in, situation, waits_for_some}
-use Rattle.board_core.specs.Stands.{CanFill, FencesStand, HasRoom, IsSized, IsStanding, StandsFor, situation_in}
+use Rattle.board_core.specs.Stands.{CanFill, FencesStand, HasRoom, IsKept, IsSized, IsStanding, StandsFor, situation_in}
 use Rattle.board_core.proofs.HartsStanding.{hart_at-stand, length-harts}
-use Rattle.board_core.proofs.Reading.{can-fill, length-caches, length-deadlines, length-entries-le, length-satps, length-starts-le, wake-read}
+use Rattle.board_core.specs.Replies.{IsLegal}
+use Rattle.board_core.proofs.Standing.{length-turns}
+use Rattle.board_core.proofs.Steps.{room-left}
+use Rattle.board_core.proofs.Reading.{can-fill, entered-before-le, length-caches, length-deadlines, length-entries-le, length-satps, length-starts-le, wake-read}
 
-pub length-turns : (c : Config) (past : List Event) → length (turns c past) ≡ length past
-length-turns c [] = refl
-length-turns c (event ∷ past) = ap suc (length-turns c past)
-
-module _ (c : Config) (past : List Event) (f : State Flush) (stand : FencesStand c past f) where
+module _ (o : Opening) (past : List Event) (f : State Flush) (stand : FencesStand o past f) where
   -- the call of a hart, and its queue
-  pub call-read : (h : ℕ) → h < c.harts → call_at f h ≡ outstanding c past h
+  pub call-read : (h : ℕ) → h < o.config.harts → call_at f h ≡ outstanding o past h
   call-read h inside =
-      call_at-stands c.harts (turns c past) f stand.stands h inside
-      ∙ ap (in_call (calls.open_call (turns c past) h)) (outstanding-set c.harts (turns c past) h stand.stands.limit stand.right)
+      call_at-stands o.fences o.config.harts (turns o past) f stand.stands h inside
+      ∙ ap (in_call (calls.open_call o.fences (turns o past) h)) (outstanding-set o.fences o.config.harts (turns o past) h stand.right)
 
-  pub queue-read : (h : ℕ) → h < c.harts → queue_at f.queues h ≡ waiting c past h
-  queue-read h inside = queue_at-stands c.harts (turns c past) f stand.stands h inside
+  pub queue-read : (h : ℕ) → h < o.config.harts → queue_at f.queues h ≡ waiting o past h
+  queue-read h inside = queue_at-stands o.fences o.config.harts (turns o past) f stand.stands h inside
 
   -- a hart without a call is in none
-  pub outside-read : (h : ℕ) → h < c.harts → call_at f h ≡ None → calls.open_call (turns c past) h ≡ None
-  outside-read h inside none = closed (calls.open_call (turns c past) h) _ (sym (call_at-stands c.harts (turns c past) f stand.stands h inside) ∙ none)
+  pub outside-read : (h : ℕ) → h < o.config.harts → call_at f h ≡ None → calls.open_call o.fences (turns o past) h ≡ None
+  outside-read h inside none = closed (calls.open_call o.fences (turns o past) h) _ (sym (call_at-stands o.fences o.config.harts (turns o past) f stand.stands h inside) ∙ none)
     where
-      closed : (place : Option ℕ) (ids : List ℕ) → in_call place ids ≡ None → place ≡ None
+      closed : (call : Option (FenceCall Flush)) (ids : List ℕ) → in_call call ids ≡ None → call ≡ None
       closed None ids is = refl
-      closed (Some place) ids is = cc
+      closed (Some call) ids is = cc
 
   -- a hart at which a fence waits can serve, and one whose call waits for no hart can poll
-  pub serve-right : (h : ℕ) → h < c.harts → is_empty (queue_at f.queues h) ≡ false → IsRightTurn c.harts (turns c past) (Serve h)
-  serve-right h inside some = (inside, by_queue (queues.waiting (turns c past) h) (sym (ap is_empty (queue-read h inside)) ∙ some))
+  pub serve-right : (h : ℕ) → h < o.config.harts → is_empty (queue_at f.queues h) ≡ false → IsRightTurn o.fences o.config.harts (turns o past) (Serve h)
+  serve-right h inside some = (inside, by_queue (queues.waiting o.fences (turns o past) h) (sym (ap is_empty (queue-read h inside)) ∙ some))
     where
-      by_queue : (waits : List (queues.Asked Flush)) → is_empty (map queues.kept waits) ≡ false → 0 < length waits
+      by_queue : (waits : List (opened.Asked Flush)) → is_empty (map opened.kept waits) ≡ false → 0 < length waits
       by_queue [] none = absurd cc
       by_queue (asked ∷ waits) some = omega arith
 
-  pub poll-right : (h : ℕ) → h < c.harts → is_none (call_at f h) ≡ false → waits_for_some (call_at f h) ≡ false → IsRightTurn c.harts (turns c past) (Poll h)
+  pub poll-right : (h : ℕ) → h < o.config.harts → is_none (call_at f h) ≡ false → waits_for_some (call_at f h) ≡ false → IsRightTurn o.fences o.config.harts (turns o past) (Poll h)
   poll-right h inside inside_call answered =
       let is = call-read h inside in
-      let parts = by_call (calls.open_call (turns c past) h) (calls.outstanding c.harts (turns c past) h) (sym (ap is_none is) ∙ inside_call) (sym (ap waits_for_some is) ∙ answered) in
+      let parts = by_call (calls.open_call o.fences (turns o past) h) (calls.outstanding o.fences o.config.harts (turns o past) h) (sym (ap is_none is) ∙ inside_call) (sym (ap waits_for_some is) ∙ answered) in
       (inside, parts.0, parts.1)
     where
-      by_call : (place : Option ℕ) (ids : List ℕ) → is_none (in_call place ids) ≡ false → waits_for_some (in_call place ids) ≡ false → (is_some place ≡ true) × (ids ≡ [])
+      by_call : (call : Option (FenceCall Flush)) (ids : List ℕ) → is_none (in_call call ids) ≡ false → waits_for_some (in_call call ids) ≡ false → (is_some call ≡ true) × (ids ≡ [])
       by_call None ids inside_call answered = absurd cc
-      by_call (Some place) [] inside_call answered = (refl, refl)
-      by_call (Some place) (id ∷ ids) inside_call answered = absurd cc
+      by_call (Some call) [] inside_call answered = (refl, refl)
+      by_call (Some call) (id ∷ ids) inside_call answered = absurd cc
 
 -- the queue of a hart that isn't refused to serve, and the call of one that isn't refused to poll
 pub some-wait : {A : Type 0} (queue : List A) → is_empty queue ≡ false → 0 < length queue
@@ -74,54 +77,75 @@ call-over None inside answered = absurd cc
 call-over (Some []) inside answered = refl
 call-over (Some (h ∷ harts)) inside answered = absurd cc
 
-module _ (c : Config) (past : List Event) (m : Machine) (most : c.harts ≤ 128) (stands : StandsFor c past m) where
-  pub sized : IsSized c m
+module _ (o : Opening) (past : List Event) (m : Machine) (most : o.config.harts ≤ 128) (stands : StandsFor o past m) where
+  pub sized : IsSized o.config m
   sized = record {
-    harts = length-harts c past m.hsm stands.harts;
-    deadlines = length-deadlines c past m.interrupts.timers stands.interrupts.timers;
-    satps = length-satps c past m.memory stands.memory;
-    caches = length-caches c past m.memory stands.memory;
-    calls = length-calls c.harts (turns c past) m.fences stands.fences.stands;
-    queues = length-queues c.harts (turns c past) m.fences stands.fences.stands;
+    harts = length-harts o past m.hsm stands.harts;
+    deadlines = length-deadlines o past m.interrupts.timers stands.interrupts.timers;
+    satps = length-satps o past m.memory stands.memory;
+    caches = length-caches o past m.memory stands.memory;
+    calls = length-calls o.fences o.config.harts (turns o past) m.fences stands.fences.stands;
+    queues = length-queues o.fences o.config.harts (turns o past) m.fences stands.fences.stands;
   }
 
-  pub situation-read : (h : ℕ) → h < c.harts → situation_in m h ≡ situation c past h
+  pub situation-read : (h : ℕ) → h < o.config.harts → situation_in m h ≡ situation o past h
   situation-read h inside =
-      let own = hart_at-stand c past m.hsm stands.harts h inside in
-      let wake = wake-read c past m.interrupts h (omega arith) inside stands.interrupts in
-      let call = call-read c past m.fences stands.fences h inside in
-      let queue = queue-read c past m.fences stands.fences h inside in
+      let own = hart_at-stand o past m.hsm stands.harts h inside in
+      let wake = wake-read o past m.interrupts h (omega arith) inside stands.interrupts in
+      let call = call-read o past m.fences stands.fences h inside in
+      let queue = queue-read o past m.fences stands.fences h inside in
       λ i. record { state = (own i).state; wake = wake i; call = call i; fences = queue i }
 
 -- what the machine doesn't refuse while there is room, the past doesn't refuse
-pub unrefused-read : (b : Course) (c : Config) (past : List Event) {m : Machine} → record { config = c; past = past } ≡ b → c.harts ≤ 128 → StandsFor c past m → (h : ℕ) → h < c.harts → (op : Op)
-    → first_that_holds (refusals_in (situation_in m h) op false) ≡ None → is_full b.config b.past ≡ false
-    → first_that_holds (refusals_in (situation b.config b.past h) op (is_full b.config b.past)) ≡ None
-unrefused-read b c past {m} is most stands h inside op none room =
-    ap (λ full. first_that_holds (refusals_in (situation b.config b.past h) op full)) room
-    ∙ sym (ap (λ (b : Course). first_that_holds (refusals_in (situation b.config b.past h) op false)) is)
-    ∙ sym (ap (λ s. first_that_holds (refusals_in s op false)) (situation-read c past m most stands h inside))
+pub unrefused-read : (b : Course) (o : Opening) (past : List Event) {m : Machine} → record { opening = o; past = past } ≡ b → o.config.harts ≤ 128 → StandsFor o past m → (h : ℕ) → h < o.config.harts → (op : Op)
+    → first_that_holds (refusals_in (situation_in m h) op false) ≡ None → is_full b.opening b.past ≡ false
+    → first_that_holds (refusals_in (situation b.opening b.past h) op (is_full b.opening b.past)) ≡ None
+unrefused-read b o past {m} is most stands h inside op none room =
+    ap (λ full. first_that_holds (refusals_in (situation b.opening b.past h) op full)) room
+    ∙ sym (ap (λ (b : Course). first_that_holds (refusals_in (situation b.opening b.past h) op false)) is)
+    ∙ sym (ap (λ s. first_that_holds (refusals_in s op false)) (situation-read o past m most stands h inside))
     ∙ none
 
+-- a legal history begins with an opening
+pub legal-opens : (o : Opening) (past : List Event) → IsLegal o past → IsOpening o
+legal-opens o [] legal = legal
+legal-opens o (event ∷ past) legal = legal-opens o past legal.2
+
 module _ (c : Config) (m : Machine) (good : IsGood c) (standing : IsStanding c m) where
+  -- the opening, with these numbers
+  abbrev opening : Opening
+  opening = on c standing.o
+
   pub counts-room : HasRoom m.counts
   counts-room =
       let few = standing.few in
       let counts = standing.stands.counts in
+      let before = entered-before-le opening standing.past in
+      let opened = standing.opens.entered_few in
+      let most = good.at_most_128_harts in
       record {
-        starts = let are = counts.starts in let below = length-starts-le c standing.past in omega arith;
-        entries = let are = counts.entries in let below = length-entries-le c standing.past in omega arith;
+        starts = let are = counts.starts in let below = length-starts-le opening standing.past in omega arith;
+        entries = let are = counts.entries in let below = length-entries-le opening standing.past in omega arith;
       }
 
   pub fills-room : (h : ℕ) → h < c.harts → CanFill m.memory h
-  fills-room h inside = can-fill c standing.past m.memory h inside standing.few standing.stands.memory
+  fills-room h inside = can-fill opening standing.past m.memory h inside standing.opens standing.few standing.stands.memory
 
   pub fences-room : fences.HasRoom m.fences
   fences-room =
       let few = standing.few in
       let stand = standing.stands.fences in
-      let long = length-turns c standing.past in
+      let long = length-turns opening standing.past in
+      let places = stand.places in
       record {
-        asked = let is = stand.stands.asked in let below = few-asked (turns c standing.past) in omega arith;
-        applied = let is = stand.stands.applied in let below = few-applied c.harts (turns c standing.past) stand.stands.limit stand.right in omega arith;
+        asked = let is = stand.stands.asked in let below = few-asked opening.fences c.harts (turns opening standing.past) stand.right in omega arith;
+        applied = let is = stand.stands.applied in let below = few-applied opening.fences c.harts (turns opening standing.past) stand.right in omega arith;
       }
+
+-- a board whose history isn't full stands so
+pub standing-kept : (o : Opening) (past : List Event) (m : Machine) → IsKept o past → is_full o past ≡ false → StandsFor o past m → IsStanding o.config m
+standing-kept o past m kept room stands =
+    let less = room-left o past room kept.within in
+    let small = kept.good.at_most_a_million_events in
+    let early = kept.early in
+    record { o = o; past = past; opens = legal-opens o past kept.legal; stands = stands; few = omega arith }

@@ -6,7 +6,7 @@ use Rattle.std.proofs.lemmas.List.{reverse-append}
 use Rattle.std.proofs.lemmas.Option.{same_Some}
 use Rattle.interrupts.specs.Timing.{Timing, last_time, ticked}
 use Rattle.tlb_model.specs.declared.entry.Entry.{Entry}
-use Rattle.board_core.specs.declared.config.Config.{Config}
+use Rattle.board_core.specs.Opening.{Opening}
 use Rattle.board_core.specs.declared.event.Actor.TheVariants.{Hart, Clock}
 use Rattle.hart_access.specs.declared.operation.Access.{Access}
 use Rattle.hart_access.specs.declared.operation.Access.TheVariants as accesses
@@ -26,23 +26,23 @@ use Rattle.board_core.specs.Stands.{IsKept}
 use Rattle.board_core.proofs.Tables.{eqb-same}
 
 -- the answer to a hart that is there: its first refusal, or else the reply
-pub answer-inside : (c : Config) (past : List Event) (h : ℕ) (op : Op) → is_off past ≡ false → h < c.harts
-    → answer c past (Hart h) op ≡ refused_or (first_that_holds (refusals_in (situation c past h) op (is_full c past))) (reply c past h op)
-answer-inside c past h op on inside =
-    let present = lt-leb c.harts h inside in
-    λ i. refused_or (first_that_holds ((on i, Off) ∷ (present i, WrongPhase) ∷ refusals_in (situation c past h) op (is_full c past))) (reply c past h op)
+pub answer-inside : (o : Opening) (past : List Event) (h : ℕ) (op : Op) → is_off o past ≡ false → h < o.config.harts
+    → answer o past (Hart h) op ≡ refused_or (first_that_holds (refusals_in (situation o past h) op (is_full o past))) (reply o past h op)
+answer-inside o past h op on inside =
+    let present = lt-leb o.config.harts h inside in
+    λ i. refused_or (first_that_holds ((on i, Off) ∷ (present i, WrongPhase) ∷ refusals_in (situation o past h) op (is_full o past))) (reply o past h op)
 
-pub hart_answered : (c : Config) (past : List Event) (h : ℕ) (op : Op) (r : Reply) → is_off past ≡ false → h < c.harts
-    → first_that_holds (refusals_in (situation c past h) op (is_full c past)) ≡ None → r ≡ reply c past h op → answer c past (Hart h) op ≡ Ok r
-hart_answered c past h op r on inside none is = answer-inside c past h op on inside ∙ ap (λ refusal. refused_or refusal (reply c past h op)) none ∙ ap Ok (sym is)
+pub hart_answered : (o : Opening) (past : List Event) (h : ℕ) (op : Op) (r : Reply) → is_off o past ≡ false → h < o.config.harts
+    → first_that_holds (refusals_in (situation o past h) op (is_full o past)) ≡ None → r ≡ reply o past h op → answer o past (Hart h) op ≡ Ok r
+hart_answered o past h op r on inside none is = answer-inside o past h op on inside ∙ ap (λ refusal. refused_or refusal (reply o past h op)) none ∙ ap Ok (sym is)
 
-pub hart_refused : (c : Config) (past : List Event) (h : ℕ) (op : Op) (refusal : Refusal) → is_off past ≡ false → h < c.harts
-    → first_that_holds (refusals_in (situation c past h) op (is_full c past)) ≡ Some refusal → answer c past (Hart h) op ≡ Err refusal
-hart_refused c past h op refusal on inside some = answer-inside c past h op on inside ∙ ap (λ refusal. refused_or refusal (reply c past h op)) some
+pub hart_refused : (o : Opening) (past : List Event) (h : ℕ) (op : Op) (refusal : Refusal) → is_off o past ≡ false → h < o.config.harts
+    → first_that_holds (refusals_in (situation o past h) op (is_full o past)) ≡ Some refusal → answer o past (Hart h) op ≡ Err refusal
+hart_refused o past h op refusal on inside some = answer-inside o past h op on inside ∙ ap (λ refusal. refused_or refusal (reply o past h op)) some
 
 -- the answer to a tick that isn't refused
-pub clock_answered : (c : Config) (past : List Event) (n : ℕ) → is_off past ≡ false → is_full c past ≡ false → nat_lt last_time (time past + n) ≡ false → answer c past Clock (Tick n) ≡ Ok Done
-clock_answered c past n on room early = rw (on, room, early) refl
+pub clock_answered : (o : Opening) (past : List Event) (n : ℕ) → is_off o past ≡ false → is_full o past ≡ false → nat_lt last_time (time o past + n) ≡ false → answer o past Clock (Tick n) ≡ Ok Done
+clock_answered o past n on room early = rw (on, room, early) refl
 
 -- ticks that the timers take
 pub ticked_on : (t : Timing) (n : ℕ) → is_some (ticked t n) ≡ true → (unwrap_or (ticked t n) t ≡ record t { time = t.time + n }) × (nat_lt last_time (t.time + n) ≡ false)
@@ -52,18 +52,18 @@ ticked_on t n taken = elim (cases_Bool (nat_le (t.time + n) last_time)) [
 ]
 
 -- an operation that isn't an access uses no entry
-pub entry_used : (c : Config) (past : List Event) (x : ℕ) (op : Op) → entry_of (access_of op) (used c past x op) ≡ used c past x op
-entry_used c past x op = by_access (access_of op)
+pub entry_used : (o : Opening) (past : List Event) (x : ℕ) (op : Op) → entry_of (access_of op) (used o past x op) ≡ used o past x op
+entry_used o past x op = by_access (access_of op)
   where
-    by_access : (reach : Option Reach) → entry_of reach (used_by_access c past x reach) ≡ used_by_access c past x reach
+    by_access : (reach : Option Reach) → entry_of reach (used_by_access o past x reach) ≡ used_by_access o past x reach
     by_access None = refl
     by_access (Some reach) = refl
 
 -- so an event that is made of it is the one of the definitions
-pub recorded_as : (c : Config) (past : List Event) (x : ℕ) (op : Op) (reply : Reply) (entry : Option Entry) → entry ≡ used c past x op
+pub recorded_as : (o : Opening) (past : List Event) (x : ℕ) (op : Op) (reply : Reply) (entry : Option Entry) → entry ≡ used o past x op
     → (let made : Event = record { actor = Hart x; op = op; reply = reply; translation = entry_of (access_of op) entry } in made) ≡ using x op reply entry
-recorded_as c past x op reply entry is =
-    let same = ap (entry_of (access_of op)) is ∙ entry_used c past x op ∙ sym is in
+recorded_as o past x op reply entry is =
+    let same = ap (entry_of (access_of op)) is ∙ entry_used o past x op ∙ sym is in
     λ i. record { actor = Hart x; op = op; reply = reply; translation = same i }
 
 -- an operation that is an access is the one of its address, and has its reply
@@ -73,28 +73,30 @@ access_is (Store at value) va what is = ap (λ (reach : Reach). access_op reach.
 access_is (Fetch at) va what is = ap (λ (reach : Reach). access_op reach.va reach.access) (same_Some _ _ is)
 access_is op va what is = absurd cc
 
-pub access_replied : (c : Config) (past : List Event) (h va : ℕ) (what : Access) → access_reply c past h va what ≡ reply c past h (access_op va what)
-access_replied c past h va accesses.Load = refl
-access_replied c past h va (accesses.Store value) = refl
-access_replied c past h va accesses.Fetch = refl
+pub access_replied : (o : Opening) (past : List Event) (h va : ℕ) (what : Access) → access_reply o past h va what ≡ reply o past h (access_op va what)
+access_replied o past h va accesses.Load = refl
+access_replied o past h va (accesses.Store value) = refl
+access_replied o past h va accesses.Fetch = refl
 
 -- a history that isn't full has room
-pub room-left : (c : Config) (past : List Event) → is_full c past ≡ false → length past ≤ c.limit → length past < c.limit
-room-left c past room within =
-    let apart : length past ≢ c.limit = λ full. absurd (let e : true ≡ false = sym (eqb-same c.limit) ∙ ap (λ n. eqb n c.limit) (sym full) ∙ room in cc) in
+pub room-left : (o : Opening) (past : List Event) → is_full o past ≡ false → length past ≤ o.config.limit → length past < o.config.limit
+room-left o past room within =
+    let apart : length past ≢ o.config.limit = λ full. absurd (let e : true ≡ false = sym (eqb-same o.config.limit) ∙ ap (λ n. eqb n o.config.limit) (sym full) ∙ room in cc) in
     omega arith
 
-module _ (c : Config) (past : List Event) (event : Event) (answered : answer c past event.actor event.op ≡ Ok event.reply)
-    (translated : event.translation ≡ used_by_actor c past event.actor event.op) where
-  pub kept-more : is_full c past ≡ false → IsKept c past → IsKept c (event ∷ past)
+module _ (o : Opening) (past : List Event) (event : Event) (answered : answer o past event.actor event.op ≡ Ok event.reply)
+    (translated : event.translation ≡ used_by_actor o past event.actor event.op) where
+  pub kept-more : is_full o past ≡ false → IsKept o past → IsKept o (event ∷ past)
   kept-more room kept = record {
     good = kept.good;
+    opened = kept.opened;
     legal = (answered, translated, kept.legal);
-    within = room-left c past room kept.within;
+    within = room-left o past room kept.within;
+    early = kept.early;
   }
 
-  pub stepped-more : record { config = c; past = event ∷ past } ≡ stepped (record { config = c; past = past }) event.actor event.op
-  stepped-more = rw answered (λ i. record { config = c; past = record { actor = event.actor; op = event.op; reply = event.reply; translation = translated i } ∷ past })
+  pub stepped-more : record { opening = o; past = event ∷ past } ≡ stepped (record { opening = o; past = past }) event.actor event.op
+  stepped-more = rw answered (λ i. record { opening = o; past = record { actor = event.actor; op = event.op; reply = event.reply; translation = translated i } ∷ past })
 
 pub past-more : (events more : List Event) (event : Event) → more ≡ events ++ event ∷ [] → reverse more ≡ event ∷ reverse events
 past-more events more event is = ap reverse is ∙ reverse-append events (event ∷ [])

@@ -15,16 +15,17 @@ use Rattle.board_core.specs.declared.event.Refusal.TheVariants.{Nothing, TimeFul
 use Rattle.board_core.specs.declared.event.Reply.{Reply}
 use Rattle.board_core.specs.declared.event.Reply.TheVariants.{Done, Entry, Gone, Moved, Ret, Served, Value, Waiting}
 use Rattle.board_core.specs.Course.{Course}
+use Rattle.board_core.specs.Opening.{opening_at}
 use Rattle.board_core.specs.Replies.{answer, stepped}
 
 -- what a list of steps is answered, from a course on
 abbrev answers : Course → List (Actor × Op) → List (Result Reply Refusal)
 answers b [] = []
-answers b (step ∷ steps) = answer b.config b.past step.0 step.1 ∷ answers (stepped b step.0 step.1) steps
+answers b (step ∷ steps) = answer b.opening b.past step.0 step.1 ∷ answers (stepped b step.0 step.1) steps
 
 abbrev opened : (harts : ℕ) → Course
 opened harts = record {
-  config = record { harts = harts; pages = 16; limit = 1000; boot_hart = 0; boot_addr = 0x80000000; boot_opaque = 0; asid_len = 16; width = 39 };
+  opening = opening_at (record { harts = harts; pages = 16; limit = 1000; boot_hart = 0; boot_addr = 0x80000000; boot_opaque = 0; asid_len = 16; width = 39 });
   past = [];
 }
 

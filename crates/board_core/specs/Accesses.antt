@@ -7,7 +7,7 @@ use Rattle.tlb_model.specs.declared.word.FetchWord.{FetchWord}
 use Rattle.hart_access.specs.declared.operation.Access.{Access}
 use Rattle.hart_access.specs.declared.operation.Access.TheVariants.{Load, Store, Fetch}
 use Rattle.hart_access.specs.Accesses as whole
-use Rattle.board_core.specs.declared.config.Config.{Config}
+use Rattle.board_core.specs.Opening.{Opening}
 use Rattle.board_core.specs.declared.event.Actor.{Actor}
 use Rattle.board_core.specs.declared.event.Actor.TheVariants.{Hart, Clock}
 use Rattle.board_core.specs.declared.event.Op.{Op}
@@ -23,26 +23,26 @@ access_reply_of (Store value) (Ok word) = Done
 access_reply_of Fetch (Ok word) = Value word
 access_reply_of access (Err cause) = Fault cause
 
-module _ (c : Config) (past : List Event) (x : ℕ) where
+module _ (o : Opening) (past : List Event) (x : ℕ) where
   -- the hit of an address in the TLB of hart x, and the word that its instruction cache has from a physical address
   abbrev pub hit : Address → Option Entry
-  hit = hit_in (tlb_acts c past x)
+  hit = hit_in o x (tlb_acts o past x)
 
   abbrev pub cached : ℕ → Option FetchWord
-  cached = cached_in (word_acts c past x)
+  cached = cached_in o x (word_acts o past x)
 
   -- the entry that an access of hart x uses, found or filled, if any
   abbrev pub used_by_access : Option Reach → Option Entry
   used_by_access None = None
-  used_by_access (Some reach) = whole.used (memory c past) (satp c past x) hit reach.va reach.access
+  used_by_access (Some reach) = whole.used (memory o past) (satp o past x) hit reach.va reach.access
 
   abbrev pub used : Op → Option Entry
   used op = used_by_access (access_of op)
 
   abbrev pub access_reply : (va : ℕ) → Access → Reply
-  access_reply va access = access_reply_of access (whole.answer (memory c past) (satp c past x) hit cached va access)
+  access_reply va access = access_reply_of access (whole.answer (memory o past) (satp o past x) hit cached va access)
 
 -- the clock makes no access
-abbrev pub used_by_actor : Config → List Event → Actor → Op → Option Entry
-used_by_actor c past (Hart x) op = used c past x op
-used_by_actor c past Clock op = None
+abbrev pub used_by_actor : Opening → List Event → Actor → Op → Option Entry
+used_by_actor o past (Hart x) op = used o past x op
+used_by_actor o past Clock op = None

@@ -1,14 +1,16 @@
--- What a board is, for its contracts: its opening and its history.
+-- What a board is, for its contracts: its opening and its kept history.
 use Rattle.std.specs.Prelude.{ℕ, List, Bool, false, ◌==◌}
 use Rattle.std.specs.List.{range_with_len}
 use Rattle.board_core.specs.declared.config.Config.{Config}
 use Rattle.board_core.specs.declared.event.Actor.{Actor}
 use Rattle.board_core.specs.declared.event.Actor.TheVariants.{Hart, Clock}
 use Rattle.board_core.specs.History.{Event}
+use Rattle.board_core.specs.Opening.{Opening}
 
--- The past is the list of accepted events, newest first: what came before an event is the rest of the list.
+-- The past is the list of the events accepted since the opening, newest first: what came before an event is the rest of the
+-- list, and then what the opening has.
 pub record Course : Type 0 where
-  pub config : Config
+  pub opening : Opening
   pub past : List Event
 
 -- the ids of the harts

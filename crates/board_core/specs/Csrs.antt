@@ -1,7 +1,8 @@
 -- What the supervisor's registers hold (Privileged 4.1, Supervisor CSRs).
 use Rattle.std.specs.Prelude.{ℕ, ◌+◌, List, [], ◌∷◌, Bool, false, ◌==◌, ◌&&◌, ◌||◌, if◌then◌else◌, Option, Some}
 use Rattle.std.specs.Int.{bit_at}
-use Rattle.board_core.specs.declared.config.Config.{Config}
+use Rattle.hart_mask.specs.Ids.{has}
+use Rattle.board_core.specs.Opening.{Opening}
 use Rattle.board_core.specs.declared.csrs.Sie.{Sie}
 use Rattle.board_core.specs.History.{Event}
 use Rattle.board_core.specs.declared.event.Op.{Op}
@@ -19,10 +20,10 @@ sstatus_sie_by (WriteSstatusSie value) reply = Some (Here value)
 sstatus_sie_by Advance (Entry addr hart opaque) = Some (Here false)
 sstatus_sie_by op reply = at_reset (reset_by op reply) false
 
--- Whether sstatus.SIE of a hart is 1: what its last write, entry or reset made of it, and 0 before any.
-abbrev pub sstatus_sie : List Event → ℕ → Bool
-sstatus_sie [] h = false
-sstatus_sie (event ∷ past) h = latest (sstatus_sie_by event.op event.reply) (is_hart h event.actor) (sstatus_sie past h)
+-- Whether sstatus.SIE of a hart is 1: what its last write, entry or reset made of it, and before any what the opening has.
+abbrev pub sstatus_sie : Opening → List Event → ℕ → Bool
+sstatus_sie o [] h = has o.sstatus_sie h
+sstatus_sie o (event ∷ past) h = latest (sstatus_sie_by event.op event.reply) (is_hart h event.actor) (sstatus_sie o past h)
 
 -- the bits of a number that sie keeps: SSIE is bit 1, and STIE is bit 5 (Privileged 4.1.3)
 abbrev pub sie_of : ℕ → Sie
@@ -49,9 +50,9 @@ abbrev pub sie_by : Op → Reply → (starting : Bool) → Option (Write Sie)
 sie_by (WriteSie value) reply starting = Some (Here (sie_of value))
 sie_by op reply starting = if is_start_entry op reply starting then Some (Here none_enabled) else at_reset (reset_by op reply) none_enabled
 
--- sie of a hart: what its last write, entry by start or reset made of it, and 0 before any. The entry of a resume keeps it
--- (profile).
-abbrev pub sie : Config → List Event → ℕ → Sie
-sie c [] h = none_enabled
-sie c (event ∷ past) h =
-    latest (sie_by event.op event.reply (is_starting c past event.actor)) (is_hart h event.actor) (sie c past h)
+-- sie of a hart: what its last write, entry by start or reset made of it, and before any what the opening has. The entry of a
+-- resume keeps it (profile).
+abbrev pub sie : Opening → List Event → ℕ → Sie
+sie o [] h = record { ssie = has o.ssie h; stie = has o.stie h }
+sie o (event ∷ past) h =
+    latest (sie_by event.op event.reply (is_starting o past event.actor)) (is_hart h event.actor) (sie o past h)

@@ -1,10 +1,7 @@
 -- A call that answers an error changes nothing but the history (profile).
 use Rattle.std.specs.Prelude.{◌≡◌, ℕ, List, Bool, false, not}
 use Rattle.sbi_abi.specs.Errors.{is_success}
-use Rattle.tlb_model.specs.Acts.{cache_after}
-use Rattle.tlb_model.specs.Entries.{covers_entry}
-use Rattle.tlb_model.specs.Words.{covers_word}
-use Rattle.board_core.specs.declared.config.Config.{Config}
+use Rattle.board_core.specs.Opening.{Opening}
 use Rattle.board_core.specs.History.{Event}
 use Rattle.board_core.specs.declared.event.Reply.{Reply}
 use Rattle.board_core.specs.declared.event.Reply.TheVariants.{Ret}
@@ -23,21 +20,21 @@ is_error (Ret answer) = not (is_success answer)
 is_error reply = false
 
 -- every look-up of a board answers the same after both pasts
-pub record LooksSame (c : Config) (past later : List Event) : Type 0 where
-  pub state : (h : ℕ) → states.state c later h ≡ states.state c past h
-  pub kept : (h : ℕ) → starts.kept c later h ≡ starts.kept c past h
-  pub sstatus_sie : (h : ℕ) → csrs.sstatus_sie later h ≡ csrs.sstatus_sie past h
-  pub sie : (h : ℕ) → csrs.sie c later h ≡ csrs.sie c past h
-  pub ssip : (h : ℕ) → interrupts.ssip c later h ≡ interrupts.ssip c past h
-  pub stip : (h : ℕ) → interrupts.stip c later h ≡ interrupts.stip c past h
-  pub wake : (h : ℕ) → interrupts.wake c later h ≡ interrupts.wake c past h
-  pub deadline : (h : ℕ) → interrupts.deadline c later h ≡ interrupts.deadline c past h
-  pub satp : (h : ℕ) → memory.satp c later h ≡ memory.satp c past h
-  pub word : (at : ℕ) → memory.memory c later at ≡ memory.memory c past at
-  pub tlb : (h : ℕ) → (cache_after covers_entry (memory.tlb_acts c later h)).live ≡ (cache_after covers_entry (memory.tlb_acts c past h)).live
-  pub fetched : (h : ℕ) → (cache_after covers_word (memory.word_acts c later h)).live ≡ (cache_after covers_word (memory.word_acts c past h)).live
-  pub waiting : (h : ℕ) → fences.waiting c later h ≡ fences.waiting c past h
-  pub outstanding : (h : ℕ) → fences.outstanding c later h ≡ fences.outstanding c past h
-  pub last_reset : resets.last_reset later ≡ resets.last_reset past
-  pub time : interrupts.time later ≡ interrupts.time past
-  pub totals : counts.totals c later ≡ counts.totals c past
+pub record LooksSame (o : Opening) (past later : List Event) : Type 0 where
+  pub state : (h : ℕ) → states.state o later h ≡ states.state o past h
+  pub kept : (h : ℕ) → starts.kept o later h ≡ starts.kept o past h
+  pub sstatus_sie : (h : ℕ) → csrs.sstatus_sie o later h ≡ csrs.sstatus_sie o past h
+  pub sie : (h : ℕ) → csrs.sie o later h ≡ csrs.sie o past h
+  pub ssip : (h : ℕ) → interrupts.ssip o later h ≡ interrupts.ssip o past h
+  pub stip : (h : ℕ) → interrupts.stip o later h ≡ interrupts.stip o past h
+  pub wake : (h : ℕ) → interrupts.wake o later h ≡ interrupts.wake o past h
+  pub deadline : (h : ℕ) → interrupts.deadline o later h ≡ interrupts.deadline o past h
+  pub satp : (h : ℕ) → memory.satp o later h ≡ memory.satp o past h
+  pub word : (at : ℕ) → memory.memory o later at ≡ memory.memory o past at
+  pub tlb : (h : ℕ) → (memory.caches_of o later h).tlb.live ≡ (memory.caches_of o past h).tlb.live
+  pub fetched : (h : ℕ) → (memory.caches_of o later h).words.live ≡ (memory.caches_of o past h).words.live
+  pub waiting : (h : ℕ) → fences.waiting o later h ≡ fences.waiting o past h
+  pub outstanding : (h : ℕ) → fences.outstanding o later h ≡ fences.outstanding o past h
+  pub last_reset : resets.last_reset o later ≡ resets.last_reset o past
+  pub time : interrupts.time o later ≡ interrupts.time o past
+  pub totals : counts.totals o later ≡ counts.totals o past

@@ -6,6 +6,7 @@ use Rattle.sbi_abi.specs.declared.call.Call.TheVariants.{Hsm, Rfence, Srst}
 use Rattle.sbi_abi.specs.Calls.{call_of}
 use Rattle.fence_queue.specs.declared.request.Request.{Request}
 use Rattle.rfence.specs.Calls as calls
+use Rattle.rfence.specs.Opening as opened
 use Rattle.rfence.specs.State.{in_call}
 use Rattle.rfence.specs.Turns.{Turn, Ask, Own, Serve, Poll, Quiet}
 use Rattle.rfence.specs.Waiting as queues
@@ -13,6 +14,7 @@ use Rattle.tlb_model.specs.declared.fence.Flush.{Flush}
 use Rattle.tlb_model.specs.declared.fence.Flush.TheVariants.{Words, Entries}
 use Rattle.tlb_model.specs.Fences.{fence_of_address}
 use Rattle.board_core.specs.declared.config.Config.{Config}
+use Rattle.board_core.specs.Opening.{Opening}
 use Rattle.board_core.specs.declared.event.Actor.{Actor}
 use Rattle.board_core.specs.declared.event.Actor.TheVariants.{Hart, Clock}
 use Rattle.board_core.specs.declared.event.Op.{Op}
@@ -35,11 +37,11 @@ abbrev pub remote_of : Config → Call → Option Remote
 remote_of c (Rfence call) = Some (remote_by_rfence c call)
 remote_of c call = None
 
-module _ (c : Config) (past : List Event) where
+module _ (o : Opening) (past : List Event) where
   -- The harts of which a fence is asked: those that the hart list names and that are in an interruptible state (SBI 8;
   -- that it skips other states: profile).
   abbrev pub is_asked_by : (mask base : ℕ) → ℕ → Bool
-  is_asked_by mask base t = is_reached c (state c past) mask base t
+  is_asked_by mask base t = is_reached o.config (state o past) mask base t
 
   abbrev pub turn_by_flush : (x mask base : ℕ) → Result Flush SbiError → Turn Flush
   turn_by_flush x mask base (Ok flush) = Ask x (is_asked_by mask base) flush
@@ -53,12 +55,12 @@ module _ (c : Config) (past : List Event) where
   abbrev pub turn_by_call : (x : ℕ) → Call → Reply → Turn Flush
   turn_by_call x (Hsm call) reply = turn_by_hsm x call reply
   turn_by_call x (Srst call) reply = turn_by_srst call reply
-  turn_by_call x call reply = turn_by_remote x (remote_of c call) reply
+  turn_by_call x call reply = turn_by_remote x (remote_of o.config call) reply
 
   -- What an operation of hart x means for fences.
   abbrev pub turn_by : (x : ℕ) → Op → Reply → Turn Flush
   turn_by x (ops.Ecall regs) reply = turn_by_call x (call_of regs) reply
-  turn_by x (ops.Sfence va asid) reply = Own x (Entries (fence_of_address (spaces_of c) va asid))
+  turn_by x (ops.Sfence va asid) reply = Own x (Entries (fence_of_address (spaces_of o.config) va asid))
   turn_by x ops.FenceI reply = Own x Words
   turn_by x ops.Serve reply = Serve x
   turn_by x ops.Poll reply = Poll x
@@ -69,24 +71,24 @@ module _ (c : Config) (past : List Event) where
   turn_of (Hart x) op reply = turn_by x op reply
   turn_of Clock op reply = Quiet
 
--- What the events mean for fences, newest first: a turn for each event.
-abbrev pub turns : Config → List Event → List (Turn Flush)
-turns c [] = []
-turns c (event ∷ past) = turn_of c past event.actor event.op event.reply ∷ turns c past
+-- What the events since the opening mean for fences, newest first: a turn for each event.
+abbrev pub turns : Opening → List Event → List (Turn Flush)
+turns o [] = []
+turns o (event ∷ past) = turn_of o past event.actor event.op event.reply ∷ turns o past
 
 -- whether a hart is inside a fence call, by the harts that its call waits for
 abbrev pub phase_by : Option (List ℕ) → Phase
 phase_by None = Outside
 phase_by (Some harts) = Inside
 
-module _ (c : Config) (past : List Event) where
+module _ (o : Opening) (past : List Event) where
   -- The fences that wait at a hart, the one first that it serves first: each with its caller, and what it drops.
   abbrev pub waiting : ℕ → List (Request Flush)
-  waiting t = map queues.kept (queues.waiting (turns c past) t)
+  waiting t = map opened.kept (queues.waiting o.fences (turns o past) t)
 
   -- The harts that a hart's fence call waits for, as ascending ids, while it is inside one.
   abbrev pub outstanding : ℕ → Option (List ℕ)
-  outstanding h = in_call (calls.open_call (turns c past) h) (calls.outstanding c.harts (turns c past) h)
+  outstanding h = in_call (calls.open_call o.fences (turns o past) h) (calls.outstanding o.fences o.config.harts (turns o past) h)
 
   -- Whether a hart is inside a fence call (SBI 8; that a call waits: profile).
   abbrev pub phase : ℕ → Phase

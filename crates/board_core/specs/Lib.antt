@@ -1,4 +1,5 @@
 pub mod Limits
+pub mod Opening
 pub mod Course
 pub mod States
 pub mod Csrs
@@ -21,3 +22,4 @@ pub mod Need
 pub mod Totals
 pub mod ErrorLaw
 pub mod Stands
+pub mod Cuts

@@ -5,7 +5,7 @@ use Rattle.sv39.specs.declared.paging.Spaces.{Spaces}
 use Rattle.sv39.specs.declared.paging.TheConstants.{ASID_BITS}
 use Rattle.sv39.specs.Memory.{is_ram_address}
 use Rattle.board_core.specs.declared.config.BuildFault.{BuildFault}
-use Rattle.board_core.specs.declared.config.BuildFault.TheVariants.{BadConfig, NoMemory}
+use Rattle.board_core.specs.declared.config.BuildFault.TheVariants.{BadConfig, NoMemory, CutFull}
 use Rattle.board_core.specs.declared.config.Config.{Config}
 use Rattle.board_core.specs.declared.config.TheConstants.{USUAL_ASID_LEN, USUAL_WIDTH}
 
@@ -13,10 +13,11 @@ use Rattle.board_core.specs.declared.config.TheConstants.{USUAL_ASID_LEN, USUAL_
 abbrev pub is_start_address : (pages address : ℕ) → Bool
 is_start_address pages address = address % 2 == 0 && is_ram_address pages address
 
--- why no board was made, by number
+-- why no board was made, or no history cut, by number
 abbrev pub build_fault_number : BuildFault → ℕ
 build_fault_number BadConfig = 1
 build_fault_number NoMemory = 2
+build_fault_number CutFull = 3
 
 pub record IsGood (c : Config) : Type 0 where
   pub some_harts : 1 ≤ c.harts

@@ -2,19 +2,21 @@
 use Rattle.std.specs.Prelude.{ℕ, List, [], ◌∷◌, Bool, if◌then◌else◌, Option, Some, None, option_map, unwrap_or}
 use Rattle.sbi_abi.specs.declared.reset.Reset.{Reset}
 use Rattle.rfence.specs.Applied.{Effect, Nothing, Drops, Empties, effect}
-use Rattle.sv39.specs.Memory.{written, zero_memory}
+use Rattle.sv39.specs.Memory.{word_in, written, zero_memory}
 use Rattle.sv39.specs.Satp.{asid_of, satp_of_write}
+use Rattle.tlb_model.specs.declared.caches.Caches.{Caches}
 use Rattle.tlb_model.specs.declared.entry.Address.{Address}
 use Rattle.tlb_model.specs.declared.entry.Entry.{Entry}
 use Rattle.tlb_model.specs.declared.fence.Flush.{Flush}
 use Rattle.tlb_model.specs.declared.word.FetchWord.{FetchWord}
 use Rattle.tlb_model.specs.Acts as acts
-use Rattle.tlb_model.specs.Acts.{Act, last_live}
+use Rattle.tlb_model.specs.Acts.{Act, cache_after, last_live}
 use Rattle.tlb_model.specs.Entries.{covers_entry, matches}
 use Rattle.tlb_model.specs.Words.{covers_word, is_at}
 use Rattle.hart_access.specs.Accesses.{fetched_from}
 use Rattle.hart_access.specs.Ways.{phys_at}
 use Rattle.board_core.specs.declared.config.Config.{Config}
+use Rattle.board_core.specs.Opening.{Opening, opened_satp, tlb_at, words_at}
 use Rattle.board_core.specs.declared.event.Op.{Op}
 use Rattle.board_core.specs.declared.event.Op.TheVariants as ops
 use Rattle.board_core.specs.declared.event.Reply.{Reply}
@@ -34,10 +36,10 @@ satp_by c (ops.WriteSatp value) reply = option_map Here (satp_of_write (spaces_o
 satp_by c ops.Advance (replies.Entry addr hart opaque) = Some (Here 0)
 satp_by c op reply = at_reset (reset_by op reply) 0
 
--- satp of a hart: what its last write, entry or reset made of it, and 0 before any.
-abbrev pub satp : Config → List Event → ℕ → ℕ
-satp c [] h = 0
-satp c (event ∷ past) h = latest (satp_by c event.op event.reply) (is_hart h event.actor) (satp c past h)
+-- satp of a hart: what its last write, entry or reset made of it, and before any what the opening has.
+abbrev pub satp : Opening → List Event → ℕ → ℕ
+satp o [] h = opened_satp o h
+satp o (event ∷ past) h = latest (satp_by o.config event.op event.reply) (is_hart h event.actor) (satp o past h)
 
 -- an address in the space that satp names
 abbrev pub address_by : (satp va : ℕ) → Address
@@ -70,11 +72,11 @@ written_by c None memory = memory
 written_by c (Some (Stored storing)) memory = written memory storing.at storing.value
 written_by c (Some Zeroed) memory = zero_memory c.pages
 
--- The word at a physical address, where the RAM has one: the one that was stored there last, and 0 before any and after a
--- cold reboot.
-abbrev pub memory : Config → List Event → ℕ → Option ℕ
-memory c [] = zero_memory c.pages
-memory c (event ∷ past) = written_by c (writing_by event.op event.reply event.translation) (memory c past)
+-- The word at a physical address, where the RAM has one: the one that was stored there last, before any the opening's, and 0
+-- after a cold reboot.
+abbrev pub memory : Opening → List Event → ℕ → Option ℕ
+memory o [] = word_in o.ram
+memory o (event ∷ past) = written_by o.config (writing_by event.op event.reply event.translation) (memory o past)
 
 -- ---- caches
 
@@ -97,38 +99,45 @@ filling_of (Some entry) used = None
 
 -- The entry that an address hits: of those that live, match the address and are global or of its address space, the one
 -- that was filled last (profile).
-abbrev pub hit_in : List (Act Entry) → Address → Option Entry
-hit_in acts at = last_live covers_entry matches at acts
+abbrev pub hit_in : Opening → (h : ℕ) → List (Act Entry) → Address → Option Entry
+hit_in o h acts at = last_live o.places (tlb_at o h) covers_entry matches at acts
 
 -- An access that used an entry without hitting one filled it.
-abbrev pub entry_filling : Op → (used : Option Entry) → (satp : ℕ) → List (Act Entry) → Option Entry
-entry_filling (ops.Load va) used satp acts = filling_of (hit_in acts (address_by satp va)) used
-entry_filling (ops.Store va value) used satp acts = filling_of (hit_in acts (address_by satp va)) used
-entry_filling (ops.Fetch va) used satp acts = filling_of (hit_in acts (address_by satp va)) used
-entry_filling op used satp acts = None
+abbrev pub entry_filling : Op → (used : Option Entry) → (satp : ℕ) → (hit : Address → Option Entry) → Option Entry
+entry_filling (ops.Load va) used satp hit = filling_of (hit (address_by satp va)) used
+entry_filling (ops.Store va value) used satp hit = filling_of (hit (address_by satp va)) used
+entry_filling (ops.Fetch va) used satp hit = filling_of (hit (address_by satp va)) used
+entry_filling op used satp hit = None
 
--- What happened to the TLB of a hart, newest first: an act for each event.
-abbrev pub tlb_acts : Config → List Event → ℕ → List (Act Entry)
-tlb_acts c [] h = []
-tlb_acts c (event ∷ past) h =
-    act_by (effect (turns c past) (turn_of c past event.actor event.op event.reply) h)
-    (own_filling (is_hart h event.actor) (entry_filling event.op event.translation (satp c past h) (tlb_acts c past h)))
-    ∷ tlb_acts c past h
+-- What happened to the TLB of a hart since the opening, newest first: an act for each event.
+abbrev pub tlb_acts : Opening → List Event → ℕ → List (Act Entry)
+tlb_acts o [] h = []
+tlb_acts o (event ∷ past) h =
+    act_by (effect o.fences (turns o past) (turn_of o past event.actor event.op event.reply) h)
+    (own_filling (is_hart h event.actor) (entry_filling event.op event.translation (satp o past h) (hit_in o h (tlb_acts o past h))))
+    ∷ tlb_acts o past h
 
 -- the word that was fetched last from a physical address, of those that live
-abbrev pub cached_in : List (Act FetchWord) → (pa : ℕ) → Option FetchWord
-cached_in acts pa = last_live covers_word is_at pa acts
+abbrev pub cached_in : Opening → (h : ℕ) → List (Act FetchWord) → (pa : ℕ) → Option FetchWord
+cached_in o h acts pa = last_live o.places (words_at o h) covers_word is_at pa acts
 
 -- A fetch that answers a value fills the word that it read from the memory.
-abbrev pub word_filling : Op → Reply → (used : Option Entry) → (memory : ℕ → Option ℕ) → List (Act FetchWord) → Option FetchWord
-word_filling (ops.Fetch va) (replies.Value value) used memory acts =
-    fetched_from (cached_in acts (phys_at used va)) (phys_at used va) (unwrap_or (memory (phys_at used va)) 0)
-word_filling op reply used memory acts = None
+abbrev pub word_filling : Op → Reply → (used : Option Entry) → (memory : ℕ → Option ℕ) → (cached : ℕ → Option FetchWord) → Option FetchWord
+word_filling (ops.Fetch va) (replies.Value value) used memory cached =
+    fetched_from (cached (phys_at used va)) (phys_at used va) (unwrap_or (memory (phys_at used va)) 0)
+word_filling op reply used memory cached = None
 
--- What happened to the instruction cache of a hart, newest first.
-abbrev pub word_acts : Config → List Event → ℕ → List (Act FetchWord)
-word_acts c [] h = []
-word_acts c (event ∷ past) h =
-    act_by (effect (turns c past) (turn_of c past event.actor event.op event.reply) h)
-    (own_filling (is_hart h event.actor) (word_filling event.op event.reply event.translation (memory c past) (word_acts c past h)))
-    ∷ word_acts c past h
+-- What happened to the instruction cache of a hart since the opening, newest first.
+abbrev pub word_acts : Opening → List Event → ℕ → List (Act FetchWord)
+word_acts o [] h = []
+word_acts o (event ∷ past) h =
+    act_by (effect o.fences (turns o past) (turn_of o past event.actor event.op event.reply) h)
+    (own_filling (is_hart h event.actor) (word_filling event.op event.reply event.translation (memory o past) (cached_in o h (word_acts o past h))))
+    ∷ word_acts o past h
+
+-- The caches of a hart: what those of the opening became by all of that.
+abbrev pub caches_of : Opening → List Event → ℕ → Caches
+caches_of o past h = record {
+  tlb = cache_after o.places (tlb_at o h) covers_entry (tlb_acts o past h);
+  words = cache_after o.places (words_at o h) covers_word (word_acts o past h);
+}

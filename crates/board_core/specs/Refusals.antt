@@ -5,7 +5,7 @@ use Rattle.fence_queue.specs.declared.request.Request.{Request}
 use Rattle.hsm.specs.States.{goes_on, is_interruptible, is_started}
 use Rattle.interrupts.specs.Timing.{last_time}
 use Rattle.tlb_model.specs.declared.fence.Flush.{Flush}
-use Rattle.board_core.specs.declared.config.Config.{Config}
+use Rattle.board_core.specs.Opening.{Opening}
 use Rattle.board_core.specs.History.{Event}
 use Rattle.board_core.specs.declared.event.Op.{Op}
 use Rattle.board_core.specs.declared.event.Op.TheVariants.{Ecall, Load, Store, Fetch, WriteSatp, WriteSie, WriteSstatusSie, ReadSip, ClearSsip, Wfi, Sfence, FenceI, Poll, Serve, Advance, Tick}
@@ -88,28 +88,29 @@ refusals_in s op is_full =
     ∷ (is_full, HistoryFull)
     ∷ []
 
--- whether the history holds as many events as it may
-abbrev pub is_full : Config → List Event → Bool
-is_full c past = length past == c.limit
+-- whether the kept history holds as many events as it may
+abbrev pub is_full : Opening → List Event → Bool
+is_full o past = length past == o.config.limit
 
 -- The situation of hart h.
-abbrev pub situation : Config → List Event → ℕ → Situation
-situation c past h =
-    record { state = state c past h; wake = wake c past h; call = outstanding c past h; fences = waiting c past h }
+abbrev pub situation : Opening → List Event → ℕ → Situation
+situation o past h =
+    record { state = state o past h; wake = wake o past h; call = outstanding o past h; fences = waiting o past h }
 
 -- The refusals of an operation of hart h: first of all, the power has to be on, and there has to be such a hart.
-abbrev pub refusals : Config → List Event → ℕ → Op → List (Bool × Refusal)
-refusals c past h op = (is_off past, Off) ∷ (nat_le c.harts h, WrongPhase) ∷ refusals_in (situation c past h) op (is_full c past)
+abbrev pub refusals : (is_full : Bool) → Opening → List Event → ℕ → Op → List (Bool × Refusal)
+refusals is_full o past h op =
+    (is_off o past, Off) ∷ (nat_le o.config.harts h, WrongPhase) ∷ refusals_in (situation o past h) op is_full
 
 abbrev pub is_tick : Op → Bool
 is_tick (Tick n) = true
 is_tick op = false
 
 -- The refusals of an operation of the clock, which only ticks, while the power is on, and not past the last time.
-abbrev pub clock_refusals : Config → List Event → Op → List (Bool × Refusal)
-clock_refusals c past op =
-    (is_off past, Off)
+abbrev pub clock_refusals : (is_full : Bool) → Opening → List Event → Op → List (Bool × Refusal)
+clock_refusals is_full o past op =
+    (is_off o past, Off)
     ∷ (not (is_tick op), WrongPhase)
-    ∷ (is_full c past, HistoryFull)
-    ∷ (nat_lt last_time (time past + ticks_by op), TimeFull)
+    ∷ (is_full, HistoryFull)
+    ∷ (nat_lt last_time (time o past + ticks_by op), TimeFull)
     ∷ []

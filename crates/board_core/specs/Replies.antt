@@ -1,12 +1,12 @@
 -- What a step answers.
-use Rattle.std.specs.Prelude.{◌≡◌, ℕ, List, [], ◌∷◌, Option, Some, None, Result, Ok, Err}
+use Rattle.std.specs.Prelude.{◌≡◌, ℕ, List, [], ◌∷◌, Bool, Option, Some, None, Result, Ok, Err}
 use Rattle.sbi_abi.specs.declared.call.Call.{Call}
 use Rattle.sbi_abi.specs.Calls.{call_of}
 use Rattle.hart_access.specs.declared.operation.Access.TheVariants as accesses
 use Rattle.hsm.specs.declared.hart.HartState.{HartState}
 use Rattle.hsm.specs.declared.hart.HartState.TheVariants as states
 use Rattle.hsm.specs.declared.hart.Kept.{Kept}
-use Rattle.board_core.specs.declared.config.Config.{Config}
+use Rattle.board_core.specs.Opening.{IsOpening, Opening}
 use Rattle.board_core.specs.declared.event.Actor.{Actor}
 use Rattle.board_core.specs.declared.event.Actor.TheVariants.{Hart, Clock}
 use Rattle.board_core.specs.History.{Event}
@@ -21,15 +21,15 @@ use Rattle.board_core.specs.Returns.{as_reply}
 use Rattle.board_core.specs.Course.{Course}
 use Rattle.board_core.specs.Csrs.{interrupt_bits, sstatus_sie}
 use Rattle.board_core.specs.Interrupts.{ssip, stip}
-use Rattle.board_core.specs.Refusals.{clock_refusals, first_that_holds, refusals}
+use Rattle.board_core.specs.Refusals.{clock_refusals, first_that_holds, is_full, refusals}
 pub use Rattle.board_core.specs.Returns.{failure, success, unless}
 use Rattle.board_core.specs.Starts.{Start, last_start}
 use Rattle.board_core.specs.States.{state}
 use Rattle.board_core.specs.Suspends.{resume_point}
 
 -- The reply to a call by hart x.
-abbrev pub call_reply : Config → List Event → (x : ℕ) → Call → Reply
-call_reply c past x call = as_reply (reply_to c (sstatus_sie past x) (state c past) call)
+abbrev pub call_reply : Opening → List Event → (x : ℕ) → Call → Reply
+call_reply o past x call = as_reply (reply_to o.config (sstatus_sie o past x) (state o past) call)
 
 -- The reply to the end of a suspend: an entry where the suspend said, or the return of its call (SBI 9.4).
 abbrev pub resume_reply : (x : ℕ) → Option Kept → Reply
@@ -48,48 +48,53 @@ advance_reply x states.ResumePending start resume = resume_reply x resume
 advance_reply x s start resume = Moved s
 
 -- The reply to an operation of hart x that isn't refused.
-abbrev pub reply : Config → List Event → (x : ℕ) → Op → Reply
-reply c past x (Ecall regs) = call_reply c past x (call_of regs)
-reply c past x (Load va) = access_reply c past x va accesses.Load
-reply c past x (Store va value) = access_reply c past x va (accesses.Store value)
-reply c past x (Fetch va) = access_reply c past x va accesses.Fetch
-reply c past x (WriteSatp value) = Done
-reply c past x (WriteSie value) = Done
-reply c past x (WriteSstatusSie value) = Done
-reply c past x ReadSip = Value (interrupt_bits (ssip c past x) (stip c past x))
-reply c past x ClearSsip = Done
-reply c past x Wfi = Done
-reply c past x (Sfence va asid) = Done
-reply c past x FenceI = Done
-reply c past x Poll = Ret (success 0)
-reply c past x Serve = Served
-reply c past x Advance = advance_reply x (state c past x) (last_start c past x) (resume_point past x)
-reply c past x (Tick n) = Done
+abbrev pub reply : Opening → List Event → (x : ℕ) → Op → Reply
+reply o past x (Ecall regs) = call_reply o past x (call_of regs)
+reply o past x (Load va) = access_reply o past x va accesses.Load
+reply o past x (Store va value) = access_reply o past x va (accesses.Store value)
+reply o past x (Fetch va) = access_reply o past x va accesses.Fetch
+reply o past x (WriteSatp value) = Done
+reply o past x (WriteSie value) = Done
+reply o past x (WriteSstatusSie value) = Done
+reply o past x ReadSip = Value (interrupt_bits (ssip o past x) (stip o past x))
+reply o past x ClearSsip = Done
+reply o past x Wfi = Done
+reply o past x (Sfence va asid) = Done
+reply o past x FenceI = Done
+reply o past x Poll = Ret (success 0)
+reply o past x Serve = Served
+reply o past x Advance = advance_reply x (state o past x) (last_start o past x) (resume_point o past x)
+reply o past x (Tick n) = Done
 
 abbrev pub refused_or : Option Refusal → Reply → Result Reply Refusal
 refused_or (Some refusal) reply = Err refusal
 refused_or None reply = Ok reply
 
--- What a step answers: the first refusal that holds, else the reply.
-abbrev pub answer : Config → List Event → Actor → Op → Result Reply Refusal
-answer c past (Hart h) op = refused_or (first_that_holds (refusals c past h op)) (reply c past h op)
-answer c past Clock op = refused_or (first_that_holds (clock_refusals c past op)) Done
+-- What a step answers, where the history is full or isn't: the first refusal that holds, else the reply.
+abbrev pub answer_when : (is_full : Bool) → Opening → List Event → Actor → Op → Result Reply Refusal
+answer_when is_full o past (Hart h) op = refused_or (first_that_holds (refusals is_full o past h op)) (reply o past h op)
+answer_when is_full o past Clock op = refused_or (first_that_holds (clock_refusals is_full o past op)) Done
 
--- A legal history: each event holds the answer that the events before it give, and the entry that it used by them.
-abbrev pub IsLegal : Config → List Event → Type 0
-IsLegal c [] = Unit {0}
-IsLegal c (event ∷ past) =
-    (answer c past event.actor event.op ≡ Ok event.reply)
-    × (event.translation ≡ used_by_actor c past event.actor event.op)
-    × IsLegal c past
+-- What a step answers.
+abbrev pub answer : Opening → List Event → Actor → Op → Result Reply Refusal
+answer o past actor op = answer_when (is_full o past) o past actor op
+
+-- A legal history: a board could open so, and each event holds the answer that the events before it give, and the entry that
+-- it used by them.
+abbrev pub IsLegal : Opening → List Event → Type 0
+IsLegal o [] = IsOpening o
+IsLegal o (event ∷ past) =
+    (answer o past event.actor event.op ≡ Ok event.reply)
+    × (event.translation ≡ used_by_actor o past event.actor event.op)
+    × IsLegal o past
 
 abbrev pub recorded : Course → Actor → Op → Result Reply Refusal → Course
 recorded b actor op (Ok reply) = record {
-  config = b.config;
-  past = record { actor = actor; op = op; reply = reply; translation = used_by_actor b.config b.past actor op } ∷ b.past;
+  opening = b.opening;
+  past = record { actor = actor; op = op; reply = reply; translation = used_by_actor b.opening b.past actor op } ∷ b.past;
 }
 recorded b actor op (Err refusal) = b
 
 -- The course after a step: one more event where it is accepted, the same course where it is refused.
 abbrev pub stepped : Course → Actor → Op → Course
-stepped b actor op = recorded b actor op (answer b.config b.past actor op)
+stepped b actor op = recorded b actor op (answer b.opening b.past actor op)

@@ -7,6 +7,7 @@ use Rattle.sbi_abi.specs.declared.reset.ResetKind.{ResetKind}
 use Rattle.sbi_abi.specs.declared.reset.ResetKind.TheVariants.{Shutdown, ColdReboot, WarmReboot}
 use Rattle.sbi_abi.specs.Calls.{call_of}
 use Rattle.board_core.specs.History.{Event}
+use Rattle.board_core.specs.Opening.{Opening}
 use Rattle.board_core.specs.declared.event.Op.{Op}
 use Rattle.board_core.specs.declared.event.Op.TheVariants.{Ecall}
 use Rattle.board_core.specs.declared.event.Reply.{Reply}
@@ -26,9 +27,9 @@ newer_or None before = before
 newer_or (Some value) before = Some value
 
 -- The last reset, if there was one.
-abbrev pub last_reset : List Event → Option Reset
-last_reset [] = None
-last_reset (event ∷ past) = newer_or (reset_by event.op event.reply) (last_reset past)
+abbrev pub last_reset : Opening → List Event → Option Reset
+last_reset o [] = o.last_reset
+last_reset o (event ∷ past) = newer_or (reset_by event.op event.reply) (last_reset o past)
 
 -- After a reboot the firmware starts the boot hart anew, and after a shutdown it starts none.
 abbrev pub begins_anew : ResetKind → Bool
@@ -46,5 +47,5 @@ abbrev pub is_shutdown : Option Reset → Bool
 is_shutdown None = false
 is_shutdown (Some reset) = not (begins_anew reset.kind)
 
-abbrev pub is_off : List Event → Bool
-is_off past = is_shutdown (last_reset past)
+abbrev pub is_off : Opening → List Event → Bool
+is_off o past = is_shutdown (last_reset o past)

@@ -1,5 +1,5 @@
 -- What a board keeps, and how each part of it stands for the history.
-use Rattle.std.specs.Prelude.{Option, slice_index_or, ◌≡◌, ◌<◌, ◌≤◌, ◌^◌, List, map, length, ℕ}
+use Rattle.std.specs.Prelude.{Option, slice_index_or, ◌≡◌, ◌+◌, ◌-◌, ◌<◌, ◌≤◌, ◌^◌, List, map, length, ℕ}
 use Rattle.hart_mask.specs.Ids.{has, ids_where}
 use Rattle.hsm.specs.Harts.{Hart}
 use Rattle.hsm.specs.Transitions.{hart_at}
@@ -14,56 +14,55 @@ use Rattle.tlb_model.specs.declared.entry.Address.{Address}
 use Rattle.tlb_model.specs.declared.entry.Entry.{Entry}
 use Rattle.tlb_model.specs.declared.fence.Flush.{Flush}
 use Rattle.tlb_model.specs.declared.word.FetchWord.{FetchWord}
-use Rattle.tlb_model.specs.Acts.{cache_after}
-use Rattle.tlb_model.specs.Contents.{empty, hit}
-use Rattle.tlb_model.specs.Entries.{covers_entry, matches}
-use Rattle.tlb_model.specs.Words.{covers_word, is_at}
+use Rattle.tlb_model.specs.Contents.{hit}
+use Rattle.tlb_model.specs.Entries.{matches}
+use Rattle.tlb_model.specs.Words.{is_at}
 use Rattle.board_core.specs.declared.config.Config.{Config}
+use Rattle.board_core.specs.Opening.{IsOpening, Opening, on, place_after}
+pub use Rattle.board_core.specs.Opening.{no_caches}
 use Rattle.board_core.specs.History.{Event}
 use Rattle.board_core.specs.declared.counts.Counts.{Counts}
 use Rattle.board_core.specs.declared.csrs.Csrs.{Csrs}
 use Rattle.board_core.specs.declared.interrupt_state.Interrupts.{Interrupts}
 use Rattle.board_core.specs.declared.machine.Machine.{Machine}
 use Rattle.board_core.specs.declared.memory.Memory.{Memory}
+use Rattle.board_core.specs.Cuts.{IsOpened}
 use Rattle.board_core.specs.Course.{harts_of}
 use Rattle.board_core.specs.Csrs.{enables, sie, sstatus_sie}
 use Rattle.board_core.specs.Fences.{turns}
 use Rattle.board_core.specs.Interrupts.{deadline, ssip, time}
 use Rattle.board_core.specs.Limits.{IsGood}
-use Rattle.board_core.specs.Memory.{memory, satp, tlb_acts, word_acts}
+use Rattle.board_core.specs.Memory.{memory, satp}
+pub use Rattle.board_core.specs.Memory.{caches_of}
 use Rattle.board_core.specs.Refusals.{Situation}
 use Rattle.board_core.specs.Replies.{IsLegal}
 use Rattle.board_core.specs.Resets.{last_reset}
-use Rattle.board_core.specs.Starts.{entries, hart_of, starts}
+use Rattle.board_core.specs.Starts.{entered_before, entries, hart_of, starts}
 
 -- the harts are those that the past makes
-pub record HartsStand (c : Config) (past : List Event) (harts : List Hart) : Type 0 where
-  pub each : harts ≡ map (hart_of c past) (harts_of c)
+pub record HartsStand (o : Opening) (past : List Event) (harts : List Hart) : Type 0 where
+  pub each : harts ≡ map (hart_of o past) (harts_of o.config)
 
 -- the registers hold what was last written
-pub record CsrsStand (c : Config) (past : List Event) (csrs : Csrs) : Type 0 where
-  pub sstatus_sie : csrs.sstatus_sie ≡ ids_where (sstatus_sie past)
-  pub ssie : csrs.ssie ≡ ids_where (λ h. (sie c past h).ssie)
-  pub stie : csrs.stie ≡ ids_where (λ h. (sie c past h).stie)
+pub record CsrsStand (o : Opening) (past : List Event) (csrs : Csrs) : Type 0 where
+  pub sstatus_sie : csrs.sstatus_sie ≡ ids_where (sstatus_sie o past)
+  pub ssie : csrs.ssie ≡ ids_where (λ h. (sie o past h).ssie)
+  pub stie : csrs.stie ≡ ids_where (λ h. (sie o past h).stie)
 
 -- SSIP is 1 where the past makes it
-pub record IpisStand (c : Config) (past : List Event) (ipis : List ℕ) : Type 0 where
-  pub ssip : ipis ≡ ids_where (ssip c past)
+pub record IpisStand (o : Opening) (past : List Event) (ipis : List ℕ) : Type 0 where
+  pub ssip : ipis ≡ ids_where (ssip o past)
 
 -- the time is the past's, and the deadlines are those that the past sets
-pub record TimersStand (c : Config) (past : List Event) (timers : Timing) : Type 0 where
-  pub time : timers.time ≡ time past
-  pub deadlines : timers.deadlines ≡ map (deadline c past) (harts_of c)
+pub record TimersStand (o : Opening) (past : List Event) (timers : Timing) : Type 0 where
+  pub time : timers.time ≡ time o past
+  pub deadlines : timers.deadlines ≡ map (deadline o past) (harts_of o.config)
 
 -- what interrupts harts, and what enables it, is what the past makes it
-pub record InterruptsStand (c : Config) (past : List Event) (i : Interrupts) : Type 0 where
-  pub csrs : CsrsStand c past i.csrs
-  pub ipis : IpisStand c past i.ipis
-  pub timers : TimersStand c past i.timers
-
--- caches in which nothing was filled
-abbrev pub no_caches : Caches
-no_caches = record { tlb = empty; words = empty }
+pub record InterruptsStand (o : Opening) (past : List Event) (i : Interrupts) : Type 0 where
+  pub csrs : CsrsStand o past i.csrs
+  pub ipis : IpisStand o past i.ipis
+  pub timers : TimersStand o past i.timers
 
 -- satp and the caches of hart h, and what is hit in them
 abbrev pub satp_at : Memory → ℕ → ℕ
@@ -78,35 +77,32 @@ tlb_hit caches at = hit matches at caches.tlb
 abbrev pub word_hit : Caches → ℕ → Option FetchWord
 word_hit caches pa = hit is_at pa caches.words
 
--- the caches of a hart as the past makes them
-abbrev pub caches_of : Config → List Event → ℕ → Caches
-caches_of c past h = record { tlb = cache_after covers_entry (tlb_acts c past h); words = cache_after covers_word (word_acts c past h) }
-
 -- the RAM has the past's words, satp of each hart is what was last written, and its caches have what lives
-pub record MemoryStand (c : Config) (past : List Event) (m : Memory) : Type 0 where
-  pub pages : pages_of m.ram ≡ c.pages
-  pub ram : word_in m.ram ≡ memory c past
-  pub satps : m.satps.items ≡ map (satp c past) (harts_of c)
-  pub caches : m.caches.items ≡ map (caches_of c past) (harts_of c)
+pub record MemoryStand (o : Opening) (past : List Event) (m : Memory) : Type 0 where
+  pub pages : pages_of m.ram ≡ o.config.pages
+  pub ram : word_in m.ram ≡ memory o past
+  pub satps : m.satps.items ≡ map (satp o past) (harts_of o.config)
+  pub caches : m.caches.items ≡ map (caches_of o past) (harts_of o.config)
 
--- the fences stand for the turns of the past, each of which could be made
-pub record FencesStand (c : Config) (past : List Event) (f : State Flush) : Type 0 where
-  pub stands : fences.StandsFor c.harts (turns c past) f
-  pub right : IsRight c.harts (turns c past)
+-- the fences stand for the turns of the past, each of which could be made, and which have the places of its events
+pub record FencesStand (o : Opening) (past : List Event) (f : State Flush) : Type 0 where
+  pub stands : fences.StandsFor o.fences o.config.harts (turns o past) f
+  pub right : IsRight o.fences o.config.harts (turns o past)
+  pub places : o.fences.first ≡ o.places
 
--- the counts are those of the past
-pub record CountsStand (c : Config) (past : List Event) (counts : Counts) : Type 0 where
-  pub starts : counts.starts ≡ length (starts c past)
-  pub entries : counts.entries ≡ length (entries c past)
+-- the counts are those of the past, and of what was entered before it
+pub record CountsStand (o : Opening) (past : List Event) (counts : Counts) : Type 0 where
+  pub starts : counts.starts ≡ length (starts o past) + entered_before o past
+  pub entries : counts.entries ≡ length (entries o past) + entered_before o past
 
 -- the machine holds what the definitions give on the past
-pub record StandsFor (c : Config) (past : List Event) (m : Machine) : Type 0 where
-  pub harts : HartsStand c past m.hsm
-  pub interrupts : InterruptsStand c past m.interrupts
-  pub memory : MemoryStand c past m.memory
-  pub fences : FencesStand c past m.fences
-  pub counts : CountsStand c past m.counts
-  pub last_reset : m.last_reset ≡ last_reset past
+pub record StandsFor (o : Opening) (past : List Event) (m : Machine) : Type 0 where
+  pub harts : HartsStand o past m.hsm
+  pub interrupts : InterruptsStand o past m.interrupts
+  pub memory : MemoryStand o past m.memory
+  pub fences : FencesStand o past m.fences
+  pub counts : CountsStand o past m.counts
+  pub last_reset : m.last_reset ≡ last_reset o past
 
 -- there is a hart, a deadline, a satp, a pair of caches, a call and a queue for each id
 pub record IsSized (c : Config) (m : Machine) : Type 0 where
@@ -127,11 +123,13 @@ situation_in m h = record {
   fences = queue_at m.fences.queues h;
 }
 
--- There is a past of few events that the machine stands for.
+-- There are an opening of a board with these numbers and a past that the machine stands for, and few events were accepted.
 pub record IsStanding (c : Config) (m : Machine) : Type 0 where
+  pub o : Opening
   pub past : List Event
-  pub stands : StandsFor c past m
-  pub few : length past ≤ 1000000
+  pub opens : IsOpening (on c o)
+  pub stands : StandsFor (on c o) past m
+  pub few : place_after o past < 2 ^ 56
 
 -- the caches of hart h can be filled once more
 pub record CanFill (memory : Memory) (h : ℕ) : Type 0 where
@@ -145,8 +143,10 @@ pub record HasRoom (counts : Counts) : Type 0 where
   pub starts : counts.starts < 2 ^ 63
   pub entries : counts.entries < 2 ^ 63
 
--- the past of a good board, within its limit
-pub record IsKept (c : Config) (past : List Event) : Type 0 where
-  pub good : IsGood c
-  pub legal : IsLegal c past
-  pub within : length past ≤ c.limit
+-- the past of a good board, within its limit; places, fill numbers and counts have room for as many events more
+pub record IsKept (o : Opening) (past : List Event) : Type 0 where
+  pub good : IsGood o.config
+  pub opened : IsOpened o
+  pub legal : IsLegal o past
+  pub within : length past ≤ o.config.limit
+  pub early : o.places ≤ 2 ^ 56 - 1000000

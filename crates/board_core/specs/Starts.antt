@@ -10,7 +10,9 @@ use Rattle.hsm.specs.declared.hart.HartState.TheVariants as states
 use Rattle.hsm.specs.declared.hart.Kept.{Kept}
 use Rattle.hsm.specs.Harts.{Hart}
 use Rattle.hsm.specs.States.{is_start_pending}
+use Rattle.hsm.specs.Transitions.{hart_at}
 use Rattle.board_core.specs.declared.config.Config.{Config}
+use Rattle.board_core.specs.Opening.{Opening}
 use Rattle.board_core.specs.History.{Event}
 use Rattle.board_core.specs.declared.event.Op.{Op}
 use Rattle.board_core.specs.declared.event.Op.TheVariants.{Ecall, Advance}
@@ -59,10 +61,20 @@ abbrev pub start_by : Config → Op → Reply → Option Growth
 start_by c (Ecall regs) reply = start_by_call c (call_of regs) reply
 start_by c op reply = None
 
--- The accepted starts since the last reset, newest first; the first of all is the firmware's own.
-abbrev pub starts : Config → List Event → List Start
-starts c [] = boot_start c ∷ []
-starts c (event ∷ past) = grown (start_by c event.op event.reply) (starts c past)
+-- a pending start of a hart, by its state and what is kept for its entry
+abbrev pub start_in : (h : ℕ) → HartState → Option Kept → Option Start
+start_in h states.StartPending (Some kept) = Some (record { hart = h; addr = kept.addr; opaque = kept.opaque })
+start_in h s kept = None
+
+-- The starts that are pending at the opening: at a board's first one, the firmware's own alone.
+abbrev pub starts_opened : Opening → List Start
+starts_opened o = filter_map (λ h. start_in h (hart_at o.harts h).state (hart_at o.harts h).kept) (harts_of o.config)
+
+-- The accepted starts since the last reset, newest first, and without one those since the opening, after the starts that were
+-- pending there.
+abbrev pub starts : Opening → List Event → List Start
+starts o [] = starts_opened o
+starts o (event ∷ past) = grown (start_by o.config event.op event.reply) (starts o past)
 
 -- the start that a step enters: an Advance that enters, of a hart whose start is pending
 abbrev pub entered_by : Op → Reply → (starting : Bool) → Option Start
@@ -73,24 +85,33 @@ entered_by op reply starting = None
 abbrev pub entry_by : Op → Reply → (starting : Bool) → Option Growth
 entry_by op reply starting = growth (entered_by op reply starting) (reset_by op reply) (λ reset. [])
 
--- The entries of starts since the last reset, newest first, as their replies tell them.
-abbrev pub entries : Config → List Event → List Start
-entries c [] = []
-entries c (event ∷ past) = grown (entry_by event.op event.reply (is_starting c past event.actor)) (entries c past)
+-- The entries of starts since the last reset, or since the opening, newest first, as their replies tell them.
+abbrev pub entries : Opening → List Event → List Start
+entries o [] = []
+entries o (event ∷ past) = grown (entry_by event.op event.reply (is_starting o past event.actor)) (entries o past)
+
+-- How many starts were entered before the opening and since the last reset: none, where a reset came after the opening.
+abbrev pub unless_reset : Option Reset → ℕ → ℕ
+unless_reset None entered = entered
+unless_reset (Some reset) entered = 0
+
+abbrev pub entered_before : Opening → List Event → ℕ
+entered_before o [] = o.entered
+entered_before o (event ∷ past) = unless_reset (reset_by event.op event.reply) (entered_before o past)
 
 abbrev pub is_of : ℕ → Start → Bool
 is_of h start = h == start.hart
 
 -- the last start of a hart that has one
-abbrev pub last_start : Config → List Event → ℕ → Start
-last_start c past h = unwrap_or (find (is_of h) (starts c past)) (boot_start c)
+abbrev pub last_start : Opening → List Event → ℕ → Start
+last_start o past h = unwrap_or (find (is_of h) (starts o past)) (boot_start o.config)
 
 -- The pending start of a hart: its last one, while the hart is START_PENDING.
-abbrev pub pending : Config → List Event → ℕ → Option Start
-pending c past h = if is_start_pending (state c past h) then Some (last_start c past h) else None
+abbrev pub pending : Opening → List Event → ℕ → Option Start
+pending o past h = if is_start_pending (state o past h) then Some (last_start o past h) else None
 
-abbrev pub all_pending : Config → List Event → List Start
-all_pending c past = filter_map (pending c past) (harts_of c)
+abbrev pub all_pending : Opening → List Event → List Start
+all_pending o past = filter_map (pending o past) (harts_of o.config)
 
 -- What is kept for a hart's entry, by its state: in START_PENDING its start (SBI 9.1), and in a suspend where it is to
 -- begin anew (SBI 9.4).
@@ -101,15 +122,15 @@ kept_in states.Suspended start resume = resume
 kept_in states.ResumePending start resume = resume
 kept_in s start resume = None
 
-abbrev pub kept : Config → List Event → ℕ → Option Kept
-kept c past h = kept_in (state c past h) (last_start c past h) (resume_point past h)
+abbrev pub kept : Opening → List Event → ℕ → Option Kept
+kept o past h = kept_in (state o past h) (last_start o past h) (resume_point o past h)
 
 -- a hart as its history makes it: its state, and what is kept for its entry
-abbrev pub hart_of : Config → List Event → ℕ → Hart
-hart_of c past h = record { state = state c past h; kept = kept c past h }
+abbrev pub hart_of : Opening → List Event → ℕ → Hart
+hart_of o past h = record { state = state o past h; kept = kept o past h }
 
 -- The starts law: the starts of a hart, newest first, are its pending one, if any, and then its entries, each
 -- entered with its own address and opaque value.
-abbrev pub StartsAreEntered : Config → List Event → Type 0
-StartsAreEntered c past = (h : ℕ) →
-    filter (is_of h) (starts c past) ≡ option_to_list (pending c past h) ++ filter (is_of h) (entries c past)
+abbrev pub StartsAreEntered : Opening → List Event → Type 0
+StartsAreEntered o past = (h : ℕ) →
+    filter (is_of h) (starts o past) ≡ option_to_list (pending o past h) ++ filter (is_of h) (entries o past)

@@ -7,7 +7,9 @@ use Rattle.sbi_abi.specs.declared.reset.Reset.{Reset}
 use Rattle.hsm.specs.declared.hart.HartState.{HartState}
 use Rattle.hsm.specs.declared.hart.HartState.TheVariants as states
 use Rattle.hsm.specs.States.{is_start_pending}
+use Rattle.hsm.specs.Transitions.{hart_at}
 use Rattle.board_core.specs.declared.config.Config.{Config}
+use Rattle.board_core.specs.Opening.{Opening}
 use Rattle.board_core.specs.declared.event.Actor.{Actor}
 use Rattle.board_core.specs.declared.event.Actor.TheVariants.{Hart, Clock}
 use Rattle.board_core.specs.History.{Event}
@@ -20,12 +22,12 @@ use Rattle.board_core.specs.declared.event.Reply.TheVariants.{Ret, Entry, Moved}
 pub use Rattle.board_core.specs.Writes.{Move, One, Each, moved_to}
 
 -- The firmware starts the boot hart by itself: its start is pending, and the others are STOPPED (profile).
-abbrev pub state_at_opening : Config → ℕ → HartState
-state_at_opening c h = if h == c.boot_hart then states.StartPending else states.Stopped
+abbrev pub state_at_boot : Config → ℕ → HartState
+state_at_boot c h = if h == c.boot_hart then states.StartPending else states.Stopped
 
 -- A reset makes each hart STOPPED, and a reboot starts the boot hart anew (profile).
 abbrev pub state_at_reset : Config → Reset → ℕ → HartState
-state_at_reset c reset h = if begins_anew reset.kind then state_at_opening c h else states.Stopped
+state_at_reset c reset h = if begins_anew reset.kind then state_at_boot c h else states.Stopped
 
 abbrev pub move_at_reset : Config → Option Reset → Option Move
 move_at_reset c None = None
@@ -50,14 +52,14 @@ abbrev pub move_of : Config → Actor → Op → Reply → Option Move
 move_of c (Hart x) op reply = move_by c x op reply
 move_of c Clock op reply = None
 
-abbrev pub state : Config → List Event → ℕ → HartState
-state c [] h = state_at_opening c h
-state c (event ∷ past) h = moved_to (move_of c event.actor event.op event.reply) h (state c past h)
+abbrev pub state : Opening → List Event → ℕ → HartState
+state o [] h = (hart_at o.harts h).state
+state o (event ∷ past) h = moved_to (move_of o.config event.actor event.op event.reply) h (state o past h)
 
 -- whether the actor is a hart whose start is pending
-abbrev pub is_starting : Config → List Event → Actor → Bool
-is_starting c past (Hart x) = is_start_pending (state c past x)
-is_starting c past Clock = false
+abbrev pub is_starting : Opening → List Event → Actor → Bool
+is_starting o past (Hart x) = is_start_pending (state o past x)
+is_starting o past Clock = false
 
 -- Whether a step is the entry of a start: an Advance that enters, of a hart whose start is pending (SBI 9.1).
 abbrev pub is_start_entry : Op → Reply → (starting : Bool) → Bool

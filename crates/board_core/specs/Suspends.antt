@@ -4,7 +4,9 @@ use Rattle.sbi_abi.specs.declared.call.Call.{Call}
 use Rattle.sbi_abi.specs.declared.call.Call.TheVariants.{Hsm}
 use Rattle.sbi_abi.specs.Calls.{call_of}
 use Rattle.hsm.specs.declared.hart.Kept.{Kept}
+use Rattle.hsm.specs.Transitions.{hart_at}
 use Rattle.board_core.specs.History.{Event}
+use Rattle.board_core.specs.Opening.{Opening}
 use Rattle.board_core.specs.declared.event.Op.{Op}
 use Rattle.board_core.specs.declared.event.Op.TheVariants.{Ecall}
 use Rattle.board_core.specs.declared.event.Reply.{Reply}
@@ -21,7 +23,7 @@ abbrev pub resume_by : Op → Reply → Option (Write (Option Kept))
 resume_by (Ecall regs) reply = resume_by_call (call_of regs) reply
 resume_by op reply = None
 
--- What the last suspend of a hart said of where it begins anew, if it did.
-abbrev pub resume_point : List Event → ℕ → Option Kept
-resume_point [] h = None
-resume_point (event ∷ past) h = latest (resume_by event.op event.reply) (is_hart h event.actor) (resume_point past h)
+-- What the last suspend of a hart said of where it begins anew, if it did; before any, what the opening keeps for its entry.
+abbrev pub resume_point : Opening → List Event → ℕ → Option Kept
+resume_point o [] h = (hart_at o.harts h).kept
+resume_point o (event ∷ past) h = latest (resume_by event.op event.reply) (is_hart h event.actor) (resume_point o past h)

@@ -1,11 +1,8 @@
-ghost use Rattle.std.specs.Prelude.{◌≡◌, ◌<◌, ◌≤◌, ◌↔◌, ◌++◌, List, [], ◌∷◌, vec_capacity, vec_len, true, false, IfOk, IsErrOf, None, Ok, OnErr, OnOk, Some, length, reverse};
+ghost use Rattle.std.specs.Prelude.{◌≡◌, ◌⊎◌, ◌<◌, ◌≤◌, ◌↔◌, ◌++◌, List, [], ◌∷◌, vec_capacity, vec_len, true, false, IfErr, IfOk, IsErrOf, None, Ok, OnErr, OnOk, Some, length, reverse};
 ghost use Rattle.hsm.specs.declared.hart.HartState.{HartState};
 ghost use Rattle.interrupts.specs.Timing.{last_time};
-ghost use Rattle.tlb_model.specs.Acts.{cache_after};
-ghost use Rattle.tlb_model.specs.Entries.{covers_entry};
-ghost use Rattle.tlb_model.specs.Words.{covers_word};
-ghost use Rattle.board_core.specs.declared.config.BuildFault.TheVariants.{BadConfig};
-ghost use Rattle.board_core.specs.declared.config.Config.{Config};
+ghost use Rattle.board_core.specs.declared.config.BuildFault.TheVariants.{BadConfig, CutFull, NoMemory};
+ghost use Rattle.board_core.specs.Cuts.{IsOpened, IsUnseen, first_of, last_cut, opening_of};
 ghost use Rattle.board_core.specs.History.{Event, access_of, by_hart};
 ghost use Rattle.board_core.specs.Keeping.{IsShort};
 ghost use Rattle.board_core.specs.declared.event.Actor.TheVariants.{Hart, Clock};
@@ -13,7 +10,8 @@ ghost use Rattle.board_core.specs.Csrs.{sie, sstatus_sie};
 ghost use Rattle.board_core.specs.ErrorLaw.{LooksSame, is_error};
 ghost use Rattle.board_core.specs.Interrupts.{deadline, ssip, stip, time, wake};
 ghost use Rattle.board_core.specs.Limits.{IsGood};
-ghost use Rattle.board_core.specs.Memory.{memory, satp, tlb_acts, word_acts};
+ghost use Rattle.board_core.specs.Opening.{Opening, opening_at, place_after};
+ghost use Rattle.board_core.specs.Memory.{caches_of, memory, satp};
 ghost use Rattle.board_core.specs.Fences.{outstanding, phase, waiting};
 ghost use Rattle.board_core.specs.Need.{need};
 ghost use Rattle.board_core.specs.Refusals.{first_that_holds, is_full, refusals_in, situation};
@@ -22,26 +20,27 @@ ghost use Rattle.board_core.specs.States.{state};
 ghost use Rattle.board_core.specs.Starts.{kept, StartsAreEntered};
 ghost use Rattle.board_core.specs.Replies.{answer, stepped, IsLegal};
 ghost use Rattle.board_core.specs.Totals.{totals};
-ghost use Rattle.board_core.specs.Stands.{StandsFor};
 
 use crate::calls::is_shutdown;
 use crate::config::{BuildFault, Config};
-use crate::counts::Counts;
-use crate::csrs::{Csrs, Sie};
+use crate::csrs::Sie;
 use crate::event::{Actor, Event, Op, Refusal, Reply, access_of};
-use crate::interrupt_state::Interrupts;
 use crate::machine::Machine;
-use crate::memory::Memory;
+use crate::opening::Opening;
 use crate::phase::Phase;
 use hart_access::Access;
 use hart_mask::HartSet;
-use hsm::{HartState, Hsm, Kept};
-use interrupts::{Ipis, Timers};
-use rfence::{Fences, Waiting};
+use hsm::{HartState, Kept};
+use rfence::Waiting;
 use sbi_abi::Reset;
 use std::alloc::{AllocError, Global};
 use std::marker::Model;
+use std::mem;
 use tlb_model::{Entry, FetchWord, Flush, Live};
+
+/// The most events that may have been accepted since the first opening where a history is cut, so that places, fill numbers and
+/// counts have room for as many more as it may hold.
+const LAST_CUT: u64 = (1 << 56) - 1_000_000;
 
 /// The counts of the board's table: starts and entries since the last reset, fences since the opening.
 #[derive(Clone, Copy, Debug, PartialEq, Eq)]
@@ -64,22 +63,36 @@ pub struct Totals {
 #[derive(Drop)]
 pub struct Board {
     config: Config,
+    // (how many events were accepted before the kept history, and what a cut of the history left, if there was one)
+    places: u64,
+    opened: Option<Opening>,
     events: Vec<Event>,
     machine: Machine,
+}
+
+/// A part of a board's history: what it began with, and the events from there on.
+#[derive(Drop)]
+pub struct Segment {
+    /// What it began with.
+    pub opening: Opening,
+    /// The events, oldest first.
+    pub events: Vec<Event>,
 }
 
 impl Model for Board {
     ghost use Rattle.std.specs.Prelude.{◌≡◌, reverse, vec_capacity};
     ghost use Rattle.board_core.specs.Course.{Course};
+    ghost use Rattle.board_core.specs.Cuts.{IsOpenedBy, opened_by};
 
     ghost Value = { Course };
 
     ghost use Rattle.board_core.specs.Stands.{IsKept, StandsFor};
 
-    ghost view = { λ b. record { config = b.config; past = reverse b.events.items } };
+    ghost view = { λ b. record { opening = opened_by b.config b.places b.opened; past = reverse b.events.items } };
 
-    ghost invariant = { λ b. IsKept b.config (reverse b.events.items)
-        × StandsFor b.config (reverse b.events.items) b.machine × (vec_capacity b.events ≡ b.config.limit) };
+    ghost invariant = { λ b. IsKept (opened_by b.config b.places b.opened) (reverse b.events.items)
+        × StandsFor (opened_by b.config b.places b.opened) (reverse b.events.items) b.machine × (vec_capacity b.events ≡ b.config.limit)
+        × IsOpenedBy b.config b.places b.opened };
 }
 
 impl Board {
@@ -87,12 +100,13 @@ impl Board {
     /// the whole history is reserved here.
     pub fn new(alloc: Global, config: &Config) -> Result<Board, BuildFault>
         ensures bad { IsErrOf result BadConfig ↔ ¬ IsGood config.now }
-        ensures made { IfOk result (λ b. IsGood config.now × (b ≡ record { config = config.now; past = [] })) }
+        ensures fault { IfErr result (λ fault. (fault ≡ BadConfig) ⊎ (fault ≡ NoMemory)) }
+        ensures made { IfOk result (λ b. IsGood config.now × (b ≡ record { opening = opening_at config.now; past = [] })) }
     {
         if !config.is_good() {
             return Err(BuildFault::BadConfig);
         }
-        let Ok(machine) = opening(alloc, config) else {
+        let Ok(machine) = Machine::new(alloc, config) else {
             return Err(BuildFault::NoMemory);
         };
         let Ok(events) = Vec::with_capacity(alloc, config.limit as usize) else {
@@ -100,6 +114,8 @@ impl Board {
         };
         Ok(Board {
             config: *config,
+            places: 0,
+            opened: None,
             events,
             machine,
         })
@@ -112,17 +128,56 @@ impl Board {
     ///
     /// Memory was refused, and the board is as it was.
     pub fn begin_anew(&mut self, alloc: Global) -> Result<(), AllocError>
-        ensures opening { OnOk result (self.new ≡ record { config = self.old.config; past = [] }) }
+        ensures opening { OnOk result (self.new ≡ record { opening = opening_at self.old.opening.config; past = [] }) }
         ensures kept { OnErr result (self.new ≡ self.old) }
     {
-        self.machine = opening(alloc, &self.config)?;
+        self.machine = Machine::new(alloc, &self.config)?;
         self.events.clear();
+        self.places = 0;
+        self.opened = None;
         Ok(())
+    }
+
+    /// Cuts the history: hands out what the board began with and the history so far, and goes on with an empty one, and with
+    /// what it is now as what it begins with. It takes memory for a history and for a copy of what the board holds.
+    ///
+    /// # Errors
+    ///
+    /// More than 2^56 - 1,000,000 events were accepted since the first opening, or memory was refused. The board is as it was.
+    pub fn cut(&mut self, alloc: Global) -> Result<Segment, BuildFault>
+        ensures full { IsErrOf result CutFull ↔ last_cut < place_after self.old.opening self.old.past }
+        ensures fault { IfErr result (λ fault. (fault ≡ CutFull) ⊎ (fault ≡ NoMemory)) }
+        ensures unchanged { OnErr result (self.new ≡ self.old) }
+        ensures segment { IfOk result (λ s. (s.opening ≡ self.old.opening) × (reverse s.events.items ≡ self.old.past)) }
+        ensures after { OnOk result (self.new ≡ record { opening = opening_of self.old.opening self.old.past; past = [] }) }
+        ensures unseen { OnOk result (IsUnseen self.old.opening self.old.past) }
+    {
+        let place = self.place();
+        if place > LAST_CUT {
+            return Err(BuildFault::CutFull);
+        }
+        let Ok(empty) = Vec::with_capacity(alloc, self.config.limit as usize) else {
+            return Err(BuildFault::NoMemory);
+        };
+        let Ok(first) = first_opening(alloc, &self.config, &self.opened) else {
+            return Err(BuildFault::NoMemory);
+        };
+        let Ok(machine) = self.machine.try_copy(alloc) else {
+            return Err(BuildFault::NoMemory);
+        };
+        let left = Opening::of(self.config, place, machine);
+        let events = mem::replace(&mut self.events, empty);
+        let opened = mem::replace(&mut self.opened, Some(left));
+        self.places = place;
+        let Some(opening) = opened.or(first) else {
+            unreachable!()
+        };
+        Ok(Segment { opening, events })
     }
 
     /// One step of one actor: the one event that it records, or a refusal that leaves all as it was.
     pub fn step(&mut self, actor: Actor, op: Op) -> Result<Reply, Refusal>
-        ensures answer { result ≡ answer self.old.config self.old.past actor op }
+        ensures answer { result ≡ answer self.old.opening self.old.past actor op }
         ensures after { self.new ≡ stepped self.old actor op }
     {
         if self.is_off() {
@@ -136,8 +191,8 @@ impl Board {
 
     /// One step of hart `h`, while the power is on.
     fn hart_step(&mut self, h: u64, op: Op) -> Result<Reply, Refusal>
-        requires { is_off self.old.past ≡ false }
-        ensures answer { result ≡ answer self.old.config self.old.past (Hart h) op }
+        requires { is_off self.old.opening self.old.past ≡ false }
+        ensures answer { result ≡ answer self.old.opening self.old.past (Hart h) op }
         ensures after { self.new ≡ stepped self.old (Hart h) op }
     {
         if h >= self.config.harts {
@@ -158,14 +213,15 @@ impl Board {
     /// Carries out an access of hart `h` that isn't refused, and records it: the reply.
     #[inline(always)]
     fn access(&mut self, h: u64, op: Op, va: u64, what: Access) -> Reply
-        requires on { is_off self.old.past ≡ false }
-        requires in_range { h < self.old.config.harts }
-        requires unrefused { first_that_holds (refusals_in (situation self.old.config self.old.past h) op (is_full self.old.config self.old.past)) ≡ None }
+        requires on { is_off self.old.opening self.old.past ≡ false }
+        requires in_range { h < self.old.opening.config.harts }
+        requires unrefused { first_that_holds (refusals_in (situation self.old.opening self.old.past h) op (is_full self.old.opening self.old.past)) ≡ None }
         requires same { access_of op ≡ Some (record { va = va; access = what }) }
-        ensures answer { Ok result ≡ answer self.old.config self.old.past (Hart h) op }
+        ensures answer { Ok result ≡ answer self.old.opening self.old.past (Hart h) op }
         ensures after { self.new ≡ stepped self.old (Hart h) op }
     {
-        let (reply, used) = self.machine.access(h, va, what);
+        let place = self.place();
+        let (reply, used) = self.machine.access(place, h, va, what);
         self.events
             .push_reserved(Event::new(Actor::Hart(h), op, reply, used));
         reply
@@ -174,22 +230,23 @@ impl Board {
     /// Carries out an operation of hart `h` that isn't refused, and is no access, and records it: the reply.
     #[inline(always)]
     fn perform(&mut self, h: u64, op: Op) -> Reply
-        requires on { is_off self.old.past ≡ false }
-        requires in_range { h < self.old.config.harts }
-        requires unrefused { first_that_holds (refusals_in (situation self.old.config self.old.past h) op (is_full self.old.config self.old.past)) ≡ None }
+        requires on { is_off self.old.opening self.old.past ≡ false }
+        requires in_range { h < self.old.opening.config.harts }
+        requires unrefused { first_that_holds (refusals_in (situation self.old.opening self.old.past h) op (is_full self.old.opening self.old.past)) ≡ None }
         requires other { access_of op ≡ None }
-        ensures answer { Ok result ≡ answer self.old.config self.old.past (Hart h) op }
+        ensures answer { Ok result ≡ answer self.old.opening self.old.past (Hart h) op }
         ensures after { self.new ≡ stepped self.old (Hart h) op }
     {
-        let reply = self.machine.perform(&self.config, h, op);
+        let place = self.place();
+        let reply = self.machine.perform(&self.config, place, h, op);
         record(&mut self.events, h, op, reply);
         reply
     }
 
     /// One step of the clock, which only ticks, while the power is on.
     fn clock_step(&mut self, op: Op) -> Result<Reply, Refusal>
-        requires { is_off self.old.past ≡ false }
-        ensures answer { result ≡ answer self.old.config self.old.past Clock op }
+        requires { is_off self.old.opening self.old.past ≡ false }
+        ensures answer { result ≡ answer self.old.opening self.old.past Clock op }
         ensures after { self.new ≡ stepped self.old Clock op }
     {
         let Op::Tick(n) = op else {
@@ -206,9 +263,16 @@ impl Board {
         Ok(Reply::Done)
     }
 
+    /// How many events were accepted since the first opening: the place of the next one.
+    pub fn place(&self) -> u64
+        ensures { result ≡ place_after self.now.opening self.now.past }
+    {
+        self.places + self.events.len() as u64
+    }
+
     /// Whether the history holds as many events as it may.
     fn is_full(&self) -> bool
-        ensures { result ≡ is_full self.now.config self.now.past }
+        ensures { result ≡ is_full self.now.opening self.now.past }
     {
         self.events.len() as u64 == self.config.limit
     }
@@ -216,88 +280,96 @@ impl Board {
     /// The accepted events, oldest first: a legal history of a good opening, within the limit.
     pub fn history(&self) -> &[Event]
         ensures events { reverse result.now ≡ self.now.past }
-        ensures good { IsGood self.now.config }
-        ensures legal { IsLegal self.now.config self.now.past }
-        ensures within { length result.now ≤ self.now.config.limit }
+        ensures good { IsGood self.now.opening.config }
+        ensures opened { IsOpened self.now.opening }
+        ensures legal { IsLegal self.now.opening self.now.past }
+        ensures within { length result.now ≤ self.now.opening.config.limit }
     {
         &self.events
     }
 
+    /// How many events were accepted before those of the kept history: the place of its first.
+    pub fn places(&self) -> u64
+        ensures { result ≡ self.now.opening.places }
+    {
+        self.places
+    }
+
     /// What the board was opened with.
     pub fn config(&self) -> &Config
-        ensures opening { result.now ≡ self.now.config }
-        ensures good { IsGood self.now.config }
+        ensures config { result.now ≡ self.now.opening.config }
+        ensures good { IsGood self.now.opening.config }
     {
         &self.config
     }
 
     /// The state of hart `h` (SBI 9).
     pub fn state(&self, h: u64) -> HartState
-        requires { h < self.now.config.harts }
-        ensures { result ≡ state self.now.config self.now.past h }
+        requires { h < self.now.opening.config.harts }
+        ensures { result ≡ state self.now.opening self.now.past h }
     {
         self.machine.hsm.status(h)
     }
 
     /// Where hart `h` begins, while its start is pending, or while it is in a non-retentive suspend.
     pub fn kept(&self, h: u64) -> Option<Kept>
-        requires { h < self.now.config.harts }
-        ensures { result ≡ kept self.now.config self.now.past h }
+        requires { h < self.now.opening.config.harts }
+        ensures { result ≡ kept self.now.opening self.now.past h }
     {
         self.machine.hsm.kept(h)
     }
 
     /// Whether sstatus.SIE of hart `h` is 1 (Privileged 4.1.1).
     pub fn sstatus_sie(&self, h: u64) -> bool
-        requires { h < self.now.config.harts }
-        ensures { result ≡ sstatus_sie self.now.past h }
+        requires { h < self.now.opening.config.harts }
+        ensures { result ≡ sstatus_sie self.now.opening self.now.past h }
     {
         self.machine.interrupts.csrs.sstatus_sie.contains(h)
     }
 
     /// The interrupts that sie of hart `h` enables (Privileged 4.1.3).
     pub fn sie(&self, h: u64) -> Sie
-        requires { h < self.now.config.harts }
-        ensures { result ≡ sie self.now.config self.now.past h }
+        requires { h < self.now.opening.config.harts }
+        ensures { result ≡ sie self.now.opening self.now.past h }
     {
         self.machine.interrupts.csrs.sie(h)
     }
 
     /// Whether SSIP of hart `h` is 1: a software interrupt is pending (Privileged 4.1.3, SBI 7).
     pub fn ssip(&self, h: u64) -> bool
-        requires { h < self.now.config.harts }
-        ensures { result ≡ ssip self.now.config self.now.past h }
+        requires { h < self.now.opening.config.harts }
+        ensures { result ≡ ssip self.now.opening self.now.past h }
     {
         self.machine.interrupts.ipis.pending(h)
     }
 
     /// Whether STIP of hart `h` is 1: its deadline has come (Privileged 4.1.3, SBI 6).
     pub fn stip(&self, h: u64) -> bool
-        requires { h < self.now.config.harts }
-        ensures { result ≡ stip self.now.config self.now.past h }
+        requires { h < self.now.opening.config.harts }
+        ensures { result ≡ stip self.now.opening self.now.past h }
     {
         self.machine.interrupts.timers.pending(h)
     }
 
     /// Whether an interrupt is pending at hart `h` that its sie enables (Privileged 3.3.3, WFI).
     pub fn wake(&self, h: u64) -> bool
-        requires { h < self.now.config.harts }
-        ensures { result ≡ wake self.now.config self.now.past h }
+        requires { h < self.now.opening.config.harts }
+        ensures { result ≡ wake self.now.opening self.now.past h }
     {
         self.machine.interrupts.wake(h)
     }
 
     /// satp of hart `h` (Privileged 4.1.11).
     pub fn satp(&self, h: u64) -> u64
-        requires { h < self.now.config.harts }
-        ensures { result ≡ satp self.now.config self.now.past h }
+        requires { h < self.now.opening.config.harts }
+        ensures { result ≡ satp self.now.opening self.now.past h }
     {
         self.machine.memory.satp(h).bits()
     }
 
     /// The word of the RAM at a physical address; None where the address isn't aligned to 8, or outside the RAM.
     pub fn word(&self, at: u64) -> Option<u64>
-        ensures { result ≡ memory self.now.config self.now.past at }
+        ensures { result ≡ memory self.now.opening self.now.past at }
     {
         let ram = &self.machine.memory.ram;
         if ram.holds(at) {
@@ -309,41 +381,41 @@ impl Board {
 
     /// The live entries of the TLB of hart `h`, in the order of filling.
     pub fn tlb(&self, h: u64) -> Live<'_, Entry>
-        requires { h < self.now.config.harts }
-        ensures { reverse result ≡ (cache_after covers_entry (tlb_acts self.now.config self.now.past h)).live }
+        requires { h < self.now.opening.config.harts }
+        ensures { reverse result ≡ (caches_of self.now.opening self.now.past h).tlb.live }
     {
         self.machine.memory.caches[h as usize].tlb.live()
     }
 
     /// The live words of the instruction cache of hart `h`, in the order of filling.
     pub fn fetched(&self, h: u64) -> Live<'_, FetchWord>
-        requires { h < self.now.config.harts }
-        ensures { reverse result ≡ (cache_after covers_word (word_acts self.now.config self.now.past h)).live }
+        requires { h < self.now.opening.config.harts }
+        ensures { reverse result ≡ (caches_of self.now.opening self.now.past h).words.live }
     {
         self.machine.memory.caches[h as usize].words.live()
     }
 
     /// The fences that wait at hart `h`, the one first that it serves first.
     pub fn waiting(&self, h: u64) -> Waiting<'_, Flush>
-        requires { h < self.now.config.harts }
-        ensures { result ≡ waiting self.now.config self.now.past h }
+        requires { h < self.now.opening.config.harts }
+        ensures { result ≡ waiting self.now.opening self.now.past h }
     {
         self.machine.fences.iter(h)
     }
 
     /// How many fences wait at hart `h`: fewer than there are harts.
     pub fn waiting_len(&self, h: u64) -> u64
-        requires { h < self.now.config.harts }
-        ensures count { result ≡ length (waiting self.now.config self.now.past h) }
-        ensures limit { result < self.now.config.harts }
+        requires { h < self.now.opening.config.harts }
+        ensures count { result ≡ length (waiting self.now.opening self.now.past h) }
+        ensures limit { result < self.now.opening.config.harts }
     {
         self.machine.fences.len(h)
     }
 
     /// Whether hart `h` is inside a fence call (SBI 8; that a call waits: profile).
     pub fn phase(&self, h: u64) -> Phase
-        requires { h < self.now.config.harts }
-        ensures { result ≡ phase self.now.config self.now.past h }
+        requires { h < self.now.opening.config.harts }
+        ensures { result ≡ phase self.now.opening self.now.past h }
     {
         match self.outstanding(h) {
             None => Phase::Outside,
@@ -353,8 +425,8 @@ impl Board {
 
     /// The harts that the fence call of hart `h` waits for; None outside of a fence call.
     pub fn outstanding(&self, h: u64) -> Option<HartSet>
-        requires { h < self.now.config.harts }
-        ensures { result ≡ outstanding self.now.config self.now.past h }
+        requires { h < self.now.opening.config.harts }
+        ensures { result ≡ outstanding self.now.opening self.now.past h }
     {
         self.machine.fences.outstanding(h)
     }
@@ -363,39 +435,39 @@ impl Board {
     /// is 0 outside of a fence call, where the call doesn't wait for `t`, and where there is no such hart; and it is always
     /// less than the number of harts.
     pub fn need(&self, caller: u64, t: u64) -> u64
-        ensures need { result ≡ need self.now.config self.now.past caller t }
-        ensures limit { result < self.now.config.harts }
-        ensures no_caller { self.now.config.harts ≤ caller → result ≡ 0 }
-        ensures no_target { self.now.config.harts ≤ t → result ≡ 0 }
+        ensures need { result ≡ need self.now.opening self.now.past caller t }
+        ensures limit { result < self.now.opening.config.harts }
+        ensures no_caller { self.now.opening.config.harts ≤ caller → result ≡ 0 }
+        ensures no_target { self.now.opening.config.harts ≤ t → result ≡ 0 }
     {
         self.machine.fences.need(caller, t)
     }
 
     /// The last system reset, if there was one (SBI 10).
     pub fn last_reset(&self) -> Option<Reset>
-        ensures { result ≡ last_reset self.now.past }
+        ensures { result ≡ last_reset self.now.opening self.now.past }
     {
         self.machine.last_reset
     }
 
     /// Whether the power is off: the last reset is a shutdown (SBI 10.1).
     pub fn is_off(&self) -> bool
-        ensures { result ≡ is_off self.now.past }
+        ensures { result ≡ is_off self.now.opening self.now.past }
     {
         is_shutdown(self.machine.last_reset)
     }
 
     /// The deadline of hart `h`, in ticks, if it has one (SBI 6.1).
     pub fn deadline(&self, h: u64) -> Option<u64>
-        requires { h < self.now.config.harts }
-        ensures { result ≡ deadline self.now.config self.now.past h }
+        requires { h < self.now.opening.config.harts }
+        ensures { result ≡ deadline self.now.opening self.now.past h }
     {
         self.machine.interrupts.timers.deadline(h)
     }
 
     /// The time, in ticks since the opening: at most 2^64-2 (profile).
     pub fn time(&self) -> u64
-        ensures time { result ≡ time self.now.past }
+        ensures time { result ≡ time self.now.opening self.now.past }
         ensures within { result ≤ last_time }
     {
         self.machine.interrupts.timers.time()
@@ -404,8 +476,8 @@ impl Board {
     /// The counts of the board's table. For each hart, its accepted starts are its entries followed by its
     /// pending start.
     pub fn totals(&self) -> Totals
-        ensures counts { result ≡ totals self.now.config self.now.past }
-        ensures starts { StartsAreEntered self.now.config self.now.past }
+        ensures counts { result ≡ totals self.now.opening self.now.past }
+        ensures starts { StartsAreEntered self.now.opening self.now.past }
     {
         Totals {
             starts: self.machine.counts.starts,
@@ -418,16 +490,33 @@ impl Board {
     }
 }
 
+/// What a board began with, where it doesn't keep it, since its history was never cut.
+fn first_opening(
+    alloc: Global,
+    config: &Config,
+    opened: &Option<Opening>,
+) -> Result<Option<Opening>, AllocError>
+    requires { IsGood config.now }
+    ensures { IfOk result (λ first. first ≡ first_of config.now opened.now) }
+{
+    if opened.is_some() {
+        return Ok(None);
+    }
+    let opening = Opening::first(alloc, config)?;
+    Ok(Some(opening))
+}
+
 /// In every legal history the starts of a hart are its entries followed by its pending start, each entered
 /// with its own address and opaque value. A law: there is nothing to run.
 pub fn starts_are_entered()
-    ensures { (c : Config) (past : List Event) → IsLegal c past → StartsAreEntered c past }
+    ensures { (o : Opening) (past : List Event) → IsLegal o past → StartsAreEntered o past }
 {}
 
 /// In every legal history an event whose reply is an SBI error changes nothing: each look-up answers what it answered
 /// before (profile). A law: there is nothing to run.
 pub fn errors_change_nothing()
-    ensures { (c : Config) (event : Event) (past : List Event) → IsLegal c (event ∷ past) → is_error event.reply ≡ true → LooksSame c past (event ∷ past) }
+    ensures { (o : Opening) (event : Event) (past : List Event) →
+        IsLegal o (event ∷ past) → is_error event.reply ≡ true → LooksSame o past (event ∷ past) }
 {}
 
 /// Puts an operation of hart `h` that is no access at the end of the history, where there is room.
@@ -450,31 +539,4 @@ fn record(events: &mut Vec<Event>, h: u64, op: Op, reply: Reply)
         Op::Advance => events.push_reserved(Event::new(actor, Op::Advance, reply, None)),
         _ => events.push_reserved(Event::new(actor, op, reply, None)),
     }
-}
-
-/// The machine of a board at its opening.
-fn opening(alloc: Global, config: &Config) -> Result<Machine, AllocError>
-    requires { IsGood config.now }
-    ensures { IfOk result (StandsFor config.now []) }
-{
-    let boot = Kept {
-        addr: config.boot_addr,
-        opaque: config.boot_opaque,
-    };
-    let hsm = Hsm::new(alloc, config.harts, config.boot_hart, boot)?;
-    let timers = Timers::new(alloc, config.harts)?;
-    let counts = Counts::new(true);
-    let csrs = Csrs::new();
-    let ipis = Ipis::new();
-    let interrupts = Interrupts { csrs, ipis, timers };
-    let memory = Memory::new(alloc, config)?;
-    let fences = Fences::new(alloc, config.harts, Flush::Words)?;
-    Ok(Machine {
-        hsm,
-        interrupts,
-        memory,
-        fences,
-        counts,
-        last_reset: None,
-    })
 }

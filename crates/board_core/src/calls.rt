@@ -9,6 +9,7 @@ ghost use Rattle.board_core.specs.History.{Event, by_hart};
 ghost use Rattle.board_core.specs.declared.event.Op.TheVariants.{Ecall};
 ghost use Rattle.board_core.specs.declared.event.Reply.TheVariants.{Ret};
 ghost use Rattle.board_core.specs.Limits.{IsGood};
+ghost use Rattle.board_core.specs.Opening.{Opening, on, place_after};
 ghost use Rattle.board_core.specs.Replies.{call_reply, failure, success};
 ghost use Rattle.board_core.specs.Stands.{IsSized, IsStanding, StandsFor};
 ghost use Rattle.rfence.specs.State.{call_at};
@@ -28,23 +29,23 @@ use crate::machine::Machine;
 use sbi_abi::{Call, SbiError, Sbiret};
 
 impl Machine {
-    /// The firmware's reply to a call by hart `h`, which is STARTED.
-    pub fn call(&mut self, config: &Config, h: u64, call: Call) -> Reply
+    /// The firmware's reply to a call by hart `h`, which is STARTED, as the event of this place.
+    pub fn call(&mut self, config: &Config, place: u64, h: u64, call: Call) -> Reply
         requires good { IsGood config.now }
         requires sized { IsSized config.now self.old }
         requires in_range { h < config.now.harts }
         requires standing { IsStanding config.now self.old }
         requires started { (hart_at self.old.hsm h).state ≡ states.Started }
         requires outside { call_at self.old.fences h ≡ None }
-        ensures answered { (past : List Event) → StandsFor config.now past self.old → result ≡ call_reply config.now past h call }
-        ensures after { (past : List Event) (regs : Regs) → call ≡ call_of regs → StandsFor config.now past self.old →
-            StandsFor config.now (by_hart h (Ecall regs) result ∷ past) self.new }
+        ensures answered { (o : Opening) (past : List Event) → StandsFor (on config.now o) past self.old → result ≡ call_reply (on config.now o) past h call }
+        ensures after { (o : Opening) (past : List Event) (regs : Regs) → place ≡ place_after o past → call ≡ call_of regs → StandsFor (on config.now o) past self.old →
+            StandsFor (on config.now o) (by_hart h (Ecall regs) result ∷ past) self.new }
     {
         match call {
             Call::Base(call) => base_reply(call),
             Call::Time(call) => self.time_call(h, call),
             Call::Ipi(call) => self.ipi_call(config, call),
-            Call::Rfence(call) => self.rfence_call(config, h, call),
+            Call::Rfence(call) => self.rfence_call(config, place, h, call),
             Call::Hsm(call) => self.hsm_call(config, h, call),
             Call::Srst(call) => self.srst_call(config, call),
             Call::Unsupported => failure(SbiError::NotSupported),

@@ -31,7 +31,7 @@ pub const USUAL_ASID_LEN: u64 = ASID_BITS;
 /// The width of a board whose line doesn't say it: it has Sv39 alone.
 pub const USUAL_WIDTH: u64 = 39;
 
-/// Why no board was made.
+/// Why no board was made, or no history cut.
 #[derive(Clone, Copy, Debug, PartialEq, Eq, Error)]
 pub enum BuildFault {
     /// A number is outside the board's limits.
@@ -40,6 +40,9 @@ pub enum BuildFault {
     /// Memory was refused.
     #[error("no memory")]
     NoMemory,
+    /// Too many events were accepted for a cut of the history: places, fill numbers and counts might not have room.
+    #[error("too many events for a cut")]
+    CutFull,
 }
 
 impl BuildFault {
@@ -50,6 +53,7 @@ impl BuildFault {
         match self {
             BuildFault::BadConfig => 1,
             BuildFault::NoMemory => 2,
+            BuildFault::CutFull => 3,
         }
     }
 }

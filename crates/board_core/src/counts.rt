@@ -1,7 +1,7 @@
 ghost use Rattle.std.specs.Prelude.{◌≡◌, if◌then◌else◌};
 
 /// How many starts were accepted, the boot start among them, and how many of them were entered, since the last reset.
-#[derive(Drop)]
+#[derive(Clone, Copy)]
 pub struct Counts {
     pub starts: u64,
     pub entries: u64,

@@ -59,7 +59,7 @@ pub fn interrupt_bits(software: bool, timer: bool) -> u64
 }
 
 /// What the supervisor's registers of the harts hold, for each bit the harts at which it is 1.
-#[derive(Drop)]
+#[derive(Clone, Copy)]
 pub struct Csrs {
     pub sstatus_sie: HartSet,
     pub ssie: HartSet,

@@ -1,10 +1,11 @@
-ghost use Rattle.std.specs.Prelude.{◌≡◌, ◌<◌, [], None, false, length};
+ghost use Rattle.std.specs.Prelude.{◌≡◌, ◌<◌, [], IfOk, None, false, length};
 ghost use Rattle.hart_mask.specs.Ids.{has, with_bit, without_id};
 ghost use Rattle.interrupts.specs.Timing.{is_timer_pending, with_deadline, without_deadlines};
 ghost use Rattle.board_core.specs.Csrs.{enables, interrupt_bits};
 
 use crate::csrs::{Csrs, Sie, interrupt_bits};
 use interrupts::{Ipis, Timers};
+use std::alloc::{AllocError, Global};
 
 /// What interrupts harts, and what enables it: their registers, pending software interrupts, and the time with the
 /// deadlines.
@@ -16,6 +17,18 @@ pub struct Interrupts {
 }
 
 impl Interrupts {
+    /// What interrupts harts, equal to this. It fails where memory runs out.
+    pub fn try_copy(&self, alloc: Global) -> Result<Interrupts, AllocError>
+        ensures { IfOk result (λ copy. copy ≡ self.now) }
+    {
+        let timers = self.timers.try_copy(alloc)?;
+        Ok(Interrupts {
+            csrs: self.csrs,
+            ipis: self.ipis,
+            timers,
+        })
+    }
+
     /// sip of hart `h`: SSIP in bit 1, and STIP in bit 5.
     pub fn sip(&self, h: u64) -> u64
         requires in_range { h < length self.now.timers.deadlines }

@@ -1,11 +1,12 @@
 ghost use Rattle.std.specs.Prelude.{◌≡◌, ◌<◌, ◌≤◌, IfOk, [], if◌then◌else◌, length, replicate, slice_set};
-ghost use Rattle.sv39.specs.Memory.{pages_of, word_in, zero_memory};
+ghost use Rattle.sv39.specs.Memory.{IsRam, pages_of, word_in, zero_memory};
 ghost use Rattle.sv39.specs.Satp.{satp_written};
 ghost use Rattle.tlb_model.specs.Contents.{fenced, filled_if};
 ghost use Rattle.tlb_model.specs.Entries.{covers_entry};
 ghost use Rattle.tlb_model.specs.Words.{covers_word};
 ghost use Rattle.hart_access.specs.Accesses.{answer, filling, stored, used, word_filling};
 ghost use Rattle.board_core.specs.Limits.{IsGood};
+ghost use Rattle.board_core.specs.Opening.{opening_at};
 ghost use Rattle.board_core.specs.Stands.{CanFill, MemoryStand, caches_at, satp_at, tlb_hit, word_hit};
 
 use crate::config::Config;
@@ -26,7 +27,8 @@ impl Memory {
     /// The memory of a board at its opening: every word is 0, no address is translated, and nothing is cached.
     pub fn new(alloc: Global, config: &Config) -> Result<Memory, AllocError>
         requires { IsGood config.now }
-        ensures { IfOk result (λ memory. MemoryStand config.now [] memory) }
+        ensures stands { IfOk result (λ memory. MemoryStand (opening_at config.now) [] memory) }
+        ensures ram { IfOk result (λ memory. IsRam memory.ram) }
     {
         let ram = Ram::new(alloc, config.pages)?;
         let mut satps = Vec::with_capacity(alloc, config.harts as usize)?;
@@ -34,6 +36,23 @@ impl Memory {
         for h in 0..config.harts {
             satps.push(Satp::bare())?;
             caches.push(Caches::new())?;
+        }
+        Ok(Memory { ram, satps, caches })
+    }
+
+    /// A memory with equal words, satps and caches. It fails where memory runs out.
+    pub fn try_copy(&self, alloc: Global) -> Result<Memory, AllocError>
+        ensures ram { IfOk result (λ copy. copy.ram ≡ self.now.ram) }
+        ensures satps { IfOk result (λ copy. copy.satps.items ≡ self.now.satps.items) }
+        ensures caches { IfOk result (λ copy. copy.caches.items ≡ self.now.caches.items) }
+        ensures pages { IsRam self.now.ram }
+    {
+        let ram = self.ram.try_copy(alloc)?;
+        let mut satps = Vec::with_capacity(alloc, self.satps.len())?;
+        satps.extend_from_slice(&self.satps)?;
+        let mut caches = Vec::with_capacity(alloc, self.caches.len())?;
+        for h in 0..self.caches.len() {
+            caches.push(self.caches[h].try_copy()?)?;
         }
         Ok(Memory { ram, satps, caches })
     }
@@ -80,8 +99,8 @@ impl Memory {
         }
     }
 
-    /// An access of hart `h` at a virtual address.
-    pub fn access(&mut self, h: u64, va: u64, what: Access) -> Accessed
+    /// An access of hart `h` at a virtual address, whose fills have this date.
+    pub fn access(&mut self, date: u64, h: u64, va: u64, what: Access) -> Accessed
         requires { CanFill self.old h }
         ensures result { result.result ≡ answer (word_in self.old.ram) (satp_at self.old h) (tlb_hit (caches_at self.old h)) (word_hit (caches_at self.old h)) va what }
         ensures used { result.used ≡ used (word_in self.old.ram) (satp_at self.old h) (tlb_hit (caches_at self.old h)) va what }
@@ -89,8 +108,8 @@ impl Memory {
         ensures pages { pages_of self.new.ram ≡ pages_of self.old.ram }
         ensures satps { self.new.satps.items ≡ self.old.satps.items }
         ensures caches { self.new.caches.items ≡ slice_set self.old.caches.items h (record {
-          tlb = filled_if (caches_at self.old h).tlb (filling (word_in self.old.ram) (satp_at self.old h) (tlb_hit (caches_at self.old h)) va what);
-          words = filled_if (caches_at self.old h).words (word_filling (word_in self.old.ram) (satp_at self.old h) (tlb_hit (caches_at self.old h)) (word_hit (caches_at self.old h)) va what);
+          tlb = filled_if (caches_at self.old h).tlb date (filling (word_in self.old.ram) (satp_at self.old h) (tlb_hit (caches_at self.old h)) va what);
+          words = filled_if (caches_at self.old h).words date (word_filling (word_in self.old.ram) (satp_at self.old h) (tlb_hit (caches_at self.old h)) (word_hit (caches_at self.old h)) va what);
         }) }
     {
         let satp = self.satps[h as usize];
@@ -102,6 +121,7 @@ impl Memory {
             &mut caches.words,
             va,
             what,
+            date,
         )
     }
 

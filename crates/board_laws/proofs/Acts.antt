@@ -9,7 +9,7 @@ use Rattle.tlb_model.specs.declared.entry.Entry.{Entry}
 use Rattle.tlb_model.specs.declared.fence.Flush.{Flush}
 use Rattle.tlb_model.specs.declared.word.FetchWord.{FetchWord}
 use Rattle.tlb_model.specs.Acts.{Fill}
-use Rattle.board_core.specs.declared.config.Config.{Config}
+use Rattle.board_core.specs.Opening.{Opening}
 use Rattle.board_core.specs.declared.event.Actor.{Actor}
 use Rattle.board_core.specs.declared.event.Actor.TheVariants.{Hart, Clock}
 use Rattle.board_core.specs.declared.event.Op.{Op}
@@ -18,7 +18,7 @@ use Rattle.board_core.specs.declared.event.Reply.{Reply}
 use Rattle.board_core.specs.Course.{is_hart}
 use Rattle.board_core.specs.Fences.{turn_by, turn_of, turns}
 use Rattle.board_core.specs.History.{Event}
-use Rattle.board_core.specs.Memory.{act_by, entry_filling, memory, own_filling, satp, tlb_acts, word_acts, word_filling}
+use Rattle.board_core.specs.Memory.{act_by, cached_in, entry_filling, hit_in, memory, own_filling, satp, tlb_acts, word_acts, word_filling}
 use Rattle.board_laws.specs.Fences.{own_fence}
 use Rattle.board_laws.specs.Lives.{Strikes, last_act}
 
@@ -79,14 +79,14 @@ module _ {A : Type 0} where
 
 -- ---- the acts of a board
 
-abbrev pub one_tlb_act : (c : Config) (t : ℕ) → OneForEach (λ past. tlb_acts c past t)
-one_tlb_act c t = record { of = λ event past. last_act (tlb_acts c (event ∷ past) t); none = refl; more = λ event past. refl }
+abbrev pub one_tlb_act : (o : Opening) (t : ℕ) → OneForEach (λ past. tlb_acts o past t)
+one_tlb_act o t = record { of = λ event past. last_act (tlb_acts o (event ∷ past) t); none = refl; more = λ event past. refl }
 
-abbrev pub one_word_act : (c : Config) (t : ℕ) → OneForEach (λ past. word_acts c past t)
-one_word_act c t = record { of = λ event past. last_act (word_acts c (event ∷ past) t); none = refl; more = λ event past. refl }
+abbrev pub one_word_act : (o : Opening) (t : ℕ) → OneForEach (λ past. word_acts o past t)
+one_word_act o t = record { of = λ event past. last_act (word_acts o (event ∷ past) t); none = refl; more = λ event past. refl }
 
-abbrev pub one_turn : (c : Config) → OneForEach (turns c)
-one_turn c = record { of = λ event past. turn_of c past event.actor event.op event.reply; none = refl; more = λ event past. refl }
+abbrev pub one_turn : (o : Opening) → OneForEach (turns o)
+one_turn o = record { of = λ event past. turn_of o past event.actor event.op event.reply; none = refl; more = λ event past. refl }
 
 own-actor : (actor : Actor) (t : ℕ) → is_hart t actor ≡ true → actor ≡ Hart t
 own-actor (Hart n) t own = ap Hart (sym (eqb-true t n own))
@@ -104,19 +104,19 @@ fill-acted true Empties (Some other) item e = cc
 fill-acted false Empties (Some other) item e = cc
 fill-acted own Empties None item e = cc
 
-module _ (c : Config) (t : ℕ) (event : Event) (older : List Event) where
+module _ (o : Opening) (t : ℕ) (event : Event) (older : List Event) where
   -- an entry is filled by an access of its hart
-  pub entry-filled : (item : Entry) → last_act (tlb_acts c (event ∷ older) t) ≡ Fill item
-      → (event.actor ≡ Hart t) × (entry_filling event.op event.translation (satp c older t) (tlb_acts c older t) ≡ Some item)
+  pub entry-filled : (item : Entry) → last_act (tlb_acts o (event ∷ older) t) ≡ Fill item
+      → (event.actor ≡ Hart t) × (entry_filling event.op event.translation (satp o older t) (hit_in o t (tlb_acts o older t)) ≡ Some item)
   entry-filled item e =
-      let facts = fill-acted (is_hart t event.actor) (effect (turns c older) (turn_of c older event.actor event.op event.reply) t) (entry_filling event.op event.translation (satp c older t) (tlb_acts c older t)) item e in
+      let facts = fill-acted (is_hart t event.actor) (effect o.fences (turns o older) (turn_of o older event.actor event.op event.reply) t) (entry_filling event.op event.translation (satp o older t) (hit_in o t (tlb_acts o older t))) item e in
       (own-actor event.actor t facts.0, facts.1)
 
   -- and so is a word
-  pub word-filled : (item : FetchWord) → last_act (word_acts c (event ∷ older) t) ≡ Fill item
-      → (event.actor ≡ Hart t) × (word_filling event.op event.reply event.translation (memory c older) (word_acts c older t) ≡ Some item)
+  pub word-filled : (item : FetchWord) → last_act (word_acts o (event ∷ older) t) ≡ Fill item
+      → (event.actor ≡ Hart t) × (word_filling event.op event.reply event.translation (memory o older) (cached_in o t (word_acts o older t)) ≡ Some item)
   word-filled item e =
-      let facts = fill-acted (is_hart t event.actor) (effect (turns c older) (turn_of c older event.actor event.op event.reply) t) (word_filling event.op event.reply event.translation (memory c older) (word_acts c older t)) item e in
+      let facts = fill-acted (is_hart t event.actor) (effect o.fences (turns o older) (turn_of o older event.actor event.op event.reply) t) (word_filling event.op event.reply event.translation (memory o older) (cached_in o t (word_acts o older t))) item e in
       (own-actor event.actor t facts.0, facts.1)
 
 -- what strikes the caches of a hart strikes each of them
@@ -125,24 +125,24 @@ effect-strikes Nothing filling flush strikes = absurd strikes
 effect-strikes (Drops other) filling flush strikes = strikes
 effect-strikes Empties filling flush strikes = strikes
 
-pub turn-strikes : (c : Config) (t : ℕ) (event : Event) (older : List Event) (flush : Flush)
-    → turns_laws.Strikes flush (effect (turns c older) (turn_of c older event.actor event.op event.reply) t)
-    → Strikes flush (last_act (tlb_acts c (event ∷ older) t)) × Strikes flush (last_act (word_acts c (event ∷ older) t))
-turn-strikes c t event older flush strikes =
-    let done = effect (turns c older) (turn_of c older event.actor event.op event.reply) t in (
-      effect-strikes done (own_filling (is_hart t event.actor) (entry_filling event.op event.translation (satp c older t) (tlb_acts c older t))) flush strikes,
-      effect-strikes done (own_filling (is_hart t event.actor) (word_filling event.op event.reply event.translation (memory c older) (word_acts c older t))) flush strikes,
+pub turn-strikes : (o : Opening) (t : ℕ) (event : Event) (older : List Event) (flush : Flush)
+    → turns_laws.Strikes flush (effect o.fences (turns o older) (turn_of o older event.actor event.op event.reply) t)
+    → Strikes flush (last_act (tlb_acts o (event ∷ older) t)) × Strikes flush (last_act (word_acts o (event ∷ older) t))
+turn-strikes o t event older flush strikes =
+    let done = effect o.fences (turns o older) (turn_of o older event.actor event.op event.reply) t in (
+      effect-strikes done (own_filling (is_hart t event.actor) (entry_filling event.op event.translation (satp o older t) (hit_in o t (tlb_acts o older t)))) flush strikes,
+      effect-strikes done (own_filling (is_hart t event.actor) (word_filling event.op event.reply event.translation (memory o older) (cached_in o t (word_acts o older t)))) flush strikes,
     )
 
 -- a local fence is a turn of the hart alone
-fence-turn : (c : Config) (older : List Event) (t : ℕ) (op : Op) (reply : Reply) (flush : Flush) → own_fence c op ≡ Some flush → turn_by c older t op reply ≡ Own t flush
-fence-turn c older t (Sfence va asid) reply flush e = cc
-fence-turn c older t FenceI reply flush e = cc
-fence-turn c older t op reply flush e = cc
+fence-turn : (o : Opening) (older : List Event) (t : ℕ) (op : Op) (reply : Reply) (flush : Flush) → own_fence o.config op ≡ Some flush → turn_by o older t op reply ≡ Own t flush
+fence-turn o older t (Sfence va asid) reply flush e = cc
+fence-turn o older t FenceI reply flush e = cc
+fence-turn o older t op reply flush e = cc
 
-pub own-strikes : (c : Config) (t : ℕ) (event : Event) (older : List Event) (flush : Flush) → event.actor ≡ Hart t → own_fence c event.op ≡ Some flush
-    → turns_laws.Strikes flush (effect (turns c older) (turn_of c older event.actor event.op event.reply) t)
-own-strikes c t event older flush own fences =
-    let turn_is : turn_of c older event.actor event.op event.reply ≡ Own t flush =
-    ap (λ actor. turn_of c older actor event.op event.reply) own ∙ fence-turn c older t event.op event.reply flush fences in
+pub own-strikes : (o : Opening) (t : ℕ) (event : Event) (older : List Event) (flush : Flush) → event.actor ≡ Hart t → own_fence o.config event.op ≡ Some flush
+    → turns_laws.Strikes flush (effect o.fences (turns o older) (turn_of o older event.actor event.op event.reply) t)
+own-strikes o t event older flush own fences =
+    let turn_is : turn_of o older event.actor event.op event.reply ≡ Own t flush =
+    ap (λ actor. turn_of o older actor event.op event.reply) own ∙ fence-turn o older t event.op event.reply flush fences in
     rw (turn_is, eq-eqb t t refl) refl

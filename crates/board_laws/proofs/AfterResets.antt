@@ -10,13 +10,13 @@ use Rattle.sbi_abi.specs.Calls.{call_of}
 use Rattle.hsm.specs.Harts.{resting, starting}
 use Rattle.rfence.specs.Turns as turns_of
 use Rattle.sv39.specs.Memory.{zero_memory}
-use Rattle.tlb_model.specs.Acts.{Act, Clear, cache_after}
+use Rattle.tlb_model.specs.Acts.{Act, Clear, live}
 use Rattle.tlb_model.specs.Contents.{Contents}
 use Rattle.tlb_model.specs.declared.fence.Flush.{Flush}
 use Rattle.tlb_model.specs.Entries.{covers_entry}
 use Rattle.tlb_model.specs.Words.{covers_word}
 use Rattle.tlb_model.proofs.Living.{keeps_what_lives}
-use Rattle.board_core.specs.declared.config.Config.{Config}
+use Rattle.board_core.specs.Opening.{Opening, tlb_at, words_at}
 use Rattle.board_core.specs.declared.event.Actor.{Actor}
 use Rattle.board_core.specs.declared.event.Actor.TheVariants.{Hart, Clock}
 use Rattle.board_core.specs.declared.event.Op.{Op}
@@ -59,65 +59,66 @@ op-resets (Ecall regs) r reset e =
 op-resets op r reset e = cc
 
 -- the clock makes no call
-clock-refuses : (c : Config) (past : List Event) (regs : Regs) (r : Reply) → answer c past Clock (Ecall regs) ≡ Ok r → ⊥
-clock-refuses c past regs r e = by_power (is_off past) e
+clock-refuses : (o : Opening) (past : List Event) (regs : Regs) (r : Reply) → answer o past Clock (Ecall regs) ≡ Ok r → ⊥
+clock-refuses o past regs r e = by_power (is_off o past) e
   where
     by_power : (off : Bool) → refused_or (first_that_holds ((off, Off) ∷ (true, WrongPhase) ∷ [])) Done ≡ Ok r → ⊥
     by_power true e = cc
     by_power false e = cc
 
-is-reset : (c : Config) (past : List Event) (event : Event) (reset : Reset) → answer c past event.actor event.op ≡ Ok event.reply
+is-reset : (o : Opening) (past : List Event) (event : Event) (reset : Reset) → answer o past event.actor event.op ≡ Ok event.reply
     → reset_by event.op event.reply ≡ Some reset → IsReset event reset
-is-reset c past event reset answered resets = by_actor event.actor refl
+is-reset o past event reset answered resets = by_actor event.actor refl
   where
     is : Calls event.op event.reply reset
     is = op-resets event.op event.reply reset resets
 
     by_actor : (actor : Actor) → event.actor ≡ actor → IsReset event reset
     by_actor (Hart x) by = record { hart = x; by_hart = by; regs = is.regs; call = is.call; asks = is.asks; accepted = is.accepted }
-    by_actor Clock by = absurd (clock-refuses c past is.regs event.reply (rw (by, is.call) at answered))
+    by_actor Clock by = absurd (clock-refuses o past is.regs event.reply (rw (by, is.call) at answered))
 
 -- nothing lives where all was dropped
-none-lives : {E : Type 0} (covers : Flush → E → Bool) (acts : List (Act E)) → (cache_after covers (Clear ∷ acts)).live ≡ []
-none-lives {E} covers acts = ap (λ (cache : Contents E). cache.live) (keeps_what_lives covers Clear acts)
+pub none-lives : {E : Type 0} (first : ℕ) (opening : Contents E) (covers : Flush → E → Bool) (acts : List (Act E)) → live first opening covers (Clear ∷ acts) ≡ []
+none-lives {E} first opening covers acts = ap (λ (cache : Contents E). cache.live) (keeps_what_lives first opening covers Clear acts)
 
-pub off-refuses : (c : Config) (past : List Event) → is_off past ≡ true → (actor : Actor) (op : Op) → answer c past actor op ≡ Err Off
-off-refuses c past off (Hart h) op = rw off refl
-off-refuses c past off Clock op = rw off refl
+pub off-refuses : (o : Opening) (past : List Event) → is_off o past ≡ true → (actor : Actor) (op : Op) → answer o past actor op ≡ Err Off
+off-refuses o past off (Hart h) op = rw off refl
+off-refuses o past off Clock op = rw off refl
 
-module _ (c : Config) (event : Event) (past : List Event) (reset : Reset) (is : IsReset event reset) where
-  turn : turn_of c past event.actor event.op event.reply ≡ turns_of.Reset
+module _ (o : Opening) (event : Event) (past : List Event) (reset : Reset) (is : IsReset event reset) where
+  turn : turn_of o past event.actor event.op event.reply ≡ turns_of.Reset
   turn = rw (is.by_hart, is.call, is.accepted, is.asks) refl
 
-  by_kind : (h : ℕ) → (anew at_boot : Bool) → begins_anew reset.kind ≡ anew → eqb h c.boot_hart ≡ at_boot
-      → hart_of c (event ∷ past) h ≡ (if anew && at_boot then starting (record { addr = c.boot_addr; opaque = c.boot_opaque }) else resting)
+  by_kind : (h : ℕ) → (anew at_boot : Bool) → begins_anew reset.kind ≡ anew → eqb h o.config.boot_hart ≡ at_boot
+      → hart_of o (event ∷ past) h ≡ (if anew && at_boot then starting (record { addr = o.config.boot_addr; opaque = o.config.boot_opaque }) else resting)
   by_kind h true true kind here = rw (is.by_hart, is.call, is.accepted, is.asks, kind, here) refl
   by_kind h true false kind here = rw (is.by_hart, is.call, is.accepted, is.asks, kind, here) refl
   by_kind h false at_boot kind here = rw (is.by_hart, is.call, is.accepted, is.asks, kind) refl
 
-  by_cold : (at : ℕ) → (cold : Bool) → written_by c (if cold then Some Zeroed else None) (memory c past) at ≡ (if cold then zero_memory c.pages at else memory c past at)
+  by_cold : (at : ℕ) → (cold : Bool) → written_by o.config (if cold then Some Zeroed else None) (memory o past) at ≡ (if cold then zero_memory o.config.pages at else memory o past at)
   by_cold at true = refl
   by_cold at false = refl
 
-  leaves-fresh : IsFresh c reset past (event ∷ past)
+  leaves-fresh : IsFresh o reset past (event ∷ past)
   leaves-fresh = record {
-    harts = λ h. by_kind h (begins_anew reset.kind) (eqb h c.boot_hart) refl refl;
+    harts = λ h. by_kind h (begins_anew reset.kind) (eqb h o.config.boot_hart) refl refl;
     starts = rw (is.call, is.accepted, is.asks) refl;
     entries = rw (is.call, is.accepted, is.asks) refl;
+    entered = rw (is.call, is.accepted, is.asks) refl;
     sstatus_sie = λ h. rw (is.call, is.accepted, is.asks) refl;
     sie = λ h. rw (is.call, is.accepted, is.asks) refl;
     ssip = λ h. rw (is.call, is.accepted, is.asks) refl;
     deadline = λ h. rw (is.call, is.accepted, is.asks) refl;
     satp = λ h. rw (is.call, is.accepted, is.asks) refl;
-    tlb = λ h. rw turn (none-lives covers_entry (tlb_acts c past h));
-    fetched = λ h. rw turn (none-lives covers_word (word_acts c past h));
+    tlb = λ h. rw turn (none-lives o.places (tlb_at o h) covers_entry (tlb_acts o past h));
+    fetched = λ h. rw turn (none-lives o.places (words_at o h) covers_word (word_acts o past h));
     waiting = λ h. rw turn refl;
     outstanding = λ h. rw turn refl;
     memory = λ at. rw (is.call, is.accepted, is.asks) (by_cold at (is_cold reset.kind));
     time = rw is.call (omega arith);
-    off = λ dark. off-refuses c (event ∷ past) (rw (is.call, is.accepted, is.asks, dark) refl);
+    off = λ dark. off-refuses o (event ∷ past) (rw (is.call, is.accepted, is.asks, dark) refl);
   }
 
-pub resets_are_fresh : (c : Config) (event : Event) (past : List Event) (reset : Reset) → IsLegal c (event ∷ past) → reset_by event.op event.reply ≡ Some reset
-    → IsFresh c reset past (event ∷ past)
-resets_are_fresh c event past reset legal resets = leaves-fresh c event past reset (is-reset c past event reset legal.0 resets)
+pub resets_are_fresh : (o : Opening) (event : Event) (past : List Event) (reset : Reset) → IsLegal o (event ∷ past) → reset_by event.op event.reply ≡ Some reset
+    → IsFresh o reset past (event ∷ past)
+resets_are_fresh o event past reset legal resets = leaves-fresh o event past reset (is-reset o past event reset legal.0 resets)

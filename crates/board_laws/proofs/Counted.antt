@@ -3,10 +3,11 @@ use Rattle.std.proofs.Common.{◌≡◌, ◌+◌, List, sym, ap, ◌∙◌}
 use Rattle.std.specs.Prelude.{sum_by}
 use Rattle.std.proofs.lemmas.List.{length-map}
 use Rattle.rfence.specs.Laws.{total_waiting}
+use Rattle.rfence.specs.Opening.{kept}
 use Rattle.rfence.specs.State.{total_applied}
 use Rattle.rfence.specs.Waiting as queues
 use Rattle.rfence.proofs.Totals.{counts-agree}
-use Rattle.board_core.specs.declared.config.Config.{Config}
+use Rattle.board_core.specs.Opening.{Opening}
 use Rattle.board_core.specs.Course.{harts_of}
 use Rattle.board_core.specs.Fences.{turns}
 use Rattle.board_core.specs.History.{Event}
@@ -16,10 +17,10 @@ use Rattle.board_core.specs.Totals.{totals}
 use Rattle.board_laws.proofs.Right.{turns_are_right}
 
 -- what waits is counted alike with and without places
-same-waiting : (c : Config) (past : List Event) → (totals c past).waiting ≡ total_waiting c.harts (turns c past)
-same-waiting c past i = sum_by (λ h. length-map (queues.waiting (turns c past) h) queues.kept i) (harts_of c)
+same-waiting : (o : Opening) (past : List Event) → (totals o past).waiting ≡ total_waiting o.fences o.config.harts (turns o past)
+same-waiting o past i = sum_by (λ h. length-map (queues.waiting o.fences (turns o past) h) kept i) (harts_of o.config)
 
-pub fences_are_counted : (c : Config) (past : List Event) → IsGood c → IsLegal c past → (totals c past).asked ≡ (totals c past).applied + (totals c past).waiting
-fences_are_counted c past good legal =
-    counts-agree c.harts (turns c past) good.at_most_128_harts (turns_are_right c past good legal)
-    ∙ ap (λ waits. total_applied c.harts (turns c past) + waits) (sym (same-waiting c past))
+pub fences_are_counted : (o : Opening) (past : List Event) → IsGood o.config → IsLegal o past → (totals o past).asked ≡ (totals o past).applied + (totals o past).waiting
+fences_are_counted o past good legal =
+    counts-agree o.fences o.config.harts (turns o past) (turns_are_right o past good legal)
+    ∙ ap (λ waits. total_applied o.fences o.config.harts (turns o past) + waits) (sym (same-waiting o past))

@@ -2,6 +2,7 @@ pub mod Acts
 pub mod Places
 pub mod Leaves
 pub mod Lives
+pub mod Openings
 pub mod Gone
 pub mod Right
 pub mod InCalls
@@ -14,6 +15,9 @@ pub mod Again
 pub mod AfterResets
 pub mod Interruptible
 pub mod Needs
+pub mod Held
+pub mod Onward
+pub mod Parting
 pub mod WorkedRows
 pub mod FencedRows
 pub mod NeedRows

@@ -1,15 +1,16 @@
 -- Worked rows of what fence calls need: histories that meet what each law of it asks, so that none speaks of nothing.
-use Rattle.std.proofs.Common.{◌≡◌, ℕ, suc, List, [], ◌∷◌, ◌++◌, length, true, false, pos, refl, sym, ap, ◌∙◌, arith, ◌<◌, ◌≤◌, inl, inr}
+use Rattle.std.proofs.Common.{◌≡◌, ℕ, suc, List, [], ◌∷◌, ◌++◌, true, pos, refl, arith, ◌<◌, ◌≤◌, inl, inr}
 use Rattle.std.specs.Prelude.{◌⊎◌, None, is_some}
 use Rattle.std.specs.List.{list_any}
 use Rattle.std.proofs.lemmas.Bool.{cases_eq}
 use Rattle.sbi_abi.specs.Calls.{call_of}
 use Rattle.hart_mask.specs.HartList.{names_stray, targets_of}
 use Rattle.hart_mask.specs.Ids.{ids_where}
-use Rattle.board_core.specs.declared.config.Config.{Config}
+use Rattle.board_core.specs.Cuts.{IsOpened}
+use Rattle.board_core.specs.Opening.{IsOpening, Opening, opening_at}
 use Rattle.board_core.specs.declared.event.Actor.TheVariants.{Hart}
 use Rattle.board_core.specs.declared.event.Op.{Op}
-use Rattle.board_core.specs.declared.event.Op.TheVariants.{Advance, Ecall, Poll, Serve}
+use Rattle.board_core.specs.declared.event.Op.TheVariants.{Advance, Ecall, Serve}
 use Rattle.board_core.specs.declared.event.Reply.{Reply}
 use Rattle.board_core.specs.declared.event.Reply.TheVariants.{Entry, Gone, Ret, Served, Waiting}
 use Rattle.board_core.specs.Fences.{outstanding}
@@ -18,13 +19,14 @@ use Rattle.board_core.specs.Limits.{IsGood}
 use Rattle.board_core.specs.Need.{need, total_need}
 use Rattle.board_core.specs.Replies.{IsLegal}
 use Rattle.board_laws.specs.Need.{AreFew, CanEnd, GoesOn, HaveServed, IsLeft, ServeIsAccepted, serves_in, stops}
+use Rattle.board_core.proofs.Beginning.{opens}
 use Rattle.board_laws.proofs.Again.{recorded_is_recomputed}
 use Rattle.board_laws.proofs.Needs.{are-few, can-end, is-left, needed-accepted, none-raises-needs, serve-lowers-needs}
 
-abbrev three : Config
-three = record { harts = 3; pages = 1; limit = 1000; boot_hart = 0; boot_addr = 0x80000000; boot_opaque = 0; asid_len = 16; width = 39 }
+abbrev three : Opening
+three = opening_at (record { harts = 3; pages = 1; limit = 1000; boot_hart = 0; boot_addr = 0x80000000; boot_opaque = 0; asid_len = 16; width = 39 })
 
-three-good : IsGood three
+three-good : IsGood three.config
 three-good = record {
   some_harts = omega arith;
   at_most_128_harts = omega arith;
@@ -56,6 +58,12 @@ serve = did 1 Serve Served
 
 abbrev stop : Event
 stop = did 1 (Ecall (record { eid = 0x48534d; fid = 1; a = 0 ∷ 0 ∷ 0 ∷ 0 ∷ 0 ∷ 0 ∷ [] })) Gone
+
+three-opens : IsOpening three
+three-opens = opens three.config three-good
+
+three-opened : IsOpened three
+three-opened = record { cuts = 0; opens = (three-good, refl) }
 
 -- Harts 0 and 2, in this order, fence hart 1.
 abbrev asked : List Event
@@ -97,11 +105,11 @@ total-asked = refl
 
 served-legal : IsLegal three (serve ∷ serve ∷ asked)
 unfolding call_of targets_of names_stray ids_where
-served-legal = (recorded_is_recomputed three (serve ∷ serve ∷ asked)).1 refl
+served-legal = (recorded_is_recomputed three (serve ∷ serve ∷ asked) three-opens).1 refl
 
 stopped-legal : IsLegal three (stop ∷ asked)
 unfolding call_of targets_of names_stray ids_where
-stopped-legal = (recorded_is_recomputed three (stop ∷ asked)).1 refl
+stopped-legal = (recorded_is_recomputed three (stop ∷ asked) three-opens).1 refl
 
 abbrev once-legal : IsLegal three (serve ∷ asked)
 once-legal = served-legal.2
@@ -121,7 +129,7 @@ asked-few : AreFew three asked 2
 asked-few = are-few three asked 2 three-good asked-legal
 
 serve-accepted : ServeIsAccepted three asked 1
-serve-accepted = needed-accepted three asked 2 1 three-good asked-legal (omega (arith, need-asked))
+serve-accepted = needed-accepted three asked 2 1 three-opened asked-legal (omega (arith, need-asked))
 
 serve-lowers : suc (need three (serve ∷ asked) 2 1) ≡ need three asked 2 1
 serve-lowers = serve-lowers-needs three serve asked 2 1 three-good once-legal refl (omega (arith, need-asked))
@@ -156,7 +164,7 @@ have-served =
     one-alone (λ t. (need three asked 2 t ≤ serves_in t served) ⊎ (list_any (stops t) served ≡ true)) (inl (omega arith)) (inl (omega arith)) (inl (omega arith))
 
 served-ends : CanEnd three (served ++ asked) 2
-served-ends = can-end three served asked 2 three-good served-goes_on (omega arith) have-served
+served-ends = can-end three served asked 2 three-opened served-goes_on (omega arith) have-served
 
 -- .. or has stopped.
 stopped-goes_on : GoesOn three (stop ∷ []) asked 2
@@ -172,4 +180,4 @@ have-stopped =
     one-alone (λ t. (need three asked 2 t ≤ serves_in t (stop ∷ [])) ⊎ (list_any (stops t) (stop ∷ []) ≡ true)) (inl (omega arith)) (inr refl) (inl (omega arith))
 
 stopped-ends : CanEnd three (stop ∷ asked) 2
-stopped-ends = can-end three (stop ∷ []) asked 2 three-good stopped-goes_on (omega arith) have-stopped
+stopped-ends = can-end three (stop ∷ []) asked 2 three-opened stopped-goes_on (omega arith) have-stopped

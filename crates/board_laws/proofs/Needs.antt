@@ -1,15 +1,20 @@
 -- What fence calls need, event by event.
-use Rattle.std.proofs.Common.{◌≡◌, ℕ, ◌-◌, ◌<◌, ◌≤◌, suc, Bool, true, false, List, [], ◌∷◌, ◌++◌, length, refl, sym, ap, ◌∙◌, arith, Option, Some, None, Result, Ok, Err, inl, inr}
+use Rattle.std.proofs.Common.{◌≡◌, ℕ, ◌-◌, ◌<◌, ◌≤◌, zero, suc, Bool, true, false, List, [], ◌∷◌, ◌++◌, length, subst, refl, sym, ap, ◌∙◌, arith, Option, Some, None, Result, Ok, Err, inl, inr}
 use Rattle.std.specs.Prelude.{◌==◌, ◌&&◌, ◌||◌, ◌⊎◌, if◌then◌else◌, is_some, map}
 use Rattle.std.specs.List.{list_any}
-use Rattle.std.proofs.lemmas.Bool.{and_parts, cases_Bool, eq-eqb, lt-leb, ne_eqb, or_parts}
+use Rattle.std.proofs.lemmas.Bool.{and_parts, cases_Bool, cases_lt, eq-eqb, lt-leb, ne_eqb, or_parts}
 use Rattle.std.proofs.lemmas.Bool.Decides.{eqb_tells}
+use Rattle.rfence.specs.declared.opened.FenceCall.{FenceCall}
+use Rattle.rfence.specs.Opening as fences
 use Rattle.rfence.specs.Calls as calls
 use Rattle.rfence.specs.Need as turn_needs
+use Rattle.rfence.specs.Right.{IsRight}
 use Rattle.rfence.specs.State.{in_call}
 use Rattle.rfence.specs.Waiting as queues
 use Rattle.rfence.specs.Waiting.{one_more}
-use Rattle.rfence.proofs.Bounds.{are-bounded, needs-none, open-inside}
+use Rattle.rfence.proofs.Bounds.{are-bounded, needs-none}
+use Rattle.rfence.proofs.Callers.{open-within}
+use Rattle.rfence.proofs.Seams.{called-after}
 use Rattle.rfence.proofs.Needs.{need-more, needed, needs-open, none-raises, open-more, serve-lowers}
 use Rattle.sbi_abi.specs.declared.answer.SbiError.{SbiError}
 use Rattle.sbi_abi.specs.declared.call.Call.{Call}
@@ -19,7 +24,8 @@ use Rattle.sbi_abi.specs.declared.call.srst.SrstCall.TheVariants.{SystemReset}
 use Rattle.sbi_abi.specs.declared.reset.Reset.{Reset}
 use Rattle.sbi_abi.specs.Calls.{call_of}
 use Rattle.tlb_model.specs.declared.fence.Flush.{Flush}
-use Rattle.board_core.specs.declared.config.Config.{Config}
+use Rattle.board_core.specs.Cuts.{IsOpened, OpensAfter, opening_of}
+use Rattle.board_core.specs.Opening.{Opening}
 use Rattle.board_core.specs.declared.event.Actor.{Actor}
 use Rattle.board_core.specs.declared.event.Actor.TheVariants.{Hart, Clock}
 use Rattle.board_core.specs.declared.event.Op.{Op}
@@ -37,6 +43,7 @@ use Rattle.board_core.specs.Replies.{IsLegal, answer, refused_or}
 use Rattle.board_core.specs.Resets.{is_off, is_shutdown, last_reset, newer_or, reset_by, reset_by_call}
 use Rattle.board_laws.specs.Need.{AreFew, CanEnd, GoesOn, HaveServed, IsLeft, ServeIsAccepted, ends_call, is_poll, is_serve, is_stop, is_stop_call, serves, serves_in, stops}
 use Rattle.board_laws.proofs.AfterResets.{off-refuses, resets_are_fresh}
+use Rattle.board_laws.proofs.Openings.{is-good}
 use Rattle.board_laws.proofs.Interruptible.{waits-interruptible}
 use Rattle.board_laws.proofs.Right.{turns_are_right}
 
@@ -53,27 +60,27 @@ neither : (own : Bool) (k : ℕ) → k ≡ (if own && false then 0 else if own &
 neither true k = refl
 neither false k = refl
 
-module _ (c : Config) (past : List Event) where
-  remote-needs : (x t k : ℕ) (remote : Option Remote) (r : Reply) → needed (turn_by_remote c past x remote r) t k ≡ k
+module _ (o : Opening) (past : List Event) where
+  remote-needs : (x t k : ℕ) (remote : Option Remote) (r : Reply) → needed o.fences (turn_by_remote o past x remote r) t k ≡ k
   remote-needs x t k (Some remote) replies.Waiting = by_flush remote.flush
     where
-      by_flush : (flush : Result Flush SbiError) → needed (turn_by_flush c past x remote.mask remote.base flush) t k ≡ k
+      by_flush : (flush : Result Flush SbiError) → needed o.fences (turn_by_flush o past x remote.mask remote.base flush) t k ≡ k
       by_flush (Ok flush) = refl
       by_flush (Err error) = refl
   remote-needs x t k remote r = refl
 
   call-needs : (x t k : ℕ) (call : Call) (r : Reply)
-      → needed (turn_by_call c past x call r) t k ≡ (if (t == x) && is_stop_call call r then 0 else if (t == x) && false then k - 1 else k)
+      → needed o.fences (turn_by_call o past x call r) t k ≡ (if (t == x) && is_stop_call call r then 0 else if (t == x) && false then k - 1 else k)
   call-needs x t k (Hsm HartStop) replies.Gone = rw (flip x t) (by_hart (t == x))
     where
       by_hart : (own : Bool) → (if own then 0 else k) ≡ (if own && true then 0 else if own && false then k - 1 else k)
       by_hart true = refl
       by_hart false = refl
   call-needs x t k (Srst (SystemReset (Ok reset))) replies.Gone = neither (t == x) k
-  call-needs x t k call r = remote-needs x t k (remote_of c call) r ∙ neither (t == x) k
+  call-needs x t k call r = remote-needs x t k (remote_of o.config call) r ∙ neither (t == x) k
 
   op-needs : (x t k : ℕ) (op : Op) (r : Reply)
-      → needed (turn_of c past (Hart x) op r) t k ≡ (if (t == x) && is_stop op r then 0 else if (t == x) && is_serve op then k - 1 else k)
+      → needed o.fences (turn_of o past (Hart x) op r) t k ≡ (if (t == x) && is_stop op r then 0 else if (t == x) && is_serve op then k - 1 else k)
   op-needs x t k (ops.Ecall regs) r = call-needs x t k (call_of regs) r
   op-needs x t k ops.Serve r = rw (flip x t) (by_hart (t == x))
     where
@@ -83,28 +90,28 @@ module _ (c : Config) (past : List Event) where
   op-needs x t k op r = neither (t == x) k
 
   -- what an event leaves of a need
-  needed-by : (event : Event) (t k : ℕ) → needed (turn_of c past event.actor event.op event.reply) t k ≡ (if stops t event then 0 else if serves t event then k - 1 else k)
+  needed-by : (event : Event) (t k : ℕ) → needed o.fences (turn_of o past event.actor event.op event.reply) t k ≡ (if stops t event then 0 else if serves t event then k - 1 else k)
   needed-by event t k = by_actor event.actor event.op event.reply
     where
       by_actor : (actor : Actor) (op : Op) (r : Reply)
-          → needed (turn_of c past actor op r) t k ≡ (if is_hart t actor && is_stop op r then 0 else if is_hart t actor && is_serve op then k - 1 else k)
+          → needed o.fences (turn_of o past actor op r) t k ≡ (if is_hart t actor && is_stop op r then 0 else if is_hart t actor && is_serve op then k - 1 else k)
       by_actor (Hart x) op r = op-needs x t k op r
       by_actor Clock op r = refl
 
-  remote-goes : (x h : ℕ) (remote : Option Remote) (r : Reply) → turn_needs.ends h (turn_by_remote c past x remote r) ≡ false
+  remote-goes : (x h : ℕ) (remote : Option Remote) (r : Reply) → turn_needs.ends h (turn_by_remote o past x remote r) ≡ false
   remote-goes x h (Some remote) replies.Waiting = by_flush remote.flush
     where
-      by_flush : (flush : Result Flush SbiError) → turn_needs.ends h (turn_by_flush c past x remote.mask remote.base flush) ≡ false
+      by_flush : (flush : Result Flush SbiError) → turn_needs.ends h (turn_by_flush o past x remote.mask remote.base flush) ≡ false
       by_flush (Ok flush) = refl
       by_flush (Err error) = refl
   remote-goes x h remote r = refl
 
-  call-goes : (x h : ℕ) (call : Call) (r : Reply) → is_some (reset_by_call call r) ≡ false → turn_needs.ends h (turn_by_call c past x call r) ≡ false
+  call-goes : (x h : ℕ) (call : Call) (r : Reply) → is_some (reset_by_call call r) ≡ false → turn_needs.ends h (turn_by_call o past x call r) ≡ false
   call-goes x h (Hsm HartStop) replies.Gone goes = refl
   call-goes x h (Srst (SystemReset (Ok reset))) replies.Gone goes = cc
-  call-goes x h call r goes = remote-goes x h (remote_of c call) r
+  call-goes x h call r goes = remote-goes x h (remote_of o.config call) r
 
-  op-goes : (x h : ℕ) (op : Op) (r : Reply) → ((h == x) && is_poll op) ≡ false → is_some (reset_by op r) ≡ false → turn_needs.ends h (turn_of c past (Hart x) op r) ≡ false
+  op-goes : (x h : ℕ) (op : Op) (r : Reply) → ((h == x) && is_poll op) ≡ false → is_some (reset_by op r) ≡ false → turn_needs.ends h (turn_of o past (Hart x) op r) ≡ false
   op-goes x h (ops.Ecall regs) r polls resets = call-goes x h (call_of regs) r resets
   op-goes x h ops.Poll r polls resets = flip x h ∙ sym (and-true (h == x)) ∙ polls
     where
@@ -114,59 +121,75 @@ module _ (c : Config) (past : List Event) where
   op-goes x h op r polls resets = refl
 
   -- an event that doesn't end a call isn't a turn that does
-  goes-by : (event : Event) (h : ℕ) → ends_call h event ≡ false → turn_needs.ends h (turn_of c past event.actor event.op event.reply) ≡ false
+  goes-by : (event : Event) (h : ℕ) → ends_call h event ≡ false → turn_needs.ends h (turn_of o past event.actor event.op event.reply) ≡ false
   goes-by event h goes = by_actor event.actor event.op event.reply goes
     where
-      by_actor : (actor : Actor) (op : Op) (r : Reply) → ((is_hart h actor && is_poll op) || is_some (reset_by op r)) ≡ false → turn_needs.ends h (turn_of c past actor op r) ≡ false
+      by_actor : (actor : Actor) (op : Op) (r : Reply) → ((is_hart h actor && is_poll op) || is_some (reset_by op r)) ≡ false → turn_needs.ends h (turn_of o past actor op r) ≡ false
       by_actor (Hart x) op r goes = let parts = or_parts ((h == x) && is_poll op) (is_some (reset_by op r)) goes in op-goes x h op r parts.0 parts.1
       by_actor Clock op r goes = refl
 
 -- ---- open calls
 
-no-call : (o : Option ℕ) (ids : List ℕ) → in_call o ids ≡ None → o ≡ None
+no-call : (call : Option (FenceCall Flush)) (ids : List ℕ) → in_call call ids ≡ None → call ≡ None
 no-call None ids is = refl
 no-call (Some place) ids is = cc
 
-some-call : (o : Option ℕ) (ids : List ℕ) → is_some (in_call o ids) ≡ true → (p : ℕ) × (o ≡ Some p)
+some-call : (call : Option (FenceCall Flush)) (ids : List ℕ) → is_some (in_call call ids) ≡ true → (p : FenceCall Flush) × (call ≡ Some p)
 some-call None ids is = cc
 some-call (Some place) ids is = (place, refl)
 
-inside-call : (c : Config) (past : List Event) (h : ℕ) → is_some (outstanding c past h) ≡ true → (p : ℕ) × (calls.open_call (turns c past) h ≡ Some p)
-inside-call c past h is = some-call (calls.open_call (turns c past) h) (calls.outstanding c.harts (turns c past) h) is
+inside-call : (o : Opening) (past : List Event) (h : ℕ) → is_some (outstanding o past h) ≡ true → (p : FenceCall Flush) × (calls.open_call o.fences (turns o past) h ≡ Some p)
+inside-call o past h is = some-call (calls.open_call o.fences (turns o past) h) (calls.outstanding o.fences o.config.harts (turns o past) h) is
 
 -- a step is accepted while the power is on
-accepted-on : (c : Config) (past : List Event) (actor : Actor) (op : Op) (r : Reply) → answer c past actor op ≡ Ok r → is_off past ≡ false
-accepted-on c past actor op r answered = elim (cases_Bool (is_off past)) [
-  | inl off ↦ absurd (let wrong : Err refusals.Off ≡ Ok r = sym (off-refuses c past off actor op) ∙ answered in cc)
+accepted-on : (o : Opening) (past : List Event) (actor : Actor) (op : Op) (r : Reply) → answer o past actor op ≡ Ok r → is_off o past ≡ false
+accepted-on o past actor op r answered = elim (cases_Bool (is_off o past)) [
+  | inl off ↦ absurd (let wrong : Err refusals.Off ≡ Ok r = sym (off-refuses o past off actor op) ∙ answered in cc)
   | inr on ↦ on
 ]
 
--- the power is on while a hart is inside a fence call
-inside-on : (c : Config) (past : List Event) (h p : ℕ) → IsLegal c past → calls.open_call (turns c past) h ≡ Some p → is_off past ≡ false
-inside-on c [] h p legal opened = refl
-inside-on c (event ∷ past) h p legal opened = by_reset (reset_by event.op event.reply) refl
+-- The power is on while a hart is inside a fence call, if it was while one was at the opening.
+abbrev IsOn : Opening → Type 0
+IsOn o = (h : ℕ) (p : FenceCall Flush) → fences.called_at o.fences h ≡ Some p → is_shutdown o.last_reset ≡ false
+
+inside-on : (o : Opening) (past : List Event) (h : ℕ) (p : FenceCall Flush) → IsOn o → IsLegal o past → calls.open_call o.fences (turns o past) h ≡ Some p → is_off o past ≡ false
+inside-on o [] h p on legal opened = on h p opened
+inside-on o (event ∷ past) h p on legal opened = by_reset (reset_by event.op event.reply) refl
   where
-    by_reset : (reset : Option Reset) → reset_by event.op event.reply ≡ reset → is_shutdown (newer_or (reset_by event.op event.reply) (last_reset past)) ≡ false
-    by_reset None is = rw is (accepted-on c past event.actor event.op event.reply legal.0)
+    by_reset : (reset : Option Reset) → reset_by event.op event.reply ≡ reset → is_shutdown (newer_or (reset_by event.op event.reply) (last_reset o past)) ≡ false
+    by_reset None is = rw is (accepted-on o past event.actor event.op event.reply legal.0)
     by_reset (Some reset) is =
-        let fresh = resets_are_fresh c event past reset legal is in
-        let closed = no-call (calls.open_call (turns c (event ∷ past)) h) (calls.outstanding c.harts (turns c (event ∷ past)) h) (fresh.outstanding h) in
+        let fresh = resets_are_fresh o event past reset legal is in
+        let closed = no-call (calls.open_call o.fences (turns o (event ∷ past)) h) (calls.outstanding o.fences o.config.harts (turns o (event ∷ past)) h) (fresh.outstanding h) in
         absurd (let wrong = sym opened ∙ closed in cc)
+
+-- it was: a new board's power is on, and what was open when the history was cut had been opened with the power on
+cut-on : (o : Opening) (past : List Event) → IsGood o.config → IsLegal o past → IsOn o → IsOn (opening_of o past)
+cut-on o past good legal on h p called =
+    inside-on o past h p on legal (sym (called-after o.fences o.config.harts (turns o past) (turns_are_right o past good legal) h) ∙ called)
+
+on-after : (cuts : ℕ) (o : Opening) → OpensAfter cuts o → IsOn o
+on-after zero o opens = subst IsOn (sym opens.1) (λ h p called. refl)
+on-after (suc cuts) o opens = subst IsOn (sym opens.4) (cut-on opens.0 opens.1 (is-good opens.0 (record { cuts = cuts; opens = opens.2 })) opens.3 (on-after cuts opens.0 opens.2))
+
+opened-on : (o : Opening) → IsOpened o → IsOn o
+opened-on o opened = on-after opened.cuts o opened.opens
 
 -- ---- serves
 
-pub needed-accepted : (c : Config) (past : List Event) (h t : ℕ) → IsGood c → IsLegal c past → 0 < need c past h t → ServeIsAccepted c past t
-needed-accepted c past h t good legal some =
-    let right = turns_are_right c past good legal in
-    let call = needs-open (turns c past) h t some in
-    let can = (serve-lowers c.harts (turns c past) h t right some).can_serve in
-    let on = inside-on c past h call.0 legal call.1 in
-    let there = lt-leb c.harts t can.0 in
-    let interruptible = waits-interruptible c past good legal t can.1 in
-    let waits = some-waits (queues.waiting (turns c past) t) can.1 in
-    rw (on, there, interruptible, waits) (by_full (is_full c past))
+pub needed-accepted : (o : Opening) (past : List Event) (h t : ℕ) → IsOpened o → IsLegal o past → 0 < need o past h t → ServeIsAccepted o past t
+needed-accepted o past h t opened legal some =
+    let good = is-good o opened in
+    let right = turns_are_right o past good legal in
+    let call = needs-open o.fences (turns o past) h t some in
+    let can = (serve-lowers o.fences o.config.harts (turns o past) h t right some).can_serve in
+    let on = inside-on o past h call.0 (opened-on o opened) legal call.1 in
+    let there = lt-leb o.config.harts t can.0 in
+    let interruptible = waits-interruptible o past good legal t can.1 in
+    let waits = some-waits (queues.waiting o.fences (turns o past) t) can.1 in
+    rw (on, there, interruptible, waits) (by_full (is_full o past))
   where
-    some-waits : (waits : List (queues.Asked Flush)) → 0 < length waits → is_empty (map queues.kept waits) ≡ false
+    some-waits : (waits : List (fences.Asked Flush)) → 0 < length waits → is_empty (map fences.kept waits) ≡ false
     some-waits [] some = absurd (omega arith)
     some-waits (first ∷ rest) some = refl
 
@@ -176,11 +199,11 @@ needed-accepted c past h t good legal some =
 
 -- ---- one event
 
-need-event : (c : Config) (event : Event) (past : List Event) (h t p : ℕ) → IsGood c → IsLegal c (event ∷ past) → calls.open_call (turns c past) h ≡ Some p → ends_call h event ≡ false
-    → need c (event ∷ past) h t ≡ (if stops t event then 0 else if serves t event then need c past h t - 1 else need c past h t)
-need-event c event past h t p good legal opened goes =
-    need-more c.harts (turn_of c past event.actor event.op event.reply) (turns c past) h t p (turns_are_right c (event ∷ past) good legal) opened (goes-by c past event h goes)
-    ∙ needed-by c past event t (need c past h t)
+need-event : (o : Opening) (event : Event) (past : List Event) (h t : ℕ) (p : FenceCall Flush) → IsGood o.config → IsLegal o (event ∷ past) → calls.open_call o.fences (turns o past) h ≡ Some p → ends_call h event ≡ false
+    → need o (event ∷ past) h t ≡ (if stops t event then 0 else if serves t event then need o past h t - 1 else need o past h t)
+need-event o event past h t p good legal opened goes =
+    need-more o.fences o.config.harts (turn_of o past event.actor event.op event.reply) (turns o past) h t p (turns_are_right o (event ∷ past) good legal) opened (goes-by o past event h goes)
+    ∙ needed-by o past event t (need o past h t)
 
 -- a serve is no stop, and ends no call
 serve-alone : (t h : ℕ) (actor : Actor) (op : Op) (r : Reply) → (is_hart t actor && is_serve op) ≡ true
@@ -192,23 +215,23 @@ serve-alone t h actor ops.Serve r is = (none (is_hart t actor), rw (none (is_har
     none false = refl
 serve-alone t h actor op r is = let wrong = (and_parts (is_hart t actor) (is_serve op) is).1 in cc
 
-pub serve-lowers-needs : (c : Config) (event : Event) (past : List Event) (h t : ℕ) → IsGood c → IsLegal c (event ∷ past) → serves t event ≡ true → 0 < need c past h t
-    → suc (need c (event ∷ past) h t) ≡ need c past h t
-serve-lowers-needs c event past h t good legal served some =
-    let call = needs-open (turns c past) h t some in
+pub serve-lowers-needs : (o : Opening) (event : Event) (past : List Event) (h t : ℕ) → IsGood o.config → IsLegal o (event ∷ past) → serves t event ≡ true → 0 < need o past h t
+    → suc (need o (event ∷ past) h t) ≡ need o past h t
+serve-lowers-needs o event past h t good legal served some =
+    let call = needs-open o.fences (turns o past) h t some in
     let alone = serve-alone t h event.actor event.op event.reply served in
-    let now : need c (event ∷ past) h t ≡ need c past h t - 1 = need-event c event past h t call.0 good legal call.1 alone.1 ∙ rw (alone.0, served) refl in
+    let now : need o (event ∷ past) h t ≡ need o past h t - 1 = need-event o event past h t call.0 good legal call.1 alone.1 ∙ rw (alone.0, served) refl in
     omega (arith, some, now)
 
-pub none-raises-needs : (c : Config) (event : Event) (past : List Event) (h t : ℕ) → IsGood c → IsLegal c (event ∷ past) → is_some (outstanding c past h) ≡ true
-    → need c (event ∷ past) h t ≤ need c past h t
-none-raises-needs c event past h t good legal inside =
-    let call = inside-call c past h inside in
-    none-raises c.harts (turn_of c past event.actor event.op event.reply) (turns c past) h t (turns_are_right c (event ∷ past) good legal) (ap is_some call.1)
+pub none-raises-needs : (o : Opening) (event : Event) (past : List Event) (h t : ℕ) → IsGood o.config → IsLegal o (event ∷ past) → is_some (outstanding o past h) ≡ true
+    → need o (event ∷ past) h t ≤ need o past h t
+none-raises-needs o event past h t good legal inside =
+    let call = inside-call o past h inside in
+    none-raises o.fences o.config.harts (turn_of o past event.actor event.op event.reply) (turns o past) h t (turns_are_right o (event ∷ past) good legal) (ap is_some call.1)
 
-pub are-few : (c : Config) (past : List Event) (h : ℕ) → IsGood c → IsLegal c past → AreFew c past h
-are-few c past h good legal =
-    let bounded = are-bounded c.harts (turns c past) h (turns_are_right c past good legal) in
+pub are-few : (o : Opening) (past : List Event) (h : ℕ) → IsGood o.config → IsLegal o past → AreFew o past h
+are-few o past h good legal =
+    let bounded = are-bounded o.fences o.config.harts (turns o past) h (turns_are_right o past good legal) in
     record { each = bounded.each; total = bounded.total }
 
 -- ---- as long as a call goes on
@@ -221,47 +244,55 @@ left-more false true false k m = omega arith
 left-more false false true k m = refl
 left-more false false false k m = refl
 
-record IsOpen (c : Config) (newer past : List Event) (h : ℕ) : Type 0 where
-  pub place : ℕ
-  pub opened : calls.open_call (turns c (newer ++ past)) h ≡ Some place
-  pub left : (t : ℕ) → IsLeft c newer past h t
+record IsOpen (o : Opening) (newer past : List Event) (h : ℕ) : Type 0 where
+  pub place : FenceCall Flush
+  pub opened : calls.open_call o.fences (turns o (newer ++ past)) h ≡ Some place
+  pub left : (t : ℕ) → IsLeft o newer past h t
 
 less-none : (k : ℕ) → k ≡ k - 0
 less-none k = omega arith
 
-stays-open : (c : Config) (newer past : List Event) (h : ℕ) → IsGood c → IsLegal c (newer ++ past) → is_some (outstanding c past h) ≡ true → list_any (ends_call h) newer ≡ false → IsOpen c newer past h
-stays-open c [] past h good legal inside goes = let call = inside-call c past h inside in record { place = call.0; opened = call.1; left = λ t. less-none (need c past h t) }
-stays-open c (event ∷ newer) past h good legal inside goes =
+stays-open : (o : Opening) (newer past : List Event) (h : ℕ) → IsGood o.config → IsLegal o (newer ++ past) → is_some (outstanding o past h) ≡ true → list_any (ends_call h) newer ≡ false → IsOpen o newer past h
+stays-open o [] past h good legal inside goes = let call = inside-call o past h inside in record { place = call.0; opened = call.1; left = λ t. less-none (need o past h t) }
+stays-open o (event ∷ newer) past h good legal inside goes =
     let parts = or_parts (ends_call h event) (list_any (ends_call h) newer) goes in
-    let before = stays-open c newer past h good legal.2 inside parts.1 in
-    let right = turns_are_right c (event ∷ (newer ++ past)) good legal in
+    let before = stays-open o newer past h good legal.2 inside parts.1 in
+    let right = turns_are_right o (event ∷ (newer ++ past)) good legal in
     record {
       place = before.place;
-      opened = open-more c.harts (turn_of c (newer ++ past) event.actor event.op event.reply) (turns c (newer ++ past)) h before.place right.0 before.opened (goes-by c (newer ++ past) event h parts.0);
+      opened = open-more o.fences o.config.harts (turn_of o (newer ++ past) event.actor event.op event.reply) (turns o (newer ++ past)) h before.place right.0 before.opened (goes-by o (newer ++ past) event h parts.0);
       left = λ t.
-          need-event c event (newer ++ past) h t before.place good legal before.opened parts.0
+          need-event o event (newer ++ past) h t before.place good legal before.opened parts.0
           ∙ ap (λ k. if stops t event then 0 else if serves t event then k - 1 else k) (before.left t)
-          ∙ left-more (stops t event) (serves t event) (list_any (stops t) newer) (need c past h t) (serves_in t newer);
+          ∙ left-more (stops t event) (serves t event) (list_any (stops t) newer) (need o past h t) (serves_in t newer);
     }
 
-pub is-left : (c : Config) (newer past : List Event) (h t : ℕ) → IsGood c → GoesOn c newer past h → IsLeft c newer past h t
-is-left c newer past h t good on = (stays-open c newer past h good on.legal on.inside on.goes_on).left t
+pub is-left : (o : Opening) (newer past : List Event) (h t : ℕ) → IsGood o.config → GoesOn o newer past h → IsLeft o newer past h t
+is-left o newer past h t good on = (stays-open o newer past h good on.legal on.inside on.goes_on).left t
 
-pub can-end : (c : Config) (newer past : List Event) (h : ℕ) → IsGood c → GoesOn c newer past h → length (newer ++ past) < c.limit → HaveServed c newer past h → CanEnd c (newer ++ past) h
-can-end c newer past h good on below served =
-    let is = stays-open c newer past h good on.legal on.inside on.goes_on in
-    let right = turns_are_right c (newer ++ past) good on.legal in
-    let none : calls.outstanding c.harts (turns c (newer ++ past)) h ≡ [] = needs-none c.harts (turns c (newer ++ past)) h (λ t inside. is.left t ∙ covered t (served t inside)) in
-    let waits_for_none : outstanding c (newer ++ past) h ≡ Some [] = rw (is.opened, none) refl in
-    let power = inside-on c (newer ++ past) h is.place on.legal is.opened in
-    let there = lt-leb c.harts h (open-inside c.harts (turns c (newer ++ past)) h is.place right is.opened) in
-    let room = ne_eqb (length (newer ++ past)) c.limit (λ e. absurd (omega (arith, e, below))) in
+pub can-end : (o : Opening) (newer past : List Event) (h : ℕ) → IsOpened o → GoesOn o newer past h → length (newer ++ past) < o.config.limit → HaveServed o newer past h → CanEnd o (newer ++ past) h
+can-end o newer past h opened on below served =
+    let good = is-good o opened in
+    let is = stays-open o newer past h good on.legal on.inside on.goes_on in
+    let right = turns_are_right o (newer ++ past) good on.legal in
+    let none : calls.outstanding o.fences o.config.harts (turns o (newer ++ past)) h ≡ [] = needs-none o.fences o.config.harts (turns o (newer ++ past)) h (λ t inside. is.left t ∙ covered t (served t inside)) in
+    let waits_for_none : outstanding o (newer ++ past) h ≡ Some [] = rw (is.opened, none) refl in
+    let power = inside-on o (newer ++ past) h is.place (opened-on o opened) on.legal is.opened in
+    let there = lt-leb o.config.harts h (inside right is.place is.opened) in
+    let room = ne_eqb (length (newer ++ past)) o.config.limit (λ e. absurd (omega (arith, e, below))) in
     record { waits_for_none = waits_for_none; poll = rw (power, there, waits_for_none, room) refl }
   where
-    covered : (t : ℕ) → (need c past h t ≤ serves_in t newer) ⊎ (list_any (stops t) newer ≡ true) → (if list_any (stops t) newer then 0 else need c past h t - serves_in t newer) ≡ 0
+    -- no hart is in a call that isn't there
+    inside : IsRight o.fences o.config.harts (turns o (newer ++ past)) → (p : FenceCall Flush) → calls.open_call o.fences (turns o (newer ++ past)) h ≡ Some p → h < o.config.harts
+    inside right p called = elim (cases_lt h o.config.harts) [
+      | inl near ↦ near
+      | inr far ↦ absurd (let none = sym called ∙ open-within o.fences o.config.harts (turns o (newer ++ past)) h right far in cc)
+    ]
+
+    covered : (t : ℕ) → (need o past h t ≤ serves_in t newer) ⊎ (list_any (stops t) newer ≡ true) → (if list_any (stops t) newer then 0 else need o past h t - serves_in t newer) ≡ 0
     covered t enough = by_stop (list_any (stops t) newer) enough
       where
-        by_stop : (stopped : Bool) → (need c past h t ≤ serves_in t newer) ⊎ (stopped ≡ true) → (if stopped then 0 else need c past h t - serves_in t newer) ≡ 0
+        by_stop : (stopped : Bool) → (need o past h t ≤ serves_in t newer) ⊎ (stopped ≡ true) → (if stopped then 0 else need o past h t - serves_in t newer) ≡ 0
         by_stop true enough = refl
         by_stop false enough = elim enough [
           | inl most ↦ omega (arith, most)

@@ -19,12 +19,12 @@ use Rattle.hart_access.specs.Accesses as whole
 use Rattle.hart_access.specs.Operations.{kind_of}
 use Rattle.hart_access.specs.Translations.{IsTranslated, hit_at}
 use Rattle.hart_access.specs.Ways.{in_memory, phys_at, phys_by, phys_in, translated, used_by, way, way_by}
-use Rattle.board_core.specs.declared.config.Config.{Config}
+use Rattle.board_core.specs.Opening.{Opening}
 use Rattle.board_core.specs.declared.event.Reply.TheVariants as replies
 use Rattle.board_core.specs.Accesses.{access_reply_of, cached, hit}
 use Rattle.board_core.specs.History.{Event, Reach}
 use Rattle.board_core.specs.Memory.{memory, satp}
-use Rattle.board_core.specs.Limits.{IsGood}
+use Rattle.board_core.specs.Cuts.{IsOpened}
 use Rattle.board_core.specs.Replies.{IsLegal}
 use Rattle.board_laws.specs.Fresh.{FencedAccess}
 use Rattle.board_laws.specs.Places.{past_at}
@@ -33,6 +33,7 @@ use Rattle.board_laws.proofs.Fresh.{after-fence, translations_are_fresh}
 use Rattle.board_laws.proofs.Leaves.{page-bounds}
 use Rattle.sv39.proofs.PageLaw.{leaf_page}
 use Rattle.board_laws.proofs.Lives.{answered-reach, used-reach}
+use Rattle.board_laws.proofs.Openings.{is-good}
 use Rattle.board_laws.proofs.Places.{legal-with}
 
 -- the physical address that the result of the page tables gives an address, or the fault
@@ -94,42 +95,42 @@ failed Load cause = refl
 failed (Store value) cause = refl
 failed Fetch cause = refl
 
-pub steady_tables_decide : (c : Config) (past : List Event) (t a p : ℕ) (fence : Fence) (reach : Reach) (result : Result Leaf Cause)
-    → IsGood c → IsLegal c past → (x : FencedAccess c past t a p fence reach) → IsTranslated (satp c (past_at past p) t) reach.va → IsSteady c past t a p reach result
-    → IsDecidedBy c (past_at past p) t x.event reach result
-steady_tables_decide c past t a p fence reach result good legal x is_translated steady =
-    let older = past_at past p in
+pub steady_tables_decide : (o : Opening) (past : List Event) (t a p : ℕ) (fence : Fence) (reach : Reach) (result : Result Leaf Cause)
+    → IsOpened o → IsLegal o past → (x : FencedAccess o past t a p fence reach) → IsTranslated (satp o (past_at o past p) t) reach.va → IsSteady o past t a p reach result
+    → IsDecidedBy o (past_at o past p) t x.event reach result
+steady_tables_decide o past t a p fence reach result opened legal x is_translated steady =
+    let older = past_at o past p in
     let kind = kind_of reach.access in
-    let found = hit_at (satp c older t) (hit c older t) reach.va in
-    let walked = maps (memory c older) (satp c older t) reach.va kind in
-    let with_event = legal-with c past p x.event legal x.happened in
-    let way_is = translated-way (memory c older) (satp c older t) (hit c older t) reach.va kind is_translated in
-    let entry_used : x.event.translation ≡ used_by (way_by found (asid_of (satp c older t)) walked) =
-    with_event.1 ∙ used-reach c older t x.event.actor x.event.op reach x.by_hart x.access ∙ ap used_by way_is in
-    let walked_is : walked ≡ result = steady.one_result p (after-fence c past t a p fence reach good legal x) (omega arith) in
-    let decides = λ (entry : Entry) (used_entry : used_by (way_by found (asid_of (satp c older t)) walked) ≡ Some entry). decided entry (entry_used ∙ used_entry) in
-    let place_is = ap (λ w. in_memory (memory c older) kind (phys_by w reach.va kind)) way_is
-    ∙ ap (in_memory (memory c older) kind) (way-decided found (asid_of (satp c older t)) reach.va kind walked result walked_is decides) in
-    let alone_is = ap (λ w. in_memory (memory c older) kind (phys_by w reach.va kind)) (translated-way (memory c older) (satp c older t) no_tlb reach.va kind is_translated)
-    ∙ ap (in_memory (memory c older) kind) (way-walked (asid_of (satp c older t)) reach.va kind walked result walked_is (walked-allows (memory c older) (satp c older t) reach.va kind)) in
-    let reply_is = answered-reach c older t x.event.actor x.event.op x.event.reply reach x.by_hart x.access with_event.0
-    ∙ ap (λ place. access_reply_of reach.access (whole.answer_by (memory c older) (cached c older t) place reach.access)) place_is in
+    let found = hit_at (satp o older t) (hit o older t) reach.va in
+    let walked = maps (memory o older) (satp o older t) reach.va kind in
+    let with_event = legal-with o past p x.event legal x.happened in
+    let way_is = translated-way (memory o older) (satp o older t) (hit o older t) reach.va kind is_translated in
+    let entry_used : x.event.translation ≡ used_by (way_by found (asid_of (satp o older t)) walked) =
+    with_event.1 ∙ used-reach o older t x.event.actor x.event.op reach x.by_hart x.access ∙ ap used_by way_is in
+    let walked_is : walked ≡ result = steady.one_result p (after-fence o past t a p fence reach (is-good o opened) legal x) (omega arith) in
+    let decides = λ (entry : Entry) (used_entry : used_by (way_by found (asid_of (satp o older t)) walked) ≡ Some entry). decided entry (entry_used ∙ used_entry) in
+    let place_is = ap (λ w. in_memory (memory o older) kind (phys_by w reach.va kind)) way_is
+    ∙ ap (in_memory (memory o older) kind) (way-decided found (asid_of (satp o older t)) reach.va kind walked result walked_is decides) in
+    let alone_is = ap (λ w. in_memory (memory o older) kind (phys_by w reach.va kind)) (translated-way (memory o older) (satp o older t) no_tlb reach.va kind is_translated)
+    ∙ ap (in_memory (memory o older) kind) (way-walked (asid_of (satp o older t)) reach.va kind walked result walked_is (walked-allows (memory o older) (satp o older t) reach.va kind)) in
+    let reply_is = answered-reach o older t x.event.actor x.event.op x.event.reply reach x.by_hart x.access with_event.0
+    ∙ ap (λ place. access_reply_of reach.access (whole.answer_by (memory o older) (cached o older t) place reach.access)) place_is in
     record {
-      address = λ leaf is. ap (λ u. phys_at u reach.va) entry_used ∙ address-decided found (asid_of (satp c older t)) reach.va kind walked result leaf walked_is is decides;
+      address = λ leaf is. ap (λ u. phys_at u reach.va) entry_used ∙ address-decided found (asid_of (satp o older t)) reach.va kind walked result leaf walked_is is decides;
       fault = λ cause is. reply_is
-          ∙ ap (λ (r : Result Leaf Cause). access_reply_of reach.access (whole.answer_by (memory c older) (cached c older t) (in_memory (memory c older) kind (phys_of r reach.va)) reach.access)) is
+          ∙ ap (λ (r : Result Leaf Cause). access_reply_of reach.access (whole.answer_by (memory o older) (cached o older t) (in_memory (memory o older) kind (phys_of r reach.va)) reach.access)) is
           ∙ failed reach.access cause;
-      reply = reply_is ∙ sym (ap (λ place. access_reply_of reach.access (whole.answer_by (memory c older) (cached c older t) place reach.access)) alone_is);
+      reply = reply_is ∙ sym (ap (λ place. access_reply_of reach.access (whole.answer_by (memory o older) (cached o older t) place reach.access)) alone_is);
     }
   where
     -- each entry that the access may use is the result's leaf, or doesn't allow the access
     decided : (entry : Entry) → x.event.translation ≡ Some entry → result ≡ by_right (kind_of reach.access) entry.leaf
     decided entry translation =
-        let given = translations_are_fresh c past t a p fence reach entry good legal x translation in
-        let before = past_at past given.place in
+        let given = translations_are_fresh o past t a p fence reach entry opened legal x translation in
+        let before = past_at o past given.place in
         let kind = kind_of given.there.access in
-        let page = leaf_page (memory c before) (satp c before t) reach.va kind entry.leaf given.gives in
+        let page = leaf_page (memory o before) (satp o before t) reach.va kind entry.leaf given.gives in
         let bounds = page-bounds entry.leaf.level reach.va in
         sym (steady.one_result given.place given.after given.upto)
-        ∙ ap (λ s. maps (memory c before) s reach.va (kind_of reach.access)) (sym (steady.same_satp given.place given.after given.upto))
-        ∙ one_leaf_for_a_page (memory c before) (satp c before t) reach.va reach.va kind (kind_of reach.access) entry.leaf given.gives (rw page bounds.0) (rw page bounds.1)
+        ∙ ap (λ s. maps (memory o before) s reach.va (kind_of reach.access)) (sym (steady.same_satp given.place given.after given.upto))
+        ∙ one_leaf_for_a_page (memory o before) (satp o before t) reach.va reach.va kind (kind_of reach.access) entry.leaf given.gives (rw page bounds.0) (rw page bounds.1)

@@ -6,13 +6,13 @@ use Rattle.tlb_model.specs.declared.fence.Flush.TheVariants.{Entries}
 use Rattle.sv39.specs.declared.page.Level.TheVariants.{Giga}
 use Rattle.sv39.specs.declared.cause.Cause.TheVariants.{LoadPageFault}
 use Rattle.sv39.specs.Maps.{maps}
-use Rattle.sv39.specs.Memory.{is_in_ram, zero_memory}
+use Rattle.sv39.specs.Memory.{is_in_ram, word_in, zero_memory}
 use Rattle.sv39.specs.Paging.{is_valid_by}
 use Rattle.sbi_abi.specs.Calls.{call_of}
 use Rattle.sbi_abi.specs.ResetTypes.{reset_kind_of}
 use Rattle.hart_mask.specs.HartList.{names_stray, targets_of}
 use Rattle.hart_mask.specs.Ids.{ids_where}
-use Rattle.board_core.specs.declared.config.Config.{Config}
+use Rattle.board_core.specs.Opening.{Opening, opening_at}
 use Rattle.board_core.specs.declared.event.Actor.TheVariants.{Hart}
 use Rattle.board_core.specs.declared.event.Op.{Op}
 use Rattle.board_core.specs.declared.event.Op.TheVariants.{Advance, Ecall, Fetch, FenceI, Load, Poll, Serve, Sfence, Store, WriteSatp}
@@ -34,8 +34,8 @@ use Rattle.board_laws.specs.Again.{Step, again}
 use Rattle.board_laws.specs.Fences.{ByCall, Reached}
 use Rattle.board_laws.specs.Lives.{live_entries, live_words}
 
-abbrev opened : Config
-opened = record { harts = 1; pages = 16; limit = 1000; boot_hart = 0; boot_addr = 0x80000000; boot_opaque = 0; asid_len = 16; width = 39 }
+abbrev opened : Opening
+opened = opening_at (record { harts = 1; pages = 16; limit = 1000; boot_hart = 0; boot_addr = 0x80000000; boot_opaque = 0; asid_len = 16; width = 39 })
 
 -- what hart 0 did, newest first, and what it was answered
 abbrev by_hart : List Op → List Event
@@ -56,41 +56,41 @@ unmapped = Store 0x80001010 0 ∷ Load 0x80002000 ∷ WriteSatp (8 * 2 ^ 60 + 0x
 
 -- The entry lives on, and a load uses it, though the page tables have it no more.
 stale-load : replies (by_hart (Load 0x80002000 ∷ unmapped)) ≡ Value 0 ∷ Done ∷ Value 0 ∷ Done ∷ Done ∷ Entry 0x80000000 0 0 ∷ []
-unfolding maps is_valid_by zero_memory is_in_ram
+unfolding maps is_valid_by word_in zero_memory is_in_ram
 stale-load = refl
 
 lives-before : entry_dates (by_hart unmapped) ≡ 3 ∷ []
-unfolding maps is_valid_by zero_memory is_in_ram
+unfolding maps is_valid_by word_in zero_memory is_in_ram
 lives-before = refl
 
 -- After a fence it is gone, and the load fails as the page tables say.
 gone-after : entry_dates (by_hart (Sfence None None ∷ unmapped)) ≡ []
-unfolding maps is_valid_by zero_memory is_in_ram
+unfolding maps is_valid_by word_in zero_memory is_in_ram
 gone-after = refl
 
 fresh-load : replies (by_hart (Load 0x80002000 ∷ Sfence None None ∷ unmapped)) ≡ Fault LoadPageFault ∷ Done ∷ Done ∷ Value 0 ∷ Done ∷ Done ∷ Entry 0x80000000 0 0 ∷ []
-unfolding maps is_valid_by zero_memory is_in_ram
+unfolding maps is_valid_by word_in zero_memory is_in_ram
 fresh-load = refl
 
 -- A fence of another address leaves it, if the address isn't in its page.
 lives-after : entry_dates (by_hart (Sfence (Some 0x2000) None ∷ unmapped)) ≡ 3 ∷ []
-unfolding maps is_valid_by zero_memory is_in_ram
+unfolding maps is_valid_by word_in zero_memory is_in_ram
 lives-after = refl
 
 -- A store leaves the word that was fetched, and a FENCE.I drops it.
 stale-fetch : replies (by_hart (Fetch 0x80003000 ∷ FenceI ∷ Fetch 0x80003000 ∷ Store 0x80003000 7 ∷ Fetch 0x80003000 ∷ Advance ∷ []))
     ≡ Value 7 ∷ Done ∷ Value 0 ∷ Done ∷ Value 0 ∷ Entry 0x80000000 0 0 ∷ []
-unfolding maps is_valid_by zero_memory is_in_ram
+unfolding maps is_valid_by word_in zero_memory is_in_ram
 stale-fetch = refl
 
 refilled : word_dates (by_hart (Fetch 0x80003000 ∷ FenceI ∷ Fetch 0x80003000 ∷ Store 0x80003000 7 ∷ Fetch 0x80003000 ∷ Advance ∷ [])) ≡ 5 ∷ []
-unfolding maps is_valid_by zero_memory is_in_ram
+unfolding maps is_valid_by word_in zero_memory is_in_ram
 refilled = refl
 
 -- ---- a remote fence, between two harts
 
-abbrev pair : Config
-pair = record { harts = 2; pages = 16; limit = 1000; boot_hart = 0; boot_addr = 0x80000000; boot_opaque = 0; asid_len = 16; width = 39 }
+abbrev pair : Opening
+pair = opening_at (record { harts = 2; pages = 16; limit = 1000; boot_hart = 0; boot_addr = 0x80000000; boot_opaque = 0; asid_len = 16; width = 39 })
 
 abbrev did : ℕ → Op → Step
 did h op = record { actor = Hart h; op = op }
@@ -116,7 +116,7 @@ first_reply past = map (λ event. event.reply) (take 1 past)
 
 -- Until hart 1 has served, its load is stale, and hart 0's call waits.
 stale-before_serve : first_reply (again pair (did 1 (Load 0x80002000) ∷ asked)) ≡ Value 0 ∷ []
-unfolding maps is_valid_by zero_memory is_in_ram call_of targets_of names_stray ids_where
+unfolding maps is_valid_by word_in zero_memory is_in_ram call_of targets_of names_stray ids_where
 stale-before_serve = refl
 
 -- A cold reboot by hart 1 drops the call: what hart 0 then polls is refused, and makes no event.
@@ -124,11 +124,11 @@ abbrev rebooted : List Step
 rebooted = did 1 (call 0x53525354 0 1 0 0 0) ∷ asked
 
 reboot-accepted : first_reply (again pair rebooted) ≡ Gone ∷ []
-unfolding maps is_valid_by zero_memory is_in_ram call_of targets_of names_stray ids_where reset_kind_of
+unfolding maps is_valid_by word_in zero_memory is_in_ram call_of targets_of names_stray ids_where reset_kind_of
 reboot-accepted = refl
 
 reboot-drops_call : again pair (did 0 Poll ∷ rebooted) ≡ again pair rebooted
-unfolding maps is_valid_by zero_memory is_in_ram call_of targets_of names_stray ids_where reset_kind_of
+unfolding maps is_valid_by word_in zero_memory is_in_ram call_of targets_of names_stray ids_where reset_kind_of
 reboot-drops_call = refl
 
 -- Once the call was a success, it is fresh.
@@ -136,7 +136,7 @@ abbrev served : List Step
 served = did 0 Poll ∷ did 1 Serve ∷ asked
 
 fresh-after_poll : first_reply (again pair (did 1 (Load 0x80002000) ∷ served)) ≡ Fault LoadPageFault ∷ []
-unfolding maps is_valid_by zero_memory is_in_ram call_of targets_of names_stray ids_where
+unfolding maps is_valid_by word_in zero_memory is_in_ram call_of targets_of names_stray ids_where
 fresh-after_poll = refl
 
 -- Of how many harts fences were asked, at how many they were applied, and at how many they wait: a reset counts as applying
@@ -145,15 +145,15 @@ abbrev fence_counts : List Event → List ℕ
 fence_counts past = (totals pair past).asked ∷ (totals pair past).applied ∷ (totals pair past).waiting ∷ []
 
 waits-once : fence_counts (again pair asked) ≡ 1 ∷ 0 ∷ 1 ∷ []
-unfolding maps is_valid_by zero_memory is_in_ram call_of targets_of names_stray ids_where
+unfolding maps is_valid_by word_in zero_memory is_in_ram call_of targets_of names_stray ids_where
 waits-once = refl
 
 applied-by_serve : fence_counts (again pair served) ≡ 1 ∷ 1 ∷ 0 ∷ []
-unfolding maps is_valid_by zero_memory is_in_ram call_of targets_of names_stray ids_where
+unfolding maps is_valid_by word_in zero_memory is_in_ram call_of targets_of names_stray ids_where
 applied-by_serve = refl
 
 applied-by_reset : fence_counts (again pair rebooted) ≡ 1 ∷ 1 ∷ 0 ∷ []
-unfolding maps is_valid_by zero_memory is_in_ram call_of targets_of names_stray ids_where reset_kind_of
+unfolding maps is_valid_by word_in zero_memory is_in_ram call_of targets_of names_stray ids_where reset_kind_of
 applied-by_reset = refl
 
 -- The same history, written out.
@@ -184,7 +184,7 @@ abbrev written : List Event
 written = poll ∷ event_of 1 Serve Served ∷ ask ∷ before_ask
 
 is-written : again pair served ≡ written
-unfolding maps is_valid_by zero_memory is_in_ram call_of targets_of names_stray ids_where
+unfolding maps is_valid_by word_in zero_memory is_in_ram call_of targets_of names_stray ids_where
 is-written = refl
 
 -- What stands between the call and its end is no reset.
@@ -204,10 +204,10 @@ only-served (first ∷ []) other e = sym (ap second_op e)
 only-served (first ∷ second ∷ newer) other e =
     absurd (too-long (length written) (length (newer ++ other ∷ ask ∷ before_ask)) (length newer) (ap length e) refl (length-append newer (other ∷ ask ∷ before_ask)))
 
-no-reset : (m : ℕ) (other : Event) → 7 < m → m < 9 → IsAt written m other → reset_by other.op other.reply ≡ None
+no-reset : (m : ℕ) (other : Event) → 7 < m → m < 9 → IsAt pair written m other → reset_by other.op other.reply ≡ None
 no-reset m other after before at =
     let place : m ≡ 8 = omega arith in
-    let served : other.op ≡ Serve = only-served at.newer other (at.made ∙ ap (λ n. at.newer ++ other ∷ past_at written n) place) in
+    let served : other.op ≡ Serve = only-served at.newer other (at.made ∙ ap (λ n. at.newer ++ other ∷ past_at pair written n) place) in
     rw served refl
 
 -- In it the fence has reached hart 1.
@@ -216,17 +216,17 @@ unfolding call_of targets_of names_stray ids_where
 has-reached = ByCall 0
     (record {
       event = ask;
-      happened = record { newer = poll ∷ event_of 1 Serve Served ∷ []; made = refl };
+      happened = record { since = omega arith; newer = poll ∷ event_of 1 Serve Served ∷ []; made = refl };
       by_hart = refl;
       regs = record { eid = 0x52464e43; fid = 1; a = 2 ∷ 0 ∷ 0 ∷ 0 ∷ 0 ∷ 0 ∷ [] };
       call = refl;
       accepted = refl;
-      remote = record { mask = 2; base = 0; flush = flush_of_range (spaces_of pair) 0 0 None };
+      remote = record { mask = 2; base = 0; flush = flush_of_range (spaces_of pair.config) 0 0 None };
       fences = refl;
       drops = refl;
       asked = refl;
     })
-    (record { end = 9; later = omega arith; event = poll; happened = record { newer = []; made = refl }; by_hart = refl; poll = refl; kept = no-reset })
+    (record { end = 9; later = omega arith; event = poll; happened = record { since = omega arith; newer = []; made = refl }; by_hart = refl; poll = refl; kept = no-reset })
 
 -- So the load after it is one that the fence is of, and from the fence on the page tables say one thing of it.
 abbrev load : Event
@@ -238,7 +238,7 @@ reach = record { va = 0x80002000; access = accesses.Load }
 is-fenced : FencedAccess pair (load ∷ written) 1 7 10 (record { asid = None; range = None }) reach
 is-fenced = record {
   event = load;
-  happened = record { newer = []; made = refl };
+  happened = record { since = omega arith; newer = []; made = refl };
   by_hart = refl;
   access = refl;
   reached = has-reached;
@@ -256,8 +256,8 @@ after-seven P eight nine ten m after upto = elim (cases_eq m 8) [
 ]
 
 is-steady : IsSteady pair (load ∷ written) 1 7 10 reach (Err LoadPageFault)
-unfolding maps is_valid_by zero_memory is_in_ram call_of
+unfolding maps is_valid_by word_in zero_memory is_in_ram call_of
 is-steady = record {
-  same_satp = after-seven (λ m. satp pair (past_at (load ∷ written) m) 1 ≡ satp pair (past_at (load ∷ written) 10) 1) refl refl refl;
-  one_result = after-seven (λ m. maps (memory pair (past_at (load ∷ written) m)) (satp pair (past_at (load ∷ written) 10) 1) 0x80002000 kinds.Load ≡ Err LoadPageFault) refl refl refl;
+  same_satp = after-seven (λ m. satp pair (past_at pair (load ∷ written) m) 1 ≡ satp pair (past_at pair (load ∷ written) 10) 1) refl refl refl;
+  one_result = after-seven (λ m. maps (memory pair (past_at pair (load ∷ written) m)) (satp pair (past_at pair (load ∷ written) 10) 1) 0x80002000 kinds.Load ≡ Err LoadPageFault) refl refl refl;
 }

@@ -1,6 +1,6 @@
 -- A history from its steps alone.
 use Rattle.std.specs.Prelude.{List, [], ◌∷◌, map}
-use Rattle.board_core.specs.declared.config.Config.{Config}
+use Rattle.board_core.specs.Opening.{Opening}
 use Rattle.board_core.specs.declared.event.Actor.{Actor}
 use Rattle.board_core.specs.declared.event.Op.{Op}
 use Rattle.board_core.specs.History.{Event}
@@ -17,6 +17,6 @@ steps_of = map (λ event. record { actor = event.actor; op = event.op })
 
 -- The past that the steps make, newest first: each is answered, and uses an entry, by what the steps before it made, and
 -- one that is refused makes no event.
-abbrev pub again : Config → List Step → List Event
-again c [] = []
-again c (step ∷ steps) = (stepped (record { config = c; past = again c steps }) step.actor step.op).past
+abbrev pub again : Opening → List Step → List Event
+again o [] = []
+again o (step ∷ steps) = (stepped (record { opening = o; past = again o steps }) step.actor step.op).past

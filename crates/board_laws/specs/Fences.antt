@@ -8,9 +8,13 @@ use Rattle.sbi_abi.specs.Calls.{call_of}
 use Rattle.tlb_model.specs.declared.fence.Flush.{Flush}
 use Rattle.tlb_model.specs.declared.fence.Flush.TheVariants.{Words, Entries}
 use Rattle.tlb_model.specs.Fences.{fence_of_address}
-use Rattle.rfence.specs.Laws.{applied_places, times, waiting_places}
+use Rattle.hart_mask.specs.Ids.{has}
+use Rattle.rfence.specs.declared.opened.FenceCall.{FenceCall}
+use Rattle.rfence.specs.Laws.{times_met, was_applied}
+use Rattle.rfence.specs.Opening.{called_at}
 use Rattle.rfence.specs.Turns.{is_asked}
 use Rattle.board_core.specs.declared.config.Config.{Config}
+use Rattle.board_core.specs.Opening.{Opening}
 use Rattle.board_core.specs.declared.event.Actor.TheVariants.{Hart}
 use Rattle.board_core.specs.declared.event.Op.{Op}
 use Rattle.board_core.specs.declared.event.Op.TheVariants.{Ecall, FenceI, Poll, Sfence}
@@ -30,49 +34,57 @@ own_fence c FenceI = Some Words
 own_fence c op = None
 
 -- Hart t fenced itself at this place.
-pub record FencesItself (c : Config) (past : List Event) (t place : ℕ) (flush : Flush) : Type 0 where
+pub record FencesItself (o : Opening) (past : List Event) (t place : ℕ) (flush : Flush) : Type 0 where
   pub event : Event
-  pub happened : IsAt past place event
+  pub happened : IsAt o past place event
   pub by_hart : event.actor ≡ Hart t
-  pub fences : own_fence c event.op ≡ Some flush
+  pub fences : own_fence o.config event.op ≡ Some flush
 
 -- Hart x asked a fence of hart t at this place: by a call that was accepted, whose hart list names t, while t was in an
 -- interruptible state (SBI 8).
-pub record Asks (c : Config) (past : List Event) (x t place : ℕ) (flush : Flush) : Type 0 where
+pub record Asks (o : Opening) (past : List Event) (x t place : ℕ) (flush : Flush) : Type 0 where
   pub event : Event
-  pub happened : IsAt past place event
+  pub happened : IsAt o past place event
   pub by_hart : event.actor ≡ Hart x
   pub regs : Regs
   pub call : event.op ≡ Ecall regs
   pub accepted : event.reply ≡ Waiting
   pub remote : Remote
-  pub fences : remote_of c (call_of regs) ≡ Some remote
+  pub fences : remote_of o.config (call_of regs) ≡ Some remote
   pub drops : remote.flush ≡ Ok flush
-  pub asked : is_asked_by c (past_at past place) remote.mask remote.base t ≡ true
+  pub asked : is_asked_by o (past_at o past place) remote.mask remote.base t ≡ true
 
 -- The call that hart x made at this place was a success: the hart polled later, and no reset had dropped the call (SBI 10;
 -- profile).
-pub record Succeeded (past : List Event) (x place : ℕ) : Type 0 where
+pub record Succeeded (o : Opening) (past : List Event) (x place : ℕ) : Type 0 where
   pub end : ℕ
   pub later : place < end
   pub event : Event
-  pub happened : IsAt past end event
+  pub happened : IsAt o past end event
   pub by_hart : event.actor ≡ Hart x
   pub poll : event.op ≡ Poll
-  pub kept : (m : ℕ) (other : Event) → place < m → m < end → IsAt past m other → reset_by other.op other.reply ≡ None
+  pub kept : (m : ℕ) (other : Event) → place < m → m < end → IsAt o past m other → reset_by other.op other.reply ≡ None
 
 -- A fence that was asked at a place of the past has reached hart t: it is the hart's own, or it was asked of the hart by
 -- a call that was a success.
-pub data Reached (c : Config) (past : List Event) (t place : ℕ) (flush : Flush) : Type 0 where
-  Itself : FencesItself c past t place flush → Reached c past t place flush
-  ByCall : (x : ℕ) → Asks c past x t place flush → Succeeded past x place → Reached c past t place flush
+pub data Reached (o : Opening) (past : List Event) (t place : ℕ) (flush : Flush) : Type 0 where
+  Itself : FencesItself o past t place flush → Reached o past t place flush
+  ByCall : (x : ℕ) → Asks o past x t place flush → Succeeded o past x place → Reached o past t place flush
 
 -- A fence that the event of a place asks of hart t was applied there once, or waits there once; one that it doesn't ask
 -- neither was applied there nor waits there.
-abbrev pub AppliedOnce : Config → List Event → (t place : ℕ) → Event → Type 0
-AppliedOnce c past t place event =
-    times place (applied_places (turns c past) t) + times place (waiting_places (turns c past) t)
-    ≡ (if is_asked (turn_of c (past_at past place) event.actor event.op event.reply) t then 1 else 0)
+abbrev pub AppliedOnce : Opening → List Event → (t place : ℕ) → Event → Type 0
+AppliedOnce o past t place event =
+    times_met o.fences place (turns o past) t
+    ≡ (if is_asked (turn_of o (past_at o past place) event.actor event.op event.reply) t then 1 else 0)
+
+-- So it is with the fence of a call that a hart was in at the opening: it was asked before, and counts as applied by then at
+-- each hart that it asked and where it didn't wait at the opening.
+abbrev pub OpenedOnce : Opening → List Event → (c t : ℕ) → FenceCall Flush → Type 0
+OpenedOnce o past c t call =
+    called_at o.fences c ≡ Some call
+    → (if was_applied o.fences call t then 1 else 0) + times_met o.fences call.place (turns o past) t
+    ≡ (if has call.asked t then 1 else 0)
 
 -- Hart t stops by this event (SBI 9.2).
 pub record Stops (event : Event) (t : ℕ) : Type 0 where
@@ -83,11 +95,11 @@ pub record Stops (event : Event) (t : ℕ) : Type 0 where
   pub accepted : event.reply ≡ Gone
 
 -- Nothing lives in the caches of hart t, and no fence waits there.
-pub record LeavesNothing (c : Config) (past : List Event) (t : ℕ) : Type 0 where
-  pub entries : live_entries c past t ≡ []
-  pub words : live_words c past t ≡ []
-  pub waiting : waiting c past t ≡ []
+pub record LeavesNothing (o : Opening) (past : List Event) (t : ℕ) : Type 0 where
+  pub entries : live_entries o past t ≡ []
+  pub words : live_words o past t ≡ []
+  pub waiting : waiting o past t ≡ []
 
 -- Each hart inside a fence call is STARTED: it made the call, and waits for the call's end (SBI 8; that a call waits: profile).
-abbrev pub CallsAreMadeStarted : Config → List Event → Type 0
-CallsAreMadeStarted c past = (h : ℕ) (harts : List ℕ) → outstanding c past h ≡ Some harts → state c past h ≡ Started
+abbrev pub CallsAreMadeStarted : Opening → List Event → Type 0
+CallsAreMadeStarted o past = (h : ℕ) (harts : List ℕ) → outstanding o past h ≡ Some harts → state o past h ≡ Started

@@ -11,7 +11,7 @@ use Rattle.tlb_model.specs.declared.fence.Flush.TheVariants.{Words, Entries}
 use Rattle.tlb_model.specs.declared.fence.Range.{Range}
 use Rattle.tlb_model.specs.Fences.{meets}
 use Rattle.hart_access.specs.Operations.{kind_of}
-use Rattle.board_core.specs.declared.config.Config.{Config}
+use Rattle.board_core.specs.Opening.{Opening}
 use Rattle.board_core.specs.declared.event.Actor.TheVariants.{Hart}
 use Rattle.board_core.specs.declared.event.Op.TheVariants.{Fetch}
 use Rattle.board_core.specs.declared.event.Reply.TheVariants.{Value}
@@ -35,39 +35,39 @@ is_of_space (Some asid) satp leaf = not leaf.global && (asid_of satp == asid)
 
 -- Hart t accesses this address at place p, after a fence of place a that is of the address had reached the hart; and the
 -- fence is of the translation that the access used, if it used one.
-pub record FencedAccess (c : Config) (past : List Event) (t a p : ℕ) (fence : Fence) (reach : Reach) : Type 0 where
+pub record FencedAccess (o : Opening) (past : List Event) (t a p : ℕ) (fence : Fence) (reach : Reach) : Type 0 where
   pub event : Event
-  pub happened : IsAt past p event
+  pub happened : IsAt o past p event
   pub by_hart : event.actor ≡ Hart t
   pub access : access_of event.op ≡ Some reach
-  pub reached : Reached c (past_at past p) t a (Entries fence)
+  pub reached : Reached o (past_at o past p) t a (Entries fence)
   pub page : is_of_page fence.range reach.va ≡ true
-  pub space : (entry : Entry) → event.translation ≡ Some entry → is_of_space fence.asid (satp c (past_at past p) t) entry.leaf ≡ true
+  pub space : (entry : Entry) → event.translation ≡ Some entry → is_of_space fence.asid (satp o (past_at o past p) t) entry.leaf ≡ true
 
 -- At a place after a and not after p hart t made an access, of its kind; and the page tables in the memory of that place
 -- give an access of that kind to this address the leaf, by the hart's satp of that place.
-pub record GivenAfter (c : Config) (past : List Event) (t a p va : ℕ) (leaf : Leaf) : Type 0 where
+pub record GivenAfter (o : Opening) (past : List Event) (t a p va : ℕ) (leaf : Leaf) : Type 0 where
   pub place : ℕ
   pub after : a < place
   pub upto : place ≤ p
   pub there : Reach
-  pub made : Accesses past place t there
-  pub gives : maps (memory c (past_at past place)) (satp c (past_at past place) t) va (kind_of there.access) ≡ Ok leaf
+  pub made : Accesses o past place t there
+  pub gives : maps (memory o (past_at o past place)) (satp o (past_at o past place) t) va (kind_of there.access) ≡ Ok leaf
 
 -- ---- fetched words
 
 -- Hart t fetches a value from this address at place p, after a FENCE.I of place a had reached the hart.
-pub record FencedFetch (c : Config) (past : List Event) (t a p va value : ℕ) : Type 0 where
+pub record FencedFetch (o : Opening) (past : List Event) (t a p va value : ℕ) : Type 0 where
   pub event : Event
-  pub happened : IsAt past p event
+  pub happened : IsAt o past p event
   pub by_hart : event.actor ≡ Hart t
   pub fetch : event.op ≡ Fetch va
   pub answer : event.reply ≡ Value value
-  pub reached : Reached c (past_at past p) t a Words
+  pub reached : Reached o (past_at o past p) t a Words
 
 -- At a place after a and not after p the memory had this word at the physical address.
-pub record StoodAfter (c : Config) (past : List Event) (a p pa word : ℕ) : Type 0 where
+pub record StoodAfter (o : Opening) (past : List Event) (a p pa word : ℕ) : Type 0 where
   pub place : ℕ
   pub after : a < place
   pub upto : place ≤ p
-  pub stood : memory c (past_at past place) pa ≡ Some word
+  pub stood : memory o (past_at o past place) pa ≡ Some word

@@ -6,4 +6,5 @@ pub mod Steady
 pub mod Again
 pub mod Resets
 pub mod Need
+pub mod Seams
 pub mod Headline

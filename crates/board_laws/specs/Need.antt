@@ -6,7 +6,7 @@ use Rattle.sbi_abi.specs.declared.call.Call.TheVariants.{Hsm}
 use Rattle.sbi_abi.specs.declared.call.hsm.HsmCall.TheVariants.{HartStop}
 use Rattle.sbi_abi.specs.Calls.{call_of}
 use Rattle.rfence.specs.Waiting.{one_more}
-use Rattle.board_core.specs.declared.config.Config.{Config}
+use Rattle.board_core.specs.Opening.{Opening}
 use Rattle.board_core.specs.declared.event.Actor.TheVariants.{Hart}
 use Rattle.board_core.specs.declared.event.Op.{Op}
 use Rattle.board_core.specs.declared.event.Op.TheVariants as ops
@@ -55,31 +55,31 @@ serves_in t [] = 0
 serves_in t (event ∷ events) = one_more (serves t event) (serves_in t events)
 
 -- A serve by hart t is answered with success, and refused for a full history alone.
-abbrev pub ServeIsAccepted : Config → List Event → (t : ℕ) → Type 0
-ServeIsAccepted c past t = answer c past (Hart t) ops.Serve ≡ (if is_full c past then Err HistoryFull else Ok Served)
+abbrev pub ServeIsAccepted : Opening → List Event → (t : ℕ) → Type 0
+ServeIsAccepted o past t = answer o past (Hart t) ops.Serve ≡ (if is_full o past then Err HistoryFull else Ok Served)
 
 -- Hart h's fence call needs fewer serves of each hart than there are harts, and of all together at most as many as the
 -- square of that.
-pub record AreFew (c : Config) (past : List Event) (h : ℕ) : Type 0 where
-  pub each : (t : ℕ) → need c past h t ≤ c.harts - 1
-  pub total : total_need c past h ≤ (c.harts - 1) * (c.harts - 1)
+pub record AreFew (o : Opening) (past : List Event) (h : ℕ) : Type 0 where
+  pub each : (t : ℕ) → need o past h t ≤ o.config.harts - 1
+  pub total : total_need o past h ≤ (o.config.harts - 1) * (o.config.harts - 1)
 
 -- A legal history goes on while hart h is inside one fence call: there is no reset, and no poll by the hart.
-pub record GoesOn (c : Config) (newer past : List Event) (h : ℕ) : Type 0 where
-  pub legal : IsLegal c (newer ++ past)
-  pub inside : is_some (outstanding c past h) ≡ true
+pub record GoesOn (o : Opening) (newer past : List Event) (h : ℕ) : Type 0 where
+  pub legal : IsLegal o (newer ++ past)
+  pub inside : is_some (outstanding o past h) ≡ true
   pub goes_on : list_any (ends_call h) newer ≡ false
 
 -- What the call needs of hart t is what it needed before without the hart's serves since then, and nothing where the hart
 -- has stopped.
-abbrev pub IsLeft : Config → (newer past : List Event) → (h t : ℕ) → Type 0
-IsLeft c newer past h t = need c (newer ++ past) h t ≡ (if list_any (stops t) newer then 0 else need c past h t - serves_in t newer)
+abbrev pub IsLeft : Opening → (newer past : List Event) → (h t : ℕ) → Type 0
+IsLeft o newer past h t = need o (newer ++ past) h t ≡ (if list_any (stops t) newer then 0 else need o past h t - serves_in t newer)
 
 -- Each hart has since served as often as the call needed of it, or has stopped.
-abbrev pub HaveServed : Config → (newer past : List Event) → (h : ℕ) → Type 0
-HaveServed c newer past h = (t : ℕ) → t < c.harts → (need c past h t ≤ serves_in t newer) ⊎ (list_any (stops t) newer ≡ true)
+abbrev pub HaveServed : Opening → (newer past : List Event) → (h : ℕ) → Type 0
+HaveServed o newer past h = (t : ℕ) → t < o.config.harts → (need o past h t ≤ serves_in t newer) ⊎ (list_any (stops t) newer ≡ true)
 
 -- Hart h's fence call waits for no hart, and its poll is answered with success.
-pub record CanEnd (c : Config) (past : List Event) (h : ℕ) : Type 0 where
-  pub waits_for_none : outstanding c past h ≡ Some []
-  pub poll : answer c past (Hart h) ops.Poll ≡ Ok (Ret (success 0))
+pub record CanEnd (o : Opening) (past : List Event) (h : ℕ) : Type 0 where
+  pub waits_for_none : outstanding o past h ≡ Some []
+  pub poll : answer o past (Hart h) ops.Poll ≡ Ok (Ret (success 0))

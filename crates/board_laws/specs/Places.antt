@@ -1,20 +1,22 @@
 -- The places of a history. The place of an event, counted from 0, is the number of the events before it.
-use Rattle.std.specs.Prelude.{◌≡◌, ℕ, ◌-◌, List, ◌∷◌, ◌++◌, drop, length, Some}
+use Rattle.std.specs.Prelude.{◌≡◌, ℕ, ◌-◌, ◌≤◌, List, ◌∷◌, ◌++◌, drop, Some}
+use Rattle.board_core.specs.Opening.{Opening, place_after}
 use Rattle.board_core.specs.declared.event.Actor.TheVariants.{Hart}
 use Rattle.board_core.specs.History.{Event, Reach, access_of}
 
--- The history as it was at a place: its first so many events.
-abbrev pub past_at : List Event → (place : ℕ) → List Event
-past_at past place = drop (length past - place) past
+-- The history as it was at a place: its events of lower places.
+abbrev pub past_at : Opening → List Event → (place : ℕ) → List Event
+past_at o past place = drop (place_after o past - place) past
 
--- The event of this place: it came after the history that there was, and others may have come since.
-pub record IsAt (past : List Event) (place : ℕ) (event : Event) : Type 0 where
+-- The event of this place: it came after the opening and the history that there was, and others may have come since.
+pub record IsAt (o : Opening) (past : List Event) (place : ℕ) (event : Event) : Type 0 where
+  pub since : o.places ≤ place
   pub newer : List Event
-  pub made : past ≡ newer ++ event ∷ past_at past place
+  pub made : past ≡ newer ++ event ∷ past_at o past place
 
 -- The event of this place is an access by hart t.
-pub record Accesses (past : List Event) (place t : ℕ) (reach : Reach) : Type 0 where
+pub record Accesses (o : Opening) (past : List Event) (place t : ℕ) (reach : Reach) : Type 0 where
   pub event : Event
-  pub happened : IsAt past place event
+  pub happened : IsAt o past place event
   pub by_hart : event.actor ≡ Hart t
   pub access : access_of event.op ≡ Some reach

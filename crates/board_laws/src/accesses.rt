@@ -6,7 +6,8 @@ ghost use Rattle.tlb_model.specs.declared.entry.Entry.{Entry};
 ghost use Rattle.tlb_model.specs.declared.fence.Fence.{Fence};
 ghost use Rattle.hart_access.specs.Translations.{IsTranslated};
 ghost use Rattle.hart_access.specs.Ways.{phys_at};
-ghost use Rattle.board_core.specs.declared.config.Config.{Config};
+ghost use Rattle.board_core.specs.Cuts.{IsOpened};
+ghost use Rattle.board_core.specs.Opening.{Opening};
 ghost use Rattle.board_core.specs.History.{Event, Reach};
 ghost use Rattle.board_core.specs.Memory.{satp};
 ghost use Rattle.board_core.specs.Limits.{IsGood};
@@ -16,34 +17,34 @@ ghost use Rattle.board_laws.specs.Places.{past_at};
 ghost use Rattle.board_laws.specs.Steady.{IsDecidedBy, IsSteady};
 
 /// A translation that an access uses after a fence of it is one that the page tables gave after the fence was asked, and
-/// not later than the access (Privileged 4.2.1; SBI 8).
+/// not later than the access: on what a board opens with, also where its history was cut (Privileged 4.2.1; SBI 8).
 pub fn translations_are_fresh()
-    ensures { (c : Config) (past : List Event) (t a p : ℕ) (fence : Fence) (reach : Reach) (entry : Entry)
-        → IsGood c
-        → IsLegal c past
-        → (x : FencedAccess c past t a p fence reach)
+    ensures { (o : Opening) (past : List Event) (t a p : ℕ) (fence : Fence) (reach : Reach) (entry : Entry)
+        → IsOpened o
+        → IsLegal o past
+        → (x : FencedAccess o past t a p fence reach)
         → x.event.translation ≡ Some entry
-        → GivenAfter c past t a p reach.va entry.leaf }
+        → GivenAfter o past t a p reach.va entry.leaf }
 {}
 
 /// What a fetch answers after a FENCE.I is a word that the memory had there after the fence was asked, and not later than
 /// the fetch (Zifencei; SBI 8).
 pub fn fetches_are_fresh()
-    ensures { (c : Config) (past : List Event) (t a p va value : ℕ)
-        → IsGood c
-        → IsLegal c past
-        → (x : FencedFetch c past t a p va value)
-        → StoodAfter c past a p (phys_at x.event.translation va) value }
+    ensures { (o : Opening) (past : List Event) (t a p va value : ℕ)
+        → IsGood o.config
+        → IsLegal o past
+        → (x : FencedFetch o past t a p va value)
+        → StoodAfter o past a p (phys_at x.event.translation va) value }
 {}
 
 /// After a fence, where satp stays as it is and the page tables say one thing of an access, that decides the access, as on
-/// a board without TLBs (Privileged 4.2.1; SBI 8).
+/// a board without TLBs: on what a board opens with, also where its history was cut (Privileged 4.2.1; SBI 8).
 pub fn steady_tables_decide()
-    ensures { (c : Config) (past : List Event) (t a p : ℕ) (fence : Fence) (reach : Reach) (result : Result Leaf Cause)
-        → IsGood c
-        → IsLegal c past
-        → (x : FencedAccess c past t a p fence reach)
-        → IsTranslated (satp c (past_at past p) t) reach.va
-        → IsSteady c past t a p reach result
-        → IsDecidedBy c (past_at past p) t x.event reach result }
+    ensures { (o : Opening) (past : List Event) (t a p : ℕ) (fence : Fence) (reach : Reach) (result : Result Leaf Cause)
+        → IsOpened o
+        → IsLegal o past
+        → (x : FencedAccess o past t a p fence reach)
+        → IsTranslated (satp o (past_at o past p) t) reach.va
+        → IsSteady o past t a p reach result
+        → IsDecidedBy o (past_at o past p) t x.event reach result }
 {}

@@ -1,7 +1,7 @@
 //! What lives in the caches of harts.
 ghost use Rattle.std.specs.Prelude.{ℕ, List};
 ghost use Rattle.tlb_model.specs.declared.fence.Flush.{Flush};
-ghost use Rattle.board_core.specs.declared.config.Config.{Config};
+ghost use Rattle.board_core.specs.Opening.{Opening};
 ghost use Rattle.board_core.specs.History.{Event};
 ghost use Rattle.board_core.specs.Limits.{IsGood};
 ghost use Rattle.board_core.specs.Replies.{IsLegal};
@@ -12,22 +12,32 @@ ghost use Rattle.board_laws.specs.Lives.{LivesFromItsDate, NoneLives, Struck};
 /// hart, by the satp of its date; and a word that lives in an instruction cache is the memory's word of its date
 /// (Privileged 4.2.1; Zifencei).
 pub fn lives_from_its_date()
-    ensures { (c : Config) (past : List Event) (t : ℕ) → IsLegal c past → LivesFromItsDate c past t }
+    ensures { (o : Opening) (past : List Event) (t : ℕ) → IsLegal o past → LivesFromItsDate o past t }
 {}
 
 /// Once a fence was applied to the caches of a hart, or they were emptied, nothing lives there that the fence covers and
 /// that was filled before (Privileged 4.2.1; Zifencei).
 pub fn struck_is_gone()
-    ensures { (c : Config) (past : List Event) (t place : ℕ) (flush : Flush) → Struck c past t place flush → NoneLives c past t place flush }
+    ensures { (o : Opening) (past : List Event) (t place : ℕ) (flush : Flush)
+        → Struck o past t place flush
+        → NoneLives o past t place flush }
 {}
 
 /// A fence that has reached a hart was applied to its caches, or they were emptied, when it was asked or later.
 pub fn fences_strike()
-    ensures { (c : Config) (past : List Event) (t place : ℕ) (flush : Flush) → IsGood c → IsLegal c past → Reached c past t place flush → Struck c past t place flush }
+    ensures { (o : Opening) (past : List Event) (t place : ℕ) (flush : Flush)
+        → IsGood o.config
+        → IsLegal o past
+        → Reached o past t place flush
+        → Struck o past t place flush }
 {}
 
 /// After a fence has reached a hart nothing lives in the hart's caches that the fence covers and that was filled before
 /// it was asked (Privileged 4.2.1; SBI 8; Zifencei).
 pub fn fenced_is_gone()
-    ensures { (c : Config) (past : List Event) (t place : ℕ) (flush : Flush) → IsGood c → IsLegal c past → Reached c past t place flush → NoneLives c past t place flush }
+    ensures { (o : Opening) (past : List Event) (t place : ℕ) (flush : Flush)
+        → IsGood o.config
+        → IsLegal o past
+        → Reached o past t place flush
+        → NoneLives o past t place flush }
 {}

@@ -2,7 +2,7 @@
 ghost use Rattle.board_laws.specs.Headline.{Headline};
 
 use crate::caches::fenced_is_gone;
-use crate::fences::applied_once;
+use crate::fences::{applied_once, opened_once};
 use crate::need::{needed_serves_are_accepted, needs_are_few, served_calls_can_end};
 use board_core::{Board, starts_are_entered};
 
@@ -10,12 +10,13 @@ use board_core::{Board, starts_are_entered};
 /// fence was applied once or waits once; what a successful fence covers is gone; and a fence call needs a bounded number of
 /// serves, after which it can end.
 pub fn headline(board: &Board)
-    ensures { Headline board.now.config board.now.past }
+    ensures { Headline board.now.opening board.now.past }
 {
     let _config = board.config();
     let _history = board.history();
     starts_are_entered();
     applied_once();
+    opened_once();
     fenced_is_gone();
     needs_are_few();
     needed_serves_are_accepted();

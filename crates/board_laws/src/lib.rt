@@ -10,12 +10,13 @@ mod headlines;
 mod need;
 mod record;
 mod resets;
+mod seams;
 
 pub use accesses::{fetches_are_fresh, steady_tables_decide, translations_are_fresh};
 pub use caches::{fenced_is_gone, fences_strike, lives_from_its_date, struck_is_gone};
 pub use fences::{
-    applied_once, asked_once, calls_are_made_started, fences_are_counted, stops_leave_nothing,
-    turns_are_right,
+    applied_once, asked_once, calls_are_made_started, fences_are_counted, opened_once,
+    stops_leave_nothing, turns_are_right,
 };
 pub use headlines::headline;
 pub use need::{
@@ -24,3 +25,4 @@ pub use need::{
 };
 pub use record::recorded_is_recomputed;
 pub use resets::resets_are_fresh;
+pub use seams::cuts_are_never_seen;

@@ -1,6 +1,6 @@
 //! What a history holds.
 ghost use Rattle.std.specs.Prelude.{◌≡◌, ◌↔◌, List};
-ghost use Rattle.board_core.specs.declared.config.Config.{Config};
+ghost use Rattle.board_core.specs.Opening.{IsOpening, Opening};
 ghost use Rattle.board_core.specs.History.{Event};
 ghost use Rattle.board_core.specs.Replies.{IsLegal};
 ghost use Rattle.board_laws.specs.Again.{again, steps_of};
@@ -8,5 +8,5 @@ ghost use Rattle.board_laws.specs.Again.{again, steps_of};
 /// A history is legal exactly where it follows from who did what in it: the same steps, taken again, are all accepted,
 /// are answered the same and use the same entries. So nothing is lost by what is recorded of them.
 pub fn recorded_is_recomputed()
-    ensures { (c : Config) (past : List Event) → IsLegal c past ↔ (again c (steps_of past) ≡ past) }
+    ensures { (o : Opening) (past : List Event) → IsOpening o → IsLegal o past ↔ (again o (steps_of past) ≡ past) }
 {}

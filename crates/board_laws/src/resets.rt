@@ -1,7 +1,7 @@
 //! What system resets leave.
 ghost use Rattle.std.specs.Prelude.{◌≡◌, List, ◌∷◌, Some};
 ghost use Rattle.sbi_abi.specs.declared.reset.Reset.{Reset};
-ghost use Rattle.board_core.specs.declared.config.Config.{Config};
+ghost use Rattle.board_core.specs.Opening.{Opening};
 ghost use Rattle.board_core.specs.History.{Event};
 ghost use Rattle.board_core.specs.Replies.{IsLegal};
 ghost use Rattle.board_core.specs.Resets.{reset_by};
@@ -10,8 +10,8 @@ ghost use Rattle.board_laws.specs.Resets.{IsFresh};
 /// A system reset, of any kind and at any point of a legal history, leaves nothing of what was before it but the time,
 /// and the memory where it isn't a cold reboot; and after a shutdown nothing happens any more (SBI 10.1; profile).
 pub fn resets_are_fresh()
-    ensures { (c : Config) (event : Event) (past : List Event) (reset : Reset)
-        → IsLegal c (event ∷ past)
+    ensures { (o : Opening) (event : Event) (past : List Event) (reset : Reset)
+        → IsLegal o (event ∷ past)
         → reset_by event.op event.reply ≡ Some reset
-        → IsFresh c reset past (event ∷ past) }
+        → IsFresh o reset past (event ∷ past) }
 {}

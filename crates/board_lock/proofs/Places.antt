@@ -1,10 +1,11 @@
 -- Where an event stands among its actor's events.
-use Rattle.std.proofs.Common.{◌≡◌, ℕ, zero, suc, ◌+◌, ◌<◌, ◌≤◌, true, List, [], ◌∷◌, ◌++◌, length, get_or, refl, inl, inr, sym, ap, ◌∙◌, arith, append_assoc}
+use Rattle.std.proofs.Common.{◌≡◌, ℕ, zero, suc, ◌+◌, ◌-◌, ◌<◌, ◌≤◌, true, List, [], ◌∷◌, ◌++◌, length, get_or, refl, inl, inr, sym, ap, ◌∙◌, arith, append_assoc}
 use Rattle.std.specs.Prelude.{Option, Some, None, slice_get}
 use Rattle.std.proofs.lemmas.Bool.{cases_Bool}
+use Rattle.std.proofs.lemmas.List.{length-append}
 use Rattle.board_core.specs.declared.event.Actor.{Actor}
 use Rattle.board_core.specs.History.{Event}
-use Rattle.board_lock.specs.Events.{events_from, events_of, is_same}
+use Rattle.board_lock.specs.Events.{events_from, is_same}
 use Rattle.board_lock.specs.Kept.{count_of}
 use Rattle.board_lock.proofs.Actors.{same-itself}
 
@@ -58,17 +59,28 @@ slice_get-tells [] k e d there = absurd (let t = there in cc)
 slice_get-tells (x ∷ xs) zero e d there = Some-is there
 slice_get-tells (x ∷ xs) (suc k) e d there = slice_get-tells xs k e d there
 
+-- the place of the event that was the last of those seen is that of an event
+pub within : (first : ℕ) (whole seen rest before : List Event) (e : Event) (place : ℕ) → seen ++ rest ≡ whole → seen ≡ before ++ e ∷ [] → first + length before ≡ place
+    → (first ≤ place) × (place - first < length whole)
+within first whole seen rest before e place prefix last placed =
+    let all : length whole ≡ length seen + length rest = ap length (sym prefix) ∙ length-append seen rest in
+    let some : length seen ≡ length before + 1 = ap length last ∙ length-append before (e ∷ []) in
+    (omega arith, omega arith)
+
 -- The event that was the last of those seen is the member of its ordinal in every longer history.
-pub member : (whole seen rest before : List Event) (e at : Event) (a : Actor) (ordinal place : ℕ) → seen ++ rest ≡ whole → seen ≡ before ++ e ∷ [] → e.actor ≡ a
-    → length before ≡ place → count_of a before ≡ ordinal → at ≡ get_or whole place at → slice_get (events_of a whole) ordinal ≡ Some (place, at)
-member whole seen rest before e at a ordinal place prefix last by placed counted there =
+pub member : (first : ℕ) (whole seen rest before : List Event) (e at : Event) (a : Actor) (ordinal index place : ℕ) → seen ++ rest ≡ whole → seen ≡ before ++ e ∷ [] → e.actor ≡ a
+    → first + length before ≡ place → place ≡ first + index → count_of a before ≡ ordinal → at ≡ get_or whole index at
+    → (at ≡ e) × (slice_get whole index ≡ Some at) × (slice_get (events_from first a whole) ordinal ≡ Some (place, at))
+member first whole seen rest before e at a ordinal index place prefix last by placed from counted there =
     let spread : before ++ e ∷ rest ≡ whole = sym (append_assoc before (e ∷ []) rest) ∙ ap (λ (es : List Event). es ++ rest) (sym last) ∙ prefix in
     let same : is_same a e.actor ≡ true = ap (is_same a) by ∙ same-itself a in
-    let mine : slice_get (events_of a whole) ordinal ≡ Some (place, e) =
-    ap (λ (es : List Event). slice_get (events_of a es) ordinal) (sym spread) ∙ ap (slice_get (events_of a (before ++ e ∷ rest))) (sym counted)
-    ∙ found 0 a before e rest same ∙ ap (λ (k : ℕ). Some (k, e)) (let from : 0 + length before ≡ length before = omega arith in from ∙ placed) in
-    let here : slice_get whole place ≡ Some e = ap (λ (es : List Event). slice_get es place) (sym spread) ∙ ap (slice_get (before ++ e ∷ rest)) (sym placed) ∙ after before e rest in
-    mine ∙ ap (λ (x : Event). Some (place, x)) (sym (there ∙ slice_get-tells whole place e at here))
+    let mine : slice_get (events_from first a whole) ordinal ≡ Some (place, e) =
+    ap (λ (es : List Event). slice_get (events_from first a es) ordinal) (sym spread) ∙ ap (slice_get (events_from first a (before ++ e ∷ rest))) (sym counted)
+    ∙ found first a before e rest same ∙ ap (λ (k : ℕ). Some (k, e)) placed in
+    let long : length before ≡ index = omega arith in
+    let here : slice_get whole index ≡ Some e = ap (λ (es : List Event). slice_get es index) (sym spread) ∙ ap (slice_get (before ++ e ∷ rest)) (sym long) ∙ after before e rest in
+    let is : at ≡ e = there ∙ slice_get-tells whole index e at here in
+    (is, here ∙ ap (λ (x : Event). Some x) (sym is), mine ∙ ap (λ (x : Event). Some (place, x)) (sym is))
 
 -- ---- later members stand at later places
 

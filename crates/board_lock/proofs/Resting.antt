@@ -16,6 +16,7 @@ use Rattle.board_lock.specs.Events.{IsActor, events_in}
 use Rattle.board_core.specs.Course.{Course}
 use Rattle.board_core.specs.History.{Event}
 use Rattle.board_core.specs.Limits.{IsGood}
+use Rattle.board_core.specs.Opening.{Opening}
 use Rattle.board_lock.specs.Kept.{IsDesk, count_of, number_of}
 use Rattle.board_lock.specs.Rests.{IsRests, awake, none_rest, resting}
 use Rattle.board_lock.specs.declared.rests.Rests.{Rests}
@@ -75,8 +76,8 @@ all-harts harts r b small is eq =
     (λ yes h low. ap (λ (ids : List ℕ). has ids h) (decides.0 yes) ∙ has-below harts h small low, λ each. decides.1 (all-below harts r is each))
 
 -- what the lock holds, where others rest
-pub desk-rests : (opening : Config) (room : ℕ) (b : Course) (counts : List ℕ) (old new : Rests) (total parts amount name : ℕ) (list : List Event)
-    → IsDesk opening room b counts old total parts amount name list → IsRests opening.harts new → IsDesk opening room b counts new total parts amount name list
+pub desk-rests : (opening : Opening) (room : ℕ) (b : Course) (counts : List ℕ) (old new : Rests) (total parts amount name : ℕ) (list : List Event)
+    → IsDesk opening room b counts old total parts amount name list → IsRests opening.config.harts new → IsDesk opening room b counts new total parts amount name list
 desk-rests opening room b counts old new total parts amount name list d is =
     record {
       good = d.good;
@@ -93,21 +94,21 @@ desk-rests opening room b counts old new total parts amount name list d is =
     }
 
 -- what the lock of a new board holds
-pub new-desk : (opening : Config) (room : ℕ) (b : Course) (counts : List ℕ) (rests : Rests) (total parts amount name : ℕ) (list : List Event)
-    → IsGood opening → b ≡ record { config = opening; past = [] } → name ≡ room → list ≡ [] → total ≡ 0 → counts ≡ replicate (opening.harts + 1) 0 → rests ≡ none_rest
+pub new-desk : (opening : Opening) (room : ℕ) (b : Course) (counts : List ℕ) (rests : Rests) (total parts amount name : ℕ) (list : List Event)
+    → IsGood opening.config → b ≡ record { opening = opening; past = [] } → name ≡ room → list ≡ [] → total ≡ 0 → counts ≡ replicate (opening.config.harts + 1) 0 → rests ≡ none_rest
     → parts ≡ 0 → amount ≡ 0 → IsDesk opening room b counts rests total parts amount name list
 new-desk opening room b counts rests total parts amount name list good is named empty none zeros rested no-parts no-amount =
     record {
       good = good;
-      opened = ap (λ (c : Course). c.config) is;
+      opened = ap (λ (c : Course). c.opening) is;
       named = named;
       logged = empty ∙ ap events_in (sym is);
       summed = none ∙ ap length (sym empty);
-      sized = ap length zeros ∙ length-replicate (opening.harts + 1) 0;
-      counted = λ a acting. ap (λ (ns : List ℕ). slice_index_or ns (number_of opening a) 0) zeros
-          ∙ get_or-replicate (opening.harts + 1) (number_of opening a) 0 0 (number-within opening a acting) ∙ ap (count_of a) (sym empty);
-      acted = subst (AllByRecursion (λ (e : Event). IsActor opening e.actor)) (sym empty) tt;
-      at_rest = subst (IsRests opening.harts) (sym rested) (none-rests opening.harts);
+      sized = ap length zeros ∙ length-replicate (opening.config.harts + 1) 0;
+      counted = λ a acting. ap (λ (ns : List ℕ). slice_index_or ns (number_of opening.config a) 0) zeros
+          ∙ get_or-replicate (opening.config.harts + 1) (number_of opening.config a) 0 0 (number-within opening.config a acting) ∙ ap (count_of a) (sym empty);
+      acted = subst (AllByRecursion (λ (e : Event). IsActor opening.config e.actor)) (sym empty) tt;
+      at_rest = subst (IsRests opening.config.harts) (sym rested) (none-rests opening.config.harts);
       no_parts = no-parts;
       no_amount = no-amount;
     }

@@ -1,5 +1,5 @@
 -- The events of one actor.
-use Rattle.std.specs.Prelude.{ℕ, ◌+◌, ◌<◌, ◌==◌, Bool, true, false, if◌then◌else◌, List, [], ◌∷◌, map, reverse}
+use Rattle.std.specs.Prelude.{◌≡◌, ℕ, ◌+◌, ◌<◌, ◌==◌, Bool, true, false, if◌then◌else◌, List, [], ◌∷◌, map, reverse, Some, slice_get}
 use Rattle.board_core.specs.declared.config.Config.{Config}
 use Rattle.board_core.specs.declared.event.Actor.{Actor}
 use Rattle.board_core.specs.declared.event.Actor.TheVariants.{Hart, Clock}
@@ -23,14 +23,22 @@ is_same Clock Clock = true
 abbrev pub events_in : Course → List Event
 events_in b = reverse b.past
 
--- the events of an actor in order, with their places, where the list begins at place n
+-- The events of an actor in order, with their places, where the list begins at place n.
 abbrev pub events_from : ℕ → Actor → List Event → List (ℕ × Event)
 events_from n a [] = []
 events_from n a (e ∷ es) = if is_same a e.actor then (n, e) ∷ events_from (n + 1) a es else events_from (n + 1) a es
 
--- The events of an actor in order, with their places.
+-- The same, with how many events of the list come before each.
 abbrev pub events_of : Actor → List Event → List (ℕ × Event)
 events_of a es = events_from 0 a es
+
+-- The events of an actor in a board's history, in order, with their places among all events of the board.
+abbrev pub placed_of : Course → Actor → List (ℕ × Event)
+placed_of b a = events_from b.opening.places a (events_in b)
+
+-- The event stands at this place among all events of the board: the history goes on from the opening's.
+abbrev pub IsPlaced : Course → (place : ℕ) → Event → Type 0
+IsPlaced b place e = (index : ℕ) × (place ≡ b.opening.places + index) × (slice_get (events_in b) index ≡ Some e)
 
 -- The operations of an actor's events, in order.
 abbrev pub ops_of : Actor → List Event → List Op

@@ -1,5 +1,5 @@
 -- What the lock, a seat, a receipt and a record keep: private.
-use Rattle.std.specs.Prelude.{◌≡◌, ℕ, ◌+◌, if◌then◌else◌, List, [], ◌∷◌, ◌++◌, length, slice_index_or}
+use Rattle.std.specs.Prelude.{◌≡◌, ℕ, ◌+◌, ◌≤◌, if◌then◌else◌, List, [], ◌∷◌, ◌++◌, length, reverse, slice_index_or}
 use Rattle.std.specs.List.{AllByRecursion}
 use mathlib.Core.List.{IsPrefix}
 use Rattle.board_core.specs.declared.config.Config.{Config}
@@ -10,6 +10,8 @@ use Rattle.board_core.specs.declared.event.Reply.{Reply}
 use Rattle.board_core.specs.Course.{Course}
 use Rattle.board_core.specs.History.{Event}
 use Rattle.board_core.specs.Limits.{IsGood}
+use Rattle.board_core.specs.Opening.{Opening}
+use Rattle.board_core.specs.Replies.{IsLegal}
 use Rattle.board_lock.specs.Events.{IsActor, events_in, is_same}
 use Rattle.board_lock.specs.Rests.{IsRests}
 use Rattle.board_lock.specs.declared.rests.Rests.{Rests}
@@ -24,25 +26,25 @@ abbrev pub count_of : Actor → List Event → ℕ
 count_of a [] = 0
 count_of a (e ∷ es) = (if is_same a e.actor then 1 else 0) + count_of a es
 
--- Under the lock: the board was opened as the room says, which is good; the log is its history, and the ledger's total its length; each
+-- Under the lock: the board began as the room says, which is good; the log is its history, and the ledger's total its length; each
 -- actor's count is that of its events, which are the actors' alone; those that rest are the board's; and what is left of the ledger is nothing.
-pub record IsDesk (opening : Config) (room : ℕ) (board : Course) (counts : List ℕ) (rests : Rests) (total parts amount name : ℕ) (list : List Event) : Type 0 where
-  pub good : IsGood opening
-  pub opened : board.config ≡ opening
+pub record IsDesk (opening : Opening) (room : ℕ) (board : Course) (counts : List ℕ) (rests : Rests) (total parts amount name : ℕ) (list : List Event) : Type 0 where
+  pub good : IsGood opening.config
+  pub opened : board.opening ≡ opening
   pub named : name ≡ room
   pub logged : list ≡ events_in board
   pub summed : total ≡ length list
-  pub sized : length counts ≡ opening.harts + 1
-  pub counted : (a : Actor) → IsActor opening a → slice_index_or counts (number_of opening a) 0 ≡ count_of a list
-  pub acted : AllByRecursion (λ (e : Event). IsActor opening e.actor) list
-  pub at_rest : IsRests opening.harts rests
+  pub sized : length counts ≡ opening.config.harts + 1
+  pub counted : (a : Actor) → IsActor opening.config a → slice_index_or counts (number_of opening.config a) 0 ≡ count_of a list
+  pub acted : AllByRecursion (λ (e : Event). IsActor opening.config e.actor) list
+  pub at_rest : IsRests opening.config.harts rests
   pub no_parts : parts ≡ 0
   pub no_amount : amount ≡ 0
 
 -- A seat: its actor is one of the board's, it has one part of the ledger with its count for amount, and had seen as many
 -- events of its own at its last accepted call, which is no later than when it looked last.
-pub record IsSeated (opening : Config) (room : ℕ) (actor : Actor) (count parts amount name : ℕ) (seen : List Event) (last_name : ℕ) (last : List Event) : Type 0 where
-  pub acting : IsActor opening actor
+pub record IsSeated (c : Config) (room : ℕ) (actor : Actor) (count parts amount name : ℕ) (seen : List Event) (last_name : ℕ) (last : List Event) : Type 0 where
+  pub acting : IsActor c actor
   pub one_part : parts ≡ 1
   pub counted : amount ≡ count
   pub named : name ≡ room
@@ -50,8 +52,8 @@ pub record IsSeated (opening : Config) (room : ℕ) (actor : Actor) (count parts
   pub last_named : last_name ≡ room
   pub later : IsPrefix seen last
 
--- A receipt: its event was the last of those that were seen.
-pub record IsTold (room : ℕ) (actor : Actor) (ordinal place : ℕ) (op : Op) (reply : Reply) (name : ℕ) (seen : List Event) : Type 0 where
+-- A receipt: its event was the last of those that were seen, the first of which had place `first`.
+pub record IsTold (first room : ℕ) (actor : Actor) (ordinal place : ℕ) (op : Op) (reply : Reply) (name : ℕ) (seen : List Event) : Type 0 where
   pub before : List Event
   pub event : Event
   pub named : name ≡ room
@@ -59,10 +61,24 @@ pub record IsTold (room : ℕ) (actor : Actor) (ordinal place : ℕ) (op : Op) (
   pub by : event.actor ≡ actor
   pub asked : event.op ≡ op
   pub answered : event.reply ≡ reply
-  pub placed : length before ≡ place
+  pub placed : first + length before ≡ place
   pub counted : count_of actor before ≡ ordinal
 
--- A record: the log is the board's history.
-pub record IsRecord (room : ℕ) (board : Course) (name : ℕ) (list : List Event) : Type 0 where
+-- The log of a room, under its name, has these events.
+pub record IsKeptLog (room name : ℕ) (list events : List Event) : Type 0 where
   pub named : name ≡ room
-  pub logged : list ≡ events_in board
+  pub logged : list ≡ events
+
+-- A record: the board began as the room says, and the log is its history.
+pub record IsRecord (opening : Opening) (room : ℕ) (board : Course) (name : ℕ) (list : List Event) : Type 0 where
+  pub opened : board.opening ≡ opening
+  pub log : IsKeptLog room name list (events_in board)
+
+-- What a record left: it began as the room says, its events are a legal history of a good board within the limit, and the log
+-- is those.
+pub record IsPast (opening : Opening) (room : ℕ) (began : Opening) (events : List Event) (name : ℕ) (list : List Event) : Type 0 where
+  pub opened : began ≡ opening
+  pub good : IsGood began.config
+  pub legal : IsLegal began (reverse events)
+  pub within : length events ≤ began.config.limit
+  pub log : IsKeptLog room name list events

@@ -8,3 +8,4 @@ pub mod Rests
 pub mod Waking
 pub mod Kept
 pub mod Settling
+pub mod Splits

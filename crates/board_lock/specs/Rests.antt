@@ -89,9 +89,9 @@ held board rests ended = record { board = board; rests = rests; ended = ended }
 abbrev pub IsStay : Pause → (old new : Held) → Actor → Until → Type 0
 IsStay (Over r) old new a until = ⊥
 IsStay Waits old new a until =
-    (new ≡ held old.board (resting old.rests a until) false) × ¬ AllRest old.board.config.harts new.rests
+    (new ≡ held old.board (resting old.rests a until) false) × ¬ AllRest old.board.opening.config.harts new.rests
 IsStay Last old new a until =
-    (new ≡ held old.board (resting old.rests a until) true) × AllRest old.board.config.harts new.rests
+    (new ≡ held old.board (resting old.rests a until) true) × AllRest old.board.opening.config.harts new.rests
 
 -- What an actor's seat that has seen so many events is told when it would rest. Every rest is over just where the end was
 -- called for or all rested before; else it has changed just where another number of events is there; else the seat rests.

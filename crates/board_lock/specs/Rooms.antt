@@ -2,9 +2,9 @@
 use Rattle.std.specs.Prelude.{ℕ}
 use Rattle.board_core.specs.declared.config.Config.{Config}
 
--- What a new board will be opened with, and the names under which its events are counted and kept.
+-- The numbers of the board that will be behind the lock, and the names under which its events are counted and kept.
 pub record Place : Type 0 where
-  pub opening : Config
+  pub config : Config
   pub ledger : ℕ
   pub parts : ℕ
   pub log : ℕ

@@ -1,7 +1,6 @@
 -- What a thread sees of its hart, and what it is answered: by the events that its seat saw last.
 use Rattle.std.specs.Prelude.{◌≡◌, ◌≢◌, ◌⊎◌, ℕ, List, reverse, length, Option, Some, None, Ok, Err}
 use mathlib.Core.List.{IsPrefix}
-use Rattle.board_core.specs.declared.config.Config.{Config}
 use Rattle.board_core.specs.declared.event.Actor.{Actor}
 use Rattle.board_core.specs.declared.event.Actor.TheVariants.{Hart, Clock}
 use Rattle.board_core.specs.declared.event.Op.{Op}
@@ -12,6 +11,7 @@ use Rattle.board_core.specs.Course.{Course}
 use Rattle.board_core.specs.Fences.{outstanding, waiting}
 use Rattle.board_core.specs.History.{Event}
 use Rattle.board_core.specs.Interrupts.{wake}
+use Rattle.board_core.specs.Opening.{Opening}
 use Rattle.board_core.specs.Replies.{answer, stepped}
 use Rattle.board_core.specs.Resets.{is_off}
 use Rattle.board_core.specs.States.{state}
@@ -22,10 +22,10 @@ use Rattle.board_lock.specs.declared.views.HartView.{HartView}
 
 -- It shows hart h of the board: its state, its fence call, the fences that wait at it, and its wake.
 pub record Shows (b : Course) (h : ℕ) (now : HartNow) : Type 0 where
-  pub state : now.state ≡ state b.config b.past h
-  pub outstanding : now.outstanding ≡ outstanding b.config b.past h
-  pub waiting : now.waiting ≡ length (waiting b.config b.past h)
-  pub wake : now.wake ≡ wake b.config b.past h
+  pub state : now.state ≡ state b.opening b.past h
+  pub outstanding : now.outstanding ≡ outstanding b.opening b.past h
+  pub waiting : now.waiting ≡ length (waiting b.opening b.past h)
+  pub wake : now.wake ≡ wake b.opening b.past h
 
 -- It shows the actor's hart of the board; and nothing for the clock, which has no state.
 abbrev pub ShowsTo : Course → Actor → Option HartNow → Type 0
@@ -35,24 +35,24 @@ ShowsTo b Clock (Some now) = ⊥
 ShowsTo b Clock None = Unit {0}
 
 -- the board of an opening after these events, oldest first
-abbrev pub board_after : Config → List Event → Course
-board_after c es = record { config = c; past = reverse es }
+abbrev pub board_after : Opening → List Event → Course
+board_after o es = record { opening = o; past = reverse es }
 
 -- A seat's view: its hart, the power and the number of events, by the events that it saw.
-pub record IsView (c : Config) (s : Sitting) (v : HartView) : Type 0 where
-  pub hart : ShowsTo (board_after c s.saw) s.actor v.hart
-  pub power : v.is_off ≡ is_off (reverse s.saw)
+pub record IsView (o : Opening) (s : Sitting) (v : HartView) : Type 0 where
+  pub hart : ShowsTo (board_after o s.saw) s.actor v.hart
+  pub power : v.is_off ≡ is_off o (reverse s.saw)
   pub events : v.events ≡ length s.saw
 
 -- A seat's call was refused: as the board refuses it after the events that the seat saw; or the seat's count isn't that of its
 -- actor's events there.
-abbrev pub IsRefused : Config → Sitting → Op → Refusal → Type 0
-IsRefused c s op r = (answer c (reverse s.saw) s.actor op ≡ Err r) ⊎ ((length (events_of s.actor s.saw) ≢ s.count) × (r ≡ WrongPhase))
+abbrev pub IsRefused : Opening → Sitting → Op → Refusal → Type 0
+IsRefused o s op r = (answer o (reverse s.saw) s.actor op ≡ Err r) ⊎ ((length (events_of s.actor s.saw) ≢ s.count) × (r ≡ WrongPhase))
 
 -- A seat's call was accepted: it was answered as the board answers after some events, no fewer than the seat had seen, and
 -- the seat saw these and its own after them.
-pub record IsDone (c : Config) (old new : Sitting) (op : Op) (reply : Reply) : Type 0 where
+pub record IsDone (o : Opening) (old new : Sitting) (op : Op) (reply : Reply) : Type 0 where
   pub before : List Event
   pub later : IsPrefix old.saw before
-  pub answered : answer c (reverse before) old.actor op ≡ Ok reply
-  pub after : new.saw ≡ events_in (stepped (board_after c before) old.actor op)
+  pub answered : answer o (reverse before) old.actor op ≡ Ok reply
+  pub after : new.saw ≡ events_in (stepped (board_after o before) old.actor op)

@@ -70,10 +70,10 @@ concerned harts op = []
 -- what hart h may do next
 abbrev pub now_of : Course → ℕ → HartNow
 now_of b h = record {
-  state = state b.config b.past h;
-  outstanding = outstanding b.config b.past h;
-  waiting = length (waiting b.config b.past h);
-  wake = wake b.config b.past h;
+  state = state b.opening b.past h;
+  outstanding = outstanding b.opening b.past h;
+  waiting = length (waiting b.opening b.past h);
+  wake = wake b.opening b.past h;
 }
 
 -- whether what hart h's seat waits for has come, where it waits for a turn
@@ -85,6 +85,6 @@ comes_to d h = has_come (if has d.rests.wakes h then Wake else Firmware) (now_of
 abbrev pub woken : Held → Op → Woken
 woken d op = record {
   harts = ids_where (λ h. has d.rests.harts h
-      && (has d.rests.events h || (has d.rests.turns h && (has (concerned d.board.config.harts op) h && comes_to d h))));
+      && (has d.rests.events h || (has d.rests.turns h && (has (concerned d.board.opening.config.harts op) h && comes_to d h))));
   clock = d.rests.clock && d.rests.clock_events;
 }

@@ -44,10 +44,10 @@ fn seats_of<K: Room>(actor: Actor, seats: &[Seat<K>]) -> usize
 
 /// The record of a board whose seats are all back.
 pub(crate) fn settle<K: Room>(desk: Desk<K>, seats: Vec<Seat<K>>) -> Record<K>
-    requires parts { (K.all ≡ K.parts) × (K.all ≡ K.opening.harts + 1) }
-    requires all { IsOneEach K.opening seats.items }
-    ensures opening { result.config ≡ K.opening }
-    ensures legal { IsLegal result.config result.past }
+    requires parts { (K.all ≡ K.parts) × (K.all ≡ K.opening.config.harts + 1) }
+    requires all { IsOneEach K.opening.config seats.items }
+    ensures opening { result.opening ≡ K.opening }
+    ensures legal { IsLegal result.opening result.past }
     ensures counts { All (λ s. length (events_of s.actor (events_in result)) ≡ s.count) seats.items }
     ensures ops { All (λ s. ops_of s.actor (events_in result) ≡ s.ops) seats.items }
     ensures saw { All (λ s. IsPrefix s.saw (events_in result)) seats.items }

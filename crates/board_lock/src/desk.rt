@@ -57,7 +57,7 @@ impl<K: Room> Desk<K> {
     /// One step of the seat's actor, and a receipt for it.
     pub(crate) fn call(&mut self, seat: &mut Seat<K>, op: Op) -> Result<Receipt<K>, Refusal>
         ensures receipt { IfOk result (λ r. (r.actor ≡ seat.old.actor) × (r.op ≡ op) × (r.ordinal ≡ seat.old.count)) }
-        ensures reply { IfOk result (λ r. answer self.old.board.config self.old.board.past seat.old.actor op ≡ Ok r.reply) }
+        ensures reply { IfOk result (λ r. answer self.old.board.opening self.old.board.past seat.old.actor op ≡ Ok r.reply) }
         ensures after { OnOk result (self.new ≡ held (stepped self.old.board seat.old.actor op) self.old.rests self.old.ended) }
         ensures actor { seat.new.actor ≡ seat.old.actor }
         ensures accepted { OnOk result (seat.new.count ≡ seat.old.count + 1) }
@@ -73,9 +73,10 @@ impl<K: Room> Desk<K> {
         if self.counts[number] != seat.count {
             return Err(Refusal::WrongPhase);
         }
-        let place = self.board.history().len();
+        let place = self.board.place();
+        let index = self.board.history().len();
         let reply = self.board.step(seat.actor, op)?;
-        self.log.push(&self.board.history()[place]);
+        self.log.push(&self.board.history()[index]);
         self.counts[number] += 1;
         self.book.add(&mut seat.share, 1);
         let ordinal = seat.count;
@@ -85,7 +86,7 @@ impl<K: Room> Desk<K> {
         Ok(Receipt {
             actor: seat.actor,
             ordinal,
-            place: place as u64,
+            place,
             op,
             reply,
             seen: self.log.glimpse(),
@@ -118,7 +119,7 @@ impl<K: Room> Desk<K> {
     fn see(&mut self, seat: &mut Seat<K>)
         ensures seat { seat.new ≡ seeing seat.old (events_in self.old.board) }
         ensures later { IsPrefix seat.old.saw seat.new.saw }
-        ensures opening { self.old.board.config ≡ K.opening }
+        ensures opening { self.old.board.opening ≡ K.opening }
         ensures same { self.new ≡ self.old }
     {
         self.log.begins_with(&seat.seen);
@@ -147,7 +148,7 @@ impl<K: Room> Desk<K> {
 
     /// What hart `h` may do next.
     pub(crate) fn hart_now(&self, h: u64) -> HartNow
-        requires { h < K.opening.harts }
+        requires { h < K.opening.config.harts }
         ensures { Shows self.now.board h result }
     {
         HartNow {
@@ -202,7 +203,7 @@ impl<K: Room> Desk<K> {
 
     /// The actor's seat rests, and all do if it was the last that didn't. No event happens.
     fn stay(&mut self, actor: Actor, until: Until) -> Pause
-        requires acting { IsActor K.opening actor }
+        requires acting { IsActor K.opening.config actor }
         requires going { self.old.ended ≡ false }
         ensures { IsStay result self.old self.new actor until }
     {
@@ -223,8 +224,8 @@ impl<K: Room> Desk<K> {
 
     /// An actor's number: a hart's id, and after those the clock's.
     fn number(&self, actor: Actor) -> usize
-        requires { IsActor K.opening actor }
-        ensures { result ≡ number_of K.opening actor }
+        requires { IsActor K.opening.config actor }
+        ensures { result ≡ number_of K.opening.config actor }
     {
         match actor {
             Actor::Hart(h) => h as usize,

@@ -5,6 +5,7 @@
 mod closing;
 mod desk;
 mod opening;
+mod past;
 mod receipts;
 mod records;
 mod rests;
@@ -14,6 +15,7 @@ mod shared;
 mod views;
 mod waking;
 
+pub use past::Past;
 pub use receipts::Receipt;
 pub use records::{Record, later_calls_are_later};
 pub use rests::{Awaits, Rest};

@@ -1,5 +1,5 @@
-ghost use Rattle.std.specs.Prelude.{◌≡◌, ◌+◌, ◌<◌, ◌≤◌, ◌↔◌, [], IfOk, IsErrOf, OnOk, replicate};
-ghost use Rattle.board_core.specs.declared.config.BuildFault.TheVariants.{BadConfig};
+ghost use Rattle.std.specs.Prelude.{◌≡◌, ◌+◌, ◌<◌, ◌≤◌, [], IfErr, IfOk, OnOk, replicate};
+ghost use Rattle.board_core.specs.declared.config.BuildFault.TheVariants.{NoMemory};
 ghost use Rattle.board_core.specs.Limits.{IsGood};
 ghost use Rattle.board_lock.specs.Events.{IsActor};
 ghost use Rattle.board_lock.specs.Seats.{new_seats, sitting};
@@ -13,18 +13,20 @@ use chronicle::Chronicle;
 use std::alloc::{AllocError, Global};
 use std::sync::ledger::Share;
 
-/// What the lock of a new board holds, and its seats.
+/// What the lock of a board holds whose history is empty, and its seats. Where memory is refused, the board is back.
 pub(crate) fn open_desk<K: Room>(
     alloc: Global,
     room: NewRoom,
-) -> Result<(Desk<K>, Vec<Seat<K>>), BuildFault>
-    requires room { (room.opening ≡ K.opening) × (room.log ≡ K.log) }
+    board: Board,
+) -> Result<(Desk<K>, Vec<Seat<K>>), (Board, BuildFault)>
+    requires board { (board.opening ≡ K.opening) × (board.past ≡ []) }
+    requires room { (room.config ≡ K.opening.config) × (room.log ≡ K.log) }
     requires ledger { (room.ledger ≡ K.name) × (room.parts ≡ K.parts) × (K.all ≡ K.parts) }
-    ensures bad { IsErrOf result BadConfig ↔ ¬ IsGood K.opening }
-    ensures seats { IfOk result (λ r. r.1.items ≡ new_seats K.opening) }
-    ensures all { IfOk result (λ r. IsGood K.opening × (K.all ≡ K.opening.harts + 1)) }
+    requires good { IsGood K.opening.config }
+    ensures seats { IfOk result (λ r. r.1.items ≡ new_seats K.opening.config) }
+    ensures all { K.all ≡ K.opening.config.harts + 1 }
+    ensures back { IfErr result (λ e. (e.0 ≡ board) × (e.1 ≡ NoMemory)) }
 {
-    let board = Board::new(alloc, &room.config)?;
     let NewRoom {
         config,
         ledger,
@@ -32,10 +34,10 @@ pub(crate) fn open_desk<K: Room>(
     } = room;
     let (book, mut left) = ledger.open::<K>();
     let Ok(counts) = zeros(alloc, config.harts as usize + 1) else {
-        return Err(BuildFault::NoMemory);
+        return Err((board, BuildFault::NoMemory));
     };
     let Ok(seats) = seats(alloc, config.harts, &mut left, &mut log) else {
-        return Err(BuildFault::NoMemory);
+        return Err((board, BuildFault::NoMemory));
     };
     let desk = Desk {
         board,
@@ -56,17 +58,17 @@ fn zeros(alloc: Global, len: usize) -> Result<Vec<u64>, AllocError>
     vec![in alloc; 0; len]
 }
 
-/// The seats of a new board.
+/// The seats of a board whose history is empty.
 fn seats<K: Room>(
     alloc: Global,
     harts: u64,
     left: &mut Share<K>,
     log: &mut Chronicle<Event>,
 ) -> Result<Vec<Seat<K>>, AllocError>
-    requires harts { (harts ≡ K.opening.harts) × (harts ≤ 128) }
+    requires harts { (harts ≡ K.opening.config.harts) × (harts ≤ 128) }
     requires parts { (left.old.parts ≡ harts + 1) × (left.old.amount ≡ 0) }
     requires log { (log.old.name ≡ K.log) × (log.old.list ≡ []) }
-    ensures seats { IfOk result (λ v. v.items ≡ new_seats K.opening) }
+    ensures seats { IfOk result (λ v. v.items ≡ new_seats K.opening.config) }
     ensures left { OnOk result ((left.new.parts ≡ 0) × (left.new.amount ≡ 0)) }
     ensures log { log.new ≡ log.old }
 {
@@ -78,9 +80,9 @@ fn seats<K: Room>(
     Ok(seats)
 }
 
-/// The seat of an actor on a new board.
+/// The seat of an actor that made no call.
 fn seat<K: Room>(actor: Actor, left: &mut Share<K>, log: &mut Chronicle<Event>) -> Seat<K>
-    requires acting { IsActor K.opening actor }
+    requires acting { IsActor K.opening.config actor }
     requires part { (0 < left.old.parts) × (left.old.amount ≡ 0) }
     requires log { (log.old.name ≡ K.log) × (log.old.list ≡ []) }
     ensures seat { result ≡ sitting actor 0 [] [] }

@@ -25,7 +25,7 @@ impl<K: Room> Model for Receipt<K> {
 
     ghost view = { λ r. record { actor = r.actor; ordinal = r.ordinal; place = r.place; op = r.op; reply = r.reply } };
 
-    ghost invariant = { λ r. IsTold K.log r.actor r.ordinal r.place r.op r.reply r.seen.name r.seen.list };
+    ghost invariant = { λ r. IsTold K.opening.places K.log r.actor r.ordinal r.place r.op r.reply r.seen.name r.seen.list };
 }
 
 impl<K: Room> Receipt<K> {
@@ -43,7 +43,7 @@ impl<K: Room> Receipt<K> {
         self.ordinal
     }
 
-    /// How many events the history had before it.
+    /// How many events of its board were accepted before it, those before a cut among them.
     pub fn place(&self) -> u64
         ensures { result ≡ self.now.place }
     {

@@ -1,17 +1,23 @@
-ghost use Rattle.std.specs.Prelude.{◌≡◌, ℕ, ◌<◌, ◌≤◌, List, Some, slice_get, length};
+ghost use Rattle.std.specs.Prelude.{◌≡◌, ℕ, ◌+◌, ◌<◌, ◌≤◌, List, [], IfOk, IfErr, IsErr, OnOk, Some, slice_get, length};
+ghost use Rattle.board_core.specs.Cuts.{IsUnseen, last_cut, opening_of};
 ghost use Rattle.board_core.specs.declared.event.Actor.{Actor};
 ghost use Rattle.board_core.specs.History.{Event};
 ghost use Rattle.board_core.specs.Limits.{IsGood};
+ghost use Rattle.board_core.specs.Opening.{place_after};
 ghost use Rattle.board_core.specs.Replies.{IsLegal};
-ghost use Rattle.board_lock.specs.Events.{events_in, events_of};
+ghost use Rattle.board_lock.specs.Events.{IsPlaced, events_from, events_in, placed_of};
+ghost use Rattle.board_lock.specs.Kept.{IsKeptLog};
+ghost use Rattle.board_lock.specs.Splits.{split_fault};
 
+use crate::past::Past;
 use crate::receipts::Receipt;
 use crate::rooms::Room;
-use board_core::{Board, Event};
+use board_core::{Board, BuildFault, Event};
 use chronicle::Whole;
+use std::alloc::Global;
 use std::marker::{Model, PhantomData};
 
-/// A board that was taken from behind its lock, with its whole history, in which every receipt of its room stands.
+/// A board that was taken from behind its lock, with its history since then, in which every receipt of its room stands.
 #[derive(Drop)]
 pub struct Record<K: Room> {
     pub(crate) board: Board,
@@ -27,17 +33,17 @@ impl<K: Room> Model for Record<K> {
 
     ghost view = { λ r. r.board };
 
-    ghost invariant = { λ r. IsRecord K.log r.board r.log.name r.log.list };
+    ghost invariant = { λ r. IsRecord K.opening K.log r.board r.log.name r.log.list };
 }
 
 impl<K: Room> Record<K> {
-    /// The accepted events, oldest first. They are a legal history of a good opening, so all that `board_laws` says of those
-    /// holds of it.
+    /// The accepted events, oldest first. They are a legal history of what the board began with, so all that `board_laws` says
+    /// of those holds of it.
     pub fn events(&self) -> &[Event]
         ensures events { result.now ≡ events_in self.now }
-        ensures good { IsGood self.now.config }
-        ensures legal { IsLegal self.now.config self.now.past }
-        ensures within { length result.now ≤ self.now.config.limit }
+        ensures good { IsGood self.now.opening.config }
+        ensures legal { IsLegal self.now.opening self.now.past }
+        ensures within { length result.now ≤ self.now.opening.config.limit }
     {
         self.board.history()
     }
@@ -59,17 +65,64 @@ impl<K: Room> Record<K> {
     /// The event of a receipt: it was made by the receipt's actor, asked what the receipt says and was answered so, it
     /// stands at the receipt's place, and it is the member of the receipt's ordinal of its actor's events.
     pub fn look(&self, receipt: &Receipt<K>) -> &Event
-        ensures told { (result.now.actor ≡ receipt.now.actor) × (result.now.op ≡ receipt.now.op) × (result.now.reply ≡ receipt.now.reply) }
-        ensures place { slice_get (events_in self.now) receipt.now.place ≡ Some result.now }
-        ensures member { slice_get (events_of receipt.now.actor (events_in self.now)) receipt.now.ordinal ≡ Some (receipt.now.place, result.now) }
+        ensures told { (result.now.actor ≡ receipt.now.actor) × (result.now.op ≡ receipt.now.op)
+            × (result.now.reply ≡ receipt.now.reply) }
+        ensures place { IsPlaced self.now receipt.now.place result.now }
+        ensures member { slice_get (placed_of self.now receipt.now.actor) receipt.now.ordinal
+            ≡ Some (receipt.now.place, result.now) }
     {
-        self.log.begins_with(&receipt.seen);
-        &self.board.history()[receipt.place as usize]
+        let events = self.board.history();
+        find(events, self.board.places(), &self.log, receipt)
     }
+
+    /// Cuts the history of the record's board: the past, in which every receipt of the room stands still, and the board, which
+    /// goes on from there with an empty history. It takes memory for a history and for a copy of what the board holds.
+    ///
+    /// # Errors
+    ///
+    /// More than 2^56 - 1,000,000 events were accepted since the first opening, or memory was refused. The record is back.
+    pub fn split(self, alloc: Global) -> Result<(Past<K>, Board), (Record<K>, BuildFault)>
+        ensures full { last_cut < place_after self.opening self.past → IsErr result }
+        ensures past { IfOk result (λ r. r.0 ≡ self) }
+        ensures board { IfOk result (λ r. r.1 ≡ record { opening = opening_of self.opening self.past; past = [] }) }
+        ensures unseen { OnOk result (IsUnseen self.opening self.past) }
+        ensures back { IfErr result (λ e. (e.0 ≡ self) × (e.1 ≡ split_fault self)) }
+    {
+        let Record {
+            mut board,
+            log,
+            room,
+        } = self;
+        let _legal = board.history();
+        match board.cut(alloc) {
+            Ok(segment) => Ok((Past { segment, log, room }, board)),
+            Err(fault) => Err((Record { board, log, room }, fault)),
+        }
+    }
+}
+
+/// The event of a receipt among those of its room, the first of which has this place.
+pub(crate) fn find<'a, K: Room>(
+    events: &'a [Event],
+    first: u64,
+    log: &Whole<Event>,
+    receipt: &Receipt<K>,
+) -> &'a Event
+    requires first { first ≡ K.opening.places }
+    requires log { IsKeptLog K.log log.now.name log.now.list events.now }
+    ensures told { (result.now.actor ≡ receipt.now.actor) × (result.now.op ≡ receipt.now.op)
+        × (result.now.reply ≡ receipt.now.reply) }
+    ensures place { (index : ℕ) × (receipt.now.place ≡ first + index) × (slice_get events.now index ≡ Some result.now) }
+    ensures member { slice_get (events_from first receipt.now.actor events.now) receipt.now.ordinal
+        ≡ Some (receipt.now.place, result.now) }
+{
+    log.begins_with(&receipt.seen);
+    &events[(receipt.place - first) as usize]
 }
 
 /// A later one of an actor's events stands at a later place; so of two receipts of one seat, the one of the later ordinal has
 /// the later place. A law: there is nothing to run.
 pub fn later_calls_are_later()
-    ensures { (a : Actor) (es : List Event) (k l p q : ℕ) (e f : Event) → k < l → slice_get (events_of a es) k ≡ Some (p, e) → slice_get (events_of a es) l ≡ Some (q, f) → p < q }
+    ensures { (first : ℕ) (a : Actor) (es : List Event) (k l p q : ℕ) (e f : Event) → k < l →
+        slice_get (events_from first a es) k ≡ Some (p, e) → slice_get (events_from first a es) l ≡ Some (q, f) → p < q }
 {}

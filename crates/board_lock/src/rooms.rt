@@ -9,10 +9,10 @@ use std::sync::ledger::{Blank, Ledger};
 /// doesn't fit another.
 pub trait Room: Ledger {
     ghost use Rattle.std.specs.Prelude.{ℕ};
-    ghost use Rattle.board_core.specs.declared.config.Config.{Config};
+    ghost use Rattle.board_core.specs.Opening.{Opening};
 
-    // What the board was opened with.
-    ghost opening: { Config };
+    // What the board began with: at its opening, or where its history was cut.
+    ghost opening: { Opening };
     // The name of the log of its events.
     ghost log: { ℕ };
     // How many seats it has.
@@ -20,14 +20,25 @@ pub trait Room: Ledger {
 }
 
 impl Room for Brand {
-    ghost opening = { record { harts = 0; pages = 0; limit = 0; boot_hart = 0; boot_addr = 0; boot_opaque = 0; asid_len = 0; width = 0 } };
+    ghost use Rattle.board_core.specs.Opening.{opening_at};
+
+    ghost opening = { opening_at (record {
+      harts = 0;
+      pages = 0;
+      limit = 0;
+      boot_hart = 0;
+      boot_addr = 0;
+      boot_opaque = 0;
+      asid_len = 0;
+      width = 0;
+    }) };
 
     ghost log = { 0 };
 
     ghost all = { 0 };
 }
 
-/// A room for a board that isn't opened yet.
+/// A room for a board that isn't behind a lock yet.
 #[derive(Drop)]
 pub struct NewRoom {
     pub(crate) config: Config,
@@ -42,15 +53,15 @@ impl Model for NewRoom {
 
     ghost Value = { Place };
 
-    ghost view = { λ r. record { opening = r.config; ledger = r.ledger.name; parts = r.ledger.parts; log = r.log.name } };
+    ghost view = { λ r. record { config = r.config; ledger = r.ledger.name; parts = r.ledger.parts; log = r.log.name } };
 
     ghost invariant = { λ r. (r.log.list ≡ []) × (IsGood r.config → r.ledger.parts ≡ r.config.harts + 1) };
 }
 
 impl NewRoom {
-    /// A room for a board that will be opened with this.
+    /// A room for a board of these numbers.
     pub fn new(config: &Config) -> NewRoom
-        ensures { result.opening ≡ config.now }
+        ensures { result.config ≡ config.now }
     {
         NewRoom {
             config: *config,

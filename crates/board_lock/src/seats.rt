@@ -28,7 +28,7 @@ impl<K: Room> Model for Seat<K> {
 
     ghost view = { λ s. sitting s.actor s.count (ops_of s.actor s.seen.list) s.saw.list };
 
-    ghost invariant = { λ s. IsSeated K.opening K.log s.actor s.count s.share.parts s.share.amount s.seen.name s.seen.list
+    ghost invariant = { λ s. IsSeated K.opening.config K.log s.actor s.count s.share.parts s.share.amount s.seen.name s.seen.list
         s.saw.name s.saw.list };
 }
 
@@ -36,7 +36,7 @@ impl<K: Room> Seat<K> {
     /// Whose seat it is.
     pub fn actor(&self) -> Actor
         ensures actor { result ≡ self.now.actor }
-        ensures acting { IsActor K.opening self.now.actor }
+        ensures acting { IsActor K.opening.config self.now.actor }
     {
         self.actor
     }

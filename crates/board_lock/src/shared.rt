@@ -1,7 +1,8 @@
-ghost use Rattle.std.specs.Prelude.{◌≡◌, ◌≢◌, ℕ, ◌+◌, ◌<◌, ◌≤◌, ◌↔◌, ◌∷◌, ◌++◌, [], All, IfOk, IfErr, IfSome, IsOk, IsErrOf, OnOk, OnErr, length, true};
+ghost use Rattle.std.specs.Prelude.{◌≡◌, ◌≢◌, ◌⊎◌, ℕ, ◌+◌, ◌<◌, ◌≤◌, ◌↔◌, ◌∷◌, ◌++◌, [], All, IfOk, IfErr, IfSome, IsOk, IsErrOf, OnOk, OnErr, length, true};
 ghost use mathlib.Core.List.{IsPrefix};
-ghost use Rattle.board_core.specs.declared.config.BuildFault.TheVariants.{BadConfig};
+ghost use Rattle.board_core.specs.declared.config.BuildFault.TheVariants.{BadConfig, NoMemory};
 ghost use Rattle.board_core.specs.Limits.{IsGood};
+ghost use Rattle.board_core.specs.Opening.{opening_at};
 ghost use Rattle.board_core.specs.Replies.{IsLegal};
 ghost use Rattle.hart_mask.specs.Ids.{has};
 ghost use Rattle.board_lock.specs.Events.{IsActor, events_in, events_of, ops_of};
@@ -19,7 +20,7 @@ use crate::rests::{Awaits, Rest, Woken};
 use crate::rooms::{NewRoom, Room};
 use crate::seats::Seat;
 use crate::views::HartView;
-use board_core::{Actor, BuildFault, Config, HartSet, Op, Refusal};
+use board_core::{Actor, Board, BuildFault, Config, HartSet, Op, Refusal};
 use std::alloc::{AllocError, Global};
 use std::marker::PhantomData;
 use std::sync::{Condvar, Mutex, MutexGuard, Wait};
@@ -31,10 +32,10 @@ pub struct SharedBoard<K: Room> {
     desk: Mutex<Desk<K>>,
     /// What each seat rests by: those of the harts in order, and then the clock's.
     bells: Vec<Condvar>,
-    ghost opening: { config ≡ K.opening },
+    ghost opening: { config ≡ K.opening.config },
     ghost belled: { length bells.items ≡ config.harts + 1 },
     ghost good: { IsGood config },
-    ghost whole: { K.all ≡ K.opening.harts + 1 },
+    ghost whole: { K.all ≡ K.opening.config.harts + 1 },
 }
 
 /// The seats weren't one for each actor. The board and the seats are back.
@@ -47,19 +48,48 @@ pub struct NotAll<K: Room> {
 }
 
 impl<K: Room> SharedBoard<K> {
-    /// A board at its opening behind a lock, and the seats of its harts in order, and then the clock's. Memory for the board
-    /// and for all seats is taken here, and by no later call.
+    /// A new board behind a lock, and the seats of its harts in order, and then the clock's. Memory for the board and for all
+    /// seats is taken here, and by no later call.
+    ///
+    /// # Errors
+    ///
+    /// The numbers of the board are out of range, or memory was refused.
     pub fn open(alloc: Global, room: NewRoom) -> Result<(SharedBoard<K>, Vec<Seat<K>>), BuildFault>
-        requires room { (room.opening ≡ K.opening) × (room.log ≡ K.log) }
+        requires room { (K.opening ≡ opening_at room.config) × (room.log ≡ K.log) }
         requires ledger { (room.ledger ≡ K.name) × (room.parts ≡ K.parts) × (K.all ≡ K.parts) }
-        ensures bad { IsErrOf result BadConfig ↔ ¬ IsGood K.opening }
-        ensures seats { IfOk result (λ r. r.1.items ≡ new_seats K.opening) }
+        ensures bad { IsErrOf result BadConfig ↔ ¬ IsGood K.opening.config }
+        ensures fault { IfErr result (λ fault. (fault ≡ BadConfig) ⊎ (fault ≡ NoMemory)) }
+        ensures seats { IfOk result (λ r. r.1.items ≡ new_seats K.opening.config) }
     {
-        let config = room.config;
-        let (desk, seats) = open_desk(alloc, room)?;
+        let board = Board::new(alloc, &room.config)?;
+        match SharedBoard::adopt(alloc, room, board) {
+            Ok(opened) => Ok(opened),
+            Err((_, fault)) => Err(fault),
+        }
+    }
+
+    /// A board whose history is empty behind a lock, as it is, and new seats: those of its harts in order, and then the clock's.
+    /// Memory for the lock and for all seats is taken here, and by no later call.
+    ///
+    /// # Errors
+    ///
+    /// Memory was refused, and the board is back.
+    pub fn adopt(
+        alloc: Global,
+        room: NewRoom,
+        board: Board,
+    ) -> Result<(SharedBoard<K>, Vec<Seat<K>>), (Board, BuildFault)>
+        requires board { (board.opening ≡ K.opening) × (board.past ≡ []) }
+        requires room { (room.config ≡ K.opening.config) × (room.log ≡ K.log) }
+        requires ledger { (room.ledger ≡ K.name) × (room.parts ≡ K.parts) × (K.all ≡ K.parts) }
+        ensures seats { IfOk result (λ r. r.1.items ≡ new_seats K.opening.config) }
+        ensures back { IfErr result (λ e. (e.0 ≡ board) × (e.1 ≡ NoMemory)) }
+    {
+        let config = *board.config();
         let Ok(bells) = bells(alloc, config.harts) else {
-            return Err(BuildFault::NoMemory);
+            return Err((board, BuildFault::NoMemory));
         };
+        let (desk, seats) = open_desk(alloc, room, board)?;
         let shared = SharedBoard {
             config,
             desk: Mutex::new(desk),
@@ -123,7 +153,7 @@ impl<K: Room> SharedBoard<K> {
 
     /// Wakes these seats' threads.
     fn ring(&self, woken: Woken)
-        requires { (h : ℕ) → has woken.harts h ≡ true → h < K.opening.harts }
+        requires { (h : ℕ) → has woken.harts h ≡ true → h < K.opening.config.harts }
     {
         let mut left = woken.harts;
         while let Some(h) = left.pop_first() {
@@ -144,7 +174,7 @@ impl<K: Room> SharedBoard<K> {
 
     /// What the actor's seat rests by.
     fn bell(&self, actor: Actor) -> &Condvar
-        requires { IsActor K.opening actor }
+        requires { IsActor K.opening.config actor }
     {
         match actor {
             Actor::Hart(h) => &self.bells[h as usize],
@@ -218,9 +248,9 @@ impl<K: Room> SharedBoard<K> {
     /// Takes the board from behind its lock, with all seats: the record, in which each receipt stands.
     pub fn close(self, seats: Vec<Seat<K>>) -> Result<Record<K>, NotAll<K>>
         requires { K.all ≡ K.parts }
-        ensures all { IsOk result ↔ IsOneEach K.opening seats.items }
-        ensures opening { IfOk result (λ r. r.config ≡ K.opening) }
-        ensures legal { IfOk result (λ r. IsLegal r.config r.past) }
+        ensures all { IsOk result ↔ IsOneEach K.opening.config seats.items }
+        ensures opening { IfOk result (λ r. r.opening ≡ K.opening) }
+        ensures legal { IfOk result (λ r. IsLegal r.opening r.past) }
         ensures counts { IfOk result (λ r. All (λ s. length (events_of s.actor (events_in r)) ≡ s.count) seats.items) }
         ensures ops { IfOk result (λ r. All (λ s. ops_of s.actor (events_in r) ≡ s.ops) seats.items) }
         ensures saw { IfOk result (λ r. All (λ s. IsPrefix s.saw (events_in r)) seats.items) }

@@ -20,7 +20,7 @@ impl<K: Room> Desk<K> {
     pub(crate) fn wake(&mut self, op: Op) -> Woken
         ensures answer { result ≡ woken self.old op }
         ensures left { self.new ≡ held self.old.board (awake self.old.rests result) self.old.ended }
-        ensures below { (h : ℕ) → has result.harts h ≡ true → h < K.opening.harts }
+        ensures below { (h : ℕ) → has result.harts h ≡ true → h < K.opening.config.harts }
     {
         let rests = self.rests;
         let turns = rests.harts.intersection(rests.turns);
@@ -36,7 +36,7 @@ impl<K: Room> Desk<K> {
 
     /// The harts of a set to whose seats has come what they wait for.
     fn come_to(&self, harts: HartSet) -> HartSet
-        requires { (h : ℕ) → has harts h ≡ true → h < K.opening.harts }
+        requires { (h : ℕ) → has harts h ≡ true → h < K.opening.config.harts }
         ensures { result ≡ ids_where (λ h. has harts h && comes_to self.now h) }
     {
         let mut left = harts;
@@ -51,7 +51,7 @@ impl<K: Room> Desk<K> {
 
     /// Whether what hart `h`'s seat waits for has come, where it waits for a turn.
     fn comes_to(&self, h: u64) -> bool
-        requires { h < K.opening.harts }
+        requires { h < K.opening.config.harts }
         ensures { result ≡ comes_to self.now h }
     {
         let awaits = if self.rests.wakes.contains(h) {

@@ -45,6 +45,20 @@ impl<F: Copy> Queues<F> {
         Ok(Queues { rings, total: 0 })
     }
 
+    /// Queues that are equal to these. It fails where memory runs out.
+    pub fn try_copy(&self, alloc: Global) -> Result<Queues<F>, AllocError>
+        ensures { IfOk result (λ copy. copy ≡ self.now) }
+    {
+        let mut rings = Vec::with_capacity(alloc, self.rings.len())?;
+        for t in 0..self.rings.len() {
+            rings.push(copy_of(alloc, &self.rings[t])?)?;
+        }
+        Ok(Queues {
+            rings,
+            total: self.total,
+        })
+    }
+
     /// Puts a request at the end of hart `t`'s queue. It comes from another hart, of which no request waits there, so
     /// there is room for it.
     pub fn push(&mut self, t: u64, request: Request<F>)
@@ -136,6 +150,20 @@ impl<F: Copy> Queues<F> {
     {
         self.total
     }
+}
+
+/// A ring that is equal to this one. It fails where memory runs out.
+fn copy_of<T: Copy + Drop>(
+    alloc: Global,
+    ring: &HeapCircularBuffer<T>,
+) -> Result<HeapCircularBuffer<T>, AllocError>
+    ensures { IfOk result (λ copy. copy ≡ ring.now) }
+{
+    let mut copy = HeapCircularBuffer::with_capacity(alloc, ring.capacity())?;
+    let (front, back) = ring.as_slices();
+    copy.fill_from_slice(front);
+    copy.fill_from_slice(back);
+    Ok(copy)
 }
 
 /// Takes the first item of a ring. One that is alone is taken from the back, so that the next one comes into its place: a

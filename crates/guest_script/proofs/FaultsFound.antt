@@ -15,8 +15,8 @@ use Rattle.guest_script.specs.declared.kind.Kind.TheVariants.{Head, Step, Operat
 use Rattle.guest_script.specs.Words.{last_number}
 use Rattle.guest_script.specs.Forms.{Form, form_of, guest_form_of, said_form_of}
 use Rattle.guest_script.specs.Grammar.{Blocked, Draft, Guest, Nothing, OfClock, OfGuest, Open, Reads, Stepped, Traced, Written, has_block, written}
-use Rattle.guest_script.specs.Values.{after_arrow, before_arrow, clock_in, first_number, guests_in, is_at, is_filled, is_ret, kind_of, next_in, words_in}
-use Rattle.guest_script.specs.FirstFault.{argument_tests, at_line, board_first_tests, board_tests, byte_test, first_fault, form_tests, head_tests, in_block_tests, kind_tests, line_tests, lines_tests, named_tests, number_tests, operation_tests, ret_tests, said_tests, script_tests, step_tests}
+use Rattle.guest_script.specs.Values.{after_arrow, before_arrow, clock_in, first_number, guests_in, is_at, is_cut, is_filled, is_ret, kind_of, next_in, words_in}
+use Rattle.guest_script.specs.FirstFault.{acting_tests, argument_tests, at_line, board_first_tests, board_tests, byte_test, doing_tests, first_fault, form_tests, head_tests, in_block_tests, kind_tests, line_tests, lines_tests, named_tests, number_tests, operation_tests, ret_tests, said_tests, script_tests, step_tests}
 use Rattle.guest_script.specs.Reading.{GivesOrLacks, script_of}
 use Rattle.guest_script.proofs.ScriptLines.{first_fault_answered, read_what_it_reads, reads_what_is_read}
 
@@ -61,9 +61,12 @@ said_of_bytes : (words : List (List ℕ)) → AreOfBytes (said_tests words)
 said_of_bytes [] = ((λ e. cc), tt)
 said_of_bytes (name ∷ words) = cond_of_bytes (is_ret name) (ret_tests words) (form_tests (said_form_of name) words) (ret_of_bytes words) (form_of_bytes (said_form_of name) words)
 
-step_of_bytes : (in_trace : Bool) (words : List (List ℕ)) → AreOfBytes (step_tests in_trace words)
-step_of_bytes false words = named_of_bytes form_of words
-step_of_bytes true words = of_bytes_both (named_tests form_of (before_arrow words)) (said_tests (after_arrow words)) (named_of_bytes form_of (before_arrow words)) (said_of_bytes (after_arrow words))
+doing_of_bytes : (first : List ℕ) (words : List (List ℕ)) → AreOfBytes (doing_tests first words)
+doing_of_bytes first words = cond_of_bytes (is_cut first) ((is_filled words, WordCount) ∷ []) (acting_tests first words) ((λ e. cc), tt) ((λ e. cc), named_of_bytes form_of words)
+
+step_of_bytes : (in_trace : Bool) (first : List ℕ) (words : List (List ℕ)) → AreOfBytes (step_tests in_trace first words)
+step_of_bytes false first words = doing_of_bytes first words
+step_of_bytes true first words = of_bytes_both (doing_tests first (before_arrow words)) (said_tests (after_arrow words)) (doing_of_bytes first (before_arrow words)) (said_of_bytes (after_arrow words))
 
 head_of_bytes : (guests : List Guest) (clock : Option (List ℕ)) (first : List ℕ) (words : List (List ℕ)) → AreOfBytes (head_tests guests clock first words)
 head_of_bytes guests clock first words =
@@ -83,7 +86,7 @@ operation_of_bytes (Traced lines) words = tt
 
 kind_of_bytes : (kind : Kind) (draft : Draft) (first : List ℕ) (words : List (List ℕ)) → AreOfBytes (kind_tests kind draft first words)
 kind_of_bytes Head draft first words = head_of_bytes (guests_in draft) (clock_in draft) first words
-kind_of_bytes (Step in_trace) draft first words = ((λ e. cc), step_of_bytes in_trace words)
+kind_of_bytes (Step in_trace) draft first words = step_of_bytes in_trace first words
 kind_of_bytes Operation draft first words = operation_of_bytes draft (first ∷ words)
 
 words_of_bytes : (draft : Draft) (words : List (List ℕ)) → AreOfBytes (line_tests draft words)

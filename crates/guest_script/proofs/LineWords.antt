@@ -20,9 +20,9 @@ use Rattle.guest_script.specs.declared.said.Said.TheVariants.{Done}
 use Rattle.guest_script.specs.declared.script.Line.{Line}
 use Rattle.guest_script.specs.Words.{AreNumbers, IsNumber, Spells, last_hart, last_number}
 use Rattle.guest_script.specs.Forms.{AreArguments, Form, IsArgument, IsNamed, IsRet, IsSaid, form_of, guest_form_of, number_at, said_form_of}
-use Rattle.guest_script.specs.Grammar.{Blocked, Blocks, Draft, Guest, IsActor, IsHead, IsInBlock, IsNext, IsStep, IsStepLine, Nothing, OfClock, OfGuest, Open, Stepped, Traced, clock_of, guests_of, has_block, opened, with_op, with_tick}
-use Rattle.guest_script.specs.Values.{actor_in, after_arrow, arguments_in, before_arrow, begins_actor_line, first_number, has_arrow, in_block, is_arrow, is_at, is_clock, is_clock_head, is_filled, is_number, is_ret, is_signed, kind_of, line_in, made_by, named_in, next_in, next_of, number_in, op_in, opened_by, ret_in, said_in, signed_in, with_step}
-use Rattle.guest_script.specs.FirstFault.{actor_test, argument_tests, arguments_tests, form_tests, head_tests, in_block_tests, kind_tests, line_tests, may_follow, named_tests, number_tests, ret_tests, said_tests, step_tests}
+use Rattle.guest_script.specs.Grammar.{Blocked, Blocks, Draft, Guest, IsActor, IsDoing, IsHead, IsInBlock, IsNext, IsStep, IsStepLine, Nothing, OfClock, OfGuest, Open, Stepped, Traced, clock_of, guests_of, has_block, opened, with_op, with_tick}
+use Rattle.guest_script.specs.Values.{actor_in, after_arrow, arguments_in, before_arrow, begins_actor_line, first_number, has_arrow, in_block, is_arrow, is_at, is_clock, is_clock_head, is_cut, is_filled, is_number, is_ret, is_signed, kind_of, line_in, made_by, named_in, next_in, next_of, number_in, op_in, opened_by, ret_in, said_in, signed_in, step_in, with_step}
+use Rattle.guest_script.specs.FirstFault.{acting_tests, actor_test, argument_tests, arguments_tests, doing_tests, form_tests, head_tests, in_block_tests, kind_tests, line_tests, may_follow, named_tests, number_tests, ret_tests, said_tests, step_tests}
 use Rattle.guest_script.proofs.ArgumentsIn.{first_argument_fault}
 use Rattle.guest_script.proofs.Spelling.{arguments_as_numbers, arguments_spelled, number_spelled, signed_spelled, spelled_number, spelled_arguments, spelled_signed}
 
@@ -213,6 +213,10 @@ no_number limit word text n none number = false_from_ne_true (bytes_eq word text
     let begins : is_digit (slice_index text 0) 10 ≡ true = rw (← (bytes_eq-Decides word text).0 same) (number_digit word n number.1) in
     let both : true ≡ false = sym begins ∙ none in cc)
 
+not_filled : {A : Type 0} (xs : List A) → is_filled xs ≡ false → xs ≡ []
+not_filled [] none = refl
+not_filled (x ∷ xs) none = absurd cc
+
 actor_tested : (word : List ℕ) → (is_clock word || is_number last_hart word) ≡ true → IsActor word (actor_in word)
 actor_tested word good = elim (cases_Bool (is_clock word)) [
   | inl clock ↦ rw clock ((bytes_eq-Decides word (codes "c")).0 clock)
@@ -221,18 +225,21 @@ actor_tested word good = elim (cases_Bool (is_clock word)) [
 
 record ActorPasses (word : List ℕ) (actor : Actor) : Type 0 where
   no_head : (is_at word || is_clock_head word) ≡ false
+  no_cut : is_cut word ≡ false
   begins : begins_actor_line word ≡ true
   good : (is_clock word || is_number last_hart word) ≡ true
   value : actor_in word ≡ actor
 
 actor_passes : (word : List ℕ) (actor : Actor) → IsActor word actor → ActorPasses word actor
-actor_passes word Clock is_actor = record { no_head = rw is_actor refl; begins = rw is_actor refl; good = rw is_actor refl; value = rw is_actor refl }
+actor_passes word Clock is_actor = record { no_head = rw is_actor refl; no_cut = rw is_actor refl; begins = rw is_actor refl; good = rw is_actor refl; value = rw is_actor refl }
 actor_passes word (Hart h) is_actor =
     let other = no_number last_hart word (codes "c") h refl is_actor in
+    let cut = no_number last_hart word (codes "cut") h refl is_actor in
     let spelled = spelled_number last_hart word h is_actor in
     record {
       no_head = or_from _ _ (no_number last_hart word (codes "at") h refl is_actor) (no_number last_hart word (codes "clock") h refl is_actor);
-      begins = rw (other, number_digit word h is_actor.1) refl;
+      no_cut = cut;
+      begins = rw (cut, other, number_digit word h is_actor.1) refl;
       good = rw (other, spelled.0) refl;
       value = rw other (ap (λ (n : ℕ). Hart n) spelled.1);
     }
@@ -311,58 +318,91 @@ step_tested first words actor none = record {
   is_op = named_tested form_of Advance words none;
 }
 
-step_line_tested : (n : ℕ) (in_trace : Bool) (first : List ℕ) (words : List (List ℕ)) → has_arrow words ≡ in_trace → NoneHolds (actor_test first ∷ step_tests in_trace words)
+doing_tested : (first : List ℕ) (words : List (List ℕ)) → NoneHolds (doing_tests first words) → IsDoing (first ∷ words) (step_in first words)
+doing_tested first words none = elim (cases_Bool (is_cut first)) [
+  | inl cut ↦
+      let filled = none_first (is_filled words, WordCount) [] (rw cut at none) in
+      let name : first ≡ codes "cut" = (bytes_eq-Decides first (codes "cut")).0 cut in
+      rw cut (ap (λ (w : List ℕ). w ∷ words) name ∙ ap (λ (ws : List (List ℕ)). codes "cut" ∷ ws) (not_filled words filled.0))
+  | inr other ↦
+      let actor = none_first (actor_test first) (named_tests form_of words) (rw other at none) in
+      rw other (step_tested first words actor.0 actor.1)
+]
+
+step_line_tested : (n : ℕ) (in_trace : Bool) (first : List ℕ) (words : List (List ℕ)) → has_arrow words ≡ in_trace → NoneHolds (step_tests in_trace first words)
     → IsStepLine n in_trace (first ∷ words) (line_in n in_trace first words)
-step_line_tested n false first words at none =
-    let actor = none_first (actor_test first) (step_tests false words) none in
-    (refl, refl, step_tested first words actor.0 actor.1)
+step_line_tested n false first words at none = (refl, refl, doing_tested first words none)
 step_line_tested n true first words at none =
-    let actor = none_first (actor_test first) (step_tests true words) none in
-    let both = none_parts (named_tests form_of (before_arrow words)) (said_tests (after_arrow words)) actor.1 in (
+    let both = none_parts (doing_tests first (before_arrow words)) (said_tests (after_arrow words)) none in (
       first ∷ before_arrow words,
       after_arrow words,
       said_in (after_arrow words),
       refl,
       refl,
       ap (λ (ws : List (List ℕ)). first ∷ ws) (arrow_parts words at),
-      step_tested first (before_arrow words) actor.0 both.0,
+      doing_tested first (before_arrow words) both.0,
       said_tested (after_arrow words) both.1,
     )
 
--- a line that is a step passes as one
+-- what a line does passes
+record DoingPasses (words : List (List ℕ)) (step : Option (Actor × Op)) : Type 0 where
+  first : List ℕ
+  others : List (List ℕ)
+  parts : words ≡ first ∷ others
+  no_head : (is_at first || is_clock_head first) ≡ false
+  begins : begins_actor_line first ≡ true
+  no_arrow : has_arrow others ≡ false
+  none : NoneHolds (doing_tests first others)
+  value : step_in first others ≡ step
+
+doing_passes : (words : List (List ℕ)) (step : Option (Actor × Op)) → IsDoing words step → DoingPasses words step
+doing_passes words None is = record { first = codes "cut"; others = []; parts = is; no_head = refl; begins = refl; no_arrow = refl; none = refl; value = refl }
+doing_passes words (Some step) is =
+    let actor = actor_passes is.first step.0 is.is_actor in
+    let op = named_passes form_of Advance is.others step.1 is.is_op in
+    record {
+      first = is.first;
+      others = is.others;
+      parts = is.parts;
+      no_head = actor.no_head;
+      begins = actor.begins;
+      no_arrow = op_no_arrow is.others step.1 is.is_op;
+      none = rw actor.no_cut (none_cons (actor_test is.first) (named_tests form_of is.others) (not_from_true _ actor.good) op.0);
+      value = rw (actor.no_cut, actor.value, op.1) refl;
+    }
+
+-- a line that is a step or a cut passes as one
 record StepPasses (n : ℕ) (in_trace : Bool) (words : List (List ℕ)) (line : Line) : Type 0 where
   first : List ℕ
   others : List (List ℕ)
   parts : words ≡ first ∷ others
   kind : kind_of first others ≡ Step in_trace
-  none : NoneHolds (actor_test first ∷ step_tests in_trace others)
+  none : NoneHolds (step_tests in_trace first others)
   value : line_in n in_trace first others ≡ line
 
 step_line_passes : (n : ℕ) (in_trace : Bool) (words : List (List ℕ)) (line : Line) → IsStepLine n in_trace words line → StepPasses n in_trace words line
-step_line_passes n false words line (number, said, step) =
-    let actor = actor_passes step.first line.actor step.is_actor in
-    let op = named_passes form_of Advance step.others line.op step.is_op in
+step_line_passes n false words line (number, said, is) =
+    let doing = doing_passes words line.step is in
     record {
-      first = step.first;
-      others = step.others;
-      parts = step.parts;
-      kind = rw (actor.no_head, actor.begins, op_no_arrow step.others line.op step.is_op) refl;
-      none = none_cons (actor_test step.first) (step_tests false step.others) (not_from_true _ actor.good) op.0;
-      value = rw (actor.value, op.1, number, said) refl;
+      first = doing.first;
+      others = doing.others;
+      parts = doing.parts;
+      kind = rw (doing.no_head, doing.begins, doing.no_arrow) refl;
+      none = doing.none;
+      value = rw (doing.value, number, said) refl;
     }
-step_line_passes n true words line (before, after, said, number, has_said, parts, step, is_said) =
-    let actor = actor_passes step.first line.actor step.is_actor in
-    let op = named_passes form_of Advance step.others line.op step.is_op in
+step_line_passes n true words line (before, after, said, number, has_said, parts, is, is_said) =
+    let doing = doing_passes before line.step is in
     let told = said_passes after said is_said in
-    let split = splits_at step.others after (op_no_arrow step.others line.op step.is_op) in
-    let others = step.others ++ codes "->" ∷ after in
+    let split = splits_at doing.others after doing.no_arrow in
+    let others = doing.others ++ codes "->" ∷ after in
     record {
-      first = step.first;
+      first = doing.first;
       others = others;
-      parts = parts ∙ ap (λ (ws : List (List ℕ)). ws ++ codes "->" ∷ after) step.parts;
-      kind = rw (actor.no_head, actor.begins, split.some) refl;
-      none = none_cons (actor_test step.first) (step_tests true others) (not_from_true _ actor.good) (rw (split.first, split.rest) (none_both (named_tests form_of step.others) (said_tests after) op.0 told.0));
-      value = rw (split.first, split.rest, actor.value, op.1, told.1, number, has_said) refl;
+      parts = parts ∙ ap (λ (ws : List (List ℕ)). ws ++ codes "->" ∷ after) doing.parts;
+      kind = rw (doing.no_head, doing.begins, split.some) refl;
+      none = rw (split.first, split.rest) (none_both (doing_tests doing.first doing.others) (said_tests after) doing.none told.0);
+      value = rw (split.first, split.rest, doing.value, told.1, number, has_said) refl;
     }
 
 -- ---- blocks
@@ -370,10 +410,6 @@ step_line_passes n true words line (before, after, said, number, has_said, parts
 not_some : {A : Type 0} (o : Option A) → is_some o ≡ false → o ≡ None
 not_some None none = refl
 not_some (Some x) none = absurd cc
-
-not_filled : {A : Type 0} (xs : List A) → is_filled xs ≡ false → xs ≡ []
-not_filled [] none = refl
-not_filled (x ∷ xs) none = absurd cc
 
 head_tested : (guests : List Guest) (clock : Option (List ℕ)) (first : List ℕ) (words : List (List ℕ)) → (is_at first || is_clock_head first) ≡ true → NoneHolds (head_tests guests clock first words)
     → IsHead guests clock (first ∷ words) (opened guests clock (opened_by first words))
@@ -445,6 +481,10 @@ guest_none : guest_form_of (codes "c") ≡ None
 unfolding guest_form_of
 guest_none = refl
 
+guest_cut_none : guest_form_of (codes "cut") ≡ None
+unfolding guest_form_of
+guest_cut_none = refl
+
 guest_at_none : guest_form_of (codes "at") ≡ None
 unfolding guest_form_of
 guest_at_none = refl
@@ -461,6 +501,7 @@ guest_kind name words form has =
     rw (
       no_name guest_form_of name (codes "at") form has guest_at_none,
       no_name guest_form_of name (codes "clock") form has guest_clock_none,
+      no_name guest_form_of name (codes "cut") form has guest_cut_none,
       no_name guest_form_of name (codes "c") form has guest_none,
       no_digit name form has,
     ) refl

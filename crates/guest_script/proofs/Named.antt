@@ -68,3 +68,9 @@ both_good tests more value a later b all found is was good after =
     let first = value_of (first_that_holds tests) value a (sym good) in
     let second = value_of (first_that_holds more) later b (sym after) in
     rw (is, was) (sym (tested_pass tests more (value, later) first.0 ∙ rw (second.0, first.1, second.1) refl))
+
+-- what is made of a value that is read
+pub made_good : {A B F : Type 0} (f : A → B) (tests : List (Bool × F)) (value a : A) → Ok a ≡ tested tests value → Ok (f a) ≡ tested tests (f value)
+made_good f tests value a good =
+    let first = value_of (first_that_holds tests) value a (sym good) in
+    rw first.0 (ap (λ x. Ok (f x)) (sym first.1))

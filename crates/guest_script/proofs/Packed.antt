@@ -1,12 +1,13 @@
 -- A line that is kept is the line.
 use Rattle.std.proofs.Common.{false, ◌≡◌, ◌≢◌, ◌⊎◌, ℕ, zero, suc, ◌+◌, ◌-◌, ◌≤◌, ◌&&◌, eqb, List, [], ◌∷◌, ◌++◌, take, drop, length, get_or, Option, Some, None, refl, sym, ap, ◌∙◌, inl, inr, arith}
-use Rattle.std.proofs.lemmas.Bool.{cases_Bool, cases_lt, and_parts, eqb-true}
+use Rattle.std.proofs.lemmas.Bool.{cases_Bool, cases_lt, and_parts, eqb-true, ne_eqb}
 use Rattle.std.proofs.lemmas.List.{append_assoc, drop-append-le, get_or-take, length-append, length-drop, length-take, map-append, take-append-le, take_all}
 use Rattle.std.proofs.lemmas.List.FromFn.{fill_by_all}
 use Rattle.std.proofs.Math.Seq.{drop-append_seam, take-append_seam}
 use Rattle.sbi_abi.specs.declared.call.Regs.{Regs}
 use Rattle.board_core.specs.declared.event.Actor.{Actor}
 use Rattle.board_core.specs.declared.event.Actor.TheVariants.{Hart, Clock}
+use Rattle.board_core.specs.declared.event.Op.{Op}
 use Rattle.board_core.specs.declared.event.Op.TheVariants as ops
 use Rattle.guest_script.specs.declared.kept.Kept.{Kept}
 use Rattle.guest_script.specs.declared.op_shape.OpShape.{OpShape}
@@ -16,7 +17,7 @@ use Rattle.guest_script.specs.declared.said.Said.TheVariants as says
 use Rattle.guest_script.specs.declared.said_shape.SaidShape.{SaidShape}
 use Rattle.guest_script.specs.declared.script.Line.{Line}
 use Rattle.guest_script.specs.KeptLines.{AreWithin, IsWithin, line_of, lines_of, part}
-use Rattle.guest_script.specs.Packing.{actor_made, actor_number, FitsKept, number_from, op_made, op_numbers, said_count, said_made, said_numbers, said_shape_of, used}
+use Rattle.guest_script.specs.Packing.{actor_made, actor_number, FitsKept, number_from, op_made, op_numbers, said_count, said_made, said_numbers, said_shape_of, step_made, step_number, used}
 
 -- ---- a part of longer lists
 
@@ -56,6 +57,14 @@ actor_kept (Hart h) fits = elim (cases_Bool (eqb h 128)) [
   | inr other ↦ rw other refl
 ]
 
+number_kept : (actor : Actor) → FitsKept actor → eqb (actor_number actor) 129 ≡ false
+number_kept Clock fits = refl
+number_kept (Hart h) fits = ne_eqb h 129 (λ e. omega (arith, e, fits))
+
+-- an actor's operation that is kept
+pub step_kept : (actor : Actor) (op : Op) (shape : OpShape) (ns : List ℕ) → FitsKept actor → op_made shape ns ≡ op → step_made (actor_number actor) shape ns ≡ Some (actor, op)
+step_kept actor op shape ns fits made = rw (number_kept actor fits, actor_kept actor fits, made) refl
+
 pub length_said : (said : Option Said) → length (said_numbers said) ≡ said_count (said_shape_of said)
 length_said None = refl
 length_said (Some (says.Ret error value)) = refl
@@ -71,29 +80,28 @@ length_said (Some (says.Refused n)) = refl
 
 -- what is kept of a line behind so many numbers, by its operation's shape and numbers
 abbrev pub kept_as : (from : ℕ) → Line → OpShape → List ℕ → Kept
-kept_as from line shape ns = record { number = line.number; from = from; actor = actor_number line.actor; op = shape; op_count = length ns; said = said_shape_of line.said }
+kept_as from line shape ns = record { number = line.number; from = from; actor = step_number line.step; op = shape; op_count = length ns; said = said_shape_of line.said }
 
 module _ (numbers : List ℕ) (line : Line) (shape : OpShape) (ns : List ℕ) where
   kept_within : IsWithin (length (numbers ++ (ns ++ said_numbers line.said))) (kept_as (length numbers) line shape ns)
   kept_within = omega (arith, length-append numbers (ns ++ said_numbers line.said), length-append ns (said_numbers line.said), length_said line.said)
 
-  line_kept : FitsKept line.actor → op_made shape ns ≡ line.op → said_made (said_shape_of line.said) (said_numbers line.said) ≡ line.said
+  line_kept : step_made (step_number line.step) shape ns ≡ line.step → said_made (said_shape_of line.said) (said_numbers line.said) ≡ line.said
       → line_of (numbers ++ (ns ++ said_numbers line.said)) (kept_as (length numbers) line shape ns) ≡ line
-  line_kept fits op said =
+  line_kept step said =
       rw (
         part_first numbers ns (said_numbers line.said),
         ← length_said line.said,
         part_second numbers ns (said_numbers line.said),
-        actor_kept line.actor fits,
-        op,
+        step,
         said,
       ) refl
 
-  lines_pushed : (kept : List Kept) → AreWithin (length numbers) kept → FitsKept line.actor → op_made shape ns ≡ line.op → said_made (said_shape_of line.said) (said_numbers line.said) ≡ line.said
+  lines_pushed : (kept : List Kept) → AreWithin (length numbers) kept → step_made (step_number line.step) shape ns ≡ line.step → said_made (said_shape_of line.said) (said_numbers line.said) ≡ line.said
       → lines_of (numbers ++ (ns ++ said_numbers line.said)) (kept ++ kept_as (length numbers) line shape ns ∷ []) ≡ lines_of numbers kept ++ line ∷ []
-  lines_pushed kept within fits op said =
+  lines_pushed kept within step said =
       map-append (line_of (numbers ++ (ns ++ said_numbers line.said))) kept (kept_as (length numbers) line shape ns ∷ [])
-      ∙ rw (lines_more numbers (ns ++ said_numbers line.said) kept within, line_kept fits op said) refl
+      ∙ rw (lines_more numbers (ns ++ said_numbers line.said) kept within, line_kept step said) refl
 
 pub within_both : (n : ℕ) (kept more : List Kept) → AreWithin n kept → AreWithin n more → AreWithin n (kept ++ more)
 within_both n [] more within later = later
@@ -140,29 +148,27 @@ pub record IsPut (old new : List ℕ) (line : Line) (kept : Kept) : Type 0 where
   pub ns : List ℕ
   pub numbers : new ≡ old ++ (ns ++ said_numbers line.said)
   pub is : kept ≡ kept_as (length old) line shape ns
-  pub fits : FitsKept line.actor
-  pub op : op_made shape ns ≡ line.op
+  pub step : step_made (step_number line.step) shape ns ≡ line.step
   pub said : said_made (said_shape_of line.said) (said_numbers line.said) ≡ line.said
 
 pub put_from : (old middle new : List ℕ) (line : Line) (shape : OpShape) (ns : List ℕ) (said : SaidShape) (actor from count : ℕ) → middle ≡ old ++ ns → new ≡ middle ++ said_numbers line.said
-    → said ≡ said_shape_of line.said → actor ≡ actor_number line.actor → from ≡ length old → count ≡ length middle - length old
-    → FitsKept line.actor → op_made shape ns ≡ line.op → said_made said (said_numbers line.said) ≡ line.said
+    → said ≡ said_shape_of line.said → actor ≡ step_number line.step → from ≡ length old → count ≡ length middle - length old
+    → step_made (step_number line.step) shape ns ≡ line.step → said_made said (said_numbers line.said) ≡ line.said
     → IsPut old new line (record { number = line.number; from = from; actor = actor; op = shape; op_count = count; said = said })
-put_from old middle new line shape ns said actor from count first second is_said is_actor is_from is_count fits op said_is =
+put_from old middle new line shape ns said actor from count first second is_said is_actor is_from is_count step said_is =
     let counted : count ≡ length ns = omega (arith, is_count, ap length first, length-append old ns) in
     record {
       shape = shape;
       ns = ns;
       numbers = second ∙ rw first (append_assoc old ns (said_numbers line.said));
       is = rw (is_said, is_actor, is_from, counted) refl;
-      fits = fits;
-      op = op;
+      step = step;
       said = rw is_said at said_is;
     }
 
 module _ {old new : List ℕ} {line : Line} {first : Kept} (put : IsPut old new line first) (kept : List Kept) (within : AreWithin (length old) kept) where
   pub put_lines : lines_of new (kept ++ first ∷ []) ≡ lines_of old kept ++ line ∷ []
-  put_lines = rw (put.numbers, put.is) (lines_pushed old line put.shape put.ns kept within put.fits put.op put.said)
+  put_lines = rw (put.numbers, put.is) (lines_pushed old line put.shape put.ns kept within put.step put.said)
 
   pub put_within : AreWithin (length new) (kept ++ first ∷ [])
   put_within =

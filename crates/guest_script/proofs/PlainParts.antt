@@ -189,7 +189,7 @@ ret_begins before bytes error middle value rest at (word, parts, is_error) (next
 -- ---- lines
 
 pub told_begins : (n : ℕ) (bytes : List ℕ) (actor : Actor) (middle : List ℕ) (op : Op) (rest told : List ℕ) (said : Said) (end after : List ℕ) → BeginsActor bytes actor middle → BeginsOp middle op rest → rest ≡ codes " ->" ++ told
-    → BeginsSaid told said end → end ≡ codes "\n" ++ after → BeginsLine n true bytes (record { number = n; actor = actor; op = op; said = Some said }) after
+    → BeginsSaid told said end → end ≡ codes "\n" ++ after → BeginsLine n true bytes (record { number = n; step = Some (actor, op); said = Some said }) after
 told_begins n bytes actor middle op rest told said end after (first, parts, is_actor) (words, more, is_op) arrow (replies, last, is_said) at = (
   first,
   words ++ codes "->" ∷ replies,

@@ -18,7 +18,7 @@ use Rattle.guest_script.specs.Drafts.{steps_of}
 use Rattle.guest_script.specs.Forms.{Form, form_of, guest_forms, IsSaid, named, other_forms, said_form_of, said_forms}
 use Rattle.board_core.specs.declared.event.Op.{Op}
 use Rattle.guest_script.specs.Words.{is_allowed, is_blank, is_hash, IsSigned}
-use Rattle.guest_script.specs.Grammar.{Draft, Stepped, Traced, IsActor, IsStep, IsStepLine}
+use Rattle.guest_script.specs.Grammar.{Draft, Stepped, Traced, IsActor, IsDoing, IsStep, IsStepLine}
 use Rattle.guest_script.specs.Values.{is_filled, next_in, with_step, words_in}
 use Rattle.guest_script.specs.FirstFault.{byte_test, line_tests, may_follow}
 use Rattle.guest_script.specs.Reading.{GoesOn, line_from, located, or_fault}
@@ -74,6 +74,10 @@ step_plain words actor op step =
     rw (step.parts, named.parts)
     (actor_plain step.first actor step.is_actor, (op_name_plain named.name named.form named.has_form, arguments_plain named.form.may_be_absent named.form.limit named.others named.arguments named.are_arguments))
 
+doing_plain : (words : List (List ℕ)) (step : Option (Actor × Op)) → IsDoing words step → AllByRecursion IsPlain words
+doing_plain words None is = rw is (word_plain (codes "cut") refl, tt)
+doing_plain words (Some step) is = step_plain words step.0 step.1 is
+
 said_name_plain : (name : List ℕ) (form : Form Said) → said_form_of name ≡ Some form → IsPlain name
 unfolding said_form_of
 said_name_plain name form has = named_plain said_forms name form refl has
@@ -91,9 +95,9 @@ said_plain words said (inr named) =
     rw named.parts (said_name_plain named.name named.form named.has_form, arguments_plain named.form.may_be_absent named.form.limit named.others named.arguments named.are_arguments)
 
 line_plain : (n : ℕ) (in_trace : Bool) (words : List (List ℕ)) (line : Line) → IsStepLine n in_trace words line → AllByRecursion IsPlain words
-line_plain n false words line (number, said, step) = step_plain words line.actor line.op step
-line_plain n true words line (before, after, said, number, has_said, parts, step, is_said) =
-    rw parts (append_all IsPlain before (codes "->" ∷ after) (step_plain before line.actor line.op step) (word_plain (codes "->") refl, said_plain after said is_said))
+line_plain n false words line (number, said, is) = doing_plain words line.step is
+line_plain n true words line (before, after, said, number, has_said, parts, is, is_said) =
+    rw parts (append_all IsPlain before (codes "->" ∷ after) (doing_plain before line.step is) (word_plain (codes "->") refl, said_plain after said is_said))
 
 -- ---- the line is read
 

@@ -12,7 +12,7 @@ use Rattle.guest_script.specs.declared.kind.Kind.TheVariants.{Head, Step, Operat
 use Rattle.guest_script.specs.Words.{is_allowed, last_hart, last_number}
 use Rattle.guest_script.specs.Forms.{Form, form_of, guest_form_of, said_form_of}
 use Rattle.guest_script.specs.Grammar.{Draft, Nothing, Blocked, Stepped, Traced, Guest, has_block, most_bytes, Open, OfClock, OfGuest}
-use Rattle.guest_script.specs.Values.{after_arrow, before_arrow, clock_in, first_number, guests_in, is_at, is_clock, is_filled, is_number, is_ret, is_signed, kind_of, next_in, words_in}
+use Rattle.guest_script.specs.Values.{after_arrow, before_arrow, clock_in, first_number, guests_in, is_at, is_clock, is_cut, is_filled, is_number, is_ret, is_signed, kind_of, next_in, words_in}
 
 -- the faults' numbers
 abbrev pub fault_number : Fault → ℕ
@@ -75,10 +75,18 @@ said_tests (name ∷ words) = if is_ret name then ret_tests words else form_test
 abbrev pub actor_test : List ℕ → Bool × Fault
 actor_test word = (not (is_clock word || is_number last_hart word), BadNumber)
 
--- an operation, and in a trace what it gave
-abbrev pub step_tests : (in_trace : Bool) → List (List ℕ) → List (Bool × Fault)
-step_tests false words = named_tests form_of words
-step_tests true words = named_tests form_of (before_arrow words) ++ said_tests (after_arrow words)
+-- an actor and an operation
+abbrev pub acting_tests : (first : List ℕ) → List (List ℕ) → List (Bool × Fault)
+acting_tests first words = actor_test first ∷ named_tests form_of words
+
+-- the same, or a cut, which has no further word
+abbrev pub doing_tests : (first : List ℕ) → List (List ℕ) → List (Bool × Fault)
+doing_tests first words = if is_cut first then (is_filled words, WordCount) ∷ [] else acting_tests first words
+
+-- what a line does, and in a trace what that gave
+abbrev pub step_tests : (in_trace : Bool) → (first : List ℕ) → List (List ℕ) → List (Bool × Fault)
+step_tests false first words = doing_tests first words
+step_tests true first words = doing_tests first (before_arrow words) ++ said_tests (after_arrow words)
 
 -- an address that no block has, or the clock's first block
 abbrev pub head_tests : List Guest → (clock : Option (List ℕ)) → (first : List ℕ) → List (List ℕ) → List (Bool × Fault)
@@ -110,7 +118,7 @@ operation_tests draft words = []
 -- the tests of a line of this kind
 abbrev pub kind_tests : Kind → Draft → (first : List ℕ) → List (List ℕ) → List (Bool × Fault)
 kind_tests Head draft first words = head_tests (guests_in draft) (clock_in draft) first words
-kind_tests (Step in_trace) draft first words = actor_test first ∷ step_tests in_trace words
+kind_tests (Step in_trace) draft first words = step_tests in_trace first words
 kind_tests Operation draft first words = operation_tests draft (first ∷ words)
 
 -- a line's kind, and then what it says

@@ -64,12 +64,17 @@ pub record IsStep (words : List (List ℕ)) (actor : Actor) (op : Op) : Type 0 w
   pub is_actor : IsActor first actor
   pub is_op : IsNamed form_of others op
 
--- Line n: a step, and in a trace what it gave, behind the first arrow.
+-- What a line does: the word `cut` alone, or a step by an actor.
+abbrev pub IsDoing : List (List ℕ) → Option (Actor × Op) → Type 0
+IsDoing words None = words ≡ codes "cut" ∷ []
+IsDoing words (Some step) = IsStep words step.0 step.1
+
+-- Line n: a step or a cut, and in a trace what it gave, behind the first arrow.
 abbrev pub IsStepLine : (n : ℕ) → (in_trace : Bool) → List (List ℕ) → Line → Type 0
-IsStepLine n false words line = (line.number ≡ n) × (line.said ≡ None) × IsStep words line.actor line.op
+IsStepLine n false words line = (line.number ≡ n) × (line.said ≡ None) × IsDoing words line.step
 IsStepLine n true words line =
     (before after : List (List ℕ)) × (said : Said)
-    × (line.number ≡ n) × (line.said ≡ Some said) × (words ≡ before ++ codes "->" ∷ after) × IsStep before line.actor line.op × IsSaid after said
+    × (line.number ≡ n) × (line.said ≡ Some said) × (words ≡ before ++ codes "->" ∷ after) × IsDoing before line.step × IsSaid after said
 
 -- a name, and one number behind it
 abbrev pub IsNumbered : (name : List ℕ) → List (List ℕ) → ℕ → Type 0

@@ -1,11 +1,11 @@
 -- Lines as they are kept.
-use Rattle.std.specs.Prelude.{◌≡◌, ℕ, ◌+◌, ◌<◌, ◌≤◌, List, [], ◌∷◌, take, drop, length, map, is_some}
+use Rattle.std.specs.Prelude.{◌≡◌, ℕ, ◌+◌, ◌<◌, ◌≤◌, List, [], ◌∷◌, take, drop, length, map, Some, is_some}
 use Rattle.std.specs.List.{AllByRecursion}
 use Rattle.guest_script.specs.declared.kept.Kept.{Kept}
 use Rattle.guest_script.specs.declared.lines.TheConstants.{MOST_LINES}
 use Rattle.guest_script.specs.declared.plain.Plain.{Plain}
 use Rattle.guest_script.specs.declared.script.Line.{Line}
-use Rattle.guest_script.specs.Packing.{FitsKept, actor_made, op_made, said_count, said_made}
+use Rattle.guest_script.specs.Packing.{op_made, said_count, said_made, step_made, StepFits}
 
 -- so many numbers from a place on
 abbrev pub part : List ℕ → (from count : ℕ) → List ℕ
@@ -15,8 +15,7 @@ part numbers from count = take count (drop from numbers)
 abbrev pub line_of : (numbers : List ℕ) → Kept → Line
 line_of numbers kept = record {
   number = kept.number;
-  actor = actor_made kept.actor;
-  op = op_made kept.op (part numbers kept.from kept.op_count);
+  step = step_made kept.actor kept.op (part numbers kept.from kept.op_count);
   said = said_made kept.said (part numbers (kept.from + kept.op_count) (said_count kept.said));
 }
 
@@ -32,7 +31,7 @@ AreWithin count kept = AllByRecursion (IsWithin count) kept
 
 -- the line that parts make
 abbrev pub plain_line : (number : ℕ) → Plain → (numbers : List ℕ) → Line
-plain_line number plain numbers = record { number = number; actor = plain.actor; op = op_made plain.op numbers; said = plain.said }
+plain_line number plain numbers = record { number = number; step = Some (plain.actor, op_made plain.op numbers); said = plain.said }
 
 -- The line says what was given where the first of these lines does, and there alone: a trace's lines all do, and a schedule's
 -- none.
@@ -45,5 +44,5 @@ IsLike (first ∷ lines) line = is_some first.said ≡ is_some line.said
 pub record CanFollow (lines : List Line) (line : Line) : Type 0 where
   pub few : length lines < MOST_LINES
   pub number : line.number < MOST_LINES
-  pub actor : FitsKept line.actor
+  pub actor : StepFits line.step
   pub like : IsLike lines line

@@ -206,3 +206,22 @@ actor_made n = if n == 128 then Clock else Hart n
 abbrev pub FitsKept : Actor → Type 0
 FitsKept (Hart h) = h < 128
 FitsKept Clock = Unit {0}
+
+-- what a line does as a number: its actor's, or 129 for a cut
+abbrev pub step_number : Option (Actor × Op) → ℕ
+step_number None = 129
+step_number (Some step) = actor_number step.0
+
+-- its numbers: those of its operation, and none of a cut
+abbrev pub step_numbers : Option (Actor × Op) → List ℕ
+step_numbers None = []
+step_numbers (Some step) = op_numbers step.1
+
+-- A cut's shape says nothing.
+abbrev pub step_made : ℕ → OpShape → List ℕ → Option (Actor × Op)
+step_made n shape ns = if n == 129 then None else Some (actor_made n, op_made shape ns)
+
+-- the actor of a step can be kept
+abbrev pub StepFits : Option (Actor × Op) → Type 0
+StepFits None = Unit {0}
+StepFits (Some step) = FitsKept step.0

@@ -121,9 +121,13 @@ is_clock word = bytes_eq word (codes "c")
 abbrev pub actor_in : List ℕ → Actor
 actor_in word = if is_clock word then Clock else Hart (unwrap_or (number_in last_hart word) 0)
 
--- An actor's line begins with `c` or a digit.
+-- whether a word is the one that cuts the history
+abbrev pub is_cut : List ℕ → Bool
+is_cut word = bytes_eq word (codes "cut")
+
+-- An actor's line begins with `c` or a digit, or is a cut.
 abbrev pub begins_actor_line : List ℕ → Bool
-begins_actor_line first = is_clock first || is_digit (slice_index first 0) 10
+begins_actor_line first = is_cut first || is_clock first || is_digit (slice_index first 0) 10
 
 abbrev pub is_arrow : List ℕ → Bool
 is_arrow word = bytes_eq word (codes "->")
@@ -153,10 +157,14 @@ abbrev pub kind_of : (first : List ℕ) → List (List ℕ) → Kind
 kind_of first words =
     if is_at first || is_clock_head first then Head else if begins_actor_line first then Step (has_arrow words) else Operation
 
+-- what a line does: a step, or nothing but a cut
+abbrev pub step_in : (first : List ℕ) → List (List ℕ) → Option (Actor × Op)
+step_in first words = if is_cut first then None else Some (actor_in first, op_in words)
+
 -- line n of a schedule, and of a trace
 abbrev pub line_in : (n : ℕ) → (in_trace : Bool) → (first : List ℕ) → List (List ℕ) → Line
-line_in n false first words = record { number = n; actor = actor_in first; op = op_in words; said = None }
-line_in n true first words = record { number = n; actor = actor_in first; op = op_in (before_arrow words); said = Some (said_in (after_arrow words)) }
+line_in n false first words = record { number = n; step = step_in first words; said = None }
+line_in n true first words = record { number = n; step = step_in first (before_arrow words); said = Some (said_in (after_arrow words)) }
 
 -- the guests' blocks so far, and the clock's ticks
 abbrev pub guests_in : Draft → List Guest

@@ -1,6 +1,6 @@
 ghost use Rattle.std.specs.Prelude.{◌≡◌, ◌⊎◌, ◌∷◌, [], ◌++◌, Bool, ℕ, List, true, false, is_some, None, IfOk, OnOk, Err, MatchOption, MatchResult, ◌+◌, ◌<◌, ◌≤◌, length};
 ghost use Rattle.std.specs.Str.Lines.{lines};
-ghost use Rattle.guest_script.specs.Packing.{FitsKept};
+ghost use Rattle.guest_script.specs.Packing.{StepFits};
 ghost use Rattle.guest_script.specs.declared.fault.Fault.TheVariants.{NoMemory, SecondBlock};
 ghost use Rattle.guest_script.specs.declared.kind.Kind.TheVariants.{Head, Operation, Step};
 ghost use Rattle.guest_script.specs.Drafts.{draft_of};
@@ -206,7 +206,7 @@ impl BodyDraft {
     fn step(&mut self, alloc: Global, in_trace: bool, line: &Line) -> Result<(), AllocError>
         requires kind { may_follow (draft_of self.old) (Step in_trace) ≡ true }
         requires number { line.now.number < MOST_LINES }
-        requires actor { FitsKept line.now.actor }
+        requires actor { StepFits line.now.step }
         requires few { length (lines_in (draft_of self.old)) < MOST_LINES }
         ensures { OnOk result (draft_of self.new ≡ with_step in_trace (draft_of self.old) line.now) }
     {

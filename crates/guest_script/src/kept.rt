@@ -1,12 +1,15 @@
 ghost use Rattle.std.specs.Prelude.{◌≡◌};
-ghost use Rattle.guest_script.specs.Packing.{FitsKept, actor_made, actor_number};
+ghost use Rattle.guest_script.specs.Packing.{FitsKept, StepFits, actor_made, actor_number, step_number};
 
 use crate::op_shape::OpShape;
 use crate::said_shape::SaidShape;
-use board_core::Actor;
+use board_core::{Actor, Op};
 
 /// The actor's number that stands for the clock.
 const CLOCK: u8 = 128;
+
+/// The number in an actor's place that stands for a cut.
+pub const CUT: u8 = 129;
 
 /// A line without its numbers, which stand among those of all lines.
 #[derive(Clone, Copy, Debug)]
@@ -15,9 +18,9 @@ pub struct Kept {
     pub number: u32,
     /// Where the line's numbers begin.
     pub from: u32,
-    /// The hart's number, or 128 for the clock.
+    /// The hart's number, 128 for the clock, or 129 for a cut.
     pub actor: u8,
-    /// The operation.
+    /// The operation. Of a cut it says nothing.
     pub op: OpShape,
     /// How many numbers the operation has.
     pub op_count: u8,
@@ -33,6 +36,17 @@ pub fn actor_number(actor: Actor) -> u8
     match actor {
         Actor::Hart(hart) => hart as u8,
         Actor::Clock => CLOCK,
+    }
+}
+
+/// The number that stands for the actor of a step, or for a cut.
+pub fn step_number(step: Option<(Actor, Op)>) -> u8
+    requires { StepFits step }
+    ensures { result ≡ step_number step }
+{
+    match step {
+        Some((actor, _)) => actor_number(actor),
+        None => CUT,
     }
 }
 

@@ -2,7 +2,7 @@ ghost use Rattle.std.specs.Prelude.{◌≡◌, length};
 ghost use Rattle.guest_script.specs.declared.script.Line.{Line};
 ghost use Rattle.guest_script.specs.KeptLines.{IsWithin, line_of};
 
-use crate::kept::{Kept, actor};
+use crate::kept::{CUT, Kept, actor};
 use crate::said::Said;
 use crate::script::Line;
 use board_core::{Actor, Op};
@@ -31,20 +31,17 @@ impl<'a> KeptLine<'a> {
         u64::from(self.kept.number)
     }
 
-    /// Who makes the step.
-    pub fn actor(&self) -> Actor
-        ensures { result ≡ self.now.actor }
+    /// Who makes the step, and what it does; none where the line is `cut`.
+    pub fn step(&self) -> Option<(Actor, Op)>
+        ensures { result ≡ self.now.step }
     {
-        actor(self.kept.actor)
-    }
-
-    /// What it does.
-    pub fn op(&self) -> Op
-        ensures { result ≡ self.now.op }
-    {
+        if self.kept.actor == CUT {
+            return None;
+        }
         let from = self.kept.from as usize;
         let end = from + self.kept.op_count as usize;
-        self.kept.op.op(&self.numbers[from..end])
+        let op = self.kept.op.op(&self.numbers[from..end]);
+        Some((actor(self.kept.actor), op))
     }
 
     /// What it gave: in a trace, and there alone.
@@ -62,8 +59,7 @@ impl<'a> KeptLine<'a> {
     {
         Line {
             number: self.number(),
-            actor: self.actor(),
-            op: self.op(),
+            step: self.step(),
             said: self.said(),
         }
     }

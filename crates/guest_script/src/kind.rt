@@ -8,7 +8,7 @@ use crate::words::has_arrow;
 pub enum Kind {
     /// A block's head.
     Head,
-    /// An actor's step, of a schedule or of a trace.
+    /// An actor's step or a cut, of a schedule or of a trace.
     Step {
         /// Whether it says what the step gave.
         in_trace: bool,
@@ -37,9 +37,9 @@ impl Kind {
     }
 }
 
-/// Whether a line with this first word is an actor's.
+/// Whether a line with this first word is an actor's, or a cut.
 fn begins_actor_line(first: &[u8]) -> bool
     ensures { result ≡ begins_actor_line first.now }
 {
-    matches!(first, b"c" | [b'0'..=b'9', ..])
+    matches!(first, b"cut" | b"c" | [b'0'..=b'9', ..])
 }

@@ -3,15 +3,15 @@ ghost use Rattle.std.specs.Iterator.{YieldsFirst, item_count};
 ghost use Rattle.guest_script.specs.declared.script.Line.{Line};
 ghost use Rattle.guest_script.specs.declared.lines.LineFault.TheVariants.{BadLine, NoMemory};
 ghost use Rattle.guest_script.specs.KeptLines.{AreWithin, CanFollow, IsLike, lines_of, plain_line};
-ghost use Rattle.guest_script.specs.Packing.{FitsKept};
+ghost use Rattle.guest_script.specs.Packing.{FitsKept, StepFits};
 
-use crate::kept::{Kept, actor_number};
+use crate::kept::{Kept, actor_number, step_number};
 use crate::kept_line::KeptLine;
-use crate::op_shape::{OP_NUMBERS, OpShape, put_all};
+use crate::op_shape::{OP_NUMBERS, put_all, put_step};
 use crate::plain::Plain;
 use crate::said_shape::{SAID_NUMBERS, SaidShape};
 use crate::script::Line;
-use board_core::Actor;
+use board_core::{Actor, Op};
 use std::alloc::{AllocError, Global};
 use std::marker::Model;
 use thiserror::Error;
@@ -47,13 +47,13 @@ impl From<AllocError> for LineFault {
     }
 }
 
-/// Whether an actor is the clock, or a hart up to 127.
-fn fits(actor: Actor) -> bool
-    ensures { (result ≡ true) ↔ FitsKept actor }
+/// Whether a line is a cut, or a step of the clock or of a hart up to 127.
+fn fits(step: Option<(Actor, Op)>) -> bool
+    ensures { (result ≡ true) ↔ StepFits step }
 {
-    match actor {
-        Actor::Hart(hart) => hart < 128,
-        Actor::Clock => true,
+    match step {
+        Some((Actor::Hart(hart), _)) => hart < 128,
+        Some((Actor::Clock, _)) | None => true,
     }
 }
 
@@ -106,7 +106,7 @@ impl Lines {
     {
         self.len() < MOST_LINES
             && line.number < MOST_LINES as u64
-            && fits(line.actor)
+            && fits(line.step)
             && self.is_like(line)
     }
 
@@ -141,7 +141,7 @@ impl Lines {
     /// Memory was refused.
     pub(crate) fn push(&mut self, line: &Line) -> Result<(), AllocError>
         requires number { line.now.number < MOST_LINES }
-        requires actor { FitsKept line.now.actor }
+        requires actor { StepFits line.now.step }
         requires few { length self.old < MOST_LINES }
         ensures pushed { OnOk result (self.new ≡ self.old ++ line.now ∷ []) }
         ensures refused { OnErr result (self.new ≡ self.old) }
@@ -149,13 +149,13 @@ impl Lines {
         self.kept.reserve(1)?;
         self.numbers.reserve(LINE_NUMBERS)?;
         let from = self.numbers.len();
-        let op = OpShape::put(line.op, &mut self.numbers);
+        let op = put_step(line.step, &mut self.numbers);
         let middle = self.numbers.len();
         let said = SaidShape::put(line.said, &mut self.numbers);
         self.kept.push_reserved(Kept {
             number: line.number as u32,
             from: from as u32,
-            actor: actor_number(line.actor),
+            actor: step_number(line.step),
             op,
             op_count: (middle - from) as u8,
             said,

@@ -1,8 +1,8 @@
 ghost use Rattle.std.specs.Prelude.{◌≡◌, ◌+◌, ◌≤◌, ◌++◌, ◌∷◌, [], take, length, vec_len, vec_capacity};
-ghost use Rattle.guest_script.specs.Packing.{kept_count, number_from, op_made, op_numbers, plain_shape, shape_of, used};
+ghost use Rattle.guest_script.specs.Packing.{kept_count, number_from, op_made, op_numbers, plain_shape, shape_of, step_made, step_number, step_numbers, used, StepFits};
 
 use crate::op_name::OpName;
-use board_core::Op;
+use board_core::{Actor, Op};
 use sbi_abi::Regs;
 
 /// How many numbers an operation has at most.
@@ -160,6 +160,23 @@ impl OpShape {
             OpShape::Advance => Op::Advance,
             OpShape::Tick => Op::Tick(number_from(numbers, 0)),
         }
+    }
+}
+
+/// The shape of what a line does, of which a cut's says nothing. The numbers are put behind the others.
+#[tactic(auto, using(crate::proofs::Packed::step_kept))]
+pub fn put_step(step: Option<(Actor, Op)>, numbers: &mut Vec<u64>) -> OpShape
+    requires room { vec_len numbers.old + OP_NUMBERS ≤ vec_capacity numbers.old }
+    requires actor { StepFits step }
+    ensures numbers { numbers.new.items ≡ numbers.old.items ++ step_numbers step }
+    ensures made { step_made (step_number step) result (step_numbers step) ≡ step }
+    ensures len { vec_len numbers.new ≤ vec_len numbers.old + OP_NUMBERS }
+    ensures more { vec_len numbers.old ≤ vec_len numbers.new }
+    ensures capacity { vec_capacity numbers.new ≡ vec_capacity numbers.old }
+{
+    match step {
+        Some((_, op)) => OpShape::put(op, numbers),
+        None => OpShape::Advance,
     }
 }
 

@@ -43,10 +43,8 @@ pub struct Block {
 pub struct Line {
     /// The line's number, from 1.
     pub number: u64,
-    /// Who makes the step.
-    pub actor: Actor,
-    /// What it does.
-    pub op: Op,
+    /// Who makes the step, and what it does; none where the line is `cut`, at which the board's history is cut.
+    pub step: Option<(Actor, Op)>,
     /// What it gave: in a trace, and there alone.
     pub said: Option<Said>,
 }

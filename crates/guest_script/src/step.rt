@@ -1,12 +1,12 @@
-ghost use Rattle.std.specs.Prelude.{◌≡◌, ◌∷◌, [], true, false, IfOk, MatchOption, None};
-ghost use Rattle.guest_script.specs.Packing.{FitsKept};
+ghost use Rattle.std.specs.Prelude.{◌≡◌, ◌∷◌, [], true, false, IfOk, MatchOption, None, Some};
+ghost use Rattle.guest_script.specs.Packing.{FitsKept, StepFits};
 ghost use Rattle.board_core.specs.declared.event.Op.TheVariants.{Advance};
 ghost use Rattle.guest_script.specs.declared.said.Said.TheVariants.{Done};
 ghost use Rattle.guest_script.specs.Forms.{form_of, guest_form_of, said_form_of};
-ghost use Rattle.guest_script.specs.FirstFault.{actor_test, form_tests, named_tests, number_tests, ret_tests, said_tests, step_tests};
+ghost use Rattle.guest_script.specs.FirstFault.{acting_tests, actor_test, doing_tests, form_tests, named_tests, number_tests, ret_tests, said_tests, step_tests};
 ghost use Rattle.guest_script.specs.Reading.{IsFormAt, op_spelling, tested};
 ghost use Rattle.guest_script.specs.Scanning.{words_until};
-ghost use Rattle.guest_script.specs.Values.{actor_in, after_arrow, before_arrow, first_number, line_in, made_by, named_in, op_in, ret_in, said_in, words_in};
+ghost use Rattle.guest_script.specs.Values.{actor_in, after_arrow, before_arrow, first_number, line_in, made_by, named_in, op_in, ret_in, said_in, step_in, words_in};
 
 use crate::fault::Fault;
 use crate::number::{number, signed_number};
@@ -22,11 +22,11 @@ use board_core::{Actor, Op};
 /// The largest number of a hart.
 const LAST_HART: u64 = 127;
 
-/// Line `n`: the actor that the first word is, its operation, and in a trace what that gave.
+/// Line `n`: the actor that the first word is, and its operation, or a cut; and in a trace what that gave.
 pub fn step_line(n: u64, in_trace: bool, first: &[u8], rest: &[u8]) -> Result<Line, Fault>
     ensures number { IfOk result (λ line. line.number ≡ n) }
-    ensures actor { IfOk result (λ line. FitsKept line.actor) }
-    ensures read { result ≡ tested (actor_test first.now ∷ step_tests in_trace (words_in rest.now)) (line_in n in_trace first.now (words_in rest.now)) }
+    ensures actor { IfOk result (λ line. StepFits line.step) }
+    ensures read { result ≡ tested (step_tests in_trace first.now (words_in rest.now)) (line_in n in_trace first.now (words_in rest.now)) }
 {
     if in_trace {
         trace_line(n, first, rest)
@@ -37,41 +37,62 @@ pub fn step_line(n: u64, in_trace: bool, first: &[u8], rest: &[u8]) -> Result<Li
 
 fn schedule_line(n: u64, first: &[u8], rest: &[u8]) -> Result<Line, Fault>
     ensures number { IfOk result (λ line. line.number ≡ n) }
-    ensures actor { IfOk result (λ line. FitsKept line.actor) }
-    ensures read { result ≡ tested (actor_test first.now ∷ step_tests false (words_in rest.now)) (line_in n false first.now (words_in rest.now)) }
+    ensures actor { IfOk result (λ line. StepFits line.step) }
+    ensures read { result ≡ tested (step_tests false first.now (words_in rest.now)) (line_in n false first.now (words_in rest.now)) }
 {
-    let actor = actor(first)?;
-    let op = op(rest, false)?;
+    let step = doing(first, rest, false)?;
     Ok(Line {
         number: n,
-        actor,
-        op,
+        step,
         said: None,
     })
 }
 
 fn trace_line(n: u64, first: &[u8], rest: &[u8]) -> Result<Line, Fault>
     ensures number { IfOk result (λ line. line.number ≡ n) }
-    ensures actor { IfOk result (λ line. FitsKept line.actor) }
-    ensures read { result ≡ tested (actor_test first.now ∷ step_tests true (words_in rest.now)) (line_in n true first.now (words_in rest.now)) }
+    ensures actor { IfOk result (λ line. StepFits line.step) }
+    ensures read { result ≡ tested (step_tests true first.now (words_in rest.now)) (line_in n true first.now (words_in rest.now)) }
 {
-    let actor = actor(first)?;
-    let told = told_op(rest)?;
+    let told = told_step(first, rest)?;
     Ok(Line {
         number: n,
-        actor,
-        op: told.0,
+        step: told.0,
         said: Some(told.1),
     })
 }
 
-/// The operation that the words before the first arrow are, and what those after it say.
-fn told_op(rest: &[u8]) -> Result<(Op, Said), Fault>
-    ensures { result ≡ tested (step_tests true (words_in rest.now)) (op_in (before_arrow (words_in rest.now)), said_in (after_arrow (words_in rest.now))) }
+/// What the words before the first arrow do, and what those after it say.
+fn told_step(first: &[u8], rest: &[u8]) -> Result<(Option<(Actor, Op)>, Said), Fault>
+    ensures actor { IfOk result (λ told. StepFits told.0) }
+    ensures read { result ≡ tested (step_tests true first.now (words_in rest.now)) (step_in first.now (before_arrow (words_in rest.now)), said_in (after_arrow (words_in rest.now))) }
 {
-    let op = op(rest, true)?;
+    let step = doing(first, rest, true)?;
     let said = said(after_arrow(rest))?;
-    Ok((op, said))
+    Ok((step, said))
+}
+
+/// What a line does whose first word this is: nothing but a cut, or an actor's operation. Words may end at the first arrow.
+fn doing(first: &[u8], rest: &[u8], until_arrow: bool) -> Result<Option<(Actor, Op)>, Fault>
+    ensures actor { IfOk result (λ step. StepFits step) }
+    ensures read { result ≡ tested (doing_tests first.now (words_until until_arrow (words_in rest.now))) (step_in first.now (words_until until_arrow (words_in rest.now))) }
+{
+    if first != b"cut".as_slice() {
+        acting(first, rest, until_arrow)
+    } else if next_word_until(rest, until_arrow).is_some() {
+        Err(Fault::WordCount)
+    } else {
+        Ok(None)
+    }
+}
+
+/// The actor that the first word is, and its operation.
+fn acting(first: &[u8], rest: &[u8], until_arrow: bool) -> Result<Option<(Actor, Op)>, Fault>
+    ensures actor { IfOk result (λ step. StepFits step) }
+    ensures read { result ≡ tested (acting_tests first.now (words_until until_arrow (words_in rest.now))) (Some (actor_in first.now, op_in (words_until until_arrow (words_in rest.now)))) }
+{
+    let actor = actor(first)?;
+    let op = op(rest, until_arrow)?;
+    Ok(Some((actor, op)))
 }
 
 #[tactic(auto, using(crate::proofs::ArgumentsIn::actor_read, crate::proofs::ArgumentsIn::actor_unread))]

@@ -10,9 +10,9 @@ use crate::way::Way;
 use sv39::{Ram, Satp};
 use tlb_model::{FetchWord, ICache, Tlb};
 
-/// One whole access of a hart to the word of 8 bytes at a virtual address, with the hart's satp and caches. The address
-/// must be aligned to 8. A leaf that was found in the page tables stays filled even where the access fails afterwards
-/// (profile).
+/// One whole access of a hart to the word of 8 bytes at a virtual address, with the hart's satp and caches; what it fills
+/// has this date. The address must be aligned to 8. A leaf that was found in the page tables stays filled even where the
+/// access fails afterwards (profile).
 pub fn access(
     ram: &mut Ram,
     satp: Satp,
@@ -20,6 +20,7 @@ pub fn access(
     words: &mut ICache,
     va: u64,
     access: Access,
+    date: u64,
 ) -> Accessed
     requires entries { tlb.old.next < 2 ^ 63 }
     requires words { words.old.next < 2 ^ 63 }
@@ -27,16 +28,16 @@ pub fn access(
     ensures used { result.used ≡ used (word_in ram.old) satp (λ at. hit matches at tlb.old) va access }
     ensures memory { word_in ram.new ≡ stored (word_in ram.old) satp (λ at. hit matches at tlb.old) va access }
     ensures pages { pages_of ram.new ≡ pages_of ram.old }
-    ensures tlb { tlb.new ≡ filled_if tlb.old (filling (word_in ram.old) satp (λ at. hit matches at tlb.old) va access) }
-    ensures words { words.new ≡ filled_if words.old (word_filling (word_in ram.old) satp (λ at. hit matches at tlb.old) (λ pa. hit is_at pa words.old) va access) }
+    ensures tlb { tlb.new ≡ filled_if tlb.old date (filling (word_in ram.old) satp (λ at. hit matches at tlb.old) va access) }
+    ensures words { words.new ≡ filled_if words.old date (word_filling (word_in ram.old) satp (λ at. hit matches at tlb.old) (λ pa. hit is_at pa words.old) va access) }
 {
     let kind = access.kind();
     let way = Way::of(ram, satp, tlb, va, kind);
     if let Way::Fill(entry) = way {
-        tlb.fill(entry);
+        tlb.fill(date, entry);
     }
     let result = match way.place(ram, va, kind) {
-        Ok(pa) => Ok(carry_out(ram, words, pa, access)),
+        Ok(pa) => Ok(carry_out(ram, words, pa, access, date)),
         Err(cause) => Err(cause),
     };
     Accessed {
@@ -45,14 +46,15 @@ pub fn access(
     }
 }
 
-/// Carries an access out at the physical address of a word of the RAM: what it reads, or 0.
-fn carry_out(ram: &mut Ram, words: &mut ICache, pa: u64, access: Access) -> u64
+/// Carries an access out at the physical address of a word of the RAM: what it reads, or 0. A word that it fills has this
+/// date.
+fn carry_out(ram: &mut Ram, words: &mut ICache, pa: u64, access: Access, date: u64) -> u64
     requires place { IsTrue (is_some (word_in ram.old pa)) }
     requires words { words.old.next < 2 ^ 63 }
     ensures read { result ≡ read_at (word_in ram.old) (λ pa. hit is_at pa words.old) pa access }
     ensures memory { word_in ram.new ≡ stored_at (word_in ram.old) pa access }
     ensures pages { pages_of ram.new ≡ pages_of ram.old }
-    ensures words { words.new ≡ filled_if words.old (word_filling_at (word_in ram.old) (λ pa. hit is_at pa words.old) pa access) }
+    ensures words { words.new ≡ filled_if words.old date (word_filling_at (word_in ram.old) (λ pa. hit is_at pa words.old) pa access) }
 {
     match access {
         Access::Load => ram.load(pa),
@@ -60,23 +62,23 @@ fn carry_out(ram: &mut Ram, words: &mut ICache, pa: u64, access: Access) -> u64
             ram.store(pa, value);
             0
         }
-        Access::Fetch => fetch(ram, words, pa),
+        Access::Fetch => fetch(ram, words, pa, date),
     }
 }
 
-/// The word that the cache has from a physical address, or else that of the RAM, which is filled into the cache
-/// (Zifencei).
-fn fetch(ram: &Ram, words: &mut ICache, pa: u64) -> u64
+/// The word that the cache has from a physical address, or else that of the RAM, which is filled into the cache with this
+/// date (Zifencei).
+fn fetch(ram: &Ram, words: &mut ICache, pa: u64, date: u64) -> u64
     requires place { IsTrue (is_some (word_in ram.now pa)) }
     requires words { words.old.next < 2 ^ 63 }
     ensures read { result ≡ read_at (word_in ram.now) (λ pa. hit is_at pa words.old) pa Access.Fetch }
-    ensures words { words.new ≡ filled_if words.old (word_filling_at (word_in ram.now) (λ pa. hit is_at pa words.old) pa Access.Fetch) }
+    ensures words { words.new ≡ filled_if words.old date (word_filling_at (word_in ram.now) (λ pa. hit is_at pa words.old) pa Access.Fetch) }
 {
     match words.lookup(pa) {
         Some(fetched) => fetched.word,
         None => {
             let word = ram.load(pa);
-            words.fill(FetchWord { pa, word });
+            words.fill(date, FetchWord { pa, word });
             word
         }
     }

@@ -2,10 +2,10 @@
 use Rattle.std.proofs.Common.{◌≡◌, ◌↔◌, ℕ, Bool, true, false, List, [], refl, sym, ◌∙◌, inl, inr}
 use Rattle.std.specs.Prelude.{Option, Some, None, is_some}
 use Rattle.hsm.specs.declared.hart.HartState.TheVariants.{Started}
-use Rattle.board_core.specs.declared.config.Config.{Config}
 use Rattle.board_core.specs.declared.event.Op.{Op}
 use Rattle.board_core.specs.Fences.{outstanding}
 use Rattle.board_core.specs.History.{Event}
+use Rattle.board_core.specs.Opening.{Opening}
 use Rattle.board_core.specs.States.{state}
 use Rattle.guest_script.specs.Grammar.{Guest}
 use Rattle.hart_threads.specs.Ends.{IsQuiet}
@@ -16,10 +16,10 @@ none-is : {A : Type 0} (o : Option A) → is_some o ≡ false → o ≡ None
 none-is None is = refl
 none-is (Some x) is = absurd (let t = is in cc)
 
-pub is-quiet : (c : Config) (past : List Event) (blocks : List Guest) (h : ℕ) (left : Option (List Op)) (has_done : Bool) (call : Option (List ℕ))
-    → state c past h ≡ Started → is_some call ≡ false → call ≡ outstanding c past h → IsLeft blocks left past h
-    → (has_done ≡ true) ↔ (left ≡ Some []) → (has_done ≡ true) ↔ IsQuiet c past blocks h
-is-quiet c past blocks h left has_done call started none called is_left tells = (
+pub is-quiet : (o : Opening) (past : List Event) (blocks : List Guest) (h : ℕ) (left : Option (List Op)) (has_done : Bool) (call : Option (List ℕ))
+    → state o past h ≡ Started → is_some call ≡ false → call ≡ outstanding o past h → IsLeft blocks left past h
+    → (has_done ≡ true) ↔ (left ≡ Some []) → (has_done ≡ true) ↔ IsQuiet o past blocks h
+is-quiet o past blocks h left has_done call started none called is_left tells = (
   (λ yes. inr (record { started = started; outside = sym called ∙ none-is call none; whole = (nothing-left left _ _ is_left).0 (tells.0 yes) })),
   (λ quiet. elim quiet [
     | inl stopped ↦ absurd (let t = sym started ∙ stopped in cc)

@@ -77,13 +77,13 @@ stops-by t s v Nothing left hart view going is =
 stops-by t s v FullHistory left hart view going is = going.met_is
 stops-by t s v ClosedGate left hart view going is = going.met_is
 
-pub rested : (t : Task) (s s' : Sitting) (v : HartView) (met : Met) (left : Option (List Op)) → s.actor ≢ Clock → IsActor t.opening s.actor → IsView t.opening s v
+pub rested : (t : Task) (s s' : Sitting) (v : HartView) (met : Met) (left : Option (List Op)) → s.actor ≢ Clock → IsActor t.opening.config s.actor → IsView t.opening s v
     → Goes t s left met → next_choice v met (next_of left) ≡ None → s' ≡ seeing s s'.saw → IsPrefix s.saw s'.saw → WorkedAt t s' met
 rested t s s' v met left hart acting view going is same later =
     worked-later t s s' met same later (record { acting = acting; work = going.work; stopped = stops-by t s v met left hart view going is })
 
 -- its gate closed
-pub closed-going : (t : Task) (s : Sitting) (left : Option (List Op)) → Goes t s left Nothing → t.lets (gate_number t.opening s.actor) s.count false → Goes t s left ClosedGate
+pub closed-going : (t : Task) (s : Sitting) (left : Option (List Op)) → Goes t s left Nothing → t.lets (gate_number t.opening.config s.actor) s.count false → Goes t s left ClosedGate
 closed-going t s left going told = record { work = going.work; left_is = going.left_is; met_is = told }
 
 -- its call is refused, since the history is full
@@ -116,18 +116,18 @@ clock-fresh t s fresh = subst (λ (x : Sitting). IsAtWork t Clock x.count (rever
 
 -- a tick was accepted
 pub clock-done : (t : Task) (s s' : Sitting) (n : ℕ) (reply : Reply) → s.actor ≡ Clock → IsAtWork t Clock s.count (reverse s.saw) → slice_get t.ticks s.count ≡ Some n
-    → t.lets (gate_number t.opening s.actor) s.count true → IsDone t.opening s s' (Tick n) reply → s'.count ≡ s.count + 1 → IsAtWork t Clock s'.count (reverse s'.saw)
+    → t.lets (gate_number t.opening.config s.actor) s.count true → IsDone t.opening s s' (Tick n) reply → s'.count ≡ s.count + 1 → IsAtWork t Clock s'.count (reverse s'.saw)
 clock-done t s s' n reply clock work next told done count =
     rw count rw (saw-then t s s' (Tick n) reply done)
     (work-more t Clock s.count (reverse s.saw) (reverse done.before) (Tick n) reply (event t s s' (Tick n) reply done) (earlier-of s.saw done.before done.later) clock refl refl
-    work (tick-turn t s.count n (reverse s.saw) next) (subst (λ (a : Actor). t.lets (gate_number t.opening a) s.count true) clock told))
+    work (tick-turn t s.count n (reverse s.saw) next) (subst (λ (a : Actor). t.lets (gate_number t.opening.config a) s.count true) clock told))
 
 clock-is : (t : Task) (s : Sitting) (met : Met) → s.actor ≡ Clock → HasWorked t Clock s.count (reverse s.saw) met → WorkedAt t s met
 clock-is t s met clock worked = subst (λ (a : Actor). HasWorked t a s.count (reverse s.saw) met) (sym clock) worked
 
-pub clock-closed : (t : Task) (s : Sitting) → s.actor ≡ Clock → IsAtWork t Clock s.count (reverse s.saw) → t.lets (gate_number t.opening s.actor) s.count false → WorkedAt t s ClosedGate
+pub clock-closed : (t : Task) (s : Sitting) → s.actor ≡ Clock → IsAtWork t Clock s.count (reverse s.saw) → t.lets (gate_number t.opening.config s.actor) s.count false → WorkedAt t s ClosedGate
 clock-closed t s clock work told = clock-is t s ClosedGate clock
-    (record { acting = tt; work = work; stopped = subst (λ (a : Actor). t.lets (gate_number t.opening a) s.count false) clock told })
+    (record { acting = tt; work = work; stopped = subst (λ (a : Actor). t.lets (gate_number t.opening.config a) s.count false) clock told })
 
 pub clock-all : (t : Task) (s : Sitting) → s.actor ≡ Clock → IsAtWork t Clock s.count (reverse s.saw) → s.count ≡ length t.ticks → WorkedAt t s Nothing
 clock-all t s clock work all = clock-is t s Nothing clock (record { acting = tt; work = work; stopped = inl all })

@@ -37,7 +37,7 @@ no-more-whole t Clock n past whole since all (inr (op, r, other, at)) = inr (op,
 
 stopped-whole : (t : Task) (a : Actor) (n : ℕ) (past whole : List Event) (met : Met) → IsSuffix past whole → many_of a whole ≡ n → Stops t a n past met
     → HasStopped t.lets t.opening t.blocks t.ticks whole a met
-stopped-whole t a n past whole ClosedGate since all stops = subst (λ (k : ℕ). t.lets (gate_number t.opening a) k false) (sym all) stops
+stopped-whole t a n past whole ClosedGate since all stops = subst (λ (k : ℕ). t.lets (gate_number t.opening.config a) k false) (sym all) stops
 stopped-whole t a n past whole FullHistory since all (op, at) = (op, at-whole t a n past whole since all (Refuses t.opening t.blocks t.ticks a op HistoryFull) at)
 stopped-whole t a n past whole Nothing since all stops = no-more-whole t a n past whole since all stops
 
@@ -124,18 +124,18 @@ module _ (t : Task) (es : List Event) {A : Type 0} (seat : A → Sitting) (met :
     | inr other ↦ let rest = found a xs (let is = rw other at one in omega arith) all.1 in (rest.0, among rest.0 (met x) (together xs) rest.1, rest.2)
   ]
 
-  some : (x : A) (xs : List A) → AllByRecursion Settled (x ∷ xs) → (a : Actor) × IsActor t.opening a × Share t (reverse es) a (together (x ∷ xs))
+  some : (x : A) (xs : List A) → AllByRecursion Settled (x ∷ xs) → (a : Actor) × IsActor t.opening.config a × Share t (reverse es) a (together (x ∷ xs))
   some x [] all = ((seat x).actor, all.0.worked.acting, subst (Share t (reverse es) (seat x).actor) (sym (alone (met x))) (share-of x all.0))
   some x (y ∷ xs) all = elim (one-of (met x) (together (y ∷ xs))) [
     | inl own ↦ ((seat x).actor, all.0.worked.acting, subst (Share t (reverse es) (seat x).actor) (sym own) (share-of x all.0))
     | inr others ↦ let rest = some y xs all.1 in (rest.0, rest.1, subst (Share t (reverse es) rest.0) (sym others) rest.2)
   ]
 
-  some-of : (xs : List A) → seats_of Clock (map seat xs) ≡ 1 → AllByRecursion Settled xs → (a : Actor) × IsActor t.opening a × Share t (reverse es) a (together xs)
+  some-of : (xs : List A) → seats_of Clock (map seat xs) ≡ 1 → AllByRecursion Settled xs → (a : Actor) × IsActor t.opening.config a × Share t (reverse es) a (together xs)
   some-of [] one all = absurd (omega arith)
   some-of (x ∷ xs) one all = some x xs all
 
-  pub are-threads : (xs : List A) → ((a : Actor) → IsActor t.opening a → seats_of a (map seat xs) ≡ 1) → AllByRecursion Settled xs
+  pub are-threads : (xs : List A) → ((a : Actor) → IsActor t.opening.config a → seats_of a (map seat xs) ≡ 1) → AllByRecursion Settled xs
       → AreThreads t.lets t.opening t.blocks t.ticks (reverse es) (together xs)
   are-threads xs one all = record {
     due = λ a acting. (found a xs (one a acting) all).2.due;

@@ -92,7 +92,7 @@ abbrev Chosen : (off : Bool) → Option HartNow → Option (List Op) → Option 
 Chosen off hart left = if off then None else choice_of hart (next_of left)
 
 module _ (t : Task) (seen : List Event) (left : Option (List Op)) (n : ℕ) where
-  pub turn-by : (a : Actor) (off : Bool) (hart : Option HartNow) (op : Op) → ShowsTo (record { config = t.opening; past = seen }) a hart → off ≡ is_off seen
+  pub turn-by : (a : Actor) (off : Bool) (hart : Option HartNow) (op : Op) → ShowsTo (record { opening = t.opening; past = seen }) a hart → off ≡ is_off t.opening seen
       → Chosen off hart left ≡ Some op → n ≤ many_of a seen → (many_of a seen ≡ n → IsLeftTo t.blocks left seen a)
       → (past : List Event) → IsSuffix seen past → many_of a past ≡ n → IsTurn t.opening t.blocks t.ticks a op past
   turn-by a true hart op shows power is no_fewer left_is past since same = absurd (let e = is in cc)
@@ -108,7 +108,7 @@ module _ (t : Task) (seen : List Event) (left : Option (List Op)) (n : ℕ) wher
         holds = (sym power, record { now = now; guest = next_of left; shows = shows; next = next-is left _ _ (left_is before); first = is });
       }
 
-  pub none-by : (a : Actor) (off : Bool) (hart : Option HartNow) → a ≢ Clock → ShowsTo (record { config = t.opening; past = seen }) a hart → off ≡ is_off seen
+  pub none-by : (a : Actor) (off : Bool) (hart : Option HartNow) → a ≢ Clock → ShowsTo (record { opening = t.opening; past = seen }) a hart → off ≡ is_off t.opening seen
       → Chosen off hart left ≡ None → n ≤ many_of a seen → (many_of a seen ≡ n → IsLeftTo t.blocks left seen a) → SeesNoMore t a n seen
   none-by Clock off hart no-clock shows power is no_fewer left_is = absurd (no-clock refl)
   none-by (Hart h) true hart no-clock shows power is no_fewer left_is =
@@ -146,17 +146,17 @@ module _ (t : Task) (a : Actor) (n : ℕ) (seen before : List Event) (op : Op) (
   one-more : (many_of a (e ∷ before) ≡ n + 1) → many_of a before ≡ n
   one-more same = let more = own-one-more a e before own in omega arith
 
-  pub work-more : IsAtWork t a n seen → HasTurn t a n seen op → t.lets (gate_number t.opening a) n true → IsAtWork t a (n + 1) (e ∷ before)
+  pub work-more : IsAtWork t a n seen → HasTurn t a n seen op → t.lets (gate_number t.opening.config a) n true → IsAtWork t a (n + 1) (e ∷ before)
   work-more work turn let_ = record {
     no_fewer = (let more = own-one-more a e before own in let few = work.no_fewer in let later = no-more a seen before since in omega arith);
     due = λ same.
         let now = one-more same in (
-          (λ is. (subst (λ (k : ℕ). t.lets (gate_number t.opening a) k true) (sym now) let_, subst (λ (o : Op). IsTurn t.opening t.blocks t.ticks a o before) (sym asked) (turn before since now))),
+          (λ is. (subst (λ (k : ℕ). t.lets (gate_number t.opening.config a) k true) (sym now) let_, subst (λ (o : Op). IsTurn t.opening t.blocks t.ticks a o before) (sym asked) (turn before since now))),
           each-later a n seen before since work.no_fewer now (IsDue t.lets t.opening t.blocks t.ticks a) work.due,
         );
   }
 
-  pub going-more : (left left' : Option (List Op)) → IsGoing t a n seen left Nothing → HasTurn t a n seen op → t.lets (gate_number t.opening a) n true
+  pub going-more : (left left' : Option (List Op)) → IsGoing t a n seen left Nothing → HasTurn t a n seen op → t.lets (gate_number t.opening.config a) n true
       → Tells t.blocks op reply left left' → IsGoing t a (n + 1) (e ∷ before) left' Nothing
   going-more left left' going turn let_ tells = record {
     work = work-more going.work turn let_;
@@ -177,9 +177,9 @@ module _ (t : Task) (s s' : Sitting) (op : Op) (reply : Reply) (done : IsDone t.
   saw-then =
       ap reverse done.after
       ∙ reverse-reverse _
-      ∙ ap (λ (r : Result Reply Refusal). (recorded (record { config = t.opening; past = before }) s.actor op r).past) done.answered
+      ∙ ap (λ (r : Result Reply Refusal). (recorded (record { opening = t.opening; past = before }) s.actor op r).past) done.answered
 
-  pub done-going : (left left' : Option (List Op)) → Goes t s left Nothing → HasTurn t s.actor s.count (reverse s.saw) op → t.lets (gate_number t.opening s.actor) s.count true
+  pub done-going : (left left' : Option (List Op)) → Goes t s left Nothing → HasTurn t s.actor s.count (reverse s.saw) op → t.lets (gate_number t.opening.config s.actor) s.count true
       → Tells t.blocks op reply left left' → s'.actor ≡ s.actor → s'.count ≡ s.count + 1 → Goes t s' left' Nothing
   done-going left left' going turn let_ tells actor count =
       rw actor rw count rw saw-then

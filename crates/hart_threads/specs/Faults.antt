@@ -1,7 +1,5 @@
 -- Why there was no run (profile).
 use Rattle.std.specs.Prelude.{ℕ}
-use Rattle.board_core.specs.declared.config.BuildFault.{BuildFault}
-use Rattle.board_core.specs.declared.config.BuildFault.TheVariants as build
 use Rattle.hart_threads.specs.declared.ends.RunFault.{RunFault}
 use Rattle.hart_threads.specs.declared.ends.RunFault.TheVariants.{BadConfig, NoMemory, NoThread}
 
@@ -9,8 +7,3 @@ abbrev pub run_fault_number : RunFault → ℕ
 run_fault_number BadConfig = 1
 run_fault_number NoMemory = 2
 run_fault_number NoThread = 3
-
--- a board that can't be made can't be run
-abbrev pub run_fault : BuildFault → RunFault
-run_fault build.BadConfig = BadConfig
-run_fault build.NoMemory = NoMemory

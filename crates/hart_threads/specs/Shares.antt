@@ -10,6 +10,7 @@ use Rattle.board_core.specs.declared.event.Refusal.{Refusal}
 use Rattle.board_core.specs.declared.event.Refusal.TheVariants.{HistoryFull}
 use Rattle.board_core.specs.Course.{Course}
 use Rattle.board_core.specs.History.{Event}
+use Rattle.board_core.specs.Opening.{Opening}
 use Rattle.board_core.specs.Replies.{answer}
 use Rattle.board_core.specs.Resets.{is_off}
 use Rattle.board_lock.specs.declared.views.HartNow.{HartNow}
@@ -44,10 +45,10 @@ IsNext None done whole = (op : Op) (rest : List Op) → done ++ op ∷ rest ≢ 
 
 -- After these events a thread that looks at hart h chooses this, or nothing: the first row that holds, where its guest is as far
 -- in the block of its last entry as its own events have brought it.
-pub record Chooses (c : Config) (blocks : List Guest) (h : ℕ) (seen : List Event) (choice : Option Op) : Type 0 where
+pub record Chooses (o : Opening) (blocks : List Guest) (h : ℕ) (seen : List Event) (choice : Option Op) : Type 0 where
   pub now : HartNow
   pub guest : Option Op
-  pub shows : Shows (record { config = c; past = seen }) h now
+  pub shows : Shows (record { opening = o; past = seen }) h now
   pub next : IsNext guest (done seen h) (block_of blocks (last_entry seen h))
   pub first : first_choice now guest ≡ choice
 
@@ -59,13 +60,13 @@ pub record Earlier (a : Actor) (past : List Event) (P : List Event → Type 0) :
   pub holds : P seen
 
 -- after these events a hart's thread chooses an operation, with the power on
-abbrev pub Picks : Config → List Guest → ℕ → Op → List Event → Type 0
-Picks c blocks h op seen = (is_off seen ≡ false) × Chooses c blocks h seen (Some op)
+abbrev pub Picks : Opening → List Guest → ℕ → Op → List Event → Type 0
+Picks o blocks h op seen = (is_off o seen ≡ false) × Chooses o blocks h seen (Some op)
 
 -- An operation is its actor's turn: a hart chose it when it looked last, and the clock's is the next of its ticks.
-abbrev pub IsTurn : Config → List Guest → (ticks : List ℕ) → Actor → Op → List Event → Type 0
-IsTurn c blocks ticks (Hart h) op past = Earlier (Hart h) past (Picks c blocks h op)
-IsTurn c blocks ticks Clock op past = (n : ℕ) × (slice_get ticks (many_of Clock past) ≡ Some n) × (op ≡ Tick n)
+abbrev pub IsTurn : Opening → List Guest → (ticks : List ℕ) → Actor → Op → List Event → Type 0
+IsTurn o blocks ticks (Hart h) op past = Earlier (Hart h) past (Picks o blocks h op)
+IsTurn o blocks ticks Clock op past = (n : ℕ) × (slice_get ticks (many_of Clock past) ≡ Some n) × (op ≡ Tick n)
 
 -- an actor's number, as a gate is told: a hart's id, and after those the clock's
 abbrev pub gate_number : Config → Actor → ℕ
@@ -73,47 +74,47 @@ gate_number c (Hart h) = h
 gate_number c Clock = c.harts
 
 -- An event was let by the gate, and was its actor's turn.
-abbrev pub IsDue : (lets : ℕ → ℕ → Bool → Type 0) → Config → List Guest → (ticks : List ℕ) → Actor → Event → List Event → Type 0
-IsDue lets c blocks ticks a e past = lets (gate_number c a) (many_of a past) true × IsTurn c blocks ticks a e.op past
+abbrev pub IsDue : (lets : ℕ → ℕ → Bool → Type 0) → Opening → List Guest → (ticks : List ℕ) → Actor → Event → List Event → Type 0
+IsDue lets o blocks ticks a e past = lets (gate_number o.config a) (many_of a past) true × IsTurn o blocks ticks a e.op past
 
 -- ---- why it did no more
 
 -- an operation that was its actor's turn was refused after these events
-abbrev pub Refuses : Config → List Guest → (ticks : List ℕ) → Actor → Op → Refusal → List Event → Type 0
-Refuses c blocks ticks a op r seen = IsTurn c blocks ticks a op seen × (answer c seen a op ≡ Err r)
+abbrev pub Refuses : Opening → List Guest → (ticks : List ℕ) → Actor → Op → Refusal → List Event → Type 0
+Refuses o blocks ticks a op r seen = IsTurn o blocks ticks a op seen × (answer o seen a op ≡ Err r)
 
 -- after these events a hart's thread chooses nothing, or the power is off
-abbrev pub ChoosesNone : Config → List Guest → ℕ → List Event → Type 0
-ChoosesNone c blocks h seen = (is_off seen ≡ true) ⊎ Chooses c blocks h seen None
+abbrev pub ChoosesNone : Opening → List Guest → ℕ → List Event → Type 0
+ChoosesNone o blocks h seen = (is_off o seen ≡ true) ⊎ Chooses o blocks h seen None
 
 -- The gate answered the actor's last question false.
-abbrev pub IsClosed : (lets : ℕ → ℕ → Bool → Type 0) → Config → List Event → Actor → Type 0
-IsClosed lets c past a = lets (gate_number c a) (many_of a past) false
+abbrev pub IsClosed : (lets : ℕ → ℕ → Bool → Type 0) → Opening → List Event → Actor → Type 0
+IsClosed lets o past a = lets (gate_number o.config a) (many_of a past) false
 
 -- An operation that was the actor's turn was refused, since the history was full.
-abbrev pub HasMetFull : Config → List Guest → (ticks : List ℕ) → List Event → Actor → Type 0
-HasMetFull c blocks ticks past a = (op : Op) × Earlier a past (Refuses c blocks ticks a op HistoryFull)
+abbrev pub HasMetFull : Opening → List Guest → (ticks : List ℕ) → List Event → Actor → Type 0
+HasMetFull o blocks ticks past a = (op : Op) × Earlier a past (Refuses o blocks ticks a op HistoryFull)
 
 -- A hart's thread chose nothing when it looked last. The clock's did all ticks, or the next one was refused for another cause than
 -- a full history.
-abbrev pub HasNoMore : Config → List Guest → (ticks : List ℕ) → List Event → Actor → Type 0
-HasNoMore c blocks ticks past (Hart h) = Earlier (Hart h) past (ChoosesNone c blocks h)
-HasNoMore c blocks ticks past Clock =
+abbrev pub HasNoMore : Opening → List Guest → (ticks : List ℕ) → List Event → Actor → Type 0
+HasNoMore o blocks ticks past (Hart h) = Earlier (Hart h) past (ChoosesNone o blocks h)
+HasNoMore o blocks ticks past Clock =
     (many_of Clock past ≡ length ticks)
-    ⊎ ((op : Op) × (r : Refusal) × (r ≢ HistoryFull) × Earlier Clock past (Refuses c blocks ticks Clock op r))
+    ⊎ ((op : Op) × (r : Refusal) × (r ≢ HistoryFull) × Earlier Clock past (Refuses o blocks ticks Clock op r))
 
 -- Why an actor's thread did no more, by what it met.
-abbrev pub HasStopped : (lets : ℕ → ℕ → Bool → Type 0) → Config → List Guest → (ticks : List ℕ) → List Event → Actor → Met → Type 0
-HasStopped lets c blocks ticks past a ClosedGate = IsClosed lets c past a
-HasStopped lets c blocks ticks past a FullHistory = HasMetFull c blocks ticks past a
-HasStopped lets c blocks ticks past a Nothing = HasNoMore c blocks ticks past a
+abbrev pub HasStopped : (lets : ℕ → ℕ → Bool → Type 0) → Opening → List Guest → (ticks : List ℕ) → List Event → Actor → Met → Type 0
+HasStopped lets o blocks ticks past a ClosedGate = IsClosed lets o past a
+HasStopped lets o blocks ticks past a FullHistory = HasMetFull o blocks ticks past a
+HasStopped lets o blocks ticks past a Nothing = HasNoMore o blocks ticks past a
 
 -- What threads did that met this together: each event was due, each thread stopped for what it met, and one of them met what
 -- all met together.
-pub record AreThreads (lets : ℕ → ℕ → Bool → Type 0) (c : Config) (blocks : List Guest) (ticks : List ℕ) (past : List Event) (met : Met) : Type 0 where
-  pub due : (a : Actor) → IsActor c a → EachOf (IsDue lets c blocks ticks a) a past
-  pub stopped : (a : Actor) → IsActor c a → (m : Met) × (met_by_both m met ≡ met) × HasStopped lets c blocks ticks past a m
-  pub met_by : (a : Actor) × IsActor c a × HasStopped lets c blocks ticks past a met
+pub record AreThreads (lets : ℕ → ℕ → Bool → Type 0) (o : Opening) (blocks : List Guest) (ticks : List ℕ) (past : List Event) (met : Met) : Type 0 where
+  pub due : (a : Actor) → IsActor o.config a → EachOf (IsDue lets o blocks ticks a) a past
+  pub stopped : (a : Actor) → IsActor o.config a → (m : Met) × (met_by_both m met ≡ met) × HasStopped lets o blocks ticks past a m
+  pub met_by : (a : Actor) × IsActor o.config a × HasStopped lets o blocks ticks past a met
 
 -- A run in which the history was full for a thread ends neither quiet nor stuck: with that, or with what comes before it.
 abbrev pub IsOverFull : End → Type 0
@@ -121,11 +122,11 @@ IsOverFull end = (end ≢ ends.Quiet) × (end ≢ ends.Stuck)
 
 -- What threads did whose run ended so: each event of an actor was due; it did no more since its gate closed, which ends the
 -- run, or since the history was full, or since there was no more; and a run that ended with either has a thread that met it.
-pub record IsRun (lets : ℕ → ℕ → Bool → Type 0) (c : Config) (blocks : List Guest) (ticks : List ℕ) (past : List Event) (end : End) : Type 0 where
-  pub due : (a : Actor) → IsActor c a → EachOf (IsDue lets c blocks ticks a) a past
-  pub stopped : (a : Actor) → IsActor c a →
-      (IsClosed lets c past a × (end ≡ GateLimit))
-      ⊎ (HasMetFull c blocks ticks past a × IsOverFull end)
-      ⊎ HasNoMore c blocks ticks past a
-  pub closed : end ≡ GateLimit → (a : Actor) × IsActor c a × IsClosed lets c past a
-  pub full : end ≡ ends.HistoryFull → (a : Actor) × IsActor c a × HasMetFull c blocks ticks past a
+pub record IsRun (lets : ℕ → ℕ → Bool → Type 0) (o : Opening) (blocks : List Guest) (ticks : List ℕ) (past : List Event) (end : End) : Type 0 where
+  pub due : (a : Actor) → IsActor o.config a → EachOf (IsDue lets o blocks ticks a) a past
+  pub stopped : (a : Actor) → IsActor o.config a →
+      (IsClosed lets o past a × (end ≡ GateLimit))
+      ⊎ (HasMetFull o blocks ticks past a × IsOverFull end)
+      ⊎ HasNoMore o blocks ticks past a
+  pub closed : end ≡ GateLimit → (a : Actor) × IsActor o.config a × IsClosed lets o past a
+  pub full : end ≡ ends.HistoryFull → (a : Actor) × IsActor o.config a × HasMetFull o blocks ticks past a

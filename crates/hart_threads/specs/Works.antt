@@ -9,6 +9,7 @@ use Rattle.board_core.specs.declared.event.Op.{Op}
 use Rattle.board_core.specs.declared.event.Refusal.{Refusal}
 use Rattle.board_core.specs.declared.event.Refusal.TheVariants.{HistoryFull}
 use Rattle.board_core.specs.History.{Event}
+use Rattle.board_core.specs.Opening.{Opening}
 use Rattle.board_lock.specs.Events.{IsActor}
 use Rattle.board_lock.specs.Seats.{Sitting, sitting}
 use Rattle.guest_script.specs.Grammar.{Guest}
@@ -20,11 +21,11 @@ use Rattle.hart_threads.specs.Shares.{ChoosesNone, EachOf, IsDue, IsTurn, Refuse
 -- what a run has its threads do: its gate's answers, its board's opening, its guests' blocks and its clock's ticks
 pub record Task : Type 1 where
   pub lets : ℕ → ℕ → Bool → Type 0
-  pub opening : Config
+  pub opening : Opening
   pub blocks : List Guest
   pub ticks : List ℕ
 
-abbrev pub task : (ℕ → ℕ → Bool → Type 0) → Config → List Guest → List ℕ → Task
+abbrev pub task : (ℕ → ℕ → Bool → Type 0) → Opening → List Guest → List ℕ → Task
 task lets opening blocks ticks = record { lets = lets; opening = opening; blocks = blocks; ticks = ticks }
 
 -- A seat counts n events of actor a, and saw this past: after a beginning of it with no fewer of them, this holds if there are
@@ -44,7 +45,7 @@ SeesNoMore t Clock n past =
 
 -- and by what it met
 abbrev pub Stops : Task → Actor → (n : ℕ) → List Event → Met → Type 0
-Stops t a n past ClosedGate = t.lets (gate_number t.opening a) n false
+Stops t a n past ClosedGate = t.lets (gate_number t.opening.config a) n false
 Stops t a n past FullHistory = (op : Op) × At a n past (Refuses t.opening t.blocks t.ticks a op HistoryFull)
 Stops t a n past Nothing = SeesNoMore t a n past
 
@@ -72,7 +73,7 @@ pub record IsGoing (t : Task) (a : Actor) (n : ℕ) (past : List Event) (left : 
 
 -- The thread has done its work, and stopped for what it met.
 pub record HasWorked (t : Task) (a : Actor) (n : ℕ) (past : List Event) (met : Met) : Type 0 where
-  pub acting : IsActor t.opening a
+  pub acting : IsActor t.opening.config a
   pub work : IsAtWork t a n past
   pub stopped : Stops t a n past met
 

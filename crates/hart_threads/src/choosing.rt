@@ -1,6 +1,6 @@
 ghost use Rattle.std.specs.Prelude.{◌≡◌, ℕ, List, IfSome, None};
-ghost use Rattle.board_core.specs.declared.config.Config.{Config};
 ghost use Rattle.board_core.specs.History.{Event};
+ghost use Rattle.board_core.specs.Opening.{Opening};
 ghost use Rattle.board_core.specs.Refusals.{IsAccepted, Situation, situation};
 ghost use Rattle.board_core.specs.Replies.{IsLegal};
 ghost use Rattle.hart_threads.specs.Choices.{HasNothing, Sees, first_choice, goes};
@@ -15,7 +15,7 @@ use board_lock::HartNow;
 pub(crate) fn choice(now: &HartNow, guest: Option<Op>) -> Option<Op>
     ensures exact { result ≡ first_choice now.now guest }
     ensures happens { (s : Situation) → Sees s now.now → IfSome result (λ op. IsAccepted op s) }
-    ensures rests { (c : Config) (past : List Event) (h : ℕ) → IsLegal c past → Sees (situation c past h) now.now → result ≡ None → HasNothing guest (situation c past h) }
+    ensures rests { (o : Opening) (past : List Event) (h : ℕ) → IsLegal o past → Sees (situation o past h) now.now → result ≡ None → HasNothing guest (situation o past h) }
 {
     if now.waiting > 0 && now.state.is_interruptible() {
         return Some(Op::Serve);

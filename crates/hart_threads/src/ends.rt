@@ -1,8 +1,8 @@
 ghost use Rattle.std.specs.Prelude.{◌≡◌};
-ghost use Rattle.hart_threads.specs.Faults.{run_fault, run_fault_number};
+ghost use Rattle.hart_threads.specs.Faults.{run_fault_number};
 ghost use Rattle.hart_threads.specs.declared.ends.RunFault.TheVariants.{NoMemory};
 
-use board_core::{Board, BuildFault};
+use board_core::Board;
 use std::alloc::AllocError;
 use thiserror::Error;
 
@@ -53,17 +53,6 @@ impl RunFault {
             RunFault::BadConfig => 1,
             RunFault::NoMemory => 2,
             RunFault::NoThread => 3,
-        }
-    }
-}
-
-impl From<BuildFault> for RunFault {
-    ghost from_gives = { λ fault run. run ≡ run_fault fault };
-
-    fn from(fault: BuildFault) -> RunFault {
-        match fault {
-            BuildFault::BadConfig => RunFault::BadConfig,
-            BuildFault::NoMemory => RunFault::NoMemory,
         }
     }
 }

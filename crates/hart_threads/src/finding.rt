@@ -13,8 +13,8 @@ use std::alloc::{AllocError, Global};
 /// How the run of a board ended, by its history and what its guests had to do; of the threads' word only what can't be seen
 /// there is taken: whether a gate ended one, and whether one met a full history.
 pub fn end_of(alloc: Global, board: &Board, blocks: &[Block], met: Met) -> Result<End, AllocError>
-    ensures end { IfOk result (λ end. IsEnd end board.now.config board.now.past (map guest blocks.now)) }
-    ensures by { IfOk result (λ end. IsEndBy met board.now.config board.now.past (map guest blocks.now) end) }
+    ensures end { IfOk result (λ end. IsEnd end board.now.opening board.now.past (map guest blocks.now)) }
+    ensures by { IfOk result (λ end. IsEndBy met board.now.opening board.now.past (map guest blocks.now) end) }
 {
     if met == Met::ClosedGate {
         return Ok(End::GateLimit);
@@ -38,7 +38,7 @@ fn guests_after<'a>(
     board: &Board,
     blocks: &'a [Block],
 ) -> Result<Vec<Guest<'a>>, AllocError>
-    ensures many { IfOk result (λ v. length v.items ≡ board.now.config.harts) }
+    ensures many { IfOk result (λ v. length v.items ≡ board.now.opening.config.harts) }
     ensures left { IfOk result (λ v. AllLeft (map guest blocks.now) v.items board.now.past) }
 {
     let mut guests = vec![in alloc; Guest::new(); board.config().harts as usize]?;
@@ -62,10 +62,10 @@ fn see<'a>(guests: &mut [Guest<'a>], blocks: &'a [Block], event: &Event)
 
 /// The first hart that isn't quiet, if there is one.
 fn first_unquiet(board: &Board, blocks: &[Block], guests: &[Guest<'_>]) -> Option<u64>
-    requires many { length guests.now ≡ board.now.config.harts }
+    requires many { length guests.now ≡ board.now.opening.config.harts }
     requires left { AllLeft (map guest blocks.now) guests.now board.now.past }
-    ensures { MatchOption result (AreQuiet board.now.config board.now.past (map guest blocks.now))
-        (λ h. (h < board.now.config.harts) × ¬ IsQuiet board.now.config board.now.past (map guest blocks.now) h) }
+    ensures { MatchOption result (AreQuiet board.now.opening board.now.past (map guest blocks.now))
+        (λ h. (h < board.now.opening.config.harts) × ¬ IsQuiet board.now.opening board.now.past (map guest blocks.now) h) }
 {
     for (h, found) in guests.iter().enumerate() {
         if !is_quiet(board, blocks, h as u64, found) {
@@ -77,9 +77,9 @@ fn first_unquiet(board: &Board, blocks: &[Block], guests: &[Guest<'_>]) -> Optio
 
 /// Whether a hart is STOPPED, or STARTED, outside of a fence call and with its block done.
 fn is_quiet(board: &Board, blocks: &[Block], h: u64, found: &Guest<'_>) -> bool
-    requires hart { h < board.now.config.harts }
+    requires hart { h < board.now.opening.config.harts }
     requires left { IsLeft (map guest blocks.now) (left_of found.now) board.now.past h }
-    ensures { (result ≡ true) ↔ IsQuiet board.now.config board.now.past (map guest blocks.now) h }
+    ensures { (result ≡ true) ↔ IsQuiet board.now.opening board.now.past (map guest blocks.now) h }
 {
     match board.state(h) {
         HartState::Stopped => true,

@@ -26,7 +26,7 @@ pub(crate) fn follow<K: Plan, G: Gate, R: Wait>(
     seat: Seat<K>,
 ) -> Worked<K>
     requires hart { seat.actor ≢ Clock }
-    requires acting { IsActor K.opening seat.actor }
+    requires acting { IsActor K.opening.config seat.actor }
     requires fresh { seat ≡ sitting seat.actor 0 [] [] }
     requires gate { IsGate (G.lets work.now.gate.now) K.lets }
     ensures actor { result.seat.actor ≡ seat.actor }

@@ -2,6 +2,7 @@
 #![tactic(auto)]
 
 mod blocks;
+mod boards;
 mod choosing;
 mod clock;
 mod ends;
@@ -16,6 +17,7 @@ mod starting;
 mod work;
 
 pub use blocks::{Program, block_at, program_in};
+pub use boards::new_board;
 pub use ends::{End, RunEnd, RunFault};
 pub use finding::end_of;
 pub use gate::{Gate, Open};

@@ -1,8 +1,10 @@
 ghost use Rattle.std.specs.Prelude.{◌≡◌, ◌↔◌, All, IfOk, IsErrOf, map};
 ghost use Rattle.board_core.specs.declared.event.Actor.TheVariants.{Clock};
 ghost use Rattle.board_core.specs.Limits.{IsGood};
+ghost use Rattle.board_core.specs.Opening.{opening_at};
 ghost use Rattle.board_core.specs.Replies.{IsLegal};
 ghost use Rattle.board_lock.specs.Events.{events_in, ops_of};
+ghost use Rattle.board_lock.specs.Seats.{new_seats};
 ghost use Rattle.guest_script.specs.Grammar.{content, guest};
 ghost use Rattle.hart_threads.specs.Ends.{IsEnd};
 ghost use Rattle.hart_threads.specs.Met.{met_by_all};
@@ -19,7 +21,7 @@ use crate::met::Met;
 use crate::plans::Plan;
 use crate::starting::work_all;
 use crate::work::{Work, Worked};
-use board_core::Board;
+use board_core::{Board, BuildFault};
 use board_lock::{NewRoom, Seat, SharedBoard};
 use guest_script::Script;
 use std::alloc::{AllocError, Global};
@@ -36,11 +38,11 @@ pub fn run<G: Gate + Sync, R: AllocGlobal + Threads + Wait + Sync>(
 ) -> Result<RunEnd, RunFault>
     requires { IsProgram (content script.now.body) }
     ensures bad { IsErrOf result BadConfig ↔ ¬ IsGood script.now.config }
-    ensures opening { IfOk result (λ run. run.board.config ≡ script.now.config) }
-    ensures legal { IfOk result (λ run. IsLegal run.board.config run.board.past) }
+    ensures opening { IfOk result (λ run. run.board.opening ≡ opening_at script.now.config) }
+    ensures legal { IfOk result (λ run. IsLegal run.board.opening run.board.past) }
     ensures ticks { IfOk result (λ run. AreFirst (ticks_of (content script.now.body)) (ops_of Clock (events_in run.board))) }
-    ensures end { IfOk result (λ run. IsEnd run.end run.board.config run.board.past (blocks_of (content script.now.body))) }
-    ensures threads { IfOk result (λ run. IsRun (G.lets gate.now) run.board.config (blocks_of (content script.now.body))
+    ensures end { IfOk result (λ run. IsEnd run.end run.board.opening run.board.past (blocks_of (content script.now.body))) }
+    ensures threads { IfOk result (λ run. IsRun (G.lets gate.now) run.board.opening (blocks_of (content script.now.body))
         (ticks_of (content script.now.body)) run.board.past run.end) }
 {
     let program = program_in(&script.body);
@@ -57,17 +59,17 @@ fn run_in<K: Plan + Send + Sync, G: Gate + Sync, R: AllocGlobal + Threads + Wait
     program: Program<'_>,
     gate: &G,
 ) -> Result<(Board, Met), RunFault>
-    requires room { (room.opening ≡ K.opening) × (room.log ≡ K.log) }
+    requires room { (K.opening ≡ opening_at room.config) × (room.log ≡ K.log) }
     requires ledger { (room.ledger ≡ K.name) × (room.parts ≡ K.parts) × (K.all ≡ K.parts) }
     requires ticks { program.ticks.now ≡ K.ticks }
     requires blocks { map guest program.blocks.now ≡ K.blocks }
     requires gate { IsGate (G.lets gate.now) K.lets }
-    ensures bad { IsErrOf result BadConfig ↔ ¬ IsGood K.opening }
-    ensures opening { IfOk result (λ r. r.0.config ≡ K.opening) }
+    ensures bad { IsErrOf result BadConfig ↔ ¬ IsGood K.opening.config }
+    ensures opening { IfOk result (λ r. r.0.opening ≡ K.opening) }
     ensures ticks { IfOk result (λ r. AreFirst K.ticks (ops_of Clock (events_in r.0))) }
     ensures threads { IfOk result (λ r. AreThreads K.lets K.opening K.blocks K.ticks r.0.past r.1) }
 {
-    let (board, seats) = SharedBoard::<K>::open(rt.alloc(), room)?;
+    let (board, seats) = opened::<K>(rt.alloc(), room)?;
     let work = Work {
         board: &board,
         gate,
@@ -79,6 +81,22 @@ fn run_in<K: Plan + Send + Sync, G: Gate + Sync, R: AllocGlobal + Threads + Wait
     match board.close(seats) {
         Ok(record) => Ok((record.into_board(), met)),
         Err(_) => unreachable!(),
+    }
+}
+
+/// The board of a room behind its lock, and its seats.
+fn opened<K: Plan>(alloc: Global, room: NewRoom) -> Result<(SharedBoard<K>, Vec<Seat<K>>), RunFault>
+    requires room { (K.opening ≡ opening_at room.config) × (room.log ≡ K.log) }
+    requires ledger { (room.ledger ≡ K.name) × (room.parts ≡ K.parts) × (K.all ≡ K.parts) }
+    ensures bad { IsErrOf result BadConfig ↔ ¬ IsGood K.opening.config }
+    ensures seats { IfOk result (λ r. r.1.items ≡ new_seats K.opening.config) }
+{
+    match SharedBoard::open(alloc, room) {
+        Ok(opened) => Ok(opened),
+        Err(BuildFault::BadConfig) => Err(RunFault::BadConfig),
+        Err(BuildFault::NoMemory) => Err(RunFault::NoMemory),
+        // (no history is cut here)
+        Err(BuildFault::CutFull) => unreachable!(),
     }
 }
 

@@ -31,7 +31,7 @@ pub(crate) fn work_all<
     G: Gate + Sync,
     R: AllocGlobal + Threads + Wait + Sync,
 >(rt: &R, work: &Work<'_, K, G>, seats: Vec<Seat<K>>) -> Result<Vec<Worked<K>>, RunFault>
-    requires fresh { All (IsFresh K.opening) seats.items }
+    requires fresh { All (IsFresh K.opening.config) seats.items }
     requires gate { IsGate (G.lets work.now.gate.now) K.lets }
     ensures seats { IfOk result (λ all. map (λ worked. worked.seat.actor) all.items ≡ map (λ seat. seat.actor) seats.items) }
     ensures worked { IfOk result (λ all.
@@ -42,7 +42,7 @@ pub(crate) fn work_all<
         thread::scope_env(),
         rt,
         |scope| -> Result<Vec<Worked<K>>, RunFault>
-            requires fresh { All (IsFresh K.opening) seats.items }
+            requires fresh { All (IsFresh K.opening.config) seats.items }
             requires gate { IsGate (G.lets work.now.gate.now) K.lets }
             ensures board { ¬ IsErrOf result BadConfig }
             ensures seats { IfOk result (λ all. map (λ worked. worked.seat.actor) all.items ≡ map (λ seat. seat.actor) seats.items) }
@@ -54,7 +54,7 @@ pub(crate) fn work_all<
                 let Ok(thread) = scope.spawn_with(
                     SeatOf(seat.actor()),
                     move ||
-                        requires fresh { IsFresh K.opening seat }
+                        requires fresh { IsFresh K.opening.config seat }
                         requires gate { IsGate (G.lets work.now.gate.now) K.lets }
                     { work_at(rt, work, seat) },
                 ) else {
@@ -76,7 +76,7 @@ pub(crate) fn work_all<
 
 /// The work of a seat's thread.
 fn work_at<K: Plan, G: Gate, R: Wait>(rt: &R, work: &Work<'_, K, G>, seat: Seat<K>) -> Worked<K>
-    requires fresh { IsFresh K.opening seat }
+    requires fresh { IsFresh K.opening.config seat }
     requires gate { IsGate (G.lets work.now.gate.now) K.lets }
     ensures actor { result.seat.actor ≡ seat.actor }
     ensures worked { WorkedAt (task K.lets K.opening K.blocks K.ticks) result.seat result.met }

@@ -22,14 +22,14 @@ pub(crate) struct Work<'a, K: Plan, G: Gate> {
     pub(crate) harts: u64,
     ghost planned: { program.ticks.now ≡ K.ticks },
     ghost blocked: { map guest program.blocks.now ≡ K.blocks },
-    ghost counted: { harts ≡ K.opening.harts },
+    ghost counted: { harts ≡ K.opening.config.harts },
 }
 
 impl<'a, K: Plan, G: Gate> Work<'a, K, G> {
     /// Whether the gate lets the seat's actor go on. No lock is held.
     pub(crate) fn is_let(&self, seat: &Seat<K>) -> bool
         requires { IsGate (G.lets self.now.gate.now) K.lets }
-        ensures { K.lets (gate_number K.opening seat.now.actor) seat.now.count result }
+        ensures { K.lets (gate_number K.opening.config seat.now.actor) seat.now.count result }
     {
         let number = match seat.actor() {
             Actor::Hart(h) => h,

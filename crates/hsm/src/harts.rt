@@ -50,6 +50,20 @@ impl Hsm {
         })
     }
 
+    /// States that are equal to these. It fails where memory runs out.
+    pub fn try_copy(&self, alloc: Global) -> Result<Hsm, AllocError>
+        ensures { IfOk result (λ copy. copy ≡ self.now) }
+    {
+        let mut phases = Vec::with_capacity(alloc, self.phases.len())?;
+        for phase in &self.phases {
+            phases.push_reserved(*phase);
+        }
+        Ok(Hsm {
+            phases,
+            interruptible: self.interruptible,
+        })
+    }
+
     /// Starts hart `t`, which is to begin at `addr` with `opaque` in a1 (SBI 9.1). A hart that isn't STOPPED is
     /// refused, and left as it is.
     pub fn start(&mut self, t: u64, addr: u64, opaque: u64) -> Result<(), AlreadyAvailable>

@@ -47,6 +47,20 @@ impl Ahead {
         }
     }
 
+    /// The same deadlines.
+    pub fn copied(&self) -> Ahead
+        ensures { result ≡ self.now }
+    {
+        let mut members = ArrayVec::new();
+        let Ok(()) = members.try_extend_from_slice(&self.members) else {
+            unreachable!()
+        };
+        Ahead {
+            members,
+            start: self.start,
+        }
+    }
+
     /// One deadline more.
     pub fn insert(&mut self, deadline: u64, hart: u64)
         requires { length self.old < 128 }

@@ -65,6 +65,22 @@ impl Timers {
         })
     }
 
+    /// A time and deadlines that are equal to these. It fails where memory runs out.
+    pub fn try_copy(&self, alloc: Global) -> Result<Timers, AllocError>
+        ensures { IfOk result (λ copy. copy ≡ self.now) }
+    {
+        let mut deadlines = Vec::with_capacity(alloc, self.deadlines.len())?;
+        for deadline in &self.deadlines {
+            deadlines.push_reserved(*deadline);
+        }
+        Ok(Timers {
+            time: self.time,
+            deadlines,
+            ahead: self.ahead.copied(),
+            due: self.due,
+        })
+    }
+
     /// The deadline of hart `h` becomes this time in ticks, whatever it was (SBI 6.1). Afterwards its timer
     /// interrupt is pending exactly where the new deadline is due.
     pub fn set(&mut self, h: u64, deadline: u64)

@@ -2,25 +2,29 @@
 //! holds of every schedule alone, and its file stdout has all that it must print.
 //!
 //! With the words `HARTS CALLS sip` or `HARTS CALLS ipi` it does no row: so many of eight harts read sip so often, or send
-//! IPIs to all, and it prints how long that took. `bench/lock.py` runs it so.
+//! IPIs to all, and it prints how long that took. `bench/lock.py` runs it so. With the words `HARTS CALLS parts PARTS` it does
+//! one row: so many harts read sip so often in each of so many parts of one board's history, which are split off.
 #![tactic(auto)]
 
 ghost use Rattle.std.specs.Prelude.{◌≡◌};
+ghost use Rattle.board_core.specs.Opening.{opening_at};
 
 mod closing;
 mod many;
+mod parting;
 mod record;
 mod resting;
 mod seen;
 mod single;
+mod splitting;
 mod working;
 
 use crate::closing::closed;
+use crate::parting::{Parts, go_on};
 use crate::seen::{Noted, Seen, Why};
 use crate::working::{Work, ipi};
 use board_core::{Config, Op, USUAL_ASID_LEN, USUAL_WIDTH};
 use board_lock::{NewRoom, Receipt, Room, Seat, SharedBoard};
-use std::alloc::Global;
 use std::marker::Brand;
 use std::rt::Env;
 use std::sync::Wait;
@@ -32,6 +36,7 @@ use std::{env, io};
 #[derive(Clone, Copy, Debug)]
 enum Row {
     LockReceipts,
+    RecordSplit,
     SeatsMissing,
     IpiStorm,
     AllFence,
@@ -39,9 +44,17 @@ enum Row {
     Repeat { harts: u64, calls: u64, op: Op },
 }
 
+/// Five parts of a board's history, of which the limit has room for one.
+const PARTS: Parts = Parts {
+    parts: 5,
+    harts: 4,
+    calls: 20,
+};
+
 /// The rows: the harts of a board, the limit of its history, and what is done on it.
-const ROWS: [(u64, u64, Row); 9] = [
+const ROWS: [(u64, u64, Row); 10] = [
     (1, 10, Row::LockReceipts),
+    (1, 10, Row::RecordSplit),
     (2, 3, Row::SeatsMissing),
     (8, 1000, Row::IpiStorm),
     (4, 10, Row::EndOfRests),
@@ -54,6 +67,9 @@ const ROWS: [(u64, u64, Row); 9] = [
 
 fn main(rt: HostRuntime) -> io::Result<()> {
     let words = env::args(&rt)?.collect::<Vec<String>>(rt.alloc())?;
+    if let Some(todo) = parts_asked(&words) {
+        return show_parts(&rt, &board(8, 1_000_000), todo);
+    }
     match asked(&words) {
         Some(row) => show(&rt, &board(8, 1_000_000), row),
         None => show_rows(&rt),
@@ -77,11 +93,26 @@ fn asked(words: &[String]) -> Option<Row> {
     })
 }
 
+/// The parts that the words ask for.
+fn parts_asked(words: &[String]) -> Option<Parts> {
+    let [_, harts, calls, word, parts] = words else {
+        return None;
+    };
+    if word.as_str() != "parts" {
+        return None;
+    }
+    Some(Parts {
+        parts: parts.parse().ok()?,
+        harts: harts.parse().ok()?,
+        calls: calls.parse().ok()?,
+    })
+}
+
 fn show_rows<R: AllocGlobal + Clock + Print + Threads + Wait + Sync>(rt: &R) -> io::Result<()> {
     for (harts, limit, row) in ROWS {
         show(rt, &board(harts, limit), row)?;
     }
-    Ok(())
+    show_parts(rt, &board(4, 100), PARTS)
 }
 
 /// A board of one page, whose hart 0 is the boot hart.
@@ -110,6 +141,18 @@ fn show<R: AllocGlobal + Clock + Print + Threads + Wait + Sync>(
     }
 }
 
+/// Has a board go on for so many parts, and prints what was seen.
+fn show_parts<R: AllocGlobal + Print + Threads + Wait + Sync>(
+    rt: &R,
+    config: &Config,
+    todo: Parts,
+) -> io::Result<()> {
+    match go_on(rt, config, todo) {
+        Ok(seen) => println!(rt; "{} parts on {} harts: {seen:?}", todo.parts, config.harts),
+        Err(why) => println!(rt; "{} parts on {} harts: {why}", todo.parts, config.harts),
+    }
+}
+
 /// Opens a board behind a lock, in a room of its own, and does the row on it.
 fn done<R: AllocGlobal + Clock + Threads + Wait + Sync>(
     rt: &R,
@@ -126,7 +169,7 @@ fn in_room<K: Room + Send + Sync, R: AllocGlobal + Clock + Threads + Wait + Sync
     config: &Config,
     row: Row,
 ) -> Result<Seen, Why>
-    requires room { (room.opening ≡ K.opening) × (room.log ≡ K.log) }
+    requires room { (K.opening ≡ opening_at room.config) × (room.log ≡ K.log) }
     requires ledger { (room.ledger ≡ K.name) × (room.parts ≡ K.parts) × (K.all ≡ K.parts) }
 {
     let (shared, seats) = SharedBoard::<K>::open(rt.alloc(), room)?;
@@ -146,7 +189,7 @@ fn do_row<K: Room + Send + Sync, R: AllocGlobal + Clock + Threads + Wait + Sync>
     let mut seats = seats;
     let mut receipts = Vec::new(rt.alloc());
     let noted = work(rt, &shared, &mut seats, &mut receipts, row)?;
-    end(rt.alloc(), config, shared, seats, &receipts, &noted)
+    end(rt, config, shared, seats, &receipts, &noted)
 }
 
 /// What comes before the close.
@@ -159,6 +202,10 @@ fn work<K: Room + Send + Sync, R: AllocGlobal + Clock + Threads + Wait + Sync>(
 ) -> Result<Noted, Why> {
     match row {
         Row::LockReceipts => single::calls(rt, shared, seats, receipts),
+        Row::RecordSplit => {
+            single::calls(rt, shared, seats, receipts)?;
+            Ok(Noted::Split)
+        }
         Row::SeatsMissing => Ok(Noted::Closes),
         Row::IpiStorm => many::storm(rt, shared, seats, receipts, Work::SendIpis),
         Row::AllFence => many::storm(rt, shared, seats, receipts, Work::Fence),
@@ -171,8 +218,8 @@ fn work<K: Room + Send + Sync, R: AllocGlobal + Clock + Threads + Wait + Sync>(
 }
 
 /// The close, and what the record says.
-fn end<K: Room>(
-    alloc: Global,
+fn end<K: Room, R: AllocGlobal + Wait>(
+    rt: &R,
     config: &Config,
     shared: SharedBoard<K>,
     seats: Vec<Seat<K>>,
@@ -182,5 +229,5 @@ fn end<K: Room>(
     requires { K.all ≡ K.parts }
 {
     let (record, back) = closed(shared, seats, noted.lacking())?;
-    Seen::of(alloc, config, &record, receipts, noted, back)
+    Seen::of(rt, config, record, receipts, noted, back)
 }

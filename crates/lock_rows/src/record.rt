@@ -32,7 +32,7 @@ fn ordinals(alloc: Global, events: &[Event]) -> Result<Vec<u64>, AllocError> {
 }
 
 /// Whether an event is what the receipt says.
-fn tells<K: Room>(receipt: &Receipt<K>, event: &Event) -> bool {
+pub fn tells<K: Room>(receipt: &Receipt<K>, event: &Event) -> bool {
     event.actor() == receipt.actor()
         && event.op() == receipt.op()
         && event.reply() == receipt.reply()

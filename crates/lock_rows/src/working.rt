@@ -20,6 +20,8 @@ pub enum Work {
     Fence,
     /// It rests until every rest is over. The clock ticks twice and calls for the end.
     Rest,
+    /// Each of so many harts reads sip so often.
+    Read { harts: u64, calls: u64 },
     /// Each of so many harts makes the call so often, and drops its receipts.
     Repeat { harts: u64, calls: u64, op: Op },
 }
@@ -70,6 +72,10 @@ fn done<K: Room, R: Wait>(
     match work {
         Work::SendIpis => return send(rt, shared, seat, receipts),
         Work::Fence => return fence(rt, shared, seat, receipts),
+        Work::Read { harts, calls } if is_asked(seat.actor(), harts) => {
+            return read(rt, shared, seat, receipts, calls);
+        }
+        Work::Read { .. } => {}
         Work::Rest if seat.actor() == Actor::Clock => end(rt, shared, seat),
         Work::Rest => rest(rt, shared, seat),
         Work::Repeat { harts, calls, op } => repeat(rt, shared, seat, (harts, calls), op),
@@ -156,6 +162,30 @@ fn end<K: Room, R: Wait>(rt: &R, shared: &SharedBoard<K>, clock: &mut Seat<K>) {
     shared.end(rt);
 }
 
+/// Reads sip so often.
+fn read<K: Room, R: Wait>(
+    rt: &R,
+    shared: &SharedBoard<K>,
+    seat: &mut Seat<K>,
+    receipts: &mut Vec<Receipt<K>>,
+    calls: u64,
+) -> Result<(), AllocError> {
+    for _ in 0..calls {
+        if let Ok(receipt) = shared.call(rt, seat, Op::ReadSip) {
+            receipts.push(receipt)?;
+        }
+    }
+    Ok(())
+}
+
+/// Whether the actor is one of so many harts.
+fn is_asked(actor: Actor, harts: u64) -> bool {
+    match actor {
+        Actor::Hart(h) => h < harts,
+        Actor::Clock => false,
+    }
+}
+
 /// Makes the call so often, where its hart is one of so many.
 fn repeat<K: Room, R: Wait>(
     rt: &R,
@@ -164,11 +194,7 @@ fn repeat<K: Room, R: Wait>(
     (harts, calls): (u64, u64),
     op: Op,
 ) {
-    let is_asked = match seat.actor() {
-        Actor::Hart(h) => h < harts,
-        Actor::Clock => false,
-    };
-    if is_asked {
+    if is_asked(seat.actor(), harts) {
         for _ in 0..calls {
             let _ = shared.call(rt, seat, op);
         }

@@ -9,22 +9,20 @@ use Rattle.hsm.specs.declared.hart.HartState.TheVariants.{Started, Stopped, Star
 use Rattle.hsm.specs.declared.hart.Kept.{Kept}
 use Rattle.sv39.specs.Pages.{level_number}
 use Rattle.fence_queue.specs.declared.request.Request.{Request}
+use Rattle.tlb_model.specs.declared.cache.Numbered.{Numbered}
 use Rattle.tlb_model.specs.declared.entry.Entry.{Entry}
 use Rattle.tlb_model.specs.declared.fence.Flush.{Flush}
 use Rattle.tlb_model.specs.declared.fence.Flush.TheVariants.{Words, Entries}
 use Rattle.tlb_model.specs.declared.fence.Range.{Range}
 use Rattle.tlb_model.specs.declared.word.FetchWord.{FetchWord}
-use Rattle.tlb_model.specs.Acts.{Filling, live}
-use Rattle.tlb_model.specs.Entries.{covers_entry}
-use Rattle.tlb_model.specs.Words.{covers_word}
 use Rattle.board_core.specs.declared.board.Totals.{Totals}
-use Rattle.board_core.specs.declared.config.Config.{Config}
 use Rattle.board_core.specs.Course.{harts_of}
 use Rattle.board_core.specs.Csrs.{bits_of, sie, sstatus_sie}
 use Rattle.board_core.specs.Fences.{outstanding, waiting}
 use Rattle.board_core.specs.History.{Event}
 use Rattle.board_core.specs.Interrupts.{deadline, ssip, stip, time}
-use Rattle.board_core.specs.Memory.{satp, tlb_acts, word_acts}
+use Rattle.board_core.specs.Memory.{caches_of, satp}
+use Rattle.board_core.specs.Opening.{Opening}
 use Rattle.board_core.specs.Resets.{is_off, last_reset}
 use Rattle.board_core.specs.Starts.{kept}
 use Rattle.board_core.specs.States.{state}
@@ -78,14 +76,14 @@ abbrev pub reset_words : Option Reset → List (List ℕ)
 reset_words None = codes "none" ∷ []
 reset_words (Some reset) = hex_column 8 (reset_kind_number reset.kind) ∷ hex_column 8 reset.reason ∷ []
 
--- the time, the count of events, the power, and the last reset
-unfoldable pub time_cells : List Event → List (List ℕ)
-time_cells past =
+-- the time, the count of events since the opening, the power, and the last reset
+unfoldable pub time_cells : Opening → List Event → List (List ℕ)
+time_cells o past =
     codes "#"
-    ∷ codes "time" ∷ hex16 (time past)
+    ∷ codes "time" ∷ hex16 (time o past)
     ∷ codes "events" ∷ right 7 (decimal (length past))
-    ∷ codes "power" ∷ power_word (is_off past)
-    ∷ codes "reset" ∷ reset_words (last_reset past)
+    ∷ codes "power" ∷ power_word (is_off o past)
+    ∷ codes "reset" ∷ reset_words (last_reset o past)
 
 unfoldable pub totals_cells : Totals → List (List ℕ)
 totals_cells t =
@@ -117,33 +115,33 @@ head_cells =
     ∷ []
 
 -- the items of fills, newest first, in the order of filling
-abbrev pub in_order : {E : Type 0} → List (Filling E) → List E
-in_order fillings = reverse (map (λ filling. filling.item) fillings)
+abbrev pub in_order : {E : Type 0} → List (Numbered E) → List E
+in_order fills = reverse (map (λ fill. fill.item) fills)
 
 -- the live entries of a hart's TLB, in the order of filling
-abbrev pub entries : Config → List Event → ℕ → List Entry
-entries c past h = in_order (live covers_entry (tlb_acts c past h))
+abbrev pub entries : Opening → List Event → ℕ → List Entry
+entries o past h = in_order (caches_of o past h).tlb.live
 
 -- the live words of a hart's instruction cache, in the order of filling
-abbrev pub words : Config → List Event → ℕ → List FetchWord
-words c past h = in_order (live covers_word (word_acts c past h))
+abbrev pub words : Opening → List Event → ℕ → List FetchWord
+words o past h = in_order (caches_of o past h).words.live
 
 -- the row of a hart
-unfoldable pub hart_cells : Config → List Event → ℕ → List (List ℕ)
-hart_cells c past h =
+unfoldable pub hart_cells : Opening → List Event → ℕ → List (List ℕ)
+hart_cells o past h =
     codes "#"
     ∷ right 4 (decimal h)
-    ∷ left 15 (state_name (state c past h))
-    ∷ right 4 (decimal (length (waiting c past h)))
-    ∷ outstanding_cell (outstanding c past h)
-    ∷ right 2 (decimal (bit_of (ssip c past h)))
-    ∷ right 2 (decimal (bit_of (stip c past h)))
-    ∷ hex_column 2 (bits_of (sie c past h))
-    ∷ right 2 (decimal (bit_of (sstatus_sie past h)))
-    ∷ hex16 (satp c past h)
-    ∷ deadline_cell (deadline c past h)
-    ∷ right 3 (decimal (length (entries c past h)))
-    ∷ right 2 (decimal (length (words c past h)))
+    ∷ left 15 (state_name (state o past h))
+    ∷ right 4 (decimal (length (waiting o past h)))
+    ∷ outstanding_cell (outstanding o past h)
+    ∷ right 2 (decimal (bit_of (ssip o past h)))
+    ∷ right 2 (decimal (bit_of (stip o past h)))
+    ∷ hex_column 2 (bits_of (sie o past h))
+    ∷ right 2 (decimal (bit_of (sstatus_sie o past h)))
+    ∷ hex16 (satp o past h)
+    ∷ deadline_cell (deadline o past h)
+    ∷ right 3 (decimal (length (entries o past h)))
+    ∷ right 2 (decimal (length (words o past h)))
     ∷ []
 
 -- what the firmware keeps for a hart's entry
@@ -154,8 +152,8 @@ abbrev pub entry_line : ℕ → Option Kept → List ℕ
 entry_line h (Some start) = line_of (entry_cells h start)
 entry_line h None = []
 
-abbrev pub row : Config → List Event → ℕ → List ℕ
-row c past h = line_of (hart_cells c past h)
+abbrev pub row : Opening → List Event → ℕ → List ℕ
+row o past h = line_of (hart_cells o past h)
 
 -- a letter, or a dash where what it stands for is absent
 abbrev pub letter : Bool → (byte : ℕ) → ℕ
@@ -214,19 +212,19 @@ fence_line h request = line_of (fence_cells h request)
 
 -- the lines that follow the rows for a hart: what is kept for it, the entries of its TLB, its fetched words, and the
 -- fences that wait at it
-abbrev pub details : Config → List Event → ℕ → List ℕ
-details c past h =
-    entry_line h (kept c past h)
-    ++ (flat_map (tlb_line h) (entries c past h)
-    ++ (flat_map (word_line h) (words c past h)
-    ++ flat_map (fence_line h) (waiting c past h)))
+abbrev pub details : Opening → List Event → ℕ → List ℕ
+details o past h =
+    entry_line h (kept o past h)
+    ++ (flat_map (tlb_line h) (entries o past h)
+    ++ (flat_map (word_line h) (words o past h)
+    ++ flat_map (fence_line h) (waiting o past h)))
 
--- The table of the board whose past this is: the time, the totals, the heads of the columns, a row for each hart, and
+-- The table of the board whose opening and past these are: the time, the totals, the heads of the columns, a row for each hart, and
 -- then, hart by hart, what is kept for it, what its caches have, and the fences that wait at it.
-abbrev pub table : Config → List Event → List ℕ
-table c past =
-    line_of (time_cells past)
-    ++ (line_of (totals_cells (totals c past))
+abbrev pub table : Opening → List Event → List ℕ
+table o past =
+    line_of (time_cells o past)
+    ++ (line_of (totals_cells (totals o past))
     ++ (line_of head_cells
-    ++ (flat_map (row c past) (harts_of c)
-    ++ flat_map (details c past) (harts_of c))))
+    ++ (flat_map (row o past) (harts_of o.config)
+    ++ flat_map (details o past) (harts_of o.config))))

@@ -81,8 +81,16 @@ board_words c =
 abbrev pub step_words : Actor → Op → List (List ℕ)
 step_words actor op = actor_word actor ∷ op_words op
 
+-- what a line does, up to the arrow: the step of an actor, or nothing but a cut of the history
+abbrev pub doing_words : Option (Actor × Op) → List (List ℕ)
+doing_words None = codes "cut" ∷ []
+doing_words (Some step) = step_words step.0 step.1
+
+abbrev pub line_words : Option (Actor × Op) → Result Reply Refusal → List (List ℕ)
+line_words step result = doing_words step ++ codes "->" ∷ reply_words result
+
 abbrev pub event_words : Actor → Op → Result Reply Refusal → List (List ℕ)
-event_words actor op result = step_words actor op ++ codes "->" ∷ reply_words result
+event_words actor op result = line_words (Some (actor, op)) result
 
 -- words as a line: one blank between each two, and a line feed at the end
 abbrev pub line_of : List (List ℕ) → List ℕ

@@ -1,9 +1,9 @@
-ghost use Rattle.std.specs.Prelude.{◌≡◌, ◌+◌, ◌*◌, ◌^◌, ◌<◌, ◌≤◌, ◌∷◌, ◌++◌, length, map, codes, decimal, Ok};
+ghost use Rattle.std.specs.Prelude.{◌≡◌, ◌+◌, ◌*◌, ◌^◌, ◌<◌, ◌≤◌, ◌∷◌, ◌++◌, length, map, codes, decimal, None, Ok};
 ghost use Rattle.std.specs.Fmt.{signed_decimal};
 ghost use Rattle.std.specs.List.{join_with_byte};
 ghost use Rattle.monitor.specs.LineText.{arguments_room, decimal_room, hex_room, line_room, op_room, page_room, reply_room, signed_room, with_words};
 ghost use Rattle.monitor.specs.Sinks.{Puts};
-ghost use Rattle.monitor.specs.Words.{bit_of, hex, hex_or_dash, actor_word, board_words, event_words, line_of, op_words, reply_words, spaces_words};
+ghost use Rattle.monitor.specs.Words.{bit_of, hex, hex_or_dash, actor_word, board_words, event_words, line_of, line_words, op_words, reply_words, spaces_words};
 ghost use Rattle.board_core.specs.declared.event.Op.TheVariants.{Ecall};
 ghost use Rattle.board_core.specs.declared.event.Reply.TheVariants.{Entry};
 
@@ -42,19 +42,17 @@ fn spaces_onto(line: &mut LineText, config: &Config)
     }
 }
 
-/// Prints the line of a step and of what it answered.
+/// Prints the line of a step, or of a cut where it is none, and of what was answered.
 pub fn print_line<W: Sink>(
-    actor: Actor,
-    op: Op,
+    step: Option<(Actor, Op)>,
     answer: Result<Reply, Refusal>,
     sink: &mut W,
 ) -> Result<(), Failed>
     requires { W.failures sink.old < 2 ^ 63 }
-    ensures { Puts W.written W.failures sink.old sink.new result
-        (line_of (event_words actor op answer)) }
+    ensures { Puts W.written W.failures sink.old sink.new result (line_of (line_words step answer)) }
 {
     let mut page = Page::new();
-    page.print_step(actor, op, answer, sink)?;
+    page.print_line(step, answer, sink)?;
     page.put(sink)
 }
 
@@ -64,7 +62,8 @@ pub fn print_event<W: Sink>(event: &Event, sink: &mut W) -> Result<(), Failed>
     ensures { Puts W.written W.failures sink.old sink.new result
         (line_of (event_words event.now.actor event.now.op (Ok event.now.reply))) }
 {
-    print_line(event.actor(), event.op(), Ok(event.reply()), sink)
+    let step = (event.actor(), event.op());
+    print_line(Some(step), Ok(event.reply()), sink)
 }
 
 /// Prints the words of a reply or a refusal alone, with no line feed.
@@ -78,9 +77,34 @@ pub fn print_reply<W: Sink>(answer: Result<Reply, Refusal>, sink: &mut W) -> Res
     write_all(sink, line.as_bytes())
 }
 
+/// Appends the line of a step, or of a cut where it is none, and of what was answered.
+#[inline(always)]
+pub fn line_onto(line: &mut LineText, step: Option<(Actor, Op)>, answer: Result<Reply, Refusal>)
+    requires { length line.old + line_room ≤ page_room }
+    ensures text { line.new ≡ line.old ++ line_of (line_words step answer) }
+    ensures len { length line.new ≤ length line.old + line_room }
+{
+    match step {
+        Some((actor, op)) => step_onto(line, actor, op, answer),
+        None => cut_onto(line, answer),
+    }
+}
+
+/// Appends the line of a cut and of what was answered. It is apart, so that steps are written in place.
+#[inline(never)]
+fn cut_onto(line: &mut LineText, answer: Result<Reply, Refusal>)
+    requires { length line.old + line_room ≤ page_room }
+    ensures text { line.new ≡ line.old ++ line_of (line_words None answer) }
+    ensures len { length line.new ≤ length line.old + line_room }
+{
+    line.text(b"cut ->");
+    reply_onto(line, answer);
+    line.text(b"\n");
+}
+
 /// Appends the line of a step and of what it answered.
 #[inline(always)]
-pub fn step_onto(line: &mut LineText, actor: Actor, op: Op, answer: Result<Reply, Refusal>)
+fn step_onto(line: &mut LineText, actor: Actor, op: Op, answer: Result<Reply, Refusal>)
     requires { length line.old + line_room ≤ page_room }
     ensures text { line.new ≡ line.old ++ line_of (event_words actor op answer) }
     ensures len { length line.new ≤ length line.old + line_room }

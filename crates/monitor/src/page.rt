@@ -1,10 +1,10 @@
 ghost use Rattle.std.specs.Prelude.{◌≡◌, ℕ, ◌+◌, ◌^◌, ◌<◌, ◌≤◌, List, [], OnOk, length};
 ghost use Rattle.monitor.specs.LineText.{line_room, page_room};
 ghost use Rattle.monitor.specs.Sinks.{Passes, Puts};
-ghost use Rattle.monitor.specs.Words.{event_words, line_of};
+ghost use Rattle.monitor.specs.Words.{line_of, line_words};
 
 use crate::line_text::{CAPACITY, LineText};
-use crate::lines::step_onto;
+use crate::lines::line_onto;
 use crate::sink::{Failed, Sink, write_all};
 use board_core::{Actor, Op, Refusal, Reply};
 use std::marker::Model;
@@ -38,24 +38,23 @@ impl Page {
         }
     }
 
-    /// Prints the line of a step and of what it answered, behind the lines that wait.
+    /// Prints the line of a step, or of a cut where it is none, and of what was answered, behind the lines that wait.
     ///
     /// # Errors
     ///
     /// A write of the lines that waited failed.
     #[inline(never)]
-    pub fn print_step<W: Sink>(
+    pub fn print_line<W: Sink>(
         &mut self,
-        actor: Actor,
-        op: Op,
+        step: Option<(Actor, Op)>,
         answer: Result<Reply, Refusal>,
         sink: &mut W,
     ) -> Result<(), Failed>
         requires { W.failures sink.old < 2 ^ 63 }
         ensures { Passes W.written W.failures sink.old sink.new result self.old self.new
-            (line_of (event_words actor op answer)) }
+            (line_of (line_words step answer)) }
     {
-        step_onto(&mut self.text, actor, op, answer);
+        line_onto(&mut self.text, step, answer);
         if self.text.len() > CAPACITY - LINE_ROOM {
             return put_all(&mut self.text, sink);
         }

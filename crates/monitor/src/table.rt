@@ -19,7 +19,7 @@ use tlb_model::{Flush, Range};
 pub fn print<W: Sink>(board: &Board, sink: &mut W) -> Result<(), Failed>
     requires { W.failures sink.old < 2 ^ 63 }
     ensures { Puts W.written W.failures sink.old sink.new result
-        (table board.now.config board.now.past) }
+        (table board.now.opening board.now.past) }
 {
     time_line(board).put(sink)?;
     totals_line(&board.totals()).put(sink)?;
@@ -31,7 +31,7 @@ pub fn print<W: Sink>(board: &Board, sink: &mut W) -> Result<(), Failed>
 fn print_rows<W: Sink>(board: &Board, sink: &mut W) -> Result<(), Failed>
     requires { W.failures sink.old < 2 ^ 63 }
     ensures { Puts W.written W.failures sink.old sink.new result
-        (flat_map (row board.now.config board.now.past) (harts_of board.now.config)) }
+        (flat_map (row board.now.opening board.now.past) (harts_of board.now.opening.config)) }
 {
     for h in 0..board.config().harts {
         hart_line(board, h).put(sink)?;
@@ -42,7 +42,7 @@ fn print_rows<W: Sink>(board: &Board, sink: &mut W) -> Result<(), Failed>
 fn print_details<W: Sink>(board: &Board, sink: &mut W) -> Result<(), Failed>
     requires { W.failures sink.old < 2 ^ 63 }
     ensures { Puts W.written W.failures sink.old sink.new result
-        (flat_map (details board.now.config board.now.past) (harts_of board.now.config)) }
+        (flat_map (details board.now.opening board.now.past) (harts_of board.now.opening.config)) }
 {
     for h in 0..board.config().harts {
         print_hart(board, h, sink)?;
@@ -53,8 +53,8 @@ fn print_details<W: Sink>(board: &Board, sink: &mut W) -> Result<(), Failed>
 /// Prints the lines that follow the rows for hart `h`.
 fn print_hart<W: Sink>(board: &Board, h: u64, sink: &mut W) -> Result<(), Failed>
     requires failures { W.failures sink.old < 2 ^ 63 }
-    requires is_hart { h < board.now.config.harts }
-    ensures { Puts W.written W.failures sink.old sink.new result (details board.now.config board.now.past h) }
+    requires is_hart { h < board.now.opening.config.harts }
+    ensures { Puts W.written W.failures sink.old sink.new result (details board.now.opening board.now.past h) }
 {
     print_entry(h, board.kept(h), sink)?;
     print_tlb(board, h, sink)?;
@@ -64,9 +64,9 @@ fn print_hart<W: Sink>(board: &Board, h: u64, sink: &mut W) -> Result<(), Failed
 
 fn print_tlb<W: Sink>(board: &Board, h: u64, sink: &mut W) -> Result<(), Failed>
     requires failures { W.failures sink.old < 2 ^ 63 }
-    requires is_hart { h < board.now.config.harts }
+    requires is_hart { h < board.now.opening.config.harts }
     ensures { Puts W.written W.failures sink.old sink.new result
-        (flat_map (tlb_line h) (entries board.now.config board.now.past h)) }
+        (flat_map (tlb_line h) (entries board.now.opening board.now.past h)) }
 {
     for fill in board.tlb(h) {
         tlb_line(h, &fill.item).put(sink)?;
@@ -76,9 +76,9 @@ fn print_tlb<W: Sink>(board: &Board, h: u64, sink: &mut W) -> Result<(), Failed>
 
 fn print_fetched<W: Sink>(board: &Board, h: u64, sink: &mut W) -> Result<(), Failed>
     requires failures { W.failures sink.old < 2 ^ 63 }
-    requires is_hart { h < board.now.config.harts }
+    requires is_hart { h < board.now.opening.config.harts }
     ensures { Puts W.written W.failures sink.old sink.new result
-        (flat_map (word_line h) (words board.now.config board.now.past h)) }
+        (flat_map (word_line h) (words board.now.opening board.now.past h)) }
 {
     for fill in board.fetched(h) {
         word_line(h, &fill.item).put(sink)?;
@@ -88,9 +88,9 @@ fn print_fetched<W: Sink>(board: &Board, h: u64, sink: &mut W) -> Result<(), Fai
 
 fn print_fences<W: Sink>(board: &Board, h: u64, sink: &mut W) -> Result<(), Failed>
     requires failures { W.failures sink.old < 2 ^ 63 }
-    requires is_hart { h < board.now.config.harts }
+    requires is_hart { h < board.now.opening.config.harts }
     ensures { Puts W.written W.failures sink.old sink.new result
-        (flat_map (fence_line h) (waiting board.now.config board.now.past h)) }
+        (flat_map (fence_line h) (waiting board.now.opening board.now.past h)) }
 {
     for request in board.waiting(h) {
         fence_line(h, &request).put(sink)?;
@@ -110,7 +110,7 @@ fn print_entry<W: Sink>(h: u64, kept: Option<Kept>, sink: &mut W) -> Result<(), 
 
 #[tactic(auto, unfolding(crate::specs::Table::time_cells))]
 fn time_line(board: &Board) -> LineText
-    ensures text { result ≡ with_words [] (time_cells board.now.past) }
+    ensures text { result ≡ with_words [] (time_cells board.now.opening board.now.past) }
     ensures some { 0 < length result }
     ensures room { length result < line_room }
 {
@@ -198,8 +198,8 @@ fn columns_line() -> LineText
 
 #[tactic(auto, unfolding(crate::specs::Table::hart_cells))]
 fn hart_line(board: &Board, h: u64) -> LineText
-    requires { h < board.now.config.harts }
-    ensures text { result ≡ with_words [] (hart_cells board.now.config board.now.past h) }
+    requires { h < board.now.opening.config.harts }
+    ensures text { result ≡ with_words [] (hart_cells board.now.opening board.now.past h) }
     ensures some { 0 < length result }
     ensures room { length result < line_room }
 {
@@ -221,15 +221,15 @@ fn hart_line(board: &Board, h: u64) -> LineText
 }
 
 fn entry_count(board: &Board, h: u64) -> u64
-    requires { h < board.now.config.harts }
-    ensures { result ≡ length (entries board.now.config board.now.past h) }
+    requires { h < board.now.opening.config.harts }
+    ensures { result ≡ length (entries board.now.opening board.now.past h) }
 {
     board.tlb(h).len() as u64
 }
 
 fn word_count(board: &Board, h: u64) -> u64
-    requires { h < board.now.config.harts }
-    ensures { result ≡ length (words board.now.config board.now.past h) }
+    requires { h < board.now.opening.config.harts }
+    ensures { result ≡ length (words board.now.opening board.now.past h) }
 {
     board.fetched(h).len() as u64
 }

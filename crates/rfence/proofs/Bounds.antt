@@ -1,20 +1,21 @@
 -- How much a fence call can need, and that it can end once it needs nothing.
-use Rattle.std.proofs.Common.{◌≡◌, ℕ, ◌+◌, ◌-◌, ◌*◌, ◌<◌, ◌≤◌, suc, zero, Bool, true, false, List, [], ◌∷◌, ◌++◌, length, map, refl, sym, ap, ◌∙◌, arith, inl, inr}
-use Rattle.std.specs.Prelude.{◌==◌, ◌⊎◌, if◌then◌else◌, filter, Option, Some, None, is_some}
+use Rattle.std.proofs.Common.{◌≡◌, ℕ, ◌+◌, ◌-◌, ◌*◌, ◌<◌, ◌≤◌, suc, zero, Bool, true, false, List, [], ◌++◌, map, refl, sym, ap, ◌∙◌, arith, inl, inr}
+use Rattle.std.specs.Prelude.{◌⊎◌, if◌then◌else◌, filter, is_some}
 use Rattle.std.specs.List.{list_any, range_with_len}
-use Rattle.std.proofs.lemmas.Bool.{cases_eq, cases_lt, eqb-true}
+use Rattle.std.proofs.lemmas.Bool.{cases_eq, cases_lt}
 use Rattle.std.proofs.lemmas.List.{length-map}
 use Rattle.std.proofs.Math.Nat.{suc-mul}
 use Rattle.fence_queue.specs.Queues.{is_from}
 use Rattle.fence_queue.specs.Positions.{position_of}
 use Rattle.fence_queue.proofs.Positions.{none-own, none-position_of, position_of-le, position_of-none}
 use Rattle.fence_queue.proofs.Queue.{length-IsQueue}
-use Rattle.rfence.specs.Turns.{Turn, Ask, Own, Serve, Poll, Stop, Reset, Quiet}
-use Rattle.rfence.specs.Waiting.{kept, waiting}
-use Rattle.rfence.specs.Calls.{is_at, is_outstanding, open_by, open_call}
+use Rattle.rfence.specs.Opening.{Opening, kept}
+use Rattle.rfence.specs.Turns.{Turn, Poll}
+use Rattle.rfence.specs.Waiting.{waiting}
+use Rattle.rfence.specs.Calls.{is_at, is_outstanding, open_call}
 use Rattle.rfence.specs.Right.{IsRight, IsRightTurn}
 use Rattle.rfence.specs.Need.{AreBounded, HaveServed, ends, is_stop, need, serves_in, total_need}
-use Rattle.rfence.proofs.Callers.{sound}
+use Rattle.rfence.proofs.Callers.{open-within, sound}
 use Rattle.rfence.proofs.Needs.{closed-needs-none, is-left, need-caller}
 use Rattle.rfence.proofs.Totals.{is-sum, sum_from}
 
@@ -47,65 +48,39 @@ filter-none : (p : ℕ → Bool) (a n : ℕ) → ((t : ℕ) → a ≤ t → t < 
 filter-none p a zero none = refl
 filter-none p a (suc n) none = rw (none a (omega arith) (omega arith)) (filter-none p (a + 1) n (λ t low high. none t (omega arith) (omega arith)))
 
-module _ {F : Type 0} where
+module _ {F : Type 0} (o : Opening F) where
   -- ---- harts that are there
 
-  -- a hart inside a call is there
-  pub open-inside : (n : ℕ) (turns : List (Turn F)) (c p : ℕ) → IsRight n turns → open_call turns c ≡ Some p → c < n
-  open-inside n [] c p right is = cc
-  open-inside n (turn ∷ turns) c p right is = by_turn (open-inside n turns c p right.1) turn right.0 is
-    where
-      asked : (open_call turns c ≡ Some p → c < n) → (x : ℕ) → x < n → (own : Bool) → (x == c) ≡ own → (if own then Some (length turns) else open_call turns c) ≡ Some p → c < n
-      asked before x inside true here now = let same = eqb-true x c here in omega arith
-      asked before x inside false here now = before now
+  outside-needs-none : (n : ℕ) (turns : List (Turn F)) (c t : ℕ) → IsRight o n turns → n ≤ c → need o turns c t ≡ 0
+  outside-needs-none n turns c t right outside = closed-needs-none o turns c t (open-within o n turns c right outside)
 
-      polled : (open_call turns c ≡ Some p → c < n) → (own : Bool) → (if own then None else open_call turns c) ≡ Some p → c < n
-      polled before true now = cc
-      polled before false now = before now
-
-      by_turn : (open_call turns c ≡ Some p → c < n) → (turn : Turn F) → IsRightTurn n turns turn → open_by (length turns) turn c (open_call turns c) ≡ Some p → c < n
-      by_turn before (Ask x ids flush) ok now = asked before x ok.0 (x == c) refl now
-      by_turn before (Own x flush) ok now = before now
-      by_turn before (Serve x) ok now = before now
-      by_turn before (Poll x) ok now = polled before (x == c) now
-      by_turn before (Stop x) ok now = before now
-      by_turn before Reset ok now = cc
-      by_turn before Quiet ok now = before now
-
-  outside-needs-none : (n : ℕ) (turns : List (Turn F)) (c t : ℕ) → IsRight n turns → n ≤ c → need turns c t ≡ 0
-  outside-needs-none n turns c t right outside = by_call (open_call turns c) refl
-    where
-      by_call : (o : Option ℕ) → open_call turns c ≡ o → need turns c t ≡ 0
-      by_call None is = closed-needs-none turns c t is
-      by_call (Some p) is = let inside = open-inside n turns c p right is in absurd (omega arith)
-
-  outside-is-needed-none : (n : ℕ) (turns : List (Turn F)) (c t : ℕ) → IsRight n turns → n ≤ t → need turns c t ≡ 0
-  outside-is-needed-none n turns c t right outside = ap (position_of (is_at (open_call turns c))) ((sound n turns t right).within outside)
+  outside-is-needed-none : (n : ℕ) (turns : List (Turn F)) (c t : ℕ) → IsRight o n turns → n ≤ t → need o turns c t ≡ 0
+  outside-is-needed-none n turns c t right outside = ap (position_of (is_at (open_call o turns c))) ((sound o n turns t right).within outside)
 
   -- ---- bounds
 
-  each-below : (n : ℕ) (turns : List (Turn F)) (c t : ℕ) → IsRight n turns → need turns c t ≤ n - 1
+  each-below : (n : ℕ) (turns : List (Turn F)) (c t : ℕ) → IsRight o n turns → need o turns c t ≤ n - 1
   each-below n turns c t right = elim (cases_lt t n) [
     | inl near ↦
-        let short = length-IsQueue n t (map kept (waiting turns t)) near (sound n turns t right).queue in
-        omega (arith, short, length-map (waiting turns t) kept, position_of-le (is_at (open_call turns c)) (waiting turns t))
+        let short = length-IsQueue n t (map kept (waiting o turns t)) near (sound o n turns t right).queue in
+        omega (arith, short, length-map (waiting o turns t) kept, position_of-le (is_at (open_call o turns c)) (waiting o turns t))
     | inr far ↦ omega (arith, outside-is-needed-none n turns c t right far)
   ]
 
-  own-needs-none : (n : ℕ) (turns : List (Turn F)) (c : ℕ) → IsRight n turns → need turns c c ≡ 0
+  own-needs-none : (n : ℕ) (turns : List (Turn F)) (c : ℕ) → IsRight o n turns → need o turns c c ≡ 0
   own-needs-none n turns c right =
-      sym (need-caller n turns c c right) ∙ position_of-none (is_from c) (map kept (waiting turns c)) (none-own n c (map kept (waiting turns c)) (sound n turns c right).queue)
+      sym (need-caller o n turns c c right) ∙ position_of-none (is_from c) (map kept (waiting o turns c)) (none-own n c (map kept (waiting o turns c)) (sound o n turns c right).queue)
 
-  total-below : (n : ℕ) (turns : List (Turn F)) (c : ℕ) → IsRight n turns → total_need n turns c ≤ (n - 1) * (n - 1)
+  total-below : (n : ℕ) (turns : List (Turn F)) (c : ℕ) → IsRight o n turns → total_need o n turns c ≤ (n - 1) * (n - 1)
   total-below n turns c right = elim (cases_lt c n) [
     | inl near ↦
-        let most = less-one n (n - 1) (sum_from (need turns c) 0 n)
-        (all-but-one (need turns c) (n - 1) c 0 n (λ t. each-below n turns c t right) (own-needs-none n turns c right) (omega arith) (omega arith)) (omega arith) in
-        omega (arith, most, is-sum (need turns c) 0 n)
-    | inr far ↦ omega (arith, is-sum (need turns c) 0 n, all-none (need turns c) 0 n (λ t. outside-needs-none n turns c t right far))
+        let most = less-one n (n - 1) (sum_from (need o turns c) 0 n)
+        (all-but-one (need o turns c) (n - 1) c 0 n (λ t. each-below n turns c t right) (own-needs-none n turns c right) (omega arith) (omega arith)) (omega arith) in
+        omega (arith, most, is-sum (need o turns c) 0 n)
+    | inr far ↦ omega (arith, is-sum (need o turns c) 0 n, all-none (need o turns c) 0 n (λ t. outside-needs-none n turns c t right far))
   ]
 
-  pub are-bounded : (n : ℕ) (turns : List (Turn F)) (c : ℕ) → IsRight n turns → AreBounded n turns c
+  pub are-bounded : (n : ℕ) (turns : List (Turn F)) (c : ℕ) → IsRight o n turns → AreBounded o n turns c
   are-bounded n turns c right = record {
     each = λ t. each-below n turns c t right;
     total = total-below n turns c right;
@@ -117,25 +92,27 @@ module _ {F : Type 0} where
   -- ---- the end of a call
 
   -- a call that needs nothing waits for no hart
-  pub needs-none : (n : ℕ) (turns : List (Turn F)) (c : ℕ) → ((t : ℕ) → t < n → need turns c t ≡ 0) → filter (is_outstanding turns c) (range_with_len 0 n) ≡ []
+  pub needs-none : (n : ℕ) (turns : List (Turn F)) (c : ℕ) → ((t : ℕ) → t < n → need o turns c t ≡ 0) → filter (is_outstanding o turns c) (range_with_len 0 n) ≡ []
   needs-none n turns c none =
-      filter-none (is_outstanding turns c) 0 n (λ t low high. none-position_of (is_at (open_call turns c)) (waiting turns t) (none t (omega arith)))
+      filter-none (is_outstanding o turns c) 0 n (λ t low high. none-position_of (is_at (open_call o turns c)) (waiting o turns t) (none t (omega arith)))
 
-  pub can-end : (n : ℕ) (newer older : List (Turn F)) (c : ℕ) → IsRight n (newer ++ older) → is_some (open_call older c) ≡ true → list_any (ends c) newer ≡ false
-      → HaveServed n newer older c → IsRightTurn n (newer ++ older) (Poll c)
+  pub can-end : (n : ℕ) (newer older : List (Turn F)) (c : ℕ) → IsRight o n (newer ++ older) → is_some (open_call o older c) ≡ true → list_any (ends c) newer ≡ false
+      → HaveServed o n newer older c → IsRightTurn o n (newer ++ older) (Poll c)
   can-end n newer older c right inside goes served =
-      let is = is-left n newer older c right inside goes in
-      let open_now : is_some (open_call (newer ++ older) c) ≡ true = ap is_some is.opened ∙ inside in
-      (within (open_call (newer ++ older) c) refl open_now, open_now, needs-none n (newer ++ older) c (λ t below. is.left t ∙ covered t (served t below)))
+      let is = is-left o n newer older c right inside goes in
+      let open_now : is_some (open_call o (newer ++ older) c) ≡ true = ap is_some is.opened ∙ inside in
+      (within open_now, open_now, needs-none n (newer ++ older) c (λ t below. is.left t ∙ covered t (served t below)))
     where
-      within : (o : Option ℕ) → open_call (newer ++ older) c ≡ o → is_some o ≡ true → c < n
-      within None is some = cc
-      within (Some p) is some = open-inside n (newer ++ older) c p right is
+      within : is_some (open_call o (newer ++ older) c) ≡ true → c < n
+      within some = elim (cases_lt c n) [
+        | inl near ↦ near
+        | inr far ↦ let closed = ap is_some (open-within o n (newer ++ older) c right far) in cc
+      ]
 
-      covered : (t : ℕ) → (need older c t ≤ serves_in t newer) ⊎ (list_any (is_stop t) newer ≡ true) → (if list_any (is_stop t) newer then 0 else need older c t - serves_in t newer) ≡ 0
+      covered : (t : ℕ) → (need o older c t ≤ serves_in t newer) ⊎ (list_any (is_stop t) newer ≡ true) → (if list_any (is_stop t) newer then 0 else need o older c t - serves_in t newer) ≡ 0
       covered t enough = by_stop (list_any (is_stop t) newer) refl enough
         where
-          by_stop : (stopped : Bool) → list_any (is_stop t) newer ≡ stopped → (need older c t ≤ serves_in t newer) ⊎ (stopped ≡ true) → (if stopped then 0 else need older c t - serves_in t newer) ≡ 0
+          by_stop : (stopped : Bool) → list_any (is_stop t) newer ≡ stopped → (need o older c t ≤ serves_in t newer) ⊎ (stopped ≡ true) → (if stopped then 0 else need o older c t - serves_in t newer) ≡ 0
           by_stop true is enough = refl
           by_stop false is enough = elim enough [
             | inl most ↦ omega (arith, most)

@@ -13,3 +13,4 @@ pub mod Counts
 pub mod Totals
 pub mod Needs
 pub mod Bounds
+pub mod Seams

@@ -3,8 +3,9 @@ use Rattle.std.proofs.Common.{◌≡◌, ℕ, ◌<◌, ◌≤◌, suc, zero, Boo
 use Rattle.std.specs.Prelude.{◌==◌, if◌then◌else◌, Option, Some, None}
 use Rattle.std.proofs.lemmas.Bool.{eqb-true}
 use Rattle.std.proofs.lemmas.List.{length-append, length-drop}
+use Rattle.rfence.specs.Opening.{Asked, Opening, place_after}
 use Rattle.rfence.specs.Turns.{Turn, Ask, Own, Serve, Poll, Stop, Reset, Quiet, empties, is_serve}
-use Rattle.rfence.specs.Waiting.{Asked, added, one_more, request_by, requests, serves, waiting}
+use Rattle.rfence.specs.Waiting.{added, one_more, request_by, requests, serves, waiting}
 use Rattle.rfence.specs.Right.{IsRight, IsRightTurn}
 
 -- dropping goes past what is added where as much is there
@@ -29,58 +30,59 @@ module _ {F : Type 0} where
   waited before place turn t =
       if empties turn t then [] else if is_serve turn t then drop 1 before else added before (request_by place turn t)
 
+module _ {F : Type 0} (o : Opening F) where
   -- a serve takes what is there
-  pub short : (n : ℕ) (turns : List (Turn F)) (t : ℕ) → IsRight n turns → serves turns t ≤ length (requests turns t)
+  pub short : (n : ℕ) (turns : List (Turn F)) (t : ℕ) → IsRight o n turns → serves turns t ≤ length (requests o turns t)
   short n [] t right = omega arith
   short n (turn ∷ turns) t right = by_turn turn right.0 (short n turns t right.1)
     where
-      more : (turn : Turn F) → empties turn t ≡ false → is_serve turn t ≡ false → serves turns t ≤ length (requests turns t)
-          → serves (turn ∷ turns) t ≤ length (requests (turn ∷ turns) t)
+      more : (turn : Turn F) → empties turn t ≡ false → is_serve turn t ≡ false → serves turns t ≤ length (requests o turns t)
+          → serves (turn ∷ turns) t ≤ length (requests o (turn ∷ turns) t)
       more turn stays quiet before =
-          rw (stays, quiet) (let long = length-added (requests turns t) (request_by (length turns) turn t) in omega arith)
+          rw (stays, quiet) (let long = length-added (requests o turns t) (request_by (place_after o turns) turn t) in omega arith)
 
-      served : (x : ℕ) → (own : Bool) → (x == t) ≡ own → 0 < length (waiting turns x) → serves turns t ≤ length (requests turns t)
-          → one_more (x == t) (serves turns t) ≤ length (requests turns t)
+      served : (x : ℕ) → (own : Bool) → (x == t) ≡ own → 0 < length (waiting o turns x) → serves turns t ≤ length (requests o turns t)
+          → one_more (x == t) (serves turns t) ≤ length (requests o turns t)
       served x true is some before =
           let same : x ≡ t = eqb-true x t is in
-          let there : 0 < length (waiting turns t) = rw same at some in
-          rw is (omega (arith, length-drop (serves turns t) (requests turns t)))
+          let there : 0 < length (waiting o turns t) = rw same at some in
+          rw is (omega (arith, length-drop (serves turns t) (requests o turns t)))
       served x false is some before = rw is before
 
-      by_turn : (turn : Turn F) → IsRightTurn n turns turn → serves turns t ≤ length (requests turns t)
-          → serves (turn ∷ turns) t ≤ length (requests (turn ∷ turns) t)
+      by_turn : (turn : Turn F) → IsRightTurn o n turns turn → serves turns t ≤ length (requests o turns t)
+          → serves (turn ∷ turns) t ≤ length (requests o (turn ∷ turns) t)
       by_turn (Ask x asked flush) ok before = more (Ask x asked flush) refl refl before
       by_turn (Own x flush) ok before = before
       by_turn (Serve x) ok before = served x (x == t) refl ok.1 before
       by_turn (Poll x) ok before = before
       by_turn (Stop x) ok before = stopped (x == t)
         where
-          stopped : (own : Bool) → (if own then 0 else serves turns t) ≤ length (if own then [] else requests turns t)
+          stopped : (own : Bool) → (if own then 0 else serves turns t) ≤ length (if own then [] else requests o turns t)
           stopped true = omega arith
           stopped false = before
       by_turn Reset ok before = omega arith
       by_turn Quiet ok before = before
 
   -- what waits, by the last turn
-  pub waiting-more : (n : ℕ) (turn : Turn F) (turns : List (Turn F)) (t : ℕ) → IsRight n turns
-      → waiting (turn ∷ turns) t ≡ waited (waiting turns t) (length turns) turn t
+  pub waiting-more : (n : ℕ) (turn : Turn F) (turns : List (Turn F)) (t : ℕ) → IsRight o n turns
+      → waiting o (turn ∷ turns) t ≡ waited (waiting o turns t) (place_after o turns) turn t
   waiting-more n turn turns t right = by_turn turn
     where
-      within : serves turns t ≤ length (requests turns t)
+      within : serves turns t ≤ length (requests o turns t)
       within = short n turns t right
 
-      by_turn : (turn : Turn F) → waiting (turn ∷ turns) t ≡ waited (waiting turns t) (length turns) turn t
-      by_turn (Ask x asked flush) = drop-added (serves turns t) (requests turns t) (request_by (length turns) (Ask x asked flush) t) within
+      by_turn : (turn : Turn F) → waiting o (turn ∷ turns) t ≡ waited (waiting o turns t) (place_after o turns) turn t
+      by_turn (Ask x asked flush) = drop-added (serves turns t) (requests o turns t) (request_by (place_after o turns) (Ask x asked flush) t) within
       by_turn (Own x flush) = refl
       by_turn (Serve x) = served (x == t)
         where
-          served : (own : Bool) → drop (one_more own (serves turns t)) (requests turns t) ≡ (if own then drop 1 (waiting turns t) else waiting turns t)
-          served true = drop-suc (serves turns t) (requests turns t)
+          served : (own : Bool) → drop (one_more own (serves turns t)) (requests o turns t) ≡ (if own then drop 1 (waiting o turns t) else waiting o turns t)
+          served true = drop-suc (serves turns t) (requests o turns t)
           served false = refl
       by_turn (Poll x) = refl
       by_turn (Stop x) = stopped (x == t)
         where
-          stopped : (own : Bool) → drop (if own then 0 else serves turns t) (if own then [] else requests turns t) ≡ (if own then [] else waiting turns t)
+          stopped : (own : Bool) → drop (if own then 0 else serves turns t) (if own then [] else requests o turns t) ≡ (if own then [] else waiting o turns t)
           stopped true = refl
           stopped false = refl
       by_turn Reset = refl

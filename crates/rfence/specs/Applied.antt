@@ -1,7 +1,8 @@
 -- The fences that were applied at a hart, and what a turn does to its caches.
-use Rattle.std.specs.Prelude.{ℕ, List, [], ◌∷◌, ◌++◌, length, map, take, ◌==◌, ◌&&◌, if◌then◌else◌}
+use Rattle.std.specs.Prelude.{ℕ, List, [], ◌∷◌, ◌++◌, map, take, ◌==◌, ◌&&◌, if◌then◌else◌}
+use Rattle.rfence.specs.Opening.{Asked, Opening, place_after}
 use Rattle.rfence.specs.Turns.{Turn, Ask, Own, Serve, Stop, Reset, empties}
-use Rattle.rfence.specs.Waiting.{Asked, waiting}
+use Rattle.rfence.specs.Waiting.{waiting}
 
 -- A fence that was applied: the place of the turn that asked it, the place of the turn at which it was applied, and
 -- what it drops.
@@ -32,10 +33,10 @@ module _ {F : Type 0} where
   applied_by place waits Reset t = map (applied_at place) waits
   applied_by place waits turn t = []
 
-  -- The fences that were applied at hart t.
-  abbrev pub applied : List (Turn F) → ℕ → List (Applied F)
-  applied [] t = []
-  applied (turn ∷ turns) t = applied_by (length turns) (waiting turns t) turn t ++ applied turns t
+  -- The fences that were applied at hart t since the opening.
+  abbrev pub applied : Opening F → List (Turn F) → ℕ → List (Applied F)
+  applied o [] t = []
+  applied o (turn ∷ turns) t = applied_by (place_after o turns) (waiting o turns t) turn t ++ applied o turns t
 
   -- what the first of them drops
   abbrev pub first_drop : List (Applied F) → Effect F
@@ -44,6 +45,6 @@ module _ {F : Type 0} where
 
   -- What a turn does to the caches of hart t: what it applies there, and where the hart stops or the board is reset,
   -- all goes.
-  abbrev pub effect : List (Turn F) → Turn F → ℕ → Effect F
-  effect turns turn t =
-      if empties turn t then Empties else first_drop (applied_by (length turns) (waiting turns t) turn t)
+  abbrev pub effect : Opening F → List (Turn F) → Turn F → ℕ → Effect F
+  effect o turns turn t =
+      if empties turn t then Empties else first_drop (applied_by (place_after o turns) (waiting o turns t) turn t)

@@ -1,31 +1,35 @@
 -- The fence calls that harts are in, and the harts that they wait for (SBI 8; that a call waits: profile).
-use Rattle.std.specs.Prelude.{ℕ, Bool, false, List, [], ◌∷◌, length, filter, ◌==◌, if◌then◌else◌, Option, Some, None}
+use Rattle.std.specs.Prelude.{ℕ, Bool, false, List, [], ◌∷◌, filter, ◌==◌, if◌then◌else◌, Option, Some, None}
 use Rattle.std.specs.List.{list_any, range_with_len}
+use Rattle.hart_mask.specs.Ids.{ids_where}
+use Rattle.rfence.specs.declared.opened.FenceCall.{FenceCall}
+use Rattle.rfence.specs.Opening.{Asked, Opening, called_at, place_after}
 use Rattle.rfence.specs.Turns.{Turn, Ask, Poll, Reset}
-use Rattle.rfence.specs.Waiting.{Asked, waiting}
+use Rattle.rfence.specs.Waiting.{waiting}
 
 module _ {F : Type 0} where
   -- A hart that asks is inside its call, until it polls or a reset drops the call.
-  abbrev pub open_by : ℕ → Turn F → ℕ → Option ℕ → Option ℕ
-  open_by place (Ask x asked flush) c before = if x == c then Some place else before
+  abbrev pub open_by : ℕ → Turn F → ℕ → Option (FenceCall F) → Option (FenceCall F)
+  open_by place (Ask x asked flush) c before =
+      if x == c then Some (record { place = place; asked = ids_where asked; flush = flush }) else before
   open_by place (Poll x) c before = if x == c then None else before
   open_by place Reset c before = None
   open_by place turn c before = before
 
-  -- The place of the call that hart c is in, if it is in one.
-  abbrev pub open_call : List (Turn F) → ℕ → Option ℕ
-  open_call [] c = None
-  open_call (turn ∷ turns) c = open_by (length turns) turn c (open_call turns c)
+  -- The call that hart c is in, if it is in one: the one that it was in at the opening, unless it asked anew.
+  abbrev pub open_call : Opening F → List (Turn F) → ℕ → Option (FenceCall F)
+  open_call o [] c = called_at o c
+  open_call o (turn ∷ turns) c = open_by (place_after o turns) turn c (open_call o turns c)
 
-  -- whether a fence was asked by the call of this place
-  abbrev pub is_at : Option ℕ → Asked F → Bool
+  -- whether a fence was asked by this call
+  abbrev pub is_at : Option (FenceCall F) → Asked F → Bool
   is_at None asked = false
-  is_at (Some place) asked = asked.place == place
+  is_at (Some call) asked = asked.place == call.place
 
   -- Whether hart c's call waits for hart t: its fence waits there.
-  abbrev pub is_outstanding : List (Turn F) → ℕ → ℕ → Bool
-  is_outstanding turns c t = list_any (is_at (open_call turns c)) (waiting turns t)
+  abbrev pub is_outstanding : Opening F → List (Turn F) → ℕ → ℕ → Bool
+  is_outstanding o turns c t = list_any (is_at (open_call o turns c)) (waiting o turns t)
 
   -- the harts that hart c's call waits for, of n
-  abbrev pub outstanding : ℕ → List (Turn F) → ℕ → List ℕ
-  outstanding n turns c = filter (is_outstanding turns c) (range_with_len 0 n)
+  abbrev pub outstanding : Opening F → ℕ → List (Turn F) → ℕ → List ℕ
+  outstanding o n turns c = filter (is_outstanding o turns c) (range_with_len 0 n)

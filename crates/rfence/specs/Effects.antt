@@ -1,5 +1,6 @@
 -- What the turns of a board make of its harts' caches.
 use Rattle.std.specs.Prelude.{ℕ, zero, suc, ◌+◌, List, [], ◌∷◌}
+use Rattle.rfence.specs.Opening.{Opening}
 use Rattle.rfence.specs.Turns.{Turn}
 use Rattle.rfence.specs.Applied.{Effect, Nothing, Drops, Empties, effect}
 
@@ -22,5 +23,5 @@ module _ {F C : Type 0} (dropped : F → C → C) (emptied : C → C) where
   affected Empties caches = emptied caches
 
   -- What a turn makes of the harts' caches, which are listed by the harts' ids: at each hart its effect.
-  abbrev pub caches_after : List (Turn F) → Turn F → List C → List C
-  caches_after turns turn caches = changed_from (λ t cache. affected (effect turns turn t) cache) 0 caches
+  abbrev pub caches_after : Opening F → List (Turn F) → Turn F → List C → List C
+  caches_after o turns turn caches = changed_from (λ t cache. affected (effect o turns turn t) cache) 0 caches

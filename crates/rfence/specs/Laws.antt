@@ -1,23 +1,26 @@
 -- What holds of all right turns.
-use Rattle.std.specs.Prelude.{◌≡◌, ℕ, ◌+◌, ◌*◌, ◌<◌, ◌≤◌, ◌==◌, Bool, true, List, [], ◌∷◌, ◌++◌, length, map, sum_by, if◌then◌else◌, Some}
-use Rattle.std.specs.List.{All, range_with_len}
-use Rattle.hart_mask.specs.Ids.{ids_where}
+use Rattle.std.specs.Prelude.{◌≡◌, ℕ, ◌+◌, ◌*◌, ◌<◌, ◌≤◌, ◌==◌, ◌&&◌, not, Bool, true, List, [], ◌∷◌, ◌++◌, length, map, sum_by, if◌then◌else◌, Some}
+use Rattle.std.specs.List.{All, list_any, range_with_len}
+use Rattle.hart_mask.specs.Ids.{has, ids_where}
 use Rattle.fence_queue.specs.Queues.{IsQueue}
+use Rattle.rfence.specs.declared.opened.FenceCall.{FenceCall}
+use Rattle.rfence.specs.Opening.{Asked, IsOf, Opening, called_at, kept, place_after, waited_at}
 use Rattle.rfence.specs.Turns.{Turn, Ask, Own, Poll, Quiet, is_asked}
-use Rattle.rfence.specs.Waiting.{Asked, kept, one_more, waiting}
+use Rattle.rfence.specs.Waiting.{one_more, waiting}
 use Rattle.rfence.specs.Applied.{Applied, Effect, Nothing, Drops, Empties, applied, effect}
-use Rattle.rfence.specs.Calls.{is_outstanding, open_call, outstanding}
+use Rattle.rfence.specs.Calls.{is_at, is_outstanding, open_call, outstanding}
 use Rattle.rfence.specs.Right.{IsRight}
 use Rattle.rfence.specs.State.{IsTaken, State, total_applied, total_asked}
 
 -- what waits at hart t: requests of distinct other harts, fewer than there are harts, each of its caller's open call
-pub record OfOpenCalls {F : Type 0} (n : ℕ) (turns : List (Turn F)) (t : ℕ) : Type 0 where
-  pub callers : IsQueue n t (map kept (waiting turns t))
-  pub few : length (waiting turns t) < n
-  pub opened : All (λ (asked : Asked F). open_call turns asked.from ≡ Some asked.place) (waiting turns t)
+pub record OfOpenCalls {F : Type 0} (o : Opening F) (n : ℕ) (turns : List (Turn F)) (t : ℕ) : Type 0 where
+  pub callers : IsQueue n t (map kept (waiting o turns t))
+  pub few : length (waiting o turns t) < n
+  pub opened : All (λ (asked : Asked F). IsOf t asked (open_call o turns asked.from)) (waiting o turns t)
 
 abbrev pub WaitsAreOfOpenCalls : Type 0 → Type 0
-WaitsAreOfOpenCalls F = (n : ℕ) (turns : List (Turn F)) (t : ℕ) → IsRight n turns → t < n → OfOpenCalls n turns t
+WaitsAreOfOpenCalls F =
+    (o : Opening F) (n : ℕ) (turns : List (Turn F)) (t : ℕ) → IsRight o n turns → t < n → OfOpenCalls o n turns t
 
 -- how often a place is in a list
 abbrev pub times : ℕ → List ℕ → ℕ
@@ -26,19 +29,35 @@ times place (other ∷ others) = one_more (other == place) (times place others)
 
 module _ {F : Type 0} where
   -- the places of the fences that were applied at hart t, and of those that wait there
-  abbrev pub applied_places : List (Turn F) → ℕ → List ℕ
-  applied_places turns t = map (λ (fence : Applied F). fence.place) (applied turns t)
+  abbrev pub applied_places : Opening F → List (Turn F) → ℕ → List ℕ
+  applied_places o turns t = map (λ (fence : Applied F). fence.place) (applied o turns t)
 
-  abbrev pub waiting_places : List (Turn F) → ℕ → List ℕ
-  waiting_places turns t = map (λ (asked : Asked F). asked.place) (waiting turns t)
+  abbrev pub waiting_places : Opening F → List (Turn F) → ℕ → List ℕ
+  waiting_places o turns t = map (λ (asked : Asked F). asked.place) (waiting o turns t)
+
+  -- how often the fence of this place was applied at hart t since the opening, and waits there
+  abbrev pub times_met : Opening F → (place : ℕ) → List (Turn F) → (t : ℕ) → ℕ
+  times_met o place turns t = times place (applied_places o turns t) + times place (waiting_places o turns t)
+
+  -- whether a call of the opening was applied at hart t before: it asked the hart, and no fence of its waits there
+  abbrev pub was_applied : Opening F → FenceCall F → (t : ℕ) → Bool
+  was_applied o call t = has call.asked t && not (list_any (is_at (Some call)) (waited_at o t))
 
 -- A fence that is asked of hart t was applied there once, or waits there once; any other neither waits there nor was
 -- applied there. The place of the fence is that of its turn.
 abbrev pub AppliedOnce : Type 0 → Type 0
 AppliedOnce F =
-    (n : ℕ) (newer : List (Turn F)) (turn : Turn F) (older : List (Turn F)) (t : ℕ) → IsRight n (newer ++ turn ∷ older)
-    → times (length older) (applied_places (newer ++ turn ∷ older) t) + times (length older) (waiting_places (newer ++ turn ∷ older) t)
-    ≡ (if is_asked turn t then 1 else 0)
+    (o : Opening F) (n : ℕ) (newer : List (Turn F)) (turn : Turn F) (older : List (Turn F)) (t : ℕ)
+    → IsRight o n (newer ++ turn ∷ older)
+    → times_met o (place_after o older) (newer ++ turn ∷ older) t ≡ (if is_asked turn t then 1 else 0)
+
+-- So is the fence of a call that a hart was in at the opening, which was asked before: it was applied before the opening,
+-- where it doesn't wait there.
+abbrev pub OpenedOnce : Type 0 → Type 0
+OpenedOnce F =
+    (o : Opening F) (n : ℕ) (turns : List (Turn F)) (c t : ℕ) (call : FenceCall F)
+    → IsRight o n turns → called_at o c ≡ Some call
+    → (if was_applied o call t then 1 else 0) + times_met o call.place turns t ≡ (if has call.asked t then 1 else 0)
 
 -- a turn leaves nothing in a hart's caches that the fence drops
 abbrev pub Strikes : {F : Type 0} → F → Effect F → Type 0
@@ -47,40 +66,41 @@ Strikes flush (Drops other) = other ≡ flush
 Strikes flush Empties = Unit
 
 -- At some turn of this place or a later one, the fence was applied to the caches of hart t, or they were emptied.
-pub record WasStruck {F : Type 0} (turns : List (Turn F)) (t place : ℕ) (flush : F) : Type 0 where
+pub record WasStruck {F : Type 0} (o : Opening F) (turns : List (Turn F)) (t place : ℕ) (flush : F) : Type 0 where
   pub newer : List (Turn F)
   pub turn : Turn F
   pub older : List (Turn F)
   pub made : turns ≡ newer ++ turn ∷ older
-  pub since : place ≤ length older
-  pub strikes : Strikes flush (effect older turn t)
+  pub since : place ≤ place_after o older
+  pub strikes : Strikes flush (effect o older turn t)
 
 -- Where a hart polls after it asked, its call was a success: at each hart that it asked the fence was applied, or the
 -- caches were emptied, at the turn of the call or later.
 abbrev pub SuccessStrikes : Type 0 → Type 0
 SuccessStrikes F =
-    (n : ℕ) (newer between older : List (Turn F)) (x : ℕ) (asked : ℕ → Bool) (flush : F) (t : ℕ)
-    → IsRight n (newer ++ Poll x ∷ (between ++ Ask x asked flush ∷ older)) → asked t ≡ true
-    → WasStruck (newer ++ Poll x ∷ (between ++ Ask x asked flush ∷ older)) t (length older) flush
+    (o : Opening F) (n : ℕ) (newer between older : List (Turn F)) (x : ℕ) (asked : ℕ → Bool) (flush : F) (t : ℕ)
+    → IsRight o n (newer ++ Poll x ∷ (between ++ Ask x asked flush ∷ older)) → asked t ≡ true
+    → WasStruck o (newer ++ Poll x ∷ (between ++ Ask x asked flush ∷ older)) t (place_after o older) flush
 
--- On a board of at most 128 harts: what a call waits for, as the set that is kept of it, is the outstanding harts; and
--- the counts grow by few with each turn.
-pub record IsSmall {F : Type 0} (n : ℕ) (turns : List (Turn F)) : Type 0 where
-  pub calls : (c : ℕ) → ids_where (is_outstanding turns c) ≡ outstanding n turns c
-  pub asked : total_asked turns ≤ 128 * length turns
-  pub applied : total_applied n turns ≤ 16384 * length turns
+-- On a board, which has at most 128 harts: what a call waits for, as the set that is kept of it, is the outstanding harts;
+-- and the counts grow by few with each turn.
+pub record IsSmall {F : Type 0} (o : Opening F) (n : ℕ) (turns : List (Turn F)) : Type 0 where
+  pub calls : (c : ℕ) → ids_where (is_outstanding o turns c) ≡ outstanding o n turns c
+  pub asked : total_asked o turns ≤ 128 * place_after o turns
+  pub applied : total_applied o n turns ≤ 128 * place_after o turns
 
 abbrev pub BoardsAreSmall : Type 0 → Type 0
-BoardsAreSmall F = (n : ℕ) (turns : List (Turn F)) → n ≤ 128 → IsRight n turns → IsSmall n turns
+BoardsAreSmall F = (o : Opening F) (n : ℕ) (turns : List (Turn F)) → IsRight o n turns → IsSmall o n turns
 
 -- How many fences wait, at all of n harts together.
-abbrev pub total_waiting : {F : Type 0} → ℕ → List (Turn F) → ℕ
-total_waiting n turns = sum_by (λ t. length (waiting turns t)) (range_with_len 0 n)
+abbrev pub total_waiting : {F : Type 0} → Opening F → ℕ → List (Turn F) → ℕ
+total_waiting o n turns = sum_by (λ t. length (waiting o turns t)) (range_with_len 0 n)
 
 -- Of the harts of which fences were asked, all together, they were applied at some, and wait at the others.
 abbrev pub CountsAgree : Type 0 → Type 0
 CountsAgree F =
-    (n : ℕ) (turns : List (Turn F)) → n ≤ 128 → IsRight n turns → total_asked turns ≡ total_applied n turns + total_waiting n turns
+    (o : Opening F) (n : ℕ) (turns : List (Turn F))
+    → IsRight o n turns → total_asked o turns ≡ total_applied o n turns + total_waiting o n turns
 
 -- A fence of a hart by itself alone, and what has to do with no fence, leave what is kept as it is.
 abbrev pub OthersChangeNothing : Type 0 → Type 0

@@ -1,4 +1,5 @@
 pub mod Turns
+pub mod Opening
 pub mod Waiting
 pub mod Applied
 pub mod Calls
@@ -10,3 +11,4 @@ pub mod HartCaches
 pub mod State
 pub mod Laws
 pub mod Need
+pub mod Cuts

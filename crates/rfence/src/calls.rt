@@ -47,7 +47,7 @@ pub fn forget_all(calls: &mut Vec<Option<Awaited>>, t: u64)
 }
 
 /// So many harts, none in a call. It fails where memory runs out.
-pub fn no_calls(alloc: Global, harts: u64) -> Result<Vec<Option<Awaited>>, AllocError>
+pub fn no_calls<T: Copy>(alloc: Global, harts: u64) -> Result<Vec<Option<T>>, AllocError>
     requires { harts ≤ 128 }
     ensures { IfOk result (λ calls. calls.items ≡ replicate harts None) }
 {
@@ -55,7 +55,7 @@ pub fn no_calls(alloc: Global, harts: u64) -> Result<Vec<Option<Awaited>>, Alloc
 }
 
 /// No hart is in a call any more.
-pub fn close_all(calls: &mut Vec<Option<Awaited>>)
+pub fn close_all<T: Copy>(calls: &mut Vec<Option<T>>)
     ensures { calls.new.items ≡ replicate (length calls.old.items) None }
 {
     calls.fill(None);

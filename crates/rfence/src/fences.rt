@@ -4,23 +4,26 @@ ghost use Rattle.fence_queue.specs.Positions.{position_of};
 ghost use Rattle.fence_queue.specs.Queues.{IsQueue, is_from, queue_at};
 ghost use Rattle.rfence.specs.Need.{IsNeed};
 ghost use Rattle.rfence.specs.Turns.{Ask, Serve, Poll, Stop, Reset};
-ghost use Rattle.rfence.specs.State.{AreAffected, HasRoom, IsTaken, StandsFor, call_at};
+ghost use Rattle.rfence.specs.Opening.{nothing_before};
+ghost use Rattle.rfence.specs.State.{AreAffected, HasRoom, IsTaken, IsTakenAt, StandsFor, call_at, opened_at};
 
 use crate::awaited::Awaited;
 use crate::caches::{Fenced, apply_at, apply_where, clear_all, clear_at};
 use crate::calls::{close_all, forget, forget_all, no_calls};
+use crate::opened::FenceCall;
 use crate::pending::{Pending, Waiting};
 use fence_queue::Request;
 use hart_mask::HartSet;
 use std::alloc::{AllocError, Global};
 use std::marker::Model;
 
-/// The fences of a board's harts: for each hart those that wait there, for each hart inside a fence call the harts that
-/// it waits for, and how many were asked and applied (SBI 8).
+/// The fences of a board's harts: for each hart those that wait there, for each hart inside a fence call that call and the
+/// harts that it waits for, and how many were asked and applied (SBI 8).
 #[derive(Drop)]
 pub struct Fences<F> {
     queues: Pending<F>,
     calls: Vec<Option<Awaited>>,
+    opened: Vec<Option<FenceCall<F>>>,
     asked: u64,
     applied: u64,
 }
@@ -30,10 +33,11 @@ impl<F> Model for Fences<F> {
 
     ghost Value = { State F };
 
-    ghost view = { λ f. record { queues = f.queues; calls = f.calls.items; asked = f.asked; applied = f.applied } };
+    ghost view = { λ f.
+        record { queues = f.queues; calls = f.calls.items; opened = f.opened.items; asked = f.asked; applied = f.applied } };
 
-    ghost invariant = { λ f.
-        HasTurns (record { queues = f.queues; calls = f.calls.items; asked = f.asked; applied = f.applied }) };
+    ghost invariant = { λ f. HasTurns
+        (record { queues = f.queues; calls = f.calls.items; opened = f.opened.items; asked = f.asked; applied = f.applied }) };
 }
 
 impl<F: Copy> Fences<F> {
@@ -41,27 +45,54 @@ impl<F: Copy> Fences<F> {
     /// where memory runs out; no other call takes memory.
     pub fn new(alloc: Global, harts: u64, idle: F) -> Result<Fences<F>, AllocError>
         requires { harts ≤ 128 }
-        ensures { IfOk result (λ fences. StandsFor harts [] fences) }
+        ensures { IfOk result (λ fences. StandsFor (nothing_before harts) harts [] fences) }
     {
         let queues = Pending::new(alloc, harts, idle)?;
         let calls = no_calls(alloc, harts)?;
+        let opened = no_calls(alloc, harts)?;
         Ok(Fences {
             queues,
             calls,
+            opened,
             asked: 0,
             applied: 0,
         })
     }
 
-    /// Hart `c`, which is outside of a call, asks a fence of these harts (SBI 8): at itself, if it is one of them, it is
-    /// applied at once, and at each other one it waits (profile). The hart is now inside its call.
-    pub fn ask<C: Fenced<F>>(&mut self, caches: &mut [C], c: u64, asked: HartSet, flush: F)
+    /// Fences that are equal to these. It fails where memory runs out.
+    pub fn try_copy(&self, alloc: Global) -> Result<Fences<F>, AllocError>
+        ensures { IfOk result (λ copy. copy ≡ self.now) }
+    {
+        let queues = self.queues.try_copy(alloc)?;
+        let mut calls = Vec::with_capacity(alloc, self.calls.len())?;
+        calls.extend_from_slice(&self.calls)?;
+        let mut opened = Vec::with_capacity(alloc, self.opened.len())?;
+        opened.extend_from_slice(&self.opened)?;
+        Ok(Fences {
+            queues,
+            calls,
+            opened,
+            asked: self.asked,
+            applied: self.applied,
+        })
+    }
+
+    /// Hart `c`, which is outside of a call, asks a fence of these harts by the event of this place (SBI 8): at itself, if it
+    /// is one of them, it is applied at once, and at each other one it waits (profile). The hart is now inside its call.
+    pub fn ask<C: Fenced<F>>(
+        &mut self,
+        caches: &mut [C],
+        place: u64,
+        c: u64,
+        asked: HartSet,
+        flush: F,
+    )
         requires caller { c < length self.old.calls }
         requires targets { (t : ℕ) → has asked t ≡ true → t < length self.old.calls }
         requires outside { call_at self.old c ≡ None }
         requires room { HasRoom self.old }
         requires caches { length caches.old ≡ length self.old.calls }
-        ensures taken { IsTaken self.old (Ask c (has asked) flush) self.new }
+        ensures taken { IsTakenAt place self.old (Ask c (has asked) flush) self.new }
         ensures affected { AreAffected C.dropped C.emptied self.old (Ask c (has asked) flush) caches.old caches.new }
     {
         let applied = self.applied;
@@ -73,6 +104,11 @@ impl<F: Copy> Fences<F> {
         others.remove(c);
         self.queues.ask(others, Request { from: c, flush });
         self.calls[c as usize] = Some(Awaited::new(others));
+        self.opened[c as usize] = Some(FenceCall {
+            place,
+            asked,
+            flush,
+        });
     }
 
     /// Hart `t` applies the first fence that waits there, and the hart that asked it waits for `t` no more (profile).
@@ -99,6 +135,7 @@ impl<F: Copy> Fences<F> {
         ensures { IsTaken self.old (Poll c) self.new }
     {
         self.calls[c as usize] = None;
+        self.opened[c as usize] = None;
     }
 
     /// Hart `t` stops: all that waits there counts as applied, its caches are emptied, and no hart waits for it (profile).
@@ -124,6 +161,7 @@ impl<F: Copy> Fences<F> {
         self.applied += self.queues.total();
         self.queues.clear();
         close_all(&mut self.calls);
+        close_all(&mut self.opened);
         clear_all(caches);
     }
 
@@ -141,6 +179,14 @@ impl<F: Copy> Fences<F> {
         ensures { result ≡ call_at self.now c }
     {
         self.calls[c as usize].map(|call| call.harts())
+    }
+
+    /// The fence call that hart `c` is in, if it is in one.
+    pub fn call(&self, c: u64) -> Option<FenceCall<F>>
+        requires { c < length self.now.calls }
+        ensures { result ≡ opened_at self.now c }
+    {
+        self.opened[c as usize]
     }
 
     /// Whether hart `c` is inside a fence call that waits for a hart.

@@ -1,4 +1,4 @@
-ghost use Rattle.rfence.specs.Laws.{AppliedOnce, BoardsAreSmall, CountsAgree, OthersChangeNothing, SuccessStrikes, WaitsAreOfOpenCalls};
+ghost use Rattle.rfence.specs.Laws.{AppliedOnce, BoardsAreSmall, CountsAgree, OpenedOnce, OthersChangeNothing, SuccessStrikes, WaitsAreOfOpenCalls};
 
 /// The fences that wait at a hart are of distinct other harts of the board, each inside the call by which it asked;
 /// so fewer wait at a hart than there are harts (profile).
@@ -11,19 +11,25 @@ pub fn applied_once<F>()
     ensures { AppliedOnce F }
 {}
 
+/// Each fence that was asked of a hart by a call that was open at the opening was applied there once, before or since, or
+/// waits there once.
+pub fn opened_once<F>()
+    ensures { OpenedOnce F }
+{}
+
 /// Where a hart polls after it asked a fence, so that its call was a success, the fence was applied at each hart that it
 /// asked, or that hart's caches were emptied, when it was asked or later (SBI 8).
 pub fn success_strikes<F>()
     ensures { SuccessStrikes F }
 {}
 
-/// On a board of at most 128 harts, what is kept of a call is the set of its outstanding harts, and each turn adds at
-/// most 128 fences that are asked and 16,384 that are applied (profile).
+/// What is kept of a call is the set of its outstanding harts, and at most 128 fences were asked, and at most 128 applied,
+/// for each turn that was made (profile).
 pub fn boards_are_small<F>()
     ensures { BoardsAreSmall F }
 {}
 
-/// Of right turns on at most 128 harts: as many fences were asked of harts, all together, as were applied there and as
+/// Of right turns: as many fences were asked of harts, all together, as were applied there and as
 /// wait there; those of a hart by itself alone don't count (profile).
 pub fn counts_agree<F>()
     ensures { CountsAgree F }

@@ -48,6 +48,20 @@ impl<F: Copy> Pending<F> {
         })
     }
 
+    /// Fences that are equal to these. It fails where memory runs out.
+    pub fn try_copy(&self, alloc: Global) -> Result<Pending<F>, AllocError>
+        ensures { IfOk result (λ copy. copy ≡ self.now) }
+    {
+        let callers = self.callers.try_copy(alloc)?;
+        let mut fences = Vec::with_capacity(alloc, self.fences.len())?;
+        fences.extend_from_slice(&self.fences)?;
+        Ok(Pending {
+            callers,
+            fences,
+            idle: self.idle,
+        })
+    }
+
     /// Puts a request at the end of the queue of each of these harts. None of its caller waits anywhere.
     pub fn ask(&mut self, targets: HartSet, request: Request<F>)
         requires caller { request.from < length self.old }

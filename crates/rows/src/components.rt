@@ -148,7 +148,11 @@ pub fn show_errors<R: Print>(rt: &R) -> io::Result<()> {
     ] {
         println!(rt; "{} {refusal}", refusal.number())?;
     }
-    for fault in [BuildFault::BadConfig, BuildFault::NoMemory] {
+    for fault in [
+        BuildFault::BadConfig,
+        BuildFault::NoMemory,
+        BuildFault::CutFull,
+    ] {
         println!(rt; "{} {fault}", fault.number())?;
     }
     println!(rt; "{InvalidParam}; {AlreadyAvailable}; {TimeFull}")
@@ -167,7 +171,8 @@ pub fn show_faults<R: Print>(rt: &R) -> io::Result<()> {
         Fault::TooLong,
         Fault::NoMemory,
     ] {
-        println!(rt; "{} {}", fault.number(), ScriptFault { line: 3, fault })?;
+        let found = ScriptFault { line: 3, fault };
+        println!(rt; "{} {} {found}", fault.number(), found.number())?;
     }
     let fault = ReadFault::Script(ScriptFault {
         line: 3,

@@ -3,7 +3,8 @@
 
 use anyhow::{Context, Result, bail};
 use board_core::{
-    Actor, Board, BuildFault, Config, Op, Refusal, Reply, Sie, Totals, USUAL_ASID_LEN, USUAL_WIDTH,
+    Actor, Board, BuildFault, Config, Op, Phase, Refusal, Reply, Sie, Totals, USUAL_ASID_LEN,
+    USUAL_WIDTH,
 };
 use board_lock::{HartNow, HartView, Rest};
 use conditions::conditions;
@@ -134,6 +135,7 @@ pub fn show_memory<R: Print>(rt: &R) -> io::Result<()> {
     };
     let word = FetchWord { pa: 8, word: 9 };
     let numbered = Numbered {
+        date: 1,
         number: 2,
         item: word,
     };
@@ -175,7 +177,7 @@ pub fn show_board<R: Print>(rt: &R) -> io::Result<()> {
     println!(rt; "{:?}", Actor::Hart(3))?;
     println!(rt; "{:?}", Op::Sfence(None, Some(4)))?;
     println!(rt; "{entered:?}")?;
-    println!(rt; "{:?}", Refusal::TimeFull)?;
+    println!(rt; "{:?} {:?}", Refusal::TimeFull, Phase::Inside)?;
     println!(rt; "{totals:?}")?;
     println!(rt; "{:?}", Sie::of(0x20))
 }
@@ -286,7 +288,7 @@ pub fn show_private_memory<R: AllocGlobal + Print>(rt: &R) -> Result<()> {
 /// Shows caches, empty and not.
 pub fn show_private_caches<R: AllocGlobal + Print>(rt: &R) -> Result<()> {
     let mut filled = Caches::new();
-    filled.tlb.fill(ENTRY);
+    filled.tlb.fill(0, ENTRY);
     let empty = Caches::new();
     tell(rt, "Cache", &empty.tlb, &filled.tlb)?;
     tell(rt, "Caches", &empty, &filled)

@@ -14,13 +14,13 @@
 //!   after each, or in the state behind `#`.
 #![tactic(auto)]
 
+mod built;
 mod components;
 mod debugging;
-mod devices;
+mod needs;
 mod printing;
 mod row;
 
-use crate::devices::Task;
 use crate::row::{Row, check, check_cases, check_outcomes, check_text, check_traces};
 use anyhow::{Context, Result};
 use std::rt::{Env, Files};
@@ -52,10 +52,8 @@ fn show<R: AllocGlobal + Print + Eprint>(rt: &R) -> Result<()> {
     debugging::show_ends(rt)?;
     show_private(rt)?;
     printing::show_lines(rt)?;
-    devices::show_calls(rt)?;
-    devices::show_pieces(rt)?;
-    show_failures(rt, Task::Replay, "replay")?;
-    show_failures(rt, Task::Check, "check")
+    built::show_built(rt)?;
+    needs::show_needs(rt)
 }
 
 /// Shows what `Debug` writes of the types whose fields are private.
@@ -69,24 +67,24 @@ fn show_private<R: AllocGlobal + Print>(rt: &R) -> Result<()> {
     debugging::show_private_events(rt)
 }
 
-/// Shows how many reads and writes a task makes, each of which failed in turn.
-fn show_failures<R: AllocGlobal + Print>(rt: &R, task: Task, name: &str) -> Result<()> {
-    let reads = devices::check_reads(rt.alloc(), task)?;
-    let writes = devices::check_writes(rt.alloc(), task)?;
-    println!(rt; "{name}: {reads} reads, {writes} writes")?;
-    Ok(())
-}
-
 /// Checks the rows of a file, and prints how many they are and what differs.
 fn check_file<R: AllocGlobal + Files + Print>(rt: &R, name: &str) -> Result<()> {
     let text = fs::read_to_string(rt, name)?;
+    let mut count: u64 = 0;
     for row in text.split("\nrow ").skip(1) {
-        if let Err(why) = check_row(rt, row) {
-            let name = row.lines().next().unwrap_or("");
-            println!(rt; "{name}: {why}")?;
-        }
+        tell_row(rt, row)?;
+        count = count.wrapping_add(1);
     }
-    println!(rt; "{name}: {} rows", text.split("\nrow ").skip(1).count())?;
+    println!(rt; "{name}: {count} rows")?;
+    Ok(())
+}
+
+/// Checks a row, whose name is the text's first line, and prints what differs.
+fn tell_row<R: AllocGlobal + Print>(rt: &R, row: &str) -> Result<()> {
+    if let Err(why) = check_row(rt, row) {
+        let name = row.lines().next().unwrap_or("");
+        println!(rt; "{name}: {why}")?;
+    }
     Ok(())
 }
 

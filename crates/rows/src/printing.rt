@@ -41,14 +41,13 @@ pub fn show_lines<R: AllocGlobal + Print>(rt: &R) -> Result<()> {
         hart: most,
         opaque: most,
     };
-    print_line(
-        Actor::Clock,
-        Op::Advance,
-        Err(Refusal::WrongPhase),
-        &mut out,
-    )?;
-    print_line(Actor::Hart(most), long, Ok(ret(i64::MIN, most)), &mut out)?;
-    print_line(Actor::Hart(127), Op::Advance, Ok(entry), &mut out)?;
+    let ticks = Some((Actor::Clock, Op::Advance));
+    print_line(ticks, Err(Refusal::WrongPhase), &mut out)?;
+    let calls = Some((Actor::Hart(most), long));
+    print_line(calls, Ok(ret(i64::MIN, most)), &mut out)?;
+    let enters = Some((Actor::Hart(127), Op::Advance));
+    print_line(enters, Ok(entry), &mut out)?;
+    print_line(None, Ok(Reply::Done), &mut out)?;
     print_reply(Ok(ret(-2, 0)), &mut out)?;
     let text = String::from_utf8(out.into_inner()).ok().context("no text")?;
     println!(rt; "{text}")?;

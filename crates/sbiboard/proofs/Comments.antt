@@ -17,7 +17,7 @@ use Rattle.tlb_model.specs.declared.fence.Flush.TheVariants.{Words, Entries}
 use Rattle.tlb_model.specs.declared.fence.Range.{Range}
 use Rattle.tlb_model.specs.declared.word.FetchWord.{FetchWord}
 use Rattle.board_core.specs.declared.board.Totals.{Totals}
-use Rattle.board_core.specs.declared.config.Config.{Config}
+use Rattle.board_core.specs.Opening.{Opening}
 use Rattle.board_core.specs.Course.{harts_of}
 use Rattle.board_core.specs.Fences.{waiting}
 use Rattle.board_core.specs.History.{Event}
@@ -132,10 +132,10 @@ reset_shown : (reset : Option Reset) → AreShown (reset_words reset)
 reset_shown None = (written_shown (codes "none") refl, tt)
 reset_shown (Some reset) = (hex_shown 8 _, (hex_shown 8 reset.reason, tt))
 
-time_passes : (past : List Event) → Passes (line_of (time_cells past))
+time_passes : (o : Opening) (past : List Event) → Passes (line_of (time_cells o past))
 unfolding time_cells
-time_passes past =
-    let shown : AreShown (drop 1 (time_cells past)) = (
+time_passes o past =
+    let shown : AreShown (drop 1 (time_cells o past)) = (
       written_shown (codes "time") refl,
       (
         hex_shown 16 _,
@@ -145,7 +145,7 @@ time_passes past =
         ),
       ),
     ) in
-    pass_line (drop 1 (time_cells past)) shown
+    pass_line (drop 1 (time_cells o past)) shown
 
 totals_passes : (t : Totals) → Passes (line_of (totals_cells t))
 unfolding totals_cells
@@ -176,13 +176,13 @@ deadline_shown : (deadline : Option ℕ) → IsShown (deadline_cell deadline)
 deadline_shown (Some deadline) = hex_shown 16 deadline
 deadline_shown None = repeated_shown 16 45 refl
 
-row_passes : (c : Config) (past : List Event) (h : ℕ) → Passes (row c past h)
+row_passes : (o : Opening) (past : List Event) (h : ℕ) → Passes (row o past h)
 unfolding hart_cells
-row_passes c past h =
-    let shown : AreShown (drop 1 (hart_cells c past h)) = (
+row_passes o past h =
+    let shown : AreShown (drop 1 (hart_cells o past h)) = (
       number_shown 4 h,
       (
-        left_shown 15 (state_name (state c past h)) (state_shown (state c past h)),
+        left_shown 15 (state_name (state o past h)) (state_shown (state o past h)),
         (
           number_shown 4 _,
           (
@@ -195,7 +195,7 @@ row_passes c past h =
         ),
       ),
     ) in
-    pass_line (drop 1 (hart_cells c past h)) shown
+    pass_line (drop 1 (hart_cells o past h)) shown
 
 entry_passes : (h : ℕ) (start : Option Kept) → Passes (entry_line h start)
 unfolding entry_cells
@@ -251,27 +251,27 @@ fence_passes h request =
     let shown : AreShown (drop 1 (fence_cells h request)) = (written_shown (codes "fence") refl, (number_shown 3 h, (written_shown (codes "from") refl, (number_shown 3 request.from, flush_shown request.flush)))) in
     pass_line (drop 1 (fence_cells h request)) shown
 
-details_passes : (c : Config) (past : List Event) (h : ℕ) → Passes (details c past h)
-details_passes c past h =
-    let entry = entry_line h (kept c past h) in
-    let tlb = flat_map (tlb_line h) (entries c past h) in
-    let ic = flat_map (word_line h) (words c past h) in
-    let fences = flat_map (fence_line h) (waiting c past h) in
-    pass_append entry (tlb ++ (ic ++ fences)) (entry_passes h (kept c past h))
-    (pass_append tlb (ic ++ fences) (pass_each (tlb_line h) (tlb_passes h) (entries c past h))
-    (pass_append ic fences (pass_each (word_line h) (word_passes h) (words c past h)) (pass_each (fence_line h) (fence_passes h) (waiting c past h))))
+details_passes : (o : Opening) (past : List Event) (h : ℕ) → Passes (details o past h)
+details_passes o past h =
+    let entry = entry_line h (kept o past h) in
+    let tlb = flat_map (tlb_line h) (entries o past h) in
+    let ic = flat_map (word_line h) (words o past h) in
+    let fences = flat_map (fence_line h) (waiting o past h) in
+    pass_append entry (tlb ++ (ic ++ fences)) (entry_passes h (kept o past h))
+    (pass_append tlb (ic ++ fences) (pass_each (tlb_line h) (tlb_passes h) (entries o past h))
+    (pass_append ic fences (pass_each (word_line h) (word_passes h) (words o past h)) (pass_each (fence_line h) (fence_passes h) (waiting o past h))))
 
-table_passes : (c : Config) (past : List Event) → Passes (table c past)
-table_passes c past =
-    let time = line_of (time_cells past) in
-    let counts = line_of (totals_cells (totals c past)) in
+table_passes : (o : Opening) (past : List Event) → Passes (table o past)
+table_passes o past =
+    let time = line_of (time_cells o past) in
+    let counts = line_of (totals_cells (totals o past)) in
     let head = line_of head_cells in
-    let rows = flat_map (row c past) (harts_of c) in
-    let others = flat_map (details c past) (harts_of c) in
-    pass_append time (counts ++ (head ++ (rows ++ others))) (time_passes past)
-    (pass_append counts (head ++ (rows ++ others)) (totals_passes (totals c past))
+    let rows = flat_map (row o past) (harts_of o.config) in
+    let others = flat_map (details o past) (harts_of o.config) in
+    pass_append time (counts ++ (head ++ (rows ++ others))) (time_passes o past)
+    (pass_append counts (head ++ (rows ++ others)) (totals_passes (totals o past))
     (pass_append head (rows ++ others) head_passes
-    (pass_append rows others (pass_each (row c past) (row_passes c past) (harts_of c)) (pass_each (details c past) (details_passes c past) (harts_of c)))))
+    (pass_append rows others (pass_each (row o past) (row_passes o past) (harts_of o.config)) (pass_each (details o past) (details_passes o past) (harts_of o.config)))))
 
 pub table_is_comments : TableIsComments
-table_is_comments c past = subst AreComments (append-nil (table c past)) (table_passes c past [] tt)
+table_is_comments o past = subst AreComments (append-nil (table o past)) (table_passes o past [] tt)

@@ -1,11 +1,11 @@
 -- A program that ran has written its record and its end.
-use Rattle.std.proofs.Common.{◌≡◌, ℕ, true, false, List, refl, sym, inl}
+use Rattle.std.proofs.Common.{◌≡◌, ℕ, true, false, List, refl, ap, inl}
 use Rattle.std.specs.Prelude.{Option, Some, None, is_some, reverse}
 use Rattle.std.specs.Io.KnownBytes.{Appends}
-use Rattle.board_core.specs.declared.config.Config.{Config}
 use Rattle.board_core.specs.declared.event.Actor.TheVariants.{Clock}
 use Rattle.board_core.specs.History.{Event}
 use Rattle.board_core.specs.Limits.{IsGood}
+use Rattle.board_core.specs.Opening.{Opening, opening_at}
 use Rattle.board_core.specs.Replies.{IsLegal}
 use Rattle.board_lock.specs.Events.{ops_of}
 use Rattle.guest_script.specs.Grammar.{Content, Empty, Program, Reads, Schedule, Trace, Written}
@@ -32,20 +32,28 @@ no-tasks (Schedule lines) is = refl
 no-tasks (Trace lines) is = refl
 
 module _ (bytes : List ℕ) (script : Written) (reads : Reads bytes script) (program : is_some (programmed script.content) ≡ true)
-    (c : Config) (opened : c ≡ script.config) (good : IsGood c) (past : List Event) (legal : IsLegal c past)
+    (o : Opening) (opened : o ≡ opening_at script.config) (good : IsGood o.config) (past : List Event) (legal : IsLegal o past)
     (ticked : AreFirst (ticks_of script.content) (ops_of Clock (reverse past)))
     (old new : Option (List ℕ)) where
-  ran : (end : End) → IsEnd end c past (blocks_of script.content) → EndsRun bytes (outcome_of end) (run_text c past end)
+  ran : (end : End) → IsEnd end o past (blocks_of script.content) → EndsRun bytes (outcome_of end) (run_text o past end)
   ran end ended = inl (
-    c,
+    script.config,
     tasks script.content,
-    record { script = script; reads = reads; config_is = sym opened; lines_are = tasks-are script.content program; good = good },
-    record { past = past; end = end; legal = legal; ticked = ticked; ended = ended; outcome_is = refl; text_is = refl },
+    record { script = script; reads = reads; config_is = refl; lines_are = tasks-are script.content program; good = rw opened at good },
+    record {
+      past = past;
+      end = end;
+      legal = rw opened at legal;
+      ticked = ticked;
+      ended = rw opened at ended;
+      outcome_is = refl;
+      text_is = ap (λ (b : Opening). run_text b past end) opened;
+    },
   )
 
-  pub has_run : (end : End) → IsEnd end c past (blocks_of script.content) → Appends old new (run_text c past end) → Writes (EndsRun bytes) (outcome_of end) old new
-  has_run GateLimit ended put = (run_text c past GateLimit, ran GateLimit ended, put)
-  has_run Off ended put = (run_text c past Off, ran Off ended, put)
-  has_run HistoryFull ended put = (run_text c past HistoryFull, ran HistoryFull ended, put)
-  has_run Quiet ended put = (run_text c past Quiet, ran Quiet ended, put)
-  has_run Stuck ended put = (run_text c past Stuck, ran Stuck ended, put)
+  pub has_run : (end : End) → IsEnd end o past (blocks_of script.content) → Appends old new (run_text o past end) → Writes (EndsRun bytes) (outcome_of end) old new
+  has_run GateLimit ended put = (run_text o past GateLimit, ran GateLimit ended, put)
+  has_run Off ended put = (run_text o past Off, ran Off ended, put)
+  has_run HistoryFull ended put = (run_text o past HistoryFull, ran HistoryFull ended, put)
+  has_run Quiet ended put = (run_text o past Quiet, ran Quiet ended, put)
+  has_run Stuck ended put = (run_text o past Stuck, ran Stuck ended, put)

@@ -30,10 +30,10 @@ use Rattle.guest_script.specs.declared.said.Said.{Said}
 use Rattle.guest_script.specs.declared.script.Line.{Line}
 use Rattle.guest_script.specs.Agreeing.{said_of}
 use Rattle.guest_script.specs.Forms.{AreArguments, Form, form_of, IsArgument, IsNamed, IsSaid, number_at, regs_of, said_form_of}
-use Rattle.guest_script.specs.Grammar.{AreLines, Draft, HasUsualSpaces, Nothing, Traced, IsActor, IsStep, content_of}
+use Rattle.guest_script.specs.Grammar.{AreLines, Draft, HasUsualSpaces, Nothing, Traced, IsActor, IsDoing, IsStep, content_of}
 use Rattle.guest_script.specs.Words.{AreNumbers, IsLine, IsNumber, last_hart, last_number}
-use Rattle.monitor.specs.Words.{actor_word, board_words, hex, hex_or_dash, line_of, op_words, reply_words}
-use Rattle.sbiboard.specs.PrintedScripts.{Answered, AreComments, FitsActor, FitsAnswer, FitsAnswered, FitsConfig, FitsError, FitsOp, LineReadsBack, NumberReadsBack, SignedReadsBack, TraceReadsBack, trace_line, trace_lines, trace_of, words_of}
+use Rattle.monitor.specs.Words.{actor_word, board_words, doing_words, hex, hex_or_dash, line_of, op_words, reply_words}
+use Rattle.sbiboard.specs.PrintedScripts.{ActorFits, Answered, AreComments, FitsActor, FitsAnswer, FitsAnswered, FitsConfig, FitsError, FitsOp, LineReadsBack, NumberReadsBack, OpFits, SignedReadsBack, TraceReadsBack, trace_line, trace_lines, trace_of, words_of}
 use Rattle.guest_script.proofs.PlainWords.{append_all, arguments_plain, IsPlain, joined_line, lines_printed, name_plain, numbers_plain, spelled_plain}
 
 -- ---- printed numbers
@@ -166,6 +166,14 @@ step_is actor op fits_actor fits_op = record {
   is_op = (op_read_back op fits_op).is_named;
 }
 
+doing_is : (step : Option (Actor × Op)) → ActorFits step → OpFits step → IsDoing (doing_words step) step
+doing_is None actor op = refl
+doing_is (Some step) actor op = step_is step.0 step.1 actor op
+
+doing_plain : (step : Option (Actor × Op)) → ActorFits step → OpFits step → AllByRecursion IsPlain (doing_words step)
+doing_plain None actor op = (name_plain (codes "cut") (λ e. cc) (omega arith), tt)
+doing_plain (Some step) actor op = (actor_plain step.0 actor, (op_read_back step.1 op).plain)
+
 -- ---- printed answers
 
 record IsAnswer (words : List (List ℕ)) (said : Said) : Type 0 where
@@ -265,20 +273,20 @@ arrow_plain = ((λ e. cc), (record { allowed = refl; solid = refl; no_hash = ref
 
 words_plain : (step : Answered) → FitsAnswered step → AllByRecursion IsPlain (words_of step)
 words_plain step fits =
-    append_all IsPlain (actor_word step.actor ∷ op_words step.op) (codes "->" ∷ reply_words step.answer)
-    (actor_plain step.actor fits.actor, (op_read_back step.op fits.op).plain) (arrow_plain, (answer_read_back step.answer fits.answer).plain)
+    append_all IsPlain (doing_words step.step) (codes "->" ∷ reply_words step.answer)
+    (doing_plain step.step fits.actor fits.op) (arrow_plain, (answer_read_back step.answer fits.answer).plain)
 
 pub line_read_back : LineReadsBack
 line_read_back n step fits = (
   joined_line (words_of step) (words_plain step fits),
   (
-    actor_word step.actor ∷ op_words step.op,
+    doing_words step.step,
     reply_words step.answer,
     said_of step.answer,
     refl,
     refl,
     refl,
-    step_is step.actor step.op fits.actor fits.op,
+    doing_is step.step fits.actor fits.op,
     (answer_read_back step.answer fits.answer).is_said,
   ),
 )

@@ -1,23 +1,24 @@
 -- What is read of a script may be written in a trace.
-use Rattle.std.proofs.Common.{◌≡◌, ℕ, ◌+◌, ◌≤◌, Bool, true, false, List, [], ◌∷◌, ◌++◌, Some, subst, sym, arith, inl, inr}
+use Rattle.std.proofs.Common.{◌≡◌, ℕ, ◌+◌, ◌≤◌, Bool, true, false, List, [], ◌∷◌, ◌++◌, Option, Some, None, subst, sym, arith, inl, inr}
 use Rattle.std.specs.Prelude.{◌⊎◌, Result}
 use Rattle.std.specs.List.{AllByRecursion}
 use Rattle.std.specs.Str.Lines.{lines}
 use Rattle.board_core.specs.declared.event.Actor.{Actor}
 use Rattle.board_core.specs.declared.event.Actor.TheVariants.{Hart, Clock}
+use Rattle.board_core.specs.declared.event.Op.{Op}
 use Rattle.board_core.specs.declared.event.Refusal.{Refusal}
 use Rattle.board_core.specs.declared.event.Reply.{Reply}
 use Rattle.board_core.specs.Course.{Course}
 use Rattle.board_core.specs.declared.config.Config.{Config}
 use Rattle.board_core.specs.Limits.{IsGood, first_numbers, numbers_of}
 use Rattle.guest_script.specs.declared.script.Line.{Line}
-use Rattle.guest_script.specs.Grammar.{AreLines, AreScript, Content, content_of, Draft, Empty, Nothing, Blocked, IsActor, IsNext, IsStepLine, HasUsualSpaces, IsBoard, Program, Reads, Schedule, Stepped, Trace, Traced, Written}
+use Rattle.guest_script.specs.Grammar.{AreLines, AreScript, Content, content_of, Draft, Empty, Nothing, Blocked, IsActor, IsDoing, IsNext, IsStepLine, HasUsualSpaces, IsBoard, Program, Reads, Schedule, Stepped, Trace, Traced, Written}
 use Rattle.guest_script.specs.Words.{AreNumbers, last_number}
 use Rattle.sbiboard.specs.declared.running.Job.{Job}
 use Rattle.sbiboard.specs.declared.running.Job.TheVariants.{Check, Replay}
 use Rattle.sbiboard.specs.Fitting.{ActorsFit, AllFit, AreRead}
 use Rattle.sbiboard.specs.Jobs.{lines_for}
-use Rattle.sbiboard.specs.PrintedScripts.{FitsActor, FitsAnswer, FitsConfig, FitsOp}
+use Rattle.sbiboard.specs.PrintedScripts.{ActorFits, FitsActor, FitsAnswer, FitsConfig, OpFits}
 use Rattle.sbiboard.specs.Running.{after_line, answer_of}
 use Rattle.guest_script.proofs.PlainWords.{append_all}
 
@@ -25,9 +26,13 @@ actor_read : (word : List ℕ) (actor : Actor) → IsActor word actor → FitsAc
 actor_read word (Hart h) is = is.0
 actor_read word Clock is = tt
 
-step_read : (n : ℕ) (in_trace : Bool) (words : List (List ℕ)) (line : Line) → IsStepLine n in_trace words line → FitsActor line.actor
-step_read n false words line is = actor_read is.2.first line.actor is.2.is_actor
-step_read n true words line is = actor_read is.6.first line.actor is.6.is_actor
+doing_read : (words : List (List ℕ)) (step : Option (Actor × Op)) → IsDoing words step → ActorFits step
+doing_read words None is = tt
+doing_read words (Some step) is = actor_read is.first step.0 is.is_actor
+
+step_read : (n : ℕ) (in_trace : Bool) (words : List (List ℕ)) (line : Line) → IsStepLine n in_trace words line → ActorFits line.step
+step_read n false words line is = doing_read words line.step is.2
+step_read n true words line is = doing_read is.0 line.step is.6
 
 abbrev DraftFits : Draft → Type 0
 DraftFits Nothing = Unit {0}
@@ -35,8 +40,8 @@ DraftFits (Blocked p) = Unit {0}
 DraftFits (Stepped lines) = ActorsFit lines
 DraftFits (Traced lines) = ActorsFit lines
 
-more_read : (before lines : List Line) (line : Line) → lines ≡ before ++ line ∷ [] → ActorsFit before → FitsActor line.actor → ActorsFit lines
-more_read before lines line are fits more = subst ActorsFit (sym are) (append_all (λ l. FitsActor l.actor) before (line ∷ []) fits (more, tt))
+more_read : (before lines : List Line) (line : Line) → lines ≡ before ++ line ∷ [] → ActorsFit before → ActorFits line.step → ActorsFit lines
+more_read before lines line are fits more = subst ActorsFit (sym are) (append_all (λ l. ActorFits l.step) before (line ∷ []) fits (more, tt))
 
 next_read : (n : ℕ) (draft : Draft) (words : List (List ℕ)) (next : Draft) → DraftFits draft → IsNext n draft words next → DraftFits next
 next_read n draft words Nothing fits is = tt
@@ -108,6 +113,6 @@ are_read job bytes s found reads are good =
 
 -- the lines from a line on fit, if it and those after it do
 pub all_fit-more : (b next : Course) (others rest : List Line) (line : Line) → others ≡ line ∷ rest → next ≡ after_line b line
-    → (answer : Result Reply Refusal) → answer ≡ answer_of b line → FitsOp line.op → FitsAnswer answer → AllFit next rest → AllFit b others
+    → (answer : Result Reply Refusal) → answer ≡ answer_of b line → OpFits line.step → FitsAnswer answer → AllFit next rest → AllFit b others
 all_fit-more b next others rest line are next_is answer is op fits later =
     subst (AllFit b) (sym are) (op, subst FitsAnswer is fits, subst (λ c. AllFit c rest) next_is later)

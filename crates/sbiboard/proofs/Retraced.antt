@@ -1,28 +1,28 @@
 -- What a replay writes is a trace with which the board agrees.
-use Rattle.std.proofs.Common.{◌≡◌, ℕ, suc, ◌+◌, ◌≤◌, List, [], ◌∷◌, ◌++◌, length, Some, subst, refl, sym, ap, ◌∙◌, inl}
+use Rattle.std.proofs.Common.{◌≡◌, ℕ, suc, ◌+◌, ◌≤◌, List, [], ◌∷◌, ◌++◌, length, true, false, Some, subst, refl, sym, ap, ◌∙◌, inl}
 use Rattle.std.specs.List.{AllByRecursion, flat_map}
 use Rattle.board_core.specs.declared.config.Config.{Config}
 use Rattle.board_core.specs.Course.{Course}
 use Rattle.guest_script.specs.declared.script.Line.{Line}
 use Rattle.guest_script.specs.Grammar.{most_bytes}
 use Rattle.monitor.specs.Words.{board_words, line_of}
-use Rattle.sbiboard.specs.declared.outcome.Outcome.TheVariants.{Good}
+use Rattle.sbiboard.specs.declared.outcome.Outcome.TheVariants.{Good, HistoryFull}
 use Rattle.sbiboard.specs.Check.{AllAgree, agrees_text, EndsCheck, traced}
 use Rattle.sbiboard.specs.Fitting.{ActorsFit, AllFit, AreRead}
 use Rattle.sbiboard.specs.PrintedScripts.{Answered, FitsAnswered, printed, trace_lines, trace_of, words_of}
-use Rattle.sbiboard.specs.Replay.{IsReplay, lines_text, table_of, text_of}
-use Rattle.sbiboard.specs.Running.{after_line, answer_of, course_after, opening_of}
+use Rattle.sbiboard.specs.Replay.{IsPrinted, IsReplay, lines_text, Replays, table_of, text_of}
+use Rattle.sbiboard.specs.Running.{after_line, answer_of, course_after, new_course}
 use Rattle.sbiboard.proofs.Comments.{table_is_comments}
 use Rattle.sbiboard.proofs.ReadBack.{trace_read_back}
 
 -- the lines with what they are answered
 abbrev answered : Course → List Line → List Answered
 answered b [] = []
-answered b (line ∷ lines) = record { actor = line.actor; op = line.op; answer = answer_of b line } ∷ answered (after_line b line) lines
+answered b (line ∷ lines) = record { step = line.step; answer = answer_of b line } ∷ answered (after_line b line) lines
 
 lines_answered : (b : Course) (lines : List Line) → lines_text b lines ≡ flat_map (λ step. line_of (words_of step)) (answered b lines)
 lines_answered b [] = refl
-lines_answered b (line ∷ lines) = ap (λ text. line_of (words_of (record { actor = line.actor; op = line.op; answer = answer_of b line })) ++ text) (lines_answered (after_line b line) lines)
+lines_answered b (line ∷ lines) = ap (λ text. line_of (words_of (record { step = line.step; answer = answer_of b line })) ++ text) (lines_answered (after_line b line) lines)
 
 answered_fit : (b : Course) (lines : List Line) → ActorsFit lines → AllFit b lines → AllByRecursion FitsAnswered (answered b lines)
 answered_fit b [] actors fits = tt
@@ -41,17 +41,17 @@ traced_of : (lines : List Line) → traced (trace_of lines) ≡ Some lines
 traced_of [] = refl
 traced_of (line ∷ lines) = refl
 
-accepted : (c : Config) (lines : List Line) → AreRead c lines → AllFit (opening_of c) lines → (text : List ℕ) → text ≡ text_of c lines
+accepted : (c : Config) (lines : List Line) → AreRead c lines → AllFit (new_course c) lines → (text : List ℕ) → text ≡ text_of c lines
     → length text ≤ most_bytes → EndsCheck text Good (agrees_text (length lines))
 unfolding text_of
 accepted c lines are fits text is short =
-    let first = opening_of c in
+    let first = new_course c in
     let steps = answered first lines in
     let trace = trace_lines 2 steps in
     let comments = table_of (course_after first lines) in
     let same : text ≡ printed c steps comments = is ∙ ap (λ body. line_of (board_words c) ++ (body ++ comments)) (lines_answered first lines) in
     let fit = answered_fit first lines are.actors fits in
-    let table = table_is_comments (course_after first lines).config (course_after first lines).past in
+    let table = table_is_comments (course_after first lines).opening (course_after first lines).past in
     let reads = trace_read_back c steps comments are.config fit table (subst (λ t. length t ≤ most_bytes) same short) in
     subst (λ t. EndsCheck t Good (agrees_text (length lines))) (sym same)
     (inl (
@@ -62,5 +62,12 @@ accepted c lines are fits text is short =
     ))
 
 -- the text of lines that were replayed
-pub is_replay : (c : Config) (lines : List Line) → AreRead c lines → AllFit (opening_of c) lines → IsReplay c lines (text_of c lines)
+is_replay : (c : Config) (lines : List Line) → AreRead c lines → AllFit (new_course c) lines → IsReplay c lines (text_of c lines)
 is_replay c lines are fits = record { is_text = refl; accepted = accepted c lines are fits (text_of c lines) refl }
+
+module _ (c : Config) (lines : List Line) (are : AreRead c lines) (fits : AllFit (new_course c) lines) (text : List ℕ) where
+  pub replays_well : IsPrinted c lines (Some false) text → Replays c lines Good text
+  replays_well (full, is) = (sym full, subst (IsReplay c lines) (sym is) (is_replay c lines are fits))
+
+  pub replays_full : IsPrinted c lines (Some true) text → Replays c lines HistoryFull text
+  replays_full (full, is) = (sym full, subst (IsReplay c lines) (sym is) (is_replay c lines are fits))

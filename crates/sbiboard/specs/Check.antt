@@ -10,8 +10,8 @@ use Rattle.guest_script.specs.Agreeing.{said_of}
 use Rattle.guest_script.specs.Grammar.{Content, Empty, Program, Schedule, Trace}
 use Rattle.monitor.specs.Words.{reply_words}
 use Rattle.sbiboard.specs.declared.outcome.Outcome.{Outcome}
-use Rattle.sbiboard.specs.declared.outcome.Outcome.TheVariants.{Good, Differs}
-use Rattle.sbiboard.specs.Running.{after_line, answer_of, EndsAs, opening_of}
+use Rattle.sbiboard.specs.declared.outcome.Outcome.TheVariants.{Good, Differs, NoMemory}
+use Rattle.sbiboard.specs.Running.{after_line, answer_of, EndsAs, new_course, StopsAtCut}
 
 -- the lines of a trace; an empty script is one without lines
 abbrev pub traced : Content → Option (List Line)
@@ -45,11 +45,13 @@ abbrev pub differs_text : (number : ℕ) → Result Reply Refusal → List ℕ
 differs_text number answer =
     (codes "differs at line " ++ decimal number) ++ (codes ": " ++ (join_with_byte 32 (reply_words answer) ++ 10 ∷ []))
 
--- What the check of these lines writes with each outcome.
+-- What the check of these lines writes with each outcome. Where memory for a cut was refused, the lines before it agree.
 abbrev pub Checks : Config → List Line → Outcome → List ℕ → Type 0
-Checks c lines Good text = AllAgree (opening_of c) lines × (text ≡ agrees_text (length lines))
+Checks c lines Good text = AllAgree (new_course c) lines × (text ≡ agrees_text (length lines))
 Checks c lines Differs text =
-    (number : ℕ) × (answer : Result Reply Refusal) × DiffersFirst (opening_of c) lines number answer × (text ≡ differs_text number answer)
+    (number : ℕ) × (answer : Result Reply Refusal) × DiffersFirst (new_course c) lines number answer × (text ≡ differs_text number answer)
+Checks c lines NoMemory text =
+    (before : List Line) × StopsAtCut lines before × AllAgree (new_course c) before × (text ≡ [])
 Checks c lines outcome text = ⊥
 
 -- What the check of bytes writes with each outcome.

@@ -5,12 +5,12 @@ use Rattle.board_core.specs.declared.config.Config.{Config}
 use Rattle.board_core.specs.Course.{Course}
 use Rattle.board_core.specs.Limits.{IsGood}
 use Rattle.guest_script.specs.declared.script.Line.{Line}
-use Rattle.sbiboard.specs.PrintedScripts.{FitsActor, FitsAnswer, FitsConfig, FitsOp}
+use Rattle.sbiboard.specs.PrintedScripts.{ActorFits, FitsAnswer, FitsConfig, OpFits}
 use Rattle.sbiboard.specs.Running.{after_line, answer_of}
 
 -- each actor may be written
 abbrev pub ActorsFit : List Line → Type 0
-ActorsFit lines = AllByRecursion (λ line. FitsActor line.actor) lines
+ActorsFit lines = AllByRecursion (λ line. ActorFits line.step) lines
 
 -- a board that can be made, and lines, as they are read of a script
 pub record AreRead (c : Config) (lines : List Line) : Type 0 where
@@ -21,4 +21,4 @@ pub record AreRead (c : Config) (lines : List Line) : Type 0 where
 -- the numbers of each operation and of each answer fit registers
 abbrev pub AllFit : Course → List Line → Type 0
 AllFit b [] = Unit {0}
-AllFit b (line ∷ lines) = FitsOp line.op × FitsAnswer (answer_of b line) × AllFit (after_line b line) lines
+AllFit b (line ∷ lines) = OpFits line.step × FitsAnswer (answer_of b line) × AllFit (after_line b line) lines

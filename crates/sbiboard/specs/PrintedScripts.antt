@@ -1,10 +1,11 @@
 -- What is printed of a script is read back (profile).
-use Rattle.std.specs.Prelude.{◌≡◌, ℕ, suc, ℤ, pos, negsuc, ◌+◌, ◌≤◌, true, List, [], ◌∷◌, ◌++◌, length, Some, IfSome, Result, Ok, decimal}
+use Rattle.std.specs.Prelude.{◌≡◌, ℕ, suc, ℤ, pos, negsuc, ◌+◌, ◌≤◌, true, List, [], ◌∷◌, ◌++◌, length, Option, Some, None, IfSome, Result, Ok, decimal}
 use Rattle.std.specs.Fmt.{signed_decimal}
 use Rattle.std.specs.List.{AllByRecursion, flat_map, join_with_byte}
 use Rattle.std.specs.Str.Lines.{lines}
 use Rattle.board_core.specs.declared.config.Config.{Config}
 use Rattle.board_core.specs.Limits.{numbers_of}
+use Rattle.board_core.specs.Opening.{Opening}
 use Rattle.board_core.specs.declared.event.Actor.{Actor}
 use Rattle.board_core.specs.declared.event.Actor.TheVariants.{Hart, Clock}
 use Rattle.board_core.specs.declared.event.Op.{Op}
@@ -18,7 +19,7 @@ use Rattle.guest_script.specs.Agreeing.{said_of}
 use Rattle.guest_script.specs.Grammar.{Content, Empty, IsStepLine, most_bytes, Reads, Trace}
 use Rattle.guest_script.specs.Words.{IsLine, IsNumber, IsSigned, last_above, last_below, last_hart, last_number}
 use Rattle.monitor.specs.Table.{table}
-use Rattle.monitor.specs.Words.{board_words, event_words, hex, line_of}
+use Rattle.monitor.specs.Words.{board_words, hex, line_of, line_words}
 
 -- ---- numbers
 
@@ -61,27 +62,35 @@ FitsAnswer (Ok (Entry addr hart opaque)) = (addr ≤ last_number) × (hart ≤ l
 FitsAnswer (Ok (Value value)) = value ≤ last_number
 FitsAnswer answer = Unit {0}
 
--- who did what, and what it gave
+-- the same of a step, and of a cut, which has neither
+abbrev pub ActorFits : Option (Actor × Op) → Type 0
+ActorFits None = Unit {0}
+ActorFits (Some step) = FitsActor step.0
+
+abbrev pub OpFits : Option (Actor × Op) → Type 0
+OpFits None = Unit {0}
+OpFits (Some step) = FitsOp step.1
+
+-- who did what, or a cut, and what it gave
 pub record Answered : Type 0 where
-  pub actor : Actor
-  pub op : Op
+  pub step : Option (Actor × Op)
   pub answer : Result Reply Refusal
 
 -- what can be written
-pub record FitsAnswered (step : Answered) : Type 0 where
-  pub actor : FitsActor step.actor
-  pub op : FitsOp step.op
-  pub answer : FitsAnswer step.answer
+pub record FitsAnswered (line : Answered) : Type 0 where
+  pub actor : ActorFits line.step
+  pub op : OpFits line.step
+  pub answer : FitsAnswer line.answer
 
 -- the words of a printed line
 abbrev pub words_of : Answered → List (List ℕ)
-words_of step = event_words step.actor step.op step.answer
+words_of line = line_words line.step line.answer
 
 -- it as line n of a trace
 abbrev pub trace_line : (n : ℕ) → Answered → Line
-trace_line n step = record { number = n; actor = step.actor; op = step.op; said = Some (said_of step.answer) }
+trace_line n line = record { number = n; step = line.step; said = Some (said_of line.answer) }
 
--- a printed line, with a blank between each two words, is a line of these words, which are that step and what it gave
+-- a printed line, with a blank between each two words, is a line of these words, which are that step or a cut, and what it gave
 abbrev pub LineReadsBack : Type 0
 LineReadsBack = (n : ℕ) (step : Answered) → FitsAnswered step
     → IsLine (join_with_byte 32 (words_of step)) (words_of step) × IsStepLine n true (words_of step) (trace_line n step)
@@ -94,7 +103,7 @@ AreComments text = AllByRecursion (λ line. IsLine line []) (lines text)
 
 -- a board's table is comments
 abbrev pub TableIsComments : Type 0
-TableIsComments = (c : Config) (past : List Event) → AreComments (table c past)
+TableIsComments = (o : Opening) (past : List Event) → AreComments (table o past)
 
 -- the steps as a trace's lines from line n on
 abbrev pub trace_lines : (n : ℕ) → List Answered → List Line

@@ -8,11 +8,11 @@ use Rattle.board_core.specs.Course.{Course}
 use Rattle.guest_script.specs.declared.script.Line.{Line}
 use Rattle.guest_script.specs.Grammar.{Content, Empty, Program, most_bytes, Schedule, Trace}
 use Rattle.monitor.specs.Table.{table}
-use Rattle.monitor.specs.Words.{board_words, event_words, line_of}
+use Rattle.monitor.specs.Words.{board_words, line_of, line_words}
 use Rattle.sbiboard.specs.declared.outcome.Outcome.{Outcome}
-use Rattle.sbiboard.specs.declared.outcome.Outcome.TheVariants.{Good, HistoryFull}
+use Rattle.sbiboard.specs.declared.outcome.Outcome.TheVariants.{Good, HistoryFull, NoMemory}
 use Rattle.sbiboard.specs.Check.{agrees_text, EndsCheck}
-use Rattle.sbiboard.specs.Running.{after_line, answer_of, course_after, EndsAs, opening_of}
+use Rattle.sbiboard.specs.Running.{after_line, answer_of, course_after, EndsAs, new_course, StopsAtCut}
 
 -- the lines of a schedule; an empty script is one without lines
 abbrev pub scheduled : Content → Option (List Line)
@@ -21,11 +21,11 @@ scheduled (Program blocks clock) = None
 scheduled (Schedule lines) = Some lines
 scheduled (Trace lines) = None
 
--- each line with its reply or refusal, which the accepted lines before it give
+-- each line with its reply or refusal, which the accepted lines before it, since the last cut, and what that left give
 abbrev pub lines_text : Course → List Line → List ℕ
 lines_text b [] = []
 lines_text b (line ∷ lines) =
-    line_of (event_words line.actor line.op (answer_of b line)) ++ lines_text (after_line b line) lines
+    line_of (line_words line.step (answer_of b line)) ++ lines_text (after_line b line) lines
 
 abbrev pub is_history_full : Result Reply Refusal → Bool
 is_history_full (Ok reply) = false
@@ -41,22 +41,34 @@ meets_full b [] = false
 meets_full b (line ∷ lines) = is_history_full (answer_of b line) || meets_full (after_line b line) lines
 
 abbrev pub table_of : Course → List ℕ
-table_of b = table b.config b.past
+table_of b = table b.opening b.past
 
 -- The board line, the lines with their replies, and the table of the board after them.
 unfoldable pub text_of : Config → List Line → List ℕ
 text_of c lines =
-    line_of (board_words c) ++ (lines_text (opening_of c) lines ++ table_of (course_after (opening_of c) lines))
+    line_of (board_words c) ++ (lines_text (new_course c) lines ++ table_of (course_after (new_course c) lines))
 
 -- The text of these lines' replay. Where it isn't too long, it is a trace, and its check says that as many lines agree.
 pub record IsReplay (c : Config) (lines : List Line) (text : List ℕ) : Type 0 where
   pub is_text : text ≡ text_of c lines
   pub accepted : length text ≤ most_bytes → EndsCheck text Good (agrees_text (length lines))
 
--- What the replay of these lines writes with each outcome.
+-- What was written of lines, and whether one met a full history. Where memory for a cut was refused, those before it were.
+abbrev pub AreDone : Course → List Line → (met_full : Option Bool) → List ℕ → Type 0
+AreDone b lines None text = (before : List Line) × StopsAtCut lines before × (text ≡ lines_text b before)
+AreDone b lines (Some met_full) text = (met_full ≡ meets_full b lines) × (text ≡ lines_text b lines)
+
+-- the same of a schedule's replay as a whole
+abbrev pub IsPrinted : Config → List Line → (met_full : Option Bool) → List ℕ → Type 0
+IsPrinted c lines None text =
+    (before : List Line) × StopsAtCut lines before × (text ≡ line_of (board_words c) ++ lines_text (new_course c) before)
+IsPrinted c lines (Some met_full) text = (met_full ≡ meets_full (new_course c) lines) × (text ≡ text_of c lines)
+
+-- What the replay of these lines writes with each outcome. Where memory for a cut was refused, it has written what comes before.
 abbrev pub Replays : Config → List Line → Outcome → List ℕ → Type 0
-Replays c lines Good text = (meets_full (opening_of c) lines ≡ false) × IsReplay c lines text
-Replays c lines HistoryFull text = (meets_full (opening_of c) lines ≡ true) × IsReplay c lines text
+Replays c lines Good text = (meets_full (new_course c) lines ≡ false) × IsReplay c lines text
+Replays c lines HistoryFull text = (meets_full (new_course c) lines ≡ true) × IsReplay c lines text
+Replays c lines NoMemory text = IsPrinted c lines None text
 Replays c lines outcome text = ⊥
 
 -- What the replay of bytes writes with each outcome.

@@ -1,11 +1,16 @@
 -- How a task over a script ends, whichever it is (profile).
-use Rattle.std.specs.Prelude.{◌≡◌, ◌⊎◌, ℕ, ◌<◌, Bool, true, List, [], ◌∷◌, Option, Some, None, is_some, Result}
+use Rattle.std.specs.Prelude.{◌≡◌, ◌⊎◌, ℕ, ◌<◌, Bool, true, List, [], ◌∷◌, ◌++◌, Option, Some, None, is_some, Result, Ok}
 use Rattle.std.specs.Io.KnownBytes.{Appends, IsAtEnd}
 use Rattle.board_core.specs.declared.config.Config.{Config}
+use Rattle.board_core.specs.declared.event.Actor.{Actor}
+use Rattle.board_core.specs.declared.event.Op.{Op}
 use Rattle.board_core.specs.declared.event.Refusal.{Refusal}
 use Rattle.board_core.specs.declared.event.Reply.{Reply}
+use Rattle.board_core.specs.declared.event.Reply.TheVariants.{Done}
 use Rattle.board_core.specs.Course.{Course}
+use Rattle.board_core.specs.Cuts.{opening_of}
 use Rattle.board_core.specs.Limits.{IsGood}
+use Rattle.board_core.specs.Opening.{opening_at}
 use Rattle.board_core.specs.Replies.{answer, stepped}
 use Rattle.guest_script.specs.declared.fault.Fault.{Fault}
 use Rattle.guest_script.specs.declared.fault.Fault.TheVariants as faults
@@ -20,21 +25,41 @@ use Rattle.sbiboard.specs.declared.outcome.Outcome.TheVariants.{Good, Script, Ba
 
 -- ---- a board and its lines
 
--- a board at its opening
-abbrev pub opening_of : Config → Course
-opening_of c = record { config = c; past = [] }
+-- a new board's
+abbrev pub new_course : Config → Course
+new_course c = record { opening = opening_at c; past = [] }
+
+-- what is answered: to a step what the board answers, and a cut is done
+abbrev pub answer_to : Course → Option (Actor × Op) → Result Reply Refusal
+answer_to b None = Ok Done
+answer_to b (Some step) = answer b.opening b.past step.0 step.1
 
 abbrev pub answer_of : Course → Line → Result Reply Refusal
-answer_of b line = answer b.config b.past line.actor line.op
+answer_of b line = answer_to b line.step
 
--- the course after a line, whatever it was answered
+-- the course after a cut: the board goes on with what its history leaves, and nothing happened since
+abbrev pub after_cut : Course → Course
+after_cut b = record { opening = opening_of b.opening b.past; past = [] }
+
+-- the course after a step, whatever it was answered, or after a cut
+abbrev pub course_with : Course → Option (Actor × Op) → Course
+course_with b None = after_cut b
+course_with b (Some step) = stepped b step.0 step.1
+
 abbrev pub after_line : Course → Line → Course
-after_line b line = stepped b line.actor line.op
+after_line b line = course_with b line.step
 
 -- the course after a list of lines, whatever was refused
 abbrev pub course_after : Course → List Line → Course
 course_after b [] = b
 course_after b (line ∷ lines) = course_after (after_line b line) lines
+
+-- The lines before a cut: a task ends there, where memory for the cut is refused.
+pub record StopsAtCut (lines before : List Line) : Type 0 where
+  pub cut : Line
+  pub after : List Line
+  pub parts : lines ≡ before ++ cut ∷ after
+  pub is_cut : cut.step ≡ None
 
 -- ---- the end of a task
 

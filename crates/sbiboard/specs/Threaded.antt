@@ -3,6 +3,7 @@ use Rattle.std.specs.Prelude.{◌≡◌, ℕ, List, [], ◌∷◌, ◌++◌, cod
 use Rattle.board_core.specs.declared.config.Config.{Config}
 use Rattle.board_core.specs.declared.event.Actor.TheVariants.{Clock}
 use Rattle.board_core.specs.History.{Event}
+use Rattle.board_core.specs.Opening.{Opening, opening_at}
 use Rattle.board_core.specs.Replies.{IsLegal}
 use Rattle.board_lock.specs.Events.{ops_of}
 use Rattle.guest_script.specs.Grammar.{Content, Empty, Guest, Program, Schedule, Trace}
@@ -46,8 +47,8 @@ abbrev pub end_line : End → List ℕ
 end_line end = codes "# end " ++ (end_name end ++ 10 ∷ [])
 
 -- The board line, the record's events in their order, the table of the board after them, and the end.
-abbrev pub run_text : Config → List Event → End → List ℕ
-run_text c past end = line_of (board_words c) ++ (events_text (reverse past) ++ (table c past ++ end_line end))
+abbrev pub run_text : Opening → List Event → End → List ℕ
+run_text o past end = line_of (board_words o.config) ++ (events_text (reverse past) ++ (table o past ++ end_line end))
 
 -- The outcome with each end. The program's own gate is always open.
 abbrev pub outcome_of : End → Outcome
@@ -62,11 +63,11 @@ outcome_of ends.Stuck = Stuck
 pub record RunsOnThreads (c : Config) (tasks : Tasks) (outcome : Outcome) (text : List ℕ) : Type 0 where
   pub past : List Event
   pub end : End
-  pub legal : IsLegal c past
+  pub legal : IsLegal (opening_at c) past
   pub ticked : AreFirst tasks.ticks (ops_of Clock (reverse past))
-  pub ended : IsEnd end c past tasks.blocks
+  pub ended : IsEnd end (opening_at c) past tasks.blocks
   pub outcome_is : outcome ≡ outcome_of end
-  pub text_is : text ≡ run_text c past end
+  pub text_is : text ≡ run_text (opening_at c) past end
 
 -- What the run of bytes writes with each outcome.
 abbrev pub EndsRun : List ℕ → Outcome → List ℕ → Type 0

@@ -1,22 +1,23 @@
-ghost use Rattle.std.specs.Prelude.{◌≡◌, ◌↔◌, ◌^◌, ◌<◌, true, IfSome, MatchOption, OnOk, take, Some, decimal, ◌++◌};
+ghost use Rattle.std.specs.Prelude.{◌≡◌, ◌↔◌, ◌^◌, ◌<◌, true, IfSome, List, MatchOption, MatchResult, OnOk, take, Some, decimal, ◌++◌};
+ghost use Rattle.guest_script.specs.declared.script.Line.{Line};
 ghost use Rattle.guest_script.specs.Agreeing.{said_of};
 ghost use Rattle.monitor.specs.Sinks.{Puts};
 ghost use Rattle.sbiboard.specs.Check.{AllAgree, Checks, DiffersFirst, EndsCheck, agrees_text, differs_text};
-ghost use Rattle.sbiboard.specs.Running.{CountsEnd, EndsFlushed, EndsRead, Writes, opening_of};
+ghost use Rattle.sbiboard.specs.Running.{CountsEnd, EndsFlushed, EndsRead, StopsAtCut, Writes, new_course};
 ghost use Rattle.sbiboard.specs.Sources.{ReadsUpTo, read_limit};
 
 use crate::device::Source;
 use crate::outcome::Outcome;
-use crate::running::{Job, run};
+use crate::running::{Job, answer_to, run};
 use board_core::{Board, Config, Refusal, Reply};
 use guest_script::{KeptLine, Lines};
 use itoa::Buffer;
 use monitor::{Failed, Sink, print_reply, write_all};
-use std::alloc::Global;
+use std::alloc::{AllocError, Global};
 
 /// Reads a trace to its end, makes its board, runs the trace on it line by line, and writes whether each line says
 /// what the board answers: `agrees K` with the count of the lines, or `differs at line L: REPLY` with the board's own
-/// reply or refusal to the first that doesn't. Nothing is written before the trace is read and the board made; at most
+/// reply or refusal to the first that doesn't. At a line `cut` the board's history is cut. Nothing is written before the trace is read and the board made; at most
 /// 16,777,217 bytes are read, and after a failed read the writer is as it was. An empty script is a trace without lines;
 /// a program or a schedule is of the wrong kind.
 pub fn check<R: Source, W: Sink>(alloc: Global, reader: &mut R, writer: &mut W) -> Outcome
@@ -45,44 +46,56 @@ struct Difference {
 
 /// Checks the lines on a new board.
 pub fn check_lines<W: Sink>(
+    alloc: Global,
     config: &Config,
     lines: &Lines,
     board: &mut Board,
     writer: &mut W,
 ) -> Outcome
-    requires at_opening { board.old ≡ opening_of config.now }
+    requires at_opening { board.old ≡ new_course config.now }
     requires counts { W.failures writer.old < 2 ^ 63 }
     ensures writes { Writes (Checks config.now lines.now) result (W.written writer.old) (W.written writer.new) }
     ensures flushed { EndsFlushed result (W.is_flushed writer.new) }
     ensures failed { CountsEnd result 0 0 (W.failures writer.old) (W.failures writer.new) }
 {
-    match first_difference(lines, board) {
-        None => match print_agrees(lines.len(), writer) {
+    match first_difference(alloc, lines, board) {
+        Ok(None) => match print_agrees(lines.len(), writer) {
             Ok(()) => Outcome::Good,
             Err(Failed) => Outcome::Io,
         },
-        Some(difference) => match print_difference(difference, writer) {
+        Ok(Some(difference)) => match print_difference(difference, writer) {
             Ok(()) => Outcome::Differs,
             Err(Failed) => Outcome::Io,
         },
+        Err(AllocError) => Outcome::NoMemory,
     }
 }
 
-/// Steps the board through the lines, up to the first that says otherwise.
-fn first_difference(lines: &Lines, board: &mut Board) -> Option<Difference>
-    ensures { MatchOption result (AllAgree board.old lines.now)
-        (λ difference. DiffersFirst board.old lines.now difference.number difference.answer) }
+/// Takes the board through the lines, up to the first that says otherwise.
+///
+/// # Errors
+///
+/// Memory for a cut was refused, up to which all lines agree.
+fn first_difference(
+    alloc: Global,
+    lines: &Lines,
+    board: &mut Board,
+) -> Result<Option<Difference>, AllocError>
+    ensures { MatchResult result
+        (λ found. MatchOption found (AllAgree board.old lines.now)
+        (λ difference. DiffersFirst board.old lines.now difference.number difference.answer))
+        (λ _. (before : List Line) × StopsAtCut lines.now before × AllAgree board.old before) }
 {
     for line in lines.iter() {
-        let answer = board.step(line.actor(), line.op());
+        let answer = answer_to(alloc, line.step(), board)?;
         if !agrees(&line, &answer) {
-            return Some(Difference {
+            return Ok(Some(Difference {
                 number: line.number(),
                 answer,
-            });
+            }));
         }
     }
-    None
+    Ok(None)
 }
 
 /// Whether a line says this answer.

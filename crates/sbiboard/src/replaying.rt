@@ -1,21 +1,21 @@
-ghost use Rattle.std.specs.Prelude.{◌≡◌, ◌^◌, ◌<◌, true, IfOk, IfSome, OnOk, take};
-ghost use Rattle.monitor.specs.Sinks.{Puts};
+ghost use Rattle.std.specs.Prelude.{◌≡◌, ◌^◌, ◌<◌, ℕ, true, IfOk, IfSome, List, MatchResult, take};
+ghost use Rattle.std.specs.Io.KnownBytes.{Appends};
 ghost use Rattle.sbiboard.specs.Fitting.{AllFit, AreRead};
-ghost use Rattle.sbiboard.specs.Replay.{EndsReplay, Replays, is_history_full, lines_text, meets_full, text_of};
-ghost use Rattle.sbiboard.specs.Running.{CountsEnd, EndsFlushed, EndsRead, Writes, course_after, opening_of};
+ghost use Rattle.sbiboard.specs.Replay.{AreDone, EndsReplay, IsPrinted, Replays, is_history_full};
+ghost use Rattle.sbiboard.specs.Running.{CountsEnd, EndsFlushed, EndsRead, Writes, course_after, new_course};
 ghost use Rattle.sbiboard.specs.Sources.{ReadsUpTo, read_limit};
 
 use crate::device::Source;
-use crate::fitting::{answer_fits, op_fits};
+use crate::fitting::{answer_fits, step_fits};
 use crate::outcome::Outcome;
-use crate::running::{Job, run};
+use crate::running::{Job, answer_to, run};
 use board_core::{Board, Config, Refusal, Reply};
 use guest_script::Lines;
 use monitor::{Failed, Page, Sink, print, print_head};
 use std::alloc::Global;
 
 /// Reads a schedule to its end, makes its board, and writes the board line, each line with its reply, and
-/// the board's table. Where this has at most 16,777,216 bytes, it is a trace with which `check` agrees. Nothing is
+/// the board's table. At a line `cut` the board's history is cut. Where this has at most 16,777,216 bytes, it is a trace with which `check` agrees. Nothing is
 /// written before the schedule is read and the board made; at most 16,777,217 bytes are read, and after a failed read
 /// the writer is as it was. An empty script is a schedule without lines; a program or a trace is of the wrong kind.
 pub fn replay<R: Source, W: Sink>(alloc: Global, reader: &mut R, writer: &mut W) -> Outcome
@@ -34,69 +34,87 @@ pub fn replay<R: Source, W: Sink>(alloc: Global, reader: &mut R, writer: &mut W)
 }
 
 /// Replays the lines on a new board.
-#[tactic(auto, using(crate::proofs::Retraced::is_replay))]
+#[tactic(auto, using(crate::proofs::Retraced::replays_well, crate::proofs::Retraced::replays_full))]
 pub fn replay_lines<W: Sink>(
+    alloc: Global,
     config: &Config,
     lines: &Lines,
     board: &mut Board,
     writer: &mut W,
 ) -> Outcome
-    requires at_opening { board.old ≡ opening_of config.now }
+    requires at_opening { board.old ≡ new_course config.now }
     requires read { AreRead config.now lines.now }
     requires counts { W.failures writer.old < 2 ^ 63 }
     ensures writes { Writes (Replays config.now lines.now) result (W.written writer.old) (W.written writer.new) }
     ensures flushed { EndsFlushed result (W.is_flushed writer.new) }
     ensures failed { CountsEnd result 0 0 (W.failures writer.old) (W.failures writer.new) }
 {
-    match print_replay(config, lines, board, writer) {
-        Ok(false) => Outcome::Good,
-        Ok(true) => Outcome::HistoryFull,
+    match print_replay(alloc, config, lines, board, writer) {
+        Ok(Some(false)) => Outcome::Good,
+        Ok(Some(true)) => Outcome::HistoryFull,
+        Ok(None) => Outcome::NoMemory,
         Err(Failed) => Outcome::Io,
     }
 }
 
-/// Writes all that a schedule's replay prints, and answers whether a line met a full history.
+/// Writes all that a schedule's replay prints, and answers whether a line met a full history; or where memory for a cut
+/// was refused, writes what comes before.
 fn print_replay<W: Sink>(
+    alloc: Global,
     config: &Config,
     lines: &Lines,
     board: &mut Board,
     writer: &mut W,
-) -> Result<bool, Failed>
-    requires at_opening { board.old ≡ opening_of config.now }
+) -> Result<Option<bool>, Failed>
+    requires at_opening { board.old ≡ new_course config.now }
     requires counts { W.failures writer.old < 2 ^ 63 }
-    ensures text { Puts W.written W.failures writer.old writer.new result (text_of config.now lines.now) }
-    ensures full { IfOk result (λ full. full ≡ meets_full (opening_of config.now) lines.now) }
-    ensures fits { IfOk result (λ _. AllFit (opening_of config.now) lines.now) }
-    ensures flushed { OnOk result (W.is_flushed writer.new ≡ true) }
+    ensures text { MatchResult result
+        (λ found. (text : List ℕ) × IsPrinted config.now lines.now found text
+        × Appends (W.written writer.old) (W.written writer.new) text × (W.failures writer.new ≡ W.failures writer.old))
+        (λ _. W.failures writer.old < W.failures writer.new) }
+    ensures fits { IfOk result (λ found. IfSome found (λ _. AllFit (new_course config.now) lines.now)) }
+    ensures flushed { IfOk result (λ found. IfSome found (λ _. W.is_flushed writer.new ≡ true)) }
 {
     print_head(config, writer)?;
-    let met_full = print_lines(lines, board, writer)?;
+    let Some(met_full) = print_lines(alloc, lines, board, writer)? else {
+        return Ok(None);
+    };
     print(board, writer)?;
     writer.flush()?;
-    Ok(met_full)
+    Ok(Some(met_full))
 }
 
-/// Steps the board through the lines and writes each with its reply.
-fn print_lines<W: Sink>(lines: &Lines, board: &mut Board, writer: &mut W) -> Result<bool, Failed>
+/// Takes the board through the lines, writes each with its reply, and answers whether one met a full history; or where
+/// memory for a cut was refused, writes those before it.
+fn print_lines<W: Sink>(
+    alloc: Global,
+    lines: &Lines,
+    board: &mut Board,
+    writer: &mut W,
+) -> Result<Option<bool>, Failed>
     requires { W.failures writer.old < 2 ^ 63 }
-    ensures text { Puts W.written W.failures writer.old writer.new result (lines_text board.old lines.now) }
-    ensures full { IfOk result (λ full. full ≡ meets_full board.old lines.now) }
-    ensures fits { IfOk result (λ _. AllFit board.old lines.now) }
-    ensures course { IfOk result (λ _. board.new ≡ course_after board.old lines.now) }
+    ensures text { MatchResult result
+        (λ found. (text : List ℕ) × AreDone board.old lines.now found text
+        × Appends (W.written writer.old) (W.written writer.new) text × (W.failures writer.new ≡ W.failures writer.old))
+        (λ _. W.failures writer.old < W.failures writer.new) }
+    ensures fits { IfOk result (λ found. IfSome found (λ _. AllFit board.old lines.now)) }
+    ensures course { IfOk result (λ found. IfSome found (λ _. board.new ≡ course_after board.old lines.now)) }
 {
     let mut met_full = false;
     let mut page = Page::new();
     for line in lines.iter() {
-        let actor = line.actor();
-        let op = line.op();
-        let answer = board.step(actor, op);
-        op_fits(op);
+        let step = line.step();
+        let Ok(answer) = answer_to(alloc, step, board) else {
+            page.put(writer)?;
+            return Ok(None);
+        };
+        step_fits(step);
         answer_fits(answer);
         met_full |= is_history_full(&answer);
-        page.print_step(actor, op, answer, writer)?;
+        page.print_line(step, answer, writer)?;
     }
     page.put(writer)?;
-    Ok(met_full)
+    Ok(Some(met_full))
 }
 
 fn is_history_full(answer: &Result<Reply, Refusal>) -> bool

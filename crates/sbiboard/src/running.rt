@@ -1,20 +1,20 @@
 //! What a replay and a check share: a script is read, and its lines are run on a new board.
 
-ghost use Rattle.std.specs.Prelude.{◌≡◌, ◌^◌, ◌<◌, ℕ, IfSome, List, take};
+ghost use Rattle.std.specs.Prelude.{◌≡◌, ◌^◌, ◌<◌, ℕ, IfOk, IfSome, List, None, OnErr, OnOk, take};
 ghost use Rattle.guest_script.specs.Grammar.{Reads, content, written};
 ghost use Rattle.sbiboard.specs.Fitting.{AreRead};
 ghost use Rattle.sbiboard.specs.Jobs.{Does, lines_for};
-ghost use Rattle.sbiboard.specs.Running.{CountsEnd, EndsAs, EndsFlushed, EndsRead, Writes, ended_as, opening_of, unread_as};
+ghost use Rattle.sbiboard.specs.Running.{CountsEnd, EndsAs, EndsFlushed, EndsRead, Writes, answer_to, course_with, ended_as, new_course, unread_as};
 ghost use Rattle.sbiboard.specs.Sources.{ReadsUpTo, read_limit};
 
 use crate::checking::check_lines;
 use crate::device::{ReadFault, Source, read_script};
 use crate::outcome::Outcome;
 use crate::replaying::replay_lines;
-use board_core::{Board, BuildFault, Config};
+use board_core::{Actor, Board, BuildFault, Config, Op, Refusal, Reply};
 use guest_script::{Body, Fault, Lines, Script, ScriptFault};
 use monitor::Sink;
-use std::alloc::Global;
+use std::alloc::{AllocError, Global};
 
 /// What is done with a script.
 #[derive(Clone, Copy)]
@@ -57,9 +57,9 @@ fn run_script<W: Sink>(job: Job, alloc: Global, script: Script, writer: &mut W) 
         return Outcome::WrongKind;
     };
     match Board::new(alloc, &script.config) {
-        Ok(mut board) => run_lines(job, &script.config, &lines, &mut board, writer),
+        Ok(mut board) => run_lines(job, alloc, &script.config, &lines, &mut board, writer),
         Err(BuildFault::BadConfig) => Outcome::BadBoard,
-        Err(BuildFault::NoMemory) => Outcome::NoMemory,
+        Err(BuildFault::NoMemory | BuildFault::CutFull) => Outcome::NoMemory,
     }
 }
 
@@ -99,12 +99,13 @@ pub fn ended(fault: ScriptFault) -> Outcome
 
 fn run_lines<W: Sink>(
     job: Job,
+    alloc: Global,
     config: &Config,
     lines: &Lines,
     board: &mut Board,
     writer: &mut W,
 ) -> Outcome
-    requires at_opening { board.old ≡ opening_of config.now }
+    requires at_opening { board.old ≡ new_course config.now }
     requires read { AreRead config.now lines.now }
     requires counts { W.failures writer.old < 2 ^ 63 }
     ensures writes { Writes (Does job config.now lines.now) result (W.written writer.old) (W.written writer.new) }
@@ -112,7 +113,45 @@ fn run_lines<W: Sink>(
     ensures failed { CountsEnd result 0 0 (W.failures writer.old) (W.failures writer.new) }
 {
     match job {
-        Job::Replay => replay_lines(config, lines, board, writer),
-        Job::Check => check_lines(config, lines, board, writer),
+        Job::Replay => replay_lines(alloc, config, lines, board, writer),
+        Job::Check => check_lines(alloc, config, lines, board, writer),
+    }
+}
+
+/// Has the board make a step, or where it is none cut its history, and answers what it answered: a cut is done. The
+/// part of the history that is cut off is dropped.
+///
+/// # Errors
+///
+/// Memory for a cut was refused, and the board is as it was. (So it is where the board's places would not suffice, which
+/// no script reaches.)
+#[inline(always)]
+pub fn answer_to(
+    alloc: Global,
+    step: Option<(Actor, Op)>,
+    board: &mut Board,
+) -> Result<Result<Reply, Refusal>, AllocError>
+    ensures answer { IfOk result (λ answer. answer ≡ answer_to board.old step) }
+    ensures course { OnOk result (board.new ≡ course_with board.old step) }
+    ensures cut { OnErr result (step ≡ None) }
+    ensures unchanged { OnErr result (board.new ≡ board.old) }
+{
+    match step {
+        Some((actor, op)) => Ok(board.step(actor, op)),
+        None => cut(alloc, board),
+    }
+}
+
+/// Cuts the board's history. It is apart, so that a step has no room of its own for what a cut takes.
+#[cold]
+#[inline(never)]
+fn cut(alloc: Global, board: &mut Board) -> Result<Result<Reply, Refusal>, AllocError>
+    ensures answer { IfOk result (λ answer. answer ≡ answer_to board.old None) }
+    ensures course { OnOk result (board.new ≡ course_with board.old None) }
+    ensures unchanged { OnErr result (board.new ≡ board.old) }
+{
+    match board.cut(alloc) {
+        Ok(_) => Ok(Ok(Reply::Done)),
+        Err(_) => Err(AllocError),
     }
 }

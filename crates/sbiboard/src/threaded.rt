@@ -93,9 +93,9 @@ fn outcome_of(end: End) -> Outcome
 /// Writes all that a run prints.
 fn print_run<W: Sink>(run: &RunEnd, writer: &mut W) -> Result<(), Failed>
     requires { W.failures writer.old < 2 ^ 63 }
-    ensures text { Puts W.written W.failures writer.old writer.new result (run_text run.now.board.config run.now.board.past run.now.end) }
+    ensures text { Puts W.written W.failures writer.old writer.new result (run_text run.now.board.opening run.now.board.past run.now.end) }
     ensures flushed { OnOk result (W.is_flushed writer.new ≡ true) }
-    ensures good { IsGood run.now.board.config }
+    ensures good { IsGood run.now.board.opening.config }
 {
     print_head(run.board.config(), writer)?;
     print_events(run.board.history(), writer)?;
@@ -111,7 +111,8 @@ fn print_events<W: Sink>(events: &[Event], writer: &mut W) -> Result<(), Failed>
 {
     let mut page = Page::new();
     for event in events {
-        page.print_step(event.actor(), event.op(), Ok(event.reply()), writer)?;
+        let step = (event.actor(), event.op());
+        page.print_line(Some(step), Ok(event.reply()), writer)?;
     }
     page.put(writer)
 }

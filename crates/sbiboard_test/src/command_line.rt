@@ -1,9 +1,13 @@
+ghost use Rattle.std.specs.Prelude.{◌<◌};
+
 use crate::limit::Limit;
+use crate::screen::Screen;
 use crate::stop::Stop;
 use clap::{Arg, ArgAction, Command, value_parser};
 use std::alloc::{AllocError, Global};
 use std::ops::Range;
 use std::rt::Clock;
+use std::thread::{self, Threads};
 
 const TIMES: &str = "times";
 
@@ -11,13 +15,20 @@ const SEED: &str = "seed";
 
 const ORDER: &str = "order";
 
+const JOBS: &str = "jobs";
+
 const SECONDS: &str = "seconds";
+
+const THREADS: &str = "threads";
 
 const TAP: &str = "tap";
 
 const FAILED: &str = "failed";
 
 const FILE: &str = "FILE";
+
+/// How many orders are tried at a time at most.
+const MOST_JOBS: u64 = 256;
 
 const AFTER: &str = "\
 A condition is a comment of a script that begins with `#!`, as in
@@ -33,6 +44,12 @@ pub(crate) struct Options<'a> {
     order: Option<u64>,
     /// The seed of the orders.
     pub(crate) seed: u64,
+    /// How many orders are tried at a time.
+    pub(crate) jobs: u64,
+    /// How many runs on threads are tried of each program.
+    pub(crate) runs: u64,
+    /// What stands where the program prints.
+    pub(crate) screen: Screen,
     /// The folder that failing records are written into.
     pub(crate) failed: &'a str,
     /// How long orders are tried, of all programs together.
@@ -58,9 +75,10 @@ impl Options<'_> {
 /// # Errors
 ///
 /// What clap says of them: a fault of usage, or the help or the version that was asked for; or want of memory.
-pub(crate) fn options_of<'a, R: AllocGlobal + Clock>(
+pub(crate) fn options_of<'a, R: AllocGlobal + Clock + Threads>(
     rt: &R,
     words: &'a [String],
+    screen: Screen,
 ) -> Result<Options<'a>, Stop> {
     let alloc = rt.alloc();
     let matches = described(alloc)?.try_get_matches_from(words)?;
@@ -72,6 +90,13 @@ pub(crate) fn options_of<'a, R: AllocGlobal + Clock>(
         times: matches.get_one(TIMES).unwrap_or(0),
         order: matches.get_one(ORDER),
         seed: matches.get_one(SEED).unwrap_or(0),
+        jobs: jobs_of(rt, matches.get_one(JOBS)),
+        runs: if matches.get_flag(THREADS) {
+            matches.get_one(TIMES).unwrap_or(0)
+        } else {
+            0
+        },
+        screen,
         failed: matches.get_str(FAILED).unwrap_or("."),
         limit: Limit::begin(rt, matches.get_one(SECONDS))?,
         tap: matches.get_str(TAP),
@@ -79,54 +104,84 @@ pub(crate) fn options_of<'a, R: AllocGlobal + Clock>(
     })
 }
 
+/// How many orders are tried at a time: as many as are asked for, or as there are processors.
+fn jobs_of(rt: &impl Threads, asked: Option<u64>) -> u64
+    ensures { 0 < result }
+{
+    match asked {
+        Some(jobs) => jobs.clamp(1, MOST_JOBS),
+        None => match thread::available_parallelism(rt) {
+            Ok(many) => (many.get() as u64).clamp(1, MOST_JOBS),
+            Err(_) => 1,
+        },
+    }
+}
+
 /// The command line, as clap reads it.
 fn described<'a>(alloc: Global) -> Result<Command<'a>, AllocError> {
-    let times = number(alloc, TIMES)
-        .value_name("N")
-        .default_value("1000")
-        .help("How many orders of each program are tried");
-    let seed = number(alloc, SEED)
-        .value_name("S")
-        .default_value("0")
-        .help("The seed of the orders");
-    let order = number(alloc, ORDER)
-        .value_name("K")
-        .conflicts_with(TIMES)?
-        .help("Try order K of the seed alone");
-    let seconds = number(alloc, SECONDS)
-        .value_name("N")
-        .help("Try orders for so many seconds at most");
-    let tap = Arg::new(alloc, TAP)
-        .long(TAP)
-        .value_name("FILE")
-        .help("Write the points into FILE, too");
+    let command = Command::new(alloc, "sbiboard test")
+        .bin_name("sbiboard test")?
+        .about(
+            "Try orders of programs, replay schedules and compare traces, and judge their conditions",
+        )
+        .after_help(AFTER);
+    with_files(alloc, with_ways(alloc, with_orders(alloc, command)?)?)
+}
+
+/// The same, with what says which orders are tried.
+fn with_orders<'a>(alloc: Global, command: Command<'a>) -> Result<Command<'a>, AllocError> {
+    let times = number(
+        alloc,
+        TIMES,
+        "N",
+        "How many orders of each program are tried",
+    );
+    let command = command.arg(times.default_value("1000"))?;
+    let seed = number(alloc, SEED, "S", "The seed of the orders");
+    let command = command.arg(seed.default_value("0"))?;
+    let order = number(alloc, ORDER, "K", "Try order K of the seed alone");
+    command.arg(order.conflicts_with(TIMES)?)
+}
+
+/// The same, with what says how they are tried.
+fn with_ways<'a>(alloc: Global, command: Command<'a>) -> Result<Command<'a>, AllocError> {
+    let about =
+        "How many orders are tried at a time; as many as there are processors where nothing is said";
+    let command = command.arg(number(alloc, JOBS, "J", about))?;
+    let threads = Arg::new(alloc, THREADS)
+        .long(THREADS)
+        .action(ArgAction::SetTrue)
+        .help("Run each program as often on real threads, too");
+    let command = command.arg(threads)?;
+    let about = "Try orders for so many seconds at most";
+    command.arg(number(alloc, SECONDS, "N", about))
+}
+
+/// The same, with the files that are read and written.
+fn with_files<'a>(alloc: Global, command: Command<'a>) -> Result<Command<'a>, AllocError> {
     let failed = Arg::new(alloc, FAILED)
         .long(FAILED)
         .value_name("DIR")
         .default_value(".")
         .help("Where the first failing record of each condition is written");
+    let command = command.arg(failed)?;
+    let tap = Arg::new(alloc, TAP)
+        .long(TAP)
+        .value_name("FILE")
+        .help("Write the points into FILE, too");
+    let command = command.arg(tap)?;
     let file = Arg::new(alloc, FILE)
         .required(true)
         .action(ArgAction::Append)
         .help("Programs, schedules and traces, with their conditions");
-    Command::new(alloc, "sbiboard test")
-        .bin_name("sbiboard test")?
-        .about(
-            "Try orders of programs, replay schedules and compare traces, and judge their conditions",
-        )
-        .after_help(AFTER)
-        .arg(times)?
-        .arg(seed)?
-        .arg(order)?
-        .arg(seconds)?
-        .arg(failed)?
-        .arg(tap)?
-        .arg(file)
+    command.arg(file)
 }
 
 /// An option whose value is a number.
-fn number<'a>(alloc: Global, name: &'a str) -> Arg<'a> {
+fn number<'a>(alloc: Global, name: &'a str, value: &'a str, about: &'a str) -> Arg<'a> {
     Arg::new(alloc, name)
         .long(name)
+        .value_name(value)
         .value_parser(value_parser!(u64))
+        .help(about)
 }

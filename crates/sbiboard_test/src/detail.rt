@@ -1,13 +1,15 @@
-use crate::asked::Case;
 use crate::command_line::Options;
-use crate::records::{event_line, record};
-use crate::report::Report;
 use crate::stop::Stop;
 use board_core::{Board, Event};
+use conditions::Rule;
+use hart_threads::End;
+use points::{Report, Told, event_line, put_stuck, record};
+use script_text::Case;
 use std::alloc::{AllocError, Global};
 use std::fmt::Write;
 use std::rt::Files;
 use std::{fs, str};
+use tallies::failing_step;
 
 /// How many steps are shown before and behind the one that fails.
 const AROUND: usize = 6;
@@ -18,7 +20,7 @@ pub(crate) fn put_record<R: AllocGlobal + Files>(
     options: &Options<'_>,
     case: &Case<'_>,
     label: &str,
-    board: &Board,
+    told: Told<'_>,
     place: Option<usize>,
     report: &mut Report,
 ) -> Result<(), Stop> {
@@ -26,14 +28,34 @@ pub(crate) fn put_record<R: AllocGlobal + Files>(
     let folder = options.failed;
     let name = case.name();
     let path = format!(in alloc; "{folder}/{name}.{label}failed")?;
-    let bytes = record(alloc, board)?;
+    let bytes = record(alloc, told)?;
     report.text.push_str("  record: ")?;
     report.put_quoted(path.as_str())?;
     report.text.push('\n')?;
     if let Err(error) = fs::write(rt, path.as_str(), &bytes) {
         return Err(Stop::Unwritten(path, error));
     }
-    put_steps(alloc, board.history(), place, report)?;
+    put_steps(alloc, told.events, place, report)?;
+    Ok(())
+}
+
+/// Writes the failing record of a program into a file, whose name has this label, and puts that name, the steps around the failing
+/// one, and where it ended stuck why.
+pub(crate) fn put_ended<R: AllocGlobal + Files>(
+    rt: &R,
+    options: &Options<'_>,
+    case: &Case<'_>,
+    rule: Option<&Rule>,
+    label: &str,
+    board: &Board,
+    end: End,
+    report: &mut Report,
+) -> Result<(), Stop> {
+    let place = failing_step(rule, board.history());
+    put_record(rt, options, case, label, Told::of(board), place, report)?;
+    if end == End::Stuck {
+        put_stuck(case, board, report)?;
+    }
     Ok(())
 }
 

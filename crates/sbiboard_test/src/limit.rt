@@ -16,6 +16,12 @@ impl Limit {
         Ok(Limit { begun, seconds })
     }
 
+    /// How many milliseconds have passed.
+    pub(crate) fn millis(&self, clock: &impl Clock) -> io::Result<u64> {
+        let spent = self.begun.elapsed(clock)?.as_millis();
+        Ok(u64::try_from(spent).unwrap_or(u64::MAX))
+    }
+
     /// Whether the time is over.
     pub(crate) fn is_over(&self, clock: &impl Clock) -> io::Result<bool> {
         match self.seconds {

@@ -1,7 +1,7 @@
-use board_core::{Config, USUAL_ASID_LEN, USUAL_WIDTH};
 use conditions::{Condition, Wrong, conditions};
-use guest_script::{Fault, Script, ScriptFault, parse};
-use std::fmt::{self, Display, Formatter};
+use guest_script::{Fault, Script, parse};
+use script_text::{bad_board, faulty};
+use std::alloc::{AllocError, Global};
 use std::fs;
 use std::io::{self, ErrorKind, Read};
 use std::rt::Files;
@@ -20,71 +20,18 @@ pub(crate) struct Loaded {
     pub(crate) conditions: Vec<Condition>,
 }
 
-/// Why a file can't be tested.
-#[derive(Clone, Copy, Debug)]
-pub(crate) enum Untested {
-    /// It can't be read.
-    Unread(ErrorKind),
-    /// Its bytes are no script.
-    Script(ScriptFault),
-    /// One of its conditions can't be read.
-    Condition(conditions::Fault),
-    /// Its board line is outside of the board's limits.
-    Board(Config),
-}
-
 /// Why nothing was loaded.
-#[derive(Clone, Copy, Debug)]
+#[derive(Debug, Drop)]
 pub(crate) enum Unloaded {
-    /// The file can't be tested.
-    File(Untested),
+    /// The file can't be tested: what stands behind its name, the place where there is one, and what is wrong.
+    File(String),
     /// Memory was refused.
     NoMemory,
 }
 
-impl From<io::Error> for Unloaded {
-    fn from(error: io::Error) -> Unloaded {
-        match error.kind() {
-            ErrorKind::OutOfMemory => Unloaded::NoMemory,
-            kind => Unloaded::File(Untested::Unread(kind)),
-        }
-    }
-}
-
-impl From<ScriptFault> for Unloaded {
-    fn from(found: ScriptFault) -> Unloaded {
-        if found.fault == Fault::NoMemory {
-            return Unloaded::NoMemory;
-        }
-        Unloaded::File(Untested::Script(found))
-    }
-}
-
-impl From<conditions::Fault> for Unloaded {
-    fn from(found: conditions::Fault) -> Unloaded {
-        if found.wrong == Wrong::NoMemory {
-            return Unloaded::NoMemory;
-        }
-        Unloaded::File(Untested::Condition(found))
-    }
-}
-
-/// What stands behind the file's name: the place, where there is one, and what is wrong.
-impl Display for Untested {
-    fn fmt<W: fmt::Write>(&self, f: &mut Formatter<W>) -> fmt::Result {
-        match self {
-            Untested::Unread(kind) => write!(f, ": {}", unread(*kind)),
-            Untested::Script(ScriptFault { line: 0, fault }) => {
-                write!(f, ": {fault} (fault {})", fault.number())
-            }
-            Untested::Script(ScriptFault { line, fault }) => {
-                write!(f, ":{line}: {fault} (fault {})", fault.number())
-            }
-            Untested::Condition(fault) => {
-                write!(f, ":{}:{}: {}", fault.line, fault.column, fault.wrong)
-            }
-            Untested::Board(config) => write!(f, ": bad board: {}", bad_number(config)),
-        }
+impl From<AllocError> for Unloaded {
+    fn from(_: AllocError) -> Unloaded {
+        Unloaded::NoMemory
     }
 }
 
@@ -97,47 +44,51 @@ fn unread(kind: ErrorKind) -> &'static str {
     }
 }
 
-/// What the first number is that is outside of a board's limits.
-fn bad_number(config: &Config) -> &'static str {
-    if !(1..=128).contains(&config.harts) {
-        "HARTS is 1 to 128"
-    } else if !(1..=256).contains(&config.pages) {
-        "PAGES is 1 to 256"
-    } else if !(1..=1_000_000).contains(&config.limit) {
-        "LIMIT is 1 to 1000000"
-    } else if config.boot_hart >= config.harts {
-        "BOOT is below HARTS"
-    } else if !with_usual_spaces(config).is_good() {
-        "ADDRESS is even, and in RAM"
-    } else if config.asid_len > 16 {
-        "ASIDLEN is 0 to 16"
-    } else {
-        "WIDTH is 39 or 48"
-    }
-}
-
-/// The board with the address spaces of one whose line leaves them out.
-fn with_usual_spaces(config: &Config) -> Config {
-    Config {
-        asid_len: USUAL_ASID_LEN,
-        width: USUAL_WIDTH,
-        ..*config
-    }
-}
-
 /// Reads a script and its conditions.
 pub(crate) fn load<R: AllocGlobal + Files>(rt: &R, file: &str) -> Result<Loaded, Unloaded> {
-    let text = read(rt, file)?;
-    let script = parse(rt.alloc(), &text)?;
+    let alloc = rt.alloc();
+    let text = match read(rt, file) {
+        Ok(text) => text,
+        Err(error) => return Err(unreadable(alloc, error.kind())?),
+    };
+    let script = match parse(alloc, &text) {
+        Ok(script) => script,
+        Err(found) if found.fault == Fault::NoMemory => return Err(Unloaded::NoMemory),
+        Err(found) => return Err(Unloaded::File(faulty(alloc, &text, found)?)),
+    };
     if !script.config.is_good() {
-        return Err(Unloaded::File(Untested::Board(script.config)));
+        return Err(Unloaded::File(bad_board(alloc, &script.config)?));
     }
-    let conditions = conditions(rt.alloc(), &text)?;
+    let conditions = match conditions(alloc, &text) {
+        Ok(conditions) => conditions,
+        Err(found) => return Err(bad_condition(alloc, found)?),
+    };
     Ok(Loaded {
         text,
         script,
         conditions,
     })
+}
+
+fn unreadable(alloc: Global, kind: ErrorKind) -> Result<Unloaded, AllocError> {
+    if kind == ErrorKind::OutOfMemory {
+        return Ok(Unloaded::NoMemory);
+    }
+    let why = unread(kind);
+    Ok(Unloaded::File(format!(in alloc; ": {why}")?))
+}
+
+/// Says where a condition can't be read, and why.
+fn bad_condition(alloc: Global, found: conditions::Fault) -> Result<Unloaded, AllocError> {
+    let conditions::Fault {
+        line,
+        column,
+        wrong,
+    } = found;
+    if wrong == Wrong::NoMemory {
+        return Ok(Unloaded::NoMemory);
+    }
+    Ok(Unloaded::File(format!(in alloc; ":{line}:{column}: {wrong}")?))
 }
 
 /// Reads a file, as far as a script may go.

@@ -2,32 +2,38 @@
 //! the scripts' conditions, and tells what it found as points of the Test Anything Protocol.
 #![tactic(auto)]
 
-mod asked;
 mod command_line;
+mod course;
 mod detail;
-mod judging;
 mod limit;
 mod loading;
 mod orders;
-mod records;
-mod report;
+mod pace;
+mod screen;
 mod steps;
 mod stop;
-mod stuck;
-mod tally;
 mod testing;
+mod threaded;
 
 use command_line::{Options, options_of};
-use report::Report;
-use std::io::{self, Write};
+use points::{Report, human};
+use screen::Screen;
+use std::alloc::{AllocError, Global};
+use std::io::{self, IsTerminal, Write};
 use std::process::ExitCode;
 use std::rt::{Clock, Env, Files};
+use std::sync::Wait;
+use std::thread::Threads;
 use std::{env, fs};
 use stop::{Stop, stopped};
 use testing::test_file;
 
 fn main(rt: HostRuntime) -> ExitCode {
-    ExitCode::from(match run(&rt) {
+    let screen = Screen {
+        is_read: rt.stdout().is_terminal(),
+        is_watched: rt.stderr().is_terminal(),
+    };
+    ExitCode::from(match run(&rt, screen) {
         Ok(true) => 0,
         Ok(false) => 1,
         Err(stop) => stopped(&rt, &stop),
@@ -35,41 +41,65 @@ fn main(rt: HostRuntime) -> ExitCode {
 }
 
 /// Does what the command line asks for, and answers whether all holds.
-fn run<R: AllocGlobal + Clock + Env + Files + Print>(rt: &R) -> Result<bool, Stop> {
+fn run<R: AllocGlobal + Clock + Env + Eprint + Files + Print + Sync + Threads + Wait>(
+    rt: &R,
+    screen: Screen,
+) -> Result<bool, Stop> {
     let words = env::args(rt)?.collect::<Vec<String>>(rt.alloc())?;
-    let options = options_of(rt, words.as_slice())?;
+    let options = options_of(rt, words.as_slice(), screen)?;
     test_all(rt, &options)
 }
 
 /// Tests each file, and tells its points as soon as they are known; then the plan and the summary.
-fn test_all<R: AllocGlobal + Clock + Files + Print>(
+fn test_all<R: AllocGlobal + Clock + Eprint + Files + Print + Sync + Threads + Wait>(
     rt: &R,
     options: &Options<'_>,
 ) -> Result<bool, Stop> {
     let mut tap = match options.tap {
-        Some(path) => Some(fs::create(rt, path)?),
+        Some(path) => match fs::create(rt, path) {
+            Ok(file) => Some(file),
+            Err(error) => return Err(unwritten(rt.alloc(), path, error)?),
+        },
         None => None,
     };
     let mut report = Report::new(rt.alloc())?;
     for file in &options.files {
         test_file(rt, options, file, &mut report)?;
-        tell(rt, &mut tap, &mut report)?;
+        tell(rt, options, &mut tap, &mut report)?;
     }
     report.end()?;
-    tell(rt, &mut tap, &mut report)?;
+    tell(rt, options, &mut tap, &mut report)?;
+    if options.screen.is_read {
+        let millis = options.limit.millis(rt)?;
+        println!(rt; "time: {}.{} s", millis / 1_000, millis % 1_000 / 100)?;
+    }
     Ok(report.all_hold())
 }
 
 /// Prints what isn't told yet, and writes it into the file that was asked for.
-fn tell<R: Files + Print>(
+fn tell<R: AllocGlobal + Files + Print>(
     rt: &R,
+    options: &Options<'_>,
     tap: &mut Option<R::File>,
     report: &mut Report,
-) -> io::Result<()> {
-    rt.print(report.text.as_str())?;
-    if let Some(file) = tap {
-        file.write_all(report.text.as_bytes())?;
+) -> Result<(), Stop> {
+    if options.screen.is_read {
+        let shown = human(rt.alloc(), report.text.as_str())?;
+        rt.print(shown.as_str())?;
+    } else {
+        rt.print(report.text.as_str())?;
+    }
+    if let Some(file) = tap
+        && let Some(path) = options.tap
+        && let Err(error) = file.write_all(report.text.as_bytes())
+    {
+        return Err(unwritten(rt.alloc(), path, error)?);
     }
     report.text.clear();
     Ok(())
+}
+
+/// A file of this name could not be written.
+fn unwritten(alloc: Global, path: &str, error: io::Error) -> Result<Stop, AllocError> {
+    Ok(Stop::Unwritten(String::from_str(alloc, path)?, error))
 }

@@ -1,29 +1,27 @@
-use crate::asked::Case;
 use crate::command_line::Options;
+use crate::course::Course;
 use crate::detail::put_record;
-use crate::judging::{failing_step, judge};
-use crate::records::step_line;
-use crate::report::Report;
 use crate::stop::Stop;
-use crate::tally::Tally;
-use board_core::Board;
 use conditions::{Condition, Rule};
 use guest_script::{KeptLine, Lines};
+use points::{Report, Told, step_line};
+use script_text::{Case, Walk};
 use std::alloc::{AllocError, Global};
 use std::fmt::Write;
 use std::rt::Files;
 use std::str;
+use tallies::{failing_step, is_met, meets};
 
 /// Makes each step of a schedule, whatever is refused. Without conditions that is the point.
 pub(crate) fn replay(
     alloc: Global,
     case: &Case<'_>,
-    board: &mut Board,
+    course: &mut Course,
     lines: &Lines,
     report: &mut Report,
 ) -> Result<(), AllocError> {
     for line in lines.iter() {
-        let _ = board.step(line.actor(), line.op());
+        let _ = course.answer(alloc, line.step())?;
     }
     if case.conditions.is_empty() {
         put_point(alloc, case, lines, true, report)?;
@@ -35,18 +33,20 @@ pub(crate) fn replay(
 pub(crate) fn compare(
     alloc: Global,
     case: &Case<'_>,
-    board: &mut Board,
+    course: &mut Course,
     lines: &Lines,
     report: &mut Report,
 ) -> Result<(), AllocError> {
     let mut differing: u64 = 0;
     let mut text = String::new(alloc);
+    let mut walk = Walk::new(case.text);
     for line in lines.iter() {
-        let answer = board.step(line.actor(), line.op());
+        let step = line.step();
+        let answer = course.answer(alloc, step)?;
         if !line.said().is_some_and(|said| said.agrees(&answer)) {
             differing = differing.saturating_add(1);
-            let got = step_line(alloc, line.actor(), line.op(), answer)?;
-            put_difference(case, &line, &got, &mut text)?;
+            let got = step_line(alloc, step, answer)?;
+            put_difference(&mut walk, &line, &got, &mut text)?;
         }
     }
     put_point(alloc, case, lines, differing == 0, report)?;
@@ -62,13 +62,13 @@ pub(crate) fn compare(
 
 /// Puts what a line wants, and the line with what the board gave.
 fn put_difference(
-    case: &Case<'_>,
+    walk: &mut Walk<'_>,
     line: &KeptLine<'_>,
     got: &[u8],
     text: &mut String,
 ) -> Result<(), AllocError> {
     let number = line.number();
-    let wanted = case.said_at(number);
+    let wanted = walk.said_at(number);
     let got = str::from_utf8(got).unwrap_or("").trim();
     write!(
         text,
@@ -95,11 +95,17 @@ pub(crate) fn judge_record<R: AllocGlobal + Files>(
     rt: &R,
     options: &Options<'_>,
     case: &Case<'_>,
-    board: &Board,
+    course: &Course,
     report: &mut Report,
 ) -> Result<(), Stop> {
+    let events = course.events(rt.alloc())?;
+    let told = Told {
+        board: &course.board,
+        segments: &course.segments,
+        events: &events,
+    };
     for condition in case.conditions {
-        tell(rt, options, case, condition, board, report)?;
+        tell(rt, options, case, condition, told, report)?;
     }
     Ok(())
 }
@@ -110,18 +116,16 @@ fn tell<R: AllocGlobal + Files>(
     options: &Options<'_>,
     case: &Case<'_>,
     condition: &Condition,
-    board: &Board,
+    told: Told<'_>,
     report: &mut Report,
 ) -> Result<(), Stop> {
-    let events = board.history();
+    let events = told.events;
     let rule = &condition.rule;
-    let mut tally = Tally::new();
-    judge(rule, &mut tally, 0, events, None);
+    let holds = meets(rule, events, None);
     let file = case.file;
     let line = condition.line;
     let asked = case.asked_at(line);
     let about = format!(in rt.alloc(); "{file}: line {line}: {asked}")?;
-    let holds = tally.holds(Some(rule));
     report.point(holds, about.as_str())?;
     if matches!(rule, Rule::End(_)) {
         report
@@ -134,13 +138,13 @@ fn tell<R: AllocGlobal + Files>(
             options,
             case,
             "",
-            board,
+            told,
             failing_step(Some(rule), events),
             report,
         )?;
         report.text.push_str("  ...\n")?;
     }
-    if !tally.is_met {
+    if !is_met(rule, events) {
         report.never_met(line)?;
     }
     Ok(())

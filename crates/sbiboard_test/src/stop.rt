@@ -1,4 +1,3 @@
-use board_core::BuildFault;
 use clap::error::ErrorKind;
 use hart_threads::RunFault;
 use std::alloc::{AllocError, AllocFailed};
@@ -34,15 +33,6 @@ impl From<AllocError> for Stop {
 impl<T: Drop> From<AllocFailed<T>> for Stop {
     fn from(_: AllocFailed<T>) -> Stop {
         Stop::NoMemory
-    }
-}
-
-impl From<BuildFault> for Stop {
-    fn from(fault: BuildFault) -> Stop {
-        match fault {
-            BuildFault::BadConfig => Stop::BadBoard,
-            BuildFault::NoMemory => Stop::NoMemory,
-        }
     }
 }
 

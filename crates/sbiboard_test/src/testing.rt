@@ -2,19 +2,23 @@ ghost use Rattle.std.specs.Prelude.{◌≡◌, true};
 ghost use Rattle.guest_script.specs.Grammar.{content};
 ghost use Rattle.hart_threads.specs.Programs.{IsProgram};
 
-use crate::asked::Case;
 use crate::command_line::Options;
+use crate::course::Course;
 use crate::loading::{Unloaded, load};
 use crate::orders::test_orders;
-use crate::report::Report;
 use crate::steps::{compare, judge_record, replay};
 use crate::stop::Stop;
-use board_core::Board;
+use crate::threaded::test_runs;
 use guest_script::{Body, Script};
+use hart_threads::new_board;
+use points::{Report, put_comments};
+use script_text::Case;
 use std::rt::{Clock, Files};
+use std::sync::Wait;
+use std::thread::Threads;
 
 /// Tests a file, and tells its points. One that can't be read, or has a fault, is a point that fails.
-pub(crate) fn test_file<R: AllocGlobal + Clock + Files>(
+pub(crate) fn test_file<R: AllocGlobal + Clock + Eprint + Files + Sync + Threads + Wait>(
     rt: &R,
     options: &Options<'_>,
     file: &str,
@@ -34,11 +38,12 @@ pub(crate) fn test_file<R: AllocGlobal + Clock + Files>(
         text: &loaded.text,
         conditions: &loaded.conditions,
     };
-    test_script(rt, options, &case, &loaded.script, report)
+    test_script(rt, options, &case, &loaded.script, report)?;
+    Ok(put_comments(&case, report)?)
 }
 
 /// Tests a script by its kind.
-fn test_script<R: AllocGlobal + Clock + Files>(
+fn test_script<R: AllocGlobal + Clock + Eprint + Files + Sync + Threads + Wait>(
     rt: &R,
     options: &Options<'_>,
     case: &Case<'_>,
@@ -46,16 +51,18 @@ fn test_script<R: AllocGlobal + Clock + Files>(
     report: &mut Report,
 ) -> Result<(), Stop> {
     if is_program(&script.body) {
-        return test_orders(rt, options, case, script, report);
+        test_orders(rt, options, case, script, report)?;
+        return test_runs(rt, options, case, script, report);
     }
     let alloc = rt.alloc();
-    let mut board = Board::new(alloc, &script.config)?;
+    let board = new_board(alloc, &script.config)?;
+    let mut course = Course::of(alloc, board);
     match &script.body {
-        Body::Schedule(lines) => replay(alloc, case, &mut board, lines, report)?,
-        Body::Trace(lines) => compare(alloc, case, &mut board, lines, report)?,
+        Body::Schedule(lines) => replay(alloc, case, &mut course, lines, report)?,
+        Body::Trace(lines) => compare(alloc, case, &mut course, lines, report)?,
         Body::Empty | Body::Program { .. } => {}
     }
-    judge_record(rt, options, case, &board, report)
+    judge_record(rt, options, case, &course, report)
 }
 
 /// Whether a script is a program. An empty one is of each kind.

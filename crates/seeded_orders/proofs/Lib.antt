@@ -5,3 +5,4 @@ pub mod Ordering
 pub mod Taking
 pub mod Choosing
 pub mod Ranking
+pub mod Completing

@@ -1,9 +1,10 @@
 -- What a picked order is.
-use Rattle.std.proofs.Common.{◌≡◌, ℕ, zero, suc, ◌+◌, ◌-◌, ◌%◌, ◌<◌, if◌then◌else◌, List, [], ◌∷◌, refl, sym, ap, ◌∙◌, inl, inr, length, map, get_or, arith}
-use Rattle.std.specs.Prelude.{Option, Some, None, Result, Ok, Err, OnOk, Bool, true, false, slice_get}
+use Rattle.std.proofs.Common.{◌≡◌, ℕ, zero, suc, ◌+◌, ◌-◌, ◌%◌, ◌<◌, if◌then◌else◌, List, [], ◌∷◌, refl, sym, ap, ◌∙◌, inl, inr, length, map, get_or, subst, arith}
+use Rattle.std.specs.Prelude.{Option, Some, None, Result, Ok, Err, IfOk, Bool, true, false, slice_get}
 use Rattle.std.proofs.lemmas.Option.{slice_get-get_or}
 use Rattle.rand_pcg.specs.Pcg.{pcg64_dxsm}
 use Rattle.board_core.specs.declared.config.Config.{Config}
+use Rattle.board_core.specs.Opening.{Opening, opening_at}
 use Rattle.board_core.specs.declared.event.Actor.{Actor}
 use Rattle.board_core.specs.declared.event.Op.{Op}
 use Rattle.board_core.specs.declared.event.Refusal.{Refusal}
@@ -12,12 +13,14 @@ use Rattle.board_core.specs.History.{Event}
 use Rattle.board_core.specs.Replies.{answer, recorded}
 use Rattle.guest_script.specs.Grammar.{Content, guest}
 use Rattle.hart_threads.specs.declared.blocks.Program.{Program}
+use Rattle.hart_threads.specs.declared.ends.End.{End}
+use Rattle.hart_threads.specs.Ends.{IsEnd}
 use Rattle.hart_threads.specs.Programs.{blocks_of, ticks_of}
 use Rattle.seeded_orders.specs.declared.steps.Step.{Step}
 use Rattle.seeded_orders.specs.declared.steps.Step.TheVariants as takes
 use Rattle.seeded_orders.specs.declared.pickers.Picker.{Picker}
 use Rattle.seeded_orders.specs.declared.pickers.Picker.TheVariants.{Even, Ranked}
-use Rattle.seeded_orders.specs.Orders.{ordered, past_after, past_with, pick, picked}
+use Rattle.seeded_orders.specs.Orders.{IsTried, ordered, order_of, past_after, past_with, pick, picked, picker_of}
 use Rattle.seeded_orders.specs.Ranks.{higher, highest, reranked}
 use Rattle.seeded_orders.specs.Steps.{actor_of, AreOwn, IsActorsOwn, next_op, op_of, steps, Task, task_in, task_of}
 
@@ -28,34 +31,34 @@ nothing-picked (Even words) turn = refl
 nothing-picked (Ranked ranks) turn = refl
 
 -- with no step to take nothing happens any more
-pub idle : (c : Config) (p : Task) (most turn : ℕ) (picker : Picker) (past : List Event) → steps c p past ≡ [] → ordered c p most turn picker past ≡ past
+pub idle : (o : Opening) (p : Task) (most turn : ℕ) (picker : Picker) (past : List Event) → steps o p past ≡ [] → ordered o p most turn picker past ≡ past
 unfolding ordered
-idle c p zero turn picker past none = refl
-idle c p (suc most) turn picker past none =
-    let none_picked : past_with c p past (pick picker turn (steps c p past)).0 ≡ past =
-    ap (λ (found : List Step). past_with c p past (pick picker turn found).0) none ∙ ap (λ (step : Option Step). past_with c p past step) (nothing-picked picker turn) in
-    ap (λ (now : List Event). ordered c p most (turn + 1) (pick picker turn (steps c p past)).1 now) none_picked ∙ idle c p most (turn + 1) (pick picker turn (steps c p past)).1 past none
+idle o p zero turn picker past none = refl
+idle o p (suc most) turn picker past none =
+    let none_picked : past_with o p past (pick picker turn (steps o p past)).0 ≡ past =
+    ap (λ (found : List Step). past_with o p past (pick picker turn found).0) none ∙ ap (λ (step : Option Step). past_with o p past step) (nothing-picked picker turn) in
+    ap (λ (now : List Event). ordered o p most (turn + 1) (pick picker turn (steps o p past)).1 now) none_picked ∙ idle o p most (turn + 1) (pick picker turn (steps o p past)).1 past none
 
 -- one step more
-pub ordered-next : (c : Config) (p : Task) (most i turn : ℕ) (picker : Picker) (past : List Event) → i < most
-    → ordered c p (most - i) turn picker past
-    ≡ ordered c p (most - (i + 1)) (turn + 1) (pick picker turn (steps c p past)).1 (past_with c p past (pick picker turn (steps c p past)).0)
+pub ordered-next : (o : Opening) (p : Task) (most i turn : ℕ) (picker : Picker) (past : List Event) → i < most
+    → ordered o p (most - i) turn picker past
+    ≡ ordered o p (most - (i + 1)) (turn + 1) (pick picker turn (steps o p past)).1 (past_with o p past (pick picker turn (steps o p past)).0)
 unfolding ordered
-ordered-next c p most i turn picker past below =
+ordered-next o p most i turn picker past below =
     let more : most - i ≡ suc (most - (i + 1)) = omega arith in
-    ap (λ (n : ℕ). ordered c p n turn picker past) more
+    ap (λ (n : ℕ). ordered o p n turn picker past) more
 
 -- ---- each step is an actor's own
 
-own-recorded : (c : Config) (p : Task) (past : List Event) (actor : Actor) (op : Op) (said : Result Reply Refusal)
-    → IsActorsOwn p past actor op → AreOwn p past → AreOwn p (recorded (record { config = c; past = past }) actor op said).past
-own-recorded c p past actor op (Ok reply) own owns = (own, owns)
-own-recorded c p past actor op (Err refusal) own owns = owns
+own-recorded : (o : Opening) (p : Task) (past : List Event) (actor : Actor) (op : Op) (said : Result Reply Refusal)
+    → IsActorsOwn p past actor op → AreOwn p past → AreOwn p (recorded (record { opening = o; past = past }) actor op said).past
+own-recorded o p past actor op (Ok reply) own owns = (own, owns)
+own-recorded o p past actor op (Err refusal) own owns = owns
 
-own-after : (c : Config) (p : Task) (past : List Event) (actor : Actor) (found : Option Op)
-    → ((op : Op) → found ≡ Some op → IsActorsOwn p past actor op) → AreOwn p past → AreOwn p (past_after c past actor found)
-own-after c p past actor None own owns = owns
-own-after c p past actor (Some op) own owns = own-recorded c p past actor op (answer c past actor op) (own op refl) owns
+own-after : (o : Opening) (p : Task) (past : List Event) (actor : Actor) (found : Option Op)
+    → ((op : Op) → found ≡ Some op → IsActorsOwn p past actor op) → AreOwn p past → AreOwn p (past_after o past actor found)
+own-after o p past actor None own owns = owns
+own-after o p past actor (Some op) own owns = own-recorded o p past actor op (answer o past actor op) (own op refl) owns
 
 some-is : (x y : Op) → Some x ≡ Some y → y ≡ x
 some-is x y same = cc
@@ -64,23 +67,23 @@ guarded : (is_there : Bool) (next : Option Op) (op : Op) → (if is_there then n
 guarded true next op found = found
 guarded false next op found = absurd (let t = found in cc)
 
-pub own-step : (c : Config) (p : Task) (past : List Event) (step : Step) (op : Op) → op_of c p past step ≡ Some op → IsActorsOwn p past (actor_of step) op
-own-step c p past (takes.Serve h) op found = inl (some-is _ op found)
-own-step c p past (takes.Poll h) op found = inr (inl (some-is _ op found))
-own-step c p past (takes.Advance h) op found = inr (inr (inl (some-is _ op found)))
-own-step c p past (takes.Guest h) op found = inr (inr (inr (guarded _ (next_op p.blocks past h) op found)))
-own-step c p past takes.Tick op found = found
+pub own-step : (o : Opening) (p : Task) (past : List Event) (step : Step) (op : Op) → op_of o p past step ≡ Some op → IsActorsOwn p past (actor_of step) op
+own-step o p past (takes.Serve h) op found = inl (some-is _ op found)
+own-step o p past (takes.Poll h) op found = inr (inl (some-is _ op found))
+own-step o p past (takes.Advance h) op found = inr (inr (inl (some-is _ op found)))
+own-step o p past (takes.Guest h) op found = inr (inr (inr (guarded _ (next_op p.blocks past h) op found)))
+own-step o p past takes.Tick op found = found
 
-own-with : (c : Config) (p : Task) (past : List Event) (found : Option Step) → AreOwn p past → AreOwn p (past_with c p past found)
-own-with c p past None owns = owns
-own-with c p past (Some step) owns = own-after c p past (actor_of step) (op_of c p past step) (own-step c p past step) owns
+own-with : (o : Opening) (p : Task) (past : List Event) (found : Option Step) → AreOwn p past → AreOwn p (past_with o p past found)
+own-with o p past None owns = owns
+own-with o p past (Some step) owns = own-after o p past (actor_of step) (op_of o p past step) (own-step o p past step) owns
 
 -- Each event of a picked order was its actor's own.
-pub ordered-own : (c : Config) (p : Task) (most turn : ℕ) (picker : Picker) (past : List Event) → AreOwn p past → AreOwn p (ordered c p most turn picker past)
+pub ordered-own : (o : Opening) (p : Task) (most turn : ℕ) (picker : Picker) (past : List Event) → AreOwn p past → AreOwn p (ordered o p most turn picker past)
 unfolding ordered
-ordered-own c p zero turn picker past owns = owns
-ordered-own c p (suc most) turn picker past owns =
-    ordered-own c p most (turn + 1) (pick picker turn (steps c p past)).1 (past_with c p past (pick picker turn (steps c p past)).0) (own-with c p past (pick picker turn (steps c p past)).0 owns)
+ordered-own o p zero turn picker past owns = owns
+ordered-own o p (suc most) turn picker past owns =
+    ordered-own o p most (turn + 1) (pick picker turn (steps o p past)).1 (past_with o p past (pick picker turn (steps o p past)).0) (own-with o p past (pick picker turn (steps o p past)).0 owns)
 
 -- ---- what the loop keeps
 
@@ -106,31 +109,39 @@ none-there (Even words) turn found none = none-picked (pcg64_dxsm words).0 found
 none-there (Ranked ranks) turn found none = (none-highest (reranked ranks turn (highest ranks.ranks None found)).ranks None found none).1
 
 -- Where no step is picked, the past is what the order makes.
-pub stops : (c : Config) (p : Task) (most turn : ℕ) (picker next : Picker) (past whole : List Event) (found : List Step) (step : Option Step)
-    → found ≡ steps c p past → (step, next) ≡ pick picker turn found → step ≡ None → ordered c p most turn picker past ≡ whole → past ≡ whole
-stops c p most turn picker next past whole found step is by none keeps =
+pub stops : (o : Opening) (p : Task) (most turn : ℕ) (picker next : Picker) (past whole : List Event) (found : List Step) (step : Option Step)
+    → found ≡ steps o p past → (step, next) ≡ pick picker turn found → step ≡ None → ordered o p most turn picker past ≡ whole → past ≡ whole
+stops o p most turn picker next past whole found step is by none keeps =
     let none_picked : (pick picker turn found).0 ≡ None = sym (ap (λ (pair : Option Step × Picker). pair.0) by) ∙ none in
-    sym (idle c p most turn picker past (sym is ∙ none-there picker turn found none_picked)) ∙ keeps
+    sym (idle o p most turn picker past (sym is ∙ none-there picker turn found none_picked)) ∙ keeps
 
 -- After as many turns as there may be events, too.
-pub ends : (c : Config) (p : Task) (most turn : ℕ) (picker : Picker) (past whole : List Event) → most ≡ 0 → ordered c p most turn picker past ≡ whole → past ≡ whole
+pub ends : (o : Opening) (p : Task) (most turn : ℕ) (picker : Picker) (past whole : List Event) → most ≡ 0 → ordered o p most turn picker past ≡ whole → past ≡ whole
 unfolding ordered
-ends c p most turn picker past whole over keeps = sym (ap (λ (n : ℕ). ordered c p n turn picker past) over) ∙ keeps
+ends o p most turn picker past whole over keeps = sym (ap (λ (n : ℕ). ordered o p n turn picker past) over) ∙ keeps
 
 -- A turn of the loop.
-pub goes : (c : Config) (p : Task) (most i : ℕ) (picker next : Picker) (past after whole : List Event) (found : List Step) (picks : Option Step) (step : Step) → i < most
-    → found ≡ steps c p past → (picks, next) ≡ pick picker i found → picks ≡ Some step → after ≡ past_with c p past (Some step)
-    → ordered c p (most - i) i picker past ≡ whole → ordered c p (most - (i + 1)) (i + 1) next after ≡ whole
-goes c p most i picker next past after whole found picks step below is by some taken keeps =
-    let both : (picks, next) ≡ pick picker i (steps c p past) = by ∙ ap (λ (xs : List Step). pick picker i xs) is in
-    let chosen : (pick picker i (steps c p past)).0 ≡ Some step = sym (ap (λ (pair : Option Step × Picker). pair.0) both) ∙ some in
-    ap (λ (g : Picker). ordered c p (most - (i + 1)) (i + 1) g after) (ap (λ (pair : Option Step × Picker). pair.1) both)
-    ∙ ap (λ (now : List Event). ordered c p (most - (i + 1)) (i + 1) (pick picker i (steps c p past)).1 now) (taken ∙ ap (λ (o : Option Step). past_with c p past o) (sym chosen))
-    ∙ sym (ordered-next c p most i i picker past below) ∙ keeps
+pub goes : (o : Opening) (p : Task) (most i : ℕ) (picker next : Picker) (past after whole : List Event) (found : List Step) (picks : Option Step) (step : Step) → i < most
+    → found ≡ steps o p past → (picks, next) ≡ pick picker i found → picks ≡ Some step → after ≡ past_with o p past (Some step)
+    → ordered o p (most - i) i picker past ≡ whole → ordered o p (most - (i + 1)) (i + 1) next after ≡ whole
+goes o p most i picker next past after whole found picks step below is by some taken keeps =
+    let both : (picks, next) ≡ pick picker i (steps o p past) = by ∙ ap (λ (xs : List Step). pick picker i xs) is in
+    let chosen : (pick picker i (steps o p past)).0 ≡ Some step = sym (ap (λ (pair : Option Step × Picker). pair.0) both) ∙ some in
+    ap (λ (g : Picker). ordered o p (most - (i + 1)) (i + 1) g after) (ap (λ (pair : Option Step × Picker). pair.1) both)
+    ∙ ap (λ (now : List Event). ordered o p (most - (i + 1)) (i + 1) (pick picker i (steps o p past)).1 now) (taken ∙ ap (λ (x : Option Step). past_with o p past x) (sym chosen))
+    ∙ sym (ordered-next o p most i i picker past below) ∙ keeps
 
 pub same-task : (program : Program) (body : Content) → map guest program.blocks.now ≡ blocks_of body → program.ticks.now ≡ ticks_of body → task_in program ≡ task_of body
 same-task program body blocks ticks = cc
 
-pub on-ok : {T E : Type 0} (found : Result T E) (P : Type 0) → P → OnOk found P
-on-ok (Ok x) P holds = holds
-on-ok (Err e) P holds = tt
+pub if-ok : {T E : Type 0} (found : Result T E) (P Q : T → Type 0) → ((x : T) → P x → Q x) → IfOk found P → IfOk found Q
+if-ok (Ok x) P Q gives holds = gives x holds
+if-ok (Err e) P Q gives holds = holds
+
+-- What is followed from the opening on is the order, if its picker is.
+pub order-is-tried : (c : Config) (content : Content) (seed order : ℕ) (past : List Event) (picker : Picker) (end : End) → picker ≡ picker_of c.harts seed order
+    → past ≡ ordered (opening_at c) (task_of content) c.limit 0 picker [] → IsEnd end (opening_at c) past (blocks_of content) → IsTried c content seed order past end
+order-is-tried c content seed order past picker end picks follows ended =
+    let same : past ≡ order_of c (task_of content) seed order = follows ∙ ap (λ (g : Picker). ordered (opening_at c) (task_of content) c.limit 0 g []) picks in
+    let Q : List Event → Type 0 = λ xs. AreOwn (task_of content) xs in
+    record { same = same; own = subst Q (sym same) (ordered-own (opening_at c) (task_of content) c.limit 0 (picker_of c.harts seed order) [] tt); ended = ended }

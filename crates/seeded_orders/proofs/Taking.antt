@@ -13,29 +13,29 @@ use Rattle.seeded_orders.specs.declared.steps.Step.{Step}
 use Rattle.seeded_orders.specs.Orders.{past_after, past_with}
 use Rattle.seeded_orders.specs.Steps.{actor_of, op_of, Task}
 
-recorded-config : (b : Course) (actor : Actor) (op : Op) (said : Result Reply Refusal) → (recorded b actor op said).config ≡ b.config
-recorded-config b actor op (Ok reply) = refl
-recorded-config b actor op (Err refusal) = refl
+recorded-opening : (b : Course) (actor : Actor) (op : Op) (said : Result Reply Refusal) → (recorded b actor op said).opening ≡ b.opening
+recorded-opening b actor op (Ok reply) = refl
+recorded-opening b actor op (Err refusal) = refl
 
-pub config-kept : (b : Course) (actor : Actor) (op : Op) → (stepped b actor op).config ≡ b.config
-config-kept b actor op = recorded-config b actor op (answer b.config b.past actor op)
+pub opening-kept : (b : Course) (actor : Actor) (op : Op) → (stepped b actor op).opening ≡ b.opening
+opening-kept b actor op = recorded-opening b actor op (answer b.opening b.past actor op)
 
-pub nothing-taken : (b : Course) (p : Task) (step : Step) (found : Option Op) → found ≡ op_of b.config p b.past step → found ≡ None → b.past ≡ past_with b.config p b.past (Some step)
-nothing-taken b p step found is none = ap (λ (o : Option Op). past_after b.config b.past (actor_of step) o) (sym none ∙ is)
+pub nothing-taken : (b : Course) (p : Task) (step : Step) (found : Option Op) → found ≡ op_of b.opening p b.past step → found ≡ None → b.past ≡ past_with b.opening p b.past (Some step)
+nothing-taken b p step found is none = ap (λ (o : Option Op). past_after b.opening b.past (actor_of step) o) (sym none ∙ is)
 
-pub past-taken : (b : Course) (p : Task) (step : Step) (actor : Actor) (op : Op) (found : Option Op) → found ≡ op_of b.config p b.past step → found ≡ Some op → actor ≡ actor_of step
-    → (stepped b actor op).past ≡ past_with b.config p b.past (Some step)
+pub past-taken : (b : Course) (p : Task) (step : Step) (actor : Actor) (op : Op) (found : Option Op) → found ≡ op_of b.opening p b.past step → found ≡ Some op → actor ≡ actor_of step
+    → (stepped b actor op).past ≡ past_with b.opening p b.past (Some step)
 past-taken b p step actor op found is some by =
-    ap (λ (a : Actor). (stepped b a op).past) by ∙ ap (λ (o : Option Op). past_after b.config b.past (actor_of step) o) (sym some ∙ is)
+    ap (λ (a : Actor). (stepped b a op).past) by ∙ ap (λ (o : Option Op). past_after b.opening b.past (actor_of step) o) (sym some ∙ is)
 
 -- the event of an accepted step
 abbrev pub event_of : Course → Actor → Op → Reply → Event
-event_of b actor op reply = record { actor = actor; op = op; reply = reply; translation = used_by_actor b.config b.past actor op }
+event_of b actor op reply = record { actor = actor; op = op; reply = reply; translation = used_by_actor b.opening b.past actor op }
 
-pub accepted-past : (b : Course) (actor : Actor) (op : Op) (said : Result Reply Refusal) (reply : Reply) → said ≡ answer b.config b.past actor op → said ≡ Ok reply
+pub accepted-past : (b : Course) (actor : Actor) (op : Op) (said : Result Reply Refusal) (reply : Reply) → said ≡ answer b.opening b.past actor op → said ≡ Ok reply
     → (stepped b actor op).past ≡ event_of b actor op reply ∷ b.past
 accepted-past b actor op said reply is accepted = ap (λ (r : Result Reply Refusal). (recorded b actor op r).past) (sym is ∙ accepted)
 
-pub refused-past : (b : Course) (actor : Actor) (op : Op) (said : Result Reply Refusal) (refusal : Refusal) → said ≡ answer b.config b.past actor op → said ≡ Err refusal
+pub refused-past : (b : Course) (actor : Actor) (op : Op) (said : Result Reply Refusal) (refusal : Refusal) → said ≡ answer b.opening b.past actor op → said ≡ Err refusal
     → (stepped b actor op).past ≡ b.past
 refused-past b actor op said refusal is refused = ap (λ (r : Result Reply Refusal). (recorded b actor op r).past) (sym is ∙ refused)

@@ -1,17 +1,22 @@
 -- The order that a seed picks (profile).
-use Rattle.std.specs.Prelude.{ℕ, zero, suc, ◌+◌, ◌%◌, ◌==◌, if◌then◌else◌, List, [], ◌∷◌, length, slice_get, Option, Some, None}
+use Rattle.std.specs.Prelude.{◌≡◌, ℕ, zero, suc, ◌+◌, ◌%◌, ◌==◌, if◌then◌else◌, List, [], ◌∷◌, length, slice_get, Option, Some, None}
 use Rattle.rand_pcg.specs.Lcg.{increment_of, Lcg, started}
 use Rattle.rand_pcg.specs.Pcg.{cheap_multiplier, pcg64_dxsm}
 use Rattle.board_core.specs.declared.config.Config.{Config}
+use Rattle.board_core.specs.Opening.{Opening, opening_at}
 use Rattle.board_core.specs.declared.event.Actor.{Actor}
 use Rattle.board_core.specs.declared.event.Op.{Op}
 use Rattle.board_core.specs.History.{Event}
 use Rattle.board_core.specs.Replies.{stepped}
+use Rattle.guest_script.specs.Grammar.{Content}
+use Rattle.hart_threads.specs.declared.ends.End.{End}
+use Rattle.hart_threads.specs.Ends.{IsEnd}
+use Rattle.hart_threads.specs.Programs.{blocks_of}
 use Rattle.seeded_orders.specs.declared.pickers.Picker.{Picker}
 use Rattle.seeded_orders.specs.declared.pickers.Picker.TheVariants.{Even, Ranked}
 use Rattle.seeded_orders.specs.declared.steps.Step.{Step}
 use Rattle.seeded_orders.specs.Ranks.{highest, ranking, reranked}
-use Rattle.seeded_orders.specs.Steps.{actor_of, op_of, steps, Task}
+use Rattle.seeded_orders.specs.Steps.{actor_of, AreOwn, op_of, steps, Task, task_of}
 
 -- the generator of an order: PCG64 DXSM, whose state is begun with the seed and whose stream is the order's number
 abbrev pub words_of : (seed order : ℕ) → Lcg
@@ -19,7 +24,8 @@ words_of seed order = started 128 cheap_multiplier seed (increment_of 128 order)
 
 -- What picks the steps of an order: two ways take turns.
 abbrev pub picker_of : (harts seed order : ℕ) → Picker
-picker_of harts seed order = if order % 2 == 0 then Even (words_of seed order) else Ranked (ranking harts (words_of seed order))
+picker_of harts seed order =
+    if order % 2 == 0 then Even (words_of seed order) else Ranked (ranking harts (words_of seed order))
 
 -- the step that a word picks of these: the one in the place that it leaves, divided by their number
 abbrev pub picked : (word : ℕ) → List Step → Option Step
@@ -34,21 +40,28 @@ pick (Ranked ranks) turn found =
     (highest now.ranks None found, Ranked now)
 
 -- the past after an operation, if there is one
-abbrev pub past_after : Config → List Event → Actor → Option Op → List Event
-past_after c past actor None = past
-past_after c past actor (Some op) = (stepped (record { config = c; past = past }) actor op).past
+abbrev pub past_after : Opening → List Event → Actor → Option Op → List Event
+past_after o past actor None = past
+past_after o past actor (Some op) = (stepped (record { opening = o; past = past }) actor op).past
 
 -- the past after a step, if there is one
-abbrev pub past_with : Config → Task → List Event → Option Step → List Event
-past_with c p past None = past
-past_with c p past (Some step) = past_after c past (actor_of step) (op_of c p past step)
+abbrev pub past_with : Opening → Task → List Event → Option Step → List Event
+past_with o p past None = past
+past_with o p past (Some step) = past_after o past (actor_of step) (op_of o p past step)
 
 -- What at most so many turns make of a past, from this one on.
-unfoldable pub ordered : Config → Task → (most turn : ℕ) → Picker → List Event → List Event
-ordered c p zero turn picker past = past
-ordered c p (suc most) turn picker past =
-    ordered c p most (turn + 1) (pick picker turn (steps c p past)).1 (past_with c p past (pick picker turn (steps c p past)).0)
+unfoldable pub ordered : Opening → Task → (most turn : ℕ) → Picker → List Event → List Event
+ordered o p zero turn picker past = past
+ordered o p (suc most) turn picker past =
+    ordered o p most (turn + 1) (pick picker turn (steps o p past)).1
+    (past_with o p past (pick picker turn (steps o p past)).0)
 
 -- The record of an order of a seed.
 abbrev pub order_of : Config → Task → (seed order : ℕ) → List Event
-order_of c p seed order = ordered c p c.limit 0 (picker_of c.harts seed order) []
+order_of c p seed order = ordered (opening_at c) p c.limit 0 (picker_of c.harts seed order) []
+
+-- What trying an order of a program gives: this past, in which each step is its actor's own, and this end.
+pub record IsTried (c : Config) (content : Content) (seed order : ℕ) (past : List Event) (end : End) : Type 0 where
+  pub same : past ≡ order_of c (task_of content) seed order
+  pub own : AreOwn (task_of content) past
+  pub ended : IsEnd end (opening_at c) past (blocks_of content)

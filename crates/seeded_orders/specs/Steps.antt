@@ -1,7 +1,8 @@
 -- The steps that the actors of a program can take of themselves (profile).
 use Rattle.std.specs.Prelude.{◌≡◌, ℕ, zero, suc, ◌+◌, Bool, true, false, not, ◌&&◌, nat_le, nat_lt, if◌then◌else◌, List, [], ◌∷◌, ◌++◌, length, map, slice_get, Option, Some, None, option_map}
+use Rattle.std.specs.List.{Contains}
 use Rattle.interrupts.specs.Timing.{last_time}
-use Rattle.board_core.specs.declared.config.Config.{Config}
+use Rattle.board_core.specs.Opening.{Opening}
 use Rattle.board_core.specs.declared.event.Actor.{Actor}
 use Rattle.board_core.specs.declared.event.Actor.TheVariants as actors
 use Rattle.board_core.specs.declared.event.Op.{Op}
@@ -79,19 +80,21 @@ hart_steps s guest h =
     ++ if_so (accepts_next s guest) (takes.Guest h)
 
 -- the steps of the harts below n
-abbrev pub harts_steps : Config → List Guest → List Event → (n : ℕ) → List Step
-harts_steps c blocks past zero = []
-harts_steps c blocks past (suc h) = harts_steps c blocks past h ++ hart_steps (situation c past h) (next_op blocks past h) h
+abbrev pub harts_steps : Opening → List Guest → List Event → (n : ℕ) → List Step
+harts_steps o blocks past zero = []
+harts_steps o blocks past (suc h) =
+    harts_steps o blocks past h ++ hart_steps (situation o past h) (next_op blocks past h) h
 
 -- whether there is a next tick, and the time has room for it
-abbrev pub can_tick : List Event → Option ℕ → Bool
-can_tick past None = false
-can_tick past (Some n) = nat_le (time past + n) last_time
+abbrev pub can_tick : Opening → List Event → Option ℕ → Bool
+can_tick o past None = false
+can_tick o past (Some n) = nat_le (time o past + n) last_time
 
 -- All steps that can be taken behind a past: none without power. Room for one event more is no condition.
-unfoldable pub steps : Config → Task → List Event → List Step
-steps c p past =
-    if is_off past then [] else harts_steps c p.blocks past c.harts ++ if_so (can_tick past (next_tick p.ticks past)) takes.Tick
+unfoldable pub steps : Opening → Task → List Event → List Step
+steps o p past =
+    if is_off o past then []
+    else harts_steps o p.blocks past o.config.harts ++ if_so (can_tick o past (next_tick p.ticks past)) takes.Tick
 
 -- who takes a step
 abbrev pub actor_of : Step → Actor
@@ -102,9 +105,14 @@ actor_of (takes.Guest h) = actors.Hart h
 actor_of takes.Tick = actors.Clock
 
 -- what is done by a step: a guest's next operation, of a hart that there is
-abbrev pub op_of : Config → Task → List Event → Step → Option Op
-op_of c p past (takes.Serve h) = Some ops.Serve
-op_of c p past (takes.Poll h) = Some ops.Poll
-op_of c p past (takes.Advance h) = Some ops.Advance
-op_of c p past (takes.Guest h) = if nat_lt h c.harts then next_op p.blocks past h else None
-op_of c p past takes.Tick = option_map ops.Tick (next_tick p.ticks past)
+abbrev pub op_of : Opening → Task → List Event → Step → Option Op
+op_of o p past (takes.Serve h) = Some ops.Serve
+op_of o p past (takes.Poll h) = Some ops.Poll
+op_of o p past (takes.Advance h) = Some ops.Advance
+op_of o p past (takes.Guest h) = if nat_lt h o.config.harts then next_op p.blocks past h else None
+op_of o p past takes.Tick = option_map ops.Tick (next_tick p.ticks past)
+
+-- A step of this actor that does this operation is one of those that can be taken.
+abbrev pub IsAmong : Opening → Task → List Event → Actor → Op → Type 0
+IsAmong o p past actor op =
+    (step : Step) × Contains (steps o p past) step × (actor_of step ≡ actor) × (op_of o p past step ≡ Some op)

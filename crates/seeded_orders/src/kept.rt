@@ -1,5 +1,5 @@
 ghost use Rattle.std.specs.Prelude.{◌≡◌, List, IfOk, map, reverse};
-ghost use Rattle.board_core.specs.declared.config.Config.{Config};
+ghost use Rattle.board_core.specs.Opening.{Opening};
 ghost use Rattle.board_core.specs.History.{Event};
 ghost use Rattle.board_core.specs.Limits.{IsGood};
 ghost use Rattle.board_core.specs.Replies.{IsLegal};
@@ -48,6 +48,7 @@ fn own_number(op: Op) -> u16
 
 /// Two records of one program on one board of which the same is kept are the same record. A law: there is nothing to run.
 pub fn choices_tell_records()
-    ensures { (c : Config) (p : Task) (one other : List Event) → IsGood c → IsLegal c one → IsLegal c other → AreOwn p one → AreOwn p other
+    ensures { (o : Opening) (p : Task) (one other : List Event) → IsGood o.config → IsLegal o one → IsLegal o other
+        → AreOwn p one → AreOwn p other
         → map choice_of (reverse one) ≡ map choice_of (reverse other) → one ≡ other }
 {}

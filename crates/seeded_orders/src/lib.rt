@@ -10,4 +10,4 @@ mod steps;
 
 pub use kept::{choices, choices_tell_records};
 pub use orders::{try_order, try_order_on};
-pub use steps::Step;
+pub use steps::{Step, steps_are_all};

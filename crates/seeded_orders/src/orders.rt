@@ -1,20 +1,20 @@
 ghost use Rattle.std.specs.Prelude.{◌≡◌, ◌↔◌, IfOk, IsErrOf, OnOk};
 ghost use Rattle.board_core.specs.Limits.{IsGood};
+ghost use Rattle.board_core.specs.Opening.{opening_at};
 ghost use Rattle.board_core.specs.Replies.{IsLegal};
 ghost use Rattle.guest_script.specs.Grammar.{content};
-ghost use Rattle.hart_threads.specs.Ends.{IsEnd};
-ghost use Rattle.hart_threads.specs.Programs.{IsProgram, blocks_of};
+ghost use Rattle.hart_threads.specs.Programs.{IsProgram};
 ghost use Rattle.hart_threads.specs.declared.ends.RunFault.TheVariants.{BadConfig};
-ghost use Rattle.seeded_orders.specs.Orders.{order_of, ordered, past_with};
+ghost use Rattle.seeded_orders.specs.Orders.{IsTried, ordered, past_with};
 ghost use Rattle.seeded_orders.specs.Places.{AreAt};
-ghost use Rattle.seeded_orders.specs.Steps.{AreOwn, task_in, task_of};
+ghost use Rattle.seeded_orders.specs.Steps.{task_in};
 
 use crate::pickers::Picker;
 use crate::places::Places;
 use crate::steps::Step;
 use board_core::Board;
 use guest_script::Script;
-use hart_threads::{End, Met, Program, RunEnd, RunFault, end_of, program_in};
+use hart_threads::{End, Met, Program, RunEnd, RunFault, end_of, new_board, program_in};
 use std::alloc::{AllocError, Global};
 
 /// Runs a program on a new board in the order that a seed and a number pick: each time one of all steps that its actors can
@@ -26,13 +26,12 @@ use std::alloc::{AllocError, Global};
 pub fn try_order(alloc: Global, script: &Script, seed: u64, order: u64) -> Result<RunEnd, RunFault>
     requires { IsProgram (content script.now.body) }
     ensures bad { IsErrOf result BadConfig ↔ ¬ IsGood script.now.config }
-    ensures opening { IfOk result (λ run. run.board.config ≡ script.now.config) }
-    ensures legal { IfOk result (λ run. IsLegal run.board.config run.board.past) }
-    ensures same { IfOk result (λ run. run.board.past ≡ order_of script.now.config (task_of (content script.now.body)) seed order) }
-    ensures own { IfOk result (λ run. AreOwn (task_of (content script.now.body)) run.board.past) }
-    ensures end { IfOk result (λ run. IsEnd run.end run.board.config run.board.past (blocks_of (content script.now.body))) }
+    ensures opening { IfOk result (λ run. run.board.opening ≡ opening_at script.now.config) }
+    ensures legal { IfOk result (λ run. IsLegal run.board.opening run.board.past) }
+    ensures tried { IfOk result
+        (λ run. IsTried script.now.config (content script.now.body) seed order run.board.past run.end) }
 {
-    let mut board = Board::new(alloc, &script.config)?;
+    let mut board = new_board(alloc, &script.config)?;
     let end = try_order_on(alloc, script, &mut board, seed, order)?;
     Ok(RunEnd { end, board })
 }
@@ -51,12 +50,12 @@ pub fn try_order_on(
     order: u64,
 ) -> Result<End, AllocError>
     requires program { IsProgram (content script.now.body) }
-    requires its_own { board.old.config ≡ script.now.config }
-    ensures opening { board.new.config ≡ board.old.config }
-    ensures legal { IsLegal board.new.config board.new.past }
-    ensures same { OnOk result (board.new.past ≡ order_of script.now.config (task_of (content script.now.body)) seed order) }
-    ensures own { OnOk result (AreOwn (task_of (content script.now.body)) board.new.past) }
-    ensures end { IfOk result (λ end. IsEnd end board.new.config board.new.past (blocks_of (content script.now.body))) }
+    requires its_own { board.old.opening.config ≡ script.now.config }
+    ensures config { board.new.opening.config ≡ board.old.opening.config }
+    ensures opening { OnOk result (board.new.opening ≡ opening_at script.now.config) }
+    ensures legal { IsLegal board.new.opening board.new.past }
+    ensures tried { IfOk result
+        (λ end. IsTried script.now.config (content script.now.body) seed order board.new.past end) }
 {
     let ended = follow_anew(alloc, script, board, seed, order);
     let _legal = board.history();
@@ -72,11 +71,11 @@ fn follow_anew(
     order: u64,
 ) -> Result<End, AllocError>
     requires program { IsProgram (content script.now.body) }
-    requires its_own { board.old.config ≡ script.now.config }
-    ensures opening { board.new.config ≡ board.old.config }
-    ensures same { OnOk result (board.new.past ≡ order_of script.now.config (task_of (content script.now.body)) seed order) }
-    ensures own { OnOk result (AreOwn (task_of (content script.now.body)) board.new.past) }
-    ensures end { IfOk result (λ end. IsEnd end board.new.config board.new.past (blocks_of (content script.now.body))) }
+    requires its_own { board.old.opening.config ≡ script.now.config }
+    ensures config { board.new.opening.config ≡ board.old.opening.config }
+    ensures opening { OnOk result (board.new.opening ≡ opening_at script.now.config) }
+    ensures tried { IfOk result
+        (λ end. IsTried script.now.config (content script.now.body) seed order board.new.past end) }
 {
     let program = program_in(&script.body);
     let harts = board.config().harts;
@@ -99,9 +98,10 @@ fn follow<'a>(
     places: &mut Places<'a>,
     picker: &mut Picker,
 ) -> Result<Met, AllocError>
-    requires { AreAt (task_in program) board.old.config.harts board.old.past places.old }
-    ensures opening { board.new.config ≡ board.old.config }
-    ensures past { OnOk result (board.new.past ≡ ordered board.old.config (task_in program.entry) board.old.config.limit 0 picker.old board.old.past) }
+    requires { AreAt (task_in program) board.old.opening.config.harts board.old.past places.old }
+    ensures opening { board.new.opening ≡ board.old.opening }
+    ensures past { OnOk result (board.new.past
+        ≡ ordered board.old.opening (task_in program.entry) board.old.opening.config.limit 0 picker.old board.old.past) }
 {
     let mut steps = Vec::new(alloc);
     for i in 0..board.config().limit {
@@ -121,10 +121,10 @@ fn follow<'a>(
 
 /// Takes a step.
 fn take<'a>(board: &mut Board, program: Program<'a>, places: &mut Places<'a>, step: Step)
-    requires { AreAt (task_in program) board.old.config.harts board.old.past places.old }
-    ensures opening { board.new.config ≡ board.old.config }
-    ensures past { board.new.past ≡ past_with board.old.config (task_in program.entry) board.old.past (Some step) }
-    ensures places { AreAt (task_in program.entry) board.old.config.harts board.new.past places.new }
+    requires { AreAt (task_in program) board.old.opening.config.harts board.old.past places.old }
+    ensures opening { board.new.opening ≡ board.old.opening }
+    ensures past { board.new.past ≡ past_with board.old.opening (task_in program.entry) board.old.past (Some step) }
+    ensures places { AreAt (task_in program.entry) board.old.opening.config.harts board.new.past places.new }
 {
     let Some(op) = places.op(step) else {
         return;

@@ -1,5 +1,5 @@
 ghost use Rattle.std.specs.Prelude.{◌≡◌, ◌≤◌, ◌-◌, ◌/◌, IfOk, IsTrue, Some, is_some, replicate, vec_capacity};
-ghost use Rattle.sv39.specs.Memory.{is_in_ram, pages_of, word_in, written, zero_memory};
+ghost use Rattle.sv39.specs.Memory.{IsRam, is_in_ram, pages_of, word_in, written, zero_memory};
 
 use std::alloc::{AllocError, Global};
 use std::marker::Model;
@@ -34,8 +34,21 @@ impl Ram {
         requires limit { pages ≤ 256 }
         ensures words { IfOk result (λ ram. word_in ram ≡ zero_memory pages) }
         ensures pages { IfOk result (λ ram. pages_of ram ≡ pages) }
+        ensures ram { IfOk result IsRam }
     {
         let words = zeros(alloc, PAGE_WORDS * pages as usize)?;
+        Ok(Ram { words })
+    }
+
+    /// A RAM that is equal to this one. It fails where memory runs out.
+    pub fn try_copy(&self, alloc: Global) -> Result<Ram, AllocError>
+        ensures copy { IfOk result (λ copy. copy ≡ self.now) }
+        ensures pages { IsRam self.now }
+    {
+        let mut words = Vec::with_capacity(alloc, self.words.len())?;
+        for word in &self.words {
+            words.push_reserved(*word);
+        }
         Ok(Ram { words })
     }
 

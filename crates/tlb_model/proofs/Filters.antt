@@ -1,6 +1,6 @@
 -- Lists that are filtered twice, mapped, turned round or searched.
-use Rattle.std.proofs.Common.{◌≡◌, Bool, true, false, cond, not, ◌&&◌, List, [], ◌∷◌, ◌++◌, refl, sym, ap, ◌∙◌, Some}
-use Rattle.std.specs.Prelude.{filter, find, map, option_map, reverse}
+use Rattle.std.proofs.Common.{◌≡◌, Bool, true, false, cond, not, ◌&&◌, List, [], ◌∷◌, ◌++◌, refl, sym, ap, ◌∙◌}
+use Rattle.std.specs.Prelude.{filter, reverse}
 use Rattle.std.specs.List.{All}
 use Rattle.tlb_model.specs.declared.cache.Numbered.{Numbered}
 use Rattle.tlb_model.specs.Contents.{Contents, fenced}
@@ -24,15 +24,6 @@ filter-both {A} p q (x ∷ xs) = by_test (p x) (filter-both p q xs)
     by_test true rest = ap (λ (ys : List A). cond (q x) (x ∷ ys) ys) rest
     by_test false rest = rest
 
-pub map-filter : {A B : Type 0} (f : A → B) (p : B → Bool) (xs : List A) → map f (filter (λ x. p (f x)) xs) ≡ filter p (map f xs)
-map-filter f p [] = refl
-map-filter {A} {B} f p (x ∷ xs) = by_test (p (f x)) (map-filter f p xs)
-  where
-    by_test : (b : Bool) → map f (filter (λ y. p (f y)) xs) ≡ filter p (map f xs)
-        → map f (cond b (x ∷ filter (λ y. p (f y)) xs) (filter (λ y. p (f y)) xs)) ≡ cond b (f x ∷ filter p (map f xs)) (filter p (map f xs))
-    by_test true rest = ap (λ (ys : List B). f x ∷ ys) rest
-    by_test false rest = rest
-
 pub filter-reverse : {A : Type 0} (p : A → Bool) (xs : List A) → reverse (filter p xs) ≡ filter p (reverse xs)
 filter-reverse p [] = refl
 filter-reverse {A} p (x ∷ xs) = by_test (p x) refl (filter-reverse p xs)
@@ -43,16 +34,6 @@ filter-reverse {A} p (x ∷ xs) = by_test (p x) refl (filter-reverse p xs)
     by_test : (b : Bool) → p x ≡ b → reverse (filter p xs) ≡ filter p (reverse xs) → reverse (cond b (x ∷ filter p xs) (filter p xs)) ≡ filter p (reverse (x ∷ xs))
     by_test true is rest = reverse-append (x ∷ []) (filter p xs) ∙ sym (turned ∙ (rw (is, rest) refl))
     by_test false is rest = rest ∙ sym (turned ∙ (rw is (append-nil (filter p (reverse xs)))))
-
-pub find-map : {A B C : Type 0} (f : A → B) (g : B → C) (h : A → C) (same : (x : A) → g (f x) ≡ h x) (p : B → Bool) (xs : List A)
-    → option_map g (find p (map f xs)) ≡ option_map h (find (λ x. p (f x)) xs)
-find-map f g h same p [] = refl
-find-map f g h same p (x ∷ xs) = by_test (p (f x)) (find-map f g h same p xs)
-  where
-    by_test : (b : Bool) → option_map g (find p (map f xs)) ≡ option_map h (find (λ y. p (f y)) xs)
-        → option_map g (cond b (Some (f x)) (find p (map f xs))) ≡ option_map h (cond b (Some x) (find (λ y. p (f y)) xs))
-    by_test true rest = ap Some (same x)
-    by_test false rest = rest
 
 -- a fence that covers nothing of a cache leaves it as it is
 pub fenced-none : {E F : Type 0} (covers : F → E → Bool) (flush : F) (cache : Contents E) → ((item : E) → covers flush item ≡ false)

@@ -1,5 +1,5 @@
 -- What sixteen places keep: after a fill, after a fence, and as a look-up goes over them.
-use Rattle.std.proofs.Common.{◌≡◌, ◌≢◌, add-one, ℕ, zero, suc, ◌+◌, ◌-◌, ◌*◌, ◌/◌, ◌%◌, ◌^◌, ◌<◌, ◌≤◌, min, Bool, true, false, cond, not, ◌||◌, ◌==◌, List, [], ◌∷◌, ◌++◌, length, take, drop, set, ltb, refl, sym, ap, ◌∙◌, Option, Some, None, arith, append-nil, append_assoc}
+use Rattle.std.proofs.Common.{◌≡◌, ◌≢◌, add-one, ℕ, zero, suc, ◌+◌, ◌-◌, ◌*◌, ◌/◌, ◌%◌, ◌^◌, ◌<◌, ◌≤◌, min, Bool, true, false, cond, not, ◌||◌, ◌==◌, List, [], ◌∷◌, ◌++◌, length, take, drop, get_or, set, ltb, refl, sym, ap, ◌∙◌, Option, Some, None, arith, append-nil, append_assoc}
 use Rattle.std.specs.Prelude.{filter, find, map, option_map, reverse, slice_get}
 use Rattle.std.proofs.Math.Nat.{mod-lt, pow-succ'}
 use Rattle.std.specs.Int.{bit_at, w32}
@@ -64,152 +64,159 @@ module _ {E : Type 0} where
   at (x ∷ xs) (suc i) below = let next = at xs i (omega arith) in record { item = next.item; here = next.here; more = ap (λ ys. x ∷ ys) next.more }
 
 module _ {E : Type 0} where
-  length-kept : (place : Option E) (is_dropped : Bool) (number : ℕ) → length (kept place is_dropped number) ≤ 1
-  length-kept (Some item) false number = omega arith
-  length-kept (Some item) true number = omega arith
-  length-kept None is_dropped number = omega arith
+  length-kept : (place : Option E) (is_dropped : Bool) (date number : ℕ) → length (kept place is_dropped date number) ≤ 1
+  length-kept (Some item) false date number = omega arith
+  length-kept (Some item) true date number = omega arith
+  length-kept None is_dropped date number = omega arith
 
-  pub length-seen : (n k : ℕ) (places : List E) (d : ℕ) → length (seen n k places d) ≤ k
-  length-seen zero k places d = omega arith
-  length-seen (suc n) zero places d = omega arith
-  length-seen (suc n) (suc k) places d =
-      let one = length-kept (slice_get places (n % 16)) (bit_at d (n % 16) == 1) n in
-      let rest = length-seen n k places d in
-      omega (arith, one, rest, length-append (kept (slice_get places (n % 16)) (bit_at d (n % 16) == 1) n) (seen n k places d))
+  pub length-seen : (n k : ℕ) (places : List E) (ds : List ℕ) (d : ℕ) → length (seen n k places ds d) ≤ k
+  length-seen zero k places ds d = omega arith
+  length-seen (suc n) zero places ds d = omega arith
+  length-seen (suc n) (suc k) places ds d =
+      let one = length-kept (slice_get places (n % 16)) (bit_at d (n % 16) == 1) (get_or ds (n % 16) 0) n in
+      let rest = length-seen n k places ds d in
+      omega (arith, one, rest, length-append (kept (slice_get places (n % 16)) (bit_at d (n % 16) == 1) (get_or ds (n % 16) 0) n) (seen n k places ds d))
 
-  pub seen-none : (n : ℕ) (places : List E) (d : ℕ) → seen n 0 places d ≡ []
-  seen-none zero places d = refl
-  seen-none (suc n) places d = refl
+  pub seen-none : (n : ℕ) (places : List E) (ds : List ℕ) (d : ℕ) → seen n 0 places ds d ≡ []
+  seen-none zero places ds d = refl
+  seen-none (suc n) places ds d = refl
 
   -- there are no more fills than were made
-  pub seen-all : (n k j : ℕ) (places : List E) (d : ℕ) → n ≤ k → n ≤ j → seen n k places d ≡ seen n j places d
-  seen-all zero k j places d few many = refl
-  seen-all (suc n) zero j places d few many = absurd (omega arith)
-  seen-all (suc n) (suc k) zero places d few many = absurd (omega arith)
-  seen-all (suc n) (suc k) (suc j) places d few many =
-      ap (λ rest. kept (slice_get places (n % 16)) (bit_at d (n % 16) == 1) n ++ rest) (seen-all n k j places d (omega arith) (omega arith))
+  pub seen-all : (n k j : ℕ) (places : List E) (ds : List ℕ) (d : ℕ) → n ≤ k → n ≤ j → seen n k places ds d ≡ seen n j places ds d
+  seen-all zero k j places ds d few many = refl
+  seen-all (suc n) zero j places ds d few many = absurd (omega arith)
+  seen-all (suc n) (suc k) zero places ds d few many = absurd (omega arith)
+  seen-all (suc n) (suc k) (suc j) places ds d few many =
+      ap (λ rest. kept (slice_get places (n % 16)) (bit_at d (n % 16) == 1) (get_or ds (n % 16) 0) n ++ rest) (seen-all n k j places ds d (omega arith) (omega arith))
 
-  pub seen-room : (n : ℕ) (places : List E) (d : ℕ) → length places ≡ min 16 n → seen n (length places) places d ≡ seen n 16 places d
-  seen-room n places d full = by_room (ltb n 16) refl
+  pub seen-room : (n : ℕ) (places : List E) (ds : List ℕ) (d : ℕ) → length places ≡ min 16 n → seen n (length places) places ds d ≡ seen n 16 places ds d
+  seen-room n places ds d full = by_room (ltb n 16) refl
     where
-      by_room : (b : Bool) → ltb n 16 ≡ b → seen n (length places) places d ≡ seen n 16 places d
-      by_room true few = let below = ltb-true n 16 few in seen-all n (length places) 16 places d (omega (arith, full)) (omega arith)
-      by_room false many = let above = ltb-false n 16 many in ap (λ k. seen n k places d) (omega (arith, full))
+      by_room : (b : Bool) → ltb n 16 ≡ b → seen n (length places) places ds d ≡ seen n 16 places ds d
+      by_room true few = let below = ltb-true n 16 few in seen-all n (length places) 16 places ds d (omega (arith, full)) (omega arith)
+      by_room false many = let above = ltb-false n 16 many in ap (λ k. seen n k places ds d) (omega (arith, full))
 
   -- where all are dropped none is kept
-  pub seen-dropped : (n k : ℕ) (places : List E) (d : ℕ) → ((i : ℕ) → i < 16 → bit_at d i ≡ 1) → seen n k places d ≡ []
-  seen-dropped zero k places d all = refl
-  seen-dropped (suc n) zero places d all = refl
-  seen-dropped (suc n) (suc k) places d all =
-      ap (λ b. kept (slice_get places (n % 16)) (b == 1) n ++ seen n k places d) (all (n % 16) (omega arith))
-      ∙ gone (slice_get places (n % 16)) ∙ seen-dropped n k places d all
+  pub seen-dropped : (n k : ℕ) (places : List E) (ds : List ℕ) (d : ℕ) → ((i : ℕ) → i < 16 → bit_at d i ≡ 1) → seen n k places ds d ≡ []
+  seen-dropped zero k places ds d all = refl
+  seen-dropped (suc n) zero places ds d all = refl
+  seen-dropped (suc n) (suc k) places ds d all =
+      ap (λ b. kept (slice_get places (n % 16)) (b == 1) (get_or ds (n % 16) 0) n ++ seen n k places ds d) (all (n % 16) (omega arith))
+      ∙ gone (slice_get places (n % 16)) ∙ seen-dropped n k places ds d all
     where
-      gone : (place : Option E) → kept place true n ++ seen n k places d ≡ seen n k places d
+      gone : (place : Option E) → kept place true (get_or ds (n % 16) 0) n ++ seen n k places ds d ≡ seen n k places ds d
       gone (Some item) = refl
       gone None = refl
 
   -- what stands elsewhere stays
-  seen-elsewhere : (m n k : ℕ) (places others : List E) (d w : ℕ) → n ≤ m → k + m < n + 16
-      → ((i : ℕ) → i ≢ m % 16 → slice_get others i ≡ slice_get places i) → ((i : ℕ) → i < 16 → i ≢ m % 16 → bit_at w i ≡ bit_at d i)
-      → seen n k others w ≡ seen n k places d
-  seen-elsewhere m zero k places others d w up near same bits = refl
-  seen-elsewhere m (suc n) zero places others d w up near same bits = refl
-  seen-elsewhere m (suc n) (suc k) places others d w up near same bits =
-      ap (λ place. kept place (bit_at w (n % 16) == 1) n ++ seen n k others w) (same (n % 16) (λ e. apart e))
-      ∙ ap (λ b. kept (slice_get places (n % 16)) (b == 1) n ++ seen n k others w) (bits (n % 16) (omega arith) (λ e. apart e))
-      ∙ ap (λ rest. kept (slice_get places (n % 16)) (bit_at d (n % 16) == 1) n ++ rest) (seen-elsewhere m n k places others d w (omega arith) (omega arith) same bits)
+  seen-elsewhere : (m n k : ℕ) (places others : List E) (ds es : List ℕ) (d w : ℕ) → n ≤ m → k + m < n + 16
+      → ((i : ℕ) → i ≢ m % 16 → slice_get others i ≡ slice_get places i) → ((i : ℕ) → i ≢ m % 16 → get_or es i 0 ≡ get_or ds i 0)
+      → ((i : ℕ) → i < 16 → i ≢ m % 16 → bit_at w i ≡ bit_at d i)
+      → seen n k others es w ≡ seen n k places ds d
+  seen-elsewhere m zero k places others ds es d w up near same days bits = refl
+  seen-elsewhere m (suc n) zero places others ds es d w up near same days bits = refl
+  seen-elsewhere m (suc n) (suc k) places others ds es d w up near same days bits =
+      ap (λ place. kept place (bit_at w (n % 16) == 1) (get_or es (n % 16) 0) n ++ seen n k others es w) (same (n % 16) (λ e. apart e))
+      ∙ ap (λ day. kept (slice_get places (n % 16)) (bit_at w (n % 16) == 1) day n ++ seen n k others es w) (days (n % 16) (λ e. apart e))
+      ∙ ap (λ b. kept (slice_get places (n % 16)) (b == 1) (get_or ds (n % 16) 0) n ++ seen n k others es w) (bits (n % 16) (omega arith) (λ e. apart e))
+      ∙ ap (λ rest. kept (slice_get places (n % 16)) (bit_at d (n % 16) == 1) (get_or ds (n % 16) 0) n ++ rest) (seen-elsewhere m n k places others ds es d w (omega arith) (omega arith) same days bits)
     where
       apart : n % 16 ≢ m % 16
       apart e = omega arith
 
   -- fifteen fills outlive the next one, and the sixteenth doesn't
-  seen-young : (m n k : ℕ) (places : List E) (d : ℕ) → n ≤ m → k + m ≡ n + 15 → filter (is_young m) (seen n (suc k) places d) ≡ seen n k places d
-  seen-young m zero k places d up near = refl
-  seen-young m (suc n) zero places d up near =
+  seen-young : (m n k : ℕ) (places : List E) (ds : List ℕ) (d : ℕ) → n ≤ m → k + m ≡ n + 15 → filter (is_young m) (seen n (suc k) places ds d) ≡ seen n k places ds d
+  seen-young m zero k places ds d up near = refl
+  seen-young m (suc n) zero places ds d up near =
       let old : ltb m (n + 16) ≡ false = le-ltb m (n + 16) (omega arith) in
-      ap (λ rest. filter (is_young m) (kept (slice_get places (n % 16)) (bit_at d (n % 16) == 1) n ++ rest)) (seen-none n places d)
+      ap (λ rest. filter (is_young m) (kept (slice_get places (n % 16)) (bit_at d (n % 16) == 1) (get_or ds (n % 16) 0) n ++ rest)) (seen-none n places ds d)
       ∙ out (slice_get places (n % 16)) (bit_at d (n % 16) == 1) old
     where
-      out : (place : Option E) (is_dropped : Bool) → ltb m (n + 16) ≡ false → filter (is_young m) (kept place is_dropped n ++ []) ≡ []
+      out : (place : Option E) (is_dropped : Bool) → ltb m (n + 16) ≡ false → filter (is_young m) (kept place is_dropped (get_or ds (n % 16) 0) n ++ []) ≡ []
       out (Some item) false old = rw old refl
       out (Some item) true old = refl
       out None is_dropped old = refl
-  seen-young m (suc n) (suc k) places d up near =
-      stays (slice_get places (n % 16)) (bit_at d (n % 16) == 1) (lt-ltb m (n + 16) (omega arith)) (seen-young m n k places d (omega arith) (omega arith))
+  seen-young m (suc n) (suc k) places ds d up near =
+      stays (slice_get places (n % 16)) (bit_at d (n % 16) == 1) (lt-ltb m (n + 16) (omega arith)) (seen-young m n k places ds d (omega arith) (omega arith))
     where
-      stays : (place : Option E) (is_dropped : Bool) → ltb m (n + 16) ≡ true → filter (is_young m) (seen n (suc k) places d) ≡ seen n k places d
-          → filter (is_young m) (kept place is_dropped n ++ seen n (suc k) places d) ≡ kept place is_dropped n ++ seen n k places d
-      stays (Some item) false young rest = rw young (ap (λ zs. record { number = n; item = item } ∷ zs) rest)
+      stays : (place : Option E) (is_dropped : Bool) → ltb m (n + 16) ≡ true → filter (is_young m) (seen n (suc k) places ds d) ≡ seen n k places ds d
+          → filter (is_young m) (kept place is_dropped (get_or ds (n % 16) 0) n ++ seen n (suc k) places ds d) ≡ kept place is_dropped (get_or ds (n % 16) 0) n ++ seen n k places ds d
+      stays (Some item) false young rest = rw young (ap (λ zs. record { date = get_or ds (n % 16) 0; number = n; item = item } ∷ zs) rest)
       stays (Some item) true young rest = rest
       stays None is_dropped young rest = rest
 
   -- a fill comes to its place, and the one sixteen before it goes
-  pub seen-filled : (n : ℕ) (places others : List E) (d w : ℕ) (item : E) → slice_get others (n % 16) ≡ Some item → bit_at w (n % 16) ≡ 0
-      → ((i : ℕ) → i ≢ n % 16 → slice_get others i ≡ slice_get places i) → ((i : ℕ) → i < 16 → i ≢ n % 16 → bit_at w i ≡ bit_at d i)
-      → seen (suc n) 16 others w ≡ record { number = n; item = item } ∷ filter (is_young n) (seen n 16 places d)
-  seen-filled n places others d w item here clear same bits =
-      let rest : seen n 15 others w ≡ filter (is_young n) (seen n 16 places d) =
-      seen-elsewhere n n 15 places others d w (omega arith) (omega arith) same bits ∙ sym (seen-young n n 15 places d (omega arith) (omega arith)) in
-      ap (λ b. kept (slice_get others (n % 16)) (b == 1) n ++ seen n 15 others w) clear
-      ∙ ap (λ place. kept place false n ++ seen n 15 others w) here
-      ∙ ap (λ zs. record { number = n; item = item } ∷ zs) rest
+  pub seen-filled : (n : ℕ) (places others : List E) (ds es : List ℕ) (d w date : ℕ) (item : E) → slice_get others (n % 16) ≡ Some item → get_or es (n % 16) 0 ≡ date
+      → bit_at w (n % 16) ≡ 0
+      → ((i : ℕ) → i ≢ n % 16 → slice_get others i ≡ slice_get places i) → ((i : ℕ) → i ≢ n % 16 → get_or es i 0 ≡ get_or ds i 0)
+      → ((i : ℕ) → i < 16 → i ≢ n % 16 → bit_at w i ≡ bit_at d i)
+      → seen (suc n) 16 others es w ≡ record { date = date; number = n; item = item } ∷ filter (is_young n) (seen n 16 places ds d)
+  seen-filled n places others ds es d w date item here day clear same days bits =
+      let rest : seen n 15 others es w ≡ filter (is_young n) (seen n 16 places ds d) =
+      seen-elsewhere n n 15 places others ds es d w (omega arith) (omega arith) same days bits ∙ sym (seen-young n n 15 places ds d (omega arith) (omega arith)) in
+      ap (λ b. kept (slice_get others (n % 16)) (b == 1) (get_or es (n % 16) 0) n ++ seen n 15 others es w) clear
+      ∙ ap (λ place. kept place false (get_or es (n % 16) 0) n ++ seen n 15 others es w) here
+      ∙ ap (λ q. kept (Some item) false q n ++ seen n 15 others es w) day
+      ∙ ap (λ zs. record { date = date; number = n; item = item } ∷ zs) rest
 
   -- one fill more, older than the others
-  pub seen-more : (n k m : ℕ) (places : List E) (d : ℕ) → m + suc k ≡ n
-      → seen n (suc k) places d ≡ seen n k places d ++ kept (slice_get places (m % 16)) (bit_at d (m % 16) == 1) m
-  seen-more zero k m places d last = absurd (omega arith)
-  seen-more (suc n) zero m places d last =
+  pub seen-more : (n k m : ℕ) (places : List E) (ds : List ℕ) (d : ℕ) → m + suc k ≡ n
+      → seen n (suc k) places ds d ≡ seen n k places ds d ++ kept (slice_get places (m % 16)) (bit_at d (m % 16) == 1) (get_or ds (m % 16) 0) m
+  seen-more zero k m places ds d last = absurd (omega arith)
+  seen-more (suc n) zero m places ds d last =
       let same : n ≡ m = omega arith in
-      ap (λ rest. kept (slice_get places (n % 16)) (bit_at d (n % 16) == 1) n ++ rest) (seen-none n places d)
-      ∙ append-nil (kept (slice_get places (n % 16)) (bit_at d (n % 16) == 1) n)
-      ∙ ap (λ i. kept (slice_get places (i % 16)) (bit_at d (i % 16) == 1) i) same
-  seen-more (suc n) (suc k) m places d last =
-      ap (λ rest. kept (slice_get places (n % 16)) (bit_at d (n % 16) == 1) n ++ rest) (seen-more n k m places d (omega arith))
-      ∙ sym (append_assoc (kept (slice_get places (n % 16)) (bit_at d (n % 16) == 1) n) (seen n k places d) (kept (slice_get places (m % 16)) (bit_at d (m % 16) == 1) m))
+      ap (λ rest. kept (slice_get places (n % 16)) (bit_at d (n % 16) == 1) (get_or ds (n % 16) 0) n ++ rest) (seen-none n places ds d)
+      ∙ append-nil (kept (slice_get places (n % 16)) (bit_at d (n % 16) == 1) (get_or ds (n % 16) 0) n)
+      ∙ ap (λ i. kept (slice_get places (i % 16)) (bit_at d (i % 16) == 1) (get_or ds (i % 16) 0) i) same
+  seen-more (suc n) (suc k) m places ds d last =
+      ap (λ rest. kept (slice_get places (n % 16)) (bit_at d (n % 16) == 1) (get_or ds (n % 16) 0) n ++ rest) (seen-more n k m places ds d (omega arith))
+      ∙ sym (append_assoc (kept (slice_get places (n % 16)) (bit_at d (n % 16) == 1) (get_or ds (n % 16) 0) n) (seen n k places ds d) (kept (slice_get places (m % 16)) (bit_at d (m % 16) == 1) (get_or ds (m % 16) 0) m))
 
   -- the newest of the fills, and the others
-  seen-at : (m j n k : ℕ) (places : List E) (d : ℕ) → m ≡ suc n → j ≡ suc k → seen m j places d ≡ kept (slice_get places (n % 16)) (bit_at d (n % 16) == 1) n ++ seen n k places d
-  seen-at m j n k places d first many = rw (first, many) refl
+  seen-at : (m j n k : ℕ) (places : List E) (ds : List ℕ) (d : ℕ) → m ≡ suc n → j ≡ suc k → seen m j places ds d ≡ kept (slice_get places (n % 16)) (bit_at d (n % 16) == 1) (get_or ds (n % 16) 0) n ++ seen n k places ds d
+  seen-at m j n k places ds d first many = rw (first, many) refl
 
   -- two contents with equal parts
   pub same_contents : (n m : ℕ) (xs ys : List (Numbered E)) → n ≡ m → xs ≡ ys → (let a : Contents E = record { next = n; live = xs } in a) ≡ record { next = m; live = ys }
   same_contents n m xs ys e k = cc
 
-  pub filled-contents : (n : ℕ) (places others : List E) (d w : ℕ) (item : E) → slice_get others (n % 16) ≡ Some item → bit_at w (n % 16) ≡ 0
-      → ((i : ℕ) → i ≢ n % 16 → slice_get others i ≡ slice_get places i) → ((i : ℕ) → i < 16 → i ≢ n % 16 → bit_at w i ≡ bit_at d i)
-      → (let a : Contents E = record { next = n + 1; live = seen (n + 1) 16 others w } in a) ≡ filled (record { next = n; live = seen n 16 places d }) item
-  filled-contents n places others d w item here clear same bits =
-      same_contents (n + 1) (n + 1) (seen (n + 1) 16 others w) (record { number = n; item = item } ∷ filter (is_young n) (seen n 16 places d)) refl
-      (ap (λ m. seen m 16 others w) (add-one n) ∙ seen-filled n places others d w item here clear same bits)
+  pub filled-contents : (n : ℕ) (places others : List E) (ds es : List ℕ) (d w date : ℕ) (item : E) → slice_get others (n % 16) ≡ Some item → get_or es (n % 16) 0 ≡ date
+      → bit_at w (n % 16) ≡ 0
+      → ((i : ℕ) → i ≢ n % 16 → slice_get others i ≡ slice_get places i) → ((i : ℕ) → i ≢ n % 16 → get_or es i 0 ≡ get_or ds i 0)
+      → ((i : ℕ) → i < 16 → i ≢ n % 16 → bit_at w i ≡ bit_at d i)
+      → (let a : Contents E = record { next = n + 1; live = seen (n + 1) 16 others es w } in a) ≡ filled (record { next = n; live = seen n 16 places ds d }) date item
+  filled-contents n places others ds es d w date item here day clear same days bits =
+      same_contents (n + 1) (n + 1) (seen (n + 1) 16 others es w) (record { date = date; number = n; item = item } ∷ filter (is_young n) (seen n 16 places ds d)) refl
+      (ap (λ m. seen m 16 others es w) (add-one n) ∙ seen-filled n places others ds es d w date item here day clear same days bits)
 
   -- a list whose items were all written
   pub refill-same : (xs ws : List E) → length ws ≡ length xs → refill (length xs) xs ws ≡ ws
   refill-same xs ws long = take-append-le (length xs) ws (drop (length ws) xs) (omega arith) ∙ take_all (length xs) ws (omega arith)
 
   -- what a fence leaves, by its places
-  fenced-places : (p : Numbered E → Bool) (q : E → Bool) → ((fill : Numbered E) → p fill ≡ not (q fill.item)) → (n k : ℕ) (places : List E) (d w : ℕ)
+  fenced-places : (p : Numbered E → Bool) (q : E → Bool) → ((fill : Numbered E) → p fill ≡ not (q fill.item)) → (n k : ℕ) (places : List E) (ds : List ℕ) (d w : ℕ)
       → ((i : ℕ) (item : E) → i < 16 → slice_get places i ≡ Some item → (bit_at w i == 1) ≡ (bit_at d i == 1) || q item)
-      → seen n k places w ≡ filter p (seen n k places d)
-  fenced-places p q is zero k places d w which = refl
-  fenced-places p q is (suc n) zero places d w which = refl
-  fenced-places p q is (suc n) (suc k) places d w which =
-      by_place (slice_get places (n % 16)) (which (n % 16)) (fenced-places p q is n k places d w which)
+      → seen n k places ds w ≡ filter p (seen n k places ds d)
+  fenced-places p q is zero k places ds d w which = refl
+  fenced-places p q is (suc n) zero places ds d w which = refl
+  fenced-places p q is (suc n) (suc k) places ds d w which =
+      by_place (slice_get places (n % 16)) (which (n % 16)) (fenced-places p q is n k places ds d w which)
     where
-      by_bits : (item : E) (new old gone : Bool) → new ≡ old || gone → p (record { number = n; item = item }) ≡ not gone
-          → seen n k places w ≡ filter p (seen n k places d) → kept (Some item) new n ++ seen n k places w ≡ filter p (kept (Some item) old n ++ seen n k places d)
+      by_bits : (item : E) (new old gone : Bool) → new ≡ old || gone → p (record { date = get_or ds (n % 16) 0; number = n; item = item }) ≡ not gone
+          → seen n k places ds w ≡ filter p (seen n k places ds d) → kept (Some item) new (get_or ds (n % 16) 0) n ++ seen n k places ds w ≡ filter p (kept (Some item) old (get_or ds (n % 16) 0) n ++ seen n k places ds d)
       by_bits item true true gone e keeps rest = rest
       by_bits item false true gone e keeps rest = cc
       by_bits item true false false e keeps rest = cc
       by_bits item true false true e keeps rest = rw keeps rest
-      by_bits item false false false e keeps rest = rw keeps (ap (λ zs. record { number = n; item = item } ∷ zs) rest)
+      by_bits item false false false e keeps rest = rw keeps (ap (λ zs. record { date = get_or ds (n % 16) 0; number = n; item = item } ∷ zs) rest)
       by_bits item false false true e keeps rest = cc
 
       by_place : (place : Option E) → ((item : E) → n % 16 < 16 → place ≡ Some item → (bit_at w (n % 16) == 1) ≡ (bit_at d (n % 16) == 1) || q item)
-          → seen n k places w ≡ filter p (seen n k places d)
-          → kept place (bit_at w (n % 16) == 1) n ++ seen n k places w ≡ filter p (kept place (bit_at d (n % 16) == 1) n ++ seen n k places d)
+          → seen n k places ds w ≡ filter p (seen n k places ds d)
+          → kept place (bit_at w (n % 16) == 1) (get_or ds (n % 16) 0) n ++ seen n k places ds w ≡ filter p (kept place (bit_at d (n % 16) == 1) (get_or ds (n % 16) 0) n ++ seen n k places ds d)
       by_place None here rest = rest
       by_place (Some item) here rest =
-          by_bits item (bit_at w (n % 16) == 1) (bit_at d (n % 16) == 1) (q item) (here item (omega arith) refl) (is (record { number = n; item = item })) rest
+          by_bits item (bit_at w (n % 16) == 1) (bit_at d (n % 16) == 1) (q item) (here item (omega arith) refl) (is (record { date = get_or ds (n % 16) 0; number = n; item = item })) rest
 
   -- a fence that has looked at all places but those whose bits are left
   pub record IsFenced (q : E → Bool) (places : List E) (d left w : ℕ) : Type 0 where
@@ -286,67 +293,67 @@ module _ {E : Type 0} where
           let other = eqb-false i place is in
           before.done i x within there (sym (same i within other) ∙ looked)
 
-  pub fence_ends : (p : Numbered E → Bool) (q : E → Bool) → ((fill : Numbered E) → p fill ≡ not (q fill.item)) → (n k : ℕ) (places : List E) (d w : ℕ)
-      → IsFenced q places d 0 w → seen n k places w ≡ filter p (seen n k places d)
-  fence_ends p q is n k places d w all = fenced-places p q is n k places d w (λ i item below here. all.done i item below here (bit_at-zero i))
+  pub fence_ends : (p : Numbered E → Bool) (q : E → Bool) → ((fill : Numbered E) → p fill ≡ not (q fill.item)) → (n k : ℕ) (places : List E) (ds : List ℕ) (d w : ℕ)
+      → IsFenced q places d 0 w → seen n k places ds w ≡ filter p (seen n k places ds d)
+  fence_ends p q is n k places ds d w all = fenced-places p q is n k places ds d w (λ i item below here. all.done i item below here (bit_at-zero i))
 
   -- the newest fills, and the others
-  seen-split : (n a b k m : ℕ) (places : List E) (d : ℕ) → m + a ≡ n → a + b ≡ k → seen n k places d ≡ seen n a places d ++ seen m b places d
-  seen-split n zero b k m places d parts whole =
+  seen-split : (n a b k m : ℕ) (places : List E) (ds : List ℕ) (d : ℕ) → m + a ≡ n → a + b ≡ k → seen n k places ds d ≡ seen n a places ds d ++ seen m b places ds d
+  seen-split n zero b k m places ds d parts whole =
       let same : n ≡ m = omega arith in
       let all : k ≡ b = omega arith in
-      ap (λ i. seen i k places d) same ∙ ap (λ q. seen m q places d) all ∙ ap (λ zs. zs ++ seen m b places d) (sym (seen-none n places d))
-  seen-split zero (suc a) b k m places d parts whole = absurd (omega arith)
-  seen-split (suc n) (suc a) b zero m places d parts whole = absurd (omega arith)
-  seen-split (suc n) (suc a) b (suc k) m places d parts whole =
-      ap (λ zs. kept (slice_get places (n % 16)) (bit_at d (n % 16) == 1) n ++ zs) (seen-split n a b k m places d (omega arith) (omega arith))
-      ∙ sym (append_assoc (kept (slice_get places (n % 16)) (bit_at d (n % 16) == 1) n) (seen n a places d) (seen m b places d))
+      ap (λ i. seen i k places ds d) same ∙ ap (λ q. seen m q places ds d) all ∙ ap (λ zs. zs ++ seen m b places ds d) (sym (seen-none n places ds d))
+  seen-split zero (suc a) b k m places ds d parts whole = absurd (omega arith)
+  seen-split (suc n) (suc a) b zero m places ds d parts whole = absurd (omega arith)
+  seen-split (suc n) (suc a) b (suc k) m places ds d parts whole =
+      ap (λ zs. kept (slice_get places (n % 16)) (bit_at d (n % 16) == 1) (get_or ds (n % 16) 0) n ++ zs) (seen-split n a b k m places ds d (omega arith) (omega arith))
+      ∙ sym (append_assoc (kept (slice_get places (n % 16)) (bit_at d (n % 16) == 1) (get_or ds (n % 16) 0) n) (seen n a places ds d) (seen m b places ds d))
 
   -- so many fills within one turn over the places, by the items of the places, from the last one down
-  items_down : (n base i j : ℕ) (places : List E) → n ≡ base + i → base % 16 ≡ 0 → i ≤ 16 → i ≤ length places → j ≤ i
-      → map (λ fill. fill.item) (seen n j places 0) ≡ reverse (drop (i - j) (take i places))
-  items_down n base i zero places is turn within full down =
-      ap (map (λ fill. fill.item)) (seen-none n places 0) ∙ sym (ap reverse (drop_all (i - 0) (take i places) (omega (arith, length-take i places))))
-  items_down n base zero (suc j) places is turn within full down = absurd (omega arith)
-  items_down n base (suc i) (suc j) places is turn within full down =
+  items_down : (n base i j : ℕ) (places : List E) (ds : List ℕ) → n ≡ base + i → base % 16 ≡ 0 → i ≤ 16 → i ≤ length places → j ≤ i
+      → map (λ fill. fill.item) (seen n j places ds 0) ≡ reverse (drop (i - j) (take i places))
+  items_down n base i zero places ds is turn within full down =
+      ap (map (λ fill. fill.item)) (seen-none n places ds 0) ∙ sym (ap reverse (drop_all (i - 0) (take i places) (omega (arith, length-take i places))))
+  items_down n base zero (suc j) places ds is turn within full down = absurd (omega arith)
+  items_down n base (suc i) (suc j) places ds is turn within full down =
       let x = at places i (omega arith) in
       let place : (base + i) % 16 ≡ i = omega arith in
-      let one : map (λ fill. fill.item) (seen n (suc j) places 0) ≡ x.item ∷ map (λ fill. fill.item) (seen (base + i) j places 0) =
-      ap (map (λ fill. fill.item)) (seen-at n (suc j) (base + i) j places 0 (omega arith) refl
-      ∙ ap (λ b. kept (slice_get places ((base + i) % 16)) (b == 1) (base + i) ++ seen (base + i) j places 0) (bit_at-zero ((base + i) % 16))
-      ∙ ap (λ q. kept (slice_get places q) false (base + i) ++ seen (base + i) j places 0) place
-      ∙ ap (λ q. kept q false (base + i) ++ seen (base + i) j places 0) x.here) in
+      let one : map (λ fill. fill.item) (seen n (suc j) places ds 0) ≡ x.item ∷ map (λ fill. fill.item) (seen (base + i) j places ds 0) =
+      ap (map (λ fill. fill.item)) (seen-at n (suc j) (base + i) j places ds 0 (omega arith) refl
+      ∙ ap (λ b. kept (slice_get places ((base + i) % 16)) (b == 1) (get_or ds ((base + i) % 16) 0) (base + i) ++ seen (base + i) j places ds 0) (bit_at-zero ((base + i) % 16))
+      ∙ ap (λ q. kept (slice_get places q) false (get_or ds ((base + i) % 16) 0) (base + i) ++ seen (base + i) j places ds 0) place
+      ∙ ap (λ q. kept q false (get_or ds ((base + i) % 16) 0) (base + i) ++ seen (base + i) j places ds 0) x.here) in
       let less : suc i - suc j ≡ i - j = omega arith in
       let cut : drop (suc i - suc j) (take (suc i) places) ≡ drop (i - j) (take i places) ++ x.item ∷ [] =
       ap (λ q. drop q (take (suc i) places)) less ∙ ap (drop (i - j)) x.more
       ∙ drop-append-le (i - j) (take i places) (x.item ∷ []) (omega (arith, length-take i places)) in
-      one ∙ ap (λ zs. x.item ∷ zs) (items_down (base + i) base i j places refl turn (omega arith) (omega arith) (omega arith))
+      one ∙ ap (λ zs. x.item ∷ zs) (items_down (base + i) base i j places ds refl turn (omega arith) (omega arith) (omega arith))
       ∙ sym (ap reverse cut ∙ reverse-append (drop (i - j) (take i places)) (x.item ∷ []))
 
   -- all of them, where none was dropped: those before the place of the next fill, and then those from it on
-  items_all : (n : ℕ) (places : List E) → length places ≡ min 16 n
-      → map (λ fill. fill.item) (seen n 16 places 0) ≡ reverse (take (n % 16) places) ++ reverse (drop (n % 16) places)
-  items_all n places full =
+  items_all : (n : ℕ) (places : List E) (ds : List ℕ) → length places ≡ min 16 n
+      → map (λ fill. fill.item) (seen n 16 places ds 0) ≡ reverse (take (n % 16) places) ++ reverse (drop (n % 16) places)
+  items_all n places ds full =
       let c = n % 16 in
       let whole : c + (16 - c) ≡ 16 = omega arith in
       let nothing : c - c ≡ 0 = omega arith in
-      let newer : map (λ fill. fill.item) (seen n c places 0) ≡ reverse (take c places) =
-      items_down n (n - c) c c places (omega arith) (omega arith) (omega arith) (omega (arith, full)) (omega arith)
+      let newer : map (λ fill. fill.item) (seen n c places ds 0) ≡ reverse (take c places) =
+      items_down n (n - c) c c places ds (omega arith) (omega arith) (omega arith) (omega (arith, full)) (omega arith)
       ∙ ap (λ q. reverse (drop q (take c places))) nothing in
-      ap (map (λ fill. fill.item)) (seen-split n c (16 - c) 16 (n - c) places 0 (omega arith) whole)
-      ∙ map-append (λ fill. fill.item) (seen n c places 0) (seen (n - c) (16 - c) places 0)
-      ∙ ap (λ zs. zs ++ map (λ fill. fill.item) (seen (n - c) (16 - c) places 0)) newer
+      ap (map (λ fill. fill.item)) (seen-split n c (16 - c) 16 (n - c) places ds 0 (omega arith) whole)
+      ∙ map-append (λ fill. fill.item) (seen n c places ds 0) (seen (n - c) (16 - c) places ds 0)
+      ∙ ap (λ zs. zs ++ map (λ fill. fill.item) (seen (n - c) (16 - c) places ds 0)) newer
       ∙ ap (λ zs. reverse (take c places) ++ zs) (older (ltb n 16) refl)
     where
-      older : (b : Bool) → ltb n 16 ≡ b → map (λ fill. fill.item) (seen (n - n % 16) (16 - n % 16) places 0) ≡ reverse (drop (n % 16) places)
+      older : (b : Bool) → ltb n 16 ≡ b → map (λ fill. fill.item) (seen (n - n % 16) (16 - n % 16) places ds 0) ≡ reverse (drop (n % 16) places)
       older true young =
           let few = ltb-true n 16 young in
           let none : n - n % 16 ≡ 0 = omega arith in
-          ap (λ m. map (λ fill. fill.item) (seen m (16 - n % 16) places 0)) none ∙ sym (ap reverse (drop_all (n % 16) places (omega (arith, full))))
+          ap (λ m. map (λ fill. fill.item) (seen m (16 - n % 16) places ds 0)) none ∙ sym (ap reverse (drop_all (n % 16) places (omega (arith, full))))
       older false old =
           let many = ltb-false n 16 old in
           let cut : 16 - (16 - n % 16) ≡ n % 16 = omega arith in
-          items_down (n - n % 16) (n - n % 16 - 16) 16 (16 - n % 16) places (omega arith) (omega arith) (omega arith) (omega (arith, full)) (omega arith)
+          items_down (n - n % 16) (n - n % 16 - 16) 16 (16 - n % 16) places ds (omega arith) (omega arith) (omega arith) (omega (arith, full)) (omega arith)
           ∙ ap (λ q. reverse (drop q (take 16 places))) cut ∙ ap (λ zs. reverse (drop (n % 16) zs)) (take_all 16 places (omega (arith, full)))
 
   find_item : (h : E → Bool) (fills : List (Numbered E)) → option_map (λ fill. fill.item) (find (λ fill. h fill.item) fills) ≡ find h (map (λ fill. fill.item) fills)
@@ -359,11 +366,11 @@ module _ {E : Type 0} where
       by_test false rest = rest
 
   -- the look-up where none was dropped, in two parts
-  pub hit-halves : (h : E → Bool) (n : ℕ) (places : List E) → length places ≡ min 16 n
-      → option_map (λ fill. fill.item) (find (λ fill. h fill.item) (seen n 16 places 0))
+  pub hit-halves : (h : E → Bool) (n : ℕ) (places : List E) (ds : List ℕ) → length places ≡ min 16 n
+      → option_map (λ fill. fill.item) (find (λ fill. h fill.item) (seen n 16 places ds 0))
       ≡ option_or (find h (reverse (take (n % 16) places))) (find h (reverse (drop (n % 16) places)))
-  hit-halves h n places full =
-      find_item h (seen n 16 places 0) ∙ ap (find h) (items_all n places full) ∙ find-append h (reverse (take (n % 16) places)) (reverse (drop (n % 16) places))
+  hit-halves h n places ds full =
+      find_item h (seen n 16 places ds 0) ∙ ap (find h) (items_all n places ds full) ∙ find-append h (reverse (take (n % 16) places)) (reverse (drop (n % 16) places))
 
   -- none of so many places has its bit set
   pub marked-none : (k : ℕ) (places : List E) (w : ℕ) → ((i : ℕ) → i < k → bit_at w i ≡ 0) → marked k places w ≡ []
@@ -414,40 +421,40 @@ module _ {E : Type 0} where
       above i from to false is = let e : i ≡ j = omega (arith, ltb-false j i is) in ap (bit_at w) e ∙ clear
 
   -- so many fills within one turn over the places, from the last place down
-  seen_marked : (n base i j : ℕ) (places : List E) (d w : ℕ) → n ≡ base + i → base % 16 ≡ 0 → i ≤ 16 → j ≤ i
+  seen_marked : (n base i j : ℕ) (places : List E) (ds : List ℕ) (d w : ℕ) → n ≡ base + i → base % 16 ≡ 0 → i ≤ 16 → j ≤ i
       → ((q : ℕ) → q < i → i ≤ q + j → bit_at w q ≡ 1 - bit_at d q) → ((q : ℕ) → q + j < i → bit_at w q ≡ 0)
-      → map (λ fill. fill.item) (seen n j places d) ≡ marked i places w
-  seen_marked n base i zero places d w is turn within down bits none =
-      ap (map (λ fill. fill.item)) (seen-none n places d) ∙ sym (marked-none i places w (λ q below. none q (omega arith)))
-  seen_marked n base zero (suc j) places d w is turn within down bits none = absurd (omega arith)
-  seen_marked n base (suc i) (suc j) places d w is turn within down bits none =
+      → map (λ fill. fill.item) (seen n j places ds d) ≡ marked i places w
+  seen_marked n base i zero places ds d w is turn within down bits none =
+      ap (map (λ fill. fill.item)) (seen-none n places ds d) ∙ sym (marked-none i places w (λ q below. none q (omega arith)))
+  seen_marked n base zero (suc j) places ds d w is turn within down bits none = absurd (omega arith)
+  seen_marked n base (suc i) (suc j) places ds d w is turn within down bits none =
       let place : (base + i) % 16 ≡ i = omega arith in
-      ap (map (λ fill. fill.item)) (seen-at n (suc j) (base + i) j places d (omega arith) refl
-      ∙ ap (λ q. kept (slice_get places q) (bit_at d q == 1) (base + i) ++ seen (base + i) j places d) place)
-      ∙ map-append (λ fill. fill.item) (kept (slice_get places i) (bit_at d i == 1) (base + i)) (seen (base + i) j places d)
-      ∙ ap (λ zs. zs ++ map (λ fill. fill.item) (seen (base + i) j places d)) (one (slice_get places i) (bit_at d i) (bit_at w i) (bit_at-lt d i) (bits i (omega arith) (omega arith)))
+      ap (map (λ fill. fill.item)) (seen-at n (suc j) (base + i) j places ds d (omega arith) refl
+      ∙ ap (λ q. kept (slice_get places q) (bit_at d q == 1) (get_or ds ((base + i) % 16) 0) (base + i) ++ seen (base + i) j places ds d) place)
+      ∙ map-append (λ fill. fill.item) (kept (slice_get places i) (bit_at d i == 1) (get_or ds ((base + i) % 16) 0) (base + i)) (seen (base + i) j places ds d)
+      ∙ ap (λ zs. zs ++ map (λ fill. fill.item) (seen (base + i) j places ds d)) (one (slice_get places i) (bit_at d i) (bit_at w i) (bit_at-lt d i) (bits i (omega arith) (omega arith)))
       ∙ ap (λ zs. marked_at (slice_get places i) (bit_at w i == 1) ++ zs)
-      (seen_marked (base + i) base i j places d w refl turn (omega arith) (omega arith) (λ q below from. bits q (omega arith) (omega arith)) (λ q below. none q (omega arith)))
+      (seen_marked (base + i) base i j places ds d w refl turn (omega arith) (omega arith) (λ q below from. bits q (omega arith) (omega arith)) (λ q below. none q (omega arith)))
     where
-      one : (place : Option E) (old new : ℕ) → old < 2 → new ≡ 1 - old → map (λ fill. fill.item) (kept place (old == 1) (base + i)) ≡ marked_at place (new == 1)
+      one : (place : Option E) (old new : ℕ) → old < 2 → new ≡ 1 - old → map (λ fill. fill.item) (kept place (old == 1) (get_or ds ((base + i) % 16) 0) (base + i)) ≡ marked_at place (new == 1)
       one None old new small is = refl
       one (Some item) zero new small is = rw is refl
       one (Some item) (suc zero) new small is = rw is refl
       one (Some item) (suc (suc old)) new small is = absurd (omega arith)
 
   -- the look-up where some were dropped, in two parts: the bits of the places before that of the next fill, and the others
-  pub hit-marked : (h : E → Bool) (n : ℕ) (places : List E) (d w : ℕ) → length places ≡ min 16 n → w < 2 ^ length places
+  pub hit-marked : (h : E → Bool) (n : ℕ) (places : List E) (ds : List ℕ) (d w : ℕ) → length places ≡ min 16 n → w < 2 ^ length places
       → ((q : ℕ) → q < length places → bit_at w q ≡ 1 - bit_at d q)
-      → option_map (λ fill. fill.item) (find (λ fill. h fill.item) (seen n 16 places d))
+      → option_map (λ fill. fill.item) (find (λ fill. h fill.item) (seen n 16 places ds d))
       ≡ option_or (find h (marked (length places) places (w % 2 ^ (n % 16)))) (find h (marked (length places) places (w - w % 2 ^ (n % 16))))
-  hit-marked h n places d w full small bits =
+  hit-marked h n places ds d w full small bits =
       let c = n % 16 in
       let whole : c + (16 - c) ≡ 16 = omega arith in
       let above : w - w % 2 ^ c ≡ (w / 2 ^ c) * 2 ^ c + 0 = omega (arith, div-add-mod' w (2 ^ c)) in
-      find_item h (seen n 16 places d)
-      ∙ ap (λ fills. find h (map (λ fill. fill.item) fills)) (seen-split n c (16 - c) 16 (n - c) places d (omega arith) whole)
-      ∙ ap (find h) (map-append (λ fill. fill.item) (seen n c places d) (seen (n - c) (16 - c) places d)
-      ∙ ap (λ zs. zs ++ map (λ fill. fill.item) (seen (n - c) (16 - c) places d)) newer
+      find_item h (seen n 16 places ds d)
+      ∙ ap (λ fills. find h (map (λ fill. fill.item) fills)) (seen-split n c (16 - c) 16 (n - c) places ds d (omega arith) whole)
+      ∙ ap (find h) (map-append (λ fill. fill.item) (seen n c places ds d) (seen (n - c) (16 - c) places ds d)
+      ∙ ap (λ zs. zs ++ map (λ fill. fill.item) (seen (n - c) (16 - c) places ds d)) newer
       ∙ ap (λ zs. marked 16 places (w % 2 ^ c) ++ zs) (older (ltb n 16) refl ∙ ap (marked 16 places) (sym above))
       ∙ ap (λ zs. zs ++ marked 16 places (w - w % 2 ^ c)) (within (w % 2 ^ c) (omega (arith, div-add-mod' w (2 ^ c))))
       ∙ ap (λ zs. marked (length places) places (w % 2 ^ c) ++ zs) (within (w - w % 2 ^ c) (omega arith)))
@@ -461,18 +468,18 @@ module _ {E : Type 0} where
           bit_at_cat_high (w / 2 ^ (n % 16)) (n % 16) 0 q (pow_pos (n % 16)) from
           ∙ sym (ap (λ v. bit_at v q) (sym (div-add-mod' w (2 ^ (n % 16)))) ∙ bit_at_cat_high (w / 2 ^ (n % 16)) (n % 16) (w % 2 ^ (n % 16)) q (mod-lt w (pow_pos (n % 16))) from)
 
-      newer : map (λ fill. fill.item) (seen n (n % 16) places d) ≡ marked 16 places (w % 2 ^ (n % 16))
+      newer : map (λ fill. fill.item) (seen n (n % 16) places ds d) ≡ marked 16 places (w % 2 ^ (n % 16))
       newer =
-          seen_marked n (n - n % 16) (n % 16) (n % 16) places d (w % 2 ^ (n % 16)) (omega arith) (omega arith) (omega arith) (omega arith)
+          seen_marked n (n - n % 16) (n % 16) (n % 16) places ds d (w % 2 ^ (n % 16)) (omega arith) (omega arith) (omega arith) (omega arith)
           (λ q below from. bit-mod w (n % 16) q below ∙ bits q (omega (arith, full))) (λ q below. absurd (omega arith))
           ∙ sym (marked-low (n % 16) 16 places (w % 2 ^ (n % 16)) (omega arith) (λ q from to. bit_at_above (w % 2 ^ (n % 16)) (n % 16) q (mod-lt w (pow_pos (n % 16))) from))
 
-      older : (b : Bool) → ltb n 16 ≡ b → map (λ fill. fill.item) (seen (n - n % 16) (16 - n % 16) places d) ≡ marked 16 places ((w / 2 ^ (n % 16)) * 2 ^ (n % 16) + 0)
+      older : (b : Bool) → ltb n 16 ≡ b → map (λ fill. fill.item) (seen (n - n % 16) (16 - n % 16) places ds d) ≡ marked 16 places ((w / 2 ^ (n % 16)) * 2 ^ (n % 16) + 0)
       older true young =
           let few = ltb-true n 16 young in
           let none : n - n % 16 ≡ 0 = omega arith in
           let same : length places ≡ n % 16 = omega (arith, full) in
-          ap (λ m. map (λ fill. fill.item) (seen m (16 - n % 16) places d)) none
+          ap (λ m. map (λ fill. fill.item) (seen m (16 - n % 16) places ds d)) none
           ∙ sym (marked-none 16 places ((w / 2 ^ (n % 16)) * 2 ^ (n % 16) + 0)
           (λ q below. empty q (ltb q (n % 16)) refl same))
         where
@@ -483,38 +490,38 @@ module _ {E : Type 0} where
               high q from ∙ bit_at_above w (length places) q small (omega (arith, same))
       older false old =
           let many = ltb-false n 16 old in
-          seen_marked (n - n % 16) (n - n % 16 - 16) 16 (16 - n % 16) places d ((w / 2 ^ (n % 16)) * 2 ^ (n % 16) + 0) (omega arith) (omega arith) (omega arith) (omega arith)
+          seen_marked (n - n % 16) (n - n % 16 - 16) 16 (16 - n % 16) places ds d ((w / 2 ^ (n % 16)) * 2 ^ (n % 16) + 0) (omega arith) (omega arith) (omega arith) (omega arith)
           (λ q below from. high q (omega arith) ∙ bits q (omega (arith, full)))
           (λ q below. bit_at_cat_low (w / 2 ^ (n % 16)) (n % 16) 0 q (omega arith) ∙ bit_at-zero q)
 
   -- what is left to show, from the oldest on: the fill of this number first, or not where it was dropped
-  pub live-first : (n k m : ℕ) (places : List E) (d : ℕ) (item : E) → m + suc k ≡ n → slice_get places (m % 16) ≡ Some item → bit_at d (m % 16) ≡ 0
-      → reverse (seen n (suc k) places d) ≡ record { number = m; item = item } ∷ reverse (seen n k places d)
-  live-first n k m places d item last here even =
-      ap reverse (seen-more n k m places d last ∙ ap (λ place. seen n k places d ++ kept place (bit_at d (m % 16) == 1) m) here
-      ∙ ap (λ bit. seen n k places d ++ kept (Some item) (bit == 1) m) even)
-      ∙ reverse-append (seen n k places d) (record { number = m; item = item } ∷ [])
+  pub live-first : (n k m : ℕ) (places : List E) (ds : List ℕ) (d : ℕ) (item : E) → m + suc k ≡ n → slice_get places (m % 16) ≡ Some item → bit_at d (m % 16) ≡ 0
+      → reverse (seen n (suc k) places ds d) ≡ record { date = get_or ds (m % 16) 0; number = m; item = item } ∷ reverse (seen n k places ds d)
+  live-first n k m places ds d item last here even =
+      ap reverse (seen-more n k m places ds d last ∙ ap (λ place. seen n k places ds d ++ kept place (bit_at d (m % 16) == 1) (get_or ds (m % 16) 0) m) here
+      ∙ ap (λ bit. seen n k places ds d ++ kept (Some item) (bit == 1) (get_or ds (m % 16) 0) m) even)
+      ∙ reverse-append (seen n k places ds d) (record { date = get_or ds (m % 16) 0; number = m; item = item } ∷ [])
 
-  pub live-past : (n k m : ℕ) (places : List E) (d : ℕ) → m + suc k ≡ n → bit_at d (m % 16) ≢ 0 → seen n (suc k) places d ≡ seen n k places d
-  live-past n k m places d last odd =
+  pub live-past : (n k m : ℕ) (places : List E) (ds : List ℕ) (d : ℕ) → m + suc k ≡ n → bit_at d (m % 16) ≢ 0 → seen n (suc k) places ds d ≡ seen n k places ds d
+  live-past n k m places ds d last odd =
       let one : bit_at d (m % 16) ≡ 1 = one_of (m % 16) odd in
-      seen-more n k m places d last ∙ ap (λ bit. seen n k places d ++ kept (slice_get places (m % 16)) (bit == 1) m) one
-      ∙ ap (λ zs. seen n k places d ++ zs) (gone (slice_get places (m % 16))) ∙ append-nil (seen n k places d)
+      seen-more n k m places ds d last ∙ ap (λ bit. seen n k places ds d ++ kept (slice_get places (m % 16)) (bit == 1) (get_or ds (m % 16) 0) m) one
+      ∙ ap (λ zs. seen n k places ds d ++ zs) (gone (slice_get places (m % 16))) ∙ append-nil (seen n k places ds d)
     where
       one_of : (i : ℕ) → bit_at d i ≢ 0 → bit_at d i ≡ 1
       one_of i other = omega (arith, other, bit_at-lt d i)
 
-      gone : (place : Option E) → kept place true m ≡ []
+      gone : (place : Option E) → kept place true (get_or ds (m % 16) 0) m ≡ []
       gone (Some item) = refl
       gone None = refl
 
-  pub count-more : (n k m : ℕ) (places : List E) (d : ℕ) → m + suc k ≡ n → length places ≡ min 16 n → bit_at d (m % 16) ≡ 0
-      → length (seen n (suc k) places d) ≡ length (seen n k places d) + 1
-  count-more n k m places d last full even =
+  pub count-more : (n k m : ℕ) (places : List E) (ds : List ℕ) (d : ℕ) → m + suc k ≡ n → length places ≡ min 16 n → bit_at d (m % 16) ≡ 0
+      → length (seen n (suc k) places ds d) ≡ length (seen n k places ds d) + 1
+  count-more n k m places ds d last full even =
       let x = at places (m % 16) (omega (arith, full)) in
-      ap length (seen-more n k m places d last ∙ ap (λ place. seen n k places d ++ kept place (bit_at d (m % 16) == 1) m) x.here
-      ∙ ap (λ bit. seen n k places d ++ kept (Some x.item) (bit == 1) m) even)
-      ∙ length-append (seen n k places d) (record { number = m; item = x.item } ∷ [])
+      ap length (seen-more n k m places ds d last ∙ ap (λ place. seen n k places ds d ++ kept place (bit_at d (m % 16) == 1) (get_or ds (m % 16) 0) m) x.here
+      ∙ ap (λ bit. seen n k places ds d ++ kept (Some x.item) (bit == 1) (get_or ds (m % 16) 0) m) even)
+      ∙ length-append (seen n k places ds d) (record { date = get_or ds (m % 16) 0; number = m; item = x.item } ∷ [])
 
 -- the last bit of a word that is set, and the word without it
 pub record IsLast (a place : ℕ) : Type 0 where

@@ -10,6 +10,7 @@ use Rattle.sv39.specs.Paging.{is_valid_by}
 use Rattle.tlb_model.specs.declared.entry.Entry.{Entry}
 use Rattle.tlb_model.specs.declared.fence.Flush.TheVariants.{Words, Entries}
 use Rattle.tlb_model.specs.Acts.{Act, Fill, Drop, live}
+use Rattle.tlb_model.specs.Contents.{empty}
 use Rattle.tlb_model.specs.Entries.{covers_entry}
 use Rattle.tlb_model.specs.Fences.{fence_of_address, fence_of_range, is_wrong_range}
 
@@ -127,7 +128,7 @@ no_bits = refl
 
 -- the items that live, newest first, where every fence covers these
 abbrev items_of : (covered : ℕ → Bool) → List (Act ℕ) → List ℕ
-items_of covered acts = map (λ filling. filling.item) (live (λ flush item. covered item) acts)
+items_of covered acts = map (λ fill. fill.item) (live 0 empty (λ flush item. covered item) acts)
 
 abbrev fills_of : List ℕ → List (Act ℕ)
 fills_of items = map Fill items

@@ -1,6 +1,6 @@
 -- What happened to a cache, and what lives in it by that alone (profile).
-use Rattle.std.specs.Prelude.{◌≡◌, ℕ, ◌-◌, ◌<◌, ◌≤◌, nat_lt, List, [], ◌∷◌, ◌++◌, length, map, take, Bool, true, false, not, ◌&&◌, filter, find, Option, Some, None, option_map}
-use Rattle.std.specs.List.{All, list_any}
+use Rattle.std.specs.Prelude.{◌≡◌, ◌⊎◌, ℕ, ◌+◌, ◌-◌, ◌<◌, ◌≤◌, nat_lt, List, [], ◌∷◌, ◌++◌, length, take, Bool, true, false, not, ◌&&◌, filter, find, Option, Some, None, option_map}
+use Rattle.std.specs.List.{All, Contains, list_any}
 use Rattle.tlb_model.specs.declared.cache.Numbered.{Numbered}
 use Rattle.tlb_model.specs.declared.fence.Flush.{Flush}
 use Rattle.tlb_model.specs.Contents.{Contents, cleared, fenced, filled, hit}
@@ -17,94 +17,115 @@ abbrev pub act_of : {E : Type 0} → Option E → Act E
 act_of (Some item) = Fill item
 act_of None = Nothing
 
--- A fill of the past: its date is how many acts there were before it, and its number how many fills.
-pub record Filling (E : Type 0) : Type 0 where
-  pub date : ℕ
-  pub number : ℕ
-  pub item : E
-
 module _ {E : Type 0} where
+  -- the number of the next fill after an act, by that before it
+  abbrev pub number_after : Act E → ℕ → ℕ
+  number_after (Fill item) number = number + 1
+  number_after (Drop flush) number = number
+  number_after Clear number = number
+  number_after Nothing number = number
+
   -- one more fill, if the act is one
-  abbrev pub with_fill_of : Act E → ℕ → List (Filling E) → List (Filling E)
-  with_fill_of (Fill item) date before = record { date = date; number = length before; item = item } ∷ before
-  with_fill_of (Drop flush) date before = before
-  with_fill_of Clear date before = before
-  with_fill_of Nothing date before = before
+  abbrev pub with_fill_of : Act E → (date number : ℕ) → List (Numbered E) → List (Numbered E)
+  with_fill_of (Fill item) date number before = record { date = date; number = number; item = item } ∷ before
+  with_fill_of (Drop flush) date number before = before
+  with_fill_of Clear date number before = before
+  with_fill_of Nothing date number before = before
 
-  -- The fills among the acts, both newest first.
-  abbrev pub fillings : List (Act E) → List (Filling E)
-  fillings [] = []
-  fillings (act ∷ acts) = with_fill_of act (length acts) (fillings acts)
+  -- whether the act ends the life of an item that was filled before it
+  abbrev pub ends : (covers : Flush → E → Bool) → E → Act E → Bool
+  ends covers item (Fill other) = false
+  ends covers item (Drop flush) = covers flush item
+  ends covers item Clear = true
+  ends covers item Nothing = false
 
-  -- the acts after the one of this date
-  abbrev pub after : List (Act E) → ℕ → List (Act E)
-  after acts date = take (length acts - date - 1) acts
+  -- the acts after the one of this date, where the first one has the date *first*
+  abbrev pub after : (first : ℕ) → List (Act E) → ℕ → List (Act E)
+  after first acts date = take (first + length acts - date - 1) acts
 
-  -- a fill as a cache keeps it, by its number
-  abbrev pub numbered : Filling E → Numbered E
-  numbered filling = record { number = filling.number; item = filling.item }
+  -- The acts go on from an opening: the date of the first one, and the cache as it was before it. An act's date is how many
+  -- there were before it, those before the opening among them; a fill's number is how many fills were made before it.
+  module _ (first : ℕ) (opening : Contents E) where
+    -- the number of the next fill
+    abbrev pub next_number : List (Act E) → ℕ
+    next_number [] = opening.next
+    next_number (act ∷ acts) = number_after act (next_number acts)
 
-  module _ (covers : Flush → E → Bool) where
-    -- whether the act ends the life of an item that was filled before it
-    abbrev pub ends : E → Act E → Bool
-    ends item (Fill other) = false
-    ends item (Drop flush) = covers flush item
-    ends item Clear = true
-    ends item Nothing = false
+    -- The fills among the acts, both newest first.
+    abbrev pub fillings : List (Act E) → List (Numbered E)
+    fillings [] = []
+    fillings (act ∷ acts) = with_fill_of act (first + length acts) (next_number acts) (fillings acts)
 
-    -- A fill lives while nothing came after it that drops it, and fewer than sixteen fills (profile).
-    abbrev pub is_live : List (Act E) → Filling E → Bool
-    is_live acts filling =
-        not (list_any (ends filling.item) (after acts filling.date)) && nat_lt (length (fillings (after acts filling.date))) 16
+    module _ (covers : Flush → E → Bool) where
+      -- Whether a fill outlives the acts after it: none of them drops it, and fewer than sixteen fills came after it, by the
+      -- numbers (profile).
+      abbrev pub outlives : (acts later : List (Act E)) → Numbered E → Bool
+      outlives acts later fill = not (list_any (ends covers fill.item) later) && nat_lt (next_number acts) (fill.number + 17)
 
-    -- The live fills, newest first.
-    abbrev pub live : List (Act E) → List (Filling E)
-    live acts = filter (is_live acts) (fillings acts)
+      -- A fill among the acts lives while it outlives those after it.
+      abbrev pub is_live : List (Act E) → Numbered E → Bool
+      is_live acts fill = outlives acts (after first acts fill.date) fill
 
-    -- A cache to which this happened: it has the live fills, each with its number.
-    abbrev pub cache_after : List (Act E) → Contents E
-    cache_after acts = record { next = length (fillings acts); live = map numbered (live acts) }
+      -- The live fills, newest first: those among the acts, and those of the opening, after which all of the acts came.
+      abbrev pub live : List (Act E) → List (Numbered E)
+      live acts = filter (is_live acts) (fillings acts) ++ filter (outlives acts acts) opening.live
 
-    -- what an act makes of a cache
-    abbrev pub acted : Contents E → Act E → Contents E
-    acted cache (Fill item) = filled cache item
-    acted cache (Drop flush) = fenced covers cache flush
-    acted cache Clear = cleared cache
-    acted cache Nothing = cache
+      -- A cache to which this happened.
+      abbrev pub cache_after : List (Act E) → Contents E
+      cache_after acts = record { next = next_number acts; live = live acts }
 
-    -- the item of the key's that was filled last, of those that live
-    abbrev pub last_live : {K : Type 0} → (holds : K → E → Bool) → K → List (Act E) → Option E
-    last_live holds key acts = option_map (λ filling. filling.item) (find (λ filling. holds key filling.item) (live acts))
+      -- the item of the key's that was filled last, of those that live
+      abbrev pub last_live : {K : Type 0} → (holds : K → E → Bool) → K → List (Act E) → Option E
+      last_live holds key acts = option_map (λ fill. fill.item) (find (λ fill. holds key fill.item) (live acts))
+
+  -- what an act of this date makes of a cache
+  abbrev pub acted : (covers : Flush → E → Bool) → (date : ℕ) → Contents E → Act E → Contents E
+  acted covers date cache (Fill item) = filled cache date item
+  acted covers date cache (Drop flush) = fenced covers cache flush
+  acted covers date cache Clear = cleared cache
+  acted covers date cache Nothing = cache
 
 -- A cache after one more act is what the act makes of the cache before it.
 abbrev pub KeepsWhatLives : Type 0 → Type 0
 KeepsWhatLives E =
-    (covers : Flush → E → Bool) (act : Act E) (acts : List (Act E)) → cache_after covers (act ∷ acts) ≡ acted covers (cache_after covers acts) act
+    (first : ℕ) (opening : Contents E) (covers : Flush → E → Bool) (act : Act E) (acts : List (Act E))
+    → cache_after first opening covers (act ∷ acts) ≡ acted covers (first + length acts) (cache_after first opening covers acts) act
 
 -- The hit in a cache is the item of the key's that was filled last, of those that live.
 abbrev pub HitIsTheLast : Type 0 → Type 0 → Type 0
 HitIsTheLast E K =
-    (covers : Flush → E → Bool) (holds : K → E → Bool) (key : K) (acts : List (Act E)) → hit holds key (cache_after covers acts) ≡ last_live covers holds key acts
+    (first : ℕ) (opening : Contents E) (covers : Flush → E → Bool) (holds : K → E → Bool) (key : K) (acts : List (Act E))
+    → hit holds key (cache_after first opening covers acts) ≡ last_live first opening covers holds key acts
 
 -- the acts have the fill at its date
-pub record WasFilled {E : Type 0} (acts : List (Act E)) (filling : Filling E) : Type 0 where
+pub record WasFilled {E : Type 0} (first : ℕ) (opening : Contents E) (acts : List (Act E)) (fill : Numbered E) : Type 0 where
   pub newer : List (Act E)
   pub older : List (Act E)
-  pub acted : acts ≡ newer ++ Fill filling.item ∷ older
-  pub dated : length older ≡ filling.date
-  pub numbered : length (fillings older) ≡ filling.number
+  pub acted : acts ≡ newer ++ Fill fill.item ∷ older
+  pub dated : first + length older ≡ fill.date
+  pub numbered : next_number first opening older ≡ fill.number
 
--- What lives was filled at its date, with its number.
+-- What lives was filled at its date, with its number, or lived at the opening.
 abbrev pub LiveWasFilled : Type 0 → Type 0
-LiveWasFilled E = (covers : Flush → E → Bool) (acts : List (Act E)) → All (WasFilled acts) (live covers acts)
+LiveWasFilled E =
+    (first : ℕ) (opening : Contents E) (covers : Flush → E → Bool) (acts : List (Act E))
+    → All (λ fill. WasFilled first opening acts fill ⊎ Contains opening.live fill) (live first opening covers acts)
 
 -- After a fence no fill lives that it covers and that isn't of a later date.
 abbrev pub CoveredIsGone : Type 0 → Type 0
 CoveredIsGone E =
-    (covers : Flush → E → Bool) (newer : List (Act E)) (flush : Flush) (older : List (Act E))
-    → All (λ filling. filling.date ≤ length older → covers flush filling.item ≡ false) (live covers (newer ++ Drop flush ∷ older))
+    (first : ℕ) (opening : Contents E) (covers : Flush → E → Bool) (newer : List (Act E)) (flush : Flush) (older : List (Act E))
+    → All (λ fill. fill.date ≤ first + length older → covers flush fill.item ≡ false) (live first opening covers (newer ++ Drop flush ∷ older))
 
 -- After all was dropped every fill that lives is of a later date.
 abbrev pub ClearedIsGone : Type 0 → Type 0
 ClearedIsGone E =
-    (covers : Flush → E → Bool) (newer older : List (Act E)) → All (λ filling. length older < filling.date) (live covers (newer ++ Clear ∷ older))
+    (first : ℕ) (opening : Contents E) (covers : Flush → E → Bool) (newer older : List (Act E))
+    → All (λ fill. first + length older < fill.date) (live first opening covers (newer ++ Clear ∷ older))
+
+-- A cut changes nothing of what lives: acts that go on from the cache that older ones made, at the date after theirs, make of
+-- it what all of them make of the first opening.
+abbrev pub GoesOnFromACut : Type 0 → Type 0
+GoesOnFromACut E =
+    (first : ℕ) (opening : Contents E) (covers : Flush → E → Bool) (newer older : List (Act E))
+    → cache_after (first + length older) (cache_after first opening covers older) covers newer ≡ cache_after first opening covers (newer ++ older)

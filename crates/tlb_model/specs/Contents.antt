@@ -16,15 +16,15 @@ module _ {E : Type 0} where
   abbrev pub is_young : ℕ → Numbered E → Bool
   is_young number fill = nat_lt number (fill.number + 16)
 
-  -- A fill takes the next number, and replaces the fill sixteen before it (profile).
-  abbrev pub filled : Contents E → E → Contents E
-  filled cache item =
-      record { next = cache.next + 1; live = record { number = cache.next; item = item } ∷ filter (is_young cache.next) cache.live }
+  -- A fill at a date takes the next number, and replaces the fill sixteen before it (profile).
+  abbrev pub filled : Contents E → (date : ℕ) → E → Contents E
+  filled cache date item =
+      record { next = cache.next + 1; live = record { date = date; number = cache.next; item = item } ∷ filter (is_young cache.next) cache.live }
 
   -- the cache after this fill, or after none
-  abbrev pub filled_if : Contents E → Option E → Contents E
-  filled_if cache (Some item) = filled cache item
-  filled_if cache None = cache
+  abbrev pub filled_if : Contents E → (date : ℕ) → Option E → Contents E
+  filled_if cache date (Some item) = filled cache date item
+  filled_if cache date None = cache
 
   -- A fence drops what it covers, and nothing else (Privileged 4.2.1; Zifencei).
   abbrev pub fenced : {F : Type 0} → (covers : F → E → Bool) → Contents E → F → Contents E

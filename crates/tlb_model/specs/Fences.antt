@@ -1,5 +1,5 @@
 -- Fences of translations, local and remote (Privileged 4.2.1; SBI 8).
-use Rattle.std.specs.Prelude.{ℕ, ◌+◌, ◌-◌, ◌%◌, ◌^◌, ◌<◌, ◌≤◌, nat_lt, max, min, Bool, ◌==◌, ◌&&◌, ◌||◌, not, if◌then◌else◌, Option, Some, None, option_map}
+use Rattle.std.specs.Prelude.{ℕ, ◌+◌, ◌-◌, ◌^◌, ◌<◌, ◌≤◌, nat_lt, max, min, Bool, ◌==◌, ◌&&◌, ◌||◌, not, if◌then◌else◌, Option, Some, None, option_map}
 use Rattle.sv39.specs.declared.paging.Spaces.{Spaces}
 use Rattle.sv39.specs.Paging.{cut_asid, is_valid_by}
 use Rattle.tlb_model.specs.declared.fence.Fence.{Fence}

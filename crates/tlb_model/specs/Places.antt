@@ -1,22 +1,23 @@
 -- Where a cache keeps its fills: sixteen places, which they take in turn, over and over (profile).
-use Rattle.std.specs.Prelude.{ℕ, zero, suc, ◌%◌, List, [], ◌∷◌, ◌++◌, Bool, true, false, ◌==◌, Option, Some, None, slice_get}
+use Rattle.std.specs.Prelude.{ℕ, zero, suc, ◌%◌, List, [], ◌∷◌, ◌++◌, Bool, true, false, ◌==◌, Option, Some, None, slice_get, slice_index}
 use Rattle.std.specs.Int.{bit_at}
 use Rattle.tlb_model.specs.declared.cache.Numbered.{Numbered}
 
 module _ {E : Type 0} where
   -- the fill of this number, by what is in its place, unless it was dropped
-  abbrev pub kept : Option E → (is_dropped : Bool) → ℕ → List (Numbered E)
-  kept (Some item) false number = record { number = number; item = item } ∷ []
-  kept (Some item) true number = []
-  kept None is_dropped number = []
+  abbrev pub kept : Option E → (is_dropped : Bool) → (date number : ℕ) → List (Numbered E)
+  kept (Some item) false date number = record { date = date; number = number; item = item } ∷ []
+  kept (Some item) true date number = []
+  kept None is_dropped date number = []
 
-  -- What is kept of so many fills before this number, newest first: fill n is in place n mod 16, and the place's bit of the
-  -- word says that it was dropped.
-  abbrev pub seen : (number count : ℕ) → (places : List E) → (dropped : ℕ) → List (Numbered E)
-  seen zero count places dropped = []
-  seen (suc number) zero places dropped = []
-  seen (suc number) (suc count) places dropped =
-      kept (slice_get places (number % 16)) (bit_at dropped (number % 16) == 1) number ++ seen number count places dropped
+  -- What is kept of so many fills before this number, newest first: fill n is in place n mod 16, its date beside it, and the
+  -- place's bit of the word says that it was dropped.
+  abbrev pub seen : (number count : ℕ) → (places : List E) → (dates : List ℕ) → (dropped : ℕ) → List (Numbered E)
+  seen zero count places dates dropped = []
+  seen (suc number) zero places dates dropped = []
+  seen (suc number) (suc count) places dates dropped =
+      kept (slice_get places (number % 16)) (bit_at dropped (number % 16) == 1) (slice_index dates (number % 16)) number
+      ++ seen number count places dates dropped
 
   -- the item of a place, if its bit is set
   abbrev pub marked_at : Option E → (is_marked : Bool) → List E

@@ -1,4 +1,4 @@
-ghost use Rattle.std.specs.Prelude.{◌≡◌, ◌-◌, ◌/◌, ◌%◌, ◌<◌, ◌≤◌, ◌^◌, ℕ, Bool, find, length, reverse};
+ghost use Rattle.std.specs.Prelude.{◌≡◌, ◌-◌, ◌/◌, ◌%◌, ◌<◌, ◌≤◌, ◌^◌, ℕ, Bool, IfOk, find, length, reverse};
 ghost use Rattle.std.specs.Int.{bit_at};
 ghost use Rattle.tlb_model.specs.Contents.{cleared, empty, fenced, filled, hit};
 ghost use Rattle.tlb_model.specs.Places.{marked};
@@ -6,6 +6,7 @@ ghost use Rattle.tlb_model.specs.Places.{marked};
 use crate::fence::Flush;
 use crate::live::Live;
 use arrayvec::ArrayVec;
+use std::alloc::AllocError;
 use std::marker::Model;
 
 /// What a cache keeps.
@@ -28,10 +29,12 @@ pub trait Cached: Copy + Default + Drop {
         ensures { result ≡ covers flush self.now };
 }
 
-/// An item of a cache, and the number of its fill: how many fills of the cache were made before it.
+/// An item of a cache, by when it was filled.
 #[derive(Clone, Copy, Debug, PartialEq, Eq)]
 pub struct Numbered<E> {
-    /// The number.
+    /// The date of its fill.
+    pub date: u64,
+    /// The number of its fill: how many fills of the cache were made before it.
     pub number: u64,
     /// The item.
     pub item: E,
@@ -45,6 +48,8 @@ pub struct Cache<E> {
     // (a bit for each place)
     dropped: u16,
     places: ArrayVec<E, 16>,
+    // (beside the places, which a look-up goes over)
+    dates: [u64; 16],
 }
 
 impl<E> Model for Cache<E> {
@@ -54,7 +59,7 @@ impl<E> Model for Cache<E> {
 
     ghost Value = { Contents E };
 
-    ghost view = { λ c. record { next = c.next; live = seen c.next 16 c.places.items c.dropped } };
+    ghost view = { λ c. record { next = c.next; live = seen c.next 16 c.places.items c.dates c.dropped } };
 
     ghost invariant = { λ c. length c.places.items ≡ min 16 c.next };
 }
@@ -68,6 +73,7 @@ impl<E: Cached> Cache<E> {
             next: 0,
             dropped: 0,
             places: ArrayVec::new(),
+            dates: [0; 16],
         }
     }
 
@@ -99,10 +105,10 @@ impl<E: Cached> Cache<E> {
         }
     }
 
-    /// Fills an item in. The one that was filled sixteen fills before goes, where it is still live (profile).
-    pub fn fill(&mut self, item: E)
+    /// Fills an item in, at this date. The one that was filled sixteen fills before goes, where it is still live (profile).
+    pub fn fill(&mut self, date: u64, item: E)
         requires { self.old.next < 2 ^ 63 }
-        ensures { self.new ≡ filled self.old item }
+        ensures { self.new ≡ filled self.old date item }
     {
         let place = self.next % 16;
         if self.places.is_full() {
@@ -110,6 +116,7 @@ impl<E: Cached> Cache<E> {
         } else {
             self.places.push(item);
         }
+        self.dates[place as usize] = date;
         self.dropped &= !(1 << place);
         self.next += 1;
     }
@@ -137,12 +144,35 @@ impl<E: Cached> Cache<E> {
         self.dropped = u16::MAX;
     }
 
+    /// The number of its next fill: how many fills were made of it.
+    pub fn next_number(&self) -> u64
+        ensures { result ≡ self.now.next }
+    {
+        self.next
+    }
+
+    /// A cache that is equal to this one. It fails where memory runs out.
+    pub fn try_copy(&self) -> Result<Cache<E>, AllocError>
+        ensures { IfOk result (λ copy. copy ≡ self.now) }
+    {
+        let mut places = ArrayVec::new();
+        let Ok(()) = places.try_extend_from_slice(&self.places) else {
+            unreachable!()
+        };
+        Ok(Cache {
+            next: self.next,
+            dropped: self.dropped,
+            places,
+            dates: self.dates,
+        })
+    }
+
     /// What is live, in the order of filling.
     pub fn live(&self) -> Live<'_, E>
         ensures live { reverse result ≡ self.now.live }
         ensures room { length result ≤ 16 }
     {
-        Live::of(&self.places, self.dropped, self.next)
+        Live::of(&self.places, &self.dates, self.dropped, self.next)
     }
 }
 

@@ -1,4 +1,4 @@
-ghost use Rattle.std.specs.Prelude.{◌≡◌};
+ghost use Rattle.std.specs.Prelude.{◌≡◌, IfOk};
 ghost use Rattle.tlb_model.specs.Contents.{cleared, empty, fenced};
 ghost use Rattle.tlb_model.specs.Entries.{covers_entry};
 ghost use Rattle.tlb_model.specs.Words.{covers_word};
@@ -7,6 +7,7 @@ use crate::cache::Cache;
 use crate::entry::Entry;
 use crate::fence::Flush;
 use crate::word::FetchWord;
+use std::alloc::AllocError;
 
 /// The cache of a hart's translations (Privileged 4.2.1).
 pub type Tlb = Cache<Entry>;
@@ -43,6 +44,16 @@ impl Caches {
             Flush::Words => self.words.apply(flush),
             Flush::Entries(_) => self.tlb.apply(flush),
         }
+    }
+
+    /// Caches that are equal to these. It fails where memory runs out.
+    pub fn try_copy(&self) -> Result<Caches, AllocError>
+        ensures { IfOk result (λ copy. copy ≡ self.now) }
+    {
+        Ok(Caches {
+            tlb: self.tlb.try_copy()?,
+            words: self.words.try_copy()?,
+        })
     }
 
     /// Drops everything in both, as a stop of the hart or a reset does (profile).

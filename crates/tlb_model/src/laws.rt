@@ -2,7 +2,7 @@
 ghost use Rattle.std.specs.Prelude.{◌≡◌, ◌<◌, ◌≤◌, ◌+◌, ◌↔◌, ℕ, Bool, true, false, List, ◌∷◌, ◌++◌, length};
 ghost use Rattle.tlb_model.specs.Fences.{HaveInCommon, meets};
 ghost use Rattle.tlb_model.specs.declared.fence.Range.{Range};
-ghost use Rattle.tlb_model.specs.Acts.{ClearedIsGone, CoveredIsGone, HitIsTheLast, KeepsWhatLives, LiveWasFilled};
+ghost use Rattle.tlb_model.specs.Acts.{ClearedIsGone, CoveredIsGone, GoesOnFromACut, HitIsTheLast, KeepsWhatLives, LiveWasFilled};
 
 /// A range of addresses meets a page exactly where some address, as a whole number, lies in both.
 pub fn common_address()
@@ -19,7 +19,7 @@ pub fn hit_is_the_last<E, K>()
     ensures { HitIsTheLast E K }
 {}
 
-/// What lives was filled at its date.
+/// What lives was filled at its date, or lived at the opening.
 pub fn live_was_filled<E>()
     ensures { LiveWasFilled E }
 {}
@@ -32,4 +32,10 @@ pub fn covered_is_gone<E>()
 /// After the caches were emptied nothing lives that was filled before.
 pub fn cleared_is_gone<E>()
     ensures { ClearedIsGone E }
+{}
+
+/// Acts that go on from the cache that older ones made, at the date after theirs, make of it what all of them make of the
+/// first opening.
+pub fn caches_go_on<E>()
+    ensures { GoesOnFromACut E }
 {}

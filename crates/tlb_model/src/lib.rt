@@ -15,8 +15,8 @@ pub use caches::{Caches, ICache, Tlb};
 pub use entry::{Address, Entry};
 pub use fence::{Fence, Flush, Range, is_wrong_range};
 pub use laws::{
-    caches_keep_what_lives, cleared_is_gone, common_address, covered_is_gone, hit_is_the_last,
-    live_was_filled,
+    caches_go_on, caches_keep_what_lives, cleared_is_gone, common_address, covered_is_gone,
+    hit_is_the_last, live_was_filled,
 };
 pub use live::Live;
 pub use word::FetchWord;

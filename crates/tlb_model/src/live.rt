@@ -10,6 +10,7 @@ use std::marker::Model;
 #[derive(Drop)]
 pub struct Live<'a, E> {
     places: &'a [E],
+    dates: &'a [u64; 16],
     dropped: u16,
     next: u64,
     // (how many of the last fills are still to come)
@@ -23,19 +24,21 @@ impl<'a, E> Model for Live<'a, E> {
 
     ghost Value = { List (Numbered E) };
 
-    ghost view = { λ l. reverse (seen l.next l.left l.places.now l.dropped) };
+    ghost view = { λ l. reverse (seen l.next l.left l.places.now l.dates.now l.dropped) };
 
     ghost invariant = { λ l. (length l.places.now ≡ min 16 l.next) × (l.left ≤ length l.places.now) };
 }
 
 impl<'a, E> Live<'a, E> {
-    /// What lives of the fills in these places, by the word of those that were dropped and the number of the next fill.
-    pub(crate) fn of(places: &'a [E], dropped: u16, next: u64) -> Live<'a, E>
+    /// What lives of the fills in these places, by their dates, the word of those that were dropped and the number of the
+    /// next fill.
+    pub(crate) fn of(places: &'a [E], dates: &'a [u64; 16], dropped: u16, next: u64) -> Live<'a, E>
         requires { length places.now ≡ min 16 next }
-        ensures { result ≡ reverse (seen next 16 places.now dropped) }
+        ensures { result ≡ reverse (seen next 16 places.now dates.now dropped) }
     {
         Live {
             places,
+            dates,
             dropped,
             next,
             left: places.len() as u64,
@@ -56,8 +59,9 @@ impl<'a, E: Copy> Iterator for Live<'a, E> {
             let number = self.next - 1 - age;
             let place = number % 16;
             if (self.dropped >> place) % 2 == 0 {
+                let date = self.dates[place as usize];
                 let item = self.places[place as usize];
-                return Some(Numbered { number, item });
+                return Some(Numbered { date, number, item });
             }
         }
         None

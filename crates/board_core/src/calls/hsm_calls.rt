@@ -10,6 +10,7 @@ ghost use Rattle.hsm.specs.Transitions.{hart_at};
 ghost use Rattle.board_core.specs.History.{Event, by_hart};
 ghost use Rattle.board_core.specs.declared.event.Op.TheVariants.{Ecall};
 ghost use Rattle.board_core.specs.Limits.{IsGood};
+ghost use Rattle.board_core.specs.Opening.{Opening, on};
 ghost use Rattle.board_core.specs.Replies.{call_reply};
 ghost use Rattle.board_core.specs.Stands.{HasRoom, IsSized, IsStanding, StandsFor};
 
@@ -28,9 +29,9 @@ impl Machine {
         requires in_range { h < config.now.harts }
         requires standing { IsStanding config.now self.old }
         requires started { (hart_at self.old.hsm h).state ≡ states.Started }
-        ensures answered { (past : List Event) → StandsFor config.now past self.old → result ≡ call_reply config.now past h (Hsm call) }
-        ensures after { (past : List Event) (regs : Regs) → Hsm call ≡ call_of regs → StandsFor config.now past self.old →
-            StandsFor config.now (by_hart h (Ecall regs) result ∷ past) self.new }
+        ensures answered { (o : Opening) (past : List Event) → StandsFor (on config.now o) past self.old → result ≡ call_reply (on config.now o) past h (Hsm call) }
+        ensures after { (o : Opening) (past : List Event) (regs : Regs) → Hsm call ≡ call_of regs → StandsFor (on config.now o) past self.old →
+            StandsFor (on config.now o) (by_hart h (Ecall regs) result ∷ past) self.new }
     {
         match call {
             HsmCall::HartStart { hart, addr, opaque } => self.hart_start(
@@ -49,10 +50,10 @@ impl Machine {
         requires good { IsGood config.now }
         requires sized { IsSized config.now self.old }
         requires room { HasRoom self.old.counts }
-        ensures answered { (x : ℕ) (past : List Event) → StandsFor config.now past self.old →
-            result ≡ call_reply config.now past x (Hsm (calls.HartStart t addr opaque)) }
-        ensures after { (x : ℕ) (past : List Event) (regs : Regs) → Hsm (calls.HartStart t addr opaque) ≡ call_of regs → StandsFor config.now past self.old →
-            StandsFor config.now (by_hart x (Ecall regs) result ∷ past) self.new }
+        ensures answered { (x : ℕ) (o : Opening) (past : List Event) → StandsFor (on config.now o) past self.old →
+            result ≡ call_reply (on config.now o) past x (Hsm (calls.HartStart t addr opaque)) }
+        ensures after { (x : ℕ) (o : Opening) (past : List Event) (regs : Regs) → Hsm (calls.HartStart t addr opaque) ≡ call_of regs → StandsFor (on config.now o) past self.old →
+            StandsFor (on config.now o) (by_hart x (Ecall regs) result ∷ past) self.new }
     {
         if t >= config.harts {
             return failure(SbiError::InvalidParam);
@@ -77,9 +78,9 @@ impl Machine {
         requires in_range { h < config.now.harts }
         requires standing { IsStanding config.now self.old }
         requires running { (hart_at self.old.hsm h).state ≡ states.Started }
-        ensures answered { (past : List Event) → StandsFor config.now past self.old → result ≡ call_reply config.now past h (Hsm calls.HartStop) }
-        ensures after { (past : List Event) (regs : Regs) → Hsm calls.HartStop ≡ call_of regs → StandsFor config.now past self.old →
-            StandsFor config.now (by_hart h (Ecall regs) result ∷ past) self.new }
+        ensures answered { (o : Opening) (past : List Event) → StandsFor (on config.now o) past self.old → result ≡ call_reply (on config.now o) past h (Hsm calls.HartStop) }
+        ensures after { (o : Opening) (past : List Event) (regs : Regs) → Hsm calls.HartStop ≡ call_of regs → StandsFor (on config.now o) past self.old →
+            StandsFor (on config.now o) (by_hart h (Ecall regs) result ∷ past) self.new }
     {
         if self.interrupts.csrs.sstatus_sie.contains(h) {
             return failure(SbiError::Failed);
@@ -102,9 +103,9 @@ impl Machine {
         requires good { IsGood config.now }
         requires in_range { h < length self.old.hsm }
         requires running { (hart_at self.old.hsm h).state ≡ states.Started }
-        ensures answered { (past : List Event) → result ≡ call_reply config.now past h (Hsm (calls.HartSuspend kind addr opaque)) }
-        ensures after { (past : List Event) (regs : Regs) → Hsm (calls.HartSuspend kind addr opaque) ≡ call_of regs → StandsFor config.now past self.old →
-            StandsFor config.now (by_hart h (Ecall regs) result ∷ past) self.new }
+        ensures answered { (o : Opening) (past : List Event) → result ≡ call_reply (on config.now o) past h (Hsm (calls.HartSuspend kind addr opaque)) }
+        ensures after { (o : Opening) (past : List Event) (regs : Regs) → Hsm (calls.HartSuspend kind addr opaque) ≡ call_of regs → StandsFor (on config.now o) past self.old →
+            StandsFor (on config.now o) (by_hart h (Ecall regs) result ∷ past) self.new }
     {
         match kind {
             Err(error) => failure(error),
@@ -125,8 +126,8 @@ impl Machine {
     /// Tells the state of hart `t` (SBI 9.3).
     fn hart_get_status(&self, config: &Config, t: u64) -> Reply
         requires { IsSized config.now self.now }
-        ensures { (x : ℕ) (past : List Event) → StandsFor config.now past self.now →
-            result ≡ call_reply config.now past x (Hsm (calls.HartGetStatus t)) }
+        ensures { (x : ℕ) (o : Opening) (past : List Event) → StandsFor (on config.now o) past self.now →
+            result ≡ call_reply (on config.now o) past x (Hsm (calls.HartGetStatus t)) }
     {
         if t >= config.harts {
             return failure(SbiError::InvalidParam);

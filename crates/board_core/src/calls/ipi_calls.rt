@@ -8,6 +8,7 @@ ghost use Rattle.board_core.specs.History.{Event, by_hart};
 ghost use Rattle.board_core.specs.declared.event.Op.TheVariants.{Ecall};
 ghost use Rattle.board_core.specs.Calls.Ipi.{ipi_reply};
 ghost use Rattle.board_core.specs.Returns.{as_reply};
+ghost use Rattle.board_core.specs.Opening.{Opening, on};
 ghost use Rattle.board_core.specs.Stands.{IsSized, StandsFor};
 
 use super::{failure, success};
@@ -24,8 +25,8 @@ impl Machine {
         requires sized { IsSized config.now self.old }
         requires most { config.now.harts ≤ 128 }
         ensures answered { result ≡ as_reply (ipi_reply config.now call) }
-        ensures after { (x : ℕ) (past : List Event) (regs : Regs) → calls.Ipi call ≡ call_of regs → StandsFor config.now past self.old →
-            StandsFor config.now (by_hart x (Ecall regs) result ∷ past) self.new }
+        ensures after { (x : ℕ) (o : Opening) (past : List Event) (regs : Regs) → calls.Ipi call ≡ call_of regs → StandsFor (on config.now o) past self.old →
+            StandsFor (on config.now o) (by_hart x (Ecall regs) result ∷ past) self.new }
     {
         let IpiCall::SendIpi { mask, base } = call;
         match targets(mask, base, config.harts) {

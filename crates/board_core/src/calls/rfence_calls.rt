@@ -12,6 +12,7 @@ ghost use Rattle.board_core.specs.Returns.{as_reply};
 ghost use Rattle.board_core.specs.History.{Event, by_hart};
 ghost use Rattle.board_core.specs.declared.event.Op.TheVariants.{Ecall};
 ghost use Rattle.board_core.specs.Limits.{IsGood};
+ghost use Rattle.board_core.specs.Opening.{Opening, on, place_after};
 ghost use Rattle.board_core.specs.Stands.{IsSized, IsStanding, StandsFor};
 
 use super::failure;
@@ -25,20 +26,21 @@ use sv39::Spaces;
 use tlb_model::{Fence, Flush, is_wrong_range};
 
 impl Machine {
-    /// Carries out a call of the RFENCE extension by hart `h`: asks its fence of the harts of its hart list (SBI 8).
-    pub fn rfence_call(&mut self, config: &Config, h: u64, call: RfenceCall) -> Reply
+    /// Carries out a call of the RFENCE extension by hart `h`, as the event of this place: asks its fence of the harts of its
+    /// hart list (SBI 8).
+    pub fn rfence_call(&mut self, config: &Config, place: u64, h: u64, call: RfenceCall) -> Reply
         requires good { IsGood config.now }
         requires sized { IsSized config.now self.old }
         requires in_range { h < config.now.harts }
         requires standing { IsStanding config.now self.old }
         requires outside { call_at self.old.fences h ≡ None }
         ensures answered { result ≡ as_reply (rfence_reply config.now call) }
-        ensures after { (past : List Event) (regs : Regs) → calls.Rfence call ≡ call_of regs → StandsFor config.now past self.old →
-            StandsFor config.now (by_hart h (Ecall regs) result ∷ past) self.new }
+        ensures after { (o : Opening) (past : List Event) (regs : Regs) → place ≡ place_after o past → calls.Rfence call ≡ call_of regs → StandsFor (on config.now o) past self.old →
+            StandsFor (on config.now o) (by_hart h (Ecall regs) result ∷ past) self.new }
     {
         match call {
             RfenceCall::RemoteFenceI { mask, base } => {
-                self.remote_fence(config, h, mask, base, Ok(Flush::Words))
+                self.remote_fence(config, place, h, mask, base, Ok(Flush::Words))
             }
             RfenceCall::RemoteSfenceVma {
                 mask,
@@ -47,6 +49,7 @@ impl Machine {
                 size,
             } => self.remote_fence(
                 config,
+                place,
                 h,
                 mask,
                 base,
@@ -60,7 +63,7 @@ impl Machine {
                 asid,
             } => {
                 let flush = flush_of_range(config.spaces(), start, size, Some(asid));
-                self.remote_fence(config, h, mask, base, flush)
+                self.remote_fence(config, place, h, mask, base, flush)
             }
         }
     }
@@ -71,6 +74,7 @@ impl Machine {
     fn remote_fence(
         &mut self,
         config: &Config,
+        place: u64,
         h: u64,
         mask: u64,
         base: u64,
@@ -82,8 +86,9 @@ impl Machine {
         requires standing { IsStanding config.now self.old }
         requires outside { call_at self.old.fences h ≡ None }
         ensures answered { result ≡ as_reply (fence_reply config.now (record { mask = mask; base = base; flush = flush })) }
-        ensures after { (past : List Event) (regs : Regs) (call : RfenceCall) → remote_by_rfence config.now call ≡ record { mask = mask; base = base; flush = flush } →
-            calls.Rfence call ≡ call_of regs → StandsFor config.now past self.old → StandsFor config.now (by_hart h (Ecall regs) result ∷ past) self.new }
+        ensures after { (o : Opening) (past : List Event) (regs : Regs) (call : RfenceCall) → place ≡ place_after o past → remote_by_rfence config.now call ≡ record { mask = mask; base = base; flush = flush } →
+            calls.Rfence call ≡ call_of regs → StandsFor (on config.now o) past self.old →
+            StandsFor (on config.now o) (by_hart h (Ecall regs) result ∷ past) self.new }
     {
         let harts = match targets(mask, base, config.harts) {
             Ok(harts) => harts,
@@ -92,7 +97,8 @@ impl Machine {
         match flush {
             Ok(flush) => {
                 let asked = harts.intersection(self.hsm.interruptible());
-                self.fences.ask(&mut self.memory.caches, h, asked, flush);
+                self.fences
+                    .ask(&mut self.memory.caches, place, h, asked, flush);
                 Reply::Waiting
             }
             Err(error) => failure(error),

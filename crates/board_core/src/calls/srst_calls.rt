@@ -7,6 +7,7 @@ ghost use Rattle.sbi_abi.specs.Calls.{call_of};
 ghost use Rattle.board_core.specs.History.{Event, by_hart};
 ghost use Rattle.board_core.specs.declared.event.Op.TheVariants.{Ecall};
 ghost use Rattle.board_core.specs.Limits.{IsGood};
+ghost use Rattle.board_core.specs.Opening.{Opening, on};
 ghost use Rattle.board_core.specs.Calls.Srst.{srst_reply};
 ghost use Rattle.board_core.specs.Returns.{as_reply};
 ghost use Rattle.board_core.specs.Resets.{begins_anew, is_cold, is_shutdown};
@@ -30,8 +31,8 @@ impl Machine {
         requires sized { IsSized config.now self.old }
         requires standing { IsStanding config.now self.old }
         ensures answered { result ≡ as_reply (srst_reply call) }
-        ensures after { (h : ℕ) (past : List Event) (regs : Regs) → calls.Srst call ≡ call_of regs → StandsFor config.now past self.old →
-            StandsFor config.now (by_hart h (Ecall regs) result ∷ past) self.new }
+        ensures after { (h : ℕ) (o : Opening) (past : List Event) (regs : Regs) → calls.Srst call ≡ call_of regs → StandsFor (on config.now o) past self.old →
+            StandsFor (on config.now o) (by_hart h (Ecall regs) result ∷ past) self.new }
     {
         let SrstCall::SystemReset(asked) = call;
         let reset = match asked {

@@ -46,13 +46,13 @@ returns g c =
     subst (λ (ss : List Sitting). IsSettling c.close-log.result.list ss at.all.parts at.all.amount) all at.invariant.2 in
     let list : c.close-log.result.list ≡ c.desk.inside.log.list = c.close-log.ensures.1 in
     let d = c.desk.invariant in
-    let many : length c.args.seats.items ≡ g.K.Room.opening.harts + 1 = c.requires.all.as_many in
+    let many : length c.args.seats.items ≡ g.K.Room.opening.config.harts + 1 = c.requires.all.as_many in
     let whole : at.all.parts ≡ g.K.Ledger.parts = settled.parts_are ∙ many ∙ sym c.requires.parts.1 ∙ c.requires.parts.0 in
     let sums : counts c.args.seats.items ≡ length c.desk.inside.log.list = sym settled.amount_is ∙ c.audit.ensures.whole whole ∙ d.summed in
     let within = subst (λ (es : List Event). Within es c.args.seats.items) list settled.within in
     let knows = subst (λ (es : List Event). Knows es c.args.seats.items) list settled.knows in
     let looked = subst (λ (es : List Event). Looked es c.args.seats.items) list settled.looked in
-    let equal = closes g.K.Room.opening c.desk.inside.log.list c.args.seats.items c.requires.all d.acted within sums in
+    let equal = closes g.K.Room.opening.config c.desk.inside.log.list c.args.seats.items c.requires.all d.acted within sums in
     let events : c.desk.inside.log.list ≡ events_in c.desk.inside.board = d.logged in
     record {
       opening = d.opened;

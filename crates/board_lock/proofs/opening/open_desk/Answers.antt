@@ -1,7 +1,8 @@
-use Rattle.std.proofs.Common.{◌≡◌, ◌+◌, [], replicate, ap, subst, ◌∙◌}
+use Rattle.std.proofs.Common.{◌≡◌, ◌+◌, List, [], replicate, ap, ◌∙◌}
 use Rattle.board_core.specs.declared.config.Config.{Config}
-use Rattle.board_core.specs.Limits.{IsGood}
+use Rattle.board_core.specs.Course.{Course}
 use Rattle.board_core.specs.History.{Event}
+use Rattle.board_core.specs.Opening.{Opening}
 use Rattle.chronicle.specs.declared.tokens.Chronicle.{Chronicle}
 use Rattle.board_lock.specs.Rooms.{Place}
 use Rattle.board_lock.proofs.Resting.{new-desk}
@@ -9,12 +10,14 @@ use Rattle.board_lock.proofs.opening.open_desk.Goals as goal
 
 pub invariant_of-desk : goal.invariant_of-desk
 invariant_of-desk g c =
-    let opening : Config = g.K.Room.opening in
-    let same : c.room.inside.config ≡ opening = ap (λ (p : Place). p.opening) c.room.view_is ∙ c.requires.room.0 in
+    let opening : Opening = g.K.Room.opening in
+    let b : Course = c.args.board in
+    let is : b ≡ record { opening = opening; past = [] } =
+    ap (λ (o : Opening). record { opening = o; past = b.past }) c.requires.board.0 ∙ ap (λ (es : List Event). record { opening = opening; past = es }) c.requires.board.1 in
+    let same : c.room.inside.config ≡ opening.config = ap (λ (p : Place). p.config) c.room.view_is ∙ c.requires.room.0 in
     let named : c.seats.new.log.name ≡ g.K.Room.log =
     ap (λ (l : Chronicle Event). l.name) c.seats.ensures.log ∙ ap (λ (p : Place). p.log) c.room.view_is ∙ c.requires.room.1 in
     let empty : c.seats.new.log.list ≡ [] = ap (λ (l : Chronicle Event). l.list) c.seats.ensures.log ∙ c.room.invariant.0 in
-    let zeros : c.in-Ok.counts.items ≡ replicate (opening.harts + 1) 0 = c.in-Ok.ensures ∙ ap (λ (now : Config). replicate (now.harts + 1) 0) same in
-    new-desk opening g.K.Room.log c.in_ok-board.board c.in-Ok.counts.items c.new-2.result _ _ _ _ _
-    (subst IsGood same c.in_ok-board.ensures.made.0) (c.in_ok-board.ensures.made.1 ∙ ap (λ (now : Config). record { config = now; past = [] }) same)
-    named empty c.open-book.ensures.total zeros c.new-2.ensures c.in-Ok-seats.ensures.left.0 c.in-Ok-seats.ensures.left.1
+    let zeros : c.in-Ok.counts.items ≡ replicate (opening.config.harts + 1) 0 = c.in-Ok.ensures ∙ ap (λ (now : Config). replicate (now.harts + 1) 0) same in
+    new-desk opening g.K.Room.log b c.in-Ok.counts.items c.new.result _ _ _ _ _ c.requires.good is
+    named empty c.open-book.ensures.total zeros c.new.ensures c.in-Ok-seats.ensures.left.0 c.in-Ok-seats.ensures.left.1

@@ -45,6 +45,6 @@ returns-clause-worked g c =
           let actor : seat.actor ≡ c.args.seat.actor = c.loop.invariant.0 in
           subst (λ (s : Sitting). WorkedAt t s c.loop.met) (sym w.seat-is)
           (rested t seat w.rest_for.new.seat c.loop.view c.loop.met (left_of c.loop.guest) (λ clock. c.requires.hart (sym actor ∙ clock))
-          (subst (IsActor g.K.Room.opening) (sym actor) c.requires.acting)
+          (subst (IsActor g.K.Room.opening.config) (sym actor) c.requires.acting)
           c.loop.invariant.2 c.loop.invariant.1 (sym w.next-in-loop.ensures ∙ w.in_default.is) w.rest_for.ensures.seat w.rest_for.ensures.later)
     ]

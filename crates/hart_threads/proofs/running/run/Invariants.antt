@@ -1,4 +1,5 @@
 use Rattle.std.proofs.Common.{map}
+use Rattle.board_core.specs.Opening.{opening_at}
 use Rattle.guest_script.specs.Grammar.{guest}
 use Rattle.hart_threads.proofs.running.run.Given as goal
 
@@ -14,4 +15,4 @@ ghosts-run_in-K-Plan g a = record {
 }
 
 abbrev pub ghosts-run_in-K-Room : goal.ghosts-run_in-K-Room
-ghosts-run_in-K-Room g a = record { opening = a.room.opening; log = a.room.log; all = a.room.parts }
+ghosts-run_in-K-Room g a = record { opening = opening_at a.room.config; log = a.room.log; all = a.room.parts }

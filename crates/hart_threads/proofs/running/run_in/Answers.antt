@@ -19,16 +19,16 @@ no-way e = let t = e in cc
 
 pub unreachable-requires : goal.unreachable-requires
 unreachable-requires g c =
-    let one_each = back_again g.K.Room.opening c.in_ok-seats.seats.items (c.in_ok-seats.ensures.seats ∙ c.in_ok-all.ensures.seats ∙ ap (map (λ seat. seat.actor)) c.in_ok-board.ensures.seats) in
+    let one_each = back_again g.K.Room.opening.config c.in_ok-seats.seats.items (c.in_ok-seats.ensures.seats ∙ c.in_ok-all.ensures.seats ∙ ap (map (λ seat. seat.actor)) c.in_ok-board.ensures.seats) in
     no-way (c.in-Err.ensures.all.1 one_each)
 
 pub work_all-requires-clause-fresh : goal.work_all-requires-clause-fresh
-work_all-requires-clause-fresh g c κs lives = seats-fresh g.K.Room.opening c.in_ok-board.seats.items c.in_ok-board.ensures.seats
+work_all-requires-clause-fresh g c κs lives = seats-fresh g.K.Room.opening.config c.in_ok-board.seats.items c.in_ok-board.ensures.seats
 
 pub invariant_of-work-clause-counted : goal.invariant_of-work-clause-counted
 invariant_of-work-clause-counted g c =
     let ok = c.in_ok-board.seats.ok.0 in
-    let many : length c.in_ok-board.seats.items ≡ g.K.Room.opening.harts + 1 = ap length c.in_ok-board.ensures.seats ∙ (new-seats g.K.Room.opening).as_many in
+    let many : length c.in_ok-board.seats.items ≡ g.K.Room.opening.config.harts + 1 = ap length c.in_ok-board.ensures.seats ∙ (new-seats g.K.Room.opening.config).as_many in
     let long = c.len.ensures in
     omega arith
 

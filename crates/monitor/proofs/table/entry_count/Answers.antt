@@ -1,9 +1,7 @@
 use Rattle.std.proofs.Common.{◌∙◌}
-use Rattle.tlb_model.specs.Acts.{live}
-use Rattle.tlb_model.specs.Entries.{covers_entry}
-use Rattle.board_core.specs.Memory.{tlb_acts}
+use Rattle.board_core.specs.Memory.{caches_of}
 use Rattle.monitor.proofs.Caches.{count_kept}
 use Rattle.monitor.proofs.table.entry_count.Goals as goal
 
 pub returns : goal.returns
-returns c = c.len.ensures.value ∙ count_kept _ (live covers_entry (tlb_acts c.args.board.now.config c.args.board.now.past c.args.h)) c.tlb.ensures
+returns c = c.len.ensures.value ∙ count_kept _ (caches_of c.args.board.now.opening c.args.board.now.past c.args.h).tlb.live c.tlb.ensures

@@ -6,5 +6,5 @@ use Rattle.monitor.proofs.table.print_details.Given as goal
 
 abbrev pub invariant-loop-h : goal.invariant-loop-h
 invariant-loop-h g l =
-    Appends (g.W.Sink.written l.fn.sink) (g.W.Sink.written l.sink) (flat_map (details l.board.config l.board.past) (range_with_len 0 l.h))
+    Appends (g.W.Sink.written l.fn.sink) (g.W.Sink.written l.sink) (flat_map (details l.board.opening l.board.past) (range_with_len 0 l.h))
     × (g.W.Sink.failures l.sink ≡ g.W.Sink.failures l.fn.sink)

@@ -7,6 +7,6 @@ use Rattle.monitor.proofs.table.print_fences.Given as goal
 
 abbrev pub invariant-loop-request : goal.invariant-loop-request
 invariant-loop-request g l =
-    (l.yielded ++ l.request-iterator ≡ waiting l.board.config l.board.past l.h)
+    (l.yielded ++ l.request-iterator ≡ waiting l.board.opening l.board.past l.h)
     × Appends (g.W.Sink.written l.fn.sink) (g.W.Sink.written l.sink) (flat_map (fence_line l.h) l.yielded)
     × (g.W.Sink.failures l.sink ≡ g.W.Sink.failures l.fn.sink)

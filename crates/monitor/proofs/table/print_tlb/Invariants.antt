@@ -1,15 +1,13 @@
-use Rattle.std.proofs.Common.{◌≡◌, ◌++◌, map}
+use Rattle.std.proofs.Common.{◌≡◌, ◌++◌}
 use Rattle.std.specs.Prelude.{reverse}
 use Rattle.std.specs.Io.KnownBytes.{Appends}
 use Rattle.std.specs.List.{flat_map}
-use Rattle.tlb_model.specs.Acts.{live, numbered}
-use Rattle.tlb_model.specs.Entries.{covers_entry}
-use Rattle.board_core.specs.Memory.{tlb_acts}
+use Rattle.board_core.specs.Memory.{caches_of}
 use Rattle.monitor.specs.Table.{tlb_line}
 use Rattle.monitor.proofs.table.print_tlb.Given as goal
 
 abbrev pub invariant-loop-fill : goal.invariant-loop-fill
 invariant-loop-fill g l =
-    (reverse (l.yielded ++ l.fill-iterator) ≡ map numbered (live covers_entry (tlb_acts l.board.config l.board.past l.h)))
+    (reverse (l.yielded ++ l.fill-iterator) ≡ (caches_of l.board.opening l.board.past l.h).tlb.live)
     × Appends (g.W.Sink.written l.fn.sink) (g.W.Sink.written l.sink) (flat_map (λ fill. tlb_line l.h fill.item) l.yielded)
     × (g.W.Sink.failures l.sink ≡ g.W.Sink.failures l.fn.sink)

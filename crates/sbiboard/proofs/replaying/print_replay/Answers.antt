@@ -1,14 +1,31 @@
-use Rattle.std.proofs.Common.{◌∙◌}
+use Rattle.std.proofs.Common.{ℕ, List, ◌++◌, refl, ap, ◌∙◌}
+use Rattle.std.proofs.KnownBytes.{Appends-trans}
+use Rattle.board_core.specs.Course.{Course}
+use Rattle.monitor.specs.Words.{board_words, line_of}
+use Rattle.sbiboard.specs.Replay.{lines_text, meets_full, text_of}
 use Rattle.sbiboard.proofs.Replayed.{text_of-printed}
 use Rattle.sbiboard.proofs.replaying.print_replay.Goals as goal
 
 pub returns-clause-text : goal.returns-clause-text
 returns-clause-text g c =
-    let body = c.in_ok-met_full.ensures in
+    let (text, (full, is), body, body_failures) = (rw c.in-Some.is at c.in_ok-met_full.ensures.text) in
     let flushed = c.in_ok-flush.ensures in
     let printed = c.in_ok-print.ensures in
     let head = c.in_ok-print_head.ensures in (
-      text_of-printed c.args.config.now c.args.board.now _ c.args.lines.now c.requires.at_opening body.course
-          _ _ _ _ _ head.0 body.text.0 printed.0 flushed.bytes,
-      flushed.failed ∙ printed.1 ∙ body.text.1 ∙ head.1,
+      text_of c.args.config.now c.args.lines.now,
+      (full ∙ ap (λ (b : Course). meets_full b c.args.lines.now) c.requires.at_opening, refl),
+      text_of-printed c.args.config.now c.args.board.now _ c.args.lines.now text is c.requires.at_opening (rw c.in-Some.is at c.in_ok-met_full.ensures.course)
+          _ _ _ _ _ head.0 body printed.0 flushed.bytes,
+      flushed.failed ∙ printed.1 ∙ body_failures ∙ head.1,
+    )
+
+pub returns-in_default-clause-text : goal.returns-in_default-clause-text
+returns-in_default-clause-text g c =
+    let (text, (before, stops, is), body, body_failures) = (rw c.in_default.is at c.in_ok-met_full.ensures.text) in
+    let head = c.in_ok-print_head.ensures in
+    let own = line_of (board_words c.args.config.now) in (
+      own ++ text,
+      (before, stops, ap (λ (t : List ℕ). own ++ t) (is ∙ ap (λ (b : Course). lines_text b before) c.requires.at_opening)),
+      Appends-trans _ _ _ own text head.0 body,
+      body_failures ∙ head.1,
     )

@@ -19,7 +19,7 @@ returns-in-Ok-print_run-clause-writes g c bytes reads =
     let run = c.in-Ok.ensures in
     subst (λ (outcome : Outcome). Writes (EndsRun bytes) outcome known (g.W.Sink.written c.print_run.new.writer)) (sym c.outcome_of.ensures)
     (has_run bytes (written c.args.script.now) reads (sym c.is_program.ensures ∙ (search rules))
-    c.in-Ok.run'.board.config run.opening c.print_run.ensures.good c.in-Ok.run'.board.past run.legal run.ticks
+    c.in-Ok.run'.board.opening run.opening c.print_run.ensures.good c.in-Ok.run'.board.past run.legal run.ticks
     known (g.W.Sink.written c.print_run.new.writer) c.in-Ok.run'.end run.end c.in-Ok-print_run.ensures.text.0)
 
 pub returns-in-Err-BadConfig-clause-writes : goal.returns-in-Err-BadConfig-clause-writes

@@ -1,5 +1,6 @@
 use Rattle.std.proofs.Common.{◌≡◌, ◌-◌, ◌+◌, sym, ap, ◌∙◌, subst, arith}
 use Rattle.board_core.specs.declared.config.Config.{Config}
+use Rattle.board_core.specs.Opening.{Opening}
 use Rattle.seeded_orders.specs.Orders.{ordered}
 use Rattle.seeded_orders.specs.Places.{AreAt}
 use Rattle.seeded_orders.specs.Steps.{task_in, Task}
@@ -9,23 +10,23 @@ use Rattle.seeded_orders.proofs.orders.follow.Goals as goal
 pub returns-in_default-clause-past : goal.returns-in_default-clause-past
 returns-in_default-clause-past c =
     let p : Task = task_in c.args.program in
-    stops c.loop-i.board.config p (c.args.board.now.config.limit - c.loop-i.i) c.loop-i.i c.loop-i.picker c.pick.new.self c.loop-i.board.past _ c.deref.result.now c.pick.result
+    stops c.loop-i.board.opening p (c.args.board.now.opening.config.limit - c.loop-i.i) c.loop-i.i c.loop-i.picker c.pick.new.self c.loop-i.board.past _ c.deref.result.now c.pick.result
     (c.deref.ensures.value ∙ c.in_ok-list.ensures p c.loop-i.invariant.1) c.pick.ensures c.in_default.is c.loop-i.invariant.2
 
 pub loop-i-preserved : goal.loop-i-preserved
 loop-i-preserved c =
     let p : Task = task_in c.args.program in
-    let limit : c.config.result.now.limit ≡ c.args.board.now.config.limit = ap (λ (k : Config). k.limit) c.config.ensures.opening in
-    let P : Config → Type 0 = λ k. AreAt p k.harts c.take.new.board.past c.take.new.places in (
+    let limit : c.config.result.now.limit ≡ c.args.board.now.opening.config.limit = ap (λ (k : Config). k.limit) c.config.ensures.config in
+    let P : Opening → Type 0 = λ k. AreAt p k.config.harts c.take.new.board.past c.take.new.places in (
       c.take.ensures.opening ∙ c.loop-i.invariant.0,
       subst P (sym c.take.ensures.opening) c.take.ensures.places,
-      ap (λ (k : Config). ordered k p (c.args.board.now.config.limit - (c.loop-i.i + 1)) (c.loop-i.i + 1) c.pick.new.self c.take.new.board.past) c.take.ensures.opening
-          ∙ goes c.loop-i.board.config p c.args.board.now.config.limit c.loop-i.i c.loop-i.picker c.pick.new.self c.loop-i.board.past c.take.new.board.past _
+      ap (λ (k : Opening). ordered k p (c.args.board.now.opening.config.limit - (c.loop-i.i + 1)) (c.loop-i.i + 1) c.pick.new.self c.take.new.board.past) c.take.ensures.opening
+          ∙ goes c.loop-i.board.opening p c.args.board.now.opening.config.limit c.loop-i.i c.loop-i.picker c.pick.new.self c.loop-i.board.past c.take.new.board.past _
           c.deref.result.now c.pick.result c.in-Some.step (omega arith) (c.deref.ensures.value ∙ c.in_ok-list.ensures p c.loop-i.invariant.1) c.pick.ensures c.in-Some.is
           c.take.ensures.past c.loop-i.invariant.2,
     )
 
 pub returns-clause-past : goal.returns-clause-past
 returns-clause-past c =
-    let limit : c.config.result.now.limit ≡ c.args.board.now.config.limit = ap (λ (k : Config). k.limit) c.config.ensures.opening in
-    ends c.loop-i.board.config (task_in c.args.program) (c.args.board.now.config.limit - c.loop-i.i) c.loop-i.i c.loop-i.picker c.loop-i.board.past _ (omega arith) c.loop-i.invariant.2
+    let limit : c.config.result.now.limit ≡ c.args.board.now.opening.config.limit = ap (λ (k : Config). k.limit) c.config.ensures.config in
+    ends c.loop-i.board.opening (task_in c.args.program) (c.args.board.now.opening.config.limit - c.loop-i.i) c.loop-i.i c.loop-i.picker c.loop-i.board.past _ (omega arith) c.loop-i.invariant.2

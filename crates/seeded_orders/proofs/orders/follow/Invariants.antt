@@ -6,7 +6,7 @@ use Rattle.seeded_orders.proofs.orders.follow.Given as goal
 
 abbrev pub invariant-loop-i : goal.invariant-loop-i
 invariant-loop-i l =
-    (l.board.config ≡ l.initial.board.config)
-    × AreAt (task_in l.program) l.board.config.harts l.board.past l.places
-    × (ordered l.board.config (task_in l.program) (l.initial.board.config.limit - l.i) l.i l.picker l.board.past
-    ≡ ordered l.initial.board.config (task_in l.program) l.initial.board.config.limit 0 l.initial.picker l.initial.board.past)
+    (l.board.opening ≡ l.initial.board.opening)
+    × AreAt (task_in l.program) l.board.opening.config.harts l.board.past l.places
+    × (ordered l.board.opening (task_in l.program) (l.initial.board.opening.config.limit - l.i) l.i l.picker l.board.past
+    ≡ ordered l.initial.board.opening (task_in l.program) l.initial.board.opening.config.limit 0 l.initial.picker l.initial.board.past)

@@ -1,27 +1,42 @@
-use Rattle.std.proofs.Common.{[], List, refl, sym, subst}
+use Rattle.std.proofs.Common.{◌≡◌, [], List, refl, sym, ap, ◌∙◌, subst}
 use Rattle.board_core.specs.declared.config.Config.{Config}
 use Rattle.board_core.specs.Course.{Course}
 use Rattle.board_core.specs.History.{Event}
-use Rattle.guest_script.specs.Grammar.{content}
+use Rattle.board_core.specs.Opening.{Opening, opening_at}
+use Rattle.guest_script.specs.Grammar.{content, Content, Guest}
+use Rattle.hart_threads.specs.declared.ends.End.{End}
+use Rattle.hart_threads.specs.Ends.{IsEnd}
+use Rattle.hart_threads.specs.Programs.{blocks_of}
+use Rattle.seeded_orders.specs.Orders.{ordered, picker_of}
 use Rattle.seeded_orders.specs.Places.{AreAt}
-use Rattle.seeded_orders.specs.Steps.{AreOwn, task_in, Task}
-use Rattle.seeded_orders.proofs.Ordering.{on-ok, ordered-own, same-task}
+use Rattle.seeded_orders.specs.Steps.{task_in, task_of, Task}
+use Rattle.seeded_orders.proofs.Ordering.{if-ok, order-is-tried, same-task}
 use Rattle.seeded_orders.proofs.orders.follow_anew.Goals as goal
 
 pub follow-requires : goal.follow-requires
 follow-requires c =
     let p : Task = task_in c.program_in-program.result in
-    let P : Course → Type 0 = λ b. AreAt p b.config.harts b.past c.in_ok-places.places in
+    let P : Course → Type 0 = λ b. AreAt p b.opening.config.harts b.past c.in_ok-places.places in
     let Q : Config → Type 0 = λ k. AreAt p k.harts [] c.in_ok-places.places in
-    subst P (sym c.in_ok-begin_anew.ensures.opening) (subst Q c.config.ensures.opening (c.in_ok-places.ensures p refl))
+    subst P (sym c.in_ok-begin_anew.ensures.opening) (subst Q c.config.ensures.config (c.in_ok-places.ensures p refl))
 
-pub returns-clause-own : goal.returns-clause-own
-returns-clause-own c =
-    let p : Task = task_in c.program_in-program.result in
-    let P : Course → Type 0 = λ b. AreOwn p b.past in
-    let Q : List Event → Type 0 = λ past. AreOwn p past in
-    let R : Task → Type 0 = λ t. AreOwn t c.follow.new.board.past in
-    let none : AreOwn p c.begin_anew.new.self.past = subst P (sym c.in_ok-begin_anew.ensures.opening) tt in
-    let owns : AreOwn p c.follow.new.board.past = subst Q (sym c.in_ok-met.ensures.past) (ordered-own _ p _ _ _ c.begin_anew.new.self.past none) in
-    let whole = subst R (same-task c.program_in-program.result (content c.args.script.now.body) c.program_in-program.ensures.blocks c.program_in-program.ensures.ticks) owns in
-    on-ok c.end_of.result _ whole
+pub returns-clause-tried : goal.returns-clause-tried
+returns-clause-tried c =
+    let k : Config = c.args.script.now.config in
+    let body : Content = content c.args.script.now.body in
+    let begun : Course = c.begin_anew.new.self in
+    let task : task_in c.program_in-program.result ≡ task_of body = same-task c.program_in-program.result body c.program_in-program.ensures.blocks c.program_in-program.ensures.ticks in
+    let opening : begun.opening ≡ opening_at k = ap (λ (b : Course). b.opening) c.in_ok-begin_anew.ensures.opening ∙ ap opening_at c.requires.its_own in
+    let none : begun.past ≡ [] = ap (λ (b : Course). b.past) c.in_ok-begin_anew.ensures.opening in
+    let follows : c.follow.new.board.past ≡ ordered (opening_at k) (task_of body) k.limit 0 c.in_ok-picker.picker [] =
+    c.in_ok-met.ensures.past ∙ ap (λ (t : Task). ordered begun.opening t begun.opening.config.limit 0 c.in_ok-picker.picker begun.past) task
+    ∙ ap (λ (o : Opening). ordered o (task_of body) o.config.limit 0 c.in_ok-picker.picker begun.past) opening
+    ∙ ap (λ (past : List Event). ordered (opening_at k) (task_of body) k.limit 0 c.in_ok-picker.picker past) none in
+    let picks : c.in_ok-picker.picker ≡ picker_of k.harts c.args.seed c.args.order =
+    c.in_ok-picker.ensures ∙ ap (λ (x : Config). picker_of x.harts c.args.seed c.args.order) (c.config.ensures.config ∙ c.requires.its_own) in
+    let E : End → Opening → Type 0 = λ end o. IsEnd end o c.follow.new.board.past (blocks_of body) in
+    let F : End → List Guest → Type 0 = λ end blocks. IsEnd end c.follow.new.board.opening c.follow.new.board.past blocks in
+    if-ok c.end_of.result _ _
+    (λ end is. order-is-tried k body c.args.seed c.args.order c.follow.new.board.past c.in_ok-picker.picker end picks follows
+    (subst (E end) (c.follow.ensures.opening ∙ opening) (subst (F end) c.program_in-program.ensures.blocks is)))
+    c.end_of.ensures.end

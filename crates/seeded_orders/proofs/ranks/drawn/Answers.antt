@@ -1,4 +1,4 @@
-use Rattle.std.proofs.Common.{sym, ap, ◌∙◌, arith, subst, ◌≡◌, ◌++◌, ◌-◌, ◌+◌, List, ℕ, refl}
+use Rattle.std.proofs.Common.{ap, ◌∙◌, arith, ◌++◌, ◌-◌, ◌+◌, List, ℕ, refl}
 use Rattle.seeded_orders.specs.Ranks.{ranks_from}
 use Rattle.seeded_orders.proofs.Ranking.{drawn-next, drawn-whole}
 use Rattle.seeded_orders.proofs.ranks.drawn.Goals as goal

@@ -1,5 +1,5 @@
-use Rattle.tlb_model.proofs.Living.{hit_is_last}
+use Rattle.std.proofs.Common.{refl}
 use Rattle.tlb_model.proofs.laws.hit_is_the_last.Goals as goal
 
 pub returns : goal.returns
-returns g c = hit_is_last
+returns g c = λ first opening covers holds key acts. refl

@@ -6,26 +6,26 @@ use Rattle.board_core.proofs.board.Board.need.Goals as goal
 pub returns-clause-need : goal.returns-clause-need
 returns-clause-need c =
     let standing = c.self.invariant.1.fences in
-    rw (← c.self.view_is) (c.need.ensures.need _ _ standing.stands standing.right)
+    rw (← c.self.view_is) (c.need.ensures.need _ _ _ standing.stands standing.right)
 
 pub returns-clause-limit : goal.returns-clause-limit
 returns-clause-limit c =
     let standing = c.self.invariant.1.fences in
-    let same_config = ap (λ (b : Course). b.config.harts) c.self.view_is in
-    let bounded = are-bounded _ _ c.args.caller standing.right in
+    let same_config = ap (λ (b : Course). b.opening.config.harts) c.self.view_is in
+    let bounded = are-bounded _ _ _ c.args.caller standing.right in
     let good = c.self.invariant.0.good in
-    omega (arith, c.need.ensures.need _ _ standing.stands standing.right, bounded.each c.args.t, good.some_harts)
+    omega (arith, c.need.ensures.need _ _ _ standing.stands standing.right, bounded.each c.args.t, good.some_harts)
 
 pub returns-clause-no_caller : goal.returns-clause-no_caller
 returns-clause-no_caller c = λ outside.
     let standing = c.self.invariant.1.fences in
-    let same_config = ap (λ (b : Course). b.config.harts) c.self.view_is in
-    let bounded = are-bounded _ _ c.args.caller standing.right in
-    c.need.ensures.need _ _ standing.stands standing.right ∙ bounded.no_caller (omega arith) c.args.t
+    let same_config = ap (λ (b : Course). b.opening.config.harts) c.self.view_is in
+    let bounded = are-bounded _ _ _ c.args.caller standing.right in
+    c.need.ensures.need _ _ _ standing.stands standing.right ∙ bounded.no_caller (omega arith) c.args.t
 
 pub returns-clause-no_target : goal.returns-clause-no_target
 returns-clause-no_target c = λ outside.
     let standing = c.self.invariant.1.fences in
-    let same_config = ap (λ (b : Course). b.config.harts) c.self.view_is in
-    let bounded = are-bounded _ _ c.args.caller standing.right in
-    c.need.ensures.need _ _ standing.stands standing.right ∙ bounded.no_target c.args.t (omega arith)
+    let same_config = ap (λ (b : Course). b.opening.config.harts) c.self.view_is in
+    let bounded = are-bounded _ _ _ c.args.caller standing.right in
+    c.need.ensures.need _ _ _ standing.stands standing.right ∙ bounded.no_target c.args.t (omega arith)

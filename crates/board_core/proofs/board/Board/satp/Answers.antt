@@ -1,14 +1,15 @@
 use Rattle.std.proofs.Common.{ap, ◌∙◌, arith, reverse}
 use Rattle.board_core.specs.Course.{Course}
+use Rattle.board_core.specs.Cuts.{opened_by}
 use Rattle.board_core.proofs.Reading.{length-satps, satp-read}
 use Rattle.board_core.proofs.board.Board.satp.Goals as goal
 
 pub satp-requires : goal.satp-requires
 satp-requires c =
-    let same_config = ap (λ (b : Course). b.config.harts) c.self.view_is in
+    let same_config = ap (λ (b : Course). b.opening.config.harts) c.self.view_is in
     omega (arith, length-satps _ _ _ c.self.invariant.1.memory)
 
 pub returns : goal.returns
 returns c =
-    let same_config = ap (λ (b : Course). b.config.harts) c.self.view_is in
-    rw (← c.self.view_is) (c.bits.ensures ∙ c.satp.ensures ∙ satp-read c.self.inside.config (reverse c.self.inside.events.items) c.self.inside.machine.memory c.args.h 0 (omega arith) c.self.invariant.1.memory)
+    let same_config = ap (λ (b : Course). b.opening.config.harts) c.self.view_is in
+    rw (← c.self.view_is) (c.bits.ensures ∙ c.satp.ensures ∙ satp-read (opened_by c.self.inside.config c.self.inside.places c.self.inside.opened) (reverse c.self.inside.events.items) c.self.inside.machine.memory c.args.h 0 (omega arith) c.self.invariant.1.memory)

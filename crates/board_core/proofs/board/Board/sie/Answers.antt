@@ -5,6 +5,6 @@ use Rattle.board_core.proofs.board.Board.sie.Goals as goal
 
 pub returns : goal.returns
 returns c =
-    let same_config = ap (λ (b : Course). b.config.harts) c.self.view_is in
+    let same_config = ap (λ (b : Course). b.opening.config.harts) c.self.view_is in
     let most = c.self.invariant.0.good.at_most_128_harts in
     rw (← c.self.view_is) (c.sie.ensures ∙ sie-read _ _ _ c.args.h (omega arith) c.self.invariant.1.interrupts.csrs)

@@ -5,10 +5,10 @@ use Rattle.board_core.proofs.board.Board.stip.Goals as goal
 
 pub pending-requires : goal.pending-requires
 pending-requires c =
-    let same_config = ap (λ (b : Course). b.config.harts) c.self.view_is in
+    let same_config = ap (λ (b : Course). b.opening.config.harts) c.self.view_is in
     omega (arith, length-deadlines _ _ _ c.self.invariant.1.interrupts.timers)
 
 pub returns : goal.returns
 returns c =
-    let same_config = ap (λ (b : Course). b.config.harts) c.self.view_is in
+    let same_config = ap (λ (b : Course). b.opening.config.harts) c.self.view_is in
     rw (← c.self.view_is) (c.pending.ensures.answer ∙ stip-read _ _ _ c.args.h (omega arith) c.self.invariant.1.interrupts.timers)

@@ -2,6 +2,7 @@ use Rattle.std.proofs.Common.{ap, length, reverse, ◌∙◌}
 use Rattle.std.specs.Prelude.{sum_by}
 use Rattle.board_core.specs.Course.{harts_of}
 use Rattle.board_core.specs.Fences.{waiting}
+use Rattle.board_core.specs.Cuts.{opened_by}
 use Rattle.board_core.proofs.Tables.{sum_by-map}
 use Rattle.board_core.proofs.HartsStanding.{count_by-pending}
 use Rattle.board_core.proofs.StartsLaw.{starts_are_entered}
@@ -16,8 +17,8 @@ returns-clause-counts c =
     let fences = stands.fences.stands in
     let asked_are = c.asked.ensures ∙ fences.asked in
     let applied_are = c.applied.ensures ∙ fences.applied in
-    let waiting_are = c.waiting.ensures ∙ ap (sum_by length) fences.queues ∙ sum_by-map length (waiting c.self.inside.config (reverse c.self.inside.events.items)) (harts_of c.self.inside.config) in
+    let waiting_are = c.waiting.ensures ∙ ap (sum_by length) fences.queues ∙ sum_by-map length (waiting (opened_by c.self.inside.config c.self.inside.places c.self.inside.opened) (reverse c.self.inside.events.items)) (harts_of c.self.inside.config) in
     rw (← c.self.view_is) cc
 
 pub returns-clause-starts : goal.returns-clause-starts
-returns-clause-starts c = rw (← c.self.view_is) (starts_are_entered c.self.inside.config _ c.self.invariant.0.legal)
+returns-clause-starts c = rw (← c.self.view_is) (starts_are_entered (opened_by c.self.inside.config c.self.inside.places c.self.inside.opened) _ c.self.invariant.0.legal)

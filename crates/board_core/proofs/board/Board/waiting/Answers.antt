@@ -6,11 +6,11 @@ use Rattle.board_core.proofs.board.Board.waiting.Goals as goal
 
 pub iter-requires : goal.iter-requires
 iter-requires c =
-    let same_config = ap (λ (b : Course). b.config.harts) c.self.view_is in
-    let many = length-queues _ _ _ c.self.invariant.1.fences.stands in
+    let same_config = ap (λ (b : Course). b.opening.config.harts) c.self.view_is in
+    let many = length-queues _ _ _ _ c.self.invariant.1.fences.stands in
     omega arith
 
 pub returns : goal.returns
 returns c =
-    let same_config = ap (λ (b : Course). b.config.harts) c.self.view_is in
+    let same_config = ap (λ (b : Course). b.opening.config.harts) c.self.view_is in
     rw (← c.self.view_is) (c.iter.ensures.requests ∙ queue-read _ _ _ c.self.invariant.1.fences c.args.h (omega arith))

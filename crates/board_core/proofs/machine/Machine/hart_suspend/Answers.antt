@@ -7,41 +7,42 @@ use Rattle.hsm.specs.declared.hart.HartState.TheVariants.{SuspendPending}
 use Rattle.board_core.specs.declared.event.Op.TheVariants.{Ecall}
 use Rattle.board_core.specs.declared.event.Reply.TheVariants.{Gone, Ret, Waiting}
 use Rattle.board_core.specs.History.{by_hart}
+use Rattle.board_core.specs.Opening.{on}
 use Rattle.board_core.proofs.Events.{deed_of_call, does_call}
 use Rattle.board_core.proofs.HartsStanding.{harts-own}
 use Rattle.board_core.proofs.Standing.{call-quiet, stands-harts}
 use Rattle.board_core.proofs.machine.Machine.hart_suspend.Goals as goal
 
 pub returns-in-Ok-Retentive-clause-after : goal.returns-in-Ok-Retentive-clause-after
-returns-in-Ok-Retentive-clause-after c = λ past regs is stands.
-    let config = c.args.config.now in
+returns-in-Ok-Retentive-clause-after c = λ o past regs is stands.
+    let opening = on c.args.config.now o in
     let m = c.args.self.now in
     let h = c.args.h in
     let call = Hsm (HartSuspend c.args.kind c.args.addr c.args.opaque) in
     let event = by_hart h (Ecall regs) Waiting in
-    let d = deed_of_call config past h call Waiting in
-    let does = does_call config past h regs call Waiting is in
-    stands-harts config past event d does m _ refl stands
-    (record { each = c.suspend.ensures ∙ (harts-own config past event d does m.hsm h SuspendPending refl refl refl (λ j. refl) stands.harts).each })
+    let d = deed_of_call opening past h call Waiting in
+    let does = does_call opening past h regs call Waiting is in
+    stands-harts opening past event d does m _ refl stands
+    (record { each = c.suspend.ensures ∙ (harts-own opening past event d does m.hsm h SuspendPending refl refl refl (λ j. refl) stands.harts).each })
 
 pub returns-else-not-is_start_address-clause-after : goal.returns-else-not-is_start_address-clause-after
-returns-else-not-is_start_address-clause-after c = λ past regs is stands.
-    let config = c.args.config.now in
+returns-else-not-is_start_address-clause-after c = λ o past regs is stands.
+    let opening = on c.args.config.now o in
     let m = c.args.self.now in
     let h = c.args.h in
     let call = Hsm (HartSuspend c.args.kind c.args.addr c.args.opaque) in
     let event = by_hart h (Ecall regs) Gone in
-    let d = deed_of_call config past h call Gone in
-    let does = does_call config past h regs call Gone is in
-    stands-harts config past event d does m _ refl stands
-    (record { each = c.suspend-in-Ok-NonRetentive.ensures ∙ (harts-own config past event d does m.hsm h SuspendPending refl refl refl (λ j. refl) stands.harts).each })
+    let d = deed_of_call opening past h call Gone in
+    let does = does_call opening past h regs call Gone is in
+    stands-harts opening past event d does m _ refl stands
+    (record { each = c.suspend-in-Ok-NonRetentive.ensures ∙ (harts-own opening past event d does m.hsm h SuspendPending refl refl refl (λ j. refl) stands.harts).each })
 
 pub returns-then-not-is_start_address-clause-after : goal.returns-then-not-is_start_address-clause-after
-returns-then-not-is_start_address-clause-after c = λ past regs is stands.
+returns-then-not-is_start_address-clause-after c = λ o past regs is stands.
     rw c.failure-then-not-is_start_address.ensures
-    (call-quiet c.args.config.now past c.args.h regs (Hsm (HartSuspend c.args.kind c.args.addr c.args.opaque)) (Ret (failure InvalidAddress)) c.args.self.now is refl stands)
+    (call-quiet (on c.args.config.now o) past c.args.h regs (Hsm (HartSuspend c.args.kind c.args.addr c.args.opaque)) (Ret (failure InvalidAddress)) c.args.self.now is refl stands)
 
 pub returns-in-Err-clause-after : goal.returns-in-Err-clause-after
-returns-in-Err-clause-after c = λ past regs is stands.
+returns-in-Err-clause-after c = λ o past regs is stands.
     rw c.failure.ensures
-    (call-quiet c.args.config.now past c.args.h regs (Hsm (HartSuspend c.args.kind c.args.addr c.args.opaque)) (Ret (failure c.in-Err.error)) c.args.self.now is refl stands)
+    (call-quiet (on c.args.config.now o) past c.args.h regs (Hsm (HartSuspend c.args.kind c.args.addr c.args.opaque)) (Ret (failure c.in-Err.error)) c.args.self.now is refl stands)

@@ -7,6 +7,7 @@ use Rattle.board_core.specs.declared.event.Op.TheVariants.{Ecall}
 use Rattle.board_core.specs.declared.event.Reply.TheVariants.{Ret}
 use Rattle.board_core.specs.Replies.{failure, success}
 use Rattle.board_core.specs.History.{by_hart}
+use Rattle.board_core.specs.Opening.{on}
 use Rattle.board_core.proofs.Events.{deed_of_call, does_call}
 use Rattle.board_core.proofs.InterruptsStanding.{interrupts-ipis, ipis-sent}
 use Rattle.board_core.proofs.Standing.{call-quiet, stands-interrupts}
@@ -25,20 +26,20 @@ unfolding mask_in base_in
 sends (SendIpi mask base) = refl
 
 pub returns-in-Ok-clause-after : goal.returns-in-Ok-clause-after
-returns-in-Ok-clause-after c = λ x past regs is stands.
-    let config = c.args.config.now in
+returns-in-Ok-clause-after c = λ x o past regs is stands.
+    let opening = on c.args.config.now o in
     let m = c.args.self.now in
     let call = Ipi (SendIpi (mask_in c.args.call) (base_in c.args.call)) in
     let event = by_hart x (Ecall regs) (Ret (success 0)) in
-    let d = deed_of_call config past x call (Ret (success 0)) in
-    let does = does_call config past x regs call (Ret (success 0)) (ap Ipi (sym (sends c.args.call)) ∙ is) in
-    let reached = is_reached config past m.hsm c.requires.most stands.harts (mask_in c.args.call) (base_in c.args.call) c.in-Ok.harts c.interruptible.result c.intersection-reached.result
+    let d = deed_of_call opening past x call (Ret (success 0)) in
+    let does = does_call opening past x regs call (Ret (success 0)) (ap Ipi (sym (sends c.args.call)) ∙ is) in
+    let reached = is_reached opening past m.hsm c.requires.most stands.harts (mask_in c.args.call) (base_in c.args.call) c.in-Ok.harts c.interruptible.result c.intersection-reached.result
     (rw (sends c.args.call) at c.in-Ok.ensures.answer) c.in-Ok.ensures.below c.interruptible.ensures c.intersection-reached.ensures in
     rw (c.success.ensures, c.send.ensures)
-    (stands-interrupts config past event d does m _ refl stands (interrupts-ipis config past event d does m.interrupts _ refl stands.interrupts
-    (ipis-sent config past event d does m.interrupts.ipis c.intersection-reached.result refl (λ i below. reached i) stands.interrupts.ipis)))
+    (stands-interrupts opening past event d does m _ refl stands (interrupts-ipis opening past event d does m.interrupts _ refl stands.interrupts
+    (ipis-sent opening past event d does m.interrupts.ipis c.intersection-reached.result refl (λ i below. reached i) stands.interrupts.ipis)))
 
 pub returns-in-Err-clause-after : goal.returns-in-Err-clause-after
-returns-in-Err-clause-after c = λ x past regs is stands.
+returns-in-Err-clause-after c = λ x o past regs is stands.
     rw (c.failure.ensures, c.into.ensures)
-    (call-quiet c.args.config.now past x regs (Ipi (SendIpi (mask_in c.args.call) (base_in c.args.call))) (Ret (failure InvalidParam)) c.args.self.now (ap Ipi (sym (sends c.args.call)) ∙ is) refl stands)
+    (call-quiet (on c.args.config.now o) past x regs (Ipi (SendIpi (mask_in c.args.call) (base_in c.args.call))) (Ret (failure InvalidParam)) c.args.self.now (ap Ipi (sym (sends c.args.call)) ∙ is) refl stands)

@@ -21,13 +21,13 @@ unfolding deadline_in
 sets (SetTimer deadline) = refl
 
 pub returns-clause-after : goal.returns-clause-after
-returns-clause-after c = λ config past regs is stands.
+returns-clause-after c = λ o past regs is stands.
     let m = c.args.self.now in
     let h = c.args.h in
     let event = by_hart h (Ecall regs) (Ret (success 0)) in
     let call = Time (SetTimer (deadline_in c.args.call)) in
-    let d = deed_of_call config past h call (Ret (success 0)) in
-    let does = does_call config past h regs call (Ret (success 0)) (ap Time (sym (sets c.args.call)) ∙ is) in
+    let d = deed_of_call o past h call (Ret (success 0)) in
+    let does = does_call o past h regs call (Ret (success 0)) (ap Time (sym (sets c.args.call)) ∙ is) in
     rw (c.success.ensures, (rw (sets c.args.call) at c.set.ensures.after))
-    (stands-interrupts config past event d does m _ refl stands (interrupts-timers config past event d does m.interrupts _ refl stands.interrupts
-    (timers-set config past event d does h refl m.interrupts.timers (Some (deadline_in c.args.call)) refl refl stands.interrupts.timers)))
+    (stands-interrupts o past event d does m _ refl stands (interrupts-timers o past event d does m.interrupts _ refl stands.interrupts
+    (timers-set o past event d does h refl m.interrupts.timers (Some (deadline_in c.args.call)) refl refl stands.interrupts.timers)))

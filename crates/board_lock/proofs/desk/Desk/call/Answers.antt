@@ -1,10 +1,12 @@
 use Rattle.std.proofs.Common.{◌≡◌, ◌≢◌, ℕ, ◌+◌, ◌≤◌, List, [], ◌∷◌, ◌++◌, length, inr, refl, arith, sym, ap, subst, ◌∙◌}
 use Rattle.std.specs.Prelude.{Ok}
+use Rattle.std.proofs.lemmas.List.{length-reverse}
 use Rattle.board_core.specs.declared.event.Actor.{Actor}
 use mathlib.Core.List.{IsPrefix}
 use Rattle.chronicle.specs.declared.tokens.Chronicle.{Chronicle}
 use Rattle.board_core.specs.Course.{Course}
 use Rattle.board_core.specs.History.{Event}
+use Rattle.board_core.specs.Opening.{Opening}
 use Rattle.board_core.specs.Replies.{answer, stepped}
 use Rattle.board_core.specs.declared.event.Op.{Op}
 use Rattle.board_lock.specs.Events.{events_in, events_of, ops_of}
@@ -18,27 +20,27 @@ use Rattle.board_lock.proofs.desk.Desk.call.Goals as goal
 
 pub index-requires : goal.index-requires
 index-requires g c =
-    let within = number-within g.K.Room.opening c.seat.inside.actor c.seat.invariant.acting in
-    let number : c.number-number.result ≡ number_of g.K.Room.opening c.seat.inside.actor = c.number-number.ensures in
-    let sized : length c.self.inside.counts.items ≡ g.K.Room.opening.harts + 1 = c.self.invariant.sized in
+    let within = number-within g.K.Room.opening.config c.seat.inside.actor c.seat.invariant.acting in
+    let number : c.number-number.result ≡ number_of g.K.Room.opening.config c.seat.inside.actor = c.number-number.ensures in
+    let sized : length c.self.inside.counts.items ≡ g.K.Room.opening.config.harts + 1 = c.self.invariant.sized in
     omega arith
 
 pub index_mut-requires : goal.index_mut-requires
 index_mut-requires g c =
-    let within = number-within g.K.Room.opening c.seat.inside.actor c.seat.invariant.acting in
-    let number : c.number-number.result ≡ number_of g.K.Room.opening c.seat.inside.actor = c.number-number.ensures in
-    let sized : length c.self.inside.counts.items ≡ g.K.Room.opening.harts + 1 = c.self.invariant.sized in
+    let within = number-within g.K.Room.opening.config c.seat.inside.actor c.seat.invariant.acting in
+    let number : c.number-number.result ≡ number_of g.K.Room.opening.config c.seat.inside.actor = c.number-number.ensures in
+    let sized : length c.self.inside.counts.items ≡ g.K.Room.opening.config.harts + 1 = c.self.invariant.sized in
     omega arith
 
-pub bounds-history-place : goal.bounds-history-place
-bounds-history-place g c =
+pub bounds-history-index : goal.bounds-history-index
+bounds-history-index g c =
     let b : Course = c.self.inside.board in
     let b' : Course = c.step.new.self in
-    let before : List Event = c.history-place.result.now in
+    let before : List Event = c.history-index.result.now in
     let now : List Event = c.history.result.now in
-    let answered : Ok c.in_ok-reply.reply ≡ answer b.config b.past c.seat.inside.actor c.args.op = c.in_ok-reply.ensures.answer in
+    let answered : Ok c.in_ok-reply.reply ≡ answer b.opening b.past c.seat.inside.actor c.args.op = c.in_ok-reply.ensures.answer in
     let went : b' ≡ stepped b c.seat.inside.actor c.args.op = c.step.ensures.after in
-    let more = longer-by-one b b' c.seat.inside.actor c.args.op c.in_ok-reply.reply answered went before now c.history-place.ensures.events c.history.ensures.events in
+    let more = longer-by-one b b' c.seat.inside.actor c.args.op c.in_ok-reply.reply answered went before now c.history-index.ensures.events c.history.ensures.events in
     omega arith
 
 -- the counts can grow
@@ -49,8 +51,8 @@ overflow_add-index_mut g c =
     let a : Actor = c.seat.inside.actor in
     let count : ℕ = c.index_mut.result.now in
     let here = read g.K.Room.opening g.K.Room.log b _ _ _ _ _ _ _ a c.number-number.result count d c.seat.invariant.acting c.number-number.ensures c.index_mut.ensures.value in
-    let long : length c.self.inside.log.list ≡ length c.history-place.result.now = as-long g.K.Room.opening g.K.Room.log b _ _ _ _ _ _ _ _ d c.history-place.ensures.events in
-    let within : length c.history-place.result.now ≤ b.config.limit = c.history-place.ensures.within in
+    let long : length c.self.inside.log.list ≡ length c.history-index.result.now = as-long g.K.Room.opening g.K.Room.log b _ _ _ _ _ _ _ _ d c.history-index.ensures.events in
+    let within : length c.history-index.result.now ≤ b.opening.config.limit = c.history-index.ensures.within in
     let room = small g.K.Room.opening g.K.Room.log b _ _ _ _ _ _ c.self.inside.log.list a count d here.1 (omega arith) in
     omega arith
 
@@ -61,8 +63,8 @@ overflow_add-seat g c =
     let a : Actor = c.seat.inside.actor in
     let here = read g.K.Room.opening g.K.Room.log b _ _ _ _ _ _ _ a c.number-number.result c.index.result.now d c.seat.invariant.acting c.number-number.ensures c.index.ensures in
     let same : c.index.result.now ≡ c.seat.inside.count = c.if-index-seat.false in
-    let long : length c.self.inside.log.list ≡ length c.history-place.result.now = as-long g.K.Room.opening g.K.Room.log b _ _ _ _ _ _ _ _ d c.history-place.ensures.events in
-    let within : length c.history-place.result.now ≤ b.config.limit = c.history-place.ensures.within in
+    let long : length c.self.inside.log.list ≡ length c.history-index.result.now = as-long g.K.Room.opening g.K.Room.log b _ _ _ _ _ _ _ _ d c.history-index.ensures.events in
+    let within : length c.history-index.result.now ≤ b.opening.config.limit = c.history-index.ensures.within in
     let room = small g.K.Room.opening g.K.Room.log b _ _ _ _ _ _ c.self.inside.log.list a c.seat.inside.count d (sym same ∙ here.1) (omega arith) in
     omega arith
 
@@ -72,11 +74,11 @@ invariant_of-self-2 g c =
     let b : Course = c.self.inside.board in
     let b' : Course = c.step.new.self in
     let a : Actor = c.seat.inside.actor in
-    let answered : Ok c.in_ok-reply.reply ≡ answer b.config b.past a c.args.op = c.in_ok-reply.ensures.answer in
+    let answered : Ok c.in_ok-reply.reply ≡ answer b.opening b.past a c.args.op = c.in_ok-reply.ensures.answer in
     let went : b' ≡ stepped b a c.args.op = c.step.ensures.after in
-    let number : c.number-number.result ≡ number_of g.K.Room.opening a = c.number-number.ensures in
-    let at : c.index-history-place.result ≡ event b b' a c.args.op c.in_ok-reply.reply answered went =
-    last b b' a c.args.op c.in_ok-reply.reply answered went c.history-place.result.now c.history.result.now c.index-history-place.result c.history-place.ensures.events c.history.ensures.events c.index-history-place.is in
+    let number : c.number-number.result ≡ number_of g.K.Room.opening.config a = c.number-number.ensures in
+    let at : c.index-history-index.result ≡ event b b' a c.args.op c.in_ok-reply.reply answered went =
+    last b b' a c.args.op c.in_ok-reply.reply answered went c.history-index.result.now c.history.result.now c.index-history-index.result c.history-index.ensures.events c.history.ensures.events c.index-history-index.is in
     let here = read g.K.Room.opening g.K.Room.log b _ _ _ _ _ _ _ a c.number-number.result c.index_mut.result.now d c.seat.invariant.acting number c.index_mut.ensures.value in
     let sum : c.add.new.self.total ≡ c.self.inside.book.total + 1 = c.add.ensures.total in
     let named : c.glimpse-3.new.self.name ≡ c.self.inside.log.name =
@@ -94,10 +96,10 @@ invariant_of-seat g c =
     let b : Course = c.self.inside.board in
     let b' : Course = c.step.new.self in
     let a : Actor = c.seat.inside.actor in
-    let answered : Ok c.in_ok-reply.reply ≡ answer b.config b.past a c.args.op = c.in_ok-reply.ensures.answer in
+    let answered : Ok c.in_ok-reply.reply ≡ answer b.opening b.past a c.args.op = c.in_ok-reply.ensures.answer in
     let went : b' ≡ stepped b a c.args.op = c.step.ensures.after in
-    let at : c.index-history-place.result ≡ event b b' a c.args.op c.in_ok-reply.reply answered went =
-    last b b' a c.args.op c.in_ok-reply.reply answered went c.history-place.result.now c.history.result.now c.index-history-place.result c.history-place.ensures.events c.history.ensures.events c.index-history-place.is in
+    let at : c.index-history-index.result ≡ event b b' a c.args.op c.in_ok-reply.reply answered went =
+    last b b' a c.args.op c.in_ok-reply.reply answered went c.history-index.result.now c.history.result.now c.index-history-index.result c.history-index.ensures.events c.history.ensures.events c.index-history-index.is in
     let here = read g.K.Room.opening g.K.Room.log b _ _ _ _ _ _ _ a c.number-number.result c.index.result.now d c.seat.invariant.acting c.number-number.ensures c.index.ensures in
     let same : c.index.result.now ≡ c.seat.inside.count = c.if-index-seat.false in
     let part : c.add.new.share.parts ≡ c.seat.inside.share.parts = c.add.ensures.parts in
@@ -118,18 +120,21 @@ invariant_of-result g c =
     let b : Course = c.self.inside.board in
     let b' : Course = c.step.new.self in
     let a : Actor = c.seat.inside.actor in
-    let answered : Ok c.in_ok-reply.reply ≡ answer b.config b.past a c.args.op = c.in_ok-reply.ensures.answer in
+    let answered : Ok c.in_ok-reply.reply ≡ answer b.opening b.past a c.args.op = c.in_ok-reply.ensures.answer in
     let went : b' ≡ stepped b a c.args.op = c.step.ensures.after in
-    let at : c.index-history-place.result ≡ event b b' a c.args.op c.in_ok-reply.reply answered went =
-    last b b' a c.args.op c.in_ok-reply.reply answered went c.history-place.result.now c.history.result.now c.index-history-place.result c.history-place.ensures.events c.history.ensures.events c.index-history-place.is in
+    let at : c.index-history-index.result ≡ event b b' a c.args.op c.in_ok-reply.reply answered went =
+    last b b' a c.args.op c.in_ok-reply.reply answered went c.history-index.result.now c.history.result.now c.index-history-index.result c.history-index.ensures.events c.history.ensures.events c.index-history-index.is in
     let here = read g.K.Room.opening g.K.Room.log b _ _ _ _ _ _ _ a c.number-number.result c.index.result.now d c.seat.invariant.acting c.number-number.ensures c.index.ensures in
     let same : c.index.result.now ≡ c.seat.inside.count = c.if-index-seat.false in
+    let long : length c.self.inside.log.list ≡ length b.past = ap length d.logged ∙ length-reverse b.past in
+    let opened : b.opening.places ≡ g.K.Room.opening.places = ap (λ (o : Opening). o.places) d.opened in
+    let is : c.place-place.result ≡ b.opening.places + length b.past = c.place-place.ensures in
+    let placed : g.K.Room.opening.places + length c.self.inside.log.list ≡ c.place-place.result = omega arith in
     let named : c.glimpse-3.result.name ≡ c.self.inside.log.name = c.glimpse-3.ensures.1 ∙ ap (λ (l : Chronicle Event). l.name) c.glimpse-2.ensures.0 ∙ ap (λ (l : Chronicle Event). l.name) c.glimpse.ensures.0 ∙ c.push.ensures.0 in
     let saw : c.glimpse-3.result.list ≡ c.self.inside.log.list ++ event b b' a c.args.op c.in_ok-reply.reply answered went ∷ [] =
     c.glimpse-3.ensures.2 ∙ ap (λ (l : Chronicle Event). l.list) c.glimpse-2.ensures.0 ∙ ap (λ (l : Chronicle Event). l.list) c.glimpse.ensures.0 ∙ c.push.ensures.1 ∙ ap (λ (e : Event). c.self.inside.log.list ++ e ∷ []) at in
-    told b b' a c.args.op c.in_ok-reply.reply answered went g.K.Room.log c.self.inside.log.name c.glimpse-3.result.name c.self.inside.log.list c.glimpse-3.result.list
-    c.seat.inside.count (length c.history-place.result.now) d.named (sym same ∙ here.1)
-    (as-long g.K.Room.opening g.K.Room.log b _ _ _ _ _ _ _ _ d c.history-place.ensures.events) named saw
+    told b b' a c.args.op c.in_ok-reply.reply answered went g.K.Room.opening.places g.K.Room.log c.self.inside.log.name c.glimpse-3.result.name c.self.inside.log.list c.glimpse-3.result.list
+    c.seat.inside.count c.place-place.result d.named (sym same ∙ here.1) placed named saw
 
 pub returns-clause-ops : goal.returns-clause-ops
 returns-clause-ops g c =
@@ -137,11 +142,11 @@ returns-clause-ops g c =
     let b : Course = c.self.inside.board in
     let b' : Course = c.step.new.self in
     let a : Actor = c.seat.inside.actor in
-    let answered : Ok c.in_ok-reply.reply ≡ answer b.config b.past a c.args.op = c.in_ok-reply.ensures.answer in
+    let answered : Ok c.in_ok-reply.reply ≡ answer b.opening b.past a c.args.op = c.in_ok-reply.ensures.answer in
     let went : b' ≡ stepped b a c.args.op = c.step.ensures.after in
     let new : Event = event b b' a c.args.op c.in_ok-reply.reply answered went in
-    let at : c.index-history-place.result ≡ new =
-    last b b' a c.args.op c.in_ok-reply.reply answered went c.history-place.result.now c.history.result.now c.index-history-place.result c.history-place.ensures.events c.history.ensures.events c.index-history-place.is in
+    let at : c.index-history-index.result ≡ new =
+    last b b' a c.args.op c.in_ok-reply.reply answered went c.history-index.result.now c.history.result.now c.index-history-index.result c.history-index.ensures.events c.history.ensures.events c.index-history-index.is in
     let here = read g.K.Room.opening g.K.Room.log b _ _ _ _ _ _ _ a c.number-number.result c.index.result.now d c.seat.invariant.acting c.number-number.ensures c.index.ensures in
     let same : c.index.result.now ≡ c.seat.inside.count = c.if-index-seat.false in
     let saw : c.glimpse.result.list ≡ c.self.inside.log.list ++ new ∷ [] =
@@ -160,10 +165,10 @@ returns-clause-done g c =
     let b : Course = c.self.inside.board in
     let b' : Course = c.step.new.self in
     let a : Actor = c.seat.inside.actor in
-    let answered : Ok c.in_ok-reply.reply ≡ answer b.config b.past a c.args.op = c.in_ok-reply.ensures.answer in
+    let answered : Ok c.in_ok-reply.reply ≡ answer b.opening b.past a c.args.op = c.in_ok-reply.ensures.answer in
     let went : b' ≡ stepped b a c.args.op = c.step.ensures.after in
-    let at : c.index-history-place.result ≡ event b b' a c.args.op c.in_ok-reply.reply answered went =
-    last b b' a c.args.op c.in_ok-reply.reply answered went c.history-place.result.now c.history.result.now c.index-history-place.result c.history-place.ensures.events c.history.ensures.events c.index-history-place.is in
+    let at : c.index-history-index.result ≡ event b b' a c.args.op c.in_ok-reply.reply answered went =
+    last b b' a c.args.op c.in_ok-reply.reply answered went c.history-index.result.now c.history.result.now c.index-history-index.result c.history-index.ensures.events c.history.ensures.events c.index-history-index.is in
     let longer : c.glimpse-2.result.list ≡ c.self.inside.log.list ++ event b b' a c.args.op c.in_ok-reply.reply answered went ∷ [] =
     c.glimpse-2.ensures.2 ∙ ap (λ (l : Chronicle Event). l.list) c.glimpse.ensures.0 ∙ c.push.ensures.1 ∙ ap (λ (e : Event). c.self.inside.log.list ++ e ∷ []) at in
     let sees : c.see.new.seat.saw ≡ c.self.inside.log.list =
@@ -177,10 +182,10 @@ returns-clause-now g c =
     let b : Course = c.self.inside.board in
     let b' : Course = c.step.new.self in
     let a : Actor = c.seat.inside.actor in
-    let answered : Ok c.in_ok-reply.reply ≡ answer b.config b.past a c.args.op = c.in_ok-reply.ensures.answer in
+    let answered : Ok c.in_ok-reply.reply ≡ answer b.opening b.past a c.args.op = c.in_ok-reply.ensures.answer in
     let went : b' ≡ stepped b a c.args.op = c.step.ensures.after in
-    let at : c.index-history-place.result ≡ event b b' a c.args.op c.in_ok-reply.reply answered went =
-    last b b' a c.args.op c.in_ok-reply.reply answered went c.history-place.result.now c.history.result.now c.index-history-place.result c.history-place.ensures.events c.history.ensures.events c.index-history-place.is in
+    let at : c.index-history-index.result ≡ event b b' a c.args.op c.in_ok-reply.reply answered went =
+    last b b' a c.args.op c.in_ok-reply.reply answered went c.history-index.result.now c.history.result.now c.index-history-index.result c.history-index.ensures.events c.history.ensures.events c.index-history-index.is in
     let longer : c.glimpse-2.result.list ≡ c.self.inside.log.list ++ event b b' a c.args.op c.in_ok-reply.reply answered went ∷ [] =
     c.glimpse-2.ensures.2 ∙ ap (λ (l : Chronicle Event). l.list) c.glimpse.ensures.0 ∙ c.push.ensures.1 ∙ ap (λ (e : Event). c.self.inside.log.list ++ e ∷ []) at in
     logs b b' a c.args.op c.in_ok-reply.reply answered went c.self.inside.log.list c.glimpse-2.result.list d.logged longer

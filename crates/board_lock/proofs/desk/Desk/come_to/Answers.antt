@@ -1,4 +1,4 @@
-use Rattle.std.proofs.Common.{◌≡◌, ℕ, Bool, [], List, subst, sym, ◌∙◌, rules}
+use Rattle.std.proofs.Common.{◌≡◌, ℕ, [], List, subst, sym, ◌∙◌, rules}
 use Rattle.board_lock.specs.Waking.{comes_to}
 use Rattle.board_lock.proofs.Sifting.{Sifts, below-rest, has-first, sifts-all, sifts-in, sifts-none, sifts-out}
 use Rattle.board_lock.proofs.desk.Desk.come_to.Goals as goal
@@ -13,7 +13,7 @@ comes_to-requires g c = c.loop-h.invariant.0 c.in-Some.h (has-first c.loop-h.lef
 pub loop-h-preserved-then-comes_to : goal.loop-h-preserved-then-comes_to
 loop-h-preserved-then-comes_to g c =
     let is = c.in-Some.ensures.lowest in (
-      below-rest c.loop-h.left c.pop_first.new.self c.in-Some.h g.K.Room.opening.harts is c.loop-h.invariant.0,
+      below-rest c.loop-h.left c.pop_first.new.self c.in-Some.h g.K.Room.opening.config.harts is c.loop-h.invariant.0,
       subst (λ (come : List ℕ). Sifts c.args.harts (comes_to c.args.self.now) come c.pop_first.new.self) (sym c.insert.ensures)
           (sifts-in c.args.harts (comes_to c.args.self.now) c.loop-h.come c.loop-h.left c.pop_first.new.self c.in-Some.h is c.loop-h.invariant.1 (sym c.comes_to.ensures ∙ c.if-comes_to.true)),
     )
@@ -21,7 +21,7 @@ loop-h-preserved-then-comes_to g c =
 pub loop-h-preserved : goal.loop-h-preserved
 loop-h-preserved g c =
     let is = c.in-Some.ensures.lowest in (
-      below-rest c.loop-h.left c.pop_first.new.self c.in-Some.h g.K.Room.opening.harts is c.loop-h.invariant.0,
+      below-rest c.loop-h.left c.pop_first.new.self c.in-Some.h g.K.Room.opening.config.harts is c.loop-h.invariant.0,
       sifts-out c.args.harts (comes_to c.args.self.now) c.loop-h.come c.loop-h.left c.pop_first.new.self c.in-Some.h is c.loop-h.invariant.1 (sym c.comes_to.ensures ∙ c.if-comes_to.false),
     )
 

@@ -6,7 +6,7 @@ use Rattle.board_lock.proofs.desk.Desk.come_to.Given as goal
 
 abbrev pub invariant-loop-h : goal.invariant-loop-h
 invariant-loop-h g l =
-    ((h : ℕ) → has l.left h ≡ true → h < g.K.Room.opening.harts)
+    ((h : ℕ) → has l.left h ≡ true → h < g.K.Room.opening.config.harts)
     × Sifts l.fn.harts (comes_to l.self) l.come l.left
 
 abbrev pub decreases-loop-h : goal.decreases-loop-h

@@ -1,4 +1,4 @@
-use Rattle.std.proofs.Common.{◌≡◌, ℕ, true, List, ap, refl, subst, sym, ◌∙◌}
+use Rattle.std.proofs.Common.{◌≡◌, ℕ, true, List, ap, subst, sym, ◌∙◌}
 use Rattle.std.specs.Prelude.{◌&&◌, ◌||◌}
 use Rattle.hart_mask.specs.Ids.{has, ids_where, intersection_of, union_of}
 use Rattle.hart_mask.proofs.Sets.{passes-ids_where}
@@ -21,7 +21,7 @@ come_to-come-requires g c h there =
 
 pub invariant_of-self : goal.invariant_of-self
 invariant_of-self g c =
-    let harts = g.K.Room.opening.harts in
+    let harts = g.K.Room.opening.config.harts in
     desk-rests _ _ _ _ _ _ _ _ _ _ _ c.self.invariant
     (subst (IsRests harts) (sym c.end.ensures) (fewer-rest harts c.self.inside.rests _ c.self.invariant.at_rest))
 
@@ -29,8 +29,8 @@ pub returns-clause-answer : goal.returns-clause-answer
 returns-clause-answer g c =
     let r : Rests = c.self.inside.rests in
     let now : Held = c.args.self.now in
-    let who : List ℕ = concerned c.self.inside.board.config.harts c.args.op in
-    let named : c.concerned-concerned.result ≡ who = c.concerned-concerned.ensures ∙ ap (λ (now : Config). concerned now.harts c.args.op) c.config.ensures.opening in
+    let who : List ℕ = concerned c.self.inside.board.opening.config.harts c.args.op in
+    let named : c.concerned-concerned.result ≡ who = c.concerned-concerned.ensures ∙ ap (λ (now : Config). concerned now.harts c.args.op) c.config.ensures.config in
     let both : c.intersection.result ≡ intersection_of (intersection_of r.harts r.turns) who =
     c.intersection.ensures ∙ ap (λ (ids : List ℕ). intersection_of ids c.concerned-concerned.result) c.intersection-turns.ensures
     ∙ ap (intersection_of (intersection_of r.harts r.turns)) named in
@@ -46,15 +46,15 @@ returns-clause-answer g c =
     let is : Woken = record { harts = c.union.result; clock = c.if-rests.woken } in
     woken-of is (woken now c.args.op)
     (subst (λ (x : Held). c.union.result ≡ ids_where (λ h. has x.rests.harts h
-    && (has x.rests.events h || (has x.rests.turns h && (has (concerned x.board.config.harts c.args.op) h && comes_to now h))))) c.self.view_is harts)
+    && (has x.rests.events h || (has x.rests.turns h && (has (concerned x.board.opening.config.harts c.args.op) h && comes_to now h))))) c.self.view_is harts)
     (subst (λ (x : Held). c.if-rests.woken ≡ (x.rests.clock && x.rests.clock_events)) c.self.view_is clock)
 
 pub returns-clause-below : goal.returns-clause-below
 returns-clause-below g c h there =
     let r : Rests = c.self.inside.rests in
     let now : Held = c.args.self.now in
-    let who : List ℕ = concerned c.self.inside.board.config.harts c.args.op in
-    let named : c.concerned-concerned.result ≡ who = c.concerned-concerned.ensures ∙ ap (λ (now : Config). concerned now.harts c.args.op) c.config.ensures.opening in
+    let who : List ℕ = concerned c.self.inside.board.opening.config.harts c.args.op in
+    let named : c.concerned-concerned.result ≡ who = c.concerned-concerned.ensures ∙ ap (λ (now : Config). concerned now.harts c.args.op) c.config.ensures.config in
     let both : c.intersection.result ≡ intersection_of (intersection_of r.harts r.turns) who =
     c.intersection.ensures ∙ ap (λ (ids : List ℕ). intersection_of ids c.concerned-concerned.result) c.intersection-turns.ensures
     ∙ ap (intersection_of (intersection_of r.harts r.turns)) named in

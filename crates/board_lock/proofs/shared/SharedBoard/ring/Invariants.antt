@@ -3,7 +3,7 @@ use Rattle.hart_mask.specs.Ids.{has}
 use Rattle.board_lock.proofs.shared.SharedBoard.ring.Given as goal
 
 abbrev pub invariant-loop-h : goal.invariant-loop-h
-invariant-loop-h g l = (h : ℕ) → has l.left h ≡ true → h < g.K.Room.opening.harts
+invariant-loop-h g l = (h : ℕ) → has l.left h ≡ true → h < g.K.Room.opening.config.harts
 
 abbrev pub decreases-loop-h : goal.decreases-loop-h
 decreases-loop-h g l = length l.left

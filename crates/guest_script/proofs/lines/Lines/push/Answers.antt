@@ -1,18 +1,18 @@
 use Rattle.std.proofs.Common.{◌-◌, arith}
-use Rattle.guest_script.specs.Packing.{op_numbers}
+use Rattle.guest_script.specs.Packing.{step_numbers}
 use Rattle.guest_script.proofs.Packed.{IsPut, put_from, put_lines, put_within}
 use Rattle.guest_script.proofs.lines.Lines.push.Goals as goal
 
 abbrev Put : goal.After-push_reserved → Type 0
 Put c = IsPut c.self.inside.numbers.items c.put-said.new.numbers.items c.args.line.now
-    (record { number = c.args.line.now.number; from = c.len-from.result; actor = c.actor_number.result; op = c.put-op.result; op_count = c.len-middle.result - c.len-from.result; said = c.put-said.result })
+    (record { number = c.args.line.now.number; from = c.len-from.result; actor = c.step_number.result; op = c.put_step-op.result; op_count = c.len-middle.result - c.len-from.result; said = c.put-said.result })
 
 put : (c : goal.After-push_reserved) → Put c
 put c =
-    put_from c.self.inside.numbers.items c.put-op.new.numbers.items c.put-said.new.numbers.items c.args.line.now c.put-op.result (op_numbers c.args.line.now.op) c.put-said.result c.actor_number.result c.len-from.result
+    put_from c.self.inside.numbers.items c.put_step-op.new.numbers.items c.put-said.new.numbers.items c.args.line.now c.put_step-op.result (step_numbers c.args.line.now.step) c.put-said.result c.step_number.result c.len-from.result
     (c.len-middle.result - c.len-from.result)
-    (rw c.reserve-2.ensures.items at c.put-op.ensures.numbers) c.put-said.ensures.numbers c.put-said.ensures.shape c.actor_number.ensures (omega arith) (omega arith) c.requires.actor
-    c.put-op.ensures.made c.put-said.ensures.made
+    (rw c.reserve-2.ensures.items at c.put_step-op.ensures.numbers) c.put-said.ensures.numbers c.put-said.ensures.shape c.step_number.ensures (omega arith) (omega arith)
+    c.put_step-op.ensures.made c.put-said.ensures.made
 
 pub invariant_of-self-2 : goal.invariant_of-self-2
 invariant_of-self-2 c =

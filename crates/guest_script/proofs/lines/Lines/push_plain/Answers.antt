@@ -1,7 +1,8 @@
 use Rattle.std.proofs.Common.{arith, take}
 use Rattle.std.proofs.lemmas.List.{length-take}
 use Rattle.guest_script.specs.KeptLines.{plain_line}
-use Rattle.guest_script.proofs.Packed.{IsPut, put_from, put_lines, put_within}
+use Rattle.guest_script.specs.Packing.{op_made}
+use Rattle.guest_script.proofs.Packed.{IsPut, put_from, put_lines, put_within, step_kept}
 use Rattle.guest_script.proofs.PlainShapes.{kept_makes}
 use Rattle.guest_script.proofs.lines.Lines.push_plain.Goals as goal
 
@@ -15,8 +16,9 @@ put c =
     let some = length-take count c.args.numbers.now in
     put_from c.self.inside.numbers.items c.put_all.new.numbers.items c.put-said.new.numbers.items (plain_line c.args.number c.args.plain c.args.numbers.now) c.args.plain.op (take count c.args.numbers.now) c.put-said.result c.actor_number.result
     c.len-from.result count
-    (rw c.reserve-2.ensures.items at c.put_all.ensures.numbers) c.put-said.ensures.numbers c.put-said.ensures.shape c.actor_number.ensures (omega arith) (omega (arith, some, c.kept_count-count.ensures.bound)) c.requires.actor
-    (rw c.kept_count-count.ensures.count (kept_makes c.args.plain.op c.args.numbers.now)) c.put-said.ensures.made
+    (rw c.reserve-2.ensures.items at c.put_all.ensures.numbers) c.put-said.ensures.numbers c.put-said.ensures.shape c.actor_number.ensures (omega arith) (omega (arith, some, c.kept_count-count.ensures.bound))
+    (step_kept c.args.plain.actor (op_made c.args.plain.op c.args.numbers.now) c.args.plain.op (take count c.args.numbers.now) c.requires.actor (rw c.kept_count-count.ensures.count (kept_makes c.args.plain.op c.args.numbers.now)))
+    c.put-said.ensures.made
 
 pub invariant_of-self-2 : goal.invariant_of-self-2
 invariant_of-self-2 c =

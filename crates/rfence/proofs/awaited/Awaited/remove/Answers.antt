@@ -1,5 +1,4 @@
-use Rattle.std.proofs.Common.{◌≡◌, ◌-◌, length, ap, ◌∙◌, sym}
-use Rattle.std.specs.Int.{from_bool}
+use Rattle.std.proofs.Common.{◌-◌, length, ap, ◌∙◌, sym}
 use Rattle.rfence.proofs.Awaiting.{without-count}
 use Rattle.rfence.proofs.awaited.Awaited.remove.Goals as goal
 

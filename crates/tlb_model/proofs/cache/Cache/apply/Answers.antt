@@ -76,6 +76,6 @@ returns g c =
     let n = c.self.inside.next in
     let places = c.self.inside.places.items in
     let covers = g.E.Cached.covers c.args.flush in
-    let all = fence_ends (λ (fill : Numbered g.row.E.Denot). not (covers fill.item)) covers (λ fill. refl) n 16 places c.self.inside.dropped c.loop-left.dropped
+    let all = fence_ends (λ (fill : Numbered g.row.E.Denot). not (covers fill.item)) covers (λ fill. refl) n 16 places c.self.inside.dates c.self.inside.dropped c.loop-left.dropped
     (rw (← c.loop-left-test.false) c.loop-left.invariant.1) in
     rw (← c.self.view_is) (same_contents n n _ _ refl all)

@@ -2,7 +2,7 @@ use Rattle.std.proofs.Common.{◌≡◌, ◌≢◌, ℕ, ◌-◌, ◌*◌, ◌^�
 use Rattle.std.specs.Int.{w16}
 use Rattle.std.specs.List.{refill}
 use Rattle.std.proofs.lemmas.Nat.Bits.{bit_at_clear_other, bit_at_clear_same}
-use Rattle.std.proofs.lemmas.List.{length-set}
+use Rattle.std.proofs.lemmas.List.{get_or-set_other, get_or-set_same, length-set}
 use Rattle.tlb_model.proofs.Places.{eq_fails, eq_holds, filled-contents, get-append_here, get-append_other, get-set_here, get-set_other, refill-same}
 use Rattle.tlb_model.proofs.cache.Cache.fill.Goals as goal
 use Rattle.tlb_model.proofs.cache.Cache.fill.Goals.{then-is_full, else-is_full}
@@ -13,6 +13,10 @@ returns g c =
     let places = c.self.inside.places.items in
     let item = c.args.item in
     let d = c.self.inside.dropped in
+    let ds = c.self.inside.dates in
+    let es = set ds (n % 16) c.args.date in
+    let day = get_or-set_same ds (n % 16) c.args.date 0 (omega arith) in
+    let days = λ (i : ℕ) (other : i ≢ n % 16). get_or-set_other ds (n % 16) i c.args.date 0 other in
     let v = bit_and d (65535 - 1 * 2 ^ (n % 16) % 65536) in
     let clear = bit_at_clear_same w16 d (n % 16) (omega arith) in
     let bits = λ (i : ℕ) (below : i < 16) (other : i ≢ n % 16). bit_at_clear_other w16 d (n % 16) (omega arith) i below other in
@@ -26,11 +30,11 @@ returns g c =
           ∙ ap (λ xs. set xs (n % 16) item) value in
           let within = get-set_here places (n % 16) item (omega (arith, full, c.self.invariant)) in
           rw (w.self-inside-is, written, ← c.self.view_is)
-          (filled-contents n places (set places (n % 16) item) d v item within clear (λ j other. get-set_other places (n % 16) item j other) bits)
+          (filled-contents n places (set places (n % 16) item) ds es d v c.args.date item within day clear (λ j other. get-set_other places (n % 16) item j other) days bits)
       | else-is_full w ↦
           let last : n % 16 ≡ length places = omega (arith, eq_fails (length places) 16 (sym answer ∙ w.if-is_full.false), c.self.invariant) in
           rw (w.self-inside-is, w.push.ensures.items, ← c.self.view_is)
-          (filled-contents n places (places ++ item ∷ []) d v item
-          (ap (slice_get (places ++ item ∷ [])) last ∙ get-append_here places item) clear
-          (λ j other. get-append_other places item j (λ e. other (e ∙ sym last))) bits)
+          (filled-contents n places (places ++ item ∷ []) ds es d v c.args.date item
+          (ap (slice_get (places ++ item ∷ [])) last ∙ get-append_here places item) day clear
+          (λ j other. get-append_other places item j (λ e. other (e ∙ sym last))) days bits)
     ]

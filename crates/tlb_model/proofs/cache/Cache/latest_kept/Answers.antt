@@ -15,7 +15,7 @@ returns-in-Some g c =
     let places = c.self.inside.places.items in
     let w = c.kept_places-kept.result in
     let h = g.E.Cached.holds c.args.key in
-    let all = hit-marked h n places c.self.inside.dropped w c.self.invariant (omega (arith, c.kept_places-kept.ensures.within, ap (λ k. 2 ^ k) c.len.ensures.value))
+    let all = hit-marked h n places c.self.inside.dates c.self.inside.dropped w c.self.invariant (omega (arith, c.kept_places-kept.ensures.within, ap (λ k. 2 ^ k) c.len.ensures.value))
     (λ q below. c.kept_places-kept.ensures.kept q (omega (arith, below, c.len.ensures.value))) in
     let newer : find h (marked (length places) places (w % 2 ^ (n % 16))) ≡ Some c.in-Some.item =
     sym (c.latest_at.ensures ∙ ap (λ xs. find h (marked (length xs) xs (w % (1 * 2 ^ (n % 16) % 4294967296)))) c.deref.ensures.0
@@ -28,7 +28,7 @@ returns-in-None g c =
     let places = c.self.inside.places.items in
     let w = c.kept_places-kept.result in
     let h = g.E.Cached.holds c.args.key in
-    let all = hit-marked h n places c.self.inside.dropped w c.self.invariant (omega (arith, c.kept_places-kept.ensures.within, ap (λ k. 2 ^ k) c.len.ensures.value))
+    let all = hit-marked h n places c.self.inside.dates c.self.inside.dropped w c.self.invariant (omega (arith, c.kept_places-kept.ensures.within, ap (λ k. 2 ^ k) c.len.ensures.value))
     (λ q below. c.kept_places-kept.ensures.kept q (omega (arith, below, c.len.ensures.value))) in
     let newer : find h (marked (length places) places (w % 2 ^ (n % 16))) ≡ None =
     sym (c.latest_at.ensures ∙ ap (λ xs. find h (marked (length xs) xs (w % (1 * 2 ^ (n % 16) % 4294967296)))) c.deref.ensures.0

@@ -6,5 +6,5 @@ use Rattle.tlb_model.proofs.cache.Cache.live.Goals as goal
 
 pub returns-clause-room : goal.returns-clause-room
 returns-clause-room g c =
-    let fills = seen c.self.inside.next 16 c.deref.result.now c.self.inside.dropped in
-    rw c.of.ensures (omega (arith, length-seen c.self.inside.next 16 c.deref.result.now c.self.inside.dropped, length-reverse fills))
+    let fills = seen c.self.inside.next 16 c.deref.result.now c.self.inside.dates c.self.inside.dropped in
+    rw c.of.ensures (omega (arith, length-seen c.self.inside.next 16 c.deref.result.now c.self.inside.dates c.self.inside.dropped, length-reverse fills))

@@ -12,10 +12,10 @@ returns-in-Some g c =
     let places = c.self.inside.places.items in
     let h = g.E.Cached.holds c.args.key in
     let none : c.self.inside.dropped ≡ 0 = omega (arith, c.if-self-ne0.false) in
-    let all : option_map (λ (fill : Numbered g.row.E.Denot). fill.item) (find (λ (fill : Numbered g.row.E.Denot). h fill.item) (seen n 16 places c.self.inside.dropped))
+    let all : option_map (λ (fill : Numbered g.row.E.Denot). fill.item) (find (λ (fill : Numbered g.row.E.Denot). h fill.item) (seen n 16 places c.self.inside.dates c.self.inside.dropped))
     ≡ option_or (find h (reverse (take (n % 16) places))) (find h (reverse (drop (n % 16) places))) =
-    ap (λ d. option_map (λ (fill : Numbered g.row.E.Denot). fill.item) (find (λ (fill : Numbered g.row.E.Denot). h fill.item) (seen n 16 places d))) none
-    ∙ hit-halves h n places c.self.invariant in
+    ap (λ d. option_map (λ (fill : Numbered g.row.E.Denot). fill.item) (find (λ (fill : Numbered g.row.E.Denot). h fill.item) (seen n 16 places c.self.inside.dates d))) none
+    ∙ hit-halves h n places c.self.inside.dates c.self.invariant in
     let front = c.split_at.ensures.front ∙ ap (take (n % 16)) c.deref.ensures.0 in
     let newer : find h (reverse (take (n % 16) places)) ≡ Some c.in-Some.item = sym (c.latest.ensures ∙ ap (λ xs. find h (reverse xs)) front) ∙ c.in-Some.is in
     rw (← c.self.view_is) (sym (all ∙ ap (λ o. option_or o (find h (reverse (drop (n % 16) places)))) newer))
@@ -26,10 +26,10 @@ returns-in-None g c =
     let places = c.self.inside.places.items in
     let h = g.E.Cached.holds c.args.key in
     let none : c.self.inside.dropped ≡ 0 = omega (arith, c.if-self-ne0.false) in
-    let all : option_map (λ (fill : Numbered g.row.E.Denot). fill.item) (find (λ (fill : Numbered g.row.E.Denot). h fill.item) (seen n 16 places c.self.inside.dropped))
+    let all : option_map (λ (fill : Numbered g.row.E.Denot). fill.item) (find (λ (fill : Numbered g.row.E.Denot). h fill.item) (seen n 16 places c.self.inside.dates c.self.inside.dropped))
     ≡ option_or (find h (reverse (take (n % 16) places))) (find h (reverse (drop (n % 16) places))) =
-    ap (λ d. option_map (λ (fill : Numbered g.row.E.Denot). fill.item) (find (λ (fill : Numbered g.row.E.Denot). h fill.item) (seen n 16 places d))) none
-    ∙ hit-halves h n places c.self.invariant in
+    ap (λ d. option_map (λ (fill : Numbered g.row.E.Denot). fill.item) (find (λ (fill : Numbered g.row.E.Denot). h fill.item) (seen n 16 places c.self.inside.dates d))) none
+    ∙ hit-halves h n places c.self.inside.dates c.self.invariant in
     let front = c.split_at.ensures.front ∙ ap (take (n % 16)) c.deref.ensures.0 in
     let back = c.split_at.ensures.back ∙ ap (drop (n % 16)) c.deref.ensures.0 in
     let newer : find h (reverse (take (n % 16) places)) ≡ None = sym (c.latest.ensures ∙ ap (λ xs. find h (reverse xs)) front) ∙ c.in-None.is in

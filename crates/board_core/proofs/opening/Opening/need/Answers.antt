@@ -1,0 +1,37 @@
+use Rattle.std.proofs.Common.{[], ap, ◌∙◌, arith}
+use Rattle.rfence.proofs.Bounds.{are-bounded}
+use Rattle.board_core.specs.Cuts.{opening_in}
+use Rattle.board_core.specs.Fences.{turns}
+use Rattle.board_core.specs.Opening.{Opening}
+use Rattle.board_core.proofs.opening.Opening.need.Goals as goal
+
+pub returns-clause-need : goal.returns-clause-need
+returns-clause-need c =
+    let o = opening_in c.self.inside.config c.self.inside.places c.self.inside.machine in
+    let standing = c.self.invariant.1.fences in
+    rw (← c.self.view_is) (c.need.ensures.need o.fences o.config.harts (turns o []) standing.stands standing.right)
+
+pub returns-clause-limit : goal.returns-clause-limit
+returns-clause-limit c =
+    let o = opening_in c.self.inside.config c.self.inside.places c.self.inside.machine in
+    let standing = c.self.invariant.1.fences in
+    let same_config = ap (λ (o : Opening). o.config.harts) c.self.view_is in
+    let bounded = are-bounded o.fences o.config.harts (turns o []) c.args.caller standing.right in
+    let good = c.self.invariant.0.good in
+    omega (arith, c.need.ensures.need o.fences o.config.harts (turns o []) standing.stands standing.right, bounded.each c.args.t, good.some_harts)
+
+pub returns-clause-no_caller : goal.returns-clause-no_caller
+returns-clause-no_caller c = λ outside.
+    let o = opening_in c.self.inside.config c.self.inside.places c.self.inside.machine in
+    let standing = c.self.invariant.1.fences in
+    let same_config = ap (λ (o : Opening). o.config.harts) c.self.view_is in
+    let bounded = are-bounded o.fences o.config.harts (turns o []) c.args.caller standing.right in
+    c.need.ensures.need o.fences o.config.harts (turns o []) standing.stands standing.right ∙ bounded.no_caller (omega arith) c.args.t
+
+pub returns-clause-no_target : goal.returns-clause-no_target
+returns-clause-no_target c = λ outside.
+    let o = opening_in c.self.inside.config c.self.inside.places c.self.inside.machine in
+    let standing = c.self.invariant.1.fences in
+    let same_config = ap (λ (o : Opening). o.config.harts) c.self.view_is in
+    let bounded = are-bounded o.fences o.config.harts (turns o []) c.args.caller standing.right in
+    c.need.ensures.need o.fences o.config.harts (turns o []) standing.stands standing.right ∙ bounded.no_target c.args.t (omega arith)

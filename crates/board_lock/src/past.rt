@@ -1,0 +1,65 @@
+ghost use Rattle.std.specs.Prelude.{◌≡◌, ℕ, ◌+◌, ◌≤◌, Some, slice_get, length};
+ghost use Rattle.board_core.specs.Limits.{IsGood};
+ghost use Rattle.board_core.specs.Replies.{IsLegal};
+ghost use Rattle.board_lock.specs.Events.{IsPlaced, events_in, placed_of};
+
+use crate::receipts::Receipt;
+use crate::records::find;
+use crate::rooms::Room;
+use board_core::{Event, Opening, Segment};
+use chronicle::Whole;
+use std::marker::{Model, PhantomData};
+
+/// What a record left when its board went on: what the board began with, and its history from there, in which every receipt of
+/// the room stands.
+#[derive(Drop)]
+pub struct Past<K: Room> {
+    pub(crate) segment: Segment,
+    pub(crate) log: Whole<Event>,
+    pub(crate) room: PhantomData<K>,
+}
+
+impl<K: Room> Model for Past<K> {
+    ghost use Rattle.std.specs.Prelude.{reverse};
+    ghost use Rattle.board_core.specs.Course.{Course};
+    ghost use Rattle.board_lock.specs.Kept.{IsPast};
+
+    ghost Value = { Course };
+
+    ghost view = { λ p. record { opening = p.segment.opening; past = reverse p.segment.events.items } };
+
+    ghost invariant = { λ p. IsPast K.opening K.log p.segment.opening p.segment.events.items p.log.name p.log.list };
+}
+
+impl<K: Room> Past<K> {
+    /// What the board began with.
+    pub fn opening(&self) -> &Opening
+        ensures { result.now ≡ self.now.opening }
+    {
+        &self.segment.opening
+    }
+
+    /// The accepted events, oldest first. They are a legal history of what the board began with, so all that `board_laws` says
+    /// of those holds of it.
+    pub fn events(&self) -> &[Event]
+        ensures events { result.now ≡ events_in self.now }
+        ensures good { IsGood self.now.opening.config }
+        ensures legal { IsLegal self.now.opening self.now.past }
+        ensures within { length result.now ≤ self.now.opening.config.limit }
+    {
+        &self.segment.events
+    }
+
+    /// The event of a receipt: it was made by the receipt's actor, asked what the receipt says and was answered so, it
+    /// stands at the receipt's place, and it is the member of the receipt's ordinal of its actor's events.
+    pub fn look(&self, receipt: &Receipt<K>) -> &Event
+        ensures told { (result.now.actor ≡ receipt.now.actor) × (result.now.op ≡ receipt.now.op)
+            × (result.now.reply ≡ receipt.now.reply) }
+        ensures place { IsPlaced self.now receipt.now.place result.now }
+        ensures member { slice_get (placed_of self.now receipt.now.actor) receipt.now.ordinal
+            ≡ Some (receipt.now.place, result.now) }
+    {
+        let first = self.segment.opening.places();
+        find(&self.segment.events, first, &self.log, receipt)
+    }
+}

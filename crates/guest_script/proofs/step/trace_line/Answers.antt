@@ -1,0 +1,16 @@
+use Rattle.std.proofs.Common.{true, Option, Some}
+use Rattle.board_core.specs.declared.event.Actor.{Actor}
+use Rattle.board_core.specs.declared.event.Op.{Op}
+use Rattle.guest_script.specs.declared.said.Said.{Said}
+use Rattle.guest_script.specs.declared.script.Line.{Line}
+use Rattle.guest_script.specs.FirstFault.{step_tests}
+use Rattle.guest_script.specs.Values.{after_arrow, before_arrow, said_in, step_in, words_in}
+use Rattle.guest_script.proofs.Named.{made_good}
+use Rattle.guest_script.proofs.step.trace_line.Goals as goal
+
+pub returns-clause-read : goal.returns-clause-read
+returns-clause-read c =
+    let first = c.args.first.now in
+    let words = words_in c.args.rest.now in
+    let line : Option (Actor × Op) × Said → Line = λ told. record { number = c.args.n; step = told.0; said = Some told.1 } in
+    made_good line (step_tests true first words) (step_in first (before_arrow words), said_in (after_arrow words)) c.in_ok-told.told c.in_ok-told.ensures.read

@@ -1,0 +1,151 @@
+use std::alloc::{AllocError, Global};
+use std::fmt::Write;
+use tallies::Ends;
+
+/// What is told of all files: points of the Test Anything Protocol, version 14.
+#[derive(Drop)]
+pub struct Report {
+    /// What isn't printed yet.
+    pub text: String,
+    points: u64,
+    failed: u64,
+    files: u64,
+    records: u64,
+    ends: Ends,
+    is_cut: bool,
+}
+
+impl Report {
+    /// Before any file.
+    pub fn new(alloc: Global) -> Result<Report, AllocError> {
+        let mut report = Report::blank(alloc);
+        report.text.push_str("TAP version 14\n")?;
+        Ok(report)
+    }
+
+    /// A part of a report in which nothing stands yet.
+    pub fn blank(alloc: Global) -> Report {
+        Report {
+            text: String::new(alloc),
+            points: 0,
+            failed: 0,
+            files: 0,
+            records: 0,
+            ends: Ends::new(),
+            is_cut: false,
+        }
+    }
+
+    /// A file begins.
+    pub fn begin_file(&mut self) {
+        self.files = self.files.saturating_add(1);
+    }
+
+    /// Orders of a program ended so.
+    pub fn count_ends(&mut self, ends: Ends) {
+        self.ends.add(ends);
+    }
+
+    /// Not all orders were tried.
+    pub fn cut_short(&mut self) {
+        self.is_cut = true;
+    }
+
+    /// So many different records of a program were met.
+    pub fn count_records(&mut self, many: usize) {
+        self.records = self.records.saturating_add(many as u64);
+    }
+
+    /// Puts a point, and what it is about.
+    pub fn point(&mut self, holds: bool, about: &str) -> Result<(), AllocError> {
+        self.points = self.points.saturating_add(1);
+        if !holds {
+            self.failed = self.failed.saturating_add(1);
+        }
+        let not = if holds { "" } else { "not " };
+        let number = self.points;
+        write!(self.text, "{not}ok {number} - ")?;
+        self.put_escaped(about)?;
+        self.text.push('\n')?;
+        Ok(())
+    }
+
+    /// Puts a point of which nothing was tried.
+    pub fn skip(&mut self, about: &str) -> Result<(), AllocError> {
+        self.points = self.points.saturating_add(1);
+        let number = self.points;
+        write!(self.text, "ok {number} - ")?;
+        self.put_escaped(about)?;
+        self.text.push_str(" # SKIP not tried\n")
+    }
+
+    /// Tells of the condition of a line that its patterns met no step.
+    pub fn never_met(&mut self, line: u64) -> Result<(), AllocError> {
+        write!(
+            self.text,
+            "# line {line}: never met: no step has this actor and operation\n"
+        )
+    }
+
+    /// Puts a text so that none of its letters means something to a reader of points.
+    fn put_escaped(&mut self, text: &str) -> Result<(), AllocError> {
+        for letter in text.chars() {
+            if letter == '#' || letter == '\\' {
+                self.text.push('\\')?;
+            }
+            self.text
+                .push(if letter.is_control() { '?' } else { letter })?;
+        }
+        Ok(())
+    }
+
+    /// Puts a text in quotes, as a value of a point's detail.
+    pub fn put_quoted(&mut self, text: &str) -> Result<(), AllocError> {
+        self.text.push('"')?;
+        for letter in text.chars() {
+            if letter == '"' || letter == '\\' {
+                self.text.push('\\')?;
+            }
+            self.text
+                .push(if letter.is_control() { '?' } else { letter })?;
+        }
+        self.text.push('"')?;
+        Ok(())
+    }
+
+    /// Puts the plan and the summary.
+    pub fn end(&mut self) -> Result<(), AllocError> {
+        let Ends {
+            off,
+            full,
+            quiet,
+            stuck,
+        } = self.ends;
+        let orders = self.ends.orders();
+        write!(
+            self.text,
+            "1..{}\n# {} points, {} failed\n",
+            self.points, self.points, self.failed
+        )?;
+        write!(
+            self.text,
+            "# {} files, {orders} orders, {} different records\n",
+            self.files, self.records
+        )?;
+        write!(
+            self.text,
+            "# ends: {off} off, {full} history-full, {quiet} quiet, {stuck} stuck\n"
+        )?;
+
+        if self.is_cut {
+            self.text
+                .push_str("# cut short: not all orders were tried\n")?;
+        }
+        Ok(())
+    }
+
+    /// Whether no point failed.
+    pub fn all_hold(&self) -> bool {
+        self.failed == 0
+    }
+}

@@ -1,0 +1,14 @@
+//! The fence calls that harts are in.
+
+use hart_mask::HartSet;
+
+/// A fence call that a hart is in: where it asked, whom, and what is dropped there (SBI 8).
+#[derive(Clone, Copy, Debug, PartialEq, Eq)]
+pub struct FenceCall<F> {
+    /// The place of the event by which the hart asked, among all events of the board.
+    pub place: u64,
+    /// The harts that it asked; the hart itself may be one of them.
+    pub asked: HartSet,
+    /// What the fence drops.
+    pub flush: F,
+}

@@ -1,0 +1,64 @@
+//! Schedules and traces that a caller builds, line by line.
+
+use anyhow::Result;
+use board_core::{Actor, Op, Reply};
+use guest_script::{Body, Line, Lines, Said};
+use std::alloc::Global;
+
+/// The most that a line's number can be.
+const MOST: u64 = (1 << 28) - 1;
+
+/// A line of hart `h` that says something, or nothing.
+fn advance(number: u64, h: u64, said: Option<Said>) -> Line {
+    let step = Some((Actor::Hart(h), Op::Advance));
+    Line { number, step, said }
+}
+
+/// Adds lines one by one, and tells of each whether it could follow, and how many there are then.
+fn show_added<R: AllocGlobal + Print>(rt: &R, added: &[Line]) -> Result<Lines> {
+    let mut lines = Lines::new(rt.alloc());
+    for line in added {
+        let answer = lines.add(line);
+        println!(rt;
+            "{} {:?} {answer:?}: {}",
+            line.number,
+            line.step,
+            lines.len()
+        )?;
+    }
+    Ok(lines)
+}
+
+/// Builds a schedule and a trace, and shows which lines can't follow.
+pub fn show_built<R: AllocGlobal + Print>(rt: &R) -> Result<()> {
+    let done = Some(Said::of(&Ok(Reply::Done)));
+    let schedule = [
+        advance(1, 0, None),
+        advance(1, 127, None),
+        advance(2, 128, None),
+        advance(3, 0, done),
+        advance(MOST, 1, None),
+        advance(MOST + 1, 1, None),
+    ];
+    let built = Body::Schedule(show_added(rt, &schedule)?);
+    println!(rt; "built:{}", told(&built, rt.alloc())?)?;
+    let trace = [
+        advance(1, 0, done),
+        advance(2, 0, None),
+        advance(3, 2, done),
+    ];
+    let built = Body::Trace(show_added(rt, &trace)?);
+    println!(rt; "built:{}", told(&built, rt.alloc())?)?;
+    Ok(())
+}
+
+/// The lines of a schedule or a trace, one behind the other.
+fn told(body: &Body, alloc: Global) -> Result<String> {
+    let mut text = String::new(alloc);
+    if let Body::Schedule(lines) | Body::Trace(lines) = body {
+        for line in lines.iter() {
+            text.push_str(&format!(in alloc; " ({} {:?})", line.number(), line.step())?)?;
+        }
+    }
+    Ok(text)
+}

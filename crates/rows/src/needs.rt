@@ -1,0 +1,127 @@
+//! How many serves fence calls need: by steps on a board of three harts, and where all harts fence each other.
+
+use anyhow::Result;
+use board_core::{Actor, Board, Config, Op, Phase, USUAL_ASID_LEN, USUAL_WIDTH};
+use sbi_abi::Regs;
+use std::alloc::Global;
+
+const RFENCE: u64 = 0x5246_4e43;
+
+const HSM: u64 = 0x48_534d;
+
+const SRST: u64 = 0x5352_5354;
+
+const START: u64 = 0x8000_0000;
+
+/// A call by its first three arguments.
+fn ecall(eid: u64, fid: u64, first: u64, second: u64, third: u64) -> Op {
+    let a = [first, second, third, 0, 0, 0];
+    Op::Ecall(Regs { eid, fid, a })
+}
+
+/// A full fence of the harts of a hart list.
+fn fence(mask: u64, base: u64) -> Op {
+    ecall(RFENCE, 1, mask, base, 0)
+}
+
+/// A board of so many harts, all of them started by hart 0.
+fn started(alloc: Global, harts: u64) -> Result<Board> {
+    let config = Config {
+        harts,
+        pages: 1,
+        limit: 20_000,
+        boot_hart: 0,
+        boot_addr: START,
+        boot_opaque: 0,
+        asid_len: USUAL_ASID_LEN,
+        width: USUAL_WIDTH,
+    };
+    let mut board = Board::new(alloc, &config)?;
+    board.step(Actor::Hart(0), Op::Advance)?;
+    for h in 1..harts {
+        board.step(Actor::Hart(0), ecall(HSM, 0, h, START, 0))?;
+        board.step(Actor::Hart(h), Op::Advance)?;
+    }
+    Ok(board)
+}
+
+/// Makes a step, and prints whether it was accepted, which harts are inside a fence call now, and what their calls need.
+fn show_step<R: Print>(rt: &R, board: &mut Board, h: u64, name: &str, op: Op) -> Result<()> {
+    let accepted = board.step(Actor::Hart(h), op).is_ok();
+    print!(rt; "{h} {name}: {accepted}")?;
+    let harts = board.config().harts;
+    for caller in 0..harts {
+        if board.phase(caller) == Phase::Inside {
+            print!(rt; " {caller} is inside")?;
+        }
+        for t in 0..harts {
+            let need = board.need(caller, t);
+            if need > 0 {
+                print!(rt; " ({caller} {t} {need})")?;
+            }
+        }
+    }
+    println!(rt; "")?;
+    Ok(())
+}
+
+/// What calls need of harts, and of such as aren't there, while harts 0 and 2 fence hart 1, which then does this instead of
+/// its first serve.
+fn show_three<R: AllocGlobal + Print>(rt: &R, name: &str, instead: Op) -> Result<()> {
+    let mut board = started(rt.alloc(), 3)?;
+    show_step(rt, &mut board, 0, "fences 1", fence(0b010, 0))?;
+    show_step(rt, &mut board, 2, "fences 1", fence(0b010, 0))?;
+    for (caller, t) in [(0, 3), (3, 1), (0, u64::MAX), (u64::MAX, 1)] {
+        print!(rt; "{} ", board.need(caller, t))?;
+    }
+    println!(rt; "where no hart is")?;
+    show_step(rt, &mut board, 1, name, instead)?;
+    show_step(rt, &mut board, 0, "polls", Op::Poll)?;
+    show_step(rt, &mut board, 2, "polls", Op::Poll)?;
+    show_step(rt, &mut board, 1, "serves", Op::Serve)?;
+    show_step(rt, &mut board, 2, "polls", Op::Poll)?;
+    show_step(rt, &mut board, 2, "fences all", fence(0, u64::MAX))
+}
+
+/// Lets hart `t` serve as often as the call of hart `caller` needs of it: whether the call could be polled before a serve.
+fn serve_all(board: &mut Board, caller: u64, t: u64) -> Result<bool> {
+    let mut polled = false;
+    for _ in 0..board.need(caller, t) {
+        polled |= board.step(Actor::Hart(caller), Op::Poll).is_ok();
+        board.step(Actor::Hart(t), Op::Serve)?;
+    }
+    Ok(polled)
+}
+
+/// All harts of a board fence all of it, each in its turn, so that the last one's fence waits behind all others. It can be
+/// polled after the serves that it needs, and not before.
+fn show_crossfire<R: AllocGlobal + Print>(rt: &R, harts: u64) -> Result<()> {
+    let mut board = started(rt.alloc(), harts)?;
+    for h in 0..harts {
+        board.step(Actor::Hart(h), fence(0, u64::MAX))?;
+    }
+    let last = harts.saturating_sub(1);
+    let busiest = board.need(last, 0);
+    let before = board.history().len();
+    let mut early = false;
+    for t in 0..last {
+        early |= serve_all(&mut board, last, t)?;
+    }
+    let serves = board.history().len().saturating_sub(before);
+    let polled = board.step(Actor::Hart(last), Op::Poll).is_ok();
+    println!(rt;
+        "{harts} harts: {busiest} serves of hart 0, {serves} of all; polled before: {early}, then: {polled}"
+    )?;
+    Ok(())
+}
+
+/// Shows what fence calls need.
+pub fn show_needs<R: AllocGlobal + Print>(rt: &R) -> Result<()> {
+    show_three(rt, "serves", Op::Serve)?;
+    show_three(rt, "stops", ecall(HSM, 1, 0, 0, 0))?;
+    show_three(rt, "resets", ecall(SRST, 0, 2, 0, 0))?;
+    for harts in [1, 2, 8, 128] {
+        show_crossfire(rt, harts)?;
+    }
+    Ok(())
+}

@@ -1,0 +1,79 @@
+ghost use Rattle.std.specs.Prelude.{◌<◌};
+
+use std::io;
+use std::rt::Clock;
+use std::time::Instant;
+
+/// How many orders are tried before the time is looked at again: at first, and at most.
+const FIRST_BATCH: u64 = 16;
+
+const LAST_BATCH: u64 = 65_536;
+
+/// How long a batch takes, in milliseconds: from about a tenth of a second to a half.
+const SHORT: u64 = 100;
+
+const LONG: u64 = 500;
+
+/// How long nothing is told of the progress, in milliseconds.
+const QUIET: u64 = 2_000;
+
+/// How fast orders are tried.
+#[derive(Clone, Copy, Debug)]
+pub(crate) struct Pace {
+    begun: Instant,
+    last: u64,
+    batch: u64,
+}
+
+impl Pace {
+    /// From now on.
+    pub(crate) fn begin(clock: &impl Clock) -> io::Result<Pace> {
+        Ok(Pace {
+            begun: Instant::now(clock)?,
+            last: 0,
+            batch: FIRST_BATCH,
+        })
+    }
+
+    /// How many orders are tried next.
+    pub(crate) fn batch(&self) -> u64
+        ensures { 0 < result }
+    {
+        self.batch.max(1)
+    }
+
+    /// A batch was tried.
+    pub(crate) fn see(&mut self, clock: &impl Clock) -> io::Result<()> {
+        let now = millis(&self.begun, clock)?;
+        let spent = now.saturating_sub(self.last);
+        self.last = now;
+        if spent < SHORT {
+            self.batch = self.batch.saturating_mul(2).min(LAST_BATCH);
+        } else if spent > LONG {
+            self.batch /= 2;
+        }
+        Ok(())
+    }
+
+    /// Tells how many of so many orders or runs were tried, and how long the others will take, where it takes long.
+    pub(crate) fn tell(&self, rt: &impl Eprint, name: &str, tried: u64, of: u64) {
+        if self.last < QUIET {
+            return;
+        }
+        let rate = tried.saturating_mul(1_000) / self.last.max(1);
+        let left = of.saturating_sub(tried) / rate.max(1);
+        let _ = eprint!(rt; "\r\x1b[K{tried} of {of} {name}, {rate} a second, {left} s to go");
+    }
+
+    /// Takes back what was told last.
+    pub(crate) fn end(&self, rt: &impl Eprint) {
+        if self.last >= QUIET {
+            let _ = eprint!(rt; "\r\x1b[K");
+        }
+    }
+}
+
+fn millis(begun: &Instant, clock: &impl Clock) -> io::Result<u64> {
+    let spent = begun.elapsed(clock)?.as_millis();
+    Ok(u64::try_from(spent).unwrap_or(u64::MAX))
+}

@@ -1,0 +1,126 @@
+use conditions::Condition;
+use guest_script::{next_word, unsigned_number};
+use std::str;
+
+/// A file under test.
+#[derive(Clone, Copy, Debug)]
+pub struct Case<'a> {
+    /// Its name, as it was given.
+    pub file: &'a str,
+    /// Its bytes.
+    pub text: &'a [u8],
+    /// Its conditions, in the order of their lines.
+    pub conditions: &'a [Condition],
+}
+
+impl<'a> Case<'a> {
+    /// The file's own name, without its folders.
+    pub fn name(&self) -> &'a str {
+        match self.file.rsplit_once('/') {
+            Some((_, name)) => name,
+            None => self.file,
+        }
+    }
+
+    /// What a line says, without its comment.
+    pub fn said_at(&self, line: u64) -> &'a str {
+        said(self.line(line))
+    }
+
+    /// What the condition of a line asks, without the comment behind it.
+    pub fn asked_at(&self, line: u64) -> &'a str {
+        let text = self.line(line).trim();
+        let (asked, _) = parted(text.strip_prefix("#!").unwrap_or(text));
+        asked.trim()
+    }
+
+    /// The line of an operation in the block at an address, which has so many before it, and what it says.
+    pub fn op_line(&self, addr: u64, before: u64) -> Option<(u64, &'a str)> {
+        let mut is_inside = false;
+        let mut left = before;
+        for (i, text) in self.text.split(|b| *b == b'\n').enumerate() {
+            let Some((word, after)) = next_word(text) else {
+                continue;
+            };
+            match word {
+                b"at" => is_inside = number_in(after) == Some(addr),
+                b"board" | b"clock" => is_inside = false,
+                _ if is_inside && left == 0 => return Some((
+                    i as u64 + 1,
+                    self.said_at(i as u64 + 1),
+                )),
+                _ if is_inside => left -= 1,
+                _ => {}
+            }
+        }
+        None
+    }
+
+    /// The text of a line, from 1.
+    fn line(&self, line: u64) -> &'a str {
+        for (i, found) in self.text.split(|b| *b == b'\n').enumerate() {
+            if i as u64 + 1 == line {
+                return str::from_utf8(found).unwrap_or("");
+            }
+        }
+        ""
+    }
+}
+
+/// What lines of a text say that are asked for in their order, so that the text is gone through once.
+#[derive(Drop)]
+pub struct Walk<'a> {
+    rest: &'a [u8],
+    number: u64,
+}
+
+impl<'a> Walk<'a> {
+    /// Before the first line.
+    pub fn new(text: &'a [u8]) -> Walk<'a> {
+        Walk {
+            rest: text,
+            number: 0,
+        }
+    }
+
+    /// What a line says, without its comment; nothing of one that was passed already.
+    pub fn said_at(&mut self, line: u64) -> &'a str {
+        let mut found: &'a [u8] = b"";
+        for _ in self.number..line {
+            found = self.next_line();
+        }
+        self.number = self.number.max(line);
+        said(str::from_utf8(found).unwrap_or(""))
+    }
+
+    fn next_line(&mut self) -> &'a [u8] {
+        let line = self.rest;
+        match line.iter().position(|b| *b == b'\n') {
+            Some(end) if end < line.len() => {
+                self.rest = &line[end + 1..];
+                &line[..end]
+            }
+            _ => {
+                self.rest = b"";
+                line
+            }
+        }
+    }
+}
+
+/// The number that a text begins with, as the address behind `at`.
+pub fn number_in(text: &[u8]) -> Option<u64> {
+    let (word, _) = next_word(text)?;
+    unsigned_number(word, u64::MAX)
+}
+
+/// What a line's text says, without its comment.
+pub fn said(line: &str) -> &str {
+    let (said, _) = parted(line);
+    said.trim()
+}
+
+/// What stands before a comment, and behind its sign.
+fn parted(text: &str) -> (&str, &str) {
+    text.split_once('#').unwrap_or((text, ""))
+}

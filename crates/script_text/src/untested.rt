@@ -1,0 +1,66 @@
+use crate::spots::{Spot, spot_of};
+use board_core::{Config, USUAL_ASID_LEN, USUAL_WIDTH};
+use guest_script::ScriptFault;
+use std::alloc::{AllocError, Global};
+use std::str;
+
+/// Says where a script has its fault, by the line, the column and the word, and what it is.
+pub fn faulty(alloc: Global, text: &[u8], found: ScriptFault) -> Result<String, AllocError> {
+    let ScriptFault { line, fault } = found;
+    let number = fault.number();
+    if line == 0 {
+        return format!(in alloc; ": {fault} (fault {number})");
+    }
+    let Some(Spot { column, word, what }) = spot_of(text, found) else {
+        return format!(in alloc; ":{line}: {fault} (fault {number})");
+    };
+    match str::from_utf8(word) {
+        Ok("") | Err(_) => format!(in alloc; ":{line}:{column}: {what} (fault {number})"),
+        Ok(word) => format!(in alloc; ":{line}:{column}: {what} '{word}' (fault {number})"),
+    }
+}
+
+/// Says which number of a board line is outside its limits, the first of them.
+pub fn bad_board(alloc: Global, config: &Config) -> Result<String, AllocError> {
+    let Config {
+        harts,
+        pages,
+        limit,
+        boot_hart,
+        boot_addr,
+        boot_opaque: _,
+        asid_len,
+        width,
+    } = *config;
+    if !(1..=128).contains(&harts) {
+        outside(alloc, "HARTS", harts, 128)
+    } else if !(1..=256).contains(&pages) {
+        outside(alloc, "PAGES", pages, 256)
+    } else if !(1..=1_000_000).contains(&limit) {
+        outside(alloc, "LIMIT", limit, 1_000_000)
+    } else if boot_hart >= harts {
+        outside(alloc, "BOOTHART", boot_hart, harts.saturating_sub(1))
+    } else if !with_usual_spaces(config).is_good() {
+        format!(in alloc; ": bad board: BOOTADDR is {boot_addr:#x}, not an even address of the RAM")
+    } else if asid_len > 16 {
+        outside(alloc, "ASIDLEN", asid_len, 16)
+    } else {
+        format!(in alloc; ": bad board: WIDTH is {width}, not 39 or 48")
+    }
+}
+
+/// The board with the address spaces of one whose line leaves them out.
+fn with_usual_spaces(config: &Config) -> Config {
+    Config {
+        asid_len: USUAL_ASID_LEN,
+        width: USUAL_WIDTH,
+        ..*config
+    }
+}
+
+fn outside(alloc: Global, name: &str, number: u64, most: u64) -> Result<String, AllocError> {
+    if number == 0 {
+        return format!(in alloc; ": bad board: {name} is 0, at least 1");
+    }
+    format!(in alloc; ": bad board: {name} is {number}, at most {most}")
+}

@@ -1,0 +1,20 @@
+use Rattle.std.proofs.Common.{◌≡◌, ℕ, ◌∙◌, subst, arith}
+use Rattle.guest_script.specs.Grammar.{content}
+use Rattle.tallies.specs.Findings.{AreFoundOf}
+use Rattle.tallies.proofs.Finding.{found-next}
+use Rattle.tallies.proofs.orders.try_orders.Goals as goal
+
+pub loop-order-preserved : goal.loop-order-preserved
+loop-order-preserved c = (
+  c.try_order_on.ensures.config ∙ c.loop-order.invariant.0,
+  found-next c.args.script.now.config (content c.args.script.now.body) c.args.conditions.now c.args.seed c.args.from c.loop-order.order c.try_order_on.new.board.past c.in_ok-end.end
+      c.loop-order.found c.see.new.self c.in_ok-end.ensures.tried c.in_ok-see.ensures.found c.loop-order.invariant.1,
+)
+
+pub returns : goal.returns
+returns c =
+    let over = c.loop-order-test.false in
+    let most = c.loop-order.auto.order-end in
+    let up = c.requires.up in
+    let same : c.loop-order.order ≡ c.args.to = grind arith in
+    subst (λ (n : ℕ). AreFoundOf c.args.script.now.config (content c.args.script.now.body) c.args.conditions.now c.args.seed c.args.from n c.loop-order.found) same c.loop-order.invariant.1

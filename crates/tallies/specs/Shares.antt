@@ -1,0 +1,20 @@
+-- Shares of orders: private.
+use Rattle.std.specs.Prelude.{ℕ, ◌+◌, ◌*◌, min, List, [], ◌∷◌, Result, IfOk}
+use Rattle.board_core.specs.declared.config.Config.{Config}
+use Rattle.conditions.specs.declared.reading.Condition.{Condition}
+use Rattle.guest_script.specs.Grammar.{Content}
+use Rattle.hart_threads.specs.declared.ends.RunFault.{RunFault}
+use Rattle.tallies.specs.declared.findings.Findings.{Findings}
+use Rattle.tallies.specs.Findings.{AreFoundOf}
+
+-- where share i of the orders begins, and the one before ends
+abbrev pub edge : (from to share i : ℕ) → ℕ
+edge from to share i = min to (from + i * share)
+
+-- What was found of the shares from this one on, each between two edges.
+abbrev pub AreShares : Config → Content → List Condition → (seed : ℕ) → (edges : ℕ → ℕ) → (i : ℕ)
+    → List (Result Findings RunFault) → Type 0
+AreShares c content conditions seed edges i [] = Unit {0}
+AreShares c content conditions seed edges i (x ∷ xs) =
+    IfOk x (AreFoundOf c content conditions seed (edges i) (edges (i + 1)))
+    × AreShares c content conditions seed edges (i + 1) xs
