@@ -1,6 +1,6 @@
 -- What a turn does to caches, by place.
-use Rattle.std.proofs.Common.{◌≡◌, ◌≢◌, ℕ, ◌+◌, ◌<◌, suc, zero, List, [], ◌∷◌, ◌++◌, length, drop, get_or, set, map, take, refl, sym, ap, ◌∙◌, arith}
-use Rattle.std.proofs.lemmas.List.{get_or_default, length-append, length-drop, length-map, length-take}
+use Rattle.std.proofs.Common.{◌≡◌, ◌≢◌, ℕ, ◌+◌, ◌<◌, ◌≤◌, suc, zero, List, [], ◌∷◌, ◌++◌, length, drop, get_or, set, map, replicate, take, refl, sym, ap, ◌∙◌, arith}
+use Rattle.std.proofs.lemmas.List.{append-nil, drop_all, get_or_default, length-append, length-drop, length-map, length-replicate, length-take, take_all}
 use Rattle.std.proofs.lemmas.List.Edits.{map_over_more}
 use Rattle.rfence.specs.Effects.{changed_at, changed_from}
 
@@ -18,6 +18,23 @@ module _ {C : Type 0} where
       let long = ap length so_far in
       let inside_all : i < length ys = omega (arith, long, length-append (map f (take i xs)) (drop i xs), length-map (take i xs) f, length-take i xs, length-drop i xs) in
       ap (set ys i) is ∙ map_over_more f xs ys i (get_or ys i d) inside so_far (get_or_default ys i d (get_or ys i d) inside_all)
+
+  -- a loop that writes each member has written one more
+  pub written-more : (xs : List C) (i : ℕ) (x : C) → i < length xs → set (replicate i x ++ drop i xs) i x ≡ replicate (suc i) x ++ drop (suc i) xs
+  written-more [] i x inside = absurd (omega arith)
+  written-more (y ∷ ys) zero x inside = refl
+  written-more (y ∷ ys) (suc i) x inside = ap (λ rest. x ∷ rest) (written-more ys i x (omega arith))
+
+  -- and at its end all are what was written
+  pub written-all : (y : C) (xs lent ys : List C) (i n : ℕ) → lent ≡ xs → ys ≡ replicate i y ++ drop i lent → length lent ≤ i → i ≤ length lent → n ≡ length xs
+      → take n (ys ++ drop (length ys) xs) ≡ replicate (length xs) y
+  written-all y xs lent ys i n is so_far past within whole =
+      let end : i ≡ length xs = omega (arith, ap length is, past, within) in
+      let all : ys ≡ replicate (length xs) y =
+      so_far ∙ ap (λ l. replicate i y ++ drop i l) is ∙ ap (λ j. replicate j y ++ drop j xs) end
+      ∙ ap (λ rest. replicate (length xs) y ++ rest) (drop_all (length xs) xs (omega arith)) ∙ append-nil (replicate (length xs) y) in
+      let long = ap length all ∙ length-replicate (length xs) y in
+      ap (λ rest. take n (ys ++ rest)) (drop_all (length ys) xs (omega (arith, long))) ∙ ap (take n) (append-nil ys) ∙ take_all n ys (omega (arith, long, whole)) ∙ all
 
   -- nothing is changed from here on
   pub changed-none : (change : ℕ → C → C) (a : ℕ) (xs : List C) → ((t : ℕ) (x : C) → a < t + 1 → change t x ≡ x) → changed_from change a xs ≡ xs

@@ -58,5 +58,7 @@ pub fn no_calls<T: Copy>(alloc: Global, harts: u64) -> Result<Vec<Option<T>>, Al
 pub fn close_all<T: Copy>(calls: &mut Vec<Option<T>>)
     ensures { calls.new.items ≡ replicate (length calls.old.items) None }
 {
-    calls.fill(None);
+    for call in calls.iter_mut() {
+        *call = None;
+    }
 }
