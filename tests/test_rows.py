@@ -88,8 +88,8 @@ def each_allocation(name, last):
     return test
 
 
-# No allocation of the worked rows is larger, in bytes: the room for a history of 20,000 events is the largest.
-LARGEST = 2_000_000
+# No allocation of the worked rows is larger, in bytes: the room for a history of 1,000,000 events is the largest.
+LARGEST = 80_000_000
 
 # How many of the allocations of the worked rows are refused, each by itself: from the first to the last, as far apart.
 SPREAD = 40
