@@ -5,7 +5,7 @@ for byte.
 usage: bench/agree.py [--count N] [--seed N] [PROGRAM]
 
 PROGRAM is a built `sbiboard` (default: the one that `./sbiboard` builds). The examples come first, and then --count
-random schedules (default 1000), each of a seed of its own from --seed on (default 0). Each is replayed; what plain Rust
+random schedules (default 1000), each of a seed of its own from --seed on (default 0), a third of them with cuts. Each is replayed; what plain Rust
 prints of a replay is checked as a trace, and so is the same with one of its replies changed. A schedule that differs is
 kept in the folder that the last line but one names. The last line is 'N agree, N differ'.
 """
@@ -172,6 +172,20 @@ class Maker:
         self.add(self.hart(), "ecall", extension, self.any.choice([3, 4, 7, 1 << 32]), self.any.choice([0x10, SRST, RFENCE, 9]))
 
 
+def with_cuts(text, seed):
+    """The schedule with cuts of the history at some of its places: at few, at many, or behind each step."""
+    any_of = random.Random(seed)
+    often = any_of.choice([0.01, 0.1, 1])
+    board, *steps = text.splitlines(keepends=True)
+    return board + "".join(step + ("cut\n" if any_of.random() < often else "") for step in steps)
+
+
+def made(seed):
+    """A random schedule of this seed; each third one has cuts."""
+    text = Maker(seed).text
+    return with_cuts(text, seed) if seed % 3 == 2 else text
+
+
 KINDS = [
     (Maker.access, 40), (Maker.map, 6), (Maker.ask, 8), (Maker.serve, 3), (Maker.fence, 6),
     (Maker.interrupt, 6), (Maker.tick, 2), (Maker.live, 1), (Maker.reset, 0.4), (Maker.odd, 2),
@@ -242,7 +256,7 @@ def main():
         path = paths[number] if number < len(paths) else os.path.join(folder, f"{chosen.seed + number - len(paths)}.sched")
         if number >= len(paths):
             with open(path, "w") as file:
-                file.write(Maker(chosen.seed + number - len(paths)).text)
+                file.write(made(chosen.seed + number - len(paths)))
         if not all_same((chosen.program, plain), path, folder, number):
             differ += 1
             print(f"differs: {path}")

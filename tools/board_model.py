@@ -13,6 +13,8 @@ SSI, STI = 1 << 1, 1 << 5
 FAILED, NOT_SUPPORTED, INVALID_PARAM, INVALID_ADDRESS, ALREADY_AVAILABLE = -1, -2, -3, -5, -6
 GUEST = ("ecall", "load", "store", "fetch", "satp", "sie", "sstatus", "sip", "clearssip", "sfence", "fencei", "wfi")
 DONE, WAITING, GONE = ("done",), ("waiting",), ("gone",)
+# The step without an actor: the history is cut, and its events are counted anew.
+CUT = (None, ("cut",))
 MISALIGNED = {"fetch": 0, "load": 4, "store": 6}
 ACCESS_FAULT = {"fetch": 1, "load": 5, "store": 7}
 PAGE_FAULT = {"fetch": 12, "load": 13, "store": 15}
@@ -142,6 +144,9 @@ class Board:
     def step(self, actor, op):
         """actor: a hart's number, or None for the clock."""
         self.used, self.is_stale = None, False
+        if (actor, op) == CUT:
+            self.events = 0
+            return DONE
         number = self.refusal(actor, op)
         if number:
             return ("refused", number)
@@ -475,6 +480,8 @@ def board_of(words):
 
 def step_of(words):
     """The actor and the operation of a step's words."""
+    if words == ["cut"]:
+        return CUT
     return None if words[0] == "c" else int(words[0], 0), (words[1], *(number(word) for word in words[2:]))
 
 
@@ -483,6 +490,8 @@ HEX = {"ecall", "load", "store", "fetch", "satp", "sfence", "sie", "tick"}
 
 def spelled_step(actor, op):
     """As `replay` prints it."""
+    if (actor, op) == CUT:
+        return "cut"
     numbers = op[1:] + (0,) * (9 - len(op)) if op[0] == "ecall" else op[1:]
     words = ["-" if it is None else f"{it:#x}" if op[0] in HEX else str(it) for it in numbers]
     return " ".join(["c" if actor is None else str(actor), op[0], *words])

@@ -2,7 +2,7 @@
 
 use crate::fences::{Fence, Fences};
 use crate::memory::{self, Access, Caches, Entry, RAM, Ram, is_valid};
-use crate::script::{CLOCK, Line, Name};
+use crate::script::{CLOCK, CUT, Line, Name};
 
 const LAST_TIME: u64 = u64::MAX - 1;
 
@@ -211,6 +211,12 @@ impl Board {
 
     #[inline(always)]
     pub fn step(&mut self, line: Line, numbers: &[u64]) -> Result<Reply, Refusal> {
+        if line.actor == CUT {
+            self.events.clear();
+            self.numbers.clear();
+            self.used.clear();
+            return Ok(Reply::Done);
+        }
         if self.is_off {
             return Err(Refusal::Off);
         }

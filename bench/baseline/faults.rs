@@ -91,7 +91,7 @@ impl Before {
         let is_head = matches!(*first, b"at" | b"clock");
         let kind = if is_head {
             Kind::Program
-        } else if *first == b"c" || first[0].is_ascii_digit() {
+        } else if matches!(*first, b"c" | b"cut") || first[0].is_ascii_digit() {
             let is_trace = words.contains(&b"->".as_slice());
             if is_trace { Kind::Trace } else { Kind::Schedule }
         } else if self.kind == Kind::Program {
@@ -126,15 +126,20 @@ impl Before {
 }
 
 fn step(actor: &[u8], rest: Words) -> Result<(), u8> {
-    if actor != b"c" {
+    if !matches!(actor, b"c" | b"cut") {
         number(actor, 127)?;
     }
+    let of_step = |words: Words| match actor {
+        b"cut" if words.is_empty() => Ok(()),
+        b"cut" => Err(5),
+        _ => operation(words, |_| true),
+    };
     match rest.iter().position(|word| *word == b"->") {
         Some(arrow) => {
-            operation(&rest[..arrow], |_| true)?;
+            of_step(&rest[..arrow])?;
             said(&rest[arrow + 1..])
         }
-        None => operation(rest, |_| true),
+        None => of_step(rest),
     }
 }
 

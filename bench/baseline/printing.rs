@@ -3,7 +3,7 @@
 use crate::board::{Board, Hart, Refusal, Reply, State, has};
 use crate::fences::{Fence, Request};
 use crate::memory::{D, Entry, G, R, W, Word, X};
-use crate::script::{CLOCK, Line, Name, USUAL_SPACES};
+use crate::script::{CLOCK, CUT, Line, Name, USUAL_SPACES};
 use std::fs::File;
 use std::io::{self, Write};
 
@@ -139,9 +139,19 @@ impl Out {
         answer: Result<Reply, Refusal>,
     ) -> io::Result<()> {
         match line.actor {
+            CUT => self.text(b"cut"),
             CLOCK => self.text(b"c"),
             h => self.decimal(u64::from(h)),
         }
+        if line.actor != CUT {
+            self.operation(line, numbers);
+        }
+        self.text(b" -> ");
+        self.answer(line.actor, answer);
+        self.end_line()
+    }
+
+    fn operation(&mut self, line: Line, numbers: &[u64]) {
         self.text(line.name.word());
         match line.name {
             Name::Sstatus => self.text(if numbers[0] == 1 { b" 1" } else { b" 0" }),
@@ -159,9 +169,6 @@ impl Out {
         if line.name == Name::Ecall {
             self.text(&b" 0x0 0x0 0x0 0x0 0x0 0x0"[4 * (numbers.len() - 2)..]);
         }
-        self.text(b" -> ");
-        self.answer(line.actor, answer);
-        self.end_line()
     }
 
     fn answer(&mut self, actor: u8, answer: Result<Reply, Refusal>) {

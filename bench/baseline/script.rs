@@ -11,6 +11,9 @@ pub const MOST_BYTES: usize = 16_777_216;
 /// The actor that is no hart.
 pub const CLOCK: u8 = 255;
 
+/// The actor of a line `cut`, which has none, and no operation.
+pub const CUT: u8 = 254;
+
 /// ASIDLEN and WIDTH of a board whose line leaves them out.
 pub const USUAL_SPACES: [u64; 2] = [16, 39];
 
@@ -401,14 +404,20 @@ impl<'a> Reader<'a> {
     fn step_line(&mut self, number: u64, script: &mut Script) -> Option<()> {
         let actor = match self.skip_gap() {
             b'\n' | b'\r' | b'#' => return self.end_line(),
-            b'c' => {
-                self.at += 1;
-                ends_word(self.peek()).then_some(CLOCK)?
-            }
+            b'c' => match self.word() {
+                b"c" => CLOCK,
+                b"cut" => CUT,
+                _ => return None,
+            },
             _ => self.number().filter(|n| *n < 128)? as u8,
         };
         self.skip_gap();
-        let (name, first, count) = self.operation(&mut script.numbers)?;
+        let (name, first, count) = if actor == CUT {
+            let first = script.numbers.len() as u32;
+            (self.is_at_end() || self.peek() == b'-').then_some((Name::Tick, first, 0))?
+        } else {
+            self.operation(&mut script.numbers)?
+        };
         if self.peek() != b'-' {
             script.must_be(Kind::Schedule, self.end)?;
         } else {
