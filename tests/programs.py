@@ -53,6 +53,23 @@ def chain(harts, stops=True):
     return program(harts, 10_000, blocks, "quiet", table)
 
 
+def hops(places):
+    """
+    A hart goes through the blocks at these places of the RAM, each once, in the order of the list: at the end of each it
+    sleeps, and resumes at the next one, since it was woken before. The blocks stand in the order of their addresses. Also
+    returns the addresses of its entries.
+    """
+    addresses = [BOOT + 2 * it for it in places]
+    last = dict(zip(addresses, [f"{SUSPEND} {NON_RETENTIVE} {it:#x}" for it in addresses[1:]]))
+    blocks = {it: [last[it]] if it in last else ["sip"] for it in addresses}
+    blocks[addresses[0]] = ["sie 2", ipi(0), *blocks[addresses[0]]]
+    pages = 1 + 2 * max(places) // 4_096
+    lines = [f"board 1 {pages} 1000000 0 {addresses[0]:#x} 0x0"]
+    for it in sorted(blocks):
+        lines += [f"at {it:#x}", *blocks[it]]
+    return "".join(f"{it}\n" for it in lines), addresses
+
+
 def sleepers(harts):
     """
     Each hart starts the next one and sleeps until that one, which has slept, wakes it; once hart 0 is awake, each wakes the

@@ -251,6 +251,33 @@ def stops_and_resets(room):
         must_cost(f"255 pages at a reset of type {kind}", of_pages - least, -SAME, 255 * 512 * each_word + SAME)
 
 
+# The most instructions that an entry takes more among 10,000 blocks than among ten: those of two searches for its block, as
+# the hart is entered, and as the end of the run is judged.
+AMONG_BLOCKS = 800
+
+
+def entries_among_blocks(room):
+    """An entry costs the same whatever the number of blocks is, but for a search that takes a few looks more."""
+    counting = counter(room)
+    words, said = counting
+
+    def instructions(blocks, limit):
+        """The instructions of a run whose hart enters the last of so many blocks over and over, up to the limit."""
+        lines = [f"board 1 1 {limit} 0 0x80000000 0x0"]
+        lines += [f"at {0x40000000 + 2 * it:#x}" for it in range(blocks // 2)]
+        lines += [f"at {0x90000000 + 2 * it:#x}" for it in range(blocks - blocks // 2 - 1)]
+        lines += ["at 0x80000000", "sie 2", "ecall 0x735049 0 1", "ecall 0x48534d 3 0x80000000 0x80000000"]
+        path = script(room, "".join(f"{it}\n" for it in lines).encode())
+        found = subprocess.run([*words, PROGRAM, "run", path], capture_output=True, cwd=room, timeout=4 * HANG)
+        must_be(found, 3, None, None)
+        if found.stdout.count(b" -> entry ") != limit // 6:
+            raise Wrong(f"of {limit} events {found.stdout.count(b' -> entry ')} are entries")
+        return int(re.search(said, found.stderr)[1].replace(b",", b""))
+
+    few, many = ((instructions(blocks, 6_000) - instructions(blocks, 600)) / 900 for blocks in (10, 10_000))
+    must_cost("an entry among 10,000 blocks, beside one among ten", many - few, -AMONG_BLOCKS, AMONG_BLOCKS)
+
+
 # The most bytes of a board's allocations for each event of its limit, page, hart, and pair of harts, and of all else that
 # a run of the program takes: its buffers and its command line.
 EACH_EVENT, EACH_PAGE, EACH_HART, EACH_PAIR, ELSE = 80, 4_096, 1_536, 8, 160_000
@@ -281,5 +308,6 @@ TESTS = [
     ("a hit does not walk", hits_do_not_walk),
     ("what fences cost", fences_by_harts),
     ("what stops and resets cost", stops_and_resets),
+    ("entries among many blocks", entries_among_blocks),
     ("memory of a board", memory_of_boards),
 ]

@@ -1,9 +1,11 @@
 """Orders from a seed, and conditions: the program behind `sbiboard test`."""
 import os
 import pty
+import random
 import shutil
 import subprocess
 
+import programs
 from harness import HANG, NO_MEMORY, PROGRAM, ROOT, Passed, Wrong, allocating, ran, shim
 
 TESTER = os.path.join(ROOT, "crates/sbiboard_test/out/sbiboard_test")
@@ -264,6 +266,16 @@ def failures_are_counted(room):
     must(f"{lines}", lines[2:7] == ["  ---", "  seed: 0", "  failing: 40", "  orders: 40", "  ..."])
 
 
+def many_blocks_are_found(room):
+    """In each order each of 10,000 blocks is entered where its address is asked for."""
+    places = list(range(10_000))
+    random.Random(2).shuffle(places)
+    text, addresses = programs.hops(places)
+    asked = f"#! some 0 advance -> entry {addresses[-1]:#x}\n#! some 0 sip -> value 0x2\n#! end quiet\n"
+    status, lines = told(room, asked + text, "--times", "4")
+    must(f"status {status}: {lines[-5:]}", status == 0)
+
+
 def stuck_orders_fail(room):
     """Without conditions a program fails where an order ends stuck; with some, these alone are judged."""
     status, lines = told(room, WAKE)
@@ -450,6 +462,7 @@ TESTS = [
     ("files that can't be tested are told", bad_files_are_told), ("files that may not be read are told", closed_files_are_told),
     ("want of memory of a test", want_of_memory_is_told), ("many differences of a trace are told soon", many_differences_are_told_soon), ("all orders of small programs are met", orders_are_all_met),
     ("a seed is one order", a_seed_is_one_order), ("failing orders are counted", failures_are_counted),
+    ("orders of a program of 10,000 blocks", many_blocks_are_found),
     ("orders that end stuck fail", stuck_orders_fail), ("orders that the limit cut off are spared", full_histories_are_spared),
     ("all differences of a trace are told", all_differences_are_told), ("schedules are replayed and judged", schedules_are_replayed),
     ("statuses of tests", statuses_are_told), ("points are written into a file too", tap_is_written_too),

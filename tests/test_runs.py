@@ -1,5 +1,6 @@
 """Runs of programs: those of one order, and those whose threads may go in many."""
 import os
+import random
 from concurrent.futures import ThreadPoolExecutor
 
 import harness
@@ -268,12 +269,26 @@ def long_programs(room):
             raise Wrong(f"{times} calls: other lines of events")
 
 
+def many_blocks(room):
+    """Each of 10,000 blocks is entered where its address is asked for, whatever stands before it and behind it."""
+    places = list(range(10_000))
+    random.Random(1).shuffle(places)
+    text, addresses = programs.hops(places)
+    found = must_run(room, script(room, text.encode()), "quiet").decode().splitlines()
+    entries = [f"0 advance -> entry {it:#x} 0 0x0" for it in addresses]
+    if [it for it in found if " -> entry " in it] != entries:
+        raise Wrong("the entries are others")
+    if found.count("0 sip -> value 0x2") != 1:
+        raise Wrong("the last block isn't done")
+
+
 TESTS = [
     ("programs of one order", programs_of_one_order),
     ("programs with a clock", clocks),
     ("programs with thousands of ticks", many_ticks),
     ("what isn't run", not_run),
     ("long programs", long_programs),
+    ("a program of 10,000 blocks", many_blocks),
     *[(name, runs_of(it)) for name, it in programs.MANY.items()],
     ("runs of random programs", random_programs),
 ]

@@ -1,6 +1,6 @@
 -- Events of one actor, in what came later.
-use Rattle.std.proofs.Common.{◌≡◌, ℕ, ◌+◌, ◌≤◌, Bool, true, false, List, [], ◌∷◌, ◌++◌, length, refl, sym, ap, subst, ◌∙◌, arith}
-use Rattle.std.specs.Prelude.{reverse, if◌then◌else◌, ◌==◌, Option}
+use Rattle.std.proofs.Common.{◌≡◌, ℕ, ◌+◌, ◌≤◌, true, false, List, [], ◌∷◌, ◌++◌, length, refl, sym, ap, subst, ◌∙◌, arith}
+use Rattle.std.specs.Prelude.{reverse, if◌then◌else◌, Option}
 use Rattle.std.proofs.lemmas.Bool.{cases_Bool}
 use Rattle.std.proofs.lemmas.List.{reverse-append}
 use Rattle.std.proofs.Common.{inl, inr}
@@ -12,7 +12,7 @@ use Rattle.board_core.specs.Course.{is_hart}
 use Rattle.board_core.specs.History.{Event}
 use Rattle.board_lock.specs.Events.{events_from, events_of, is_same}
 use Rattle.guest_script.specs.Grammar.{Guest}
-use Rattle.hart_threads.specs.Guests.{AreLeft, IsLeft, Turn, Still, block_of, done, done_after, entry_after, last_entry, turn_by, turn_of}
+use Rattle.hart_threads.specs.Guests.{AreLeft, IsLeft, Turn, Still, block_of, done, done_after, entry_after, last_entry, turn_by}
 use Rattle.hart_threads.specs.Shares.{EachOf, many_of}
 use Rattle.hart_threads.specs.Works.{IsLeftTo}
 

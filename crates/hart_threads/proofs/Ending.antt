@@ -14,7 +14,6 @@ use Rattle.board_core.specs.Opening.{Opening}
 use Rattle.board_core.specs.Refusals.{first_that_holds, has_nothing_to_do, is_full, is_out_of_phase, is_tick, situation}
 use Rattle.board_core.specs.Replies.{answer, refused_or, reply}
 use Rattle.board_core.specs.Resets.{is_off}
-use Rattle.board_lock.specs.Events.{IsActor}
 use Rattle.guest_script.specs.Grammar.{Guest}
 use Rattle.hart_threads.specs.declared.ends.End.{End}
 use Rattle.hart_threads.specs.declared.ends.End.TheVariants.{GateLimit, Off, HistoryFull, Quiet, Stuck}

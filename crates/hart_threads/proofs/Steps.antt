@@ -1,7 +1,7 @@
 -- What seats' threads know after each of their steps.
-use Rattle.std.proofs.Common.{◌≡◌, ◌≢◌, ◌⊎◌, ℕ, ◌+◌, ◌≤◌, Bool, true, false, List, [], ◌∷◌, length, refl, sym, ap, subst, ◌∙◌, inl, inr, arith}
-use Rattle.std.specs.Prelude.{reverse, if◌then◌else◌, slice_get, Option, Some, None}
-use mathlib.Core.List.{IsPrefix, IsSuffix, suffix_refl}
+use Rattle.std.proofs.Common.{◌≡◌, ◌≢◌, ℕ, ◌+◌, true, false, List, [], length, refl, sym, ap, subst, ◌∙◌, inl, inr, arith}
+use Rattle.std.specs.Prelude.{reverse, slice_get, Option, Some, None}
+use mathlib.Core.List.{IsPrefix, IsSuffix}
 use Rattle.board_core.specs.declared.event.Actor.{Actor}
 use Rattle.board_core.specs.declared.event.Actor.TheVariants.{Hart, Clock}
 use Rattle.board_core.specs.declared.event.Op.{Op}
@@ -20,10 +20,10 @@ use Rattle.hart_threads.specs.declared.met.Met.TheVariants.{Nothing, FullHistory
 use Rattle.hart_threads.specs.Choices.{next_choice}
 use Rattle.hart_threads.specs.Guests.{next_of}
 use Rattle.hart_threads.specs.Met.{met_by_refusal}
-use Rattle.hart_threads.specs.Shares.{Refuses, gate_number, many_of}
-use Rattle.hart_threads.specs.Works.{At, Goes, HasMet, HasTurn, HasWorked, IsAtWork, IsGoing, IsLeftTo, SeesNoMore, Stops, Task, WorkedAt}
+use Rattle.hart_threads.specs.Shares.{Refuses, gate_number}
+use Rattle.hart_threads.specs.Works.{At, Goes, HasTurn, HasWorked, IsAtWork, IsGoing, IsLeftTo, Stops, Task, WorkedAt}
 use Rattle.hart_threads.proofs.Counting.{earlier-of}
-use Rattle.hart_threads.proofs.Working.{event, before, going-later, none-by, refused-at, saw-then, stops-later, turn-by, work-later, work-more}
+use Rattle.hart_threads.proofs.Working.{event, going-later, none-by, refused-at, saw-then, stops-later, turn-by, work-later, work-more}
 
 -- ---- any seat
 

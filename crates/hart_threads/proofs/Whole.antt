@@ -1,14 +1,11 @@
 -- What threads knew when they stopped, in the whole record.
-use Rattle.std.proofs.Common.{◌≡◌, ◌⊎◌, ℕ, suc, ◌+◌, ◌≤◌, Bool, true, false, List, [], ◌∷◌, length, map, refl, sym, ap, subst, ◌∙◌, inl, inr, arith}
-use Rattle.std.specs.Prelude.{reverse, if◌then◌else◌}
+use Rattle.std.proofs.Common.{◌≡◌, ◌⊎◌, ℕ, suc, true, false, List, [], ◌∷◌, length, map, refl, sym, ap, subst, ◌∙◌, inl, inr, arith}
+use Rattle.std.specs.Prelude.{reverse}
 use Rattle.std.specs.List.{All, AllByRecursion}
 use Rattle.std.proofs.lemmas.Bool.{cases_Bool}
 use mathlib.Core.List.{IsPrefix, IsSuffix, IsSuffix-trans}
-use Rattle.board_core.specs.declared.config.Config.{Config}
 use Rattle.board_core.specs.declared.event.Actor.{Actor}
 use Rattle.board_core.specs.declared.event.Actor.TheVariants.{Hart, Clock}
-use Rattle.board_core.specs.declared.event.Op.{Op}
-use Rattle.board_core.specs.declared.event.Refusal.{Refusal}
 use Rattle.board_core.specs.declared.event.Refusal.TheVariants.{HistoryFull}
 use Rattle.board_core.specs.History.{Event}
 use Rattle.board_lock.specs.Events.{IsActor, events_of, is_same}
@@ -16,9 +13,9 @@ use Rattle.board_lock.specs.Seats.{Sitting, seats_of}
 use Rattle.hart_threads.specs.declared.met.Met.{Met}
 use Rattle.hart_threads.specs.declared.met.Met.TheVariants.{Nothing, FullHistory, ClosedGate}
 use Rattle.hart_threads.specs.Met.{met_by_all, met_by_both}
-use Rattle.hart_threads.specs.Shares.{AreThreads, ChoosesNone, Earlier, EachOf, HasMetFull, HasNoMore, HasStopped, IsDue, Refuses, gate_number, many_of}
+use Rattle.hart_threads.specs.Shares.{AreThreads, ChoosesNone, Earlier, EachOf, HasNoMore, HasStopped, IsDue, Refuses, gate_number, many_of}
 use Rattle.hart_threads.specs.Works.{At, HasWorked, SeesNoMore, Stops, Task, WorkedAt}
-use Rattle.hart_threads.proofs.Counting.{earlier-of, length-events, no-more}
+use Rattle.hart_threads.proofs.Counting.{earlier-of, length-events}
 use Rattle.hart_threads.proofs.Working.{each-later, same-then}
 
 -- ---- one thread

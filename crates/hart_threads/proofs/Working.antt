@@ -1,24 +1,22 @@
 -- Threads go on: what they know stays true of what they see later, and grows by what they do.
-use Rattle.std.proofs.Common.{◌≡◌, ◌≢◌, ◌⊎◌, ℕ, ◌+◌, ◌≤◌, Bool, true, false, List, [], ◌∷◌, ◌++◌, length, refl, sym, ap, subst, ◌∙◌, append-nil, inl, inr, arith}
-use Rattle.std.specs.Prelude.{reverse, if◌then◌else◌, slice_get, Option, Some, None, Result, Ok, Err}
+use Rattle.std.proofs.Common.{◌≡◌, ◌≢◌, ℕ, ◌+◌, ◌≤◌, Bool, true, false, List, [], ◌∷◌, ◌++◌, refl, sym, ap, subst, ◌∙◌, append-nil, inl, inr, arith}
+use Rattle.std.specs.Prelude.{reverse, if◌then◌else◌, Option, Some, None, Result, Err}
 use Rattle.std.proofs.lemmas.List.{reverse-reverse}
-use mathlib.Core.List.{IsPrefix, IsSuffix, IsSuffix-trans, suffix_refl}
+use mathlib.Core.List.{IsSuffix, IsSuffix-trans, suffix_refl}
 use Rattle.board_core.specs.declared.event.Actor.{Actor}
 use Rattle.board_core.specs.declared.event.Actor.TheVariants.{Hart, Clock}
 use Rattle.board_core.specs.declared.event.Op.{Op}
-use Rattle.board_core.specs.declared.event.Op.TheVariants.{Tick}
 use Rattle.board_core.specs.declared.event.Refusal.{Refusal}
 use Rattle.board_core.specs.declared.event.Refusal.TheVariants.{HistoryFull}
 use Rattle.board_core.specs.declared.event.Reply.{Reply}
 use Rattle.board_core.specs.Accesses.{used_by_actor}
-use Rattle.board_core.specs.Course.{Course}
 use Rattle.board_core.specs.History.{Event}
-use Rattle.board_core.specs.Replies.{answer, recorded, stepped}
+use Rattle.board_core.specs.Replies.{answer, recorded}
 use Rattle.board_core.specs.Resets.{is_off}
 use Rattle.board_lock.specs.declared.views.HartNow.{HartNow}
-use Rattle.board_lock.specs.Events.{events_in, events_of, is_same}
-use Rattle.board_lock.specs.Seats.{Sitting, seeing}
-use Rattle.board_lock.specs.Views.{IsDone, IsRefused, ShowsTo, board_after}
+use Rattle.board_lock.specs.Events.{is_same}
+use Rattle.board_lock.specs.Seats.{Sitting}
+use Rattle.board_lock.specs.Views.{IsDone, IsRefused, ShowsTo}
 use Rattle.guest_script.specs.Grammar.{Guest}
 use Rattle.hart_threads.specs.declared.met.Met.{Met}
 use Rattle.hart_threads.specs.declared.met.Met.TheVariants.{Nothing, FullHistory, ClosedGate}

@@ -16,7 +16,7 @@ use std::sync::Wait;
 /// The clock's thread: its ticks in order, up to one that is refused, and then rest.
 pub(crate) fn tick<K: Plan, G: Gate, R: Wait>(
     rt: &R,
-    work: &Work<'_, K, G>,
+    work: &Work<'_, '_, K, G>,
     seat: Seat<K>,
 ) -> Worked<K>
     requires fresh { seat ≡ sitting Clock 0 [] [] }
@@ -31,7 +31,7 @@ pub(crate) fn tick<K: Plan, G: Gate, R: Wait>(
 }
 
 /// Ticks in order, up to one that is refused.
-fn tick_all<K: Plan, G: Gate, R: Wait>(rt: &R, work: &Work<'_, K, G>, seat: &mut Seat<K>) -> Met
+fn tick_all<K: Plan, G: Gate, R: Wait>(rt: &R, work: &Work<'_, '_, K, G>, seat: &mut Seat<K>) -> Met
     requires fresh { seat.old ≡ sitting Clock 0 [] [] }
     requires gate { IsGate (G.lets work.now.gate.now) K.lets }
     ensures actor { seat.new.actor ≡ Clock }

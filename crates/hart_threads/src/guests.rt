@@ -5,9 +5,8 @@ ghost use Rattle.board_core.specs.History.{Event};
 ghost use Rattle.guest_script.specs.Grammar.{guest};
 ghost use Rattle.hart_threads.specs.Guests.{AreLeft, IsLeft, is_guest, left_of, next_of};
 
-use crate::blocks::block_at;
+use crate::blocks::Program;
 use board_core::{Op, Reply};
-use guest_script::Block;
 
 /// How far a hart's guest is in its block.
 #[derive(Clone, Copy)]
@@ -39,12 +38,13 @@ impl<'a> Guest<'a> {
     }
 
     /// An operation of its hart was accepted.
-    pub(crate) fn sees(&mut self, blocks: &'a [Block], op: Op, reply: Reply)
+    pub(crate) fn sees(&mut self, program: &Program<'a>, op: Op, reply: Reply)
         ensures { (past : List Event) (h : ℕ) (e : Event) → e.actor ≡ Hart h → e.op ≡ op → e.reply ≡ reply
-            → IsLeft (map guest blocks.now) (left_of self.old) past h → IsLeft (map guest blocks.now) (left_of self.new) (e ∷ past) h }
+            → IsLeft (map guest program.now.blocks.now) (left_of self.old) past h
+            → IsLeft (map guest program.now.blocks.now) (left_of self.new) (e ∷ past) h }
     {
         if let Reply::Entry { addr, .. } = reply {
-            self.left = Some(block_at(blocks, addr));
+            self.left = Some(program.block_at(addr));
         } else if is_guest(op) {
             self.left = self.without(op);
         }

@@ -22,7 +22,7 @@ use std::sync::Wait;
 /// every seat rests.
 pub(crate) fn follow<K: Plan, G: Gate, R: Wait>(
     rt: &R,
-    work: &Work<'_, K, G>,
+    work: &Work<'_, '_, K, G>,
     seat: Seat<K>,
 ) -> Worked<K>
     requires hart { seat.actor ≢ Clock }
@@ -82,7 +82,7 @@ fn awaited(view: &HartView, met: Met, guest: &Guest<'_>) -> Awaits
 /// An operation whose turn it is, if the gate lets its hart go on; and what the thread met.
 fn attempt<'a, K: Plan, G: Gate, R: Wait>(
     rt: &R,
-    work: &Work<'a, K, G>,
+    work: &Work<'_, 'a, K, G>,
     seat: &mut Seat<K>,
     guest: &mut Guest<'a>,
     view: &mut HartView,
@@ -101,7 +101,7 @@ fn attempt<'a, K: Plan, G: Gate, R: Wait>(
     }
     match work.board.call_and_view(rt, seat, op) {
         Ok((receipt, now)) => {
-            guest.sees(work.program.blocks, op, receipt.reply());
+            guest.sees(work.program, op, receipt.reply());
             *view = now;
             Met::Nothing
         }

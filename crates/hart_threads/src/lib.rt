@@ -16,7 +16,7 @@ mod running;
 mod starting;
 mod work;
 
-pub use blocks::{Program, block_at, program_in};
+pub use blocks::{Program, program_in};
 pub use boards::new_board;
 pub use ends::{End, RunEnd, RunFault};
 pub use finding::end_of;

@@ -3,6 +3,7 @@ ghost use Rattle.board_core.specs.declared.event.Actor.TheVariants.{Clock};
 ghost use Rattle.board_core.specs.Limits.{IsGood};
 ghost use Rattle.board_core.specs.Opening.{opening_at};
 ghost use Rattle.board_core.specs.Replies.{IsLegal};
+ghost use Rattle.board_laws.specs.Headline.{Headline};
 ghost use Rattle.board_lock.specs.Events.{events_in, ops_of};
 ghost use Rattle.board_lock.specs.Seats.{new_seats};
 ghost use Rattle.guest_script.specs.Grammar.{content, guest};
@@ -22,8 +23,9 @@ use crate::plans::Plan;
 use crate::starting::work_all;
 use crate::work::{Work, Worked};
 use board_core::{Board, BuildFault};
+use board_laws::headline;
 use board_lock::{NewRoom, Seat, SharedBoard};
-use guest_script::Script;
+use guest_script::{Body, Script};
 use std::alloc::{AllocError, Global};
 use std::marker::Brand;
 use std::sync::Wait;
@@ -40,36 +42,63 @@ pub fn run<G: Gate + Sync, R: AllocGlobal + Threads + Wait + Sync>(
     ensures bad { IsErrOf result BadConfig ↔ ¬ IsGood script.now.config }
     ensures opening { IfOk result (λ run. run.board.opening ≡ opening_at script.now.config) }
     ensures legal { IfOk result (λ run. IsLegal run.board.opening run.board.past) }
+    ensures headline { IfOk result (λ run. Headline run.board.opening run.board.past) }
     ensures ticks { IfOk result (λ run. AreFirst (ticks_of (content script.now.body)) (ops_of Clock (events_in run.board))) }
     ensures end { IfOk result (λ run. IsEnd run.end run.board.opening run.board.past (blocks_of (content script.now.body))) }
     ensures threads { IfOk result (λ run. IsRun (G.lets gate.now) run.board.opening (blocks_of (content script.now.body))
         (ticks_of (content script.now.body)) run.board.past run.end) }
 {
-    let program = program_in(&script.body);
-    let (board, met) = run_in::<Brand, G, R>(rt, NewRoom::new(&script.config), program, gate)?;
-    let end = end_of(rt.alloc(), &board, program.blocks, met)?;
-    let _legal = board.history();
-    Ok(RunEnd { end, board })
+    run_in::<Brand, G, R>(rt, NewRoom::new(&script.config), &script.body, gate)
 }
 
-/// Runs a program on the board of this room, and gives back the board, and what the threads met.
+/// Runs a program on the board of this room.
 fn run_in<K: Plan + Send + Sync, G: Gate + Sync, R: AllocGlobal + Threads + Wait + Sync>(
     rt: &R,
     room: NewRoom,
-    program: Program<'_>,
+    body: &Body,
     gate: &G,
-) -> Result<(Board, Met), RunFault>
+) -> Result<RunEnd, RunFault>
+    requires program { IsProgram (content body.now) }
     requires room { (K.opening ≡ opening_at room.config) × (room.log ≡ K.log) }
     requires ledger { (room.ledger ≡ K.name) × (room.parts ≡ K.parts) × (K.all ≡ K.parts) }
-    requires ticks { program.ticks.now ≡ K.ticks }
-    requires blocks { map guest program.blocks.now ≡ K.blocks }
+    requires ticks { ticks_of (content body.now) ≡ K.ticks }
+    requires blocks { blocks_of (content body.now) ≡ K.blocks }
     requires gate { IsGate (G.lets gate.now) K.lets }
     ensures bad { IsErrOf result BadConfig ↔ ¬ IsGood K.opening.config }
+    ensures opening { IfOk result (λ run. run.board.opening ≡ K.opening) }
+    ensures legal { IfOk result (λ run. IsLegal run.board.opening run.board.past) }
+    ensures headline { IfOk result (λ run. Headline run.board.opening run.board.past) }
+    ensures ticks { IfOk result (λ run. AreFirst K.ticks (ops_of Clock (events_in run.board))) }
+    ensures end { IfOk result (λ run. IsEnd run.end run.board.opening run.board.past K.blocks) }
+    ensures threads { IfOk result (λ run. IsRun K.lets run.board.opening K.blocks K.ticks run.board.past run.end) }
+{
+    let (shared, seats) = opened::<K>(rt.alloc(), room)?;
+    let program = program_in(rt.alloc(), body)?;
+    let (board, met) = run_on(rt, shared, seats, &program, gate)?;
+    let end = end_of(rt.alloc(), &board, &program, met)?;
+    let _legal = board.history();
+    headline(&board);
+    Ok(RunEnd { end, board })
+}
+
+/// Runs a thread for each seat of a new board, and gives back the board, and what the threads met.
+fn run_on<K: Plan + Send + Sync, G: Gate + Sync, R: AllocGlobal + Threads + Wait + Sync>(
+    rt: &R,
+    board: SharedBoard<K>,
+    seats: Vec<Seat<K>>,
+    program: &Program<'_>,
+    gate: &G,
+) -> Result<(Board, Met), RunFault>
+    requires whole { K.all ≡ K.parts }
+    requires seats { seats.items ≡ new_seats K.opening.config }
+    requires ticks { program.now.ticks.now ≡ K.ticks }
+    requires blocks { map guest program.now.blocks.now ≡ K.blocks }
+    requires gate { IsGate (G.lets gate.now) K.lets }
+    ensures board { ¬ IsErrOf result BadConfig }
     ensures opening { IfOk result (λ r. r.0.opening ≡ K.opening) }
     ensures ticks { IfOk result (λ r. AreFirst K.ticks (ops_of Clock (events_in r.0))) }
     ensures threads { IfOk result (λ r. AreThreads K.lets K.opening K.blocks K.ticks r.0.past r.1) }
 {
-    let (board, seats) = opened::<K>(rt.alloc(), room)?;
     let work = Work {
         board: &board,
         gate,

@@ -30,7 +30,7 @@ pub(crate) fn work_all<
     K: Plan + Send + Sync,
     G: Gate + Sync,
     R: AllocGlobal + Threads + Wait + Sync,
->(rt: &R, work: &Work<'_, K, G>, seats: Vec<Seat<K>>) -> Result<Vec<Worked<K>>, RunFault>
+>(rt: &R, work: &Work<'_, '_, K, G>, seats: Vec<Seat<K>>) -> Result<Vec<Worked<K>>, RunFault>
     requires fresh { All (IsFresh K.opening.config) seats.items }
     requires gate { IsGate (G.lets work.now.gate.now) K.lets }
     ensures seats { IfOk result (λ all. map (λ worked. worked.seat.actor) all.items ≡ map (λ seat. seat.actor) seats.items) }
@@ -75,7 +75,7 @@ pub(crate) fn work_all<
 }
 
 /// The work of a seat's thread.
-fn work_at<K: Plan, G: Gate, R: Wait>(rt: &R, work: &Work<'_, K, G>, seat: Seat<K>) -> Worked<K>
+fn work_at<K: Plan, G: Gate, R: Wait>(rt: &R, work: &Work<'_, '_, K, G>, seat: Seat<K>) -> Worked<K>
     requires fresh { IsFresh K.opening.config seat }
     requires gate { IsGate (G.lets work.now.gate.now) K.lets }
     ensures actor { result.seat.actor ≡ seat.actor }

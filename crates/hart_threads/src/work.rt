@@ -14,18 +14,18 @@ use board_lock::{Seat, SharedBoard};
 
 /// What all threads of a run share.
 #[derive(Drop)]
-pub(crate) struct Work<'a, K: Plan, G: Gate> {
+pub(crate) struct Work<'a, 'p, K: Plan, G: Gate> {
     pub(crate) board: &'a SharedBoard<K>,
     pub(crate) gate: &'a G,
-    pub(crate) program: Program<'a>,
+    pub(crate) program: &'a Program<'p>,
     /// How many harts the board has.
     pub(crate) harts: u64,
-    ghost planned: { program.ticks.now ≡ K.ticks },
-    ghost blocked: { map guest program.blocks.now ≡ K.blocks },
+    ghost planned: { program.now.ticks.now ≡ K.ticks },
+    ghost blocked: { map guest program.now.blocks.now ≡ K.blocks },
     ghost counted: { harts ≡ K.opening.config.harts },
 }
 
-impl<'a, K: Plan, G: Gate> Work<'a, K, G> {
+impl<'a, 'p, K: Plan, G: Gate> Work<'a, 'p, K, G> {
     /// Whether the gate lets the seat's actor go on. No lock is held.
     pub(crate) fn is_let(&self, seat: &Seat<K>) -> bool
         requires { IsGate (G.lets self.now.gate.now) K.lets }

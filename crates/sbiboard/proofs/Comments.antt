@@ -1,4 +1,4 @@
--- A board's table is comments.
+-- A board's table is comments, and so is the line of a run's end.
 use Rattle.std.proofs.Common.{◌≡◌, ℕ, zero, suc, ◌+◌, ◌-◌, ◌/◌, ◌%◌, ◌<◌, ◌≤◌, Bool, true, false, eqb, List, [], ◌∷◌, ◌++◌, length, drop, replicate, Option, Some, None, codes, subst, refl, inl, inr, arith}
 use Rattle.std.specs.Prelude.{IsTrue, decimal}
 use Rattle.std.specs.Fmt.{digit_glyph, digits, digits_onto}
@@ -25,9 +25,12 @@ use Rattle.board_core.specs.Starts.{kept}
 use Rattle.board_core.specs.States.{state}
 use Rattle.board_core.specs.Totals.{totals}
 use Rattle.guest_script.specs.Words.{is_allowed, IsLine}
+use Rattle.hart_threads.specs.declared.ends.End.{End}
+use Rattle.hart_threads.specs.declared.ends.End.TheVariants as ends
 use Rattle.monitor.specs.Table.{asid_words, deadline_cell, details, entries, entry_cells, entry_line, fence_cells, fence_line, flush_words, hart_cells, head_cells, hex_column, left, letter, outstanding_cell, power_word, range_words, reset_words, right, rights, row, state_name, table, time_cells, tlb_cells, tlb_line, totals_cells, word_cells, word_line, words}
 use Rattle.monitor.specs.Words.{line_of}
 use Rattle.sbiboard.specs.PrintedScripts.{AreComments, TableIsComments}
+use Rattle.sbiboard.specs.Threaded.{end_line}
 use Rattle.guest_script.proofs.PlainWords.{append_all, lines_allowed}
 
 -- ---- bytes that a script may have
@@ -261,7 +264,7 @@ details_passes o past h =
     (pass_append tlb (ic ++ fences) (pass_each (tlb_line h) (tlb_passes h) (entries o past h))
     (pass_append ic fences (pass_each (word_line h) (word_passes h) (words o past h)) (pass_each (fence_line h) (fence_passes h) (waiting o past h))))
 
-table_passes : (o : Opening) (past : List Event) → Passes (table o past)
+pub table_passes : (o : Opening) (past : List Event) → Passes (table o past)
 table_passes o past =
     let time = line_of (time_cells o past) in
     let counts = line_of (totals_cells (totals o past)) in
@@ -272,6 +275,13 @@ table_passes o past =
     (pass_append counts (head ++ (rows ++ others)) (totals_passes (totals o past))
     (pass_append head (rows ++ others) head_passes
     (pass_append rows others (pass_each (row o past) (row_passes o past) (harts_of o.config)) (pass_each (details o past) (details_passes o past) (harts_of o.config)))))
+
+pub end_passes : (end : End) → AreComments (end_line end)
+end_passes ends.GateLimit = pass_line (codes "end" ∷ codes "gate-limit" ∷ []) (written_shown (codes "end") refl, (written_shown (codes "gate-limit") refl, tt)) [] tt
+end_passes ends.Off = pass_line (codes "end" ∷ codes "off" ∷ []) (written_shown (codes "end") refl, (written_shown (codes "off") refl, tt)) [] tt
+end_passes ends.HistoryFull = pass_line (codes "end" ∷ codes "history-full" ∷ []) (written_shown (codes "end") refl, (written_shown (codes "history-full") refl, tt)) [] tt
+end_passes ends.Quiet = pass_line (codes "end" ∷ codes "quiet" ∷ []) (written_shown (codes "end") refl, (written_shown (codes "quiet") refl, tt)) [] tt
+end_passes ends.Stuck = pass_line (codes "end" ∷ codes "stuck" ∷ []) (written_shown (codes "end") refl, (written_shown (codes "stuck") refl, tt)) [] tt
 
 pub table_is_comments : TableIsComments
 table_is_comments o past = subst AreComments (append-nil (table o past)) (table_passes o past [] tt)

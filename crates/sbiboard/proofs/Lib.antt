@@ -8,6 +8,7 @@ pub mod Replayed
 pub mod Ran
 pub mod Recorded
 pub mod Retraced
+pub mod RunAccepted
 pub mod Stopped
 pub mod Taken
 pub mod UpTo

@@ -106,6 +106,10 @@ job_read Check (Program blocks clock) lines are fits = absurd cc
 job_read Check (Schedule steps) lines are fits = absurd cc
 job_read Check (Trace steps) lines are fits = let e : lines ≡ steps = cc in rw e fits
 
+-- a script's board is as it is read
+pub config_read : (bytes : List ℕ) (s : Written) → Reads bytes s → FitsConfig s.config
+config_read bytes s reads = (script_read 1 (lines bytes) s reads.1).0
+
 -- a script's lines are as they are read
 pub are_read : (job : Job) (bytes : List ℕ) (s : Written) (lines : List Line) → Reads bytes s → Some lines ≡ lines_for job s.content → IsGood s.config → AreRead s.config lines
 are_read job bytes s found reads are good =

@@ -37,7 +37,7 @@ as_many : (n : ℕ) (b : Course) (lines : List Line) → length (trace_lines n (
 as_many n b [] = refl
 as_many n b (line ∷ lines) = ap suc (as_many (n + 1) (after_line b line) lines)
 
-traced_of : (lines : List Line) → traced (trace_of lines) ≡ Some lines
+pub traced_of : (lines : List Line) → traced (trace_of lines) ≡ Some lines
 traced_of [] = refl
 traced_of (line ∷ lines) = refl
 

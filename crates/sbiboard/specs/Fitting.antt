@@ -1,11 +1,12 @@
 -- Schedules whose replay is a trace: each of their numbers, and of the answers', has a place in a trace's line (profile).
-use Rattle.std.specs.Prelude.{List, [], ◌∷◌}
+use Rattle.std.specs.Prelude.{List, [], ◌∷◌, Ok}
 use Rattle.std.specs.List.{AllByRecursion}
 use Rattle.board_core.specs.declared.config.Config.{Config}
 use Rattle.board_core.specs.Course.{Course}
+use Rattle.board_core.specs.History.{Event}
 use Rattle.board_core.specs.Limits.{IsGood}
 use Rattle.guest_script.specs.declared.script.Line.{Line}
-use Rattle.sbiboard.specs.PrintedScripts.{ActorFits, FitsAnswer, FitsConfig, OpFits}
+use Rattle.sbiboard.specs.PrintedScripts.{ActorFits, FitsAnswer, FitsConfig, FitsOp, OpFits}
 use Rattle.sbiboard.specs.Running.{after_line, answer_of}
 
 -- each actor may be written
@@ -17,6 +18,11 @@ pub record AreRead (c : Config) (lines : List Line) : Type 0 where
   pub good : IsGood c
   pub config : FitsConfig c
   pub actors : ActorsFit lines
+
+-- the numbers of an event's operation and of its reply fit registers
+pub record EventFits (e : Event) : Type 0 where
+  pub op : FitsOp e.op
+  pub answer : FitsAnswer (Ok e.reply)
 
 -- the numbers of each operation and of each answer fit registers
 abbrev pub AllFit : Course → List Line → Type 0

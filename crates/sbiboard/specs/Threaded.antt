@@ -1,20 +1,22 @@
 -- What the run of a program on threads writes, and how it ends (profile).
-use Rattle.std.specs.Prelude.{◌≡◌, ℕ, List, [], ◌∷◌, ◌++◌, codes, reverse, Option, Some, None, Ok}
+use Rattle.std.specs.Prelude.{◌≡◌, ℕ, ◌≤◌, Bool, List, length, [], ◌∷◌, ◌++◌, codes, reverse, Option, Some, None, Ok}
 use Rattle.board_core.specs.declared.config.Config.{Config}
 use Rattle.board_core.specs.declared.event.Actor.TheVariants.{Clock}
 use Rattle.board_core.specs.History.{Event}
 use Rattle.board_core.specs.Opening.{Opening, opening_at}
 use Rattle.board_core.specs.Replies.{IsLegal}
 use Rattle.board_lock.specs.Events.{ops_of}
-use Rattle.guest_script.specs.Grammar.{Content, Empty, Guest, Program, Schedule, Trace}
+use Rattle.guest_script.specs.Grammar.{Content, Empty, Guest, most_bytes, Program, Schedule, Trace}
 use Rattle.hart_threads.specs.declared.ends.End.{End}
 use Rattle.hart_threads.specs.declared.ends.End.TheVariants as ends
 use Rattle.hart_threads.specs.Ends.{IsEnd}
 use Rattle.hart_threads.specs.Programs.{AreFirst}
+use Rattle.hart_threads.specs.Shares.{IsRun}
 use Rattle.monitor.specs.Table.{table}
 use Rattle.monitor.specs.Words.{board_words, event_words, line_of}
 use Rattle.sbiboard.specs.declared.outcome.Outcome.{Outcome}
 use Rattle.sbiboard.specs.declared.outcome.Outcome.TheVariants.{Good, HistoryFull, Stuck}
+use Rattle.sbiboard.specs.Check.{EndsCheck, agrees_text}
 use Rattle.sbiboard.specs.Running.{EndsAs}
 
 -- what a run takes of a program: its guests' blocks, and the clock's ticks
@@ -58,17 +60,21 @@ outcome_of ends.HistoryFull = HistoryFull
 outcome_of ends.Quiet = Good
 outcome_of ends.Stuck = Stuck
 
--- What the run of a program writes with each outcome: a record that is a legal history, in which the clock did the first of
--- its ticks in order, and how it ended.
-pub record RunsOnThreads (c : Config) (tasks : Tasks) (outcome : Outcome) (text : List ℕ) : Type 0 where
+-- What the run of a program writes with each outcome, whose gate may answer an actor so, by its number and how many of its
+-- operations were accepted: a record that is a legal history, in which the clock did the first of its ticks in order, what its
+-- threads did and why they did no more, and how it ended. Where the text isn't too long, it is a trace, and its check says that
+-- as many lines agree as there are events.
+pub record RunsOnThreads (lets : ℕ → ℕ → Bool → Type 0) (c : Config) (tasks : Tasks) (outcome : Outcome) (text : List ℕ) : Type 0 where
   pub past : List Event
   pub end : End
   pub legal : IsLegal (opening_at c) past
   pub ticked : AreFirst tasks.ticks (ops_of Clock (reverse past))
+  pub threads : IsRun lets (opening_at c) tasks.blocks tasks.ticks past end
   pub ended : IsEnd end (opening_at c) past tasks.blocks
   pub outcome_is : outcome ≡ outcome_of end
   pub text_is : text ≡ run_text (opening_at c) past end
+  pub accepted : length text ≤ most_bytes → EndsCheck text Good (agrees_text (length past))
 
 -- What the run of bytes writes with each outcome.
-abbrev pub EndsRun : List ℕ → Outcome → List ℕ → Type 0
-EndsRun bytes outcome text = EndsAs programmed RunsOnThreads bytes outcome text
+abbrev pub EndsRun : (lets : ℕ → ℕ → Bool → Type 0) → List ℕ → Outcome → List ℕ → Type 0
+EndsRun lets bytes outcome text = EndsAs programmed (RunsOnThreads lets) bytes outcome text

@@ -1,12 +1,15 @@
-ghost use Rattle.std.specs.Prelude.{◌≡◌, ◌^◌, ◌<◌, true, ℕ, IfSome, List, OnOk, is_some, take};
+ghost use Rattle.std.specs.Prelude.{◌≡◌, ◌^◌, ◌<◌, true, ℕ, IfSome, List, OnOk, is_some, reverse, take};
+ghost use Rattle.std.specs.List.{AllByRecursion};
 ghost use Rattle.board_core.specs.Limits.{IsGood};
 ghost use Rattle.guest_script.specs.Grammar.{Reads, content, written};
 ghost use Rattle.monitor.specs.Sinks.{Puts};
+ghost use Rattle.sbiboard.specs.Fitting.{EventFits};
 ghost use Rattle.sbiboard.specs.Running.{CountsEnd, EndsFlushed, EndsRead, Writes};
 ghost use Rattle.sbiboard.specs.Sources.{ReadsUpTo, read_limit};
 ghost use Rattle.sbiboard.specs.Threaded.{EndsRun, end_line, end_name, events_text, outcome_of, programmed, run_text};
 
 use crate::device::{Source, read_script};
+use crate::fitting::{answer_fits, step_fits};
 use crate::outcome::Outcome;
 use crate::running::unread;
 use board_core::Event;
@@ -30,7 +33,7 @@ pub fn run_script<S: Source, W: Sink, G: Gate + Sync, R: AllocGlobal + Threads +
     requires reader_counts { S.failures reader.old < 2 ^ 63 }
     requires writer_counts { W.failures writer.old < 2 ^ 63 }
     ensures writes { IfSome (S.left reader.old) (λ bytes.
-        Writes (EndsRun (take read_limit bytes)) result (W.written writer.old) (W.written writer.new)) }
+        Writes (EndsRun (G.lets gate.now) (take read_limit bytes)) result (W.written writer.old) (W.written writer.new)) }
     ensures to_the_end { EndsRead result (S.left reader.new) }
     ensures at_most { ReadsUpTo read_limit (S.left reader.old) (S.left reader.new) }
     ensures untouched { S.failures reader.old < S.failures reader.new → writer.new ≡ writer.old }
@@ -52,7 +55,7 @@ fn run_read<W: Sink, G: Gate + Sync, R: AllocGlobal + Threads + Wait + Sync>(
 ) -> Outcome
     requires { W.failures writer.old < 2 ^ 63 }
     ensures writes { (bytes : List ℕ) → Reads bytes (written script.now)
-        → Writes (EndsRun bytes) result (W.written writer.old) (W.written writer.new) }
+        → Writes (EndsRun (G.lets gate.now) bytes) result (W.written writer.old) (W.written writer.new) }
     ensures flushed { EndsFlushed result (W.is_flushed writer.new) }
     ensures failed { CountsEnd result 0 0 (W.failures writer.old) (W.failures writer.new) }
 {
@@ -96,6 +99,7 @@ fn print_run<W: Sink>(run: &RunEnd, writer: &mut W) -> Result<(), Failed>
     ensures text { Puts W.written W.failures writer.old writer.new result (run_text run.now.board.opening run.now.board.past run.now.end) }
     ensures flushed { OnOk result (W.is_flushed writer.new ≡ true) }
     ensures good { IsGood run.now.board.opening.config }
+    ensures fits { OnOk result (AllByRecursion EventFits (reverse run.now.board.past)) }
 {
     print_head(run.board.config(), writer)?;
     print_events(run.board.history(), writer)?;
@@ -107,12 +111,16 @@ fn print_run<W: Sink>(run: &RunEnd, writer: &mut W) -> Result<(), Failed>
 /// Writes each event with its reply.
 fn print_events<W: Sink>(events: &[Event], writer: &mut W) -> Result<(), Failed>
     requires { W.failures writer.old < 2 ^ 63 }
-    ensures { Puts W.written W.failures writer.old writer.new result (events_text events.now) }
+    ensures text { Puts W.written W.failures writer.old writer.new result (events_text events.now) }
+    ensures fits { OnOk result (AllByRecursion EventFits events.now) }
 {
     let mut page = Page::new();
     for event in events {
-        let step = (event.actor(), event.op());
-        page.print_line(Some(step), Ok(event.reply()), writer)?;
+        let step = Some((event.actor(), event.op()));
+        let answer = Ok(event.reply());
+        step_fits(step);
+        answer_fits(answer);
+        page.print_line(step, answer, writer)?;
     }
     page.put(writer)
 }

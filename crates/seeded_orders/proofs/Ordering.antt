@@ -132,16 +132,16 @@ goes o p most i picker next past after whole found picks step below is by some t
     ∙ sym (ordered-next o p most i i picker past below) ∙ keeps
 
 pub same-task : (program : Program) (body : Content) → map guest program.blocks.now ≡ blocks_of body → program.ticks.now ≡ ticks_of body → task_in program ≡ task_of body
-same-task program body blocks ticks = cc
+same-task program body blocks ticks = λ i. record { blocks = blocks i; ticks = ticks i }
 
 pub if-ok : {T E : Type 0} (found : Result T E) (P Q : T → Type 0) → ((x : T) → P x → Q x) → IfOk found P → IfOk found Q
 if-ok (Ok x) P Q gives holds = gives x holds
 if-ok (Err e) P Q gives holds = holds
 
 -- What is followed from the opening on is the order, if its picker is.
-pub order-is-tried : (c : Config) (content : Content) (seed order : ℕ) (past : List Event) (picker : Picker) (end : End) → picker ≡ picker_of c.harts seed order
-    → past ≡ ordered (opening_at c) (task_of content) c.limit 0 picker [] → IsEnd end (opening_at c) past (blocks_of content) → IsTried c content seed order past end
-order-is-tried c content seed order past picker end picks follows ended =
-    let same : past ≡ order_of c (task_of content) seed order = follows ∙ ap (λ (g : Picker). ordered (opening_at c) (task_of content) c.limit 0 g []) picks in
-    let Q : List Event → Type 0 = λ xs. AreOwn (task_of content) xs in
-    record { same = same; own = subst Q (sym same) (ordered-own (opening_at c) (task_of content) c.limit 0 (picker_of c.harts seed order) [] tt); ended = ended }
+pub order-is-tried : (c : Config) (p : Task) (seed order : ℕ) (past : List Event) (picker : Picker) (end : End) → picker ≡ picker_of c.harts seed order
+    → past ≡ ordered (opening_at c) p c.limit 0 picker [] → IsEnd end (opening_at c) past p.blocks → IsTried c p seed order past end
+order-is-tried c p seed order past picker end picks follows ended =
+    let same : past ≡ order_of c p seed order = follows ∙ ap (λ (g : Picker). ordered (opening_at c) p c.limit 0 g []) picks in
+    let Q : List Event → Type 0 = λ xs. AreOwn p xs in
+    record { same = same; own = subst Q (sym same) (ordered-own (opening_at c) p c.limit 0 (picker_of c.harts seed order) [] tt); ended = ended }

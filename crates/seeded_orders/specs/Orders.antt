@@ -8,15 +8,13 @@ use Rattle.board_core.specs.declared.event.Actor.{Actor}
 use Rattle.board_core.specs.declared.event.Op.{Op}
 use Rattle.board_core.specs.History.{Event}
 use Rattle.board_core.specs.Replies.{stepped}
-use Rattle.guest_script.specs.Grammar.{Content}
 use Rattle.hart_threads.specs.declared.ends.End.{End}
 use Rattle.hart_threads.specs.Ends.{IsEnd}
-use Rattle.hart_threads.specs.Programs.{blocks_of}
 use Rattle.seeded_orders.specs.declared.pickers.Picker.{Picker}
 use Rattle.seeded_orders.specs.declared.pickers.Picker.TheVariants.{Even, Ranked}
 use Rattle.seeded_orders.specs.declared.steps.Step.{Step}
 use Rattle.seeded_orders.specs.Ranks.{highest, ranking, reranked}
-use Rattle.seeded_orders.specs.Steps.{actor_of, AreOwn, op_of, steps, Task, task_of}
+use Rattle.seeded_orders.specs.Steps.{actor_of, AreOwn, op_of, steps, Task}
 
 -- the generator of an order: PCG64 DXSM, whose state is begun with the seed and whose stream is the order's number
 abbrev pub words_of : (seed order : ℕ) → Lcg
@@ -61,7 +59,7 @@ abbrev pub order_of : Config → Task → (seed order : ℕ) → List Event
 order_of c p seed order = ordered (opening_at c) p c.limit 0 (picker_of c.harts seed order) []
 
 -- What trying an order of a program gives: this past, in which each step is its actor's own, and this end.
-pub record IsTried (c : Config) (content : Content) (seed order : ℕ) (past : List Event) (end : End) : Type 0 where
-  pub same : past ≡ order_of c (task_of content) seed order
-  pub own : AreOwn (task_of content) past
-  pub ended : IsEnd end (opening_at c) past (blocks_of content)
+pub record IsTried (c : Config) (p : Task) (seed order : ℕ) (past : List Event) (end : End) : Type 0 where
+  pub same : past ≡ order_of c p seed order
+  pub own : AreOwn p past
+  pub ended : IsEnd end (opening_at c) past p.blocks

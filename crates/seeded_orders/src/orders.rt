@@ -7,7 +7,7 @@ ghost use Rattle.hart_threads.specs.Programs.{IsProgram};
 ghost use Rattle.hart_threads.specs.declared.ends.RunFault.TheVariants.{BadConfig};
 ghost use Rattle.seeded_orders.specs.Orders.{IsTried, ordered, past_with};
 ghost use Rattle.seeded_orders.specs.Places.{AreAt};
-ghost use Rattle.seeded_orders.specs.Steps.{task_in};
+ghost use Rattle.seeded_orders.specs.Steps.{task_in, task_of};
 
 use crate::pickers::Picker;
 use crate::places::Places;
@@ -29,10 +29,11 @@ pub fn try_order(alloc: Global, script: &Script, seed: u64, order: u64) -> Resul
     ensures opening { IfOk result (λ run. run.board.opening ≡ opening_at script.now.config) }
     ensures legal { IfOk result (λ run. IsLegal run.board.opening run.board.past) }
     ensures tried { IfOk result
-        (λ run. IsTried script.now.config (content script.now.body) seed order run.board.past run.end) }
+        (λ run. IsTried script.now.config (task_of (content script.now.body)) seed order run.board.past run.end) }
 {
     let mut board = new_board(alloc, &script.config)?;
-    let end = try_order_on(alloc, script, &mut board, seed, order)?;
+    let program = program_in(alloc, &script.body)?;
+    let end = try_order_on(alloc, &program, &mut board, seed, order)?;
     Ok(RunEnd { end, board })
 }
 
@@ -44,20 +45,18 @@ pub fn try_order(alloc: Global, script: &Script, seed: u64, order: u64) -> Resul
 /// Memory was refused.
 pub fn try_order_on(
     alloc: Global,
-    script: &Script,
+    program: &Program<'_>,
     board: &mut Board,
     seed: u64,
     order: u64,
 ) -> Result<End, AllocError>
-    requires program { IsProgram (content script.now.body) }
-    requires its_own { board.old.opening.config ≡ script.now.config }
     ensures config { board.new.opening.config ≡ board.old.opening.config }
-    ensures opening { OnOk result (board.new.opening ≡ opening_at script.now.config) }
+    ensures opening { OnOk result (board.new.opening ≡ opening_at board.old.opening.config) }
     ensures legal { IsLegal board.new.opening board.new.past }
     ensures tried { IfOk result
-        (λ end. IsTried script.now.config (content script.now.body) seed order board.new.past end) }
+        (λ end. IsTried board.old.opening.config (task_in program.now) seed order board.new.past end) }
 {
-    let ended = follow_anew(alloc, script, board, seed, order);
+    let ended = follow_anew(alloc, program, board, seed, order);
     let _legal = board.history();
     ended
 }
@@ -65,25 +64,22 @@ pub fn try_order_on(
 /// Runs a program on a board, which begins anew, in the order of a seed and a number.
 fn follow_anew(
     alloc: Global,
-    script: &Script,
+    program: &Program<'_>,
     board: &mut Board,
     seed: u64,
     order: u64,
 ) -> Result<End, AllocError>
-    requires program { IsProgram (content script.now.body) }
-    requires its_own { board.old.opening.config ≡ script.now.config }
     ensures config { board.new.opening.config ≡ board.old.opening.config }
-    ensures opening { OnOk result (board.new.opening ≡ opening_at script.now.config) }
+    ensures opening { OnOk result (board.new.opening ≡ opening_at board.old.opening.config) }
     ensures tried { IfOk result
-        (λ end. IsTried script.now.config (content script.now.body) seed order board.new.past end) }
+        (λ end. IsTried board.old.opening.config (task_in program.now) seed order board.new.past end) }
 {
-    let program = program_in(&script.body);
     let harts = board.config().harts;
     let mut places = Places::new(alloc, harts, program.ticks)?;
     let mut picker = Picker::new(alloc, harts, seed, order)?;
     board.begin_anew(alloc)?;
     let met = follow(alloc, board, program, &mut places, &mut picker)?;
-    end_of(alloc, board, program.blocks, met)
+    end_of(alloc, board, program, met)
 }
 
 /// Takes steps, one a turn, until none can be taken or the history is full; and tells which.
@@ -94,14 +90,14 @@ fn follow_anew(
 fn follow<'a>(
     alloc: Global,
     board: &mut Board,
-    program: Program<'a>,
+    program: &Program<'a>,
     places: &mut Places<'a>,
     picker: &mut Picker,
 ) -> Result<Met, AllocError>
-    requires { AreAt (task_in program) board.old.opening.config.harts board.old.past places.old }
+    requires { AreAt (task_in program.now) board.old.opening.config.harts board.old.past places.old }
     ensures opening { board.new.opening ≡ board.old.opening }
     ensures past { OnOk result (board.new.past
-        ≡ ordered board.old.opening (task_in program.entry) board.old.opening.config.limit 0 picker.old board.old.past) }
+        ≡ ordered board.old.opening (task_in program.now) board.old.opening.config.limit 0 picker.old board.old.past) }
 {
     let mut steps = Vec::new(alloc);
     for i in 0..board.config().limit {
@@ -120,11 +116,11 @@ fn follow<'a>(
 }
 
 /// Takes a step.
-fn take<'a>(board: &mut Board, program: Program<'a>, places: &mut Places<'a>, step: Step)
-    requires { AreAt (task_in program) board.old.opening.config.harts board.old.past places.old }
+fn take<'a>(board: &mut Board, program: &Program<'a>, places: &mut Places<'a>, step: Step)
+    requires { AreAt (task_in program.now) board.old.opening.config.harts board.old.past places.old }
     ensures opening { board.new.opening ≡ board.old.opening }
-    ensures past { board.new.past ≡ past_with board.old.opening (task_in program.entry) board.old.past (Some step) }
-    ensures places { AreAt (task_in program.entry) board.old.opening.config.harts board.new.past places.new }
+    ensures past { board.new.past ≡ past_with board.old.opening (task_in program.now) board.old.past (Some step) }
+    ensures places { AreAt (task_in program.now) board.old.opening.config.harts board.new.past places.new }
 {
     let Some(op) = places.op(step) else {
         return;

@@ -1,13 +1,16 @@
 -- What was found of orders, and of orders behind others.
-use Rattle.std.proofs.Common.{◌≡◌, ℕ, ◌+◌, List, [], ◌∷◌, ◌++◌, refl, sym, subst}
+use Rattle.std.proofs.Common.{◌≡◌, ℕ, ◌+◌, List, [], ◌∷◌, ◌++◌, map, refl, sym, subst}
 use Rattle.std.specs.Prelude.{reverse}
 use Rattle.std.proofs.lemmas.List.{reverse-reverse}
 use Rattle.board_core.specs.declared.config.Config.{Config}
 use Rattle.board_core.specs.History.{Event}
 use Rattle.conditions.specs.declared.reading.Condition.{Condition}
-use Rattle.guest_script.specs.Grammar.{Content}
+use Rattle.guest_script.specs.Grammar.{Content, guest}
+use Rattle.hart_threads.specs.declared.blocks.Program.{Program}
 use Rattle.hart_threads.specs.declared.ends.End.{End}
+use Rattle.hart_threads.specs.Programs.{blocks_of, ticks_of}
 use Rattle.seeded_orders.specs.Orders.{IsTried}
+use Rattle.seeded_orders.specs.Steps.{task_in, task_of}
 use Rattle.tallies.specs.declared.findings.Findings.{Findings}
 use Rattle.tallies.specs.Records.{ending, Tried}
 use Rattle.tallies.specs.Findings.{AreFound, AreFoundOf, AreOrders, IsOrder}
@@ -17,17 +20,21 @@ orders-behind : (c : Config) (content : Content) (seed from mid to : ℕ) (xs ys
 orders-behind c content seed from mid to xs [] here there = subst (λ (n : ℕ). AreOrders c content seed from xs n) (sym there) here
 orders-behind c content seed from mid to xs (y ∷ ys) here there = (there.0, there.1, orders-behind c content seed from mid y.number xs ys here there.2)
 
+-- what a program has its actors do is what its script says
+pub same-task : (program : Program) (content : Content) → map guest program.blocks.now ≡ blocks_of content → program.ticks.now ≡ ticks_of content → task_in program ≡ task_of content
+same-task program content blocks ticks = λ i. record { blocks = blocks i; ticks = ticks i }
+
 -- before any order
 pub found-none : (c : Config) (content : Content) (conditions : List Condition) (seed from : ℕ) (found : Findings) → AreFound conditions [] found → AreFoundOf c content conditions seed from from found
 found-none c content conditions seed from found none = ([], refl, none)
 
 -- one order more
-pub found-next : (c : Config) (content : Content) (conditions : List Condition) (seed from i : ℕ) (past : List Event) (end : End) (before after : Findings) → IsTried c content seed i past end
+pub found-next : (c : Config) (content : Content) (conditions : List Condition) (seed from i : ℕ) (past : List Event) (end : End) (before after : Findings) → IsTried c (task_of content) seed i past end
     → ((tried : List Tried) (x : Tried) → x.number ≡ i → x.events ≡ reverse past → x.end ≡ ending end → AreFound conditions tried before → AreFound conditions (x ∷ tried) after)
     → AreFoundOf c content conditions seed from i before → AreFoundOf c content conditions seed from (i + 1) after
 found-next c content conditions seed from i past end before after is sees found =
     let x : Tried = record { number = i; events = reverse past; end = ending end } in
-    let P : List Event → Type 0 = λ xs. IsTried c content seed i xs end in
+    let P : List Event → Type 0 = λ xs. IsTried c (task_of content) seed i xs end in
     let order : IsOrder c content seed x = (end, refl, subst P (sym (reverse-reverse past)) is) in (
       x ∷ found.0,
       (refl, order, found.1),

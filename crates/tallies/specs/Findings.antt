@@ -8,6 +8,7 @@ use Rattle.conditions.specs.declared.rules.Ending.TheVariants as endings
 use Rattle.guest_script.specs.Grammar.{Content}
 use Rattle.hart_threads.specs.declared.ends.End.{End}
 use Rattle.seeded_orders.specs.Orders.{IsTried}
+use Rattle.seeded_orders.specs.Steps.{task_of}
 use Rattle.tallies.specs.declared.ends.Ends.{Ends}
 use Rattle.tallies.specs.declared.findings.Findings.{Findings}
 use Rattle.tallies.specs.declared.findings.Judged.{Judged}
@@ -39,7 +40,7 @@ pub record AreFound (conditions : List Condition) (tried : List Tried) (found : 
 
 -- A record is the order of a program that a seed and its number pick, and it ended so.
 abbrev pub IsOrder : Config → Content → (seed : ℕ) → Tried → Type 0
-IsOrder c content seed x = (end : End) × (x.end ≡ ending end) × IsTried c content seed x.number (reverse x.events) end
+IsOrder c content seed x = (end : End) × (x.end ≡ ending end) × IsTried c (task_of content) seed x.number (reverse x.events) end
 
 -- These are the orders of a seed from one number up to another, the last in front.
 abbrev pub AreOrders : Config → Content → (seed from : ℕ) → List Tried → (to : ℕ) → Type 0

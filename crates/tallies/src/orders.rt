@@ -6,7 +6,7 @@ ghost use Rattle.tallies.specs.Findings.{AreFoundOf};
 use crate::findings::Findings;
 use conditions::Condition;
 use guest_script::Script;
-use hart_threads::{RunFault, new_board};
+use hart_threads::{RunFault, new_board, program_in};
 use seeded_orders::try_order_on;
 use std::alloc::Global;
 
@@ -28,9 +28,10 @@ pub fn try_orders(
     ensures { IfOk result (AreFoundOf script.now.config (content script.now.body) conditions.now seed from to) }
 {
     let mut board = new_board(alloc, &script.config)?;
+    let program = program_in(alloc, &script.body)?;
     let mut found = Findings::new(alloc, conditions.len())?;
     for order in from..to {
-        let end = try_order_on(alloc, script, &mut board, seed, order)?;
+        let end = try_order_on(alloc, &program, &mut board, seed, order)?;
         found.see(alloc, conditions, order, &board, end)?;
     }
     Ok(found)

@@ -6,4 +6,4 @@ use Rattle.hart_threads.proofs.finding.guests_after.Given as goal
 abbrev pub invariant-loop-event : goal.invariant-loop-event
 invariant-loop-event l =
     (length l.guests.items ≡ l.board.opening.config.harts)
-    × AllLeft (map guest l.blocks) l.guests.items (reverse (take l.event-index l.event-items))
+    × AllLeft (map guest l.program.blocks.now) l.guests.items (reverse (take l.event-index l.event-items))

@@ -1,4 +1,4 @@
-use Rattle.std.proofs.Common.{◌≡◌, List, ◌∷◌, ap, subst, sym, ◌∙◌}
+use Rattle.std.proofs.Common.{List, ◌∷◌, ap, subst, sym, ◌∙◌}
 use Rattle.std.specs.Prelude.{Option}
 use Rattle.board_core.specs.declared.event.Op.{Op}
 use Rattle.board_lock.specs.Seats.{Sitting}

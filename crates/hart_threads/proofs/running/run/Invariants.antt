@@ -1,6 +1,6 @@
-use Rattle.std.proofs.Common.{map}
 use Rattle.board_core.specs.Opening.{opening_at}
-use Rattle.guest_script.specs.Grammar.{guest}
+use Rattle.guest_script.specs.Grammar.{content}
+use Rattle.hart_threads.specs.Programs.{blocks_of, ticks_of}
 use Rattle.hart_threads.proofs.running.run.Given as goal
 
 -- the room that was just made
@@ -9,8 +9,8 @@ ghosts-run_in-K-Ledger g a = record { name = a.room.ledger; parts = a.room.parts
 
 abbrev pub ghosts-run_in-K-Plan : goal.ghosts-run_in-K-Plan
 ghosts-run_in-K-Plan g a = record {
-  ticks = a.program.ticks.now;
-  blocks = map guest a.program.blocks.now;
+  ticks = ticks_of (content a.body.now);
+  blocks = blocks_of (content a.body.now);
   lets = λ number ordinal answer. g.G.Gate.lets a.gate.now number ordinal answer;
 }
 

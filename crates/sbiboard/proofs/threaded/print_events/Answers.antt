@@ -1,7 +1,10 @@
-use Rattle.std.proofs.Common.{◌∙◌, ◌+◌, drop}
+use Rattle.std.proofs.Common.{◌∙◌, ◌+◌, Ok, drop, subst}
+use Rattle.board_core.specs.declared.event.Reply.{Reply}
+use Rattle.sbiboard.specs.PrintedScripts.{FitsAnswer, FitsOp}
 use Rattle.sbiboard.specs.Threaded.{events_text}
 use Rattle.sbiboard.proofs.Recorded.{events_text-more}
 use Rattle.sbiboard.proofs.Replayed.{has_written-passed}
+use Rattle.sbiboard.proofs.RunAccepted.{events_fit-more}
 use Rattle.sbiboard.proofs.threaded.print_events.Goals as goal
 
 pub loop-event-preserved : goal.loop-event-preserved
@@ -14,4 +17,6 @@ loop-event-preserved g c =
           (events_text-more c.args.events.now i c.event-item.result c.event-item.is c.loop-event-test.true
           c.actor.result c.op.result c.reply.result c.actor.ensures c.op.ensures c.reply.ensures) printed.2 at.0 printed.1,
       printed.3 ∙ at.1,
+      λ later. at.2 (events_fit-more c.args.events.now i c.event-item.result c.event-item.is c.loop-event-test.true
+          (record { op = subst FitsOp c.op.ensures c.step_fits.ensures; answer = subst (λ (r : Reply). FitsAnswer (Ok r)) c.reply.ensures c.answer_fits.ensures }) later),
     )

@@ -1,4 +1,4 @@
-use Rattle.std.proofs.Common.{List, ℕ}
+use Rattle.std.proofs.Common.{Bool, List, ℕ}
 use Rattle.sbiboard.specs.Running.{Writes}
 use Rattle.sbiboard.specs.Threaded.{EndsRun, RunsOnThreads, programmed}
 use Rattle.sbiboard.proofs.Stopped.{known_fault, known_read}
@@ -6,9 +6,11 @@ use Rattle.sbiboard.proofs.threaded.run_script.Goals as goal
 
 pub returns-in-Ok-clause-writes : goal.returns-in-Ok-clause-writes
 returns-in-Ok-clause-writes g c =
-    known_read (λ (bytes : List ℕ). Writes (EndsRun bytes) c.run_read.result (g.W.Sink.written c.args.writer.now) (g.W.Sink.written c.run_read.new.writer)) (g.S.Source.left c.args.reader.now)
+    let lets : ℕ → ℕ → Bool → Type 0 = g.G.Gate.lets c.args.gate.now in
+    known_read (λ (bytes : List ℕ). Writes (EndsRun lets bytes) c.run_read.result (g.W.Sink.written c.args.writer.now) (g.W.Sink.written c.run_read.new.writer)) (g.S.Source.left c.args.reader.now)
     c.in-Ok.script c.in-Ok.ensures.script c.run_read.ensures.writes
 
 pub returns-in-Err-clause-writes : goal.returns-in-Err-clause-writes
 returns-in-Err-clause-writes g c =
-    known_fault programmed RunsOnThreads (g.W.Sink.written c.args.writer.now) (g.S.Source.left c.args.reader.now) c.in-Err.fault _ c.unread.ensures c.in-Err.ensures.script
+    let lets : ℕ → ℕ → Bool → Type 0 = g.G.Gate.lets c.args.gate.now in
+    known_fault programmed (RunsOnThreads lets) (g.W.Sink.written c.args.writer.now) (g.S.Source.left c.args.reader.now) c.in-Err.fault _ c.unread.ensures c.in-Err.ensures.script

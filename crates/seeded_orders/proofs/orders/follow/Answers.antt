@@ -9,13 +9,13 @@ use Rattle.seeded_orders.proofs.orders.follow.Goals as goal
 
 pub returns-in_default-clause-past : goal.returns-in_default-clause-past
 returns-in_default-clause-past c =
-    let p : Task = task_in c.args.program in
+    let p : Task = task_in c.args.program.now in
     stops c.loop-i.board.opening p (c.args.board.now.opening.config.limit - c.loop-i.i) c.loop-i.i c.loop-i.picker c.pick.new.self c.loop-i.board.past _ c.deref.result.now c.pick.result
     (c.deref.ensures.value ∙ c.in_ok-list.ensures p c.loop-i.invariant.1) c.pick.ensures c.in_default.is c.loop-i.invariant.2
 
 pub loop-i-preserved : goal.loop-i-preserved
 loop-i-preserved c =
-    let p : Task = task_in c.args.program in
+    let p : Task = task_in c.args.program.now in
     let limit : c.config.result.now.limit ≡ c.args.board.now.opening.config.limit = ap (λ (k : Config). k.limit) c.config.ensures.config in
     let P : Opening → Type 0 = λ k. AreAt p k.config.harts c.take.new.board.past c.take.new.places in (
       c.take.ensures.opening ∙ c.loop-i.invariant.0,
@@ -29,4 +29,4 @@ loop-i-preserved c =
 pub returns-clause-past : goal.returns-clause-past
 returns-clause-past c =
     let limit : c.config.result.now.limit ≡ c.args.board.now.opening.config.limit = ap (λ (k : Config). k.limit) c.config.ensures.config in
-    ends c.loop-i.board.opening (task_in c.args.program) (c.args.board.now.opening.config.limit - c.loop-i.i) c.loop-i.i c.loop-i.picker c.loop-i.board.past _ (omega arith) c.loop-i.invariant.2
+    ends c.loop-i.board.opening (task_in c.args.program.now) (c.args.board.now.opening.config.limit - c.loop-i.i) c.loop-i.i c.loop-i.picker c.loop-i.board.past _ (omega arith) c.loop-i.invariant.2

@@ -3,40 +3,35 @@ use Rattle.board_core.specs.declared.config.Config.{Config}
 use Rattle.board_core.specs.Course.{Course}
 use Rattle.board_core.specs.History.{Event}
 use Rattle.board_core.specs.Opening.{Opening, opening_at}
-use Rattle.guest_script.specs.Grammar.{content, Content, Guest}
 use Rattle.hart_threads.specs.declared.ends.End.{End}
 use Rattle.hart_threads.specs.Ends.{IsEnd}
-use Rattle.hart_threads.specs.Programs.{blocks_of}
 use Rattle.seeded_orders.specs.Orders.{ordered, picker_of}
 use Rattle.seeded_orders.specs.Places.{AreAt}
-use Rattle.seeded_orders.specs.Steps.{task_in, task_of, Task}
-use Rattle.seeded_orders.proofs.Ordering.{if-ok, order-is-tried, same-task}
+use Rattle.seeded_orders.specs.Steps.{task_in, Task}
+use Rattle.seeded_orders.proofs.Ordering.{if-ok, order-is-tried}
 use Rattle.seeded_orders.proofs.orders.follow_anew.Goals as goal
 
 pub follow-requires : goal.follow-requires
 follow-requires c =
-    let p : Task = task_in c.program_in-program.result in
+    let p : Task = task_in c.args.program.now in
     let P : Course → Type 0 = λ b. AreAt p b.opening.config.harts b.past c.in_ok-places.places in
     let Q : Config → Type 0 = λ k. AreAt p k.harts [] c.in_ok-places.places in
     subst P (sym c.in_ok-begin_anew.ensures.opening) (subst Q c.config.ensures.config (c.in_ok-places.ensures p refl))
 
 pub returns-clause-tried : goal.returns-clause-tried
 returns-clause-tried c =
-    let k : Config = c.args.script.now.config in
-    let body : Content = content c.args.script.now.body in
+    let k : Config = c.args.board.now.opening.config in
+    let p : Task = task_in c.args.program.now in
     let begun : Course = c.begin_anew.new.self in
-    let task : task_in c.program_in-program.result ≡ task_of body = same-task c.program_in-program.result body c.program_in-program.ensures.blocks c.program_in-program.ensures.ticks in
-    let opening : begun.opening ≡ opening_at k = ap (λ (b : Course). b.opening) c.in_ok-begin_anew.ensures.opening ∙ ap opening_at c.requires.its_own in
+    let opening : begun.opening ≡ opening_at k = ap (λ (b : Course). b.opening) c.in_ok-begin_anew.ensures.opening in
     let none : begun.past ≡ [] = ap (λ (b : Course). b.past) c.in_ok-begin_anew.ensures.opening in
-    let follows : c.follow.new.board.past ≡ ordered (opening_at k) (task_of body) k.limit 0 c.in_ok-picker.picker [] =
-    c.in_ok-met.ensures.past ∙ ap (λ (t : Task). ordered begun.opening t begun.opening.config.limit 0 c.in_ok-picker.picker begun.past) task
-    ∙ ap (λ (o : Opening). ordered o (task_of body) o.config.limit 0 c.in_ok-picker.picker begun.past) opening
-    ∙ ap (λ (past : List Event). ordered (opening_at k) (task_of body) k.limit 0 c.in_ok-picker.picker past) none in
+    let follows : c.follow.new.board.past ≡ ordered (opening_at k) p k.limit 0 c.in_ok-picker.picker [] =
+    c.in_ok-met.ensures.past ∙ ap (λ (o : Opening). ordered o p o.config.limit 0 c.in_ok-picker.picker begun.past) opening
+    ∙ ap (λ (past : List Event). ordered (opening_at k) p k.limit 0 c.in_ok-picker.picker past) none in
     let picks : c.in_ok-picker.picker ≡ picker_of k.harts c.args.seed c.args.order =
-    c.in_ok-picker.ensures ∙ ap (λ (x : Config). picker_of x.harts c.args.seed c.args.order) (c.config.ensures.config ∙ c.requires.its_own) in
-    let E : End → Opening → Type 0 = λ end o. IsEnd end o c.follow.new.board.past (blocks_of body) in
-    let F : End → List Guest → Type 0 = λ end blocks. IsEnd end c.follow.new.board.opening c.follow.new.board.past blocks in
+    c.in_ok-picker.ensures ∙ ap (λ (x : Config). picker_of x.harts c.args.seed c.args.order) c.config.ensures.config in
+    let E : End → Opening → Type 0 = λ end o. IsEnd end o c.follow.new.board.past p.blocks in
     if-ok c.end_of.result _ _
-    (λ end is. order-is-tried k body c.args.seed c.args.order c.follow.new.board.past c.in_ok-picker.picker end picks follows
-    (subst (E end) (c.follow.ensures.opening ∙ opening) (subst (F end) c.program_in-program.ensures.blocks is)))
+    (λ end is. order-is-tried k p c.args.seed c.args.order c.follow.new.board.past c.in_ok-picker.picker end picks follows
+    (subst (E end) (c.follow.ensures.opening ∙ opening) is))
     c.end_of.ensures.end

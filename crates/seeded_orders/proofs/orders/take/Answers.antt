@@ -11,7 +11,7 @@ use Rattle.seeded_orders.proofs.orders.take.Goals as goal
 pub returns-in-Ok-clause-places : goal.returns-in-Ok-clause-places
 returns-in-Ok-clause-places c =
     let b : Course = c.args.board.now in
-    let p : Task = task_in c.args.program in
+    let p : Task = task_in c.args.program.now in
     let by : Actor = c.actor-actor.result in
     let e : Event = event_of b by c.in-Some.op c.in-Ok.reply in
     let P : List Event → Type 0 = λ past. AreAt p b.opening.config.harts past c.see.new.self in
