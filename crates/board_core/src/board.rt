@@ -175,6 +175,49 @@ impl Board {
         Ok(Segment { opening, events })
     }
 
+    /// A board that goes on from an opening: it is as the board was then, and its history is empty. Memory for the whole
+    /// history is reserved here.
+    ///
+    /// # Errors
+    ///
+    /// Memory was refused.
+    pub fn at(alloc: Global, opening: &Opening) -> Result<Board, AllocError>
+        ensures { IfOk result (λ b. b ≡ record { opening = opening.now; past = [] }) }
+    {
+        let config = *opening.config();
+        let events = Vec::with_capacity(alloc, config.limit as usize)?;
+        let machine = opening.machine(alloc)?;
+        let left = opening.try_copy(alloc)?;
+        Ok(Board {
+            config,
+            places: opening.places(),
+            opened: Some(left),
+            events,
+            machine,
+        })
+    }
+
+    /// What the history leaves: what a board begins with that goes on from here, as after a cut. It takes memory for a copy of
+    /// what the board holds.
+    ///
+    /// # Errors
+    ///
+    /// More than 2^56 - 1,000,000 events were accepted since the first opening, or memory was refused.
+    pub fn left(&self, alloc: Global) -> Result<Opening, BuildFault>
+        ensures full { IsErrOf result CutFull ↔ last_cut < place_after self.now.opening self.now.past }
+        ensures fault { IfErr result (λ fault. (fault ≡ CutFull) ⊎ (fault ≡ NoMemory)) }
+        ensures left { IfOk result (λ o. o ≡ opening_of self.now.opening self.now.past) }
+    {
+        let place = self.place();
+        if place > LAST_CUT {
+            return Err(BuildFault::CutFull);
+        }
+        let Ok(machine) = self.machine.try_copy(alloc) else {
+            return Err(BuildFault::NoMemory);
+        };
+        Ok(Opening::of(self.config, place, machine))
+    }
+
     /// One step of one actor: the one event that it records, or a refusal that leaves all as it was.
     pub fn step(&mut self, actor: Actor, op: Op) -> Result<Reply, Refusal>
         ensures answer { result ≡ answer self.old.opening self.old.past actor op }

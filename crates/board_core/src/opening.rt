@@ -80,6 +80,34 @@ impl Opening {
         }
     }
 
+    /// An opening that is the same.
+    ///
+    /// # Errors
+    ///
+    /// Memory was refused.
+    pub fn try_copy(&self, alloc: Global) -> Result<Opening, AllocError>
+        ensures { IfOk result (λ copy. copy ≡ self.now) }
+    {
+        let machine = self.machine.try_copy(alloc)?;
+        Ok(Opening {
+            config: self.config,
+            places: self.places,
+            machine,
+        })
+    }
+
+    /// A machine that stands for it, where no event was accepted since.
+    ///
+    /// # Errors
+    ///
+    /// Memory was refused.
+    pub(crate) fn machine(&self, alloc: Global) -> Result<Machine, AllocError>
+        ensures kept { IsKept self.now [] }
+        ensures stands { IfOk result (StandsFor self.now []) }
+    {
+        self.machine.try_copy(alloc)
+    }
+
     /// The board's numbers.
     pub fn config(&self) -> &Config
         ensures config { result.now ≡ self.now.config }
