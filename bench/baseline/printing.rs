@@ -151,6 +151,7 @@ impl Out {
         self.end_line()
     }
 
+    #[inline(always)]
     fn operation(&mut self, line: Line, numbers: &[u64]) {
         self.text(line.name.word());
         match line.name {

@@ -208,14 +208,14 @@ impl Board {
         ensures fault { IfErr result (λ fault. (fault ≡ CutFull) ⊎ (fault ≡ NoMemory)) }
         ensures left { IfOk result (λ o. o ≡ opening_of self.now.opening self.now.past) }
     {
-        let place = self.place();
-        if place > LAST_CUT {
+        let here = self.place();
+        if here > LAST_CUT {
             return Err(BuildFault::CutFull);
         }
         let Ok(machine) = self.machine.try_copy(alloc) else {
             return Err(BuildFault::NoMemory);
         };
-        Ok(Opening::of(self.config, place, machine))
+        Ok(Opening::of(self.config, here, machine))
     }
 
     /// One step of one actor: the one event that it records, or a refusal that leaves all as it was.

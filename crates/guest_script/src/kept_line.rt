@@ -1,4 +1,4 @@
-ghost use Rattle.std.specs.Prelude.{◌≡◌, length};
+ghost use Rattle.std.specs.Prelude.{◌≡◌, ◌↔◌, true, IfSome, None, length};
 ghost use Rattle.guest_script.specs.declared.script.Line.{Line};
 ghost use Rattle.guest_script.specs.KeptLines.{IsWithin, line_of};
 
@@ -31,17 +31,38 @@ impl<'a> KeptLine<'a> {
         u64::from(self.kept.number)
     }
 
+    /// Whether the line is `cut`, which has no actor.
+    #[inline(always)]
+    pub fn is_cut(&self) -> bool
+        ensures { (result ≡ true) ↔ (self.now.step ≡ None) }
+    {
+        self.kept.actor == CUT
+    }
+
+    /// Who makes the step, where the line isn't `cut`.
+    pub fn actor(&self) -> Actor
+        ensures { IfSome self.now.step (λ step. result ≡ step.0) }
+    {
+        actor(self.kept.actor)
+    }
+
+    /// What it does, where the line isn't `cut`.
+    pub fn op(&self) -> Op
+        ensures { IfSome self.now.step (λ step. result ≡ step.1) }
+    {
+        let from = self.kept.from as usize;
+        let end = from + self.kept.op_count as usize;
+        self.kept.op.op(&self.numbers[from..end])
+    }
+
     /// Who makes the step, and what it does; none where the line is `cut`.
     pub fn step(&self) -> Option<(Actor, Op)>
         ensures { result ≡ self.now.step }
     {
-        if self.kept.actor == CUT {
+        if self.is_cut() {
             return None;
         }
-        let from = self.kept.from as usize;
-        let end = from + self.kept.op_count as usize;
-        let op = self.kept.op.op(&self.numbers[from..end]);
-        Some((actor(self.kept.actor), op))
+        Some((self.actor(), self.op()))
     }
 
     /// What it gave: in a trace, and there alone.

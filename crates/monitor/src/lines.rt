@@ -104,7 +104,7 @@ fn cut_onto(line: &mut LineText, answer: Result<Reply, Refusal>)
 
 /// Appends the line of a step and of what it answered.
 #[inline(always)]
-fn step_onto(line: &mut LineText, actor: Actor, op: Op, answer: Result<Reply, Refusal>)
+pub fn step_onto(line: &mut LineText, actor: Actor, op: Op, answer: Result<Reply, Refusal>)
     requires { length line.old + line_room ≤ page_room }
     ensures text { line.new ≡ line.old ++ line_of (event_words actor op answer) }
     ensures len { length line.new ≤ length line.old + line_room }

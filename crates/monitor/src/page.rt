@@ -1,10 +1,10 @@
 ghost use Rattle.std.specs.Prelude.{◌≡◌, ℕ, ◌+◌, ◌^◌, ◌<◌, ◌≤◌, List, [], OnOk, length};
 ghost use Rattle.monitor.specs.LineText.{line_room, page_room};
 ghost use Rattle.monitor.specs.Sinks.{Passes, Puts};
-ghost use Rattle.monitor.specs.Words.{line_of, line_words};
+ghost use Rattle.monitor.specs.Words.{event_words, line_of, line_words};
 
 use crate::line_text::{CAPACITY, LineText};
-use crate::lines::line_onto;
+use crate::lines::{line_onto, step_onto};
 use crate::sink::{Failed, Sink, write_all};
 use board_core::{Actor, Op, Refusal, Reply};
 use std::marker::Model;
@@ -38,6 +38,27 @@ impl Page {
         }
     }
 
+    /// Prints the line of a step and of what it answered, behind the lines that wait.
+    ///
+    /// # Errors
+    ///
+    /// A write of the lines that waited failed.
+    #[inline(never)]
+    pub fn print_step<W: Sink>(
+        &mut self,
+        actor: Actor,
+        op: Op,
+        answer: Result<Reply, Refusal>,
+        sink: &mut W,
+    ) -> Result<(), Failed>
+        requires { W.failures sink.old < 2 ^ 63 }
+        ensures { Passes W.written W.failures sink.old sink.new result self.old self.new
+            (line_of (event_words actor op answer)) }
+    {
+        step_onto(&mut self.text, actor, op, answer);
+        put_full(&mut self.text, sink)
+    }
+
     /// Prints the line of a step, or of a cut where it is none, and of what was answered, behind the lines that wait.
     ///
     /// # Errors
@@ -55,10 +76,7 @@ impl Page {
             (line_of (line_words step answer)) }
     {
         line_onto(&mut self.text, step, answer);
-        if self.text.len() > CAPACITY - LINE_ROOM {
-            return put_all(&mut self.text, sink);
-        }
-        Ok(())
+        put_full(&mut self.text, sink)
     }
 
     /// Writes the lines that wait.
@@ -73,6 +91,19 @@ impl Page {
     {
         put_all(&mut self.text, sink)
     }
+}
+
+/// Writes the text, and leaves none of it, where it has no room for another line.
+#[inline(always)]
+fn put_full<W: Sink>(text: &mut LineText, sink: &mut W) -> Result<(), Failed>
+    requires { W.failures sink.old < 2 ^ 63 }
+    ensures passes { Passes W.written W.failures sink.old sink.new result text.old text.new [] }
+    ensures room { length text.old ≤ page_room → length text.new + line_room ≤ page_room }
+{
+    if text.len() > CAPACITY - LINE_ROOM {
+        return put_all(text, sink);
+    }
+    Ok(())
 }
 
 /// Writes the text, and leaves none of it, also where a write failed.

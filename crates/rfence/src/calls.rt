@@ -59,6 +59,15 @@ pub fn close_all<T: Copy>(calls: &mut Vec<Option<T>>)
     ensures { calls.new.items ≡ replicate (length calls.old.items) None }
 {
     for call in calls.iter_mut() {
+        close(call);
+    }
+}
+
+/// A hart is in a call no more. Nothing is written where it was in none.
+fn close<T: Copy>(call: &mut Option<T>)
+    ensures { call.new ≡ None }
+{
+    if call.is_some() {
         *call = None;
     }
 }

@@ -1,6 +1,7 @@
 pub mod Check
 pub mod CommandLine
 pub mod Devices
+pub mod Done
 pub mod Fitting
 pub mod Jobs
 pub mod Outcomes

@@ -87,7 +87,7 @@ fn first_difference(
         (λ _. (before : List Line) × StopsAtCut lines.now before × AllAgree board.old before) }
 {
     for line in lines.iter() {
-        let answer = answer_to(alloc, line.step(), board)?;
+        let answer = answer_to(alloc, &line, board)?;
         if !agrees(&line, &answer) {
             return Ok(Some(Difference {
                 number: line.number(),

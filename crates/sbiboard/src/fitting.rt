@@ -4,19 +4,11 @@
 ghost use Rattle.std.specs.Prelude.{◌≡◌, ◌≤◌, length};
 ghost use Rattle.std.specs.List.{AllByRecursion};
 ghost use Rattle.guest_script.specs.Words.{last_number};
-ghost use Rattle.sbiboard.specs.PrintedScripts.{FitsAnswer, FitsOp, OpFits};
+ghost use Rattle.sbiboard.specs.PrintedScripts.{FitsAnswer, FitsOp};
 
-use board_core::{Actor, Op, Refusal, Reply};
+use board_core::{Op, Refusal, Reply};
 
-pub fn step_fits(step: Option<(Actor, Op)>)
-    ensures { OpFits step }
-{
-    if let Some((_, op)) = step {
-        op_fits(op);
-    }
-}
-
-fn op_fits(op: Op)
+pub fn op_fits(op: Op)
     ensures { FitsOp op }
 {
     match op {

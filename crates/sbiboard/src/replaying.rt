@@ -1,16 +1,17 @@
-ghost use Rattle.std.specs.Prelude.{◌≡◌, ◌^◌, ◌<◌, ℕ, true, IfOk, IfSome, List, MatchResult, take};
+ghost use Rattle.std.specs.Prelude.{◌≡◌, ◌^◌, ◌<◌, ℕ, true, IfOk, IfSome, List, MatchOption, MatchResult, None, Some, take};
 ghost use Rattle.std.specs.Io.KnownBytes.{Appends};
 ghost use Rattle.sbiboard.specs.Fitting.{AllFit, AreRead};
 ghost use Rattle.sbiboard.specs.Replay.{AreDone, EndsReplay, IsPrinted, Replays, is_history_full};
+ghost use Rattle.sbiboard.specs.Done.{IsDone, IsLeft};
 ghost use Rattle.sbiboard.specs.Running.{CountsEnd, EndsFlushed, EndsRead, Writes, course_after, new_course};
 ghost use Rattle.sbiboard.specs.Sources.{ReadsUpTo, read_limit};
 
 use crate::device::Source;
-use crate::fitting::{answer_fits, step_fits};
+use crate::fitting::{answer_fits, op_fits};
 use crate::outcome::Outcome;
-use crate::running::{Job, answer_to, run};
-use board_core::{Board, Config, Refusal, Reply};
-use guest_script::Lines;
+use crate::running::{Job, cut, run};
+use board_core::{Actor, Board, Config, Op, Refusal, Reply};
+use guest_script::{KeptLine, Lines};
 use monitor::{Failed, Page, Sink, print, print_head};
 use std::alloc::Global;
 
@@ -103,18 +104,88 @@ fn print_lines<W: Sink>(
     let mut met_full = false;
     let mut page = Page::new();
     for line in lines.iter() {
-        let step = line.step();
-        let Ok(answer) = answer_to(alloc, step, board) else {
+        let Some(is_full) = print_done(alloc, &line, board, &mut page, writer)? else {
             page.put(writer)?;
             return Ok(None);
         };
-        step_fits(step);
-        answer_fits(answer);
-        met_full |= is_history_full(&answer);
-        page.print_line(step, answer, writer)?;
+        met_full |= is_full;
     }
     page.put(writer)?;
     Ok(Some(met_full))
+}
+
+/// Takes the board through a line, prints it with its reply, and answers whether it met a full history; or none where memory
+/// for a cut was refused, and nothing changed.
+#[inline(always)]
+fn print_done<W: Sink>(
+    alloc: Global,
+    line: &KeptLine<'_>,
+    board: &mut Board,
+    page: &mut Page,
+    writer: &mut W,
+) -> Result<Option<bool>, Failed>
+    requires { W.failures writer.old < 2 ^ 63 }
+    ensures done { MatchResult result
+        (λ found. MatchOption found
+        (IsLeft line.now.step page.old page.new (W.written writer.old) (W.written writer.new) (W.failures writer.old) (W.failures writer.new))
+        (λ full. IsDone board.old board.new line.now.step full page.old page.new
+        (W.written writer.old) (W.written writer.new) (W.failures writer.old) (W.failures writer.new)))
+        (λ _. W.failures writer.old < W.failures writer.new) }
+{
+    if line.is_cut() {
+        print_cut(alloc, board, page, writer)
+    } else {
+        let is_full = print_step(line.actor(), line.op(), board, page, writer)?;
+        Ok(Some(is_full))
+    }
+}
+
+/// Makes a step, prints it with its answer, and answers whether it met a full history.
+#[inline(always)]
+fn print_step<W: Sink>(
+    actor: Actor,
+    op: Op,
+    board: &mut Board,
+    page: &mut Page,
+    writer: &mut W,
+) -> Result<bool, Failed>
+    requires { W.failures writer.old < 2 ^ 63 }
+    ensures done { MatchResult result
+        (λ full. IsDone board.old board.new (Some (actor, op)) full page.old page.new
+        (W.written writer.old) (W.written writer.new) (W.failures writer.old) (W.failures writer.new))
+        (λ _. W.failures writer.old < W.failures writer.new) }
+{
+    let answer = board.step(actor, op);
+    op_fits(op);
+    answer_fits(answer);
+    page.print_step(actor, op, answer, writer)?;
+    Ok(is_history_full(&answer))
+}
+
+/// Cuts the board's history, and prints that; or none where memory was refused, and nothing changed. It is apart, so that a
+/// step has no room of its own for what a cut takes.
+#[cold]
+#[inline(never)]
+fn print_cut<W: Sink>(
+    alloc: Global,
+    board: &mut Board,
+    page: &mut Page,
+    writer: &mut W,
+) -> Result<Option<bool>, Failed>
+    requires { W.failures writer.old < 2 ^ 63 }
+    ensures done { MatchResult result
+        (λ found. MatchOption found
+        (IsLeft None page.old page.new (W.written writer.old) (W.written writer.new) (W.failures writer.old) (W.failures writer.new))
+        (λ full. IsDone board.old board.new None full page.old page.new
+        (W.written writer.old) (W.written writer.new) (W.failures writer.old) (W.failures writer.new)))
+        (λ _. W.failures writer.old < W.failures writer.new) }
+{
+    let Ok(answer) = cut(alloc, board) else {
+        return Ok(None);
+    };
+    answer_fits(answer);
+    page.print_line(None, answer, writer)?;
+    Ok(Some(is_history_full(&answer)))
 }
 
 fn is_history_full(answer: &Result<Reply, Refusal>) -> bool

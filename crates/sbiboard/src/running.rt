@@ -11,8 +11,8 @@ use crate::checking::check_lines;
 use crate::device::{ReadFault, Source, read_script};
 use crate::outcome::Outcome;
 use crate::replaying::replay_lines;
-use board_core::{Actor, Board, BuildFault, Config, Op, Refusal, Reply};
-use guest_script::{Body, Fault, Lines, Script, ScriptFault};
+use board_core::{Board, BuildFault, Config, Refusal, Reply};
+use guest_script::{Body, Fault, KeptLine, Lines, Script, ScriptFault};
 use monitor::Sink;
 use std::alloc::{AllocError, Global};
 
@@ -128,24 +128,25 @@ fn run_lines<W: Sink>(
 #[inline(always)]
 pub fn answer_to(
     alloc: Global,
-    step: Option<(Actor, Op)>,
+    line: &KeptLine<'_>,
     board: &mut Board,
 ) -> Result<Result<Reply, Refusal>, AllocError>
-    ensures answer { IfOk result (λ answer. answer ≡ answer_to board.old step) }
-    ensures course { OnOk result (board.new ≡ course_with board.old step) }
-    ensures cut { OnErr result (step ≡ None) }
+    ensures answer { IfOk result (λ answer. answer ≡ answer_to board.old line.now.step) }
+    ensures course { OnOk result (board.new ≡ course_with board.old line.now.step) }
+    ensures cut { OnErr result (line.now.step ≡ None) }
     ensures unchanged { OnErr result (board.new ≡ board.old) }
 {
-    match step {
-        Some((actor, op)) => Ok(board.step(actor, op)),
-        None => cut(alloc, board),
+    if line.is_cut() {
+        cut(alloc, board)
+    } else {
+        Ok(board.step(line.actor(), line.op()))
     }
 }
 
 /// Cuts the board's history. It is apart, so that a step has no room of its own for what a cut takes.
 #[cold]
 #[inline(never)]
-fn cut(alloc: Global, board: &mut Board) -> Result<Result<Reply, Refusal>, AllocError>
+pub fn cut(alloc: Global, board: &mut Board) -> Result<Result<Reply, Refusal>, AllocError>
     ensures answer { IfOk result (λ answer. answer ≡ answer_to board.old None) }
     ensures course { OnOk result (board.new ≡ course_with board.old None) }
     ensures unchanged { OnErr result (board.new ≡ board.old) }

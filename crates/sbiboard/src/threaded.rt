@@ -9,7 +9,7 @@ ghost use Rattle.sbiboard.specs.Sources.{ReadsUpTo, read_limit};
 ghost use Rattle.sbiboard.specs.Threaded.{EndsRun, end_line, end_name, events_text, outcome_of, programmed, run_text};
 
 use crate::device::{Source, read_script};
-use crate::fitting::{answer_fits, step_fits};
+use crate::fitting::{answer_fits, op_fits};
 use crate::outcome::Outcome;
 use crate::running::unread;
 use board_core::Event;
@@ -116,11 +116,12 @@ fn print_events<W: Sink>(events: &[Event], writer: &mut W) -> Result<(), Failed>
 {
     let mut page = Page::new();
     for event in events {
-        let step = Some((event.actor(), event.op()));
+        let actor = event.actor();
+        let op = event.op();
         let answer = Ok(event.reply());
-        step_fits(step);
+        op_fits(op);
         answer_fits(answer);
-        page.print_line(step, answer, writer)?;
+        page.print_step(actor, op, answer, writer)?;
     }
     page.put(writer)
 }

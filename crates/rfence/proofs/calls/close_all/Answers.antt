@@ -4,7 +4,7 @@ use Rattle.rfence.proofs.calls.close_all.Goals as goal
 
 pub loop-call-preserved : goal.loop-call-preserved
 loop-call-preserved g c =
-    rw (c.loop-call.invariant, add-one c.loop-call.call-index)
+    rw (c.close.ensures, c.loop-call.invariant, add-one c.loop-call.call-index)
     (written-more c.args.calls.now.items c.loop-call.call-index None (omega (arith, c.loop-call-test.true, ap length c.deref_mut-call-items.ensures.value)))
 
 pub returns : goal.returns

@@ -5,15 +5,12 @@ use Rattle.sbiboard.proofs.checking.first_difference.Goals as goal
 
 pub returns-then-not-agrees : goal.returns-then-not-agrees
 returns-then-not-agrees c =
-    let answer = rw c.step.ensures at c.in_ok-answer.ensures.answer in
     c.loop-line.invariant.checking.differs c.number.result c.in_ok-answer.answer
-    (differs_at c.loop-line.board c.in-Some.line c.next.new.self c.loop-line.line-iterator c.in-Some.ensures.steps c.in_ok-answer.answer answer c.number.result c.number.ensures
+    (differs_at c.loop-line.board c.in-Some.line c.next.new.self c.loop-line.line-iterator c.in-Some.ensures.steps c.in_ok-answer.answer c.in_ok-answer.ensures.answer c.number.result c.number.ensures
     (λ said. let agrees = c.agrees.ensures.1 said in let other = rw agrees at c.if-not-agrees.true in cc))
 
 pub loop-line-preserved : goal.loop-line-preserved
 loop-line-preserved c =
-    let answer = rw c.step.ensures at c.in_ok-answer.ensures.answer in
-    let course = rw c.step.ensures at c.in_ok-answer.ensures.course in
     let agrees : c.agrees.result ≡ true = elim (cases_Bool c.agrees.result) [
       | inl is ↦ is
       | inr other ↦ absurd (let e = rw other at c.if-not-agrees.false in cc)
@@ -21,6 +18,6 @@ loop-line-preserved c =
     record {
       can_next = tt;
       is_finite = tt;
-      checking = checking-more c.loop-line.board c.in-Some.line c.next.new.self c.loop-line.line-iterator c.in-Some.ensures.steps c.in_ok-answer.answer answer
-          c.args.board.now c.answer_to.new.board c.args.lines.now course (c.agrees.ensures.0 agrees) c.loop-line.invariant.checking;
+      checking = checking-more c.loop-line.board c.in-Some.line c.next.new.self c.loop-line.line-iterator c.in-Some.ensures.steps c.in_ok-answer.answer c.in_ok-answer.ensures.answer
+          c.args.board.now c.answer_to.new.board c.args.lines.now c.in_ok-answer.ensures.course (c.agrees.ensures.0 agrees) c.loop-line.invariant.checking;
     }
