@@ -1,7 +1,6 @@
 -- A new board's machine is its first opening.
-use Rattle.std.proofs.Common.{◌≡◌, ℕ, ◌+◌, ◌*◌, ◌≤◌, List, [], length, map, refl, sym, ap, ◌∙◌, arith}
+use Rattle.std.proofs.Common.{◌≡◌, ℕ, ◌*◌, List, [], length, map, refl, sym, ◌∙◌, arith}
 use Rattle.std.specs.Prelude.{Option, None, replicate}
-use Rattle.std.specs.List.{range_with_len}
 use Rattle.std.proofs.lemmas.List.{length-replicate}
 use Rattle.std.proofs.lemmas.List.FromFn.{length-range_with_len}
 use Rattle.std.proofs.lemmas.Simd.{splat_is_map}
@@ -10,27 +9,25 @@ use Rattle.hsm.specs.Transitions.{hart_at_opening}
 use Rattle.interrupts.specs.Timing.{Timing}
 use Rattle.rfence.specs.declared.opened.FenceCall.{FenceCall}
 use Rattle.rfence.specs.Calls as calls
-use Rattle.rfence.specs.Opening as fence_openings
 use Rattle.rfence.specs.Opening.{Asked, nothing_before}
 use Rattle.rfence.specs.Cuts as fence_cuts
 use Rattle.rfence.specs.Waiting as waits
-use Rattle.rfence.proofs.Seams.{all-same, begins-right}
+use Rattle.rfence.proofs.Seams.{all-same}
 use Rattle.sv39.specs.declared.ram.TheConstants.{PAGE_WORDS}
 use Rattle.sv39.specs.Memory.{IsRam, pages_of, zero_words}
-use Rattle.tlb_model.specs.declared.caches.Caches.{Caches}
 use Rattle.tlb_model.specs.declared.fence.Flush.{Flush}
 use Rattle.board_core.specs.declared.config.Config.{Config}
 use Rattle.board_core.specs.declared.machine.Machine.{Machine}
 use Rattle.board_core.specs.Course.{harts_of}
 use Rattle.board_core.specs.Csrs.{sie, sstatus_sie}
-use Rattle.board_core.specs.Cuts.{opening_in, opening_of, words_of}
+use Rattle.board_core.specs.Cuts.{opening_in, words_of}
 use Rattle.board_core.specs.Interrupts.{deadline, ssip}
 use Rattle.board_core.specs.Limits.{IsGood}
 use Rattle.board_core.specs.Memory.{caches_of, memory, satp}
 use Rattle.board_core.specs.Opening.{Opening, no_caches, opening_at}
 use Rattle.board_core.specs.Stands.{IsKept, StandsFor}
 use Rattle.board_core.specs.Starts.{hart_of}
-use Rattle.board_core.proofs.Beginning.{caches-opened, deadline-opened, memory-opened, opened_as, opens, satp-opened}
+use Rattle.board_core.proofs.Beginning.{caches-opened, deadline-opened, opened_as, opens, satp-opened}
 use Rattle.board_core.proofs.Cutting.{held-by, is-cut, words-again}
 use Rattle.board_core.proofs.Tables.{tabulate-same}
 

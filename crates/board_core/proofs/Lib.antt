@@ -12,6 +12,7 @@ pub mod Situations
 pub mod Resetting
 pub mod Targets
 pub mod Rows
+pub mod Rams
 pub mod Steps
 pub mod Opened
 pub mod InCalls
@@ -22,5 +23,7 @@ pub mod WorkedRows
 mod ErrorLaw
 pub mod Counting
 pub mod Cutting
+pub mod Leaving
 pub mod Unseen
 pub mod Firsts
+pub mod Whole

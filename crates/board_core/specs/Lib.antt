@@ -23,3 +23,4 @@ pub mod Totals
 pub mod ErrorLaw
 pub mod Stands
 pub mod Cuts
+pub mod Taking

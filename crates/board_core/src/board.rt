@@ -1,6 +1,7 @@
 ghost use Rattle.std.specs.Prelude.{◌≡◌, ◌⊎◌, ◌<◌, ◌≤◌, ◌↔◌, ◌++◌, List, [], ◌∷◌, vec_capacity, vec_len, true, false, IfErr, IfOk, IsErrOf, None, Ok, OnErr, OnOk, Some, length, reverse};
 ghost use Rattle.hsm.specs.declared.hart.HartState.{HartState};
 ghost use Rattle.interrupts.specs.Timing.{last_time};
+ghost use Rattle.sv39.specs.Maps.{maps};
 ghost use Rattle.board_core.specs.declared.config.BuildFault.TheVariants.{BadConfig, CutFull, NoMemory};
 ghost use Rattle.board_core.specs.Cuts.{IsOpened, IsUnseen, first_of, last_cut, opening_of};
 ghost use Rattle.board_core.specs.History.{Event, access_of, by_hart};
@@ -36,11 +37,12 @@ use sbi_abi::Reset;
 use std::alloc::{AllocError, Global};
 use std::marker::Model;
 use std::mem;
+use sv39::{Cause, Kind, Leaf, walk};
 use tlb_model::{Entry, FetchWord, Flush, Live};
 
 /// The most events that may have been accepted since the first opening where a history is cut, so that places, fill numbers and
 /// counts have room for as many more as it may hold.
-const LAST_CUT: u64 = (1 << 56) - 1_000_000;
+pub(crate) const LAST_CUT: u64 = (1 << 56) - 1_000_000;
 
 /// The counts of the board's table: starts and entries since the last reset, fences since the opening.
 #[derive(Clone, Copy, Debug, PartialEq, Eq)]
@@ -420,6 +422,16 @@ impl Board {
         } else {
             None
         }
+    }
+
+    /// What a walk of the page tables gives hart `h` now for an access of this kind, whatever its TLB holds, where its satp
+    /// isn't bare: the leaf that maps the address and allows the access, or why the access fails (Privileged 4.3.2).
+    pub fn walk(&self, h: u64, va: u64, kind: Kind) -> Result<Leaf, Cause>
+        requires { h < self.now.opening.config.harts }
+        ensures { result ≡ maps (memory self.now.opening self.now.past) (satp self.now.opening self.now.past h) va kind }
+    {
+        let memory = &self.machine.memory;
+        walk(&memory.ram, memory.satp(h), va, kind)
     }
 
     /// The live entries of the TLB of hart `h`, in the order of filling.

@@ -1,14 +1,18 @@
 //! What a board begins with, before the first event of its kept history: the board as it was then, to be looked at.
-ghost use Rattle.std.specs.Prelude.{◌≡◌, ◌<◌, ◌≤◌, IfOk, [], length, reverse};
+ghost use Rattle.std.specs.Prelude.{◌≡◌, ◌⊎◌, ◌+◌, ◌<◌, ◌≤◌, ◌↔◌, IfErr, IfOk, IsErrOf, Ok, [], ◌∷◌, length, reverse, false, None};
 ghost use Rattle.interrupts.specs.Timing.{last_time};
 ghost use Rattle.board_core.specs.Csrs.{sie, sstatus_sie};
-ghost use Rattle.board_core.specs.Cuts.{opening_in};
+ghost use Rattle.board_core.specs.Cuts.{last_cut, opening_in, opening_of};
+ghost use Rattle.board_core.specs.Taking.{event_with, refusal_at, reply_at, step_from};
+ghost use Rattle.board_core.specs.declared.config.BuildFault.TheVariants.{CutFull, NoMemory};
+ghost use Rattle.board_core.specs.declared.event.Actor.TheVariants.{Hart, Clock};
+ghost use Rattle.sv39.specs.Memory.{IsRam};
 ghost use Rattle.board_core.specs.Fences.{outstanding, phase, waiting};
 ghost use Rattle.board_core.specs.Interrupts.{deadline, ssip, stip, time, wake};
 ghost use Rattle.board_core.specs.Limits.{IsGood};
 ghost use Rattle.board_core.specs.Memory.{caches_of, memory, satp};
 ghost use Rattle.board_core.specs.Need.{need};
-ghost use Rattle.board_core.specs.Opening.{opening_at};
+ghost use Rattle.board_core.specs.Opening.{IsOpening, opening_at};
 ghost use Rattle.board_core.specs.Resets.{is_off, last_reset};
 ghost use Rattle.board_core.specs.Stands.{IsKept, StandsFor};
 ghost use Rattle.board_core.specs.Starts.{kept, StartsAreEntered};
@@ -16,10 +20,11 @@ ghost use Rattle.board_core.specs.States.{state};
 ghost use Rattle.board_core.specs.Totals.{totals};
 ghost use Rattle.rfence.specs.Opening.{called_at};
 
-use crate::board::Totals;
+use crate::board::{LAST_CUT, Totals};
 use crate::calls::is_shutdown;
-use crate::config::Config;
+use crate::config::{BuildFault, Config};
 use crate::csrs::Sie;
+use crate::event::{Actor, Event, Op, Refusal};
 use crate::machine::Machine;
 use crate::phase::Phase;
 use hart_mask::HartSet;
@@ -39,6 +44,15 @@ pub struct Opening {
     machine: Machine,
 }
 
+/// What comes of a step: its event, and what a board begins with that goes on from there.
+#[derive(Drop)]
+pub struct Taken {
+    /// The event.
+    pub event: Event,
+    /// What it leaves.
+    pub opening: Opening,
+}
+
 impl Model for Opening {
     ghost use Rattle.std.specs.Prelude.{[]};
     ghost use Rattle.board_core.specs.Opening.{Opening};
@@ -54,8 +68,12 @@ impl Model for Opening {
 }
 
 impl Opening {
-    /// What a new board of these numbers begins with. It fails where memory runs out.
-    pub(crate) fn first(alloc: Global, config: &Config) -> Result<Opening, AllocError>
+    /// What a new board of these numbers begins with.
+    ///
+    /// # Errors
+    ///
+    /// Memory was refused.
+    pub fn first(alloc: Global, config: &Config) -> Result<Opening, AllocError>
         requires { IsGood config.now }
         ensures { IfOk result (λ o. o ≡ opening_at config.now) }
     {
@@ -108,10 +126,104 @@ impl Opening {
         self.machine.try_copy(alloc)
     }
 
-    /// The board's numbers.
+    /// What comes of one step of one actor on a board that goes on from here, as of `Board::step` while its history has room: its
+    /// event, and what this leaves; or the refusal. It takes memory for a copy of what the board holds, and none for a refusal.
+    ///
+    /// # Errors
+    ///
+    /// 2^56 - 1,000,000 events were accepted since the first opening, or memory was refused.
+    pub fn after(
+        &self,
+        alloc: Global,
+        actor: Actor,
+        op: Op,
+    ) -> Result<Result<Taken, Refusal>, BuildFault>
+        ensures full { IsErrOf result CutFull ↔ last_cut < self.now.places + 1 }
+        ensures fault { IfErr result (λ fault. (fault ≡ CutFull) ⊎ (fault ≡ NoMemory)) }
+        ensures step { IfOk result (λ step. step ≡ step_from self.now actor op) }
+    {
+        if self.places >= LAST_CUT {
+            return Err(BuildFault::CutFull);
+        }
+        if let Some(refusal) = self.refusal(actor, op) {
+            return Ok(Err(refusal));
+        }
+        let Ok(machine) = self.machine.try_copy(alloc) else {
+            return Err(BuildFault::NoMemory);
+        };
+        Ok(Ok(self.taken(machine, actor, op)))
+    }
+
+    /// Why a step of an actor is refused here, if it is, while the history has room.
+    fn refusal(&self, actor: Actor, op: Op) -> Option<Refusal>
+        ensures { result ≡ refusal_at self.now actor op }
+    {
+        if self.is_off() {
+            return Some(Refusal::Off);
+        }
+        match actor {
+            Actor::Hart(h) => self.hart_refusal(h, op),
+            Actor::Clock => self.clock_refusal(op),
+        }
+    }
+
+    /// Why a step of hart `h` is, while the power is on.
+    fn hart_refusal(&self, h: u64, op: Op) -> Option<Refusal>
+        requires { is_off self.now [] ≡ false }
+        ensures { result ≡ refusal_at self.now (Hart h) op }
+    {
+        if h >= self.config.harts {
+            return Some(Refusal::WrongPhase);
+        }
+        self.machine.refusal(h, op)
+    }
+
+    /// Why a step of the clock is, while the power is on.
+    fn clock_refusal(&self, op: Op) -> Option<Refusal>
+        requires { is_off self.now [] ≡ false }
+        ensures { result ≡ refusal_at self.now Clock op }
+    {
+        match op {
+            Op::Tick(n) if n < u64::MAX - self.time() => None,
+            Op::Tick(_) => Some(Refusal::TimeFull),
+            _ => Some(Refusal::WrongPhase),
+        }
+    }
+
+    /// What comes of a step that isn't refused, on a copy of the machine.
+    fn taken(&self, mut machine: Machine, actor: Actor, op: Op) -> Taken
+        requires early { self.now.places < last_cut }
+        requires stands { StandsFor self.now [] machine }
+        requires ram { IsRam machine.memory.ram }
+        requires unrefused { refusal_at self.now actor op ≡ None }
+        ensures { Ok result ≡ step_from self.now actor op }
+    {
+        let event = self.event(&mut machine, actor, op);
+        let opening = Opening::of(self.config, self.places + 1, machine);
+        Taken { event, opening }
+    }
+
+    /// Carries out a step that isn't refused on a machine that stands for this opening: its event.
+    fn event(&self, machine: &mut Machine, actor: Actor, op: Op) -> Event
+        requires stands { StandsFor self.now [] machine.old }
+        requires unrefused { refusal_at self.now actor op ≡ None }
+        ensures event { result ≡ event_with self.now actor op (reply_at self.now actor op) }
+        ensures stands { StandsFor self.now (result ∷ []) machine.new }
+    {
+        match (actor, op) {
+            (Actor::Hart(h), _) => machine.hart_event(&self.config, self.places, h, op),
+            (Actor::Clock, Op::Tick(n)) => machine.tick_event(n),
+            (Actor::Clock, _) => unreachable!(),
+        }
+    }
+
+    /// The board's numbers. A board can open so, and what it begins with is what the look-ups here say, each hart's and the
+    /// sets of harts.
     pub fn config(&self) -> &Config
         ensures config { result.now ≡ self.now.config }
         ensures good { IsGood self.now.config }
+        ensures opens { IsOpening self.now }
+        ensures whole { opening_of self.now [] ≡ self.now }
     {
         &self.config
     }
@@ -145,6 +257,34 @@ impl Opening {
         ensures { result ≡ sstatus_sie self.now [] h }
     {
         self.machine.interrupts.csrs.sstatus_sie.contains(h)
+    }
+
+    /// The harts at which sstatus.SIE is 1 (Privileged 4.1.1).
+    pub fn sstatus_sie_harts(&self) -> HartSet
+        ensures { result ≡ self.now.sstatus_sie }
+    {
+        self.machine.interrupts.csrs.sstatus_sie
+    }
+
+    /// The harts whose sie enables software interrupts (Privileged 4.1.3).
+    pub fn ssie_harts(&self) -> HartSet
+        ensures { result ≡ self.now.ssie }
+    {
+        self.machine.interrupts.csrs.ssie
+    }
+
+    /// The harts whose sie enables timer interrupts (Privileged 4.1.3).
+    pub fn stie_harts(&self) -> HartSet
+        ensures { result ≡ self.now.stie }
+    {
+        self.machine.interrupts.csrs.stie
+    }
+
+    /// The harts at which SSIP is 1 (Privileged 4.1.3).
+    pub fn ssip_harts(&self) -> HartSet
+        ensures { result ≡ self.now.ssip }
+    {
+        self.machine.interrupts.ipis.harts()
     }
 
     /// The interrupts that sie of hart `h` enables (Privileged 4.1.3).

@@ -56,6 +56,13 @@ impl Ipis {
         self.harts.contains(h)
     }
 
+    /// The harts at which SSIP is 1.
+    pub fn harts(&self) -> HartSet
+        ensures { result ≡ self.now }
+    {
+        self.harts
+    }
+
     /// SSIP becomes 0 at every hart, as a reset of the board asks (profile).
     pub fn reset(&mut self)
         ensures { self.new ≡ [] }

@@ -1,6 +1,5 @@
-use Rattle.std.proofs.Common.{[], refl, subst, sym, ◌∙◌, arith}
-use Rattle.board_core.specs.Cuts.{opening_in}
-use Rattle.board_core.specs.Opening.{Opening, opening_at}
+use Rattle.std.proofs.Common.{[], subst, sym}
+use Rattle.board_core.specs.Opening.{Opening}
 use Rattle.board_core.specs.Stands.{IsKept, StandsFor}
 use Rattle.board_core.proofs.Firsts.{first-in, first-kept}
 use Rattle.board_core.proofs.opening.Opening.first.Goals as goal

@@ -1,4 +1,4 @@
-use Rattle.std.proofs.Common.{◌≡◌, [], sym, ◌∙◌, subst}
+use Rattle.std.proofs.Common.{[], sym, ◌∙◌, subst}
 use Rattle.board_core.specs.Cuts.{opening_in}
 use Rattle.board_core.specs.Opening.{Opening}
 use Rattle.board_core.specs.Stands.{IsKept, StandsFor}
