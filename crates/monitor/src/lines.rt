@@ -77,22 +77,9 @@ pub fn print_reply<W: Sink>(answer: Result<Reply, Refusal>, sink: &mut W) -> Res
     write_all(sink, line.as_bytes())
 }
 
-/// Appends the line of a step, or of a cut where it is none, and of what was answered.
-#[inline(always)]
-pub fn line_onto(line: &mut LineText, step: Option<(Actor, Op)>, answer: Result<Reply, Refusal>)
-    requires { length line.old + line_room ≤ page_room }
-    ensures text { line.new ≡ line.old ++ line_of (line_words step answer) }
-    ensures len { length line.new ≤ length line.old + line_room }
-{
-    match step {
-        Some((actor, op)) => step_onto(line, actor, op, answer),
-        None => cut_onto(line, answer),
-    }
-}
-
 /// Appends the line of a cut and of what was answered. It is apart, so that steps are written in place.
 #[inline(never)]
-fn cut_onto(line: &mut LineText, answer: Result<Reply, Refusal>)
+pub fn cut_onto(line: &mut LineText, answer: Result<Reply, Refusal>)
     requires { length line.old + line_room ≤ page_room }
     ensures text { line.new ≡ line.old ++ line_of (line_words None answer) }
     ensures len { length line.new ≤ length line.old + line_room }

@@ -1,10 +1,10 @@
-ghost use Rattle.std.specs.Prelude.{◌≡◌, ℕ, ◌+◌, ◌^◌, ◌<◌, ◌≤◌, List, [], OnOk, length};
+ghost use Rattle.std.specs.Prelude.{◌≡◌, ℕ, ◌+◌, ◌^◌, ◌<◌, ◌≤◌, List, [], None, OnOk, length};
 ghost use Rattle.monitor.specs.LineText.{line_room, page_room};
 ghost use Rattle.monitor.specs.Sinks.{Passes, Puts};
 ghost use Rattle.monitor.specs.Words.{event_words, line_of, line_words};
 
 use crate::line_text::{CAPACITY, LineText};
-use crate::lines::{line_onto, step_onto};
+use crate::lines::{cut_onto, step_onto};
 use crate::sink::{Failed, Sink, write_all};
 use board_core::{Actor, Op, Refusal, Reply};
 use std::marker::Model;
@@ -64,7 +64,6 @@ impl Page {
     /// # Errors
     ///
     /// A write of the lines that waited failed.
-    #[inline(never)]
     pub fn print_line<W: Sink>(
         &mut self,
         step: Option<(Actor, Op)>,
@@ -75,7 +74,27 @@ impl Page {
         ensures { Passes W.written W.failures sink.old sink.new result self.old self.new
             (line_of (line_words step answer)) }
     {
-        line_onto(&mut self.text, step, answer);
+        match step {
+            Some((actor, op)) => self.print_step(actor, op, answer, sink),
+            None => self.print_cut(answer, sink),
+        }
+    }
+
+    /// Prints the line of a cut and of what was answered, behind the lines that wait.
+    ///
+    /// # Errors
+    ///
+    /// A write of the lines that waited failed.
+    pub fn print_cut<W: Sink>(
+        &mut self,
+        answer: Result<Reply, Refusal>,
+        sink: &mut W,
+    ) -> Result<(), Failed>
+        requires { W.failures sink.old < 2 ^ 63 }
+        ensures { Passes W.written W.failures sink.old sink.new result self.old self.new
+            (line_of (line_words None answer)) }
+    {
+        cut_onto(&mut self.text, answer);
         put_full(&mut self.text, sink)
     }
 

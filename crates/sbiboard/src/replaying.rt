@@ -10,7 +10,7 @@ use crate::device::Source;
 use crate::fitting::{answer_fits, op_fits};
 use crate::outcome::Outcome;
 use crate::running::{Job, cut, run};
-use board_core::{Actor, Board, Config, Op, Refusal, Reply};
+use board_core::{Board, Config, Refusal, Reply};
 use guest_script::{KeptLine, Lines};
 use monitor::{Failed, Page, Sink, print, print_head};
 use std::alloc::Global;
@@ -133,33 +133,14 @@ fn print_done<W: Sink>(
         (λ _. W.failures writer.old < W.failures writer.new) }
 {
     if line.is_cut() {
-        print_cut(alloc, board, page, writer)
-    } else {
-        let is_full = print_step(line.actor(), line.op(), board, page, writer)?;
-        Ok(Some(is_full))
+        return print_cut(alloc, board, page, writer);
     }
-}
-
-/// Makes a step, prints it with its answer, and answers whether it met a full history.
-#[inline(always)]
-fn print_step<W: Sink>(
-    actor: Actor,
-    op: Op,
-    board: &mut Board,
-    page: &mut Page,
-    writer: &mut W,
-) -> Result<bool, Failed>
-    requires { W.failures writer.old < 2 ^ 63 }
-    ensures done { MatchResult result
-        (λ full. IsDone board.old board.new (Some (actor, op)) full page.old page.new
-        (W.written writer.old) (W.written writer.new) (W.failures writer.old) (W.failures writer.new))
-        (λ _. W.failures writer.old < W.failures writer.new) }
-{
-    let answer = board.step(actor, op);
+    let op = line.op();
+    let answer = board.step(line.actor(), op);
     op_fits(op);
     answer_fits(answer);
-    page.print_step(actor, op, answer, writer)?;
-    Ok(is_history_full(&answer))
+    page.print_step(line.actor(), op, answer, writer)?;
+    Ok(Some(is_history_full(&answer)))
 }
 
 /// Cuts the board's history, and prints that; or none where memory was refused, and nothing changed. It is apart, so that a
@@ -184,7 +165,7 @@ fn print_cut<W: Sink>(
         return Ok(None);
     };
     answer_fits(answer);
-    page.print_line(None, answer, writer)?;
+    page.print_cut(answer, writer)?;
     Ok(Some(is_history_full(&answer)))
 }
 
