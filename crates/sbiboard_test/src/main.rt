@@ -10,6 +10,7 @@ mod loading;
 mod orders;
 mod pace;
 mod screen;
+mod stale;
 mod steps;
 mod stop;
 mod testing;

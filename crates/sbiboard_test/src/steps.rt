@@ -1,7 +1,9 @@
 use crate::command_line::Options;
 use crate::course::Course;
 use crate::detail::put_record;
+use crate::stale::{Expected, Stale};
 use crate::stop::Stop;
+use board_core::{Refusal, Reply};
 use conditions::{Condition, Rule};
 use guest_script::{KeptLine, Lines};
 use points::{Report, Told, step_line};
@@ -20,13 +22,14 @@ pub(crate) fn replay(
     lines: &Lines,
     report: &mut Report,
 ) -> Result<(), AllocError> {
+    let mut notes = String::new(alloc);
     for line in lines.iter() {
-        let _ = course.answer(alloc, line.step())?;
+        let _ = answer_noted(alloc, course, &line, &mut notes)?;
     }
     if case.conditions.is_empty() {
         put_point(alloc, case, lines, true, report)?;
     }
-    Ok(())
+    report.text.push_str(notes.as_str())
 }
 
 /// Compares each line of a trace with the board's own answer, goes on with that, and tells all lines that differ.
@@ -39,13 +42,13 @@ pub(crate) fn compare(
 ) -> Result<(), AllocError> {
     let mut differing: u64 = 0;
     let mut text = String::new(alloc);
+    let mut notes = String::new(alloc);
     let mut walk = Walk::new(case.text);
     for line in lines.iter() {
-        let step = line.step();
-        let answer = course.answer(alloc, step)?;
+        let answer = answer_noted(alloc, course, &line, &mut notes)?;
         if !line.said().is_some_and(|said| said.agrees(&answer)) {
             differing = differing.saturating_add(1);
-            let got = step_line(alloc, step, answer)?;
+            let got = step_line(alloc, line.step(), answer)?;
             put_difference(&mut walk, &line, &got, &mut text)?;
         }
     }
@@ -57,7 +60,37 @@ pub(crate) fn compare(
             "  ---\n  differing: {differing}\n  lines:\n{shown}  ...\n"
         )?;
     }
-    Ok(())
+    report.text.push_str(notes.as_str())
+}
+
+/// Has the board make the step of a line, and notes where it used what isn't there any more.
+fn answer_noted(
+    alloc: Global,
+    course: &mut Course,
+    line: &KeptLine<'_>,
+    notes: &mut String,
+) -> Result<Result<Reply, Refusal>, AllocError> {
+    let step = line.step();
+    let expected = Expected::of(&course.board, step);
+    let answer = course.answer(alloc, step)?;
+    if answer.is_ok()
+        && let Some(expected) = expected
+        && let Some(event) = course.board.history().last()
+    {
+        let number = line.number();
+        match expected.stale(&course.board, event) {
+            Some(Stale::Translation) => write!(
+                notes,
+                "# line {number}: stale: a walk gives another translation\n"
+            )?,
+            Some(Stale::Word) => write!(
+                notes,
+                "# line {number}: stale: memory has another word\n"
+            )?,
+            None => {}
+        }
+    }
+    Ok(answer)
 }
 
 /// Puts what a line wants, and the line with what the board gave.
