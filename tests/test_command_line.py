@@ -10,7 +10,13 @@ USAGE = [
     ([], b"'sbiboard' requires a subcommand but one was not provided\n  [subcommands: run, replay, check, help]", b"<COMMAND>"),
     (["fly"], b"unrecognized subcommand 'fly'", b"<COMMAND>"),
     (["run"], b"the following required arguments were not provided:\n  <FILE>", b"run <FILE>"),
-    (["run", "a", "b"], b"unexpected argument 'b' found", b"run <FILE>"),
+    (["run", "a", "b"], b"unexpected argument 'b' found", b"run [OPTIONS] <FILE>"),
+    (["run", "--keep", "a"], b"the following required arguments were not provided:\n  <FILE>", b"run --keep <FILE2> <FILE>"),
+    (["run", "--keep", "a", "b", "c"], b"unexpected argument 'c' found", b"run [OPTIONS] <FILE>"),
+    (["run", "a", "--keep=b", "--", "c"], b"unexpected argument 'c' found", b"run [OPTIONS] <FILE>"),
+    (["run", "--keep=a", "b", "--keep", "c"], b"the argument '--keep <FILE2>' cannot be used multiple times", b"run [OPTIONS] <FILE>"),
+    (["run", "a", "--keep"], b"a value is required for '--keep <FILE2>' but none was supplied", None),
+    (["run", "--keep", "--", "a"], b"a value is required for '--keep <FILE2>' but none was supplied", None),
     (["replay"], b"the following required arguments were not provided:\n  <FILE>", b"replay <FILE>"),
     (["replay", "a", "b"], b"unexpected argument 'b' found", b"replay <FILE>"),
     (["check"], b"the following required arguments were not provided:\n  <FILE>", b"check <FILE>"),
@@ -19,7 +25,12 @@ USAGE = [
     (
         ["run", "--fly"],
         b"unexpected argument '--fly' found\n\n  tip: to pass '--fly' as a value, use '-- --fly'",
-        b"run <FILE>",
+        b"run [OPTIONS] <FILE>",
+    ),
+    (
+        ["run", "--keep", "a", "--fly"],
+        b"unexpected argument '--fly' found\n\n  tip: to pass '--fly' as a value, use '-- --fly'",
+        b"run --keep <FILE2> <FILE>",
     ),
     (
         ["replay", "--fly"],
@@ -36,7 +47,8 @@ USAGE = [
 
 def usage(room):
     for words, said, called in USAGE:
-        said = b"error: %s\n\nUsage: sbiboard %s\n\nFor more information, try '--help'.\n" % (said, called)
+        called = b"Usage: sbiboard %s\n\n" % called if called else b""
+        said = b"error: %s\n\n%sFor more information, try '--help'.\n" % (said, called)
         must_be(ran(words, cwd=room), 2, b"", said)
 
 
@@ -81,7 +93,10 @@ def version(room):
 # Words that the script answers as the program does, also before there is one.
 SAID_EARLY = [["--version"], [], ["fly"], ["fly", "a"], ["--fly"]]
 
-FAULTS_EARLY = ([], ["a", "b"], ["--fly"], ["--"], ["a", "--", "b"], ["--", "a", "b"], ["--", "--", "--"])
+# Lines of a run that keeps its record.
+KEPT_EARLY = (["--keep", "k", "none"], ["--keep=k", "none"], ["none", "--keep", "k"], ["none", "--keep=k", "--"], ["--keep", "k", "--", "none"])
+
+FAULTS_EARLY = ([], ["a", "b"], ["--fly"], ["a", "--fly"], ["--"], ["a", "--", "b"], ["--", "a", "b"], ["--", "--", "--"])
 
 
 def unbuilt(room):
@@ -96,7 +111,8 @@ def before_the_build(room):
     """The script answers help, the version, faults of usage and a missing file in the program's words, and builds nothing."""
     front = unbuilt(room)
     asked = lambda words: subprocess.run([front, *words], stdin=subprocess.DEVNULL, capture_output=True, timeout=30)
-    for words in SAID_EARLY:
+    faults = [[task, *it] for task in TASKS for it in FAULTS_EARLY]
+    for words in (*SAID_EARLY, *faults, *[words for words, _, _ in USAGE]):
         wanted = ran(words, cwd=room)
         must_be(asked(words), wanted.returncode, wanted.stdout, wanted.stderr)
     early, _, own = asked(["--help"]).stdout.partition(b"\nBefore the program is built:\n")
@@ -105,6 +121,8 @@ def before_the_build(room):
     for task in TASKS:
         for words in ([task, "none"], [task, "none", "--"], [task, "--", "none"], [task, room], ["--try", task, "none"]):
             must_be(asked(words), 7, b"", FAILED_IO)
+    for words in KEPT_EARLY:
+        must_be(asked(["run", *words]), 7, b"", FAILED_IO)
 
 # What the program of the worked rows says, which ends runs of its own with each outcome and each failure in turn.
 ENDINGS = b"""\

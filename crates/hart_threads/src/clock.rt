@@ -43,7 +43,7 @@ fn tick_all<K: Plan, G: Gate, R: Wait>(rt: &R, work: &Work<'_, '_, K, G>, seat: 
             return Met::ClosedGate;
         }
         match work.board.call(rt, seat, Op::Tick(*n)) {
-            Ok(_) => {}
+            Ok(receipt) => work.tell(&receipt),
             Err(refusal) => return Met::by_refusal(refusal),
         }
     }

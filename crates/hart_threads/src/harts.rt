@@ -101,6 +101,7 @@ fn attempt<'a, K: Plan, G: Gate, R: Wait>(
     }
     match work.board.call_and_view(rt, seat, op) {
         Ok((receipt, now)) => {
+            work.tell(&receipt);
             guest.sees(work.program, op, receipt.reply());
             *view = now;
             Met::Nothing

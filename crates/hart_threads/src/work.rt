@@ -10,7 +10,7 @@ use crate::gate::Gate;
 use crate::met::Met;
 use crate::plans::Plan;
 use board_core::Actor;
-use board_lock::{Seat, SharedBoard};
+use board_lock::{Receipt, Seat, SharedBoard};
 
 /// What all threads of a run share.
 #[derive(Drop)]
@@ -36,6 +36,16 @@ impl<'a, 'p, K: Plan, G: Gate> Work<'a, 'p, K, G> {
             Actor::Clock => self.harts,
         };
         self.gate.turn(number as usize, seat.count() as usize)
+    }
+
+    /// Tells the gate of the event of a receipt. No lock is held.
+    pub(crate) fn tell(&self, receipt: &Receipt<K>) {
+        self.gate.told(
+            receipt.place(),
+            receipt.actor(),
+            receipt.op(),
+            receipt.reply(),
+        );
     }
 }
 

@@ -19,7 +19,7 @@ use Rattle.clap.specs.Walk.{bundle_met}
 use Rattle.clap.specs.Faults.{flags_fault}
 use Rattle.clap.proofs.FaultLemmas.{stopped_fault}
 use Rattle.clap.proofs.WalkLemmas.{walk_stopped}
-use Rattle.sbiboard.specs.CommandLine.{asked, is_task, of_one_file, sbiboard, unless_faulty, with_file}
+use Rattle.sbiboard.specs.CommandLine.{Asked, asked, is_task, of_a_run, of_one_file, sbiboard, unless_faulty, with_file}
 
 pub no_cons : {X : Type 0} (x : X) (xs : List X) → x ∷ xs ≡ [] → ⊥
 no_cons x xs e = cc
@@ -44,6 +44,9 @@ leaf name = record (of_one_file name) { rules = (built_leaf (of_one_file name)).
 
 abbrev pub leaf_rules : List Rule
 leaf_rules = (leaf []).rules
+
+abbrev pub run_leaf : Shape
+run_leaf = record of_a_run { rules = (built_leaf of_a_run).rules; disable_help_subcommand = true; is_built = true }
 
 abbrev start : Walk
 start = walk_from nothing_held
@@ -116,54 +119,61 @@ or_else_none [] = refl
 or_else_none (k ∷ ks) = refl
 
 -- what is found after a subcommand's name
-abbrev pub Enters : Text → Type 0
-Enters name = (own : Text) (rest : List Text)
-    → (fault_of sbiboard (own ∷ name ∷ rest) ≡ level_fault (leaf name) [] nothing_held rest false [])
-    × (subcommand_of sbiboard (own ∷ name ∷ rest) ≡ Some (name, rows_after leaf_rules [] rest))
+abbrev pub Enters : Shape → Type 0
+Enters s = (own : Text) (rest : List Text)
+    → (fault_of sbiboard (own ∷ s.name ∷ rest) ≡ level_fault s [] nothing_held rest false [])
+    × (subcommand_of sbiboard (own ∷ s.name ∷ rest) ≡ Some (s.name, rows_after s.rules [] rest))
 
 abbrev stopped : Text → List Text → Walk
 stopped name rest = record start { stopped = Some (name, rest) }
 
 -- the walk of the words after a subcommand's name
-module _ (name : Text) (met : subcommand_met names idle name ≡ Some name) where
-  walk_is : (rest : List Text) → walk rules names nothing_held (name ∷ rest) ≡ stopped name rest
+module _ (s : Shape) (met : subcommand_met names idle s.name ≡ Some s.name) where
+  walk_is : (rest : List Text) → walk rules names nothing_held (s.name ∷ rest) ≡ stopped s.name rest
   unfolding walked
-  walk_is rest = ap (λ w. fold (walked rules names) w rest) (rw met refl) ∙ sym (walk_stopped rules names start name [] rest)
+  walk_is rest = ap (λ w. fold (walked rules names) w rest) (rw met refl) ∙ sym (walk_stopped rules names start s.name [] rest)
 
-  module _ (task : bytes_eq name (codes "help") ≡ false) (found : find (λ s. answers_to name (label_of s)) whole.subs ≡ Some (leaf name)) where
-    rows_are : (rest : List Text) → entered whole (Some (name, rest)) ≡ Some (name, rows_after leaf_rules [] rest)
-    rows_are rest = ap (option_map (λ s. rows_at s rest)) found
+  module _ (task : bytes_eq s.name (codes "help") ≡ false) (found : find (λ t. answers_to s.name (label_of t)) whole.subs ≡ Some s) where
+    rows_are : (rest : List Text) → entered whole (Some (s.name, rest)) ≡ Some (s.name, rows_after s.rules [] rest)
+    rows_are rest = ap (option_map (λ t. rows_at t rest)) found
 
     -- what the command's own level finds faulty after the walk
     abbrev after : Walk → Kinds
     after w = or_else (entered_fault whole w.stopped) (or_else (settle_fault rules false w.held)
         (or_else (defaults_fault (settled rules w.held).rows rules) (check_fault whole.top (finished rules w.held) (is_some (entered whole w.stopped)))))
 
-    after_is : (rest : List Text) → after (stopped name rest) ≡ level_fault (leaf name) [] nothing_held rest false []
+    after_is : (rest : List Text) → after (stopped s.name rest) ≡ level_fault s [] nothing_held rest false []
     unfolding defaults_fault
     after_is rest =
-        ap (λ o. or_else (option_map_or (λ s. level_fault s [] nothing_held rest false []) o []) (check_fault whole.top [] (is_some (option_map (λ s. rows_at s rest) o)))) found
-        ∙ or_else_none (level_fault (leaf name) [] nothing_held rest false [])
+        ap (λ o. or_else (option_map_or (λ t. level_fault t [] nothing_held rest false []) o []) (check_fault whole.top [] (is_some (option_map (λ t. rows_at t rest) o)))) found
+        ∙ or_else_none (level_fault s [] nothing_held rest false [])
 
-    turn_is : turn_fault whole.top names start name ≡ []
+    turn_is : turn_fault whole.top names start s.name ≡ []
     turn_is = rw (met, task) refl
 
-    walk_fault_is : (rest : List Text) → walk_fault whole.top names start (name ∷ rest) ≡ []
+    walk_fault_is : (rest : List Text) → walk_fault whole.top names start (s.name ∷ rest) ≡ []
     unfolding walk_fault walked
     walk_fault_is rest =
-        ap (λ k. or_else k (walk_fault whole.top names (walked rules names start name) rest)) turn_is
+        ap (λ k. or_else k (walk_fault whole.top names (walked rules names start s.name) rest)) turn_is
         ∙ ap (λ w. walk_fault whole.top names w rest) (rw met refl)
-        ∙ stopped_fault whole.top names start (name, []) rest
+        ∙ stopped_fault whole.top names start (s.name, []) rest
 
-    enters : Enters name
+    enters : Enters s
     enters own rest = (
-      ap (λ k. or_else k (after (walk rules names nothing_held (name ∷ rest)))) (walk_fault_is rest) ∙ ap after (walk_is rest) ∙ after_is rest,
+      ap (λ k. or_else k (after (walk rules names nothing_held (s.name ∷ rest)))) (walk_fault_is rest) ∙ ap after (walk_is rest) ∙ after_is rest,
       ap (λ w. entered whole w.stopped) (walk_is rest) ∙ rows_are rest,
     )
 
+pub enters_run : Enters run_leaf
+enters_run = enters run_leaf refl refl refl
+
+-- a subcommand as clap builds it, by its name
+abbrev pub leaf_of : Text → Shape
+leaf_of name = cond (bytes_eq (codes "run") name) run_leaf (leaf name)
+
 -- a word is a subcommand's name, or it and what follows it has a fault
 abbrev pub FirstWord : Text → Type 0
-FirstWord word = ((is_task word ≡ true) × Enters word)
+FirstWord word = ((is_task word ≡ true) × ((leaf_of word).name ≡ word) × Enters (leaf_of word))
     ⊎ ((is_task word ≡ false) × ((own : Text) (rest : List Text) → fault_of sbiboard (own ∷ word ∷ rest) ≡ [] → ⊥))
 
 pub first_word : (word : Text) → FirstWord word
@@ -183,15 +193,15 @@ first_word word = by_run (bytes_eq (codes "run") word) refl
     by_help r p c false is = by_dashes r p c is (bytes_eq word (codes "--")) refl
 
     by_check : bytes_eq (codes "run") word ≡ false → bytes_eq (codes "replay") word ≡ false → (b : Bool) → bytes_eq (codes "check") word ≡ b → FirstWord word
-    by_check r p true is = same (codes "check") is (inl (refl, enters (codes "check") refl refl refl))
+    by_check r p true is = same (codes "check") is (inl (refl, refl, enters (leaf (codes "check")) refl refl refl))
     by_check r p false is = by_help r p is (bytes_eq (codes "help") word) refl
 
     by_replay : bytes_eq (codes "run") word ≡ false → (b : Bool) → bytes_eq (codes "replay") word ≡ b → FirstWord word
-    by_replay r true is = same (codes "replay") is (inl (refl, enters (codes "replay") refl refl refl))
+    by_replay r true is = same (codes "replay") is (inl (refl, refl, enters (leaf (codes "replay")) refl refl refl))
     by_replay r false is = by_check r is (bytes_eq (codes "check") word) refl
 
     by_run : (b : Bool) → bytes_eq (codes "run") word ≡ b → FirstWord word
-    by_run true is = same (codes "run") is (inl (refl, enters (codes "run") refl refl refl))
+    by_run true is = same (codes "run") is (inl (refl, refl, enters_run))
     by_run false is = by_replay is (bytes_eq (codes "replay") word) refl
 
 -- words without a fault begin with the program's own name and a subcommand's
@@ -205,7 +215,12 @@ named : (words : List Text) → fault_of sbiboard words ≡ [] → IsNamed words
 named [] e = absurd (none_fails e)
 named (own ∷ []) e = absurd (own_fails own e)
 named (own ∷ name ∷ rest) e = elim (first_word name) [
-  | inl task ↦ record { name = name; rows = rows_after leaf_rules [] rest; task = task.0; found = (task.1 own rest).1 }
+  | inl task ↦ record {
+    name = name;
+    rows = rows_after (leaf_of name).rules [] rest;
+    task = task.0;
+    found = subst (λ w. subcommand_of sbiboard (own ∷ w ∷ rest) ≡ Some (w, rows_after (leaf_of name).rules [] rest)) task.1 (task.2 own rest).1;
+  }
   | inr other ↦ absurd (other.1 own rest e)
 ]
 
@@ -213,7 +228,7 @@ or_false : (b : Bool) → (b || false) ≡ true → b ≡ true
 or_false true e = refl
 or_false false e = e
 
-some_is : {X : Type 0} (x y : X) → Some x ≡ Some y → x ≡ y
+pub some_is : {X : Type 0} (x y : X) → Some x ≡ Some y → x ≡ y
 some_is x y e = cc
 
 pub task_named : (words : List Text) (name : Text) (rows : List Row) → fault_of sbiboard words ≡ [] → subcommand_of sbiboard words ≡ Some (name, rows) → is_task name ≡ true
@@ -235,7 +250,7 @@ the_third word task not_run not_check = by_run (bytes_eq (codes "run") word) ref
 
 -- ---- what a parse finds
 
-pub no_fault : (kinds : Kinds) (found : Option (Text × Text)) → is_some (unless_faulty kinds found) ≡ true → kinds ≡ []
+pub no_fault : (kinds : Kinds) (found : Option Asked) → is_some (unless_faulty kinds found) ≡ true → kinds ≡ []
 no_fault [] found e = refl
 no_fault (k ∷ ks) found e = absurd (true≢false (sym e))
 

@@ -1,6 +1,6 @@
 -- What clap finds in the words after a subcommand's name.
-use Rattle.std.proofs.Common.{◌≡◌, ◌∙◌, ◌⊎◌, ◌&&◌, ◌||◌, ℕ, Bool, cond, codes, true, false, refl, sym, ap, ap₂, subst, suc, List, [], ◌∷◌, ◌++◌, Option, Some, None, inl, inr, true≢false, arith}
-use Rattle.std.specs.Prelude.{◌==◌, fold, option_and_then, option_map, slice_get}
+use Rattle.std.proofs.Common.{◌≡◌, ◌∙◌, ◌⊎◌, ◌&&◌, ◌||◌, ℕ, Bool, cond, codes, true, false, refl, sym, ap, subst, suc, List, [], ◌∷◌, ◌++◌, Option, Some, None, inl, inr, true≢false, arith}
+use Rattle.std.specs.Prelude.{◌==◌, fold, option_map, slice_get}
 use Rattle.std.specs.List.{All}
 use Rattle.std.specs.Str.{IsUtf8, bytes_eq, chars}
 use Rattle.std.proofs.lemmas.Slice.Eq.{bytes_eq-Decides}
@@ -10,23 +10,24 @@ use lib.Utf8.{encodes}
 use Rattle.clap.specs.Lexer.{long_of, name_and_value, short_of}
 use Rattle.clap.specs.Walk.{Held, Row, Text, Walk, arg_by_long, arg_by_short, finished, idle, nothing_held, settled, walk_from, walked}
 use Rattle.clap.specs.Kinds.{Kinds, or_else}
+use Rattle.clap.specs.Simple.{Shape}
 use Rattle.clap.specs.Faults.{check_fault, defaults_fault, flags_fault, long_fault, settle_fault, short_fault, turn_fault, walk_fault, word_fault}
-use Rattle.sbiboard.specs.CommandLine.{asked, file_in, is_dashed, is_dashes, unless_faulty, with_file, written}
-use Rattle.sbiboard.proofs.Asked.{both_empty, first_word, leaf, leaf_rules, no_cons, none_fails, own_fails}
+use Rattle.sbiboard.specs.CommandLine.{Asked, asking, file_in, is_dashed, is_dashes, unless_faulty, with_file}
+use Rattle.sbiboard.proofs.Asked.{both_empty, leaf, leaf_rules, no_cons}
 
 -- ---- how words look
 
 -- the word names an option
-abbrev Flag : Text → Type 0
+abbrev pub Flag : Text → Type 0
 Flag word = ((p : Text × Option Text) × (long_of word ≡ Some p))
     ⊎ ((long_of word ≡ None) × (b : ℕ) × (bs : Text) × (short_of word ≡ Some (b ∷ bs)) × (x : ℕ) × (slice_get (chars (b ∷ bs)) 0 ≡ Some x))
 
-record Plain (word : Text) : Type 0 where
-  long : long_of word ≡ None
-  short : short_of word ≡ None
-  dashes : bytes_eq word (codes "--") ≡ false
+pub record Plain (word : Text) : Type 0 where
+  pub long : long_of word ≡ None
+  pub short : short_of word ≡ None
+  pub dashes : bytes_eq word (codes "--") ≡ false
 
-plain : (word : Text) → is_dashed word ≡ false → Plain word
+pub plain : (word : Text) → is_dashed word ≡ false → Plain word
 plain [] e = record { long = refl; short = refl; dashes = refl }
 plain (x ∷ []) e = go (x == 45) refl
   where
@@ -103,7 +104,7 @@ flag_fails name word rows pending position looks undashed e = elim looks [
     by_word = (both_empty (word_fault (leaf name) [] false idle word held) _ e).0
 
 -- FILE is met
-abbrev file_met : Text → Option (Text × List Text)
+abbrev pub file_met : Text → Option (Text × List Text)
 file_met word = Some (codes "FILE", word ∷ [])
 
 module _ (name word : Text) (undashed : is_dashed word ≡ false) (no_dashes : is_dashes word ≡ false) where
@@ -126,84 +127,84 @@ module _ (name word : Text) (undashed : is_dashed word ≡ false) (no_dashes : i
 
 -- ---- the walk from a place to the end
 
--- what the level finds faulty after the walk
-abbrev after : Text → Walk → Kinds
-after name end = or_else (settle_fault leaf_rules false end.held) (or_else (defaults_fault (settled leaf_rules end.held).rows leaf_rules)
-    (check_fault (leaf name) (finished leaf_rules end.held) false))
+-- what a subcommand's level finds faulty after the walk
+abbrev pub after : Shape → Walk → Kinds
+after s end = or_else (settle_fault s.rules false end.held) (or_else (defaults_fault (settled s.rules end.held).rows s.rules)
+    (check_fault s (finished s.rules end.held) false))
 
-abbrev ends : Text → Kinds → Walk → Option (Text × Text)
-ends name kinds end = unless_faulty (or_else kinds (after name end)) (with_file (name, finished leaf_rules end.held))
+abbrev pub ends : Shape → Kinds → Walk → Option Asked
+ends s kinds end = unless_faulty (or_else kinds (after s end)) (with_file (s.name, finished s.rules end.held))
 
 -- what is found of the words from there on
-abbrev finds : Text → Walk → List Text → Option (Text × Text)
-finds name w words = ends name (walk_fault (leaf name) [] w words) (fold (walked leaf_rules []) w words)
+abbrev pub finds : Shape → Walk → List Text → Option Asked
+finds s w words = ends s (walk_fault s [] w words) (fold (walked s.rules []) w words)
 
-next : (name : Text) (w then : Walk) (word : Text) (words : List Text) → turn_fault (leaf name) [] w word ≡ [] → walked leaf_rules [] w word ≡ then
-    → finds name w (word ∷ words) ≡ finds name then words
+pub next : (s : Shape) (w then : Walk) (word : Text) (words : List Text) → turn_fault s [] w word ≡ [] → walked s.rules [] w word ≡ then
+    → finds s w (word ∷ words) ≡ finds s then words
 unfolding walk_fault
-next name w then word words quiet is =
-    let later = walked leaf_rules [] w word in
-    ap (λ kinds. ends name (or_else kinds (walk_fault (leaf name) [] later words)) (fold (walked leaf_rules []) later words)) quiet
-    ∙ ap (λ v. finds name v words) is
+next s w then word words quiet is =
+    let later = walked s.rules [] w word in
+    ap (λ kinds. ends s (or_else kinds (walk_fault s [] later words)) (fold (walked s.rules []) later words)) quiet
+    ∙ ap (λ v. finds s v words) is
 
-none_found : (kinds : Kinds) (found : Option (Text × Text)) → (kinds ≡ [] → ⊥) → unless_faulty kinds found ≡ None
+pub none_found : (kinds : Kinds) (found : Option Asked) → (kinds ≡ [] → ⊥) → unless_faulty kinds found ≡ None
 none_found [] found faulty = absurd (faulty refl)
 none_found (k ∷ ks) found faulty = refl
 
-stops : (name : Text) (w : Walk) (word : Text) (words : List Text) → (turn_fault (leaf name) [] w word ≡ [] → ⊥) → finds name w (word ∷ words) ≡ None
+pub stops : (s : Shape) (w : Walk) (word : Text) (words : List Text) → (turn_fault s [] w word ≡ [] → ⊥) → finds s w (word ∷ words) ≡ None
 unfolding walk_fault
-stops name w word words faulty =
-    let later = walked leaf_rules [] w word in
-    let turns = or_else (turn_fault (leaf name) [] w word) (walk_fault (leaf name) [] later words) in
-    let end = after name (fold (walked leaf_rules []) later words) in
-    none_found (or_else turns end) _ (λ e. faulty (both_empty _ (walk_fault (leaf name) [] later words) (both_empty turns end e).0).0)
+stops s w word words faulty =
+    let later = walked s.rules [] w word in
+    let turns = or_else (turn_fault s [] w word) (walk_fault s [] later words) in
+    let end = after s (fold (walked s.rules []) later words) in
+    none_found (or_else turns end) _ (λ e. faulty (both_empty _ (walk_fault s [] later words) (both_empty turns end e).0).0)
 
 -- ---- FILE
 
-abbrev told : Text → List Text → Option (Text × Text)
-told name words = option_map (λ path. (name, path)) (file_in words)
+abbrev pub told : Text → List Text → Option Asked
+told name words = option_map (λ path. asking name path None) (file_in words)
 
 abbrev Right : Text → List Text → Type 0
-Right name words = finds name (walk_from nothing_held) words ≡ told name words
+Right name words = finds (leaf name) (walk_from nothing_held) words ≡ told name words
 
 no_words : (name : Text) → Right name []
 unfolding walk_fault defaults_fault
 no_words name = refl
 
-after_dashes : (name : Text) (rest : List Text) → Right name (codes "--" ∷ rest)
+after_dashes : (name : Text) → bytes_eq (codes "run") name ≡ false → (rest : List Text) → Right name (codes "--" ∷ rest)
 unfolding walk_fault walked defaults_fault
-after_dashes name [] = refl
-after_dashes name (file ∷ []) = refl
-after_dashes name (file ∷ second ∷ rest) = refl
+after_dashes name not_run [] = refl
+after_dashes name not_run (file ∷ []) = rw not_run refl
+after_dashes name not_run (file ∷ second ∷ rest) = refl
 
 -- FILE alone, or before `--`
-file_alone : (name file : Text) → finds name (at [] (file_met file) 2 false) [] ≡ Some (name, file)
+file_alone : (name file : Text) → bytes_eq (codes "run") name ≡ false → finds (leaf name) (at [] (file_met file) 2 false) [] ≡ Some (asking name file None)
 unfolding walk_fault defaults_fault
-file_alone name file = refl
+file_alone name file not_run = rw not_run refl
 
-file_first : (name file : Text) → finds name (at [] (file_met file) 2 false) (codes "--" ∷ []) ≡ Some (name, file)
+file_first : (name file : Text) → bytes_eq (codes "run") name ≡ false → finds (leaf name) (at [] (file_met file) 2 false) (codes "--" ∷ []) ≡ Some (asking name file None)
 unfolding walk_fault walked defaults_fault
-file_first name file = refl
+file_first name file not_run = rw not_run refl
 
-dashes_then : (name file word : Text) (rest : List Text) → finds name (at [] (file_met file) 2 false) (codes "--" ∷ word ∷ rest) ≡ None
+dashes_then : (name file word : Text) (rest : List Text) → finds (leaf name) (at [] (file_met file) 2 false) (codes "--" ∷ word ∷ rest) ≡ None
 unfolding walk_fault walked
 dashes_then name file word rest = refl
 
-eq_dashes : (word : Text) → is_dashes word ≡ true → codes "--" ≡ word
+pub eq_dashes : (word : Text) → is_dashes word ≡ true → codes "--" ≡ word
 eq_dashes word is = sym ((bytes_eq-Decides word (codes "--")).0 is)
 
 -- FILE, and what may follow it
-module _ (name file : Text) (undashed : is_dashed file ≡ false) (no_dashes : is_dashes file ≡ false) where
+module _ (name file : Text) (not_run : bytes_eq (codes "run") name ≡ false) (undashed : is_dashed file ≡ false) (no_dashes : is_dashes file ≡ false) where
   abbrev place : Walk
   place = at [] (file_met file) 2 false
 
   abbrev Goes : List Text → Type 0
-  Goes rest = finds name place rest ≡ told name (file ∷ rest)
+  Goes rest = finds (leaf name) place rest ≡ told name (file ∷ rest)
 
-  alone_is : Some (name, file) ≡ told name (file ∷ [])
+  alone_is : Some (asking name file None) ≡ told name (file ∷ [])
   alone_is = rw undashed refl
 
-  first_is : Some (name, file) ≡ told name (file ∷ codes "--" ∷ [])
+  first_is : Some (asking name file None) ≡ told name (file ∷ codes "--" ∷ [])
   first_is = rw (no_dashes, undashed) refl
 
   none_is : (second : Text) → is_dashes second ≡ false → (rest : List Text) → None ≡ told name (file ∷ second ∷ rest)
@@ -211,65 +212,49 @@ module _ (name file : Text) (undashed : is_dashed file ≡ false) (no_dashes : i
   none_is second is (word ∷ rest) = refl
 
   dashes_go : (rest : List Text) → Goes (codes "--" ∷ rest)
-  dashes_go [] = file_first name file ∙ first_is
+  dashes_go [] = file_first name file not_run ∙ first_is
   dashes_go (word ∷ rest) = dashes_then name file word rest
 
   goes : (rest : List Text) → All IsUtf8 rest → Goes rest
-  goes [] utf8 = file_alone name file ∙ alone_is
+  goes [] utf8 = file_alone name file not_run ∙ alone_is
   goes (second ∷ rest) utf8 = by_dashes (is_dashes second) refl
     where
       by_dashed : is_dashes second ≡ false → (b : Bool) → is_dashed second ≡ b → Goes (second ∷ rest)
       by_dashed is true dashed =
           let first : IsUtf8 second = utf8 0 second (omega arith) in
-          stops name place second rest (flag_fails name second [] (file_met file) 2 (flag second first dashed is) is) ∙ none_is second is rest
-      by_dashed is false dashed = stops name place second rest (second_fails name second dashed is file) ∙ none_is second is rest
+          stops (leaf name) place second rest (flag_fails name second [] (file_met file) 2 (flag second first dashed is) is) ∙ none_is second is rest
+      by_dashed is false dashed = stops (leaf name) place second rest (second_fails name second dashed is file) ∙ none_is second is rest
 
       by_dashes : (b : Bool) → is_dashes second ≡ b → Goes (second ∷ rest)
       by_dashes true is = subst (λ w. Goes (w ∷ rest)) (eq_dashes second is) (dashes_go rest)
       by_dashes false is = by_dashed is (is_dashed second) refl
 
   file_goes : (rest : List Text) → All IsUtf8 rest → Right name (file ∷ rest)
-  file_goes rest utf8 = next name _ place file rest (first_turn name file undashed no_dashes) (first_walked name file undashed no_dashes) ∙ goes rest utf8
+  file_goes rest utf8 = next (leaf name) _ place file rest (first_turn name file undashed no_dashes) (first_walked name file undashed no_dashes) ∙ goes rest utf8
 
 -- an option in the place of FILE
-dashed_is : (name word : Text) → is_dashed word ≡ true → is_dashes word ≡ false → (rest : List Text) → None ≡ told name (word ∷ rest)
+pub dashed_is : (name word : Text) → is_dashed word ≡ true → is_dashes word ≡ false → (rest : List Text) → None ≡ told name (word ∷ rest)
 dashed_is name word dashed is [] = rw dashed refl
 dashed_is name word dashed is (second ∷ []) = rw (is, dashed) (go (is_dashes second))
   where
-    named : Option Text → Option (Text × Text)
-    named = option_map (λ path. (name, path))
+    named : Option Text → Option Asked
+    named = option_map (λ path. asking name path None)
 
     go : (b : Bool) → None ≡ named (cond (b && false) (Some word) None)
     go true = refl
     go false = refl
 dashed_is name word dashed is (second ∷ third ∷ rest) = refl
 
-file_right : (name : Text) (words : List Text) → All IsUtf8 words → Right name words
-file_right name [] utf8 = no_words name
-file_right name (word ∷ rest) utf8 = by_dashes (is_dashes word) refl
+pub file_right : (name : Text) → bytes_eq (codes "run") name ≡ false → (words : List Text) → All IsUtf8 words → Right name words
+file_right name not_run [] utf8 = no_words name
+file_right name not_run (word ∷ rest) utf8 = by_dashes (is_dashes word) refl
   where
     by_dashed : is_dashes word ≡ false → (b : Bool) → is_dashed word ≡ b → Right name (word ∷ rest)
     by_dashed is true dashed =
         let first : IsUtf8 word = utf8 0 word (omega arith) in
-        stops name _ word rest (flag_fails name word [] None 1 (flag word first dashed is) is) ∙ dashed_is name word dashed is rest
-    by_dashed is false dashed = file_goes name word dashed is rest (λ k d lt. utf8 (suc k) d (omega arith))
+        stops (leaf name) _ word rest (flag_fails name word [] None 1 (flag word first dashed is) is) ∙ dashed_is name word dashed is rest
+    by_dashed is false dashed = file_goes name word not_run dashed is rest (λ k d lt. utf8 (suc k) d (omega arith))
 
     by_dashes : (b : Bool) → is_dashes word ≡ b → Right name (word ∷ rest)
-    by_dashes true is = subst (λ w. Right name (w ∷ rest)) (eq_dashes word is) (after_dashes name rest)
+    by_dashes true is = subst (λ w. Right name (w ∷ rest)) (eq_dashes word is) (after_dashes name not_run rest)
     by_dashes false is = by_dashed is (is_dashed word) refl
-
--- ---- the whole line
-
-pub plainly : (words : List Text) → All IsUtf8 words → asked words ≡ written words
-plainly [] utf8 = none_found _ _ none_fails
-plainly (own ∷ []) utf8 = none_found _ _ (own_fails own)
-plainly (own ∷ name ∷ rest) utf8 = elim (first_word name) [
-  | inl task ↦
-      let found = task.1 own rest in
-      let right : told name rest ≡ written (own ∷ name ∷ rest) = rw task.0 refl in
-      ap₂ (λ kinds sub. unless_faulty kinds (option_and_then with_file sub)) found.0 found.1
-      ∙ file_right name rest (λ k d lt. utf8 (suc (suc k)) d (omega arith)) ∙ right
-  | inr other ↦
-      let none : None ≡ written (own ∷ name ∷ rest) = rw other.0 refl in
-      none_found _ _ (other.1 own rest) ∙ none
-]

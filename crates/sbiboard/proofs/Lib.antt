@@ -2,6 +2,8 @@ pub mod Asked
 pub mod Checked
 pub mod Comments
 pub mod FileWords
+pub mod Kept
+pub mod RunWords
 pub mod ReadBack
 pub mod ReadLines
 pub mod Replayed

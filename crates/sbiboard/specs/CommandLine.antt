@@ -1,9 +1,20 @@
--- What the words of a command line ask for: one of three tasks, with its FILE.
+-- What the words of a command line ask for: one of three tasks, with its FILE, and of a run the file that its record is kept in,
+-- where one is named.
 use Rattle.std.specs.Prelude.{◌==◌, ◌&&◌, ◌||◌, Bool, true, false, not, List, [], ◌∷◌, Option, Some, None, codes, option_and_then, option_map, if◌then◌else◌}
 use Rattle.std.specs.Str.{bytes_eq}
+use Rattle.clap.specs.Lexer.{long_of}
 use Rattle.clap.specs.Words.{App, Kinds, Row, Rule, Shape, Text, fault_of, first_of, new_app, new_rule, subcommand_of, with_rule, with_subcommand}
 use Rattle.sbiboard.specs.declared.command_line.Task.{Task}
 use Rattle.sbiboard.specs.declared.command_line.Task.TheVariants.{Run, Replay, Check}
+
+-- What is asked for: a subcommand, its FILE, and the file that a record is kept in.
+pub record Asked : Type 0 where
+  pub task : Text
+  pub file : Text
+  pub keep : Option Text
+
+abbrev pub asking : Text → Text → Option Text → Asked
+asking name path kept = record { task = name; file = path; keep = kept }
 
 -- ---- as clap reads them
 
@@ -11,9 +22,17 @@ use Rattle.sbiboard.specs.declared.command_line.Task.TheVariants.{Run, Replay, C
 abbrev pub file : Rule
 file = record (new_rule (codes "FILE")) { required = true }
 
+-- The option `--keep`, whose value is FILE2.
+abbrev pub keep : Rule
+keep = record (new_rule (codes "keep")) { long = Some (codes "keep"); value_names = 1 }
+
 -- A subcommand with FILE.
 abbrev pub of_one_file : (name : Text) → Shape
 of_one_file name = (with_rule (new_app name) file).top
+
+-- The subcommand of a run, with FILE and `--keep`.
+abbrev pub of_a_run : Shape
+of_a_run = (with_rule (with_rule (new_app (codes "run")) file) keep).top
 
 -- The program without its subcommands: it has a version, and wants a subcommand.
 abbrev pub program : App
@@ -21,32 +40,36 @@ program =
     let new = new_app (codes "sbiboard") in
     record new { top = record new.top { has_version = true; subcommand_required = true } }
 
--- The program's command: `sbiboard run FILE`, `sbiboard replay FILE`, and `sbiboard check FILE`.
+-- The program's command: `sbiboard run [--keep FILE2] FILE`, `sbiboard replay FILE`, and `sbiboard check FILE`.
 abbrev pub sbiboard : App
 sbiboard =
-    let run = with_subcommand program (of_one_file (codes "run")) in
+    let run = with_subcommand program of_a_run in
     let replay = with_subcommand run (of_one_file (codes "replay")) in
     with_subcommand replay (of_one_file (codes "check"))
 
--- A subcommand that was met, with the value of its FILE.
-abbrev pub with_file : Text × List Row → Option (Text × Text)
-with_file met = option_map (λ path. (met.0, path)) (first_of (codes "FILE") met.1)
+-- the value of `--keep`, which a run has
+abbrev pub kept_of : Text × List Row → Option Text
+kept_of met = if bytes_eq (codes "run") met.0 then first_of (codes "keep") met.1 else None
+
+-- A subcommand that was met, with the value of its FILE, and of its `--keep`.
+abbrev pub with_file : Text × List Row → Option Asked
+with_file met = option_map (λ path. asking met.0 path (kept_of met)) (first_of (codes "FILE") met.1)
 
 -- What is found, where there is no fault.
-abbrev pub unless_faulty : Kinds → Option (Text × Text) → Option (Text × Text)
+abbrev pub unless_faulty : Kinds → Option Asked → Option Asked
 unless_faulty [] found = found
 unless_faulty (fault ∷ faults) found = None
 
--- The subcommand and the FILE that clap's meaning of the command gives for the words, the program's own name first: none where it has
--- a fault to tell of them, or help or the version to show.
-abbrev pub asked : List Text → Option (Text × Text)
+-- What clap's meaning of the command gives for the words, the program's own name first: none where it has a fault to tell of them, or
+-- help or the version to show.
+abbrev pub asked : List Text → Option Asked
 asked words = unless_faulty (fault_of sbiboard words) (option_and_then with_file (subcommand_of sbiboard words))
 
--- A task's subcommand, and its FILE.
-abbrev pub task_words : Task → Text × Text
-task_words (Run path) = (codes "run", path.now)
-task_words (Replay path) = (codes "replay", path.now)
-task_words (Check path) = (codes "check", path.now)
+-- What a task asks for.
+abbrev pub task_words : Task → Asked
+task_words (Run path kept) = asking (codes "run") path.now (option_map (λ name. name.now) kept)
+task_words (Replay path) = asking (codes "replay") path.now None
+task_words (Check path) = asking (codes "check") path.now None
 
 -- ---- as they are written
 
@@ -72,7 +95,52 @@ file_in words = None
 abbrev pub is_task : Text → Bool
 is_task word = bytes_eq (codes "run") word || (bytes_eq (codes "replay") word || bytes_eq (codes "check") word)
 
--- The subcommand and FILE of a line: the program's own name, a subcommand's, and FILE.
-abbrev pub written : List Text → Option (Text × Text)
-written (own ∷ name ∷ rest) = if is_task name then option_map (λ path. (name, path)) (file_in rest) else None
+-- A name that is one word, which doesn't begin with `-`, and the words behind it.
+abbrev pub name_in : List Text → Option (Text × List Text)
+name_in [] = None
+name_in (name ∷ rest) = if is_dashed name then None else Some (name, rest)
+
+-- The value of an option, in its own word behind `=`, or the next word.
+abbrev pub value_in : Option Text → List Text → Option (Text × List Text)
+value_in None rest = name_in rest
+value_in (Some name) rest = Some (name, rest)
+
+abbrev pub kept_by : Option (Text × Option Text) → List Text → Option (Text × List Text)
+kept_by None rest = None
+kept_by (Some p) rest = if bytes_eq (codes "keep") p.0 then value_in p.1 rest else None
+
+-- `--keep NAME` or `--keep=NAME` at the head of the words: NAME, and the words behind it.
+abbrev pub kept_in : List Text → Option (Text × List Text)
+kept_in [] = None
+kept_in (word ∷ rest) = kept_by (long_of word) rest
+
+-- FILE, with NAME of `--keep` before it or behind it, in the words after `run`.
+abbrev pub run_before : (kept : Option (Text × List Text)) → (unkept : Option (Text × Option Text)) → Option (Text × Option Text)
+run_before None unkept = unkept
+run_before (Some p) unkept = option_map (λ path. (path, Some p.0)) (file_in p.1)
+
+-- The words end, but for a word `--`.
+abbrev pub are_over : List Text → Bool
+are_over [] = true
+are_over (word ∷ []) = is_dashes word
+are_over words = false
+
+abbrev pub run_behind : (path : Text) → (kept : Option (Text × List Text)) → (unkept : Option (Text × Option Text)) → Option (Text × Option Text)
+run_behind path None unkept = unkept
+run_behind path (Some p) unkept = if is_dashed path then unkept else (if are_over p.1 then Some (path, Some p.0) else None)
+
+abbrev pub run_in : List Text → Option (Text × Option Text)
+run_in [] = None
+run_in (word ∷ rest) =
+    run_before (kept_in (word ∷ rest)) (run_behind word (kept_in rest) (option_map (λ path. (path, None)) (file_in (word ∷ rest))))
+
+-- What a subcommand's words ask for: a run may keep its record.
+abbrev pub task_in : (name : Text) → List Text → Option Asked
+task_in name rest =
+    if bytes_eq (codes "run") name then option_map (λ found. asking name found.0 found.1) (run_in rest)
+    else option_map (λ path. asking name path None) (file_in rest)
+
+-- What a line asks for: the program's own name, a subcommand's, and its words.
+abbrev pub written : List Text → Option Asked
+written (own ∷ name ∷ rest) = if is_task name then task_in name rest else None
 written words = None

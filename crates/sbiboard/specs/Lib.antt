@@ -4,6 +4,7 @@ pub mod Devices
 pub mod Done
 pub mod Fitting
 pub mod Jobs
+pub mod Keeping
 pub mod Outcomes
 pub mod PrintedScripts
 pub mod Replay

@@ -1,5 +1,5 @@
 -- What the run of a program on threads writes, and how it ends (profile).
-use Rattle.std.specs.Prelude.{◌≡◌, ℕ, ◌≤◌, Bool, List, length, [], ◌∷◌, ◌++◌, codes, reverse, Option, Some, None, Ok}
+use Rattle.std.specs.Prelude.{◌≡◌, ℕ, ◌≤◌, Bool, true, List, length, [], ◌∷◌, ◌++◌, codes, reverse, Option, Some, None, Ok}
 use Rattle.board_core.specs.declared.config.Config.{Config}
 use Rattle.board_core.specs.declared.event.Actor.TheVariants.{Clock}
 use Rattle.board_core.specs.History.{Event}
@@ -74,6 +74,10 @@ pub record RunsOnThreads (lets : ℕ → ℕ → Bool → Type 0) (c : Config) (
   pub outcome_is : outcome ≡ outcome_of end
   pub text_is : text ≡ run_text (opening_at c) past end
   pub accepted : length text ≤ most_bytes → EndsCheck text Good (agrees_text (length past))
+
+-- A gate that is always open answers so.
+abbrev pub open_lets : ℕ → ℕ → Bool → Type 0
+open_lets actor ordinal may = may ≡ true
 
 -- What the run of bytes writes with each outcome.
 abbrev pub EndsRun : (lets : ℕ → ℕ → Bool → Type 0) → List ℕ → Outcome → List ℕ → Type 0

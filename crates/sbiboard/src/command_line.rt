@@ -4,7 +4,7 @@ ghost use Rattle.std.specs.Str.{IsUtf8};
 ghost use Rattle.std.specs.String.{string_bytes};
 ghost use Rattle.clap.specs.Words.{Text, app_of, kind_of, shape_of};
 ghost use Rattle.clap.specs.declared.builder.command.Command.TheViews.{out-Command as fields_of};
-ghost use Rattle.sbiboard.specs.CommandLine.{asked, of_one_file, sbiboard, task_words, written};
+ghost use Rattle.sbiboard.specs.CommandLine.{asked, of_a_run, of_one_file, sbiboard, task_words, written};
 
 use clap::error::ErrorKind;
 use clap::{Arg, Command, Error};
@@ -14,7 +14,12 @@ use std::alloc::{AllocError, Global};
 #[derive(Clone, Copy, Debug, PartialEq, Eq)]
 pub enum Task<'a> {
     /// Run the program in this file on threads.
-    Run(&'a str),
+    Run {
+        /// The program's file.
+        file: &'a str,
+        /// The file that the record is kept in while it grows, if one is named.
+        keep: Option<&'a str>,
+    },
     /// Replay the schedule in this file.
     Replay(&'a str),
     /// Check the trace in this file.
@@ -29,11 +34,14 @@ const CHECK: &str = "check";
 
 const FILE: &str = "FILE";
 
+const KEEP: &str = "keep";
+
 const VERSION: &str = "0.1.0";
 
 const EXAMPLE: &str = "\
 Examples:
   sbiboard run examples/three-harts.program
+  sbiboard run --keep kept.trace examples/three-harts.program
   sbiboard replay examples/version.sched
   sbiboard check examples/version.trace
 
@@ -81,8 +89,8 @@ Exit status:
   4  a run ended stuck: not quiet, and yet no hart could go on
   5  a line of a trace differs
   6  no memory, or no thread
-  7  the file could not be opened, which one whose name isn't UTF-8 never can, or a read or a
-     write failed";
+  7  a file could not be opened, which one whose name isn't UTF-8 never can, or a read or a
+     write failed; a run whose record could not be kept has printed all it had to";
 
 /// The task that the words of a command line name, the program's own name first, or what clap says of
 /// them: a fault of usage, or the help or the version that was asked for. Words that name a task are refused
@@ -98,7 +106,10 @@ pub fn command<'a>(alloc: Global, words: &'a [String]) -> Result<Task<'a>, Error
         && let Some(file) = found.get_str(FILE)
     {
         return Ok(match name {
-            RUN => Task::Run(file),
+            RUN => Task::Run {
+                file,
+                keep: found.get_str(KEEP),
+            },
             CHECK => Task::Check(file),
             _ => Task::Replay(file),
         });
@@ -119,12 +130,7 @@ pub fn asked_as_written()
 fn described<'a>(alloc: Global) -> Result<Command<'a>, AllocError>
     ensures { IfOk result (λ c. app_of c ≡ sbiboard) }
 {
-    let run = of_file(
-        alloc,
-        RUN,
-        "The file of the program, such as examples/three-harts.program",
-    )?
-    .about(
+    let run = of_run(alloc)?.about(
         "Run a program's blocks on threads, one for each hart and one for the clock, and print the record, the board and how it ended",
     );
     let replay = of_file(
@@ -149,6 +155,21 @@ fn described<'a>(alloc: Global) -> Result<Command<'a>, AllocError>
         .subcommand(run)?
         .subcommand(replay)?
         .subcommand(check)
+}
+
+/// The subcommand of a run.
+fn of_run<'a>(alloc: Global) -> Result<Command<'a>, AllocError>
+    ensures { IfOk result (λ c. (shape_of c ≡ of_a_run) × ((fields_of c).has_globals ≡ false)) }
+{
+    let keep = Arg::new(alloc, KEEP).long(KEEP).value_name("FILE2").help(
+        "Write the record into FILE2 while it grows: what a killed run leaves there is a trace",
+    );
+    of_file(
+        alloc,
+        RUN,
+        "The file of the program, such as examples/three-harts.program",
+    )?
+    .arg(keep)
 }
 
 /// A subcommand of one file.

@@ -1,23 +1,50 @@
-ghost use Rattle.std.specs.Prelude.{◌≡◌, ◌^◌, ◌<◌, true, ℕ, IfSome, List, OnOk, is_some, reverse, take};
+ghost use Rattle.std.specs.Prelude.{◌≡◌, ◌^◌, ◌<◌, true, ℕ, IfOk, IfSome, List, OnErr, OnOk, is_some, reverse, take};
 ghost use Rattle.std.specs.List.{AllByRecursion};
 ghost use Rattle.board_core.specs.Limits.{IsGood};
 ghost use Rattle.guest_script.specs.Grammar.{Reads, content, written};
 ghost use Rattle.monitor.specs.Sinks.{Puts};
 ghost use Rattle.sbiboard.specs.Fitting.{EventFits};
+ghost use Rattle.sbiboard.specs.Keeping.{told_as};
 ghost use Rattle.sbiboard.specs.Running.{CountsEnd, EndsFlushed, EndsRead, Writes};
 ghost use Rattle.sbiboard.specs.Sources.{ReadsUpTo, read_limit};
-ghost use Rattle.sbiboard.specs.Threaded.{EndsRun, end_line, end_name, events_text, outcome_of, programmed, run_text};
+ghost use Rattle.sbiboard.specs.Threaded.{EndsRun, end_line, end_name, events_text, open_lets, outcome_of, programmed, run_text};
 
-use crate::device::{Source, read_script};
+use crate::device::{Device, Source, read_script};
+use crate::ending::Stop;
 use crate::fitting::{answer_fits, op_fits};
+use crate::keeping::{KeepFault, Keeper};
 use crate::outcome::Outcome;
 use crate::running::unread;
 use board_core::Event;
 use guest_script::{Body, Script};
-use hart_threads::{End, Gate, RunEnd, RunFault, run};
+use hart_threads::{End, Gate, Open, RunEnd, RunFault, run};
 use monitor::{Failed, Page, Sink, print, print_head, write_all};
+use std::fs;
+use std::rt::Files;
 use std::sync::Wait;
 use std::thread::Threads;
+
+/// How a run ended, and whether all of its record was kept.
+#[derive(Clone, Copy, Debug, PartialEq, Eq)]
+pub struct KeptRun {
+    /// How it ended.
+    pub outcome: Outcome,
+    /// Whether all of its record was kept.
+    pub kept: Result<(), KeepFault>,
+}
+
+impl KeptRun {
+    /// The outcome that is told: a record that was kept in part comes before how the run ended.
+    pub fn told(self) -> Outcome
+        ensures { result ≡ told_as self.outcome self.kept }
+    {
+        match self.kept {
+            Ok(()) => self.outcome,
+            Err(KeepFault::Failed) => Outcome::Io,
+            Err(KeepFault::NoMemory) => Outcome::NoMemory,
+        }
+    }
+}
 
 /// Reads a program to its end, runs it on threads, one for each hart and one for the clock, and writes the board line, the
 /// events of the record, the board's table and how it ended. Where this has at most 16,777,216 bytes, it is a trace with
@@ -44,6 +71,60 @@ pub fn run_script<S: Source, W: Sink, G: Gate + Sync, R: AllocGlobal + Threads +
     match read_script(rt.alloc(), reader) {
         Ok(script) => run_read(rt, &script, writer, gate),
         Err(fault) => unread(fault),
+    }
+}
+
+/// As `run_script` with a gate that is always open, and the record is kept in a file of this name while it grows: the board
+/// line, and a line for each event, whole lines in the order of their places. The file is made, or what it had is dropped, once
+/// the program is read and its board's numbers are good. What is kept changes nothing of the run: where it can't be written any
+/// more, the run goes on to its end without.
+///
+/// # Errors
+///
+/// The file can't be made, and nothing was run or written.
+pub fn run_and_keep<S: Source, W: Sink, R: AllocGlobal + Files + Threads + Wait + Sync>(
+    rt: &R,
+    reader: &mut S,
+    writer: &mut W,
+    path: &str,
+) -> Result<KeptRun, Stop>
+where
+    R::File: Send,
+    requires reader_counts { S.failures reader.old < 2 ^ 63 }
+    requires writer_counts { W.failures writer.old < 2 ^ 63 }
+    ensures writes { IfOk result (λ run. IfSome (S.left reader.old) (λ bytes.
+        Writes (EndsRun open_lets (take read_limit bytes)) run.outcome (W.written writer.old) (W.written writer.new))) }
+    ensures to_the_end { IfOk result (λ run. EndsRead run.outcome (S.left reader.new)) }
+    ensures at_most { ReadsUpTo read_limit (S.left reader.old) (S.left reader.new) }
+    ensures untouched { S.failures reader.old < S.failures reader.new → writer.new ≡ writer.old }
+    ensures flushed { IfOk result (λ run. EndsFlushed run.outcome (W.is_flushed writer.new)) }
+    ensures failed { IfOk result (λ run. CountsEnd run.outcome (S.failures reader.old) (S.failures reader.new)
+        (W.failures writer.old) (W.failures writer.new)) }
+    ensures unmade { OnErr result (writer.new ≡ writer.old) }
+{
+    let script = match read_script(rt.alloc(), reader) {
+        Ok(script) => script,
+        Err(fault) => return Ok(unkept(unread(fault))),
+    };
+    if !is_program(&script.body) || !script.config.is_good() {
+        return Ok(unkept(run_read(rt, &script, writer, &Open)));
+    }
+    let file = Device::new(fs::create(rt, path)?);
+    let keeper = Keeper::new(rt, rt.alloc(), &script.config, file);
+    let outcome = run_read(rt, &script, writer, &keeper);
+    Ok(KeptRun {
+        outcome,
+        kept: keeper.met(),
+    })
+}
+
+/// A run of which nothing was to be kept.
+fn unkept(outcome: Outcome) -> KeptRun
+    ensures { result.outcome ≡ outcome }
+{
+    KeptRun {
+        outcome,
+        kept: Ok(()),
     }
 }
 

@@ -1,11 +1,14 @@
-//! The program: `sbiboard replay FILE`, `sbiboard check FILE` and `sbiboard run FILE`. It opens the file and standard output,
+//! The program: `sbiboard replay FILE`, `sbiboard check FILE` and `sbiboard run [--keep FILE2] FILE`. It opens the file and standard output,
 //! lends them to the library, and ends with the status that the library answers.
 #![tactic(auto)]
 
 use hart_threads::Open;
-use sbiboard::{Device, Outcome, Stop, Task, check, command, ended, replay, run_script};
+use sbiboard::{
+    Device, Outcome, Stop, Task, check, command, ended, replay, run_and_keep, run_script,
+};
 use std::fs::OpenFile;
-use std::io::BufWriter;
+use std::io::{BufWriter, ErrorKind};
+use std::os::unix::fs::MetadataExt;
 use std::process::ExitCode;
 use std::rt::{Env, Files};
 use std::sync::Wait;
@@ -20,20 +23,43 @@ fn main(rt: HostRuntime) -> ExitCode {
 
 fn run<R: AllocGlobal + Env + Files + Print + Threads + Wait + Sync>(
     rt: &R,
-) -> Result<Outcome, Stop> {
+) -> Result<Outcome, Stop>
+where
+    R::File: Send,
+{
     let words = env::args(rt)?.collect::<Vec<String>>(rt.alloc())?;
     let task = command(rt.alloc(), words.as_slice())?;
-    let (Task::Run(file) | Task::Replay(file) | Task::Check(file)) = task;
+    let (Task::Run { file, .. } | Task::Replay(file) | Task::Check(file)) = task;
     let script = fs::open(rt, file)?;
+    if let Task::Run {
+        keep: Some(path),
+        ..
+    } = task
+        && is_of(rt, &script, path)
+    {
+        return Err(Stop::System(io::Error::from(ErrorKind::InvalidInput)));
+    }
     let expected = length_of(&script);
     let mut reader = Device::expecting(script, expected);
     let output = BufWriter::with_capacity(rt.alloc(), BUFFER, io::writer(rt))?;
     let mut writer = Device::new(output);
     Ok(match task {
-        Task::Run(_) => run_script(rt, &mut reader, &mut writer, &Open),
+        Task::Run {
+            keep: Some(path),
+            ..
+        } => run_and_keep(rt, &mut reader, &mut writer, path)?.told(),
+        Task::Run { .. } => run_script(rt, &mut reader, &mut writer, &Open),
         Task::Replay(_) => replay(rt.alloc(), &mut reader, &mut writer),
         Task::Check(_) => check(rt.alloc(), &mut reader, &mut writer),
     })
+}
+
+/// Whether a path is that of an open file, which a record that is kept there would take the place of.
+fn is_of<R: Files>(rt: &R, file: &R::File, path: &str) -> bool {
+    match (file.metadata(), fs::metadata(rt, path)) {
+        (Ok(own), Ok(named)) => own.dev() == named.dev() && own.ino() == named.ino(),
+        _ => false,
+    }
 }
 
 /// The length of a file, as the system tells it: a pipe's is 0.

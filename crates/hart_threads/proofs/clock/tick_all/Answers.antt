@@ -28,5 +28,5 @@ loop-n-preserved g c =
       e.actor ∙ c.loop-n.invariant.0,
       one-more c.loop-n.seat.ops c.call.new.seat.ops program g.K.Plan.ticks c.loop-n.n-index c.args.work.now.planned c.loop-n-test.true c.loop-n.invariant.1 e.ops,
       e.accepted ∙ ap (λ n. n + 1) c.loop-n.invariant.2,
-      clock-done t c.loop-n.seat c.call.new.seat _ c.in-Ok.field-0.reply c.loop-n.invariant.0 c.loop-n.invariant.3 next c.if-not-is_let.ensures e.done e.accepted,
+      clock-done t c.loop-n.seat c.call.new.seat _ c.in-Ok.receipt.reply c.loop-n.invariant.0 c.loop-n.invariant.3 next c.if-not-is_let.ensures e.done e.accepted,
     )

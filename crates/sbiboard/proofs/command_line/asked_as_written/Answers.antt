@@ -1,4 +1,4 @@
-use Rattle.sbiboard.proofs.FileWords.{plainly}
+use Rattle.sbiboard.proofs.RunWords.{plainly}
 use Rattle.sbiboard.proofs.command_line.asked_as_written.Goals as goal
 
 pub returns : goal.returns
