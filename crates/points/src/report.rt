@@ -51,6 +51,11 @@ impl Report {
         self.is_cut = true;
     }
 
+    /// Whether not all orders were tried.
+    pub fn is_cut_short(&self) -> bool {
+        self.is_cut
+    }
+
     /// So many different records of a program were met.
     pub fn count_records(&mut self, many: usize) {
         self.records = self.records.saturating_add(many as u64);

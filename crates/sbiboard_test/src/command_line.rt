@@ -3,7 +3,7 @@ ghost use Rattle.std.specs.Prelude.{◌<◌};
 use crate::limit::Limit;
 use crate::screen::Screen;
 use crate::stop::Stop;
-use clap::{Arg, ArgAction, Command, value_parser};
+use clap::{Arg, ArgAction, ArgMatches, Command, value_parser};
 use std::alloc::{AllocError, Global};
 use std::ops::Range;
 use std::rt::Clock;
@@ -25,7 +25,14 @@ const TAP: &str = "tap";
 
 const FAILED: &str = "failed";
 
+const STATES: &str = "states";
+
+const NO_OUTCOMES: &str = "no-outcomes";
+
 const FILE: &str = "FILE";
+
+/// The name under which the program looks at all orders.
+const EXPLORE: &str = "sbiboard explore";
 
 /// How many orders are tried at a time at most.
 const MOST_JOBS: u64 = 256;
@@ -36,6 +43,13 @@ A condition is a comment of a script that begins with `#!`, as in
 docs/FORMATS.md has all of them. What is told are points of the Test Anything Protocol.
 
 Exit status: 0 all hold, 1 some don't, 2 usage, 6 no memory, 7 input or output failed.";
+
+const AFTER_EXPLORE: &str = "\
+A condition is a comment of a script that begins with `#!`, as `#! never 2 load 0x1000 -> value 0x11`; docs/FORMATS.md has all.
+What holds in all orders of steps, of any length that the program allows, is proved to hold in all histories of it.
+A state takes some 10 KB for two pages of RAM and three harts.
+
+Exit status: 0 all hold, 1 some don't, 2 usage, 6 no memory, 7 input or output failed, 8 not all orders were seen.";
 
 /// What is asked for.
 #[derive(Debug, Drop)]
@@ -50,6 +64,10 @@ pub(crate) struct Options<'a> {
     pub(crate) runs: u64,
     /// What stands where the program prints.
     pub(crate) screen: Screen,
+    /// Where all orders are looked at, how many states may be found.
+    pub(crate) states: Option<usize>,
+    /// Whether what loads gave last is told, too.
+    pub(crate) outcomes: bool,
     /// The folder that failing records are written into.
     pub(crate) failed: &'a str,
     /// How long orders are tried, of all programs together.
@@ -80,28 +98,60 @@ pub(crate) fn options_of<'a, R: AllocGlobal + Clock + Threads>(
     words: &'a [String],
     screen: Screen,
 ) -> Result<Options<'a>, Stop> {
+    if words.first().is_some_and(|name| name.as_str() == EXPLORE) {
+        return explore_options(rt, words, screen);
+    }
     let alloc = rt.alloc();
     let matches = described(alloc)?.try_get_matches_from(words)?;
+    let times = matches.get_one(TIMES).unwrap_or(0);
+    Ok(Options {
+        times,
+        order: matches.get_one(ORDER),
+        seed: matches.get_one(SEED).unwrap_or(0),
+        jobs: jobs_of(rt, matches.get_one(JOBS)),
+        runs: if matches.get_flag(THREADS) { times } else { 0 },
+        screen,
+        states: None,
+        outcomes: false,
+        failed: matches.get_str(FAILED).unwrap_or("."),
+        limit: Limit::begin(rt, matches.get_one(SECONDS))?,
+        tap: matches.get_str(TAP),
+        files: files_of(alloc, &matches)?,
+    })
+}
+
+/// What they ask for where all orders are looked at.
+fn explore_options<'a, R: AllocGlobal + Clock>(
+    rt: &R,
+    words: &'a [String],
+    screen: Screen,
+) -> Result<Options<'a>, Stop> {
+    let alloc = rt.alloc();
+    let matches = described_exploring(alloc)?.try_get_matches_from(words)?;
+    let states: u64 = matches.get_one(STATES).unwrap_or(0);
+    Ok(Options {
+        times: 0,
+        order: None,
+        seed: 0,
+        jobs: 1,
+        runs: 0,
+        screen,
+        states: Some(states as usize),
+        outcomes: !matches.get_flag(NO_OUTCOMES),
+        failed: matches.get_str(FAILED).unwrap_or("."),
+        limit: Limit::begin(rt, matches.get_one(SECONDS))?,
+        tap: matches.get_str(TAP),
+        files: files_of(alloc, &matches)?,
+    })
+}
+
+/// The files that are named.
+fn files_of<'a>(alloc: Global, matches: &ArgMatches<'a>) -> Result<Vec<&'a str>, AllocError> {
     let mut files = Vec::new(alloc);
     if let Some(named) = matches.get_strs(FILE) {
         files.extend_from_slice(named)?;
     }
-    Ok(Options {
-        times: matches.get_one(TIMES).unwrap_or(0),
-        order: matches.get_one(ORDER),
-        seed: matches.get_one(SEED).unwrap_or(0),
-        jobs: jobs_of(rt, matches.get_one(JOBS)),
-        runs: if matches.get_flag(THREADS) {
-            matches.get_one(TIMES).unwrap_or(0)
-        } else {
-            0
-        },
-        screen,
-        failed: matches.get_str(FAILED).unwrap_or("."),
-        limit: Limit::begin(rt, matches.get_one(SECONDS))?,
-        tap: matches.get_str(TAP),
-        files,
-    })
+    Ok(files)
 }
 
 /// How many orders are tried at a time: as many as are asked for, or as there are processors.
@@ -126,6 +176,24 @@ fn described<'a>(alloc: Global) -> Result<Command<'a>, AllocError> {
         )
         .after_help(AFTER);
     with_files(alloc, with_ways(alloc, with_orders(alloc, command)?)?)
+}
+
+/// The same, where all orders are looked at.
+fn described_exploring<'a>(alloc: Global) -> Result<Command<'a>, AllocError> {
+    let command = Command::new(alloc, EXPLORE)
+        .bin_name(EXPLORE)?
+        .about("Look at all orders of a program, and judge its conditions")
+        .after_help(AFTER_EXPLORE);
+    let states = number(alloc, STATES, "N", "How many states may be found");
+    let command = command.arg(states.default_value("100000"))?;
+    let no_outcomes = Arg::new(alloc, NO_OUTCOMES)
+        .long(NO_OUTCOMES)
+        .action(ArgAction::SetTrue)
+        .help("Don't tell what each load gave last");
+    let command = command.arg(no_outcomes)?;
+    let about = "Look at orders for so many seconds at most";
+    let command = command.arg(number(alloc, SECONDS, "N", about))?;
+    with_files(alloc, command)
 }
 
 /// The same, with what says which orders are tried.

@@ -1,14 +1,19 @@
-//! The program behind `sbiboard test`: it tries orders of programs, replays schedules and compares traces, judges the records by
+//! The program behind `sbiboard test` and `sbiboard explore`: it looks at all orders of programs, tries orders of programs, replays schedules and compares traces, judges the records by
 //! the scripts' conditions, and tells what it found as points of the Test Anything Protocol.
 #![tactic(auto)]
 
 mod command_line;
 mod course;
 mod detail;
+mod exploring;
+mod graph;
 mod limit;
 mod loading;
+mod looking;
 mod orders;
+mod outcomes;
 mod pace;
+mod readings;
 mod screen;
 mod stale;
 mod steps;
@@ -35,17 +40,29 @@ fn main(rt: HostRuntime) -> ExitCode {
         is_watched: rt.stderr().is_terminal(),
     };
     ExitCode::from(match run(&rt, screen) {
-        Ok(true) => 0,
-        Ok(false) => 1,
+        Ok(Held::All) => 0,
+        Ok(Held::NotAll) => 1,
+        Ok(Held::Unseen) => 8,
         Err(stop) => stopped(&rt, &stop),
     })
+}
+
+/// What was found of all points.
+#[derive(Clone, Copy, Debug)]
+enum Held {
+    /// All hold.
+    All,
+    /// Some don't.
+    NotAll,
+    /// None is known not to hold, and not all orders were seen where that was asked for.
+    Unseen,
 }
 
 /// Does what the command line asks for, and answers whether all holds.
 fn run<R: AllocGlobal + Clock + Env + Eprint + Files + Print + Sync + Threads + Wait>(
     rt: &R,
     screen: Screen,
-) -> Result<bool, Stop> {
+) -> Result<Held, Stop> {
     let words = env::args(rt)?.collect::<Vec<String>>(rt.alloc())?;
     let options = options_of(rt, words.as_slice(), screen)?;
     test_all(rt, &options)
@@ -55,7 +72,7 @@ fn run<R: AllocGlobal + Clock + Env + Eprint + Files + Print + Sync + Threads + 
 fn test_all<R: AllocGlobal + Clock + Eprint + Files + Print + Sync + Threads + Wait>(
     rt: &R,
     options: &Options<'_>,
-) -> Result<bool, Stop> {
+) -> Result<Held, Stop> {
     let mut tap = match options.tap {
         Some(path) => match fs::create(rt, path) {
             Ok(file) => Some(file),
@@ -74,7 +91,13 @@ fn test_all<R: AllocGlobal + Clock + Eprint + Files + Print + Sync + Threads + W
         let millis = options.limit.millis(rt)?;
         println!(rt; "time: {}.{} s", millis / 1_000, millis % 1_000 / 100)?;
     }
-    Ok(report.all_hold())
+    Ok(if !report.all_hold() {
+        Held::NotAll
+    } else if options.states.is_some() && report.is_cut_short() {
+        Held::Unseen
+    } else {
+        Held::All
+    })
 }
 
 /// Prints what isn't told yet, and writes it into the file that was asked for.

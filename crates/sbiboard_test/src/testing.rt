@@ -4,6 +4,7 @@ ghost use Rattle.hart_threads.specs.Programs.{IsProgram};
 
 use crate::command_line::Options;
 use crate::course::Course;
+use crate::exploring::explore_program;
 use crate::loading::{Unloaded, load};
 use crate::orders::test_orders;
 use crate::steps::{compare, judge_record, replay};
@@ -51,10 +52,18 @@ fn test_script<R: AllocGlobal + Clock + Eprint + Files + Sync + Threads + Wait>(
     report: &mut Report,
 ) -> Result<(), Stop> {
     if is_program(&script.body) {
+        if let Some(states) = options.states {
+            return explore_program(rt, options, case, script, states, report);
+        }
         test_orders(rt, options, case, script, report)?;
         return test_runs(rt, options, case, script, report);
     }
     let alloc = rt.alloc();
+    if options.states.is_some() {
+        let file = case.file;
+        let about = format!(in alloc; "{file}: only a program has orders")?;
+        return Ok(report.point(false, about.as_str())?);
+    }
     let board = new_board(alloc, &script.config)?;
     let mut course = Course::of(alloc, board);
     match &script.body {
