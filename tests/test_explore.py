@@ -209,7 +209,10 @@ def failing_orders_are_traces(room):
 def bounds_are_told(room):
     """With too few states not all orders are seen, which is no success; a schedule has no orders."""
     status, lines = explored(room, LOADS_AND_STORES, "--states", "5")
-    if status != 8 or not any(it.startswith("# not all orders were seen: ") for it in lines):
+    if status != 8 or not any(it.startswith("# not all orders were seen: ") for it in lines) or lines[-1] != "# cut short: not all orders were seen":
+        raise Wrong(f"status {status}, {lines}")
+    status, lines = explored(room, LOADS_AND_STORES)
+    if status != 0 or lines[-3:] != ["1..1", "# 1 points, 0 failed", "# 1 files"]:
         raise Wrong(f"status {status}, {lines}")
     status, lines = explored(room, "board 1 1 10 0 0x80000000 0\n0 advance\n")
     if status != 1 or lines[1] != "not ok 1 - a.program: only a program has orders":
@@ -217,6 +220,23 @@ def bounds_are_told(room):
     status, lines = explored(room, "boar\n")
     if status != 1:
         raise Wrong(f"status {status}, {lines}")
+
+
+def tour_is_as_written(room):
+    """The commands of the tour on all orders, as they are written: the first prints the lines that stand there and fails, the second passes."""
+    with open(os.path.join(ROOT, "docs/TOUR.md"), encoding="utf-8") as file:
+        text = file.read()
+    text = text[text.index("## All orders") : text.index("## Where real firmware")]
+    commands = [line.strip() for line in text.split("\n") if line.startswith(("    ./sbiboard", "    sed "))]
+    shown = [it for it in text.split("```\n")[1].split("\n") if it and it != "..."]
+    os.symlink(EXAMPLES, os.path.join(room, "examples"))
+    with open(os.path.join(room, "sbiboard"), "w", encoding="utf-8") as file:
+        file.write(f'#!/bin/bash\nshift; exec -a "sbiboard explore" {TESTER} "$@"\n')
+    os.chmod(file.name, 0o755)
+    found = [subprocess.run(["bash", "-c", it], cwd=room, capture_output=True, text=True, timeout=HANG) for it in commands]
+    lines = found[0].stdout.splitlines()
+    if [it.returncode for it in found] != [1, 0] or not all(it in lines for it in shown):
+        raise Wrong(f"{found}, and not {shown}")
 
 
 def help_is_stored(room):
@@ -234,5 +254,5 @@ TESTS = [
     ("outcomes are those of sequential consistency", outcomes_are_those_of_sequential_consistency),
     ("conditions are asked of all orders", conditions_are_asked_of_all_orders), ("ends are asked of all orders", ends_are_asked_of_all_orders),
     ("failing orders are traces", failing_orders_are_traces), ("bounds of a look at all orders are told", bounds_are_told),
-    ("help of explore is stored", help_is_stored),
+    ("help of explore is stored", help_is_stored), ("the tour on all orders", tour_is_as_written),
 ]  # fmt: skip

@@ -433,7 +433,7 @@ def tour():
     """The commands of the tour on finding orders, in fours, and the text that the first of them prints."""
     with open(os.path.join(ROOT, "docs/TOUR.md"), encoding="utf-8") as file:
         text = file.read()
-    text = text[text.index("## Asking a question") : text.index("## Where real firmware")]
+    text = text[text.index("## Asking a question") : text.index("## All orders")]
     commands = [line.strip() for line in text.split("\n") if line.startswith("    ./sbiboard") or line.startswith("    sed ")]
     shown = text[text.index("```\nTAP") + len("```\n") :]
     return [commands[at : at + 4] for at in range(0, len(commands), 4)], shown[: shown.index("```")]

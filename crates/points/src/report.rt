@@ -118,7 +118,7 @@ impl Report {
         Ok(())
     }
 
-    /// Puts the plan and the summary.
+    /// Puts the plan and the summary of orders that were tried.
     pub fn end(&mut self) -> Result<(), AllocError> {
         let Ends {
             off,
@@ -127,11 +127,7 @@ impl Report {
             stuck,
         } = self.ends;
         let orders = self.ends.orders();
-        write!(
-            self.text,
-            "1..{}\n# {} points, {} failed\n",
-            self.points, self.points, self.failed
-        )?;
+        self.put_plan()?;
         write!(
             self.text,
             "# {} files, {orders} orders, {} different records\n",
@@ -147,6 +143,26 @@ impl Report {
                 .push_str("# cut short: not all orders were tried\n")?;
         }
         Ok(())
+    }
+
+    /// Puts the plan and the summary of a look at all orders.
+    pub fn end_exploring(&mut self) -> Result<(), AllocError> {
+        self.put_plan()?;
+        write!(self.text, "# {} files\n", self.files)?;
+        if self.is_cut {
+            self.text
+                .push_str("# cut short: not all orders were seen\n")?;
+        }
+        Ok(())
+    }
+
+    /// Puts the plan, and how many points there are.
+    fn put_plan(&mut self) -> Result<(), AllocError> {
+        write!(
+            self.text,
+            "1..{}\n# {} points, {} failed\n",
+            self.points, self.points, self.failed
+        )
     }
 
     /// Whether no point failed.

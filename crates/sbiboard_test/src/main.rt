@@ -1,5 +1,6 @@
-//! The program behind `sbiboard test` and `sbiboard explore`: it looks at all orders of programs, tries orders of programs, replays schedules and compares traces, judges the records by
-//! the scripts' conditions, and tells what it found as points of the Test Anything Protocol.
+//! The program behind `sbiboard test` and `sbiboard explore`: it looks at all orders of programs or tries some, replays schedules
+//! and compares traces, judges the records by the scripts' conditions, and tells what it found as points of the Test Anything
+//! Protocol.
 #![tactic(auto)]
 
 mod command_line;
@@ -85,7 +86,10 @@ fn test_all<R: AllocGlobal + Clock + Eprint + Files + Print + Sync + Threads + W
         test_file(rt, options, file, &mut report)?;
         tell(rt, options, &mut tap, &mut report)?;
     }
-    report.end()?;
+    match options.states {
+        Some(_) => report.end_exploring()?,
+        None => report.end()?,
+    }
     tell(rt, options, &mut tap, &mut report)?;
     if options.screen.is_read {
         let millis = options.limit.millis(rt)?;
