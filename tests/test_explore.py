@@ -181,6 +181,17 @@ def conditions_are_asked_of_all_orders(room):
             raise Wrong(f"{asked}: an order of {steps} steps, not {fewest}: {lines}")
 
 
+def what_no_order_meets_is_told(room):
+    """A condition is told of which no step of any order has the actor and the operation; one that meets such steps isn't."""
+    for asked, met in (
+        ("never 1 load 0x80002008 -> value 1", False), ("never 1 load 0x80002000 -> value 7", True), ("each 9 poll -> ret 0", False), ("end quiet", True),
+        ("never 1 load after 0 store", True), ("never 1 load after 1 store", False), ("never 1 store after 0 store", False), ("before 0 store, 1 load 0x9000", False), ("some 0 store 0x80002000 1", True),
+    ):  # fmt: skip
+        _, lines = explored(room, f"#! {asked}\n{RACE}")
+        if ("# line 1: never met: no step has this actor and operation" in lines) == met:
+            raise Wrong(f"{asked}: {lines}")
+
+
 def ends_are_asked_of_all_orders(room):
     for asked, text, status in (("end quiet", RACE, 0), ("end quiet", WAKE, 1), ("end quiet stuck", WAKE, 0), ("end stuck", SUSPENDED, 0), ("end off", REBOOTS, 0), ("before 0 store, 1 load", RACE, 1)):
         found, lines = explored(room, f"#! {asked}\n{text}")
@@ -253,6 +264,7 @@ TESTS = [
     ("all orders are counted", orders_are_counted), ("all orders of random programs are counted", random_orders_are_counted),
     ("outcomes are those of sequential consistency", outcomes_are_those_of_sequential_consistency),
     ("conditions are asked of all orders", conditions_are_asked_of_all_orders), ("ends are asked of all orders", ends_are_asked_of_all_orders),
+    ("what no order meets is told", what_no_order_meets_is_told),
     ("failing orders are traces", failing_orders_are_traces), ("bounds of a look at all orders are told", bounds_are_told),
     ("help of explore is stored", help_is_stored), ("the tour on all orders", tour_is_as_written),
 ]  # fmt: skip

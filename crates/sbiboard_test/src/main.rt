@@ -11,6 +11,7 @@ mod graph;
 mod limit;
 mod loading;
 mod looking;
+mod meeting;
 mod orders;
 mod outcomes;
 mod pace;
