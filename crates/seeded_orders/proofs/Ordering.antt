@@ -14,13 +14,15 @@ use Rattle.board_core.specs.Replies.{answer, recorded}
 use Rattle.guest_script.specs.Grammar.{Content, guest}
 use Rattle.hart_threads.specs.declared.blocks.Program.{Program}
 use Rattle.hart_threads.specs.declared.ends.End.{End}
-use Rattle.hart_threads.specs.Ends.{IsEnd}
+use Rattle.hart_threads.specs.declared.met.Met.{Met}
+use Rattle.hart_threads.specs.declared.met.Met.TheVariants.{Nothing}
+use Rattle.hart_threads.specs.Ends.{IsEnd, IsEndBy}
 use Rattle.hart_threads.specs.Programs.{blocks_of, ticks_of}
 use Rattle.seeded_orders.specs.declared.steps.Step.{Step}
 use Rattle.seeded_orders.specs.declared.steps.Step.TheVariants as takes
 use Rattle.seeded_orders.specs.declared.pickers.Picker.{Picker}
 use Rattle.seeded_orders.specs.declared.pickers.Picker.TheVariants.{Even, Ranked}
-use Rattle.seeded_orders.specs.Orders.{IsTried, ordered, order_of, past_after, past_with, pick, picked, picker_of}
+use Rattle.seeded_orders.specs.Orders.{IsTried, met_before, ordered, order_of, past_after, past_with, pick, picked, picker_of}
 use Rattle.seeded_orders.specs.Ranks.{higher, highest, reranked}
 use Rattle.seeded_orders.specs.Steps.{actor_of, AreOwn, IsActorsOwn, next_op, op_of, steps, Task, task_in, task_of}
 
@@ -115,6 +117,13 @@ stops o p most turn picker next past whole found step is by none keeps =
     let none_picked : (pick picker turn found).0 ≡ None = sym (ap (λ (pair : Option Step × Picker). pair.0) by) ∙ none in
     sym (idle o p most turn picker past (sym is ∙ none-there picker turn found none_picked)) ∙ keeps
 
+-- Then nothing is met.
+pub nothing-met : (o : Opening) (p : Task) (turn : ℕ) (picker next : Picker) (past : List Event) (found : List Step) (step : Option Step)
+    → found ≡ steps o p past → (step, next) ≡ pick picker turn found → step ≡ None → Nothing ≡ met_before (steps o p past)
+nothing-met o p turn picker next past found step is by none =
+    let none_picked : (pick picker turn found).0 ≡ None = sym (ap (λ (pair : Option Step × Picker). pair.0) by) ∙ none in
+    sym (ap met_before (sym is ∙ none-there picker turn found none_picked))
+
 -- After as many turns as there may be events, too.
 pub ends : (o : Opening) (p : Task) (most turn : ℕ) (picker : Picker) (past whole : List Event) → most ≡ 0 → ordered o p most turn picker past ≡ whole → past ≡ whole
 unfolding ordered
@@ -134,14 +143,15 @@ goes o p most i picker next past after whole found picks step below is by some t
 pub same-task : (program : Program) (body : Content) → map guest program.blocks.now ≡ blocks_of body → program.ticks.now ≡ ticks_of body → task_in program ≡ task_of body
 same-task program body blocks ticks = λ i. record { blocks = blocks i; ticks = ticks i }
 
-pub if-ok : {T E : Type 0} (found : Result T E) (P Q : T → Type 0) → ((x : T) → P x → Q x) → IfOk found P → IfOk found Q
-if-ok (Ok x) P Q gives holds = gives x holds
-if-ok (Err e) P Q gives holds = holds
+pub if-both : {T E : Type 0} (found : Result T E) (P Q R : T → Type 0) → ((x : T) → P x → Q x → R x) → IfOk found P → IfOk found Q → IfOk found R
+if-both (Ok x) P Q R gives one other = gives x one other
+if-both (Err e) P Q R gives one other = one
 
 -- What is followed from the opening on is the order, if its picker is.
 pub order-is-tried : (c : Config) (p : Task) (seed order : ℕ) (past : List Event) (picker : Picker) (end : End) → picker ≡ picker_of c.harts seed order
-    → past ≡ ordered (opening_at c) p c.limit 0 picker [] → IsEnd end (opening_at c) past p.blocks → IsTried c p seed order past end
-order-is-tried c p seed order past picker end picks follows ended =
+    → past ≡ ordered (opening_at c) p c.limit 0 picker [] → IsEnd end (opening_at c) past p.blocks
+    → IsEndBy (met_before (steps (opening_at c) p past)) (opening_at c) past p.blocks end → IsTried c p seed order past end
+order-is-tried c p seed order past picker end picks follows ended by =
     let same : past ≡ order_of c p seed order = follows ∙ ap (λ (g : Picker). ordered (opening_at c) p c.limit 0 g []) picks in
     let Q : List Event → Type 0 = λ xs. AreOwn p xs in
-    record { same = same; own = subst Q (sym same) (ordered-own (opening_at c) p c.limit 0 (picker_of c.harts seed order) [] tt); ended = ended }
+    record { same = same; own = subst Q (sym same) (ordered-own (opening_at c) p c.limit 0 (picker_of c.harts seed order) [] tt); ended = ended; by = by }

@@ -9,7 +9,9 @@ use Rattle.board_core.specs.declared.event.Op.{Op}
 use Rattle.board_core.specs.History.{Event}
 use Rattle.board_core.specs.Replies.{stepped}
 use Rattle.hart_threads.specs.declared.ends.End.{End}
-use Rattle.hart_threads.specs.Ends.{IsEnd}
+use Rattle.hart_threads.specs.declared.met.Met.{Met}
+use Rattle.hart_threads.specs.declared.met.Met.TheVariants.{FullHistory, Nothing}
+use Rattle.hart_threads.specs.Ends.{IsEnd, IsEndBy}
 use Rattle.seeded_orders.specs.declared.pickers.Picker.{Picker}
 use Rattle.seeded_orders.specs.declared.pickers.Picker.TheVariants.{Even, Ranked}
 use Rattle.seeded_orders.specs.declared.steps.Step.{Step}
@@ -58,8 +60,15 @@ ordered o p (suc most) turn picker past =
 abbrev pub order_of : Config → Task → (seed order : ℕ) → List Event
 order_of c p seed order = ordered (opening_at c) p c.limit 0 (picker_of c.harts seed order) []
 
--- What trying an order of a program gives: this past, in which each step is its actor's own, and this end.
+-- What an order meets behind its last event: a full history where a step is left that could be taken, else nothing.
+abbrev pub met_before : List Step → Met
+met_before [] = Nothing
+met_before (step ∷ left) = FullHistory
+
+-- What trying an order of a program gives: this past, in which each step is its actor's own, and this end: a full history
+-- exactly where a step is left and the power is on.
 pub record IsTried (c : Config) (p : Task) (seed order : ℕ) (past : List Event) (end : End) : Type 0 where
   pub same : past ≡ order_of c p seed order
   pub own : AreOwn p past
   pub ended : IsEnd end (opening_at c) past p.blocks
+  pub by : IsEndBy (met_before (steps (opening_at c) p past)) (opening_at c) past p.blocks end

@@ -5,9 +5,9 @@ ghost use Rattle.board_core.specs.Replies.{IsLegal};
 ghost use Rattle.guest_script.specs.Grammar.{content};
 ghost use Rattle.hart_threads.specs.Programs.{IsProgram};
 ghost use Rattle.hart_threads.specs.declared.ends.RunFault.TheVariants.{BadConfig};
-ghost use Rattle.seeded_orders.specs.Orders.{IsTried, ordered, past_with};
+ghost use Rattle.seeded_orders.specs.Orders.{IsTried, met_before, ordered, past_with};
 ghost use Rattle.seeded_orders.specs.Places.{AreAt};
-ghost use Rattle.seeded_orders.specs.Steps.{task_in, task_of};
+ghost use Rattle.seeded_orders.specs.Steps.{steps, task_in, task_of};
 
 use crate::pickers::Picker;
 use crate::places::Places;
@@ -98,6 +98,7 @@ fn follow<'a>(
     ensures opening { board.new.opening ≡ board.old.opening }
     ensures past { OnOk result (board.new.past
         ≡ ordered board.old.opening (task_in program.now) board.old.opening.config.limit 0 picker.old board.old.past) }
+    ensures met { IfOk result (λ met. met ≡ met_before (steps board.new.opening (task_in program.now) board.new.past)) }
 {
     let mut steps = Vec::new(alloc);
     for i in 0..board.config().limit {
@@ -108,11 +109,18 @@ fn follow<'a>(
         take(board, program, places, step);
     }
     places.list(board, &mut steps)?;
-    Ok(if steps.is_empty() {
+    Ok(met_before(&steps))
+}
+
+/// What an order meets before these steps, which it doesn't take.
+fn met_before(left: &[Step]) -> Met
+    ensures { result ≡ met_before left.now }
+{
+    if left.is_empty() {
         Met::Nothing
     } else {
         Met::FullHistory
-    })
+    }
 }
 
 /// Takes a step.

@@ -1,10 +1,10 @@
 use Rattle.std.proofs.Common.{◌≡◌, ◌-◌, ◌+◌, sym, ap, ◌∙◌, subst, arith}
 use Rattle.board_core.specs.declared.config.Config.{Config}
 use Rattle.board_core.specs.Opening.{Opening}
-use Rattle.seeded_orders.specs.Orders.{ordered}
+use Rattle.seeded_orders.specs.Orders.{met_before, ordered}
 use Rattle.seeded_orders.specs.Places.{AreAt}
-use Rattle.seeded_orders.specs.Steps.{task_in, Task}
-use Rattle.seeded_orders.proofs.Ordering.{ends, goes, stops}
+use Rattle.seeded_orders.specs.Steps.{steps, task_in, Task}
+use Rattle.seeded_orders.proofs.Ordering.{ends, goes, nothing-met, stops}
 use Rattle.seeded_orders.proofs.orders.follow.Goals as goal
 
 pub returns-in_default-clause-past : goal.returns-in_default-clause-past
@@ -12,6 +12,12 @@ returns-in_default-clause-past c =
     let p : Task = task_in c.args.program.now in
     stops c.loop-i.board.opening p (c.args.board.now.opening.config.limit - c.loop-i.i) c.loop-i.i c.loop-i.picker c.pick.new.self c.loop-i.board.past _ c.deref.result.now c.pick.result
     (c.deref.ensures.value ∙ c.in_ok-list.ensures p c.loop-i.invariant.1) c.pick.ensures c.in_default.is c.loop-i.invariant.2
+
+pub returns-in_default-clause-met : goal.returns-in_default-clause-met
+returns-in_default-clause-met c =
+    let p : Task = task_in c.args.program.now in
+    nothing-met c.loop-i.board.opening p c.loop-i.i c.loop-i.picker c.pick.new.self c.loop-i.board.past c.deref.result.now c.pick.result
+    (c.deref.ensures.value ∙ c.in_ok-list.ensures p c.loop-i.invariant.1) c.pick.ensures c.in_default.is
 
 pub loop-i-preserved : goal.loop-i-preserved
 loop-i-preserved c =
@@ -30,3 +36,7 @@ pub returns-clause-past : goal.returns-clause-past
 returns-clause-past c =
     let limit : c.config.result.now.limit ≡ c.args.board.now.opening.config.limit = ap (λ (k : Config). k.limit) c.config.ensures.config in
     ends c.loop-i.board.opening (task_in c.args.program.now) (c.args.board.now.opening.config.limit - c.loop-i.i) c.loop-i.i c.loop-i.picker c.loop-i.board.past _ (omega arith) c.loop-i.invariant.2
+
+pub returns-clause-met : goal.returns-clause-met
+returns-clause-met c =
+    c.met_before.ensures ∙ ap met_before (c.deref-2.ensures.value ∙ c.in_ok-list-2.ensures (task_in c.args.program.now) c.loop-i.invariant.1)

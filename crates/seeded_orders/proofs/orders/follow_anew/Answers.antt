@@ -4,11 +4,12 @@ use Rattle.board_core.specs.Course.{Course}
 use Rattle.board_core.specs.History.{Event}
 use Rattle.board_core.specs.Opening.{Opening, opening_at}
 use Rattle.hart_threads.specs.declared.ends.End.{End}
-use Rattle.hart_threads.specs.Ends.{IsEnd}
-use Rattle.seeded_orders.specs.Orders.{ordered, picker_of}
+use Rattle.hart_threads.specs.declared.met.Met.{Met}
+use Rattle.hart_threads.specs.Ends.{IsEnd, IsEndBy}
+use Rattle.seeded_orders.specs.Orders.{met_before, ordered, picker_of}
 use Rattle.seeded_orders.specs.Places.{AreAt}
-use Rattle.seeded_orders.specs.Steps.{task_in, Task}
-use Rattle.seeded_orders.proofs.Ordering.{if-ok, order-is-tried}
+use Rattle.seeded_orders.specs.Steps.{steps, task_in, Task}
+use Rattle.seeded_orders.proofs.Ordering.{if-both, order-is-tried}
 use Rattle.seeded_orders.proofs.orders.follow_anew.Goals as goal
 
 pub follow-requires : goal.follow-requires
@@ -30,8 +31,12 @@ returns-clause-tried c =
     ∙ ap (λ (past : List Event). ordered (opening_at k) p k.limit 0 c.in_ok-picker.picker past) none in
     let picks : c.in_ok-picker.picker ≡ picker_of k.harts c.args.seed c.args.order =
     c.in_ok-picker.ensures ∙ ap (λ (x : Config). picker_of x.harts c.args.seed c.args.order) c.config.ensures.config in
+    let same : c.follow.new.board.opening ≡ opening_at k = c.follow.ensures.opening ∙ opening in
+    let met : c.in_ok-met.met ≡ met_before (steps (opening_at k) p c.follow.new.board.past) =
+    c.in_ok-met.ensures.met ∙ ap (λ (o : Opening). met_before (steps o p c.follow.new.board.past)) same in
     let E : End → Opening → Type 0 = λ end o. IsEnd end o c.follow.new.board.past p.blocks in
-    if-ok c.end_of.result _ _
-    (λ end is. order-is-tried k p c.args.seed c.args.order c.follow.new.board.past c.in_ok-picker.picker end picks follows
-    (subst (E end) (c.follow.ensures.opening ∙ opening) is))
-    c.end_of.ensures.end
+    let B : End → Met → Opening → Type 0 = λ end m o. IsEndBy m o c.follow.new.board.past p.blocks end in
+    if-both c.end_of.result _ _ _
+    (λ end is by. order-is-tried k p c.args.seed c.args.order c.follow.new.board.past c.in_ok-picker.picker end picks follows (subst (E end) same is)
+    (subst (λ m. B end m (opening_at k)) met (subst (B end c.in_ok-met.met) same by)))
+    c.end_of.ensures.end c.end_of.ensures.by
