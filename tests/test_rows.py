@@ -109,8 +109,53 @@ def small_allocations(room):
 
 small_allocations.program = program("rows")
 
+# How the worked rows tell of refused memory, and how many of their allocations are refused, one at a time.
+LACKS, SPREAD = re.compile("no ?memory|out ?of ?memory|memory allocation failed|AllocError", re.IGNORECASE), 40
+
+
+def some_allocations(room):
+    """
+    Allocations of the worked rows refused, one of many: the row that the refusal reaches says that there was no memory, and
+    nothing else, and the others show what they must; or the program ends there and says so.
+    """
+    made, data = shim(room), os.path.join(ROOT, "crates/rows/data")
+    with open(os.path.join(ROOT, "crates/rows/args"), encoding="utf-8") as file:
+        words = file.read().split()
+    with open(os.path.join(ROOT, "crates/rows/stdout"), encoding="utf-8") as file:
+        wanted = file.read().splitlines()
+
+    def run(refused):
+        own = os.path.join(room, str(refused))
+        os.mkdir(own)
+        found, sizes = allocating(made, own, words, refused, program=program("rows"), cwd=data)
+        return found.returncode, found.stdout.decode().splitlines(), found.stderr.decode().splitlines(), len(sizes)
+
+    def ends(refused):
+        status, lines, said, _ = run(refused)
+        # (a row that quotes what was printed may end with its line feed)
+        lines = [it for it in lines if it]
+        others = [it for it in lines if it not in wanted]
+        is_told = len(others) <= 1 and all(map(LACKS.search, others))
+        if status == 0 and is_told and [it for it in lines if it not in others] == wanted:
+            return len(others)
+        if status == 1 and not others and lines == wanted[: len(lines)] and LACKS.search(said[-1]):
+            return 2
+        raise Wrong(f"allocation {refused} refused: status {status}, {others or lines[-1:]}, {said[-1:]}")
+
+    status, lines, _, count = run(0)
+    if status or lines != wanted:
+        raise Wrong(f"with all memory: status {status}, {len(lines)} lines")
+    with ThreadPoolExecutor(os.cpu_count()) as lanes:
+        ended = set(lanes.map(ends, [1 + place * (count - 1) // (SPREAD - 1) for place in range(SPREAD)]))
+    if not ended >= {1, 2}:
+        raise Wrong(f"of {count} allocations, those that were refused end in the ways {ended}")
+
+
+some_allocations.program = program("rows")
+
 TESTS = [
     ("rows: allocations are small", small_allocations),
+    ("rows: allocations refused", some_allocations),
     ("thread_rows: each thread refused", each_thread("thread_rows", 3)),
     ("thread_rows: each allocation refused", each_allocation("thread_rows", 3)),
     ("lock_rows: each thread refused", each_thread("lock_rows", 9)),

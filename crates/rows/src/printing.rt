@@ -1,5 +1,6 @@
 //! Printed lines that no schedule gives.
 
+use crate::row::ROOM;
 use anyhow::{Context, Result};
 use board_core::{Actor, Board, Config, Op, Refusal, Reply, USUAL_ASID_LEN, USUAL_WIDTH};
 use monitor::{print_event, print_head, print_line, print_reply};
@@ -27,7 +28,7 @@ fn ret(error: i64, value: u64) -> Reply {
 
 /// Prints each form of a line, at both ends of its numbers.
 pub fn show_lines<R: AllocGlobal + Print>(rt: &R) -> Result<()> {
-    let mut out = Device::new(Vec::new(rt.alloc()));
+    let mut out = Device::new(Vec::with_capacity(rt.alloc(), ROOM)?);
     print_head(&CONFIG, &mut out)?;
     let mut board = Board::new(rt.alloc(), &CONFIG)?;
     board.step(Actor::Hart(0), Op::Advance)?;

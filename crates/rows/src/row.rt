@@ -14,20 +14,31 @@ pub struct Row<'a> {
     pub shown: &'a str,
 }
 
+/// Room for what a row prints, in bytes: a sink that grows while it is written would take refused memory for a failed write.
+pub const ROOM: usize = 0x10_0000;
+
 /// How the replay of these bytes ends, and what it prints.
-pub fn replayed(alloc: Global, schedule: &[u8]) -> (Outcome, Vec<u8>) {
+///
+/// # Errors
+///
+/// Memory was refused for what is printed.
+pub fn replayed(alloc: Global, schedule: &[u8]) -> Result<(Outcome, Vec<u8>)> {
     let mut reader = Device::new(schedule);
-    let mut writer = Device::new(Vec::new(alloc));
+    let mut writer = Device::new(Vec::with_capacity(alloc, ROOM)?);
     let outcome = sbiboard::replay(alloc, &mut reader, &mut writer);
-    (outcome, writer.into_inner())
+    Ok((outcome, writer.into_inner()))
 }
 
 /// How the check of these bytes ends, and what it prints.
-pub fn checked(alloc: Global, trace: &[u8]) -> (Outcome, Vec<u8>) {
+///
+/// # Errors
+///
+/// Memory was refused for what is printed.
+pub fn checked(alloc: Global, trace: &[u8]) -> Result<(Outcome, Vec<u8>)> {
     let mut reader = Device::new(trace);
-    let mut writer = Device::new(Vec::new(alloc));
+    let mut writer = Device::new(Vec::with_capacity(alloc, ROOM)?);
     let outcome = sbiboard::check(alloc, &mut reader, &mut writer);
-    (outcome, writer.into_inner())
+    Ok((outcome, writer.into_inner()))
 }
 
 /// Replays a row, and compares its replies, its status and what must be printed. It answers what was printed.
@@ -79,7 +90,7 @@ pub fn check_outcomes(alloc: Global, lines: &str, cases: &str) -> Result<()> {
     for case in cases.split('\n').filter(|case| !case.is_empty()) {
         let (wanted, text) = case.split_once(" | ").context("no text")?;
         let script = script(alloc, lines, text)?;
-        let (outcome, printed) = replayed(alloc, script.as_bytes());
+        let (outcome, printed) = replayed(alloc, script.as_bytes())?;
         let said = format!(in alloc; "{outcome}")?;
         ensure!(said.as_str() == wanted, "{case}: {said}");
         ensure!(
@@ -87,7 +98,7 @@ pub fn check_outcomes(alloc: Global, lines: &str, cases: &str) -> Result<()> {
             "{case}: printed"
         );
         if matches!(outcome, Outcome::Script { .. }) {
-            let (checked, printed) = checked(alloc, script.as_bytes());
+            let (checked, printed) = checked(alloc, script.as_bytes())?;
             ensure!(checked == outcome, "{case}: checked as {checked}");
             ensure!(printed.is_empty(), "{case}: its check printed");
         }
@@ -101,7 +112,7 @@ pub fn check_traces(alloc: Global, lines: &str, cases: &str) -> Result<()> {
     for case in cases.split('\n').filter(|case| !case.is_empty()) {
         let (wanted, text) = case.split_once(" | ").context("no text")?;
         let script = script(alloc, lines, text)?;
-        let (outcome, printed) = checked(alloc, script.as_bytes());
+        let (outcome, printed) = checked(alloc, script.as_bytes())?;
         let said = match outcome {
             Outcome::Good | Outcome::Differs => String::from_utf8(printed).ok().context("no text")?,
             _ => {
@@ -131,7 +142,7 @@ fn script(alloc: Global, lines: &str, text: &str) -> Result<String, AllocError> 
 
 /// What the replay of a schedule prints, which must end with this status, and be a trace that agrees.
 fn printed(alloc: Global, schedule: &str, status: u8) -> Result<String> {
-    let (outcome, printed) = replayed(alloc, schedule.as_bytes());
+    let (outcome, printed) = replayed(alloc, schedule.as_bytes())?;
     ensure!(outcome.status() == status, "ended: {outcome}");
     let printed = String::from_utf8(printed).ok().context("no text")?;
     check_agrees(alloc, &printed)?;
@@ -142,7 +153,7 @@ fn printed(alloc: Global, schedule: &str, status: u8) -> Result<String> {
 fn check_agrees(alloc: Global, printed: &str) -> Result<()> {
     let steps = printed.lines().filter(|line| line.contains(" -> ")).count();
     let wanted = format!(in alloc; "agrees {steps}\n")?;
-    let (outcome, said) = checked(alloc, printed.as_bytes());
+    let (outcome, said) = checked(alloc, printed.as_bytes())?;
     ensure!(outcome == Outcome::Good, "checked: {outcome}");
     ensure!(
         said.as_slice() == wanted.as_bytes(),
