@@ -23,4 +23,5 @@ pub mod Totals
 pub mod ErrorLaw
 pub mod Stands
 pub mod Cuts
+pub mod Packing
 pub mod Taking

@@ -15,6 +15,7 @@ mod keeping;
 mod machine;
 mod memory;
 mod opening;
+mod packed;
 mod phase;
 mod taking;
 
@@ -27,6 +28,7 @@ pub use fence_queue::Request;
 pub use hart_mask::HartSet;
 pub use hsm::{HartState, Kept};
 pub use opening::{Opening, Taken};
+pub use packed::PackedOpening;
 pub use phase::Phase;
 pub use rfence::Waiting;
 pub use sbi_abi::{Reset, ResetKind};

@@ -126,6 +126,15 @@ impl Opening {
         self.machine.try_copy(alloc)
     }
 
+    /// The machine, which stands for it, where no event was accepted since.
+    pub(crate) fn into_machine(self) -> Machine
+        ensures kept { IsKept self [] }
+        ensures stands { StandsFor self [] result }
+        ensures same { opening_in self.config self.places result ≡ self }
+    {
+        self.machine
+    }
+
     /// What comes of one step of one actor on a board that goes on from here, as of `Board::step` while its history has room: its
     /// event, and what this leaves; or the refusal. It takes memory for a copy of what the board holds, and none for a refusal.
     ///
@@ -337,6 +346,13 @@ impl Opening {
         } else {
             None
         }
+    }
+
+    /// The words of the RAM, from its start on.
+    pub fn ram(&self) -> &[u64]
+        ensures { result.now ≡ self.now.ram }
+    {
+        self.machine.memory.ram.words()
     }
 
     /// The live entries of the TLB of hart `h`, in the order of filling.

@@ -1,3 +1,4 @@
+use crate::counts::{Counts, Whole};
 use std::alloc::{AllocError, Global};
 use std::fmt::Write;
 use tallies::Ends;
@@ -12,6 +13,7 @@ pub struct Report {
     files: u64,
     records: u64,
     ends: Ends,
+    whole: Whole,
     is_cut: bool,
 }
 
@@ -32,6 +34,7 @@ impl Report {
             files: 0,
             records: 0,
             ends: Ends::new(),
+            whole: Whole::new(),
             is_cut: false,
         }
     }
@@ -44,6 +47,11 @@ impl Report {
     /// Orders of a program ended so.
     pub fn count_ends(&mut self, ends: Ends) {
         self.ends.add(ends);
+    }
+
+    /// All orders of a program were seen, and they are so many; none is told where some have no end.
+    pub fn count_all(&mut self, counts: Option<Counts>) {
+        self.whole.see(counts);
     }
 
     /// Not all orders were tried.
@@ -118,8 +126,24 @@ impl Report {
         Ok(())
     }
 
-    /// Puts the plan and the summary of orders that were tried.
+    /// Puts the plan and the summary: of orders that were tried, and of programs of which all orders were seen.
     pub fn end(&mut self) -> Result<(), AllocError> {
+        self.put_plan()?;
+        if self.ends.orders() == 0 && !self.whole.is_empty() {
+            write!(self.text, "# {} files\n", self.files)?;
+        } else {
+            self.put_tried()?;
+        }
+        self.whole.put(&mut self.text)?;
+        if self.is_cut {
+            self.text
+                .push_str("# cut short: not all orders were tried\n")?;
+        }
+        Ok(())
+    }
+
+    /// Puts how many files there are, how many orders were tried, and how they ended.
+    fn put_tried(&mut self) -> Result<(), AllocError> {
         let Ends {
             off,
             full,
@@ -127,7 +151,6 @@ impl Report {
             stuck,
         } = self.ends;
         let orders = self.ends.orders();
-        self.put_plan()?;
         write!(
             self.text,
             "# {} files, {orders} orders, {} different records\n",
@@ -136,13 +159,7 @@ impl Report {
         write!(
             self.text,
             "# ends: {off} off, {full} history-full, {quiet} quiet, {stuck} stuck\n"
-        )?;
-
-        if self.is_cut {
-            self.text
-                .push_str("# cut short: not all orders were tried\n")?;
-        }
-        Ok(())
+        )
     }
 
     /// Puts the plan and the summary of a look at all orders.

@@ -3,6 +3,7 @@ ghost use Rattle.std.specs.Prelude.{◌<◌};
 use crate::limit::Limit;
 use crate::screen::Screen;
 use crate::stop::Stop;
+use clap::parser::ValueSource;
 use clap::{Arg, ArgAction, ArgMatches, Command, value_parser};
 use std::alloc::{AllocError, Global};
 use std::ops::Range;
@@ -41,6 +42,8 @@ const AFTER: &str = "\
 A condition is a comment of a script that begins with `#!`, as in
   #! never 2 load 0x1000 -> value 0x11 after 0 poll -> ret 0 _
 docs/FORMATS.md has all of them. What is told are points of the Test Anything Protocol.
+Of a program with few states all orders are looked at, as by `explore`; of another one, and where --times, --seed, --order or
+--threads is given, orders that the seed picks are tried.
 
 Exit status: 0 all hold, 1 some don't, 2 usage, 6 no memory, 7 input or output failed.";
 
@@ -62,6 +65,8 @@ pub(crate) struct Options<'a> {
     pub(crate) jobs: u64,
     /// How many runs on threads are tried of each program.
     pub(crate) runs: u64,
+    /// Whether all orders of a program with few states are looked at, and none of a seed is tried.
+    pub(crate) are_few_seen: bool,
     /// What stands where the program prints.
     pub(crate) screen: Screen,
     /// Where all orders are looked at, how many states may be found.
@@ -110,6 +115,7 @@ pub(crate) fn options_of<'a, R: AllocGlobal + Clock + Threads>(
         seed: matches.get_one(SEED).unwrap_or(0),
         jobs: jobs_of(rt, matches.get_one(JOBS)),
         runs: if matches.get_flag(THREADS) { times } else { 0 },
+        are_few_seen: !asks_for_some(&matches),
         screen,
         states: None,
         outcomes: false,
@@ -118,6 +124,19 @@ pub(crate) fn options_of<'a, R: AllocGlobal + Clock + Threads>(
         tap: matches.get_str(TAP),
         files: files_of(alloc, &matches)?,
     })
+}
+
+/// Whether they ask for orders of a seed, or for runs on threads.
+fn asks_for_some(matches: &ArgMatches<'_>) -> bool {
+    matches.get_flag(THREADS)
+        || is_given(matches, TIMES)
+        || is_given(matches, SEED)
+        || is_given(matches, ORDER)
+}
+
+/// Whether an option stands among the words.
+fn is_given(matches: &ArgMatches<'_>, name: &str) -> bool {
+    matches.value_source(name) == Some(ValueSource::CommandLine)
 }
 
 /// What they ask for where all orders are looked at.
@@ -135,6 +154,7 @@ fn explore_options<'a, R: AllocGlobal + Clock>(
         seed: 0,
         jobs: 1,
         runs: 0,
+        are_few_seen: false,
         screen,
         states: Some(states as usize),
         outcomes: !matches.get_flag(NO_OUTCOMES),
@@ -172,7 +192,7 @@ fn described<'a>(alloc: Global) -> Result<Command<'a>, AllocError> {
     let command = Command::new(alloc, "sbiboard test")
         .bin_name("sbiboard test")?
         .about(
-            "Try orders of programs, replay schedules and compare traces, and judge their conditions",
+            "Look at orders of programs, replay schedules and compare traces, and judge their conditions",
         )
         .after_help(AFTER);
     with_files(alloc, with_ways(alloc, with_orders(alloc, command)?)?)

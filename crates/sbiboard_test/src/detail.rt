@@ -14,7 +14,7 @@ use tallies::failing_step;
 /// How many steps are shown before and behind the one that fails.
 const AROUND: usize = 6;
 
-/// Writes a failing record into a file, whose name has this label, and puts that name and the steps around the failing one.
+/// Writes a record that is told of into a file, whose name ends with this label, and puts that name and the steps around one.
 pub(crate) fn put_record<R: AllocGlobal + Files>(
     rt: &R,
     options: &Options<'_>,
@@ -27,7 +27,7 @@ pub(crate) fn put_record<R: AllocGlobal + Files>(
     let alloc = rt.alloc();
     let folder = options.failed;
     let name = case.name();
-    let path = format!(in alloc; "{folder}/{name}.{label}failed")?;
+    let path = format!(in alloc; "{folder}/{name}.{label}")?;
     let bytes = record(alloc, told)?;
     report.text.push_str("  record: ")?;
     report.put_quoted(path.as_str())?;
@@ -39,7 +39,7 @@ pub(crate) fn put_record<R: AllocGlobal + Files>(
     Ok(())
 }
 
-/// Writes the failing record of a program into a file, whose name has this label, and puts that name, the steps around the failing
+/// Writes the failing record of a program into a file, whose name ends so, and puts that name, the steps around the failing
 /// one, and where it ended stuck why.
 pub(crate) fn put_ended<R: AllocGlobal + Files>(
     rt: &R,

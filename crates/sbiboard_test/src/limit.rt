@@ -1,3 +1,5 @@
+ghost use Rattle.std.specs.Prelude.{◌≡◌, ◌≢◌, true, IfOk, None};
+
 use std::io;
 use std::rt::Clock;
 use std::time::Instant;
@@ -22,8 +24,10 @@ impl Limit {
         Ok(u64::try_from(spent).unwrap_or(u64::MAX))
     }
 
-    /// Whether the time is over.
-    pub(crate) fn is_over(&self, clock: &impl Clock) -> io::Result<bool> {
+    /// Whether the time is over: never, where none was given.
+    pub(crate) fn is_over(&self, clock: &impl Clock) -> io::Result<bool>
+        ensures { IfOk result (λ over. over ≡ true → self.now.seconds ≢ None) }
+    {
         match self.seconds {
             Some(seconds) => Ok(self.begun.elapsed(clock)?.as_secs() >= seconds),
             None => Ok(false),

@@ -3,6 +3,7 @@
 //! Protocol.
 #![tactic(auto)]
 
+mod all_orders;
 mod command_line;
 mod course;
 mod detail;
@@ -22,6 +23,7 @@ mod steps;
 mod stop;
 mod testing;
 mod threaded;
+mod visiting;
 
 use command_line::{Options, options_of};
 use points::{Report, human};

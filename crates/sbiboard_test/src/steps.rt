@@ -170,7 +170,7 @@ fn tell<R: AllocGlobal + Files>(
             rt,
             options,
             case,
-            "",
+            "failed",
             told,
             failing_step(Some(rule), events),
             report,

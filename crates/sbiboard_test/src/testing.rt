@@ -2,6 +2,7 @@ ghost use Rattle.std.specs.Prelude.{◌≡◌, true};
 ghost use Rattle.guest_script.specs.Grammar.{content};
 ghost use Rattle.hart_threads.specs.Programs.{IsProgram};
 
+use crate::all_orders::test_all_orders;
 use crate::command_line::Options;
 use crate::course::Course;
 use crate::exploring::explore_program;
@@ -52,11 +53,7 @@ fn test_script<R: AllocGlobal + Clock + Eprint + Files + Sync + Threads + Wait>(
     report: &mut Report,
 ) -> Result<(), Stop> {
     if is_program(&script.body) {
-        if let Some(states) = options.states {
-            return explore_program(rt, options, case, script, states, report);
-        }
-        test_orders(rt, options, case, script, report)?;
-        return test_runs(rt, options, case, script, report);
+        return test_program(rt, options, case, script, report);
     }
     let alloc = rt.alloc();
     if options.states.is_some() {
@@ -72,6 +69,26 @@ fn test_script<R: AllocGlobal + Clock + Eprint + Files + Sync + Threads + Wait>(
         Body::Empty | Body::Program { .. } => {}
     }
     judge_record(rt, options, case, &course, report)
+}
+
+/// Tests a program: by all orders, where these are asked for or are looked at soon, or else by some.
+fn test_program<R: AllocGlobal + Clock + Eprint + Files + Sync + Threads + Wait>(
+    rt: &R,
+    options: &Options<'_>,
+    case: &Case<'_>,
+    script: &Script,
+    report: &mut Report,
+) -> Result<(), Stop>
+    requires { IsProgram (content script.now.body) }
+{
+    if let Some(states) = options.states {
+        return explore_program(rt, options, case, script, states, report);
+    }
+    if test_all_orders(rt, options, case, script, report)? {
+        return Ok(());
+    }
+    test_orders(rt, options, case, script, report)?;
+    test_runs(rt, options, case, script, report)
 }
 
 /// Whether a script is a program. An empty one is of each kind.

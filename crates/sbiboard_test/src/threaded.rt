@@ -126,7 +126,7 @@ fn put_failing<R: AllocGlobal + Files>(
         return Ok(());
     }
     write!(detail.text, "  run: {number}\n")?;
-    let label = format!(in rt.alloc(); "threads-{number}.")?;
+    let label = format!(in rt.alloc(); "threads-{number}.failed")?;
     put_ended(
         rt,
         options,

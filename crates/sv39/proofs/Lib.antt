@@ -1,4 +1,5 @@
 pub mod Addresses
+pub mod Packing
 pub mod Words
 pub mod MapsLaws
 pub mod PageLaw

@@ -3,6 +3,7 @@
 
 mod cause;
 mod entry;
+mod packed;
 mod page;
 mod page_tables;
 mod paging;
@@ -10,6 +11,7 @@ mod ram;
 mod satp;
 
 pub use cause::{Cause, Kind};
+pub use packed::PackedRam;
 pub use page::{Leaf, Level, PAGE_BYTES};
 pub use page_tables::{maps_is_the_rule, one_leaf_for_a_page, walk};
 pub use paging::{ASID_BITS, Paging, Spaces};

@@ -1,4 +1,4 @@
-ghost use Rattle.std.specs.Prelude.{◌≡◌, ◌≤◌, ◌-◌, ◌/◌, IfOk, IsTrue, Some, is_some, replicate, vec_capacity};
+ghost use Rattle.std.specs.Prelude.{◌≡◌, ◌≤◌, ◌-◌, ◌/◌, IfOk, IsTrue, Some, is_some, replicate, vec_capacity, vec_len};
 ghost use Rattle.sv39.specs.Memory.{IsRam, is_in_ram, pages_of, word_in, written, zero_memory};
 
 use std::alloc::{AllocError, Global};
@@ -40,6 +40,15 @@ impl Ram {
         Ok(Ram { words })
     }
 
+    /// The RAM of these words, which take no more room than they need.
+    pub(crate) fn of(words: Vec<u64>) -> Ram
+        requires ram { IsRam words.items }
+        requires room { vec_capacity words ≡ vec_len words }
+        ensures { result ≡ words.items }
+    {
+        Ram { words }
+    }
+
     /// A RAM that is equal to this one. It fails where memory runs out.
     pub fn try_copy(&self, alloc: Global) -> Result<Ram, AllocError>
         ensures copy { IfOk result (λ copy. copy ≡ self.now) }
@@ -50,6 +59,14 @@ impl Ram {
             words.push_reserved(*word);
         }
         Ok(Ram { words })
+    }
+
+    /// Its words, from its start on.
+    pub fn words(&self) -> &[u64]
+        ensures words { result.now ≡ self.now }
+        ensures ram { IsRam self.now }
+    {
+        &self.words
     }
 
     /// Whether a word of the RAM stands at the address, which then is aligned to 8 and not outside the RAM.
@@ -92,7 +109,7 @@ impl Ram {
 }
 
 /// So many words, each of which is 0, in the room that they take. It fails where memory runs out.
-fn zeros(alloc: Global, count: usize) -> Result<Vec<u64>, AllocError>
+pub(crate) fn zeros(alloc: Global, count: usize) -> Result<Vec<u64>, AllocError>
     ensures items { IfOk result (λ words. words.items ≡ replicate count 0) }
     ensures room { IfOk result (λ words. vec_capacity words ≡ count) }
 {

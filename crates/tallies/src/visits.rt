@@ -50,8 +50,16 @@ impl Visits {
         Ok(())
     }
 
-    /// A hart took a step while its guest was here: where it is then.
-    fn see_step(&mut self, guest: Option<Spot>, event: &Event) -> Result<Option<Spot>, AllocError> {
+    /// A hart took a step while its guest was here, if it was in a block: where it is then.
+    ///
+    /// # Errors
+    ///
+    /// Memory was refused.
+    pub fn see_step(
+        &mut self,
+        guest: Option<Spot>,
+        event: &Event,
+    ) -> Result<Option<Spot>, AllocError> {
         if let Reply::Entry { addr, .. } = event.reply() {
             self.entered.insert(addr)?;
             return Ok(Some(Spot { addr, before: 0 }));
