@@ -22,6 +22,8 @@
 
 #[path = "baseline/board.rs"]
 mod board;
+#[path = "baseline/explore.rs"]
+mod explore;
 #[path = "baseline/faults.rs"]
 mod faults;
 #[path = "baseline/fences.rs"]
@@ -40,6 +42,8 @@ mod script;
 mod shared;
 #[path = "baseline/threads.rs"]
 mod threads;
+#[path = "baseline/words.rs"]
+mod words;
 
 use board::{Board, Refusal, Reply};
 use printing::Out;
@@ -208,15 +212,34 @@ fn try_orders(path: &str, times: &str, jobs: &str) -> (i32, String) {
     })
 }
 
+/// Explores all orders of a program, of so many states at most, and prints how many there are, and how many states and steps.
+fn explore_orders(path: &str, most: &str) -> (i32, String) {
+    let Ok(most) = most.parse() else {
+        return (2, "explore FILE STATES".to_string());
+    };
+    run(path, Kind::Program, |script| {
+        let Some(start) = explore::Here::new(script) else {
+            return Ok((1, "bad board"));
+        };
+        let Some(found) = explore::run(script, start, most) else {
+            return Ok((8, "not all orders were seen"));
+        };
+        println!("# orders: {}", found.orders());
+        println!("# states: {}, steps: {}", found.states(), found.steps());
+        Ok((0, ""))
+    })
+}
+
 fn main() {
     let words: Vec<String> = std::env::args().skip(1).collect();
     let (status, text) = match words.as_slice() {
         [word, path] if word == "replay" => step_by(path, Kind::Schedule, replay),
         [word, path] if word == "check" => step_by(path, Kind::Trace, check),
         [word, path] if word == "run" => run(path, Kind::Program, run_on_threads),
+        [word, path, most] if word == "explore" => explore_orders(path, most),
         [word, path, times, jobs] if word == "orders" => try_orders(path, times, jobs),
         [word, rest @ ..] if word == "lock" => make_calls(rest),
-        _ => (2, "replay FILE, check FILE, run FILE, orders, or lock".to_string()),
+        _ => (2, "replay FILE, check FILE, run FILE, explore, orders, or lock".to_string()),
     };
     if !text.is_empty() {
         eprintln!("sbiboard: {text}");

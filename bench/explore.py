@@ -1,22 +1,43 @@
 #!/usr/bin/env python3
-"""Times `sbiboard explore`: how many states of a program it finds in a minute, and how many bytes each takes.
+"""Times `sbiboard explore` beside plain Rust, and compares how many states and steps both find.
 
-usage: bench/explore.py [--runs N] [PROGRAM]
+usage: bench/explore.py [--runs N] [--random N] [--agree] [PROGRAM]
 
-PROGRAM is a built program of `test` (default: the one that `./sbiboard test` builds). The programs that are explored have
-three harts with page tables, of which one changes a leaf and asks for a fence of the others, once and more often, beside
-loads and stores; the bytes are those of the program's peak above that of a program with one state, by its states. Of
---runs runs (default 3) the fastest counts, by the clock on the wall: look at the load that is printed.
+PROGRAM is a built program of `test` (default: the one that `./sbiboard test` builds); plain Rust is `bench/baseline.rs`, which
+is built here with rustc. It finds the same states and steps on its own board, by words of the same values: first both explore
+the examples, --random programs (default 40; those of at most three harts whose states are few) and the programs that are timed,
+and must count the same states, steps and orders, by their ends.
+
+The programs that are timed have three harts with page tables, of which one changes a leaf and asks for a fence of the others,
+once and more often, beside loads. `explore` looks at them twice, once for their condition and once to count orders; plain Rust
+judges no condition, and looks once. So the ratio is of both looks over one, and that of a look is half of it. The bytes are those
+of the program's peak above that of a program with two states, by its states. Of --runs runs (default 5), in turns, the fastest
+counts, by the clock on the wall: look at the load that is printed. Where there is valgrind it counts instructions, which a busy
+machine doesn't change. With --agree nothing is timed.
 """
 import argparse
+import glob
 import os
 import re
+import shutil
 import subprocess
+import sys
 import tempfile
 import time
 
-ROOT = os.path.dirname(os.path.dirname(os.path.abspath(__file__)))
+from replay import ROOT, plain_rust
+
+sys.path.append(os.path.join(ROOT, "tests"))
+
+import programs  # noqa: E402
+
 BUILT = os.path.join(ROOT, "crates/sbiboard_test/out/sbiboard_test")
+
+# The states that may be found of a program that is timed, and of a random one.
+MOST, FEW = 1_000_000, 20_000
+
+# How often `explore` looks at a program of one condition: the second look counts the orders.
+LOOKS = 2
 
 
 def shootdown(times, loads):
@@ -30,47 +51,137 @@ def shootdown(times, loads):
     return "\n".join(lines) + "\n"
 
 
-PROGRAMS = {"one state": "board 3 8 1000 0 0x80000000 0x0\n", "one change, two loads": shootdown(1, 2), "two changes, three loads": shootdown(2, 3), "three changes, six loads": shootdown(3, 6)}
+# The first is the one that the peaks of the others are measured above.
+PROGRAMS = {
+    "two states": "#! never _ load 0x1000 -> fault 5\nboard 3 8 1000 0 0x80000000 0x0\n",
+    "one change, two loads": shootdown(1, 2),
+    "two changes, three loads": shootdown(2, 3),
+    "three changes, six loads": shootdown(3, 6),
+}
 
 
-def explored(tester, room, text, runs):
-    """The fewest seconds of so many runs, the states that were found, and the peak of the memory in bytes."""
-    with open(os.path.join(room, "a.program"), "w", encoding="ascii") as file:
-        file.write(text)
-    best = peak = None
-    for _ in range(runs):
+# ---- what is run: `sbiboard explore` and plain Rust, in a folder
+
+
+class Explorers:
+    """The commands that explore a file, with so many states at most; the program tells what it is by its name."""
+
+    def __init__(self, room, tester):
+        self.room = room
+        self.env = {**os.environ, "PATH": f"{room}:{os.environ['PATH']}"}
+        os.symlink(tester, os.path.join(room, "sbiboard explore"))
+        self.plain = plain_rust(room)
+
+    def commands(self, text, most):
+        with open(os.path.join(self.room, "a.program"), "w", encoding="ascii") as file:
+            file.write(text)
+        return ["sbiboard explore", "--no-outcomes", "--states", str(most), file.name], [self.plain, "explore", file.name, str(most)]
+
+    def run(self, command):
+        """What it prints, and the seconds that it takes."""
         begun = time.monotonic()
-        run = subprocess.Popen(["sbiboard explore", "--no-outcomes", "--states", "1000000", "a.program"], executable=tester, cwd=room, stdout=subprocess.PIPE, text=True)
-        said = run.stdout.read()
-        _, status, used = os.wait4(run.pid, 0)
-        run.returncode = status
-        spent = time.monotonic() - begun
-        found = re.search(r"^# states: (\d+), steps: (\d+)$", said, re.MULTILINE)
-        if not found:
-            raise SystemExit(said)
-        best = spent if best is None else min(best, spent)
-        peak = used.ru_maxrss * 1024 if peak is None else min(peak, used.ru_maxrss * 1024)
-    return best, int(found[1]), int(found[2]), peak
+        found = subprocess.run(command, cwd=self.room, env=self.env, stdout=subprocess.PIPE, stderr=subprocess.DEVNULL, text=True, check=False)
+        return found.stdout, time.monotonic() - begun
+
+    def peak(self, command):
+        """Its peak of memory in bytes. (That of a child of this script is never below the script's own; `time` takes little.)"""
+        found = subprocess.run(["time", "-f", "%M", *command], cwd=self.room, env=self.env, capture_output=True, text=True, check=False)
+        return int(found.stderr.split()[-1]) * 1024
+
+    def instructions(self, command):
+        """
+        As valgrind counts them. To it an instruction that copies or fills many bytes is one for each of them, so the C library is told
+        to use none.
+        """
+        env = self.env | {"GLIBC_TUNABLES": "glibc.cpu.x86_rep_movsb_threshold=1000000000:glibc.cpu.x86_rep_stosb_threshold=1000000000"}
+        counting = ["valgrind", "--tool=cachegrind", "--cache-sim=no", "--cachegrind-out-file=/dev/null"]
+        found = subprocess.run([*counting, *command], cwd=self.room, env=env, capture_output=True, text=True, check=False)
+        if counted := re.search(r"I +refs: +([\d,]+)", found.stderr):
+            return int(counted[1].replace(",", ""))
+        return sys.exit(found.stderr)
+
+    def agreed(self, text, most):
+        """The lines that both print of the orders, the states and the steps; none where there are more states."""
+        told = [self.run(command)[0].splitlines() for command in self.commands(text, most)]
+        own, plain = ([line for line in lines if line.startswith(("# orders: ", "# states: "))] for lines in told)
+        if own != plain:
+            sys.exit(f"explore counts {own}, and plain Rust {plain}, of\n{text}")
+        return own
+
+
+# ---- both count the same
+
+
+def agree(explorers, randoms):
+    """Both count the same orders, states and steps of the examples, of those that are timed, and of so many random programs."""
+    shipped = [*glob.glob(os.path.join(ROOT, "examples", "*.program")), *glob.glob(os.path.join(ROOT, "examples", "orders", "*.program"))]
+    counted = [explorers.agreed(read(path), MOST) for path in shipped] + [explorers.agreed(text, MOST) for text in PROGRAMS.values()]
+    wanted = len(counted) + randoms
+    for seed in range(20 * randoms):
+        program = programs.RandomProgram(seed)
+        found = program.harts <= 3 and explorers.agreed(program.text().decode(), FEW)
+        counted += [found] if found else []
+        if len(counted) == wanted:
+            break
+    states = sum(int(re.match(r"# states: (\d+)", found[1])[1]) for found in counted)
+    print(f"both count the same orders, states and steps of {len(counted)} programs, of {states:,} states in sum", flush=True)
+
+
+def read(path):
+    with open(path, encoding="ascii") as file:
+        return file.read()
+
+
+# ---- the table
+
+TIMES = ("states", "steps", "seconds", "plain Rust", "ratio", "of a look", "states a minute")
+BYTES = ("bytes a state", "plain Rust")
+INSTRUCTIONS = ("instructions a step", "plain Rust", "ratio", "of a look")
+
+
+def ratios(own, plain):
+    return [f"{own / plain:.2f}", f"{own / plain / LOOKS:.2f}"]
+
+
+def times_cells(explorers, commands, states, steps, runs):
+    found = [[explorers.run(command)[1] for command in commands] for _ in range(runs)]
+    own, plain = map(min, zip(*found))
+    return [f"{states:,}", f"{steps:,}", f"{own:.3f}", f"{plain:.3f}", *ratios(own, plain), f"{60 * LOOKS * states / own:,.0f}"]
+
+
+def print_rows(explorers, runs):
+    has_time, has_valgrind = (bool(shutil.which(it)) for it in ("time", "valgrind"))
+    heads = ("program", *TIMES, *BYTES * has_time, *INSTRUCTIONS * has_valgrind)
+    print("| " + " | ".join(heads) + " |")
+    print("|---" * len(heads) + "|")
+    (_, least), *timed = PROGRAMS.items()
+    if has_time:
+        peaks = [explorers.peak(command) for command in explorers.commands(least, MOST)]
+    for name, text in timed:
+        states, steps = map(int, re.findall(r"\d+", explorers.agreed(text, MOST)[1]))
+        commands = explorers.commands(text, MOST)
+        row = [name, *times_cells(explorers, commands, states, steps, runs)]
+        if has_time:
+            row += [f"{(explorers.peak(command) - peak) / states:,.0f}" for command, peak in zip(commands, peaks)]
+        if has_valgrind:
+            own, plain = (explorers.instructions(command) / steps for command in commands)
+            row += [f"{own:,.0f}", f"{plain:,.0f}", *ratios(own, plain)]
+        print("| " + " | ".join(row) + " |", flush=True)
 
 
 def main():
     parser = argparse.ArgumentParser(description=__doc__, formatter_class=argparse.RawDescriptionHelpFormatter)
-    parser.add_argument("--runs", type=int, default=3)
+    parser.add_argument("--runs", type=int, default=5)
+    parser.add_argument("--random", type=int, default=40)
+    parser.add_argument("--agree", action="store_true")
     parser.add_argument("program", nargs="?", default=BUILT)
     asked = parser.parse_args()
-    tester, least = os.path.abspath(asked.program), None
     print(f"load {os.getloadavg()[0]:.1f}, {os.cpu_count()} processors")
-    print("| program | states | steps | seconds | states a minute | bytes a state |")
-    print("|---|---|---|---|---|---|")
     with tempfile.TemporaryDirectory() as room:
-        for name, text in PROGRAMS.items():
-            seconds, states, steps, peak = explored(tester, room, text, asked.runs)
-            if least is None:
-                least = peak
-                continue
-            # (each condition explores once, and the orders are counted once more)
-            many = 2 if "#!" in text else 1
-            print(f"| {name} | {states:,} | {steps:,} | {seconds:.2f} | {60 * many * states / seconds:,.0f} | {(peak - least) / states:,.0f} |", flush=True)
+        explorers = Explorers(room, os.path.abspath(asked.program))
+        agree(explorers, asked.random)
+        if not asked.agree:
+            print_rows(explorers, asked.runs)
 
 
 if __name__ == "__main__":

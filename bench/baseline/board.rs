@@ -65,12 +65,14 @@ pub enum Refusal {
 const ROOM: usize = if cfg!(whole) { 6 } else { 0 };
 
 /// An accepted step, with its numbers, or else these in the board's own list.
+#[derive(Clone)]
 struct Event {
     line: Line,
     reply: Reply,
     numbers: [u64; ROOM],
 }
 
+#[derive(Clone)]
 pub struct Hart {
     pub state: State,
     pub kept: Option<(u64, u64)>,
@@ -79,13 +81,14 @@ pub struct Hart {
     pub caches: Caches,
 }
 
+#[derive(Clone)]
 pub struct Board {
     config: [u64; 8],
     /// The bits of an ASID that are kept.
     asids: u16,
     width: u32,
     pub harts: Vec<Hart>,
-    ram: Ram,
+    pub ram: Ram,
     pub fences: Fences,
     interruptible: u128,
     pub ssip: u128,
@@ -238,6 +241,17 @@ impl Board {
             numbers: kept,
         });
         Ok(reply)
+    }
+
+    /// A step of which no history is kept.
+    pub fn step_alone(&mut self, line: Line, numbers: &[u64]) -> Result<Reply, Refusal> {
+        let answer = match line.actor {
+            _ if self.is_off => Err(Refusal::Off),
+            CLOCK => self.clock_step(line.name, numbers),
+            h => self.hart_step(usize::from(h), line.name, numbers),
+        };
+        self.used.clear();
+        answer
     }
 
     fn clock_step(&mut self, name: Name, numbers: &[u64]) -> Result<Reply, Refusal> {

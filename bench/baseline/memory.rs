@@ -82,6 +82,7 @@ impl Entry {
 pub type Word = (u64, u64);
 
 /// Sixteen places, which are filled in turns.
+#[derive(Clone)]
 pub struct Cache<T> {
     items: [T; PLACES as usize],
     live: u16,
@@ -147,12 +148,18 @@ impl<T: Copy> Cache<T> {
 
     /// The live items, the oldest fill first.
     pub fn items(&self) -> impl Iterator<Item = T> + '_ {
+        self.lives().map(|(_, item)| item)
+    }
+
+    /// The same, each with how many fills more leave it live.
+    pub fn lives(&self) -> impl Iterator<Item = (u32, T)> + '_ {
         let ages = self.ages();
         let live = (0..PLACES).filter(move |age| ages >> age & 1 == 1);
-        live.map(|age| self.at(age))
+        live.map(|age| (age, self.at(age)))
     }
 }
 
+#[derive(Clone)]
 pub struct Caches {
     pub tlb: Cache<Entry>,
     pub words: Cache<Word>,
@@ -206,11 +213,16 @@ pub fn is_valid(va: u64, width: u32) -> bool {
     (va as i64) << (64 - width) >> (64 - width) == va as i64
 }
 
+#[derive(Clone)]
 pub struct Ram(Vec<u64>);
 
 impl Ram {
     pub fn new(pages: u64) -> Ram {
         Ram(vec![0; 512 * pages as usize])
+    }
+
+    pub fn words(&self) -> &[u64] {
+        &self.0
     }
 
     pub fn clear(&mut self) {

@@ -33,8 +33,13 @@ fn block_at(script: &Script, at: u64) -> &[Line] {
     found.map_or(&[], |block| &script.lines[block.lines.clone()])
 }
 
-/// Puts all steps that can be taken into a list.
-fn list(board: &Board, left: &[&[Line]], ticks: &[Line], steps: &mut Vec<Line>) {
+/// Puts all steps that can be taken into a list, where this is what each guest, and the clock, does next.
+pub fn list(
+    board: &Board,
+    next: impl Fn(usize) -> Option<Line>,
+    tick: Option<Line>,
+    steps: &mut Vec<Line>,
+) {
     steps.clear();
     if board.is_off {
         return;
@@ -52,11 +57,11 @@ fn list(board: &Board, left: &[&[Line]], ticks: &[Line], steps: &mut Vec<Line>) 
             steps.push(own(h as u8, Name::Advance));
         }
         if hart.state == State::Started && call.is_none() {
-            let guest = left[h].first().filter(|line| line.name != Name::Wfi || board.wake(h));
-            steps.extend(guest.map(|line| Line { actor: h as u8, ..*line }));
+            let guest = next(h).filter(|line| line.name != Name::Wfi || board.wake(h));
+            steps.extend(guest.map(|line| Line { actor: h as u8, ..line }));
         }
     }
-    steps.extend(ticks.first().map(|line| Line { actor: CLOCK, ..*line }));
+    steps.extend(tick.map(|line| Line { actor: CLOCK, ..line }));
 }
 
 /// Tries an order on a new board.
@@ -65,7 +70,7 @@ fn try_order(script: &Script, words: &mut Words, steps: &mut Vec<Line>) -> Optio
     let mut left: Vec<&[Line]> = vec![&[]; board.harts.len()];
     let mut ticks = &script.lines[script.ticks.clone()];
     while board.events() < script.config[2] as usize {
-        list(&board, &left, ticks, steps);
+        list(&board, |h| left[h].first().copied(), ticks.first().copied(), steps);
         if steps.is_empty() {
             break;
         }
