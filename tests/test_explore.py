@@ -106,14 +106,19 @@ def answered(word):
     return ("fault", int(word.removeprefix("fault-"))) if word.startswith("fault-") else ("value", int(word, 16))
 
 
-def must_be_counted(room, name, text, most=200_000):
-    counted = all_orders.Orders(text, most, loads=True)
-    _, lines = explored(room, text)
+def must_tell(name, lines, counted):
+    """What is told of a program is what is counted: how many orders end so, and have each outcome."""
     if ends_told(lines) != counted.ends:
         raise Wrong(f"{name}: told are {ends_told(lines)}, and counted {counted.ends}")
     wanted = counted.outcomes if any(given for given, _ in counted.outcomes) else {}
     if outcomes_told(lines) != wanted:
         raise Wrong(f"{name}: told are the outcomes {outcomes_told(lines)}, and counted {wanted}")
+
+
+def must_be_counted(room, name, text, most=200_000):
+    counted = all_orders.Orders(text, most, loads=True)
+    _, lines = explored(room, text)
+    must_tell(name, lines, counted)
     _, plain = explored(room, text, "--no-outcomes")
     if plain != [it for it in lines if not it.startswith(("# outcomes: ", "#   "))]:
         raise Wrong(f"{name}: without outcomes {plain}")
@@ -192,6 +197,16 @@ def what_no_order_meets_is_told(room):
             raise Wrong(f"{asked}: {lines}")
 
 
+def a_record_is_named_for_what_it_shows(room):
+    """The record of an order that breaks a condition is named for that, and that of one that `some` wants for being reached."""
+    for asked, name in (("some 1 load 0x80002000 -> value 0x3", "a.program.1.reached"), ("never 1 load 0x80002000 -> value 0x3", "a.program.1.failed")):
+        _, lines = explored(room, f"#! {asked}\n{LOADS_AND_STORES}")
+        found = [it for it in os.listdir(room) if it.startswith("a.program.")]
+        if f'  record: "./{name}"' not in lines or found != [name]:
+            raise Wrong(f"{asked}: {found}, {lines}")
+        os.remove(os.path.join(room, name))
+
+
 def ends_are_asked_of_all_orders(room):
     for asked, text, status in (("end quiet", RACE, 0), ("end quiet", WAKE, 1), ("end quiet stuck", WAKE, 0), ("end stuck", SUSPENDED, 0), ("end off", REBOOTS, 0), ("before 0 store, 1 load", RACE, 1)):
         found, lines = explored(room, f"#! {asked}\n{text}")
@@ -265,6 +280,6 @@ TESTS = [
     ("outcomes are those of sequential consistency", outcomes_are_those_of_sequential_consistency),
     ("conditions are asked of all orders", conditions_are_asked_of_all_orders), ("ends are asked of all orders", ends_are_asked_of_all_orders),
     ("what no order meets is told", what_no_order_meets_is_told),
-    ("failing orders are traces", failing_orders_are_traces), ("bounds of a look at all orders are told", bounds_are_told),
+    ("failing orders are traces", failing_orders_are_traces), ("a record is named for what it shows", a_record_is_named_for_what_it_shows), ("bounds of a look at all orders are told", bounds_are_told),
     ("help of explore is stored", help_is_stored), ("the tour on all orders", tour_is_as_written),
 ]  # fmt: skip

@@ -278,12 +278,12 @@ def many_blocks_are_found(room):
 
 def stuck_orders_fail(room):
     """Without conditions a program fails where an order ends stuck; with some, these alone are judged."""
-    status, lines = told(room, WAKE)
+    status, lines = told(room, WAKE, "--times", "1000")
     must(f"{lines}", status == 1 and lines[1] == "not ok 1 - race.program (1000 orders)")
     must(f"{lines}", "    - \"hart 1: line 8 'wfi': SSIP is 0, STIP is 0, SSIE is 1, STIE is 0\"" in lines)
-    status, lines = told(room, SUSPENDED)
+    status, lines = told(room, SUSPENDED, "--times", "1000")
     must(f"{lines}", "    - \"hart 1: line 5 'ecall 0x48534d 3 0': SSIP is 1, STIP is 0, SSIE is 0, STIE is 0\"" in lines)
-    status, lines = told(room, "#! end quiet stuck\n" + WAKE)
+    status, lines = told(room, "#! end quiet stuck\n" + WAKE, "--times", "1000")
     must(f"{lines}", status == 0 and lines[1] == "ok 1 - race.program: line 1: end quiet stuck")
 
 
@@ -292,7 +292,7 @@ def full_histories_are_spared(room):
     text = RACE.replace(" 100 ", " 5 ")
     status, lines = told(room, "#! end quiet\n#! end off history-full\n#! end history-full\n" + text, "--times", "30")
     must(f"{lines}", status == 0 and lines[-1] == "# ends: 0 off, 30 history-full, 0 quiet, 0 stuck")
-    must("a full history ends off", told(room, "#! end history-full\n" + RACE)[0] == 1)
+    must("a full history ends off", told(room, "#! end history-full\n" + RACE, "--times", "1000")[0] == 1)
 
 
 def all_differences_are_told(room):
@@ -330,7 +330,7 @@ def statuses_are_told(room):
         found = subprocess.run(["sbiboard", *words], executable=TESTER, cwd=room, capture_output=True, text=True, timeout=HANG)
         must(f"{words}: {found}", found.returncode == 2 and found.stdout == "" and found.stderr.startswith("error: "))
     told(room, "#! end off\n" + RACE)
-    found = subprocess.run(["sbiboard", "--failed", "nowhere", "race.program"], executable=TESTER, cwd=room, capture_output=True, text=True, timeout=HANG)
+    found = subprocess.run(["sbiboard", "--times", "1000", "--failed", "nowhere", "race.program"], executable=TESTER, cwd=room, capture_output=True, text=True, timeout=HANG)
     must(f"{found}", found.returncode == 7 and found.stderr.startswith("sbiboard: nowhere/race.program.0-0.failed: "))
     with open("/dev/full", "w") as full:
         found = subprocess.run(["sbiboard", "race.program"], executable=TESTER, cwd=room, stdout=full, stderr=subprocess.PIPE, timeout=HANG)
@@ -439,6 +439,14 @@ def tour():
     return [commands[at : at + 4] for at in range(0, len(commands), 4)], shown[: shown.index("```")]
 
 
+def must_be_as_by_seeds(room, command):
+    """Orders of a seed fail as the tour says, and the first of them alone."""
+    for words, told_of_it in (("--times 1000", ["  failing: 260", "  order: 5"]), ("--order 5", ["  failing: 1", "  order: 5"])):
+        found = subprocess.run(["bash", "-c", f"{command} {words}"], cwd=room, capture_output=True, text=True, timeout=HANG)
+        lines = found.stdout.splitlines()
+        must(f"{words}: {found}", found.returncode == 1 and all(line in lines for line in told_of_it) and '  record: "./lost-wakeup.program.0-5.failed"' in lines)
+
+
 def tour_is_as_written(room):
     """The commands of the tour, as they are written: the first fails, its record agrees and is replayed, and the mended program passes."""
     os.symlink(os.path.join(ROOT, "examples"), os.path.join(room, "examples"))
@@ -451,7 +459,8 @@ def tour_is_as_written(room):
             found = subprocess.run(["bash", "-c", command], cwd=room, capture_output=True, text=True, timeout=HANG)
             must(f"{command}: {found.returncode}, {found.stdout[:2000]} {found.stderr}", found.returncode == wanted)
             if "test examples/orders/lost-wakeup" in command:
-                must(f"{command}: {found.stdout}", found.stdout.startswith(shown))
+                must(f"{command}: {found.stdout}", found.stdout.startswith(shown) and "# orders: 5, quiet 4, stuck 1" in found.stdout)
+                must_be_as_by_seeds(room, command)
     made = {**os.environ, "PATH": f"{room}:{os.environ['PATH']}"}
     found = subprocess.run(["examples/orders/forgotten-hart.program"], cwd=room, capture_output=True, text=True, timeout=HANG, env=made)
     must(f"{found}", found.returncode == 1 and len(fours) == 3)

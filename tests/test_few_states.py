@@ -1,0 +1,298 @@
+"""Programs of few states: `sbiboard test` looks at all their orders, and tries orders of its seed of the others."""
+import glob
+import os
+import re
+import subprocess
+import sys
+
+from harness import EXAMPLES, HANG, NO_MEMORY, ROOT, Wrong, allocating, shim
+
+sys.path.append(os.path.join(ROOT, "tools"))
+
+import all_orders  # noqa: E402
+import programs  # noqa: E402
+from test_explore import ASKED, COUNTED, MESSAGE_PASSING, REBOOTS, STORE_BUFFERING, ends_told, explored  # noqa: E402
+from test_orders import FENCE, LOADS_AND_STORES, RACE, ROWS, SUSPENDED, TESTER, WAKE, at_a_terminal, must, told, told_of  # noqa: E402
+
+with open(os.path.join(ROOT, "crates/sbiboard_test/src/all_orders.rt"), encoding="utf-8") as file:
+    SOURCE = file.read()
+
+# How many states are few, and how many pages of RAM they have together at most.
+FEW, FEW_PAGES = (int(re.search(rf"^const {name}: usize = ([\d_]+);$", SOURCE, re.M)[1].replace("_", "")) for name in ("FEW", "FEW_PAGES"))
+
+SEEDS = ("--times", "1000")
+
+# Words that ask for seeds or for threads, and words that don't.
+FLAGS = (["--times", "1000"], ["--times=7"], ["--seed", "0"], ["--seed", "9"], ["--order", "0"], ["--order", "5"], ["--threads"], ["--threads", "--times", "4"], ["--times", "0"])
+
+OTHERS = (["--jobs", "1"], ["--jobs", "9"], ["--failed", "."], ["--tap", "points.tap"], ["--seconds", "100"], ["--seconds", "100", "--jobs", "2"])
+
+# Random programs that are looked at, and how many states of theirs at most.
+RANDOM, MOST = 30, FEW
+
+
+def beside(one, other, before=0, pages=1):
+    """A program of two harts that load so often, each beside the other, once the first has loaded so often before; see `states_of`."""
+    load, start = "load 0x80000000\n", "ecall 0x48534d 0 1 0x80000800\n"
+    return f"board 2 {pages} 1000 0 0x80000000 0x0\nat 0x80000000\n{load * before}{start}{load * one}at 0x80000800\n{load * other}"
+
+
+def states_of(one, other, before=0):
+    return 2 + before + (one + 1) * (other + 2)
+
+
+# A program of more states than are few, and one of as many and one more on a board of each size.
+MANY = beside(30, 30)
+
+EDGES = [(FEW, beside(19, 20, FEW - states_of(19, 20)), beside(19, 20, FEW + 1 - states_of(19, 20)))]
+
+for pages in (16, 256):
+    few = FEW_PAGES // pages
+    EDGES.append((few, beside(1, 2, few - states_of(1, 2), pages), beside(1, 2, few + 1 - states_of(1, 2), pages)))
+
+
+def summary(lines):
+    """What is told behind the plan."""
+    return lines[next(place for place, line in enumerate(lines) if line.startswith("1..")) + 1 :]
+
+
+def are_all(lines):
+    """Whether all orders were looked at, by what is told of one program."""
+    is_seen = any(line.startswith("# states: ") for line in lines)
+    if is_seen != any(line.startswith("# all orders of ") for line in summary(lines)) or is_seen == any(re.search(r" \d+ orders, ", line) for line in lines):
+        raise Wrong(f"{lines}")
+    return is_seen
+
+
+def few_states_are_explored(room):
+    """Of a program of few states the points are those of `explore`, and the summary has as many orders as there are."""
+    texts = [*COUNTED.values(), STORE_BUFFERING, MESSAGE_PASSING, *(f"#! {asked}\n{text}" for asked, text, _ in ASKED)]
+    for path in glob.glob(os.path.join(EXAMPLES, "*.program")) + glob.glob(os.path.join(EXAMPLES, "orders", "*.program")):
+        with open(path, encoding="utf-8") as file:
+            texts.append(file.read())
+    few = 0
+    for text in texts:
+        status, lines = told(room, text, name="a.program")
+        found, wanted = explored(room, text, "--no-outcomes")
+        states = next(int(line.split()[2].rstrip(",")) for line in wanted if line.startswith("# states: "))
+        if are_all(lines) != (states <= FEW):
+            raise Wrong(f"{text}: {states} states, {lines}")
+        if states > FEW:
+            continue
+        few += 1
+        plan = next(place for place, line in enumerate(wanted) if line.startswith("1.."))
+        odd = [line for line in lines if line.startswith(("# a hart was ", "# line ")) and line not in wanted]
+        if status != found or [line for line in lines if line not in odd][: plan + 3] != [*wanted[: plan + 2], "# 1 files"]:
+            raise Wrong(f"{text}: status {status}, {lines}, and explored {found}, {wanted}")
+        ends = all_orders.Orders(text).ends
+        told_ends = ends_told([line.replace("# all orders of 1 programs: ", "# orders: ") for line in summary(lines)])
+        if told_ends != ends and not (None in ends.values() and told_ends == {}):
+            raise Wrong(f"{text}: told are {told_ends}, and counted {ends}")
+        if len(summary(lines)) != 3:
+            raise Wrong(f"{text}: {lines}")
+    if few < 20:
+        raise Wrong(f"only {few} programs have few states")
+
+
+def many_states_are_tried(room):
+    """A program of more states is told as orders of its seed are, to the byte; with one state less all are looked at."""
+    for text, is_few in (
+        *((text, is_few) for _, few, many in EDGES for text, is_few in ((few, True), (many, False))),
+        (MANY, False), ("#! never 1 load -> value 1\n#! end off\n#! some 0 sip\n" + MANY, False),
+    ):  # fmt: skip
+        found = told(room, text)
+        seeds = told(room, text, *SEEDS)
+        name = text.splitlines()[0]
+        must(f"{name}: {found}, and by seeds {seeds}", are_all(found[1]) == is_few and not are_all(seeds[1]) and (is_few or found == seeds))
+    _, lines = told(room, MANY)
+    must(f"{lines}", lines[1] == "ok 1 - race.program (1000 orders)" and lines[-2].startswith("# 1 files, 1000 orders, "))
+    for few, text, _ in EDGES:
+        _, lines = told(room, text)
+        must(f"{lines}", f"# states: {few}, " in "\n".join(lines))
+
+
+def who_asks_for_seeds_gets_seeds(room):
+    """Where the words ask for orders of a seed, or for threads, these are tried; other words make no difference."""
+    text = "#! end quiet\n#! some 1 load -> value 1\n" + RACE
+    for words in FLAGS:
+        _, lines = told(room, text, *words)
+        must(f"{words}: {lines}", not are_all(lines))
+    must("--seed 0 is another seed", told(room, text, "--seed", "0") == told(room, text, *SEEDS))
+    _, lines = told(room, text, "--order", "5")
+    must(f"{lines}", any(line.startswith("# 1 files, 1 orders, ") for line in lines))
+    _, lines = told(room, text, "--threads", "--times", "4")
+    must(f"{lines}", "ok 3 - race.program: line 1: end quiet, on threads" in lines)
+    plain = told(room, text)
+    for words in OTHERS:
+        found = told(room, text, *words)
+        must(f"{words}: {found}", found == plain and are_all(found[1]))
+
+
+def time_that_is_over_is_told(room):
+    """Where the time is over before all orders were seen, no order of the seed is tried either, and it is told as it was."""
+    for text in (RACE, "#! end off\n" + RACE, "#! some 1 load\n#! end quiet\n" + MANY):
+        found = told(room, text, "--seconds", "0")
+        must(f"{found}", found == told(room, text, "--seconds", "0", *SEEDS) and found[0] == 0 and found[1][-1] == "# cut short: not all orders were tried")
+
+
+def oddities_of(text):
+    """The lines of a program that are odd, by the model: blocks that no order enters, and calls whose every answer is an error."""
+    orders = all_orders.Orders(text, MOST)
+    entered, calls = set(), {}
+    for place, edges in enumerate(orders.edges):
+        for actor, op, answer, _ in edges:
+            if answer[0] == "entry":
+                entered.add(answer[1])
+            if op[0] == "ecall":
+                line = orders.points[place].left[actor][0][0]
+                calls[line] = calls.get(line, False) or not (answer[0] == "ret" and answer[1] != 0)
+    heads = {int(words[1], 16): line for line, words in enumerate(map(str.split, text.splitlines()), 1) if words[:1] == ["at"]}
+    found = {(line, "block") for addr, line in heads.items() if addr not in entered} | {(line, "call") for line, is_good in calls.items() if not is_good}
+    return found | {(addr, "entry") for addr in entered if addr not in heads}
+
+
+def oddities_told(lines):
+    """The same, by what is told."""
+    found = set()
+    for line in lines:
+        if match := re.fullmatch(r"# line (\d+): no order entered the block at 0x[0-9a-f]+", line):
+            found.add((int(match[1]), "block"))
+        elif match := re.fullmatch(r"# line (\d+): each answer to '.*' was an error", line):
+            found.add((int(match[1]), "call"))
+        elif match := re.fullmatch(r"# a hart was entered at (0x[0-9a-f]+), where no block is", line):
+            found.add((int(match[1], 16), "entry"))
+    return found
+
+
+def odd_programs_are_told(room):
+    """What is odd about a program is told by all its orders as it is by those of a seed, in the same words."""
+    text = "#! end quiet\n" + RACE.replace("at 0x80001000\n", "ecall 0x48534d 0 9 0x80001000 # no such hart\nat 0x80003000\nat 0x80001004\n")
+    odd = lambda lines: [line for line in lines if line.startswith(("# line", "# a "))]
+    _, lines = told(room, text)
+    wanted = [
+        "# line 6: each answer to 'ecall 0x48534d 0 9 0x80001000' was an error", "# line 7: no order entered the block at 0x80003000",
+        "# line 8: no order entered the block at 0x80001004", "# a hart was entered at 0x80001000, where no block is",
+    ]  # fmt: skip
+    must(f"{lines}", are_all(lines) and odd(lines) == wanted and odd(told(room, text, *SEEDS)[1]) == wanted)
+    _, lines = told(room, RACE.replace("store 0x80002000 0x1", "store 0x80002000 0x1 #! never 0 store"))
+    must(f"{lines}", are_all(lines) and odd(lines) == ["# line 4: behind other words '#!' begins a comment, and no condition"])
+    for text in (RACE, WAKE, SUSPENDED, FENCE, REBOOTS):
+        must(text, oddities_told(told(room, text)[1]) == oddities_of(text) == set())
+
+
+def oddities_of_random_programs_are_told(room):
+    """Of random programs exactly that is told to be odd which is so by the model; some are."""
+    seen = odd = 0
+    for seed in range(20 * RANDOM):
+        text = programs.RandomProgram(seed).text().decode()
+        if int(text.split()[1]) > 3 or seen == RANDOM:
+            continue
+        try:
+            wanted = oddities_of(text)
+        except ValueError:
+            continue
+        _, lines = told(room, text)
+        must(f"seed {seed}: told are {oddities_told(lines)}, and odd {wanted}", are_all(lines) and oddities_told(lines) == wanted)
+        seen, odd = seen + 1, odd + bool(wanted)
+    must(f"{seen} programs, {odd} odd", seen == RANDOM and odd > 5)
+
+
+def conditions_of_few_states_are_judged(room):
+    """A condition of a program of few states is met, or isn't, as by orders of a seed, which meet all that the program has."""
+    for asked, holds in ROWS:
+        status, lines = told(room, f"#! {asked} # as it is\n{RACE}")
+        is_some = asked.startswith("some")
+        said = ("holds" if is_some else "holds in all orders") if holds else ("fails in all orders" if is_some else "fails")
+        must(f"{asked}: {status}, {lines}", status == (0 if holds else 1) and lines[1] == f"{'' if holds else 'not '}ok 1 - race.program: line 1: {asked}: {said}")
+        is_shown = holds == is_some
+        name = f"race.program.1.{'reached' if is_some else 'failed'}"
+        path = os.path.join(room, name)
+        must(f"{asked}: {lines}", (f'  record: "./{name}"' in lines) == is_shown == os.path.exists(path))
+        if is_shown:
+            os.remove(path)
+    for asked, is_met in (("never 1 load 0x80002008 -> value 1", False), ("never 1 load after 0 store", True), ("each 9 poll -> ret 0", False), ("some 0 sip", False), ("end quiet", True)):
+        _, lines = told(room, f"#! {asked}\n{RACE}")
+        must(f"{asked}: {lines}", are_all(lines) and ("# line 1: never met: no step has this actor and operation" in lines) != is_met)
+
+
+def programs_without_conditions_are_judged(room):
+    """A program of few states and without conditions fails where some order ends stuck."""
+    for text, holds in ((RACE, True), (WAKE, False), (SUSPENDED, False), (REBOOTS, True), (FENCE, True)):
+        status, lines = told(room, text)
+        point = f"{'' if holds else 'not '}ok 1 - race.program: no order ends stuck: {'holds in all orders' if holds else 'fails'}"
+        must(f"{text}: {status}, {lines}", status == (0 if holds else 1) and lines[1] == point)
+    _, lines = told(room, WAKE)
+    must(f"{lines}", "    - \"hart 1: line 8 'wfi': SSIP is 0, STIP is 0, SSIE is 1, STIE is 0\"" in lines)
+
+
+def limits_are_asked_of_seeds(room):
+    """A condition that names a history that is full is asked of orders of the seed, since no limit cuts off those that are all looked at."""
+    for text in ("#! end quiet history-full\n" + RACE, "#! some 1 load\n#! end history-full\n" + RACE.replace(" 100 ", " 6 ")):
+        found = told(room, text)
+        must(f"{found}", not are_all(found[1]) and found == told(room, text, *SEEDS))
+    status, lines = told(room, "#! end quiet\n" + RACE.replace(" 100 ", " 5 "))
+    must(f"{lines}", status == 0 and are_all(lines) and lines[1].endswith("end quiet: holds in all orders"))
+
+
+def summaries_count(room):
+    """The summary tells orders that were tried, and programs of which all were seen, apart."""
+    files = {"few.program": LOADS_AND_STORES, "wake.program": WAKE, "many.program": MANY, "endless.program": REBOOTS, "a.sched": "board 1 1 10 0 0x80000000 0\n0 advance\n"}
+    for name, text in files.items():
+        with open(os.path.join(room, name), "w", encoding="utf-8") as file:
+            file.write(text)
+    ends = all_orders.Orders(WAKE).ends
+    tried = r"# {} files, {} orders, \d+ different records;# ends: 0 off, 0 history-full, {} quiet, 0 stuck"
+    for names, status, wanted in (
+        (["few.program"], 0, "# 1 files;# all orders of 1 programs: 35, quiet 35"),
+        (["few.program", "wake.program"], 1, f"# 2 files;# all orders of 2 programs: 41, quiet {35 + ends['quiet']}, stuck {ends['stuck']}"),
+        (["endless.program"], 0, "# 1 files;# all orders of 1 programs: some without end"),
+        (["few.program", "endless.program", "a.sched"], 0, "# 3 files;# all orders of 1 programs: 35, quiet 35;# all orders of 1 programs: some without end"),
+        (["many.program", "few.program"], 0, tried.format(2, 1000, 1000) + ";# all orders of 1 programs: 35, quiet 35"),
+        (["many.program"], 0, tried.format(1, 1000, 1000)), (["a.sched"], 0, tried.format(1, 0, 0)),
+    ):  # fmt: skip
+        found, lines = told_of(room, *names)
+        points = sum(line.startswith(("ok ", "not ok ")) for line in lines)
+        failed = sum(line.startswith("not ok ") for line in lines)
+        must(f"{names}: {found}, {lines}", found == status and re.fullmatch(f"# {points} points, {failed} failed;(?:{wanted})", ";".join(summary(lines))))
+
+
+def statuses_of_few_states(room):
+    """0 and 1 by the points, never 8; 7 for a record that can't be written; the points are written into a file, and told plainly at a terminal."""
+    for text, status in ((RACE, 0), ("#! end off\n" + RACE, 1), ("#! some 1 load -> value 9\n" + RACE, 1), ("#! some 9 sip\n" + MANY, 1), (MANY, 0)):
+        found = told(room, text, "--tap", "points.tap")
+        with open(os.path.join(room, "points.tap"), encoding="utf-8") as file:
+            must(f"{found}", found[0] == status and file.read().splitlines() == found[1])
+    told(room, "#! end off\n" + RACE)
+    found = subprocess.run(["sbiboard", "--failed", "nowhere", "race.program"], executable=TESTER, cwd=room, capture_output=True, text=True, timeout=HANG)
+    must(f"{found}", found.returncode == 7 and found.stderr.startswith("sbiboard: nowhere/race.program.1.failed: "))
+    status, text = at_a_terminal(room, "race.program")
+    lines = text.split("\n")
+    must(f"{text}", status == 1 and lines[0] == "FAIL  race.program: line 1: end off: fails" and "all orders of 1 programs: 4, quiet 4" in lines and "TAP" not in text)
+
+
+def want_of_memory_of_few_states_is_told(room):
+    """Allocations refused in turn, of a look at all orders: no memory, after whole points at most, or all is told as it is."""
+    made = shim(room)
+    with open(os.path.join(room, "race.program"), "w", encoding="ascii") as file:
+        file.write(f"#! never 1 load -> value 1\n#! end quiet\n{RACE}")
+    whole, sizes = allocating(made, room, ["race.program"], program=TESTER, cwd=room)
+    must(f"{whole}", whole.returncode == 1 and b"# states: " in whole.stdout)
+    step, refused = 1 + len(sizes) // 400, 0
+    for number in range(1, len(sizes) + 1, step):
+        found, _ = allocating(made, room, ["race.program"], number, program=TESTER, cwd=room)
+        if found.returncode == 6:
+            refused += 1
+            must(f"{number}: {found}", found.stderr == NO_MEMORY and whole.stdout.startswith(found.stdout))
+        else:
+            must(f"{number}: {found}", (found.returncode, found.stdout, found.stderr) == (whole.returncode, whole.stdout, whole.stderr))
+    must(f"{refused} of {len(sizes)} are told", refused > 50)
+
+
+TESTS = [
+    ("few states are all looked at", few_states_are_explored), ("many states are tried by seeds", many_states_are_tried),
+    ("who asks for seeds gets seeds", who_asks_for_seeds_gets_seeds), ("time that is over before all orders were seen", time_that_is_over_is_told),
+    ("odd programs of few states are told", odd_programs_are_told), ("what is odd about random programs is told", oddities_of_random_programs_are_told),
+    ("conditions of few states are judged", conditions_of_few_states_are_judged), ("programs of few states without conditions", programs_without_conditions_are_judged),
+    ("conditions about limits are asked of seeds", limits_are_asked_of_seeds), ("summaries of few states and many", summaries_count),
+    ("statuses of few states", statuses_of_few_states), ("want of memory of a look at few states", want_of_memory_of_few_states_is_told),
+]  # fmt: skip
