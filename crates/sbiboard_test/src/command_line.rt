@@ -50,7 +50,7 @@ Exit status: 0 all hold, 1 some don't, 2 usage, 6 no memory, 7 input or output f
 const AFTER_EXPLORE: &str = "\
 A condition is a comment of a script that begins with `#!`, as `#! never 2 load 0x1000 -> value 0x11`; docs/FORMATS.md has all.
 What holds in all orders of steps, of any length that the program allows, is proved to hold in all histories of it.
-A state takes some 3 KB for three harts and eight pages of RAM.
+A state takes some 2 KB for three harts, of whose RAM most words are 0.
 
 Exit status: 0 all hold, 1 some don't, 2 usage, 6 no memory, 7 input or output failed, 8 not all orders were seen.";
 
