@@ -165,6 +165,13 @@ def points_are_told(room):
     must(f"{lines}", status == 0 and lines == wanted)
 
 
+def names_are_escaped(room):
+    """No letter of a file's name means something in a point, or in a quoted value."""
+    status, lines = told(room, "#! never 0 store\n" + RACE, name='a#b"c\\d\te.program')
+    must(f"{lines}", status == 1 and lines[1].startswith('not ok 1 - a\\#b"c\\\\d?e.program: line 1: never 0 store'))
+    must(f"{lines}", [line for line in lines if line.startswith('  record: "./a#b\\"c\\\\d?e.program.')])
+
+
 def bad_conditions_are_told(room):
     """A condition that can't be read is a point that fails, with its line and its column."""
     for line, column, why in FAULTS:
@@ -468,6 +475,7 @@ def tour_is_as_written(room):
 
 TESTS = [
     ("conditions are judged", conditions_are_judged), ("points are told", points_are_told), ("bad conditions are told", bad_conditions_are_told),
+    ("names are escaped", names_are_escaped),
     ("files that can't be tested are told", bad_files_are_told), ("files that may not be read are told", closed_files_are_told),
     ("want of memory of a test", want_of_memory_is_told), ("many differences of a trace are told soon", many_differences_are_told_soon), ("all orders of small programs are met", orders_are_all_met),
     ("a seed is one order", a_seed_is_one_order), ("failing orders are counted", failures_are_counted),
