@@ -54,8 +54,10 @@ def started(harts, lines, pages=1):
         yield f"{hart} advance"
 
 
-def mapped(harts, lines, mode=8):
-    """All harts are started, and run with the same 32 pages: those of even ids in address space 5, the others in 6."""
+def mapped(harts, lines, mode=8, superpage=False):
+    """All harts are started, and run with the same 32 pages: those of even ids in address space 5, the others in 6.
+
+    With a superpage the 2 MiB behind them are the RAM."""
     first, *others = started(harts, lines, pages=16 if mode == 8 else 17)
     yield first if mode == 8 else f"{first} 16 48"
     yield from others
@@ -65,6 +67,8 @@ def mapped(harts, lines, mode=8):
         yield f"0 store {root << 12:#x} 0x20000401"
     yield "0 store 0x80001000 0x20000801"
     yield "0 store 0x80002000 0x20000c01"
+    if superpage:
+        yield f"0 store 0x80002008 {0x80000 << 10 | 0xCF:#x}"
     for page in range(32):
         yield f"0 store {0x80003000 + 8 * page:#x} {(0x80004 + page % 12) << 10 | 0xCF:#x}"
     for hart in range(harts):
@@ -120,6 +124,22 @@ def loads_that_walk(harts, lines, mode=8):
 def loads_that_walk_under_sv48(harts, lines):
     """The same by Sv48: four levels are walked each time."""
     yield from loads_that_walk(harts, lines, mode=9)
+
+
+def accesses(harts, lines):
+    """The harts in turn load from 8 pages, and sometimes store, fetch, load by a superpage, and drop a page: many fills and walks."""
+    yield from mapped(harts, lines, superpage=True)
+    for turn in count():
+        hart, step = turn % harts, turn // harts
+        page = step % 8 << 12
+        yield f"{hart} load {page | 8 * (step % 512):#x}"
+        if step % 4 == 1:
+            yield f"{hart} store {page | 0xF00:#x} {turn:#x}"
+        if step % 4 == 2:
+            yield f"{hart} fetch {page:#x}"
+        if step % 4 == 3:
+            yield f"{hart} load {0x200000 | step % 16 << 12:#x}"
+            yield f"{hart} sfence {page:#x} -"
 
 
 def stores(harts, lines):
@@ -184,6 +204,7 @@ WORKLOADS = (
     (loads_that_hit, 500_000),
     (loads_that_walk, 500_000),
     (loads_that_walk_under_sv48, 500_000),
+    (accesses, 500_000),
     (stores, 500_000),
     (fences_and_loads, 500_000),
     (full_fences, 1_000_000),
