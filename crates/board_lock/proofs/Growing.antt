@@ -6,16 +6,20 @@ use Rattle.std.proofs.lemmas.Bool.{cases_Bool}
 use Rattle.std.proofs.lemmas.List.{get_or-set_same, get_or-set_other, length-append, length-reverse, length-set, reverse-reverse}
 use Rattle.std.proofs.lemmas.Grind.{get_or_default_zero}
 use mathlib.Core.List.{IsPrefix, reverse-cons}
-use Rattle.board_core.specs.declared.event.Actor.{Actor}
-use Rattle.board_core.specs.declared.event.Op.{Op}
-use Rattle.board_core.specs.declared.event.Reply.{Reply}
+use Rattle.chronicle.specs.declared.tokens.Chronicle.{Chronicle}
+use Rattle.chronicle.specs.declared.tokens.Glimpse.{Glimpse}
+use Rattle.board_terms.specs.declared.config.Config.{Config}
+use Rattle.board_terms.specs.declared.op.Actor.{Actor}
+use Rattle.board_terms.specs.declared.op.Op.{Op}
+use Rattle.board_terms.specs.declared.reply.Reply.{Reply}
 use Rattle.board_core.specs.Accesses.{used_by_actor}
 use Rattle.board_core.specs.Course.{Course}
 use Rattle.board_core.specs.History.{Event}
 use Rattle.board_core.specs.Opening.{Opening}
 use Rattle.board_core.specs.Replies.{answer, recorded, stepped}
 use Rattle.board_lock.specs.Events.{IsActor, events_in, events_of, is_same}
-use Rattle.board_lock.specs.Kept.{IsDesk, IsSeated, IsTold, count_of, number_of}
+use Rattle.board_lock.specs.Kept.{IsDesk, IsSeated, IsTold, Tally, count_of, counter, number_of, tally}
+use Rattle.board_lock.specs.Receipts.{told}
 use Rattle.board_lock.specs.Seats.{Sitting}
 use Rattle.board_lock.specs.Views.{IsDone, board_after}
 use Rattle.board_lock.specs.declared.rests.Rests.{Rests}
@@ -32,132 +36,140 @@ count-more a es e same = count_of-append a es (e ∷ []) ∙ rw same (omega arit
 count-same : (a : Actor) (es : List Event) (e : Event) → is_same a e.actor ≡ false → count_of a (es ++ e ∷ []) ≡ count_of a es
 count-same a es e other = count_of-append a es (e ∷ []) ∙ rw other (omega arith)
 
--- a count that is read
-pub read : (opening : Opening) (room : ℕ) (b : Course) (counts : List ℕ) (rests : Rests) (total parts amount name : ℕ) (list : List Event) (a : Actor) (n v : ℕ)
-    → IsDesk opening room b counts rests total parts amount name list → IsActor opening.config a → n ≡ number_of opening.config a → v ≡ get_or counts n v
-    → (v ≡ slice_index_or counts n 0) × (v ≡ count_of a list)
-read opening room b counts rests total parts amount name list a n v d acting number value =
-    let within : n < length counts = (let w = number-within opening.config a acting in let s = d.sized in omega arith) in
-    let at : v ≡ slice_index_or counts n 0 = value ∙ get_or_default_zero counts n v within in
-    (at, at ∙ ap (λ (k : ℕ). slice_index_or counts k 0) number ∙ d.counted a acting)
-
 -- a count that differs from the one that is kept isn't that of the events
 pub differs : (a : Actor) (es : List Event) (count value : ℕ) → value ≡ count_of a es → value ≢ count → length (events_of a es) ≢ count
 differs a es count value is other = λ e. other (is ∙ sym (length-events 0 a es) ∙ e)
 
--- a count of events of a board is far from the end of numbers
-pub small : (opening : Opening) (room : ℕ) (b : Course) (counts : List ℕ) (rests : Rests) (total parts amount name : ℕ) (list : List Event) (a : Actor) (count : ℕ)
-    → IsDesk opening room b counts rests total parts amount name list → count ≡ count_of a list → length list ≤ b.opening.config.limit → count + 1 < 2 ^ 64
-small opening room b counts rests total parts amount name list a count d counted within =
-    let most = count_of-within a list in
-    let opened : b.opening.config.limit ≡ opening.config.limit = ap (λ (o : Opening). o.config.limit) d.opened in
-    let limit = d.good.at_most_a_million_events in
-    omega arith
+module _ {opening : Opening} {room : ℕ} {b : Course} {rests : Rests} {t : Tally} {log : Chronicle Event} (d : IsDesk opening room b rests t log) where
+  -- a count that is read
+  pub read : (a : Actor) (n v : ℕ) → IsActor opening.config a → n ≡ number_of opening.config a → v ≡ get_or t.counts n v
+      → (v ≡ slice_index_or t.counts n 0) × (v ≡ count_of a log.list)
+  read a n v acting number value =
+      let within : n < length t.counts = (let w = number-within opening.config a acting in let s = d.sized in omega arith) in
+      let at : v ≡ slice_index_or t.counts n 0 = value ∙ get_or_default_zero t.counts n v within in
+      (at, at ∙ ap (λ (k : ℕ). slice_index_or t.counts k 0) number ∙ d.counted a acting)
 
--- the log is as long as the history
-pub as-long : (opening : Opening) (room : ℕ) (b : Course) (counts : List ℕ) (rests : Rests) (total parts amount name : ℕ) (list history : List Event)
-    → IsDesk opening room b counts rests total parts amount name list → reverse history ≡ b.past → length list ≡ length history
-as-long opening room b counts rests total parts amount name list history d old = ap length (d.logged ∙ ap reverse (sym old)) ∙ length-reverse (reverse history) ∙ length-reverse history
+  -- a count of events of a board is far from the end of numbers, where the log is as long as the history
+  pub small : (a : Actor) (count : ℕ) (history : List Event) → count ≡ count_of a log.list → reverse history ≡ b.past → length history ≤ b.opening.config.limit → count + 1 < 2 ^ 64
+  small a count history counted is within =
+      let most = count_of-within a log.list in
+      let long : length log.list ≡ length history = ap length (d.logged ∙ ap reverse (sym is)) ∙ length-reverse (reverse history) ∙ length-reverse history in
+      let opened : b.opening.config.limit ≡ opening.config.limit = ap (λ (o : Opening). o.config.limit) d.opened in
+      let limit = d.good.at_most_a_million_events in
+      omega arith
 
-module _ (b b' : Course) (a : Actor) (op : Op) (reply : Reply) (answered : Ok reply ≡ answer b.opening b.past a op) (went : b' ≡ stepped b a op) where
-  abbrev pub event : Event
-  event = record { actor = a; op = op; reply = reply; translation = used_by_actor b.opening b.past a op }
+-- An accepted step of a board.
+pub record Step : Type 0 where
+  pub old : Course
+  pub new : Course
+  pub actor : Actor
+  pub op : Op
+  pub reply : Reply
+  pub answered : Ok reply ≡ answer old.opening old.past actor op
+  pub went : new ≡ stepped old actor op
 
-  pub is : b' ≡ record { opening = b.opening; past = event ∷ b.past }
-  is = went ∙ sym (ap (recorded b a op) answered)
+abbrev pub step : (old new : Course) (actor : Actor) (op : Op) (reply : Reply) → Ok reply ≡ answer old.opening old.past actor op → new ≡ stepped old actor op → Step
+step old new actor op reply answered went = record { old = old; new = new; actor = actor; op = op; reply = reply; answered = answered; went = went }
+
+-- the event that it records
+abbrev pub event : Step → Event
+event s = record { actor = s.actor; op = s.op; reply = s.reply; translation = used_by_actor s.old.opening s.old.past s.actor s.op }
+
+module _ (s : Step) where
+  is : s.new ≡ record { opening = s.old.opening; past = event s ∷ s.old.past }
+  is = s.went ∙ sym (ap (recorded s.old s.actor s.op) s.answered)
 
   -- the history has the event at its end
-  pub longer : (history history' : List Event) → reverse history ≡ b.past → reverse history' ≡ b'.past → history' ≡ history ++ event ∷ []
+  pub longer : (history history' : List Event) → reverse history ≡ s.old.past → reverse history' ≡ s.new.past → history' ≡ history ++ event s ∷ []
   longer history history' old new =
-      sym (reverse-reverse history') ∙ ap reverse (new ∙ ap (λ (c : Course). c.past) is) ∙ reverse-cons event b.past
-      ∙ ap (λ (es : List Event). es ++ event ∷ []) (ap reverse (sym old) ∙ reverse-reverse history)
+      sym (reverse-reverse history') ∙ ap reverse (new ∙ ap (λ (c : Course). c.past) is) ∙ reverse-cons (event s) s.old.past
+      ∙ ap (λ (es : List Event). es ++ event s ∷ []) (ap reverse (sym old) ∙ reverse-reverse history)
 
-  pub longer-by-one : (history history' : List Event) → reverse history ≡ b.past → reverse history' ≡ b'.past → length history' ≡ length history + 1
-  longer-by-one history history' old new = ap length (longer history history' old new) ∙ length-append history (event ∷ [])
+  pub longer-by-one : (history history' : List Event) → reverse history ≡ s.old.past → reverse history' ≡ s.new.past → length history' ≡ length history + 1
+  longer-by-one history history' old new = ap length (longer history history' old new) ∙ length-append history (event s ∷ [])
 
-  pub logs : (list list' : List Event) → list ≡ events_in b → list' ≡ list ++ event ∷ [] → list' ≡ events_in b'
-  logs list list' logged longer = longer ∙ ap (λ (es : List Event). es ++ event ∷ []) logged ∙ sym (reverse-cons event b.past) ∙ ap events_in (sym is)
+  -- which is what a look at it finds
+  pub last : (history history' : List Event) (at : Event) → reverse history ≡ s.old.past → reverse history' ≡ s.new.past → at ≡ get_or history' (length history) at → at ≡ event s
+  last history history' at old new is =
+      is ∙ ap (λ (es : List Event). get_or es (length history) at) (longer history history' old new)
+      ∙ (let more = length-append history (event s ∷ []) in let one : length (event s ∷ []) ≡ 1 = refl in
+      slice_get-tells (history ++ event s ∷ []) (length history) (event s) at (after history (event s) []))
+
+  pub logs : (list list' : List Event) → list ≡ events_in s.old → list' ≡ list ++ event s ∷ [] → list' ≡ events_in s.new
+  logs list list' logged longer =
+      longer ∙ ap (λ (es : List Event). es ++ event s ∷ []) logged ∙ sym (reverse-cons (event s) s.old.past) ∙ ap events_in (sym is)
 
   -- a seat that saw the board before has seen it since with the event
-  pub done : (opening : Opening) (old new : Sitting) (list list' : List Event) → b.opening ≡ opening → list ≡ events_in b → list' ≡ list ++ event ∷ [] → a ≡ old.actor
-      → IsPrefix old.saw list → new.saw ≡ list' → IsDone opening old new op reply
-  done opening old new list list' opened logged longer by prefix saw =
+  pub done : (opening : Opening) (old new : Sitting) (list : List Event) → s.old.opening ≡ opening → list ≡ events_in s.old → s.actor ≡ old.actor
+      → IsPrefix old.saw list → new.saw ≡ list ++ event s ∷ [] → IsDone opening old new s.op s.reply
+  done opening old new list opened logged by prefix saw =
       record {
         before = list;
         later = prefix;
-        answered = subst (λ (x : Actor). answer opening (reverse list) x op ≡ Ok reply) by (ap (λ (x : Course). answer x.opening x.past a op) there ∙ sym answered);
-        after = saw ∙ logs list list' logged longer ∙ ap events_in went ∙ ap (λ (x : Course). events_in (stepped x a op)) (sym there)
-            ∙ ap (λ (x : Actor). events_in (stepped (board_after opening list) x op)) by;
+        answered = subst (λ (x : Actor). answer opening (reverse list) x s.op ≡ Ok s.reply) by (ap (λ (x : Course). answer x.opening x.past s.actor s.op) there ∙ sym s.answered);
+        after = logs list new.saw logged saw ∙ ap events_in s.went ∙ ap (λ (x : Course). events_in (stepped x s.actor s.op)) (sym there)
+            ∙ ap (λ (x : Actor). events_in (stepped (board_after opening list) x s.op)) by;
       }
     where
-      past : reverse list ≡ b.past
-      past = ap reverse logged ∙ reverse-reverse b.past
+      past : reverse list ≡ s.old.past
+      past = ap reverse logged ∙ reverse-reverse s.old.past
 
-      there : board_after opening list ≡ b
-      there = ap (λ (o : Opening). record { opening = o; past = reverse list }) (sym opened) ∙ ap (λ (es : List Event). record { opening = b.opening; past = es }) past
+      there : board_after opening list ≡ s.old
+      there = ap (λ (o : Opening). record { opening = o; past = reverse list }) (sym opened) ∙ ap (λ (es : List Event). record { opening = s.old.opening; past = es }) past
 
-  -- which is what a look at it finds
-  pub last : (history history' : List Event) (at : Event) → reverse history ≡ b.past → reverse history' ≡ b'.past → at ≡ get_or history' (length history) at → at ≡ event
-  last history history' at old new is =
-      is ∙ ap (λ (es : List Event). get_or es (length history) at) (longer history history' old new)
-      ∙ (let more = length-append history (event ∷ []) in let one : length (event ∷ []) ≡ 1 = refl in slice_get-tells (history ++ event ∷ []) (length history) event at (after history event []))
-
-  module _ (opening : Opening) (acting : IsActor opening.config a) where
-    pub desk-more : (room : ℕ) (counts : List ℕ) (rests : Rests) (total total' parts amount name name' : ℕ) (list list' : List Event) (n v : ℕ)
-        → IsDesk opening room b counts rests total parts amount name list → n ≡ number_of opening.config a → v ≡ slice_index_or counts n 0 → total' ≡ total + 1 → name' ≡ name
-        → list' ≡ list ++ event ∷ [] → IsDesk opening room b' (set counts n (v + 1)) rests total' parts amount name' list'
-    desk-more room counts rests total total' parts amount name name' list list' n v d number value sum named longer =
+  module _ {opening : Opening} {room : ℕ} {rests : Rests} {t : Tally} {log : Chronicle Event} (d : IsDesk opening room s.old rests t log) (acting : IsActor opening.config s.actor) where
+    pub desk-more : (n v total : ℕ) (log' : Chronicle Event) → n ≡ number_of opening.config s.actor → v ≡ slice_index_or t.counts n 0 → total ≡ t.total + 1
+        → log'.name ≡ log.name → log'.list ≡ log.list ++ event s ∷ [] → IsDesk opening room s.new rests (tally (set t.counts n (v + 1)) total t.parts t.amount) log'
+    desk-more n v total log' number value sum named grown =
         record {
           good = d.good;
           opened = ap (λ (c : Course). c.opening) is ∙ d.opened;
           named = named ∙ d.named;
-          logged = logs list list' d.logged longer;
-          summed = sum ∙ (let s = d.summed in omega (arith, length-append list (event ∷ []))) ∙ ap length (sym longer);
-          sized = length-set counts n (v + 1) ∙ d.sized;
+          logged = logs log.list log'.list d.logged grown;
+          summed = sum ∙ (let was = d.summed in omega (arith, length-append log.list (event s ∷ []))) ∙ ap length (sym grown);
+          sized = length-set t.counts n (v + 1) ∙ d.sized;
           counted = each;
-          acted = subst-acted;
+          acted = rw grown (all-more (λ (e : Event). IsActor opening.config e.actor) log.list (event s) d.acted acting);
           at_rest = d.at_rest;
           no_parts = d.no_parts;
           no_amount = d.no_amount;
         }
       where
-        subst-acted : AllByRecursion (λ (e : Event). IsActor opening.config e.actor) list'
-        subst-acted = rw longer (all-more (λ (e : Event). IsActor opening.config e.actor) list event d.acted acting)
+        within : n < length t.counts
+        within = let w = number-within opening.config s.actor acting in let sized = d.sized in omega arith
 
-        within : n < length counts
-        within = let w = number-within opening.config a acting in let s = d.sized in omega arith
-
-        each : (x : Actor) → IsActor opening.config x → slice_index_or (set counts n (v + 1)) (number_of opening.config x) 0 ≡ count_of x list'
-        each x there = elim (cases_Bool (is_same x a)) [
+        each : (x : Actor) → IsActor opening.config x → slice_index_or (set t.counts n (v + 1)) (number_of opening.config x) 0 ≡ count_of x log'.list
+        each x there = elim (cases_Bool (is_same x s.actor)) [
           | inl same ↦
-              let one : x ≡ a = same-is x a same in
+              let one : x ≡ s.actor = same-is x s.actor same in
               let at : number_of opening.config x ≡ n = ap (number_of opening.config) one ∙ sym number in
-              let before : v ≡ count_of a list = value ∙ ap (λ (k : ℕ). slice_index_or counts k 0) number ∙ d.counted a acting in
-              let more : count_of a list' ≡ count_of a list + 1 = ap (count_of a) longer ∙ count-more a list event (same-itself a) in
-              ap (λ (k : ℕ). slice_index_or (set counts n (v + 1)) k 0) at ∙ get_or-set_same counts n (v + 1) 0 within
-              ∙ ap (λ (k : ℕ). k + 1) before ∙ sym more ∙ ap (λ (y : Actor). count_of y list') (sym one)
+              let before : v ≡ count_of s.actor log.list = value ∙ ap (λ (k : ℕ). slice_index_or t.counts k 0) number ∙ d.counted s.actor acting in
+              let more : count_of s.actor log'.list ≡ count_of s.actor log.list + 1 = ap (count_of s.actor) grown ∙ count-more s.actor log.list (event s) (same-itself s.actor) in
+              ap (λ (k : ℕ). slice_index_or (set t.counts n (v + 1)) k 0) at ∙ get_or-set_same t.counts n (v + 1) 0 within
+              ∙ ap (λ (k : ℕ). k + 1) before ∙ sym more ∙ ap (λ (y : Actor). count_of y log'.list) (sym one)
           | inr other ↦
-              let apart = number-tells opening.config x a there acting other in
-              get_or-set_other counts n (number_of opening.config x) (v + 1) 0 (λ (e : number_of opening.config x ≡ n). apart (e ∙ number))
-              ∙ d.counted x there ∙ sym (ap (count_of x) longer ∙ count-same x list event other)
+              let apart = number-tells opening.config x s.actor there acting other in
+              get_or-set_other t.counts n (number_of opening.config x) (v + 1) 0 (λ (e : number_of opening.config x ≡ n). apart (e ∙ number))
+              ∙ d.counted x there ∙ sym (ap (count_of x) grown ∙ count-same x log.list (event s) other)
         ]
 
-    pub seat-more : (room : ℕ) (list-name seen-name last-name : ℕ) (list seen last : List Event) (count parts parts' amount amount' old : ℕ) (before : List Event) (old-last : ℕ) (looked : List Event)
-        → IsSeated opening.config room a count parts amount old before old-last looked → list-name ≡ room → count ≡ count_of a list → parts' ≡ parts → amount' ≡ amount + 1
-        → seen-name ≡ list-name → seen ≡ list ++ event ∷ [] → last-name ≡ list-name → last ≡ list ++ event ∷ []
-        → IsSeated opening.config room a (count + 1) parts' amount' seen-name seen last-name last
-    seat-more room list-name seen-name last-name list seen last count parts parts' amount amount' old before old-last looked s listed counted part more named saw last-named lasts =
-        record {
-          acting = s.acting;
-          one_part = part ∙ s.one_part;
-          counted = more ∙ ap (λ (k : ℕ). k + 1) s.counted;
-          named = named ∙ listed;
-          saw = ap (count_of a) saw ∙ count-more a list event (same-itself a) ∙ ap (λ (k : ℕ). k + 1) (sym counted);
-          last_named = last-named ∙ listed;
-          later = ([], append-nil seen ∙ saw ∙ sym lasts);
-        }
+  -- a seat that counts all of its actor's events so far counts one more
+  pub seat-more : {config : Config} {room count parts amount : ℕ} {seen last : Glimpse Event} → IsSeated config room (counter s.actor count parts amount) seen last
+      → (log : Chronicle Event) (parts' amount' : ℕ) (seen' last' : Glimpse Event) → log.name ≡ room → count ≡ count_of s.actor log.list → parts' ≡ parts → amount' ≡ amount + 1
+      → seen'.name ≡ log.name → seen'.list ≡ log.list ++ event s ∷ [] → last'.name ≡ log.name → last'.list ≡ log.list ++ event s ∷ []
+      → IsSeated config room (counter s.actor (count + 1) parts' amount') seen' last'
+  seat-more seat log parts' amount' seen' last' listed counted part more named saw last-named lasts =
+      record {
+        acting = seat.acting;
+        one_part = part ∙ seat.one_part;
+        counted = more ∙ ap (λ (k : ℕ). k + 1) seat.counted;
+        named = named ∙ listed;
+        saw = ap (count_of s.actor) saw ∙ count-more s.actor log.list (event s) (same-itself s.actor) ∙ ap (λ (k : ℕ). k + 1) (sym counted);
+        last_named = last-named ∙ listed;
+        later = ([], append-nil seen'.list ∙ saw ∙ sym lasts);
+      }
 
-  pub told : (first room list-name seen-name : ℕ) (list seen : List Event) (count place : ℕ) → list-name ≡ room → count ≡ count_of a list → first + length list ≡ place
-      → seen-name ≡ list-name → seen ≡ list ++ event ∷ [] → IsTold first room a count place op reply seen-name seen
-  told first room list-name seen-name list seen count place listed counted placed named saw =
-      record { before = list; event = event; named = named ∙ listed; last = saw; by = refl; asked = refl; answered = refl; placed = placed; counted = sym counted }
+  pub is-told : (first room : ℕ) (log : Chronicle Event) (seen : Glimpse Event) (count place : ℕ) → log.name ≡ room → count ≡ count_of s.actor log.list → first + length log.list ≡ place
+      → seen.name ≡ log.name → seen.list ≡ log.list ++ event s ∷ [] → IsTold first room (told s.actor count place s.op s.reply) seen
+  is-told first room log seen count place listed counted placed named saw =
+      record { before = log.list; event = event s; named = named ∙ listed; last = saw; by = refl; asked = refl; answered = refl; placed = placed; counted = sym counted }

@@ -3,7 +3,7 @@ use Rattle.std.proofs.Common.{◌≡◌, ℕ, zero, suc, ◌+◌, ◌-◌, ◌<�
 use Rattle.std.specs.Prelude.{Option, Some, None, slice_get}
 use Rattle.std.proofs.lemmas.Bool.{cases_Bool}
 use Rattle.std.proofs.lemmas.List.{length-append}
-use Rattle.board_core.specs.declared.event.Actor.{Actor}
+use Rattle.board_terms.specs.declared.op.Actor.{Actor}
 use Rattle.board_core.specs.History.{Event}
 use Rattle.board_lock.specs.Events.{events_from, is_same}
 use Rattle.board_lock.specs.Kept.{count_of}

@@ -7,18 +7,21 @@ use Rattle.std.proofs.lemmas.Bool.{cases_Bool, cases_lt, le-ltb, lt-ltb}
 use Rattle.std.proofs.lemmas.Bool.Decides.{Decides-eqb, eqb_tells}
 use Rattle.std.proofs.lemmas.List.{get_or-replicate, length-replicate}
 use Rattle.std.proofs.lemmas.Slice.Eq.{slice_eq-Decides}
-use Rattle.hart_mask.specs.Ids.{IsIdSet, has, ids_below}
+use Rattle.hart_mask.specs.Ids.{IsIdSet, has, ids_below, ids_where}
 use Rattle.hart_mask.proofs.Sets.{IsIdSet-ids_where, has-ids_where, ids_where-none, passes-ids_where, same_sets}
-use Rattle.board_core.specs.declared.config.Config.{Config}
-use Rattle.board_core.specs.declared.event.Actor.{Actor}
-use Rattle.board_core.specs.declared.event.Actor.TheVariants.{Hart, Clock}
+use Rattle.chronicle.specs.declared.tokens.Chronicle.{Chronicle}
+use Rattle.board_terms.specs.declared.config.Config.{Config}
+use Rattle.board_terms.specs.declared.op.Actor.{Actor}
+use Rattle.board_terms.specs.declared.op.Actor.TheVariants.{Hart, Clock}
+use Rattle.board_terms.specs.declared.op.Op.{Op}
 use Rattle.board_lock.specs.Events.{IsActor, events_in}
 use Rattle.board_core.specs.Course.{Course}
 use Rattle.board_core.specs.History.{Event}
-use Rattle.board_core.specs.Limits.{IsGood}
+use Rattle.board_terms.specs.Limits.{IsGood}
 use Rattle.board_core.specs.Opening.{Opening}
-use Rattle.board_lock.specs.Kept.{IsDesk, count_of, number_of}
-use Rattle.board_lock.specs.Rests.{IsRests, awake, none_rest, resting}
+use Rattle.board_lock.specs.Kept.{IsDesk, Tally, count_of, number_of}
+use Rattle.board_lock.specs.Rests.{Held, IsRests, awake, held, less, none_rest, none_woken, resting}
+use Rattle.board_lock.specs.Waking.{comes_to, concerned, woken}
 use Rattle.board_lock.specs.declared.rests.Rests.{Rests}
 use Rattle.board_lock.specs.declared.rests.Until.{Until}
 use Rattle.board_lock.specs.declared.rests.Woken.{Woken}
@@ -53,6 +56,29 @@ fewer-rest harts r w is = record { set = IsIdSet-ids_where still; below = λ h t
     still : ℕ → Bool
     still i = has r.harts i && not (has w.harts i)
 
+none-of : (ids : List ℕ) (p : ℕ → Bool) → ids ≡ [] → [] ≡ ids_where (λ i. has ids i && p i)
+none-of ids p none = sym (ids_where-none _ (λ i low. ap (λ (xs : List ℕ). has xs i && p i) none))
+
+-- where no seat rests, none is woken, and none rests then
+pub none-wakes : (d : Held) (op : Op) → d.rests.harts ≡ [] → d.rests.clock ≡ false → none_woken ≡ woken d op
+none-wakes d op none off =
+    let who : List ℕ = concerned d.board.opening.config.harts op in
+    ap (λ (ids : List ℕ). record { harts = ids; clock = false })
+    (none-of d.rests.harts (λ h. has d.rests.events h || (has d.rests.turns h && (has who h && comes_to d h))) none)
+    ∙ ap (λ (b : Bool). record { harts = (woken d op).harts; clock = b && d.rests.clock_events }) (sym off)
+
+still-off : (a : Bool) → a ≡ false → a ≡ (a && true)
+still-off false off = refl
+still-off true off = absurd (let e = off in cc)
+
+pub still-none : (d : Held) → d.rests.harts ≡ [] → d.rests.clock ≡ false → d ≡ held d.board (awake d.rests none_woken) d.ended
+still-none d none off =
+    let r : Rests = d.rests in
+    ap (λ (ids : List ℕ). held d.board (record { harts = ids; events = r.events; turns = r.turns; wakes = r.wakes; clock = r.clock; clock_events = r.clock_events }) d.ended)
+    (none ∙ none-of r.harts (λ i. true) none)
+    ∙ ap (λ (b : Bool). held d.board (record { harts = less r.harts []; events = r.events; turns = r.turns; wakes = r.wakes; clock = b; clock_events = r.clock_events }) d.ended)
+    (still-off r.clock off)
+
 -- the harts below a number are all those of the board that rest, or some doesn't
 has-below : (harts i : ℕ) → harts ≤ 128 → i < harts → has (ids_below harts) i ≡ true
 has-below harts i small low = has-ids_where (λ k. nat_lt k harts) i (omega arith) ∙ lt-ltb i harts low
@@ -76,9 +102,9 @@ all-harts harts r b small is eq =
     (λ yes h low. ap (λ (ids : List ℕ). has ids h) (decides.0 yes) ∙ has-below harts h small low, λ each. decides.1 (all-below harts r is each))
 
 -- what the lock holds, where others rest
-pub desk-rests : (opening : Opening) (room : ℕ) (b : Course) (counts : List ℕ) (old new : Rests) (total parts amount name : ℕ) (list : List Event)
-    → IsDesk opening room b counts old total parts amount name list → IsRests opening.config.harts new → IsDesk opening room b counts new total parts amount name list
-desk-rests opening room b counts old new total parts amount name list d is =
+pub desk-rests : {opening : Opening} {room : ℕ} {b : Course} {old new : Rests} {t : Tally} {log : Chronicle Event}
+    → IsDesk opening room b old t log → IsRests opening.config.harts new → IsDesk opening room b new t log
+desk-rests d is =
     record {
       good = d.good;
       opened = d.opened;
@@ -94,10 +120,9 @@ desk-rests opening room b counts old new total parts amount name list d is =
     }
 
 -- what the lock of a new board holds
-pub new-desk : (opening : Opening) (room : ℕ) (b : Course) (counts : List ℕ) (rests : Rests) (total parts amount name : ℕ) (list : List Event)
-    → IsGood opening.config → b ≡ record { opening = opening; past = [] } → name ≡ room → list ≡ [] → total ≡ 0 → counts ≡ replicate (opening.config.harts + 1) 0 → rests ≡ none_rest
-    → parts ≡ 0 → amount ≡ 0 → IsDesk opening room b counts rests total parts amount name list
-new-desk opening room b counts rests total parts amount name list good is named empty none zeros rested no-parts no-amount =
+pub new-desk : (opening : Opening) (room : ℕ) (b : Course) (rests : Rests) (t : Tally) (log : Chronicle Event) → IsGood opening.config → b ≡ record { opening = opening; past = [] }
+    → rests ≡ none_rest → t.counts ≡ replicate (opening.config.harts + 1) 0 → t.total ≡ 0 → t.parts ≡ 0 → t.amount ≡ 0 → log.name ≡ room → log.list ≡ [] → IsDesk opening room b rests t log
+new-desk opening room b rests t log good is rested zeros none no-parts no-amount named empty =
     record {
       good = good;
       opened = ap (λ (c : Course). c.opening) is;

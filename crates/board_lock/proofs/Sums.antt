@@ -5,8 +5,8 @@ use Rattle.std.specs.List.{AllByRecursion}
 use mathlib.Core.List.{IsPrefix}
 use Rattle.std.proofs.lemmas.Bool.{cases_Bool}
 use Rattle.std.proofs.lemmas.List.{length-append, take_more}
-use Rattle.board_core.specs.declared.config.Config.{Config}
-use Rattle.board_core.specs.declared.event.Actor.{Actor}
+use Rattle.board_terms.specs.declared.config.Config.{Config}
+use Rattle.board_terms.specs.declared.op.Actor.{Actor}
 use Rattle.board_core.specs.History.{Event}
 use Rattle.board_lock.specs.Events.{IsActor, events_of, is_same, ops_of}
 use Rattle.board_lock.specs.Kept.{count_of}

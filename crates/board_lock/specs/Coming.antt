@@ -13,7 +13,8 @@ ends_or_goes_on None wake s = goes_on wake s
 
 -- Whether the firmware of a hart has something to do: a fence to serve, a call to end, or a state that goes on.
 abbrev pub has_turn : HartNow → Bool
-has_turn now = (nat_lt 0 now.waiting && is_interruptible now.state) || ends_or_goes_on now.outstanding now.wake now.state
+has_turn now = (nat_lt 0 now.waiting && is_interruptible now.state) || ends_or_goes_on now.outstanding now.wake
+    now.state
 
 abbrev pub is_outside : Option (List ℕ) → Bool
 is_outside (Some harts) = false

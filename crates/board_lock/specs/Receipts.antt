@@ -1,8 +1,8 @@
 -- Receipts: what an accepted call is told.
 use Rattle.std.specs.Prelude.{ℕ}
-use Rattle.board_core.specs.declared.event.Actor.{Actor}
-use Rattle.board_core.specs.declared.event.Op.{Op}
-use Rattle.board_core.specs.declared.event.Reply.{Reply}
+use Rattle.board_terms.specs.declared.op.Actor.{Actor}
+use Rattle.board_terms.specs.declared.op.Op.{Op}
+use Rattle.board_terms.specs.declared.reply.Reply.{Reply}
 
 -- Who made the call, how many of its seat's calls were accepted before, how many of all, what it asked and what was answered.
 pub record Told : Type 0 where
@@ -11,3 +11,6 @@ pub record Told : Type 0 where
   pub place : ℕ
   pub op : Op
   pub reply : Reply
+
+abbrev pub told : Actor → (ordinal place : ℕ) → Op → Reply → Told
+told actor ordinal place op reply = record { actor = actor; ordinal = ordinal; place = place; op = op; reply = reply }

@@ -1,8 +1,8 @@
 -- Rests: which seats rest, until what, and when a rest is over (profile).
 use Rattle.std.specs.Prelude.{◌≡◌, ◌≢◌, ℕ, ◌<◌, ◌&&◌, Bool, true, false, not, List, [], length, Option}
 use Rattle.hart_mask.specs.Ids.{IsIdSet, has, ids_where, with_bit, with_id}
-use Rattle.board_core.specs.declared.event.Actor.{Actor}
-use Rattle.board_core.specs.declared.event.Actor.TheVariants.{Hart, Clock}
+use Rattle.board_terms.specs.declared.op.Actor.{Actor}
+use Rattle.board_terms.specs.declared.op.Actor.TheVariants.{Hart, Clock}
 use Rattle.board_core.specs.Course.{Course}
 use Rattle.board_lock.specs.declared.desk.Pause.{Pause}
 use Rattle.board_lock.specs.declared.desk.Pause.TheVariants.{Waits, Over, Last}
@@ -49,11 +49,22 @@ resting r (Hart h) until = record {
   clock = r.clock;
   clock_events = r.clock_events;
 }
-resting r Clock until = record { harts = r.harts; events = r.events; turns = r.turns; wakes = r.wakes; clock = true; clock_events = is_any until }
+resting r Clock until = record {
+  harts = r.harts;
+  events = r.events;
+  turns = r.turns;
+  wakes = r.wakes;
+  clock = true;
+  clock_events = is_any until;
+}
 
 -- the ids of a set that aren't in another
 abbrev pub less : List ℕ → List ℕ → List ℕ
 less ids others = ids_where (λ i. has ids i && not (has others i))
+
+-- no seat is woken
+abbrev pub none_woken : Woken
+none_woken = record { harts = []; clock = false }
 
 -- these seats rest no more
 abbrev pub awake : Rests → Woken → Rests
@@ -105,6 +116,9 @@ IsPause Last old new a seen = (old.ended ≡ false) × (length old.board.past �
 -- has come.
 abbrev pub IsPauseFor : Pause → (old new : Held) → Actor → Awaits → (now : Option HartNow) → Type 0
 IsPauseFor (Over rest.AllRest) old new a awaits now = (old.ended ≡ true) × (new ≡ old)
-IsPauseFor (Over rest.Changed) old new a awaits now = (old.ended ≡ false) × (has_come_to awaits now ≡ true) × (new ≡ old)
-IsPauseFor Waits old new a awaits now = (old.ended ≡ false) × (has_come_to awaits now ≡ false) × IsStay Waits old new a (For awaits)
-IsPauseFor Last old new a awaits now = (old.ended ≡ false) × (has_come_to awaits now ≡ false) × IsStay Last old new a (For awaits)
+IsPauseFor (Over rest.Changed) old new a awaits now = (old.ended ≡ false) × (has_come_to awaits now ≡ true)
+    × (new ≡ old)
+IsPauseFor Waits old new a awaits now = (old.ended ≡ false) × (has_come_to awaits now ≡ false)
+    × IsStay Waits old new a (For awaits)
+IsPauseFor Last old new a awaits now = (old.ended ≡ false) × (has_come_to awaits now ≡ false)
+    × IsStay Last old new a (For awaits)

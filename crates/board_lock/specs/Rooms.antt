@@ -1,6 +1,6 @@
 -- Rooms: what ties seats, receipts and a record to their board.
 use Rattle.std.specs.Prelude.{ℕ}
-use Rattle.board_core.specs.declared.config.Config.{Config}
+use Rattle.board_terms.specs.declared.config.Config.{Config}
 
 -- The numbers of the board that will be behind the lock, and the names under which its events are counted and kept.
 pub record Place : Type 0 where

@@ -1,7 +1,7 @@
 -- Splits: why the board of a record can't go on.
 use Rattle.std.specs.Prelude.{nat_lt, if◌then◌else◌}
-use Rattle.board_core.specs.declared.config.BuildFault.{BuildFault}
-use Rattle.board_core.specs.declared.config.BuildFault.TheVariants.{CutFull, NoMemory}
+use Rattle.board_terms.specs.declared.config.BuildFault.{BuildFault}
+use Rattle.board_terms.specs.declared.config.BuildFault.TheVariants.{CutFull, NoMemory}
 use Rattle.board_core.specs.Course.{Course}
 use Rattle.board_core.specs.Cuts.{last_cut}
 use Rattle.board_core.specs.Opening.{place_after}

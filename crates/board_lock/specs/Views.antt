@@ -1,12 +1,12 @@
 -- What a thread sees of its hart, and what it is answered: by the events that its seat saw last.
 use Rattle.std.specs.Prelude.{◌≡◌, ◌≢◌, ◌⊎◌, ℕ, List, reverse, length, Option, Some, None, Ok, Err}
 use mathlib.Core.List.{IsPrefix}
-use Rattle.board_core.specs.declared.event.Actor.{Actor}
-use Rattle.board_core.specs.declared.event.Actor.TheVariants.{Hart, Clock}
-use Rattle.board_core.specs.declared.event.Op.{Op}
-use Rattle.board_core.specs.declared.event.Refusal.{Refusal}
-use Rattle.board_core.specs.declared.event.Refusal.TheVariants.{WrongPhase}
-use Rattle.board_core.specs.declared.event.Reply.{Reply}
+use Rattle.board_terms.specs.declared.op.Actor.{Actor}
+use Rattle.board_terms.specs.declared.op.Actor.TheVariants.{Hart, Clock}
+use Rattle.board_terms.specs.declared.op.Op.{Op}
+use Rattle.board_terms.specs.declared.reply.Refusal.{Refusal}
+use Rattle.board_terms.specs.declared.reply.Refusal.TheVariants.{WrongPhase}
+use Rattle.board_terms.specs.declared.reply.Reply.{Reply}
 use Rattle.board_core.specs.Course.{Course}
 use Rattle.board_core.specs.Fences.{outstanding, waiting}
 use Rattle.board_core.specs.History.{Event}
@@ -47,7 +47,8 @@ pub record IsView (o : Opening) (s : Sitting) (v : HartView) : Type 0 where
 -- A seat's call was refused: as the board refuses it after the events that the seat saw; or the seat's count isn't that of its
 -- actor's events there.
 abbrev pub IsRefused : Opening → Sitting → Op → Refusal → Type 0
-IsRefused o s op r = (answer o (reverse s.saw) s.actor op ≡ Err r) ⊎ ((length (events_of s.actor s.saw) ≢ s.count) × (r ≡ WrongPhase))
+IsRefused o s op r = (answer o (reverse s.saw) s.actor op ≡ Err r)
+    ⊎ ((length (events_of s.actor s.saw) ≢ s.count) × (r ≡ WrongPhase))
 
 -- A seat's call was accepted: it was answered as the board answers after some events, no fewer than the seat had seen, and
 -- the seat saw these and its own after them.

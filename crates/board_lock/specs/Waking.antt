@@ -11,8 +11,8 @@ use Rattle.sbi_abi.specs.declared.call.rfence.RfenceCall.TheVariants.{RemoteFenc
 use Rattle.sbi_abi.specs.Calls.{call_of}
 use Rattle.hart_mask.specs.HartList.{targets_of}
 use Rattle.hart_mask.specs.Ids.{has, ids_below, ids_where, with_id}
-use Rattle.board_core.specs.declared.event.Op.{Op}
-use Rattle.board_core.specs.declared.event.Op.TheVariants.{Ecall, Serve, Tick}
+use Rattle.board_terms.specs.declared.op.Op.{Op}
+use Rattle.board_terms.specs.declared.op.Op.TheVariants.{Ecall, Serve, Tick}
 use Rattle.board_core.specs.Course.{Course}
 use Rattle.board_core.specs.Fences.{outstanding, waiting}
 use Rattle.board_core.specs.Interrupts.{wake}
@@ -85,6 +85,7 @@ comes_to d h = has_come (if has d.rests.wakes h then Wake else Firmware) (now_of
 abbrev pub woken : Held → Op → Woken
 woken d op = record {
   harts = ids_where (λ h. has d.rests.harts h
-      && (has d.rests.events h || (has d.rests.turns h && (has (concerned d.board.opening.config.harts op) h && comes_to d h))));
+      && (has d.rests.events h ||
+      (has d.rests.turns h && (has (concerned d.board.opening.config.harts op) h && comes_to d h))));
   clock = d.rests.clock && d.rests.clock_events;
 }

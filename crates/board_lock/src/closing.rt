@@ -1,8 +1,9 @@
+//! How a board comes back from behind its lock, with all seats.
 ghost use Rattle.std.specs.Prelude.{◌≡◌, ◌+◌, ◌↔◌, ℕ, All, IsTrue, length};
 ghost use mathlib.Core.List.{IsPrefix};
-ghost use Rattle.board_core.specs.declared.config.Config.{Config};
+ghost use Rattle.board_terms.specs.declared.config.Config.{Config};
 ghost use Rattle.board_core.specs.Replies.{IsLegal};
-ghost use Rattle.board_core.specs.Limits.{IsGood};
+ghost use Rattle.board_terms.specs.Limits.{IsGood};
 ghost use Rattle.board_lock.specs.Events.{events_in, events_of, ops_of};
 ghost use Rattle.board_lock.specs.Seats.{IsOneEach, seats_of};
 

@@ -1,13 +1,15 @@
+//! What the lock holds, and what is done under it.
 ghost use Rattle.std.specs.Prelude.{◌≡◌, ◌+◌, ◌<◌, ◌∷◌, ◌++◌, [], IfOk, IfErr, OnOk, OnErr, Ok, length, false, true};
 ghost use mathlib.Core.List.{IsPrefix};
 ghost use Rattle.board_core.specs.Replies.{answer, stepped};
 ghost use Rattle.board_lock.specs.Events.{IsActor, events_in};
-ghost use Rattle.board_lock.specs.Kept.{number_of};
+ghost use Rattle.board_lock.specs.Kept.{IsTold, number_of};
+ghost use Rattle.board_lock.specs.Receipts.{told};
 ghost use Rattle.board_lock.specs.Rests.{IsPause, IsPauseFor, IsStay, held};
 ghost use Rattle.board_lock.specs.Seats.{seeing};
 ghost use Rattle.board_lock.specs.Views.{IsDone, IsRefused, IsView, Shows};
 
-use crate::receipts::Receipt;
+use crate::receipts::Answered;
 use crate::rests::{Awaits, Rest, Rests, Until};
 use crate::rooms::Room;
 use crate::seats::Seat;
@@ -15,7 +17,7 @@ use crate::views::{HartNow, HartView};
 use crate::waking::has_come;
 use board_core::{Actor, Board, Event, Op, Refusal};
 use chronicle::Chronicle;
-use std::marker::{Model, PhantomData};
+use std::marker::Model;
 use std::sync::ledger::{Book, Share};
 
 /// What the lock holds: the board, and beside it how many events each actor has, and who rests.
@@ -31,15 +33,15 @@ pub(crate) struct Desk<K: Room> {
 }
 
 impl<K: Room> Model for Desk<K> {
-    ghost use Rattle.board_lock.specs.Kept.{IsDesk};
+    ghost use Rattle.board_lock.specs.Kept.{IsDesk, tally};
     ghost use Rattle.board_lock.specs.Rests.{Held, held};
 
     ghost Value = { Held };
 
     ghost view = { λ d. held d.board d.rests d.ended };
 
-    ghost invariant = { λ d. IsDesk K.opening K.log d.board d.counts.items d.rests d.book.total d.left.parts d.left.amount
-        d.log.name d.log.list };
+    ghost invariant = { λ d. IsDesk K.opening K.log d.board d.rests
+        (tally d.counts.items d.book.total d.left.parts d.left.amount) d.log };
 }
 
 /// What comes of a seat that would rest.
@@ -54,17 +56,21 @@ pub(crate) enum Pause {
 }
 
 impl<K: Room> Desk<K> {
-    /// One step of the seat's actor, and a receipt for it.
-    pub(crate) fn call(&mut self, seat: &mut Seat<K>, op: Op) -> Result<Receipt<K>, Refusal>
-        ensures receipt { IfOk result (λ r. (r.actor ≡ seat.old.actor) × (r.op ≡ op) × (r.ordinal ≡ seat.old.count)) }
-        ensures reply { IfOk result (λ r. answer self.old.board.opening self.old.board.past seat.old.actor op ≡ Ok r.reply) }
-        ensures after { OnOk result (self.new ≡ held (stepped self.old.board seat.old.actor op) self.old.rests self.old.ended) }
+    /// One step of the seat's actor, and what a receipt for it needs of the lock.
+    pub(crate) fn call(&mut self, seat: &mut Seat<K>, op: &Op) -> Result<Answered, Refusal>
+        ensures told { IfOk result (λ r. IsTold K.opening.places K.log
+            (told seat.old.actor seat.old.count r.place op.now r.reply) r.seen) }
+        ensures reply { IfOk result
+            (λ r. answer self.old.board.opening self.old.board.past seat.old.actor op.now ≡ Ok r.reply) }
+        ensures after { OnOk result
+            (self.new ≡ held (stepped self.old.board seat.old.actor op.now) self.old.rests self.old.ended) }
         ensures actor { seat.new.actor ≡ seat.old.actor }
         ensures accepted { OnOk result (seat.new.count ≡ seat.old.count + 1) }
-        ensures ops { OnOk result (seat.new.ops ≡ seat.old.ops ++ op ∷ []) }
-        ensures done { IfOk result (λ r. IsDone K.opening seat.old seat.new op r.reply) }
-        ensures refused { OnErr result ((seat.new ≡ seeing seat.old (events_in self.old.board)) × (self.new ≡ self.old)) }
-        ensures refusal { IfErr result (λ r. IsRefused K.opening seat.new op r) }
+        ensures ops { OnOk result (seat.new.ops ≡ seat.old.ops ++ op.now ∷ []) }
+        ensures done { IfOk result (λ r. IsDone K.opening seat.old seat.new op.now r.reply) }
+        ensures refused { OnErr result
+            ((seat.new ≡ seeing seat.old (events_in self.old.board)) × (self.new ≡ self.old)) }
+        ensures refusal { IfErr result (λ r. IsRefused K.opening seat.new op.now r) }
         ensures later { IsPrefix seat.old.saw seat.new.saw }
         ensures now { seat.new.saw ≡ events_in self.new.board }
     {
@@ -75,44 +81,40 @@ impl<K: Room> Desk<K> {
         }
         let place = self.board.place();
         let index = self.board.history().len();
-        let reply = self.board.step(seat.actor, op)?;
+        let reply = self.board.step(seat.actor, *op)?;
         self.log.push(&self.board.history()[index]);
         self.counts[number] += 1;
         self.book.add(&mut seat.share, 1);
-        let ordinal = seat.count;
         seat.count += 1;
         seat.seen = self.log.glimpse();
         seat.saw = self.log.glimpse();
-        Ok(Receipt {
-            actor: seat.actor,
-            ordinal,
+        Ok(Answered {
             place,
-            op,
             reply,
             seen: self.log.glimpse(),
-            room: PhantomData,
         })
     }
 
-    /// One step of the seat's actor, a receipt for it, and what the seat's hart may do next.
+    /// One step of the seat's actor, what a receipt for it needs of the lock, and what the seat's hart may do next.
     pub(crate) fn call_and_view(
         &mut self,
         seat: &mut Seat<K>,
-        op: Op,
-    ) -> Result<(Receipt<K>, HartView), Refusal>
-        ensures receipt { IfOk result (λ r. (r.0.actor ≡ seat.old.actor) × (r.0.op ≡ op) × (r.0.ordinal ≡ seat.old.count)) }
+        op: &Op,
+    ) -> Result<(Answered, HartView), Refusal>
+        ensures told { IfOk result (λ r. IsTold K.opening.places K.log
+            (told seat.old.actor seat.old.count r.0.place op.now r.0.reply) r.0.seen) }
         ensures view { IfOk result (λ r. IsView K.opening seat.new r.1) }
         ensures actor { seat.new.actor ≡ seat.old.actor }
         ensures accepted { OnOk result (seat.new.count ≡ seat.old.count + 1) }
-        ensures ops { OnOk result (seat.new.ops ≡ seat.old.ops ++ op ∷ []) }
-        ensures done { IfOk result (λ r. IsDone K.opening seat.old seat.new op r.0.reply) }
+        ensures ops { OnOk result (seat.new.ops ≡ seat.old.ops ++ op.now ∷ []) }
+        ensures done { IfOk result (λ r. IsDone K.opening seat.old seat.new op.now r.0.reply) }
         ensures refused { OnErr result (seat.new ≡ seeing seat.old seat.new.saw) }
-        ensures refusal { IfErr result (λ r. IsRefused K.opening seat.new op r) }
+        ensures refusal { IfErr result (λ r. IsRefused K.opening seat.new op.now r) }
         ensures later { IsPrefix seat.old.saw seat.new.saw }
     {
-        let receipt = self.call(seat, op)?;
+        let answered = self.call(seat, op)?;
         let view = self.view(seat);
-        Ok((receipt, view))
+        Ok((answered, view))
     }
 
     /// The seat looks at the events as they are now.

@@ -1,6 +1,7 @@
+//! How a board comes behind a lock, with new seats.
 ghost use Rattle.std.specs.Prelude.{◌≡◌, ◌+◌, ◌<◌, ◌≤◌, [], IfErr, IfOk, OnOk, replicate};
-ghost use Rattle.board_core.specs.declared.config.BuildFault.TheVariants.{NoMemory};
-ghost use Rattle.board_core.specs.Limits.{IsGood};
+ghost use Rattle.board_terms.specs.declared.config.BuildFault.TheVariants.{NoMemory};
+ghost use Rattle.board_terms.specs.Limits.{IsGood};
 ghost use Rattle.board_lock.specs.Events.{IsActor};
 ghost use Rattle.board_lock.specs.Seats.{new_seats, sitting};
 

@@ -1,5 +1,6 @@
+//! What a record leaves behind where it is split: receipts stand in it on.
 ghost use Rattle.std.specs.Prelude.{◌≡◌, ℕ, ◌+◌, ◌≤◌, Some, slice_get, length};
-ghost use Rattle.board_core.specs.Limits.{IsGood};
+ghost use Rattle.board_terms.specs.Limits.{IsGood};
 ghost use Rattle.board_core.specs.Replies.{IsLegal};
 ghost use Rattle.board_lock.specs.Events.{IsPlaced, events_in, placed_of};
 
@@ -28,7 +29,7 @@ impl<K: Room> Model for Past<K> {
 
     ghost view = { λ p. record { opening = p.segment.opening; past = reverse p.segment.events.items } };
 
-    ghost invariant = { λ p. IsPast K.opening K.log p.segment.opening p.segment.events.items p.log.name p.log.list };
+    ghost invariant = { λ p. IsPast K.opening K.log p.segment.opening p.segment.events.items p.log };
 }
 
 impl<K: Room> Past<K> {

@@ -1,9 +1,42 @@
+//! What an accepted call is told.
 ghost use Rattle.std.specs.Prelude.{◌≡◌};
+ghost use Rattle.board_lock.specs.Kept.{IsTold};
+ghost use Rattle.board_lock.specs.Receipts.{told};
 
 use crate::rooms::Room;
 use board_core::{Actor, Event, Op, Reply};
 use chronicle::Glimpse;
 use std::marker::{Model, PhantomData};
+
+/// What the lock alone can tell of an accepted call: the rest of its receipt the caller has, and adds when the lock is free.
+#[derive(Drop)]
+pub(crate) struct Answered {
+    /// How many events of the board were accepted before it.
+    pub(crate) place: u64,
+    /// What was answered.
+    pub(crate) reply: Reply,
+    /// The events up to its own.
+    pub(crate) seen: Glimpse<Event>,
+}
+
+impl Answered {
+    /// The receipt of the call that was answered so: who made it, how many of its seat's calls came before, and what it asked.
+    pub(crate) fn receipt<K: Room>(self, actor: Actor, ordinal: u64, op: Op) -> Receipt<K>
+        requires told { IsTold K.opening.places K.log (told actor ordinal self.place op self.reply) self.seen }
+        ensures receipt { result ≡ told actor ordinal self.place op self.reply }
+    {
+        let Answered { place, reply, seen } = self;
+        Receipt {
+            actor,
+            ordinal,
+            place,
+            op,
+            reply,
+            seen,
+            room: PhantomData,
+        }
+    }
+}
 
 /// What an accepted call is told. It stays true of the record.
 #[derive(Drop)]
@@ -19,13 +52,13 @@ pub struct Receipt<K: Room> {
 
 impl<K: Room> Model for Receipt<K> {
     ghost use Rattle.board_lock.specs.Kept.{IsTold};
-    ghost use Rattle.board_lock.specs.Receipts.{Told};
+    ghost use Rattle.board_lock.specs.Receipts.{Told, told};
 
     ghost Value = { Told };
 
-    ghost view = { λ r. record { actor = r.actor; ordinal = r.ordinal; place = r.place; op = r.op; reply = r.reply } };
+    ghost view = { λ r. told r.actor r.ordinal r.place r.op r.reply };
 
-    ghost invariant = { λ r. IsTold K.opening.places K.log r.actor r.ordinal r.place r.op r.reply r.seen.name r.seen.list };
+    ghost invariant = { λ r. IsTold K.opening.places K.log (told r.actor r.ordinal r.place r.op r.reply) r.seen };
 }
 
 impl<K: Room> Receipt<K> {

@@ -1,8 +1,9 @@
+//! The one record of a closed board, in which receipts are looked up.
 ghost use Rattle.std.specs.Prelude.{◌≡◌, ℕ, ◌+◌, ◌<◌, ◌≤◌, List, [], IfOk, IfErr, IsErr, OnOk, Some, slice_get, length};
 ghost use Rattle.board_core.specs.Cuts.{IsUnseen, last_cut, opening_of};
-ghost use Rattle.board_core.specs.declared.event.Actor.{Actor};
+ghost use Rattle.board_terms.specs.declared.op.Actor.{Actor};
 ghost use Rattle.board_core.specs.History.{Event};
-ghost use Rattle.board_core.specs.Limits.{IsGood};
+ghost use Rattle.board_terms.specs.Limits.{IsGood};
 ghost use Rattle.board_core.specs.Opening.{place_after};
 ghost use Rattle.board_core.specs.Replies.{IsLegal};
 ghost use Rattle.board_lock.specs.Events.{IsPlaced, events_from, events_in, placed_of};
@@ -33,7 +34,7 @@ impl<K: Room> Model for Record<K> {
 
     ghost view = { λ r. r.board };
 
-    ghost invariant = { λ r. IsRecord K.opening K.log r.board r.log.name r.log.list };
+    ghost invariant = { λ r. IsRecord K.opening K.log r.board r.log };
 }
 
 impl<K: Room> Record<K> {
@@ -109,7 +110,7 @@ pub(crate) fn find<'a, K: Room>(
     receipt: &Receipt<K>,
 ) -> &'a Event
     requires first { first ≡ K.opening.places }
-    requires log { IsKeptLog K.log log.now.name log.now.list events.now }
+    requires log { IsKeptLog K.log log.now events.now }
     ensures told { (result.now.actor ≡ receipt.now.actor) × (result.now.op ≡ receipt.now.op)
         × (result.now.reply ≡ receipt.now.reply) }
     ensures place { (index : ℕ) × (receipt.now.place ≡ first + index) × (slice_get events.now index ≡ Some result.now) }
@@ -124,5 +125,6 @@ pub(crate) fn find<'a, K: Room>(
 /// the later place. A law: there is nothing to run.
 pub fn later_calls_are_later()
     ensures { (first : ℕ) (a : Actor) (es : List Event) (k l p q : ℕ) (e f : Event) → k < l →
-        slice_get (events_from first a es) k ≡ Some (p, e) → slice_get (events_from first a es) l ≡ Some (q, f) → p < q }
+        slice_get (events_from first a es) k ≡ Some (p, e) → slice_get (events_from first a es) l ≡ Some (q, f)
+        → p < q }
 {}

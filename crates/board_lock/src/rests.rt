@@ -1,5 +1,6 @@
-ghost use Rattle.std.specs.Prelude.{◌≡◌, ◌↔◌, ℕ, ◌<◌, ◌≤◌, IsTrue};
-ghost use Rattle.board_core.specs.declared.event.Actor.TheVariants.{Hart};
+//! Who rests, and for what.
+ghost use Rattle.std.specs.Prelude.{◌≡◌, ◌↔◌, ℕ, ◌<◌, ◌≤◌, [], IsTrue, false};
+ghost use Rattle.board_terms.specs.declared.op.Actor.TheVariants.{Hart};
 ghost use Rattle.hart_mask.specs.Ids.{IsIdSet};
 ghost use Rattle.board_lock.specs.Rests.{AllRest, IsRests, awake, for_turn, for_wake, is_any, less, none_rest, resting};
 
@@ -84,6 +85,7 @@ pub(crate) struct Woken {
 }
 
 impl Rests {
+    /// Nobody rests.
     pub(crate) fn new() -> Rests
         ensures { result ≡ none_rest }
     {
@@ -123,6 +125,13 @@ impl Rests {
     {
         self.harts = less(self.harts, woken.harts);
         self.clock = self.clock && !woken.clock;
+    }
+
+    /// Whether no seat rests.
+    pub(crate) fn is_none(&self) -> bool
+        ensures { IsTrue result ↔ (self.now.harts ≡ []) × (self.now.clock ≡ false) }
+    {
+        self.harts.is_empty() && !self.clock
     }
 
     /// Whether so many harts rest, and the clock.

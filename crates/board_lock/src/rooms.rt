@@ -1,3 +1,4 @@
+//! The names under which a board, its seats and its ledger belong together.
 ghost use Rattle.std.specs.Prelude.{◌≡◌};
 
 use board_core::{Config, Event};
@@ -48,12 +49,17 @@ pub struct NewRoom {
 
 impl Model for NewRoom {
     ghost use Rattle.std.specs.Prelude.{◌≡◌, ◌+◌, []};
-    ghost use Rattle.board_core.specs.Limits.{IsGood};
+    ghost use Rattle.board_terms.specs.Limits.{IsGood};
     ghost use Rattle.board_lock.specs.Rooms.{Place};
 
     ghost Value = { Place };
 
-    ghost view = { λ r. record { config = r.config; ledger = r.ledger.name; parts = r.ledger.parts; log = r.log.name } };
+    ghost view = { λ r. record {
+      config = r.config;
+      ledger = r.ledger.name;
+      parts = r.ledger.parts;
+      log = r.log.name;
+    } };
 
     ghost invariant = { λ r. (r.log.list ≡ []) × (IsGood r.config → r.ledger.parts ≡ r.config.harts + 1) };
 }

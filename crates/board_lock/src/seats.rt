@@ -1,3 +1,4 @@
+//! The right of one actor to make calls.
 ghost use Rattle.std.specs.Prelude.{◌≡◌};
 ghost use Rattle.board_lock.specs.Events.{IsActor};
 
@@ -21,15 +22,15 @@ pub struct Seat<K: Room> {
 
 impl<K: Room> Model for Seat<K> {
     ghost use Rattle.board_lock.specs.Events.{ops_of};
-    ghost use Rattle.board_lock.specs.Kept.{IsSeated};
+    ghost use Rattle.board_lock.specs.Kept.{IsSeated, counter};
     ghost use Rattle.board_lock.specs.Seats.{Sitting, sitting};
 
     ghost Value = { Sitting };
 
     ghost view = { λ s. sitting s.actor s.count (ops_of s.actor s.seen.list) s.saw.list };
 
-    ghost invariant = { λ s. IsSeated K.opening.config K.log s.actor s.count s.share.parts s.share.amount s.seen.name s.seen.list
-        s.saw.name s.saw.list };
+    ghost invariant = { λ s. IsSeated K.opening.config K.log
+        (counter s.actor s.count s.share.parts s.share.amount) s.seen s.saw };
 }
 
 impl<K: Room> Seat<K> {

@@ -1,7 +1,8 @@
+//! The board behind its lock, for threads.
 ghost use Rattle.std.specs.Prelude.{◌≡◌, ◌≢◌, ◌⊎◌, ℕ, ◌+◌, ◌<◌, ◌≤◌, ◌↔◌, ◌∷◌, ◌++◌, [], All, IfOk, IfErr, IfSome, IsOk, IsErrOf, OnOk, OnErr, length, true};
 ghost use mathlib.Core.List.{IsPrefix};
-ghost use Rattle.board_core.specs.declared.config.BuildFault.TheVariants.{BadConfig, NoMemory};
-ghost use Rattle.board_core.specs.Limits.{IsGood};
+ghost use Rattle.board_terms.specs.declared.config.BuildFault.TheVariants.{BadConfig, NoMemory};
+ghost use Rattle.board_terms.specs.Limits.{IsGood};
 ghost use Rattle.board_core.specs.Opening.{opening_at};
 ghost use Rattle.board_core.specs.Replies.{IsLegal};
 ghost use Rattle.hart_mask.specs.Ids.{has};
@@ -101,6 +102,7 @@ impl<K: Room> SharedBoard<K> {
     /// One step of the seat's actor: a receipt for the event that it records, or a refusal that leaves all as it was. Either is
     /// the board's own answer after the events that there were at this moment, which the seat has seen since. The lock is held
     /// for this one step alone.
+    #[inline(always)]
     pub fn call(&self, rt: &impl Wait, seat: &mut Seat<K>, op: Op) -> Result<Receipt<K>, Refusal>
         ensures receipt { IfOk result (λ r. (r.actor ≡ seat.old.actor) × (r.op ≡ op) × (r.ordinal ≡ seat.old.count)) }
         ensures actor { seat.new.actor ≡ seat.old.actor }
@@ -111,21 +113,25 @@ impl<K: Room> SharedBoard<K> {
         ensures refusal { IfErr result (λ r. IsRefused K.opening seat.new op r) }
         ensures later { IsPrefix seat.old.saw seat.new.saw }
     {
+        let (actor, ordinal) = (seat.actor(), seat.count());
         let mut desk = self.desk.lock(rt);
-        let told = desk.call(seat, op);
-        self.let_go(desk, op, told.is_ok());
-        told
+        let told = desk.call(seat, &op);
+        self.let_go(desk, &op, told.is_ok());
+        let answered = told?;
+        Ok(answered.receipt(actor, ordinal, op))
     }
 
     /// As `call`, and with the receipt what the seat's hart may do next, after the event that it records. The lock is held once
     /// for both.
+    #[inline(always)]
     pub fn call_and_view(
         &self,
         rt: &impl Wait,
         seat: &mut Seat<K>,
         op: Op,
     ) -> Result<(Receipt<K>, HartView), Refusal>
-        ensures receipt { IfOk result (λ r. (r.0.actor ≡ seat.old.actor) × (r.0.op ≡ op) × (r.0.ordinal ≡ seat.old.count)) }
+        ensures receipt { IfOk result
+            (λ r. (r.0.actor ≡ seat.old.actor) × (r.0.op ≡ op) × (r.0.ordinal ≡ seat.old.count)) }
         ensures view { IfOk result (λ r. IsView K.opening seat.new r.1) }
         ensures actor { seat.new.actor ≡ seat.old.actor }
         ensures accepted { OnOk result (seat.new.count ≡ seat.old.count + 1) }
@@ -135,14 +141,16 @@ impl<K: Room> SharedBoard<K> {
         ensures refusal { IfErr result (λ r. IsRefused K.opening seat.new op r) }
         ensures later { IsPrefix seat.old.saw seat.new.saw }
     {
+        let (actor, ordinal) = (seat.actor(), seat.count());
         let mut desk = self.desk.lock(rt);
-        let told = desk.call_and_view(seat, op);
-        self.let_go(desk, op, told.is_ok());
-        told
+        let told = desk.call_and_view(seat, &op);
+        self.let_go(desk, &op, told.is_ok());
+        let (answered, view) = told?;
+        Ok((answered.receipt(actor, ordinal, op), view))
     }
 
     /// Lets go of the lock, and wakes those whose rest the operation ends where it was accepted.
-    fn let_go(&self, desk: MutexGuard<'_, Desk<K>>, op: Op, has_more: bool) {
+    fn let_go(&self, desk: MutexGuard<'_, Desk<K>>, op: &Op, has_more: bool) {
         let mut desk = desk;
         if has_more {
             let woken = desk.wake(op);

@@ -1,3 +1,4 @@
+//! What a hart may do next, as its seat sees it.
 use board_core::{HartSet, HartState};
 
 /// What a thread sees of its hart between two calls. It is a hint: by the time that it is looked at, other threads' calls may

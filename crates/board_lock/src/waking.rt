@@ -2,7 +2,7 @@
 
 ghost use Rattle.std.specs.Prelude.{◌≡◌, ℕ, ◌<◌, ◌≤◌, ◌&&◌, true};
 ghost use Rattle.hart_mask.specs.Ids.{has, ids_where};
-ghost use Rattle.board_lock.specs.Rests.{awake, held};
+ghost use Rattle.board_lock.specs.Rests.{awake, held, none_woken};
 ghost use Rattle.board_lock.specs.Coming.{has_come, has_turn, has_wake};
 ghost use Rattle.board_lock.specs.Waking.{alone, comes_to, concerned, concerned_by, named, named_by, woken};
 
@@ -17,11 +17,14 @@ use sbi_abi::{Call, decode};
 
 impl<K: Room> Desk<K> {
     /// There is another event, of this operation: the seats whose rest it ends rest no more. No event happens.
-    pub(crate) fn wake(&mut self, op: Op) -> Woken
-        ensures answer { result ≡ woken self.old op }
+    pub(crate) fn wake(&mut self, op: &Op) -> Woken
+        ensures answer { result ≡ woken self.old op.now }
         ensures left { self.new ≡ held self.old.board (awake self.old.rests result) self.old.ended }
         ensures below { (h : ℕ) → has result.harts h ≡ true → h < K.opening.config.harts }
     {
+        if self.rests.is_none() {
+            return Woken::none();
+        }
         let rests = self.rests;
         let turns = rests.harts.intersection(rests.turns);
         let concerned = concerned(op, self.board.config().harts);
@@ -63,6 +66,18 @@ impl<K: Room> Desk<K> {
     }
 }
 
+impl Woken {
+    /// No seat is woken.
+    fn none() -> Woken
+        ensures { result ≡ none_woken }
+    {
+        Woken {
+            harts: HartSet::new(),
+            clock: false,
+        }
+    }
+}
+
 /// Whether what a hart's seat waits for has come.
 pub(crate) fn has_come(awaits: Awaits, now: &HartNow) -> bool
     ensures { result ≡ has_come awaits now.now }
@@ -95,12 +110,12 @@ fn has_wake(now: &HartNow) -> bool
 }
 
 /// The harts whose seats an operation may concern, besides that of its actor, on a board of so many.
-fn concerned(op: Op, harts: u64) -> HartSet
+fn concerned(op: &Op, harts: u64) -> HartSet
     requires { harts ≤ 128 }
-    ensures { result ≡ concerned harts op }
+    ensures { result ≡ concerned harts op.now }
 {
     match op {
-        Op::Ecall(regs) => concerned_by(decode(&regs), harts),
+        Op::Ecall(regs) => concerned_by(decode(regs), harts),
         Op::Serve | Op::Tick(_) => HartSet::below(harts),
         _ => HartSet::new(),
     }

@@ -1,5 +1,5 @@
 use Rattle.std.proofs.Common.{◌≡◌, ℕ, ◌<◌}
-use Rattle.board_core.specs.declared.event.Actor.TheVariants.{Hart}
+use Rattle.board_terms.specs.declared.op.Actor.TheVariants.{Hart}
 use Rattle.board_lock.specs.Seats.{seats_of}
 use Rattle.board_lock.proofs.closing.is_one_each.Given as goal
 

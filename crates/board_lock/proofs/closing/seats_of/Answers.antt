@@ -1,9 +1,9 @@
 use Rattle.std.proofs.Common.{◌≡◌, ℕ, ◌+◌, Bool, take, refl, sym, ap, ◌∙◌, rules, arith}
 use Rattle.std.specs.Prelude.{if◌then◌else◌}
 use Rattle.std.proofs.lemmas.List.{length-take}
-use Rattle.board_core.specs.declared.event.Actor.{Actor}
-use Rattle.board_core.specs.declared.event.Actor.TheVariants.{Hart, Clock}
-use Rattle.board_core.specs.contracts.event.ActorPartialEq.TheImpl as derived
+use Rattle.board_terms.specs.declared.op.Actor.{Actor}
+use Rattle.board_terms.specs.declared.op.Actor.TheVariants.{Hart, Clock}
+use Rattle.board_terms.specs.contracts.op.ActorPartialEq.TheImpl as derived
 use Rattle.board_lock.specs.Events.{is_same}
 use Rattle.board_lock.specs.Seats.{Sitting, seats_of}
 use Rattle.board_lock.proofs.Sums.{seats-taken, seats_of-within}
@@ -31,7 +31,8 @@ loop-seat-preserved g c =
     let who : is_same s.actor c.args.actor ≡ c.eq.result = ap (λ (x : Sitting). is_same x.actor c.args.actor) (sym c.seat.view_is) ∙ sym told in
     let more = seats-taken c.args.actor c.args.seats.now c.loop-seat.seat-index s c.seat-item.is c.loop-seat-test.true in
     elim c.if-eq.branch [
-      | then-eq w ↦ w.many-is ∙ ap (λ (n : ℕ). n + 1) at ∙ sym (more ∙ ap (λ (b : Bool). seats_of c.args.actor (take c.loop-seat.seat-index c.args.seats.now) + (if b then 1 else 0)) (who ∙ w.if-eq.true))
+      | then-eq w ↦ w.many-is ∙ ap (λ (n : ℕ). n + 1) at
+          ∙ sym (more ∙ ap (λ (b : Bool). seats_of c.args.actor (take c.loop-seat.seat-index c.args.seats.now) + (if b then 1 else 0)) (who ∙ w.if-eq.true))
       | else-eq w ↦ w.many-is ∙ at
           ∙ sym (more ∙ ap (λ (b : Bool). seats_of c.args.actor (take c.loop-seat.seat-index c.args.seats.now) + (if b then 1 else 0)) (who ∙ w.if-eq.false) ∙ (omega arith))
     ]

@@ -21,7 +21,8 @@ loop-seat-preserved g c =
     let steps : into_iter_items at.seat-iterator ≡ s ∷ into_iter_items c.next.new.self = c.in-Some.ensures.steps.0 in
     let seen : sitting c.seat.inside.actor c.seat.inside.count (ops_of c.seat.inside.actor c.seat.inside.seen.list) c.seat.inside.saw.list ≡ s = c.seat.view_is in
     let prefix : IsPrefix c.seat.inside.seen.list c.close-log.result.list = c.begins_with.ensures in
-    let within : c.seat.inside.count ≤ count_of c.seat.inside.actor c.close-log.result.list = saw-within c.close-log.result.list c.seat.inside.seen.list c.seat.inside.actor c.seat.inside.count prefix c.seat.invariant.saw in
+    let within : c.seat.inside.count
+    ≤ count_of c.seat.inside.actor c.close-log.result.list = saw-within c.close-log.result.list c.seat.inside.seen.list c.seat.inside.actor c.seat.inside.count prefix c.seat.invariant.saw in
     let knows : c.seat.inside.count ≡ count_of c.seat.inside.actor c.close-log.result.list → ops_of c.seat.inside.actor c.close-log.result.list ≡ ops_of c.seat.inside.actor c.seat.inside.seen.list =
     λ all. ops-same c.seat.inside.actor c.seat.inside.seen.list c.close-log.result.list prefix (c.seat.invariant.saw ∙ all) in
     let looked : IsPrefix c.seat.inside.saw.list c.close-log.result.list × (c.seat.inside.count ≤ count_of c.seat.inside.actor c.seat.inside.saw.list) =
@@ -57,7 +58,8 @@ returns g c =
     record {
       opening = d.opened;
       legal = c.history-legal.ensures.legal;
-      counts = subst (λ (es : List Event). (k : ℕ) (x : Sitting) → k < length c.args.seats.items → length (events_of (get_or c.args.seats.items k x).actor es) ≡ (get_or c.args.seats.items k x).count) events
+      counts = subst (λ (es : List Event). (k : ℕ) (x : Sitting) → k < length c.args.seats.items → length (events_of (get_or c.args.seats.items k x).actor es) ≡ (get_or c.args.seats.items k x).count)
+          events
           (equal-at c.desk.inside.log.list c.args.seats.items equal);
       ops = subst (λ (es : List Event). (k : ℕ) (x : Sitting) → k < length c.args.seats.items → ops_of (get_or c.args.seats.items k x).actor es ≡ (get_or c.args.seats.items k x).ops) events
           (known-at c.desk.inside.log.list c.args.seats.items equal knows);

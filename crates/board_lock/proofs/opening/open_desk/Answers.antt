@@ -1,5 +1,5 @@
 use Rattle.std.proofs.Common.{◌≡◌, ◌+◌, List, [], replicate, ap, ◌∙◌}
-use Rattle.board_core.specs.declared.config.Config.{Config}
+use Rattle.board_terms.specs.declared.config.Config.{Config}
 use Rattle.board_core.specs.Course.{Course}
 use Rattle.board_core.specs.History.{Event}
 use Rattle.board_core.specs.Opening.{Opening}
@@ -19,5 +19,4 @@ invariant_of-desk g c =
     ap (λ (l : Chronicle Event). l.name) c.seats.ensures.log ∙ ap (λ (p : Place). p.log) c.room.view_is ∙ c.requires.room.1 in
     let empty : c.seats.new.log.list ≡ [] = ap (λ (l : Chronicle Event). l.list) c.seats.ensures.log ∙ c.room.invariant.0 in
     let zeros : c.in-Ok.counts.items ≡ replicate (opening.config.harts + 1) 0 = c.in-Ok.ensures ∙ ap (λ (now : Config). replicate (now.harts + 1) 0) same in
-    new-desk opening g.K.Room.log b c.in-Ok.counts.items c.new.result _ _ _ _ _ c.requires.good is
-    named empty c.open-book.ensures.total zeros c.new.ensures c.in-Ok-seats.ensures.left.0 c.in-Ok-seats.ensures.left.1
+    new-desk opening g.K.Room.log b _ _ c.seats.new.log c.requires.good is c.new.ensures zeros c.open-book.ensures.total c.in-Ok-seats.ensures.left.0 c.in-Ok-seats.ensures.left.1 named empty

@@ -1,6 +1,6 @@
 use Rattle.std.proofs.Common.{◌≡◌, ℕ, ◌++◌, ◌∷◌, [], ap, sym, ◌∙◌, arith}
 use Rattle.std.proofs.lemmas.List.FromFn.{map-range_with_len_more}
-use Rattle.board_core.specs.declared.event.Actor.TheVariants.{Hart}
+use Rattle.board_terms.specs.declared.op.Actor.TheVariants.{Hart}
 use Rattle.board_lock.specs.Seats.{Sitting, sitting}
 use Rattle.board_lock.proofs.opening.seats.Goals as goal
 

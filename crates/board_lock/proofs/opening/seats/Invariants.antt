@@ -1,6 +1,6 @@
 use Rattle.std.proofs.Common.{◌≡◌, ◌+◌, [], map}
 use Rattle.std.specs.List.{range_with_len}
-use Rattle.board_core.specs.declared.event.Actor.TheVariants.{Hart}
+use Rattle.board_terms.specs.declared.op.Actor.TheVariants.{Hart}
 use Rattle.board_lock.specs.Seats.{sitting}
 use Rattle.board_lock.proofs.opening.seats.Given as goal
 

@@ -1,5 +1,5 @@
 use Rattle.std.proofs.Common.{◌≡◌, ap, sym, subst, ◌∙◌}
-use Rattle.board_core.specs.declared.config.Config.{Config}
+use Rattle.board_terms.specs.declared.config.Config.{Config}
 use Rattle.board_core.specs.Opening.{Opening}
 use Rattle.board_lock.specs.Rests.{IsRests}
 use Rattle.board_lock.proofs.Resting.{desk-rests, one-rests}
@@ -16,10 +16,10 @@ pub invariant_of-self : goal.invariant_of-self
 invariant_of-self g c =
     let opening : Config = g.K.Room.opening.config in
     let rests = one-rests opening c.self.inside.rests c.args.actor c.args.until c.requires.acting c.self.invariant.at_rest in
-    desk-rests _ _ _ _ _ _ _ _ _ _ _ c.self.invariant (subst (IsRests opening.harts) (sym c.insert.ensures) rests)
+    desk-rests c.self.invariant (subst (IsRests opening.harts) (sym c.insert.ensures) rests)
 
 pub invariant_of-self-2 : goal.invariant_of-self-2
 invariant_of-self-2 g c =
     let opening : Config = g.K.Room.opening.config in
     let rests = one-rests opening c.self.inside.rests c.args.actor c.args.until c.requires.acting c.self.invariant.at_rest in
-    desk-rests _ _ _ _ _ _ _ _ _ _ _ c.self.invariant (subst (IsRests opening.harts) (sym c.insert.ensures) rests)
+    desk-rests c.self.invariant (subst (IsRests opening.harts) (sym c.insert.ensures) rests)

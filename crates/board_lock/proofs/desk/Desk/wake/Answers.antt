@@ -2,15 +2,28 @@ use Rattle.std.proofs.Common.{◌≡◌, ℕ, true, List, ap, subst, sym, ◌∙
 use Rattle.std.specs.Prelude.{◌&&◌, ◌||◌}
 use Rattle.hart_mask.specs.Ids.{has, ids_where, intersection_of, union_of}
 use Rattle.hart_mask.proofs.Sets.{passes-ids_where}
-use Rattle.board_core.specs.declared.config.Config.{Config}
-use Rattle.board_lock.specs.Rests.{Held, IsRests}
+use Rattle.board_terms.specs.declared.config.Config.{Config}
+use Rattle.board_lock.specs.Rests.{Held, IsRests, awake, held}
 use Rattle.board_lock.specs.Waking.{comes_to, concerned, woken}
 use Rattle.board_lock.specs.declared.rests.Rests.{Rests}
 use Rattle.board_lock.specs.declared.rests.Woken.{Woken}
-use Rattle.board_lock.proofs.Resting.{and-left, desk-rests, fewer-rest}
+use Rattle.board_lock.proofs.Resting.{and-left, desk-rests, fewer-rest, none-wakes, still-none}
 use Rattle.board_lock.proofs.Sifting.{of-both, waking, woken-of}
 use Rattle.board_lock.proofs.desk.Desk.wake.Goals as goal
 use Rattle.board_lock.proofs.desk.Desk.wake.Goals.{then-rests, else-rests}
+
+pub returns-then-is_none-clause-answer : goal.returns-then-is_none-clause-answer
+returns-then-is_none-clause-answer g c =
+    let d : Held = held c.self.inside.board c.self.inside.rests c.self.inside.ended in
+    let none = c.is_none.ensures.0 c.if-is_none.true in
+    c.none.ensures ∙ none-wakes d c.args.op.now none.0 none.1 ∙ ap (λ (x : Held). woken x c.args.op.now) c.self.view_is
+
+pub returns-then-is_none-clause-left : goal.returns-then-is_none-clause-left
+returns-then-is_none-clause-left g c =
+    let d : Held = held c.self.inside.board c.self.inside.rests c.self.inside.ended in
+    let none = c.is_none.ensures.0 c.if-is_none.true in
+    subst (λ (x : Held). x ≡ held x.board (awake x.rests c.none.result) x.ended) c.self.view_is
+    (still-none d none.0 none.1 ∙ ap (λ (w : Woken). held d.board (awake d.rests w) d.ended) (sym c.none.ensures))
 
 pub come_to-come-requires : goal.come_to-come-requires
 come_to-come-requires g c h there =
@@ -22,15 +35,15 @@ come_to-come-requires g c h there =
 pub invariant_of-self : goal.invariant_of-self
 invariant_of-self g c =
     let harts = g.K.Room.opening.config.harts in
-    desk-rests _ _ _ _ _ _ _ _ _ _ _ c.self.invariant
+    desk-rests c.self.invariant
     (subst (IsRests harts) (sym c.end.ensures) (fewer-rest harts c.self.inside.rests _ c.self.invariant.at_rest))
 
 pub returns-clause-answer : goal.returns-clause-answer
 returns-clause-answer g c =
     let r : Rests = c.self.inside.rests in
     let now : Held = c.args.self.now in
-    let who : List ℕ = concerned c.self.inside.board.opening.config.harts c.args.op in
-    let named : c.concerned-concerned.result ≡ who = c.concerned-concerned.ensures ∙ ap (λ (now : Config). concerned now.harts c.args.op) c.config.ensures.config in
+    let who : List ℕ = concerned c.self.inside.board.opening.config.harts c.args.op.now in
+    let named : c.concerned-concerned.result ≡ who = c.concerned-concerned.ensures ∙ ap (λ (now : Config). concerned now.harts c.args.op.now) c.config.ensures.config in
     let both : c.intersection.result ≡ intersection_of (intersection_of r.harts r.turns) who =
     c.intersection.ensures ∙ ap (λ (ids : List ℕ). intersection_of ids c.concerned-concerned.result) c.intersection-turns.ensures
     ∙ ap (intersection_of (intersection_of r.harts r.turns)) named in
@@ -44,17 +57,17 @@ returns-clause-answer g c =
       | else-rests w ↦ w.woken-is ∙ w.if-rests.false ∙ ap (λ b. b && r.clock_events) (sym w.if-rests.false)
     ] in
     let is : Woken = record { harts = c.union.result; clock = c.if-rests.woken } in
-    woken-of is (woken now c.args.op)
+    woken-of is (woken now c.args.op.now)
     (subst (λ (x : Held). c.union.result ≡ ids_where (λ h. has x.rests.harts h
-    && (has x.rests.events h || (has x.rests.turns h && (has (concerned x.board.opening.config.harts c.args.op) h && comes_to now h))))) c.self.view_is harts)
+    && (has x.rests.events h || (has x.rests.turns h && (has (concerned x.board.opening.config.harts c.args.op.now) h && comes_to now h))))) c.self.view_is harts)
     (subst (λ (x : Held). c.if-rests.woken ≡ (x.rests.clock && x.rests.clock_events)) c.self.view_is clock)
 
 pub returns-clause-below : goal.returns-clause-below
 returns-clause-below g c h there =
     let r : Rests = c.self.inside.rests in
     let now : Held = c.args.self.now in
-    let who : List ℕ = concerned c.self.inside.board.opening.config.harts c.args.op in
-    let named : c.concerned-concerned.result ≡ who = c.concerned-concerned.ensures ∙ ap (λ (now : Config). concerned now.harts c.args.op) c.config.ensures.config in
+    let who : List ℕ = concerned c.self.inside.board.opening.config.harts c.args.op.now in
+    let named : c.concerned-concerned.result ≡ who = c.concerned-concerned.ensures ∙ ap (λ (now : Config). concerned now.harts c.args.op.now) c.config.ensures.config in
     let both : c.intersection.result ≡ intersection_of (intersection_of r.harts r.turns) who =
     c.intersection.ensures ∙ ap (λ (ids : List ℕ). intersection_of ids c.concerned-concerned.result) c.intersection-turns.ensures
     ∙ ap (intersection_of (intersection_of r.harts r.turns)) named in

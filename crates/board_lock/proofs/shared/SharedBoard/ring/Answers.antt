@@ -1,5 +1,5 @@
 use Rattle.std.proofs.Common.{◌≡◌, ap, arith}
-use Rattle.board_core.specs.declared.config.Config.{Config}
+use Rattle.board_terms.specs.declared.config.Config.{Config}
 use Rattle.board_lock.proofs.Sifting.{below-rest, has-first}
 use Rattle.board_lock.proofs.shared.SharedBoard.ring.Goals as goal
 

@@ -1,6 +1,6 @@
 use Rattle.std.proofs.Common.{◌≡◌, ℕ, true, List, ap, subst, ◌∙◌}
 use Rattle.hart_mask.specs.Ids.{has, ids_below}
-use Rattle.board_core.specs.declared.config.Config.{Config}
+use Rattle.board_terms.specs.declared.config.Config.{Config}
 use Rattle.board_lock.proofs.Sifting.{below-ids}
 use Rattle.board_lock.proofs.shared.SharedBoard.ring_all.Goals as goal
 
