@@ -27,9 +27,9 @@ use Rattle.hart_access.specs.Operations.{kind_of}
 use Rattle.hart_access.specs.Ways.{fill_by, place_by, used_by, way, way_by}
 use Rattle.hart_access.proofs.Used.{place_of_used}
 use Rattle.board_core.specs.Accesses.{access_reply_of}
-use Rattle.board_core.specs.declared.config.Config.{Config}
+use Rattle.board_terms.specs.declared.config.Config.{Config}
 use Rattle.board_core.specs.Opening.{Opening}
-use Rattle.board_core.specs.declared.event.Reply.{Reply}
+use Rattle.board_terms.specs.declared.reply.Reply.{Reply}
 use Rattle.board_core.specs.History.{Event, access_op, using}
 use Rattle.board_core.specs.Fences.{turn_by, turns}
 use Rattle.board_core.specs.Memory.{act_by, address_by, entry_filling, filling_of, own_filling, satp_by, word_filling, writing_by, written_by}
@@ -107,7 +107,8 @@ module _ (c : Config) (memory : ℕ → Option ℕ) (w : Way) (va : ℕ) where
   stored_as words (Store value) = by_place (place_by memory w va (kind_of (Store value))) refl
     where
       by_place : (place : Result ℕ Cause) → place_by memory w va (kind_of (Store value)) ≡ place
-          → whole.stored_by memory place (Store value) ≡ written_by c (writing_by (access_op va (Store value)) (access_reply_of (Store value) (whole.answer_by memory words place (Store value))) (used_by w)) memory
+          → whole.stored_by memory place (Store value)
+          ≡ written_by c (writing_by (access_op va (Store value)) (access_reply_of (Store value) (whole.answer_by memory words place (Store value))) (used_by w)) memory
       by_place (Ok pa) is = ap (λ at. written memory at value) (place_of_used memory w va (kind_of (Store value)) pa is)
       by_place (Err cause) is = refl
   stored_as words Fetch = by_place (place_by memory w va (kind_of Fetch))

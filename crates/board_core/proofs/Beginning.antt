@@ -24,8 +24,8 @@ use Rattle.tlb_model.specs.declared.caches.Caches.{Caches}
 use Rattle.tlb_model.specs.Acts.{cache_after}
 use Rattle.tlb_model.specs.Entries.{covers_entry}
 use Rattle.tlb_model.specs.Words.{covers_word}
-use Rattle.board_core.specs.declared.config.Config.{Config}
-use Rattle.board_core.specs.Limits.{IsGood}
+use Rattle.board_terms.specs.declared.config.Config.{Config}
+use Rattle.board_terms.specs.Limits.{IsGood}
 use Rattle.board_core.specs.Interrupts.{deadline}
 use Rattle.board_core.specs.Memory.{caches_of, memory, satp}
 use Rattle.board_core.specs.Opening.{IsOpening, no_caches, opening_at, tlb_at, words_at}
@@ -83,8 +83,10 @@ module _ (c : Config) (good : IsGood c) where
     places = refl;
     waits = λ h some. absurd (let none : List (Asked Flush) = [] in let all = ap length (all-same c.harts h none) in omega arith);
     calls = λ h inside. absurd (let missing : Option (FenceCall Flush) = None in let none = sym (ap is_some (all-same c.harts h missing)) ∙ inside in cc);
-    entries_dated = λ h. All-same (λ (x : Numbered Entry). x.date < 0) (tlb_at (opening_at c) h).live [] (ap (λ (caches : Caches). caches.tlb.live) (all-same c.harts h no_caches)) (All-nil (λ (x : Numbered Entry). x.date < 0));
-    words_dated = λ h. All-same (λ (x : Numbered FetchWord). x.date < 0) (words_at (opening_at c) h).live [] (ap (λ (caches : Caches). caches.words.live) (all-same c.harts h no_caches)) (All-nil (λ (x : Numbered FetchWord). x.date < 0));
+    entries_dated = λ h. All-same (λ (x : Numbered Entry). x.date < 0) (tlb_at (opening_at c) h).live [] (ap (λ (caches : Caches). caches.tlb.live) (all-same c.harts h no_caches))
+        (All-nil (λ (x : Numbered Entry). x.date < 0));
+    words_dated = λ h. All-same (λ (x : Numbered FetchWord). x.date < 0) (words_at (opening_at c) h).live [] (ap (λ (caches : Caches). caches.words.live) (all-same c.harts h no_caches))
+        (All-nil (λ (x : Numbered FetchWord). x.date < 0));
     entries_few = λ h. let none = ap (λ (caches : Caches). caches.tlb.next) (all-same c.harts h no_caches) in omega arith;
     words_few = λ h. let none = ap (λ (caches : Caches). caches.words.next) (all-same c.harts h no_caches) in omega arith;
     entered_few = omega arith;

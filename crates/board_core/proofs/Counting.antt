@@ -15,14 +15,14 @@ use Rattle.sbi_abi.specs.Calls.{call_of}
 use Rattle.hsm.specs.States.{is_stopped}
 use Rattle.rfence.proofs.Totals.{sum-agree, sum-none, sum-plus, sum_from}
 use Rattle.board_core.specs.History.{Event}
-use Rattle.board_core.specs.Limits.{is_start_address}
+use Rattle.board_terms.specs.Limits.{is_start_address}
 use Rattle.board_core.specs.Opening.{Opening}
-use Rattle.board_core.specs.declared.event.Actor.{Actor}
-use Rattle.board_core.specs.declared.event.Actor.TheVariants.{Hart, Clock}
-use Rattle.board_core.specs.declared.event.Op.{Op}
-use Rattle.board_core.specs.declared.event.Op.TheVariants.{Ecall}
-use Rattle.board_core.specs.declared.event.Reply.{Reply}
-use Rattle.board_core.specs.declared.event.Reply.TheVariants.{Ret}
+use Rattle.board_terms.specs.declared.op.Actor.{Actor}
+use Rattle.board_terms.specs.declared.op.Actor.TheVariants.{Hart, Clock}
+use Rattle.board_terms.specs.declared.op.Op.{Op}
+use Rattle.board_terms.specs.declared.op.Op.TheVariants.{Ecall}
+use Rattle.board_terms.specs.declared.reply.Reply.{Reply}
+use Rattle.board_terms.specs.declared.reply.Reply.TheVariants.{Ret}
 use Rattle.board_core.specs.Refusals.{first_that_holds, is_full, situation}
 use Rattle.board_core.specs.Replies.{IsLegal, answer, call_reply, reply, unless}
 use Rattle.board_core.specs.Resets.{begins_anew, is_off}

@@ -100,16 +100,19 @@ module _ (o : Opening) (past : List Event) (held : IsHeld o past) where
         All-same (λ (x : Numbered Entry). x.date < place_after o past) (tlb_at (opening_of o past) h).live (caches_of o past h).tlb.live (ap (λ (caches : Caches). caches.tlb.live) (caches-cut h near))
         (subst (λ n. All (λ (x : Numbered Entry). x.date < o.places + n) (caches_of o past h).tlb.live) (length-tlb_acts o past h)
         (live-early o.places (tlb_at o h) covers_entry (tlb_acts o past h) (opened.entries_dated h)))
-    | inr far ↦ All-same (λ (x : Numbered Entry). x.date < place_after o past) (tlb_at (opening_of o past) h).live [] (ap (λ (caches : Caches). caches.tlb.live) (caches-past h far)) (All-nil (λ (x : Numbered Entry). x.date < place_after o past))
+    | inr far ↦ All-same (λ (x : Numbered Entry). x.date < place_after o past) (tlb_at (opening_of o past) h).live [] (ap (λ (caches : Caches). caches.tlb.live) (caches-past h far))
+        (All-nil (λ (x : Numbered Entry). x.date < place_after o past))
   ]
 
   dated-words : (h : ℕ) → All (λ (x : Numbered FetchWord). x.date < place_after o past) (words_at (opening_of o past) h).live
   dated-words h = elim (cases_lt h o.config.harts) [
     | inl near ↦
-        All-same (λ (x : Numbered FetchWord). x.date < place_after o past) (words_at (opening_of o past) h).live (caches_of o past h).words.live (ap (λ (caches : Caches). caches.words.live) (caches-cut h near))
+        All-same (λ (x : Numbered FetchWord). x.date < place_after o past) (words_at (opening_of o past) h).live (caches_of o past h).words.live
+        (ap (λ (caches : Caches). caches.words.live) (caches-cut h near))
         (subst (λ n. All (λ (x : Numbered FetchWord). x.date < o.places + n) (caches_of o past h).words.live) (length-word_acts o past h)
         (live-early o.places (words_at o h) covers_word (word_acts o past h) (opened.words_dated h)))
-    | inr far ↦ All-same (λ (x : Numbered FetchWord). x.date < place_after o past) (words_at (opening_of o past) h).live [] (ap (λ (caches : Caches). caches.words.live) (caches-past h far)) (All-nil (λ (x : Numbered FetchWord). x.date < place_after o past))
+    | inr far ↦ All-same (λ (x : Numbered FetchWord). x.date < place_after o past) (words_at (opening_of o past) h).live [] (ap (λ (caches : Caches). caches.words.live) (caches-past h far))
+        (All-nil (λ (x : Numbered FetchWord). x.date < place_after o past))
   ]
 
   pub opens-cut : IsOpening (opening_of o past)
@@ -133,7 +136,8 @@ module _ (o : Opening) (past : List Event) (held : IsHeld o past) where
       | inr far ↦ absurd (let none = ap length ((opens-right o.fences o.config.harts (turns o past) held.right).within h far) in omega (arith, some, none))
     ];
     calls = λ h inside. elim (cases_lt h o.config.harts) [
-      | inl near ↦ ap (λ (hart : Hart). hart.state) (hart-cut h near) ∙ by_call h (calls.open_call o.fences (turns o past) h) refl (sym (ap is_some (called-after o.fences o.config.harts (turns o past) held.right h)) ∙ inside)
+      | inl near ↦ ap (λ (hart : Hart). hart.state) (hart-cut h near)
+          ∙ by_call h (calls.open_call o.fences (turns o past) h) refl (sym (ap is_some (called-after o.fences o.config.harts (turns o past) held.right h)) ∙ inside)
       | inr far ↦ absurd (let none = sym (ap is_some ((opens-right o.fences o.config.harts (turns o past) held.right).callers h far)) ∙ inside in cc)
     ];
     entries_dated = λ h. dated-entries h;
@@ -168,7 +172,8 @@ module _ (o : Opening) (past : List Event) (held : IsHeld o past) where
       again : (s : HartState) → state o past h ≡ s
           → last_start (opening_of o past) [] h ≡ unwrap_or (start_in h (state o past h) (hart_of o past h).kept) (boot_start o.config)
           → as_kept (hart_of o past h) ≡ hart_of o past h
-      again StartPending at last = ap (λ (start : Start). (let hart : Hart = record { state = state o past h; kept = kept_in (state o past h) start (hart_of o past h).kept } in hart)) last ∙ (rw at refl)
+      again StartPending at last = ap (λ (start : Start). (let hart : Hart = record { state = state o past h; kept = kept_in (state o past h) start (hart_of o past h).kept } in hart)) last
+          ∙ (rw at refl)
       again Started at last = rw at refl
       again Stopped at last = rw at refl
       again StopPending at last = rw at refl
@@ -203,7 +208,8 @@ module _ (o : Opening) (past : List Event) (held : IsHeld o past) where
       ∙ goes_on o.places (tlb_at o h) covers_entry [] (tlb_acts o past h) in
       let words = ap (λ n. cache_after (o.places + n) (caches_of o past h).words covers_word []) (sym (length-word_acts o past h))
       ∙ goes_on o.places (words_at o h) covers_word [] (word_acts o past h) in
-      ap (λ (caches : Caches). (let made : Caches = record { tlb = cache_after (place_after o past) caches.tlb covers_entry []; words = cache_after (place_after o past) caches.words covers_word [] } in made)) (caches-cut h inside)
+      ap (λ (caches : Caches). (let made : Caches = record { tlb = cache_after (place_after o past) caches.tlb covers_entry []; words = cache_after (place_after o past) caches.words covers_word [] }
+      in made)) (caches-cut h inside)
       ∙ (λ i. record { tlb = entries i; words = words i })
 
   -- ---- the RAM
@@ -257,7 +263,8 @@ module _ (o : Opening) (past : List Event) (held : IsHeld o past) where
 
   pub starts-cut : length (starts_opened (opening_of o past)) + length (entries o past) ≡ length (starts o past)
   starts-cut =
-      let same = starts-agree (λ h. start_in h (hart_at (opening_of o past).harts h).state (hart_at (opening_of o past).harts h).kept) (pending o past) 0 o.config.harts (λ h above below. pending-cut h (omega arith)) in
+      let same = starts-agree (λ h. start_in h (hart_at (opening_of o past).harts h).state (hart_at (opening_of o past).harts h).kept) (pending o past) 0 o.config.harts
+      (λ h above below. pending-cut h (omega arith)) in
       omega (arith, same, starts-counted o past held.good.boot_hart_is_there held.legal)
 
   -- ---- the machine

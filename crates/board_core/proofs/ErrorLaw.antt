@@ -26,14 +26,14 @@ use Rattle.hsm.specs.declared.hart.HartState.TheVariants.{Started, Stopped, Star
 use Rattle.hsm.specs.declared.hart.Kept.{Kept}
 use Rattle.hsm.specs.States.{is_stopped}
 use Rattle.board_core.specs.Opening.{Opening}
-use Rattle.board_core.specs.declared.event.Actor.{Actor}
-use Rattle.board_core.specs.declared.event.Actor.TheVariants.{Hart, Clock}
+use Rattle.board_terms.specs.declared.op.Actor.{Actor}
+use Rattle.board_terms.specs.declared.op.Actor.TheVariants.{Hart, Clock}
 use Rattle.board_core.specs.History.{Event}
-use Rattle.board_core.specs.declared.event.Op.{Op}
-use Rattle.board_core.specs.declared.event.Op.TheVariants.{Ecall, Load, Store, Fetch, WriteSatp, WriteSie, WriteSstatusSie, ReadSip, ClearSsip, Wfi, Sfence, FenceI, Poll, Serve, Advance, Tick}
-use Rattle.board_core.specs.declared.event.Refusal.{Refusal}
-use Rattle.board_core.specs.declared.event.Reply.{Reply}
-use Rattle.board_core.specs.declared.event.Reply.TheVariants.{Ret, Done}
+use Rattle.board_terms.specs.declared.op.Op.{Op}
+use Rattle.board_terms.specs.declared.op.Op.TheVariants.{Ecall, Load, Store, Fetch, WriteSatp, WriteSie, WriteSstatusSie, ReadSip, ClearSsip, Wfi, Sfence, FenceI, Poll, Serve, Advance, Tick}
+use Rattle.board_terms.specs.declared.reply.Refusal.{Refusal}
+use Rattle.board_terms.specs.declared.reply.Reply.{Reply}
+use Rattle.board_terms.specs.declared.reply.Reply.TheVariants.{Ret, Done}
 use Rattle.board_core.specs.Course.{harts_of}
 use Rattle.sv39.specs.declared.cause.Cause.{Cause}
 use Rattle.tlb_model.specs.declared.caches.Caches.{Caches}
@@ -49,7 +49,7 @@ use Rattle.board_core.specs.ErrorLaw.{LooksSame, is_error}
 use Rattle.rfence.specs.State.{total_applied, total_asked}
 use Rattle.board_core.specs.Fences.{turn_of, turns, waiting}
 use Rattle.board_core.specs.Interrupts.{reaches_by, time}
-use Rattle.board_core.specs.Limits.{is_start_address}
+use Rattle.board_terms.specs.Limits.{is_start_address}
 use Rattle.board_core.specs.Refusals.{clock_refusals, first_that_holds, is_full, situation}
 use Rattle.board_core.specs.Calls.Hsm.{hsm_reply, suspend_reply}
 use Rattle.board_core.specs.Calls.Ipi.{ipi_reply}
@@ -174,9 +174,12 @@ module _ (o : Opening) (past : List Event) where
     where
       by_op : (op : Op) → reply o past x op ≡ r → deed o past (record { actor = Hart x; op = op; reply = r; translation = used }) ≡ still
       by_op (Ecall regs) is = failed_call x (call_of regs) r is error
-      by_op (Load va) is = absurd (let e = sym (accessed_well accesses.Load (whole.answer (memory o past) (satp o past x) (hit o past x) (cached o past x) va accesses.Load)) ∙ ap is_error is ∙ error in cc)
-      by_op (Store va value) is = absurd (let e = sym (accessed_well (accesses.Store value) (whole.answer (memory o past) (satp o past x) (hit o past x) (cached o past x) va (accesses.Store value))) ∙ ap is_error is ∙ error in cc)
-      by_op (Fetch va) is = absurd (let e = sym (accessed_well accesses.Fetch (whole.answer (memory o past) (satp o past x) (hit o past x) (cached o past x) va accesses.Fetch)) ∙ ap is_error is ∙ error in cc)
+      by_op (Load va) is = absurd
+          (let e = sym (accessed_well accesses.Load (whole.answer (memory o past) (satp o past x) (hit o past x) (cached o past x) va accesses.Load)) ∙ ap is_error is ∙ error in cc)
+      by_op (Store va value) is = absurd
+          (let e = sym (accessed_well (accesses.Store value) (whole.answer (memory o past) (satp o past x) (hit o past x) (cached o past x) va (accesses.Store value))) ∙ ap is_error is ∙ error in cc)
+      by_op (Fetch va) is = absurd
+          (let e = sym (accessed_well accesses.Fetch (whole.answer (memory o past) (satp o past x) (hit o past x) (cached o past x) va accesses.Fetch)) ∙ ap is_error is ∙ error in cc)
       by_op (WriteSatp value) is = absurd (let e = rw (← is) at error in cc)
       by_op (WriteSie value) is = absurd (let e = rw (← is) at error in cc)
       by_op (WriteSstatusSie value) is = absurd (let e = rw (← is) at error in cc)

@@ -21,9 +21,9 @@ use Rattle.board_core.specs.Opening.{Opening}
 use Rattle.board_core.specs.declared.csrs.Sie.{Sie}
 use Rattle.board_core.specs.Course.{is_hart}
 use Rattle.board_core.specs.History.{Event, by_hart}
-use Rattle.board_core.specs.declared.event.Op.TheVariants.{Ecall, Advance}
-use Rattle.board_core.specs.declared.event.Reply.{Reply}
-use Rattle.board_core.specs.declared.event.Reply.TheVariants.{Entry, Ret, Waiting}
+use Rattle.board_terms.specs.declared.op.Op.TheVariants.{Ecall, Advance}
+use Rattle.board_terms.specs.declared.reply.Reply.{Reply}
+use Rattle.board_terms.specs.declared.reply.Reply.TheVariants.{Entry, Ret, Waiting}
 use Rattle.board_core.specs.Csrs.{none_enabled, sie_by, sstatus_sie_by}
 use Rattle.board_core.specs.Calls.Rfence.{Remote, remote_by_rfence}
 use Rattle.board_core.specs.Fences.{turn_by_call, turn_by_remote, turn_of, turns}
@@ -102,8 +102,10 @@ module _ (o : Opening) (past : List Event) where
     memory = record {
       satp = satp_by o.config event.op event.reply;
       writing = writing_by event.op event.reply event.translation;
-      tlb_act = λ h. act_by (effect o.fences (turns o past) (turn_of o past event.actor event.op event.reply) h) (own_filling (is_hart h event.actor) (entry_filling event.op event.translation (satp o past h) (hit_in o h (tlb_acts o past h))));
-      word_act = λ h. act_by (effect o.fences (turns o past) (turn_of o past event.actor event.op event.reply) h) (own_filling (is_hart h event.actor) (word_filling event.op event.reply event.translation (memory o past) (cached_in o h (word_acts o past h))));
+      tlb_act = λ h. act_by (effect o.fences (turns o past) (turn_of o past event.actor event.op event.reply) h)
+          (own_filling (is_hart h event.actor) (entry_filling event.op event.translation (satp o past h) (hit_in o h (tlb_acts o past h))));
+      word_act = λ h. act_by (effect o.fences (turns o past) (turn_of o past event.actor event.op event.reply) h)
+          (own_filling (is_hart h event.actor) (word_filling event.op event.reply event.translation (memory o past) (cached_in o h (word_acts o past h))));
     };
     turn = turn_of o past event.actor event.op event.reply;
     counts = record {
@@ -154,7 +156,8 @@ module _ (o : Opening) (past : List Event) where
     does_call regs call reply is = ap (λ it. deed_of_call it reply) (sym is)
 
     -- a remote fence that waits is a turn, and one that fails is nothing
-    pub does_remote : (call : RfenceCall) (remote : Remote) → remote_by_rfence o.config call ≡ remote → deed_of_call (Rfence call) Waiting ≡ deed_of_turn (turn_by_remote o past x (Some remote) Waiting)
+    pub does_remote : (call : RfenceCall) (remote : Remote) → remote_by_rfence o.config call ≡ remote
+        → deed_of_call (Rfence call) Waiting ≡ deed_of_turn (turn_by_remote o past x (Some remote) Waiting)
     does_remote call remote is = ap (λ r. deed_of_turn (turn_by_remote o past x (Some r) Waiting)) is
 
     pub does_no_remote : (call : RfenceCall) (answer : Sbiret) → deed_of_call (Rfence call) (Ret answer) ≡ still

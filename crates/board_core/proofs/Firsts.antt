@@ -16,13 +16,13 @@ use Rattle.rfence.proofs.Seams.{all-same}
 use Rattle.sv39.specs.declared.ram.TheConstants.{PAGE_WORDS}
 use Rattle.sv39.specs.Memory.{IsRam, pages_of, zero_words}
 use Rattle.tlb_model.specs.declared.fence.Flush.{Flush}
-use Rattle.board_core.specs.declared.config.Config.{Config}
+use Rattle.board_terms.specs.declared.config.Config.{Config}
 use Rattle.board_core.specs.declared.machine.Machine.{Machine}
 use Rattle.board_core.specs.Course.{harts_of}
 use Rattle.board_core.specs.Csrs.{sie, sstatus_sie}
 use Rattle.board_core.specs.Cuts.{opening_in, words_of}
 use Rattle.board_core.specs.Interrupts.{deadline, ssip}
-use Rattle.board_core.specs.Limits.{IsGood}
+use Rattle.board_terms.specs.Limits.{IsGood}
 use Rattle.board_core.specs.Memory.{caches_of, memory, satp}
 use Rattle.board_core.specs.Opening.{Opening, no_caches, opening_at}
 use Rattle.board_core.specs.Stands.{IsKept, StandsFor}

@@ -8,9 +8,9 @@ use Rattle.hsm.specs.declared.hart.Kept.{Kept}
 use Rattle.hsm.specs.Harts.{Hart, resting, starting}
 use Rattle.hsm.specs.States.{is_start_pending}
 use Rattle.hsm.specs.Transitions.{hart_at, hart_at_opening}
-use Rattle.board_core.specs.declared.config.Config.{Config}
+use Rattle.board_terms.specs.declared.config.Config.{Config}
 use Rattle.board_core.specs.Opening.{Opening}
-use Rattle.board_core.specs.declared.event.Actor.TheVariants as actors
+use Rattle.board_terms.specs.declared.op.Actor.TheVariants as actors
 use Rattle.board_core.specs.History.{Event}
 use Rattle.sbi_abi.specs.declared.reset.Reset.{Reset}
 use Rattle.board_core.specs.Course.{harts_of}
@@ -60,15 +60,21 @@ module _ (o : Opening) (past : List Event) (harts : List Hart) (stand : HartsSta
 abbrev pub hart_at_reset : Config → Reset → ℕ → Hart
 hart_at_reset c reset h = if begins_anew reset.kind then hart_at_opening c.boot_hart (record { addr = c.boot_addr; opaque = c.boot_opaque }) h else resting
 
-as_reset : (c : Config) (reset : Reset) (h : ℕ) (resume : Option Kept) → (let s = state_at_reset c reset h in let hart : Hart = record { state = s; kept = kept_in s (unwrap_or (find (is_of h) (starts_at c reset)) (boot_start c)) resume } in hart) ≡ hart_at_reset c reset h
+as_reset : (c : Config) (reset : Reset) (h : ℕ) (resume : Option Kept)
+    → (let s = state_at_reset c reset h in let hart : Hart = record { state = s; kept = kept_in s (unwrap_or (find (is_of h) (starts_at c reset)) (boot_start c)) resume } in hart)
+    ≡ hart_at_reset c reset h
 as_reset c reset h resume = by_kind (begins_anew reset.kind)
   where
-    by_own : (own : Bool) → (let s = (if own then StartPending else Stopped) in let hart : Hart = record { state = s; kept = kept_in s (unwrap_or (if own then Some (boot_start c) else None) (boot_start c)) resume } in hart)
+    by_own : (own : Bool)
+        → (let s = (if own then StartPending else Stopped) in let hart : Hart = record { state = s; kept = kept_in s (unwrap_or (if own then Some (boot_start c) else None) (boot_start c)) resume } in
+        hart)
         ≡ (if own then starting (record { addr = c.boot_addr; opaque = c.boot_opaque }) else resting)
     by_own true = refl
     by_own false = refl
 
-    by_kind : (anew : Bool) → (let s = (if anew then state_at_boot c h else Stopped) in let hart : Hart = record { state = s; kept = kept_in s (unwrap_or (find (is_of h) (if anew then boot_start c ∷ [] else [])) (boot_start c)) resume } in hart)
+    by_kind : (anew : Bool)
+        → (let s = (if anew then state_at_boot c h else Stopped) in let
+        hart : Hart = record { state = s; kept = kept_in s (unwrap_or (find (is_of h) (if anew then boot_start c ∷ [] else [])) (boot_start c)) resume } in hart)
         ≡ (if anew then hart_at_opening c.boot_hart (record { addr = c.boot_addr; opaque = c.boot_opaque }) h else resting)
     by_kind true = by_own (h == c.boot_hart)
     by_kind false = refl
@@ -119,5 +125,6 @@ module _ (o : Opening) (past : List Event) (event : Event) (d : Deed) (does : de
   pub harts-reset : (harts : List Hart) (reset : Reset) → d.harts.move ≡ Some (Each (state_at_reset o.config reset)) → d.harts.start ≡ Some (Anew (starts_at o.config reset))
       → harts ≡ map (hart_at_reset o.config reset) (harts_of o.config) → HartsStand o (event ∷ past) harts
   harts-reset harts reset move start are = record {
-    each = are ∙ tabulate-same (hart_at_reset o.config reset) (hart_of o (event ∷ past)) (λ j. rw (moves, is_start, move, start) (as_reset o.config reset j (resume_point o (event ∷ past) j))) (harts_of o.config);
+    each = are ∙ tabulate-same (hart_at_reset o.config reset) (hart_of o (event ∷ past)) (λ j. rw (moves, is_start, move, start) (as_reset o.config reset j (resume_point o (event ∷ past) j)))
+        (harts_of o.config);
   }

@@ -21,15 +21,15 @@ use Rattle.sbi_abi.specs.Calls.{call_of}
 use Rattle.sbi_abi.specs.Errors.{is_success}
 use Rattle.tlb_model.specs.declared.fence.Flush.{Flush}
 use Rattle.board_core.specs.Opening.{Opening}
-use Rattle.board_core.specs.declared.event.Actor.{Actor}
-use Rattle.board_core.specs.declared.event.Actor.TheVariants.{Hart, Clock}
-use Rattle.board_core.specs.declared.event.Op.{Op}
-use Rattle.board_core.specs.declared.event.Op.TheVariants.{Ecall, Advance, Poll}
-use Rattle.board_core.specs.declared.event.Reply.{Reply}
-use Rattle.board_core.specs.declared.event.Reply.TheVariants as replies
+use Rattle.board_terms.specs.declared.op.Actor.{Actor}
+use Rattle.board_terms.specs.declared.op.Actor.TheVariants.{Hart, Clock}
+use Rattle.board_terms.specs.declared.op.Op.{Op}
+use Rattle.board_terms.specs.declared.op.Op.TheVariants.{Ecall, Advance, Poll}
+use Rattle.board_terms.specs.declared.reply.Reply.{Reply}
+use Rattle.board_terms.specs.declared.reply.Reply.TheVariants as replies
 use Rattle.board_core.specs.Fences.{Remote, remote_of, turn_by, turn_by_call, turn_by_flush, turn_by_remote, turn_of, turns}
 use Rattle.board_core.specs.History.{Event}
-use Rattle.board_core.specs.Limits.{is_start_address}
+use Rattle.board_terms.specs.Limits.{is_start_address}
 use Rattle.board_core.specs.Refusals.{first_that_holds, situation}
 use Rattle.board_core.specs.Calls.Hsm.{start_errors}
 use Rattle.board_core.specs.Replies.{IsLegal, answer, call_reply, unless}
@@ -37,7 +37,7 @@ use Rattle.board_core.specs.States.{Move, One, move_by, move_by_call, move_of, m
 use Rattle.board_core.proofs.Rows.{running_parts}
 use Rattle.std.proofs.lemmas.Bool.{leb-false}
 use Rattle.std.specs.Prelude.{is_some}
-use Rattle.board_core.specs.declared.event.Refusal.TheVariants as refusals
+use Rattle.board_terms.specs.declared.reply.Refusal.TheVariants as refusals
 use Rattle.board_core.specs.Refusals.{has_nothing_to_do, is_full, is_out_of_phase}
 use Rattle.board_core.specs.Replies.{refused_or, reply}
 use Rattle.board_core.specs.Resets.{is_off}
@@ -53,7 +53,8 @@ pub taken : (o : Opening) (past : List Event) (x : ℕ) (op : Op) (r : Reply) �
 taken o past x op r e = by_tests (is_off o past) (nat_le o.config.harts x) (is_out_of_phase op (situation o past x)) (has_nothing_to_do op (situation o past x)) (is_full o past) refl refl refl e
   where
     by_tests : (off missing out idle full : Bool) → nat_le o.config.harts x ≡ missing → is_out_of_phase op (situation o past x) ≡ out → has_nothing_to_do op (situation o past x) ≡ idle
-        → refused_or (first_that_holds ((off, refusals.Off) ∷ (missing, refusals.WrongPhase) ∷ (out, refusals.WrongPhase) ∷ (idle, refusals.Nothing) ∷ (full, refusals.HistoryFull) ∷ [])) (reply o past x op) ≡ Ok r
+        → refused_or (first_that_holds ((off, refusals.Off) ∷ (missing, refusals.WrongPhase) ∷ (out, refusals.WrongPhase) ∷ (idle, refusals.Nothing) ∷ (full, refusals.HistoryFull) ∷ []))
+        (reply o past x op) ≡ Ok r
         → IsTaken o past x op r
     by_tests true missing out idle full there phase work e = cc
     by_tests false true out idle full there phase work e = cc
@@ -63,7 +64,8 @@ taken o past x op r e = by_tests (is_off o past) (nat_le o.config.harts x) (is_o
     by_tests false false false false false there phase work e = record { inside = leb-false o.config.harts x there; in_phase = phase; to_do = work; replied = cc }
 
 -- a start that succeeds is of a STOPPED hart
-pub starts-at-stopped : (o : Opening) (past : List Event) (t addr : ℕ) (answered : Sbiret) → replies.Ret (unless (first_that_holds (start_errors o.config (state o past) t addr)) 0) ≡ replies.Ret answered
+pub starts-at-stopped : (o : Opening) (past : List Event) (t addr : ℕ) (answered : Sbiret)
+    → replies.Ret (unless (first_that_holds (start_errors o.config (state o past) t addr)) 0) ≡ replies.Ret answered
     → is_success answered ≡ true → state o past t ≡ states.Stopped
 starts-at-stopped o past t addr answered e ok = by_tests (nat_le o.config.harts t) (not (is_start_address o.config.pages addr)) (state o past t) e
   where
@@ -93,7 +95,8 @@ no-call (Some place) ids e = cc
 module _ (o : Opening) (past : List Event) (before : (h : ℕ) (place : FenceCall Flush) → open_call o.fences (turns o past) h ≡ Some place → state o past h ≡ states.Started) where
   -- an event with this turn and this move keeps hart h STARTED while it is inside a call
   abbrev Keeps : ℕ → Turn Flush → Option Move → Type 0
-  Keeps h turn move = (place : FenceCall Flush) → open_by (fences.place_after o.fences (turns o past)) turn h (open_call o.fences (turns o past) h) ≡ Some place → moved_to move h (state o past h) ≡ states.Started
+  Keeps h turn move = (place : FenceCall Flush) → open_by (fences.place_after o.fences (turns o past)) turn h (open_call o.fences (turns o past) h) ≡ Some place
+      → moved_to move h (state o past h) ≡ states.Started
 
   -- a hart that isn't inside a call is moved
   moved : (h y : ℕ) (place : FenceCall Flush) (s : HartState) → ((at : FenceCall Flush) → open_call o.fences (turns o past) y ≡ Some at → ⊥) → open_call o.fences (turns o past) h ≡ Some place

@@ -24,12 +24,12 @@ use Rattle.sbi_abi.specs.Calls.{call_of}
 use Rattle.sbi_abi.specs.Errors.{is_success}
 use Rattle.tlb_model.specs.declared.fence.Flush.{Flush}
 use Rattle.board_core.specs.Opening.{Opening}
-use Rattle.board_core.specs.declared.event.Actor.{Actor}
-use Rattle.board_core.specs.declared.event.Actor.TheVariants.{Hart, Clock}
-use Rattle.board_core.specs.declared.event.Op.{Op}
-use Rattle.board_core.specs.declared.event.Op.TheVariants as ops
-use Rattle.board_core.specs.declared.event.Reply.{Reply}
-use Rattle.board_core.specs.declared.event.Reply.TheVariants as replies
+use Rattle.board_terms.specs.declared.op.Actor.{Actor}
+use Rattle.board_terms.specs.declared.op.Actor.TheVariants.{Hart, Clock}
+use Rattle.board_terms.specs.declared.op.Op.{Op}
+use Rattle.board_terms.specs.declared.op.Op.TheVariants as ops
+use Rattle.board_terms.specs.declared.reply.Reply.{Reply}
+use Rattle.board_terms.specs.declared.reply.Reply.TheVariants as replies
 use Rattle.board_core.specs.Fences.{Remote, is_asked_by, remote_of, turn_by, turn_by_call, turn_by_flush, turn_by_remote, turn_of, turns}
 use Rattle.board_core.specs.History.{Event}
 use Rattle.board_core.specs.Targets.{is_target}
@@ -50,7 +50,8 @@ advances x states.Suspended s start resume replied can = let same : states.Resum
 advances x states.ResumePending s start None replied can = cc
 advances x states.ResumePending s start (Some resume) replied can = cc
 
-module _ (o : Opening) (past : List Event) (right : IsRight o.fences o.config.harts (turns o past)) (before : (h : ℕ) → 0 < length (queues.waiting o.fences (turns o past) h) → is_interruptible (state o past h) ≡ true) where
+module _ (o : Opening) (past : List Event) (right : IsRight o.fences o.config.harts (turns o past))
+    (before : (h : ℕ) → 0 < length (queues.waiting o.fences (turns o past) h) → is_interruptible (state o past h) ≡ true) where
   -- an event with this turn and this move keeps hart h interruptible while fences wait there
   abbrev Keeps : ℕ → Turn Flush → Option Move → Type 0
   Keeps h turn move = 0 < length (waited (queues.waiting o.fences (turns o past) h) (fences.place_after o.fences (turns o past)) turn h) → is_interruptible (moved_to move h (state o past h)) ≡ true
@@ -96,7 +97,8 @@ module _ (o : Opening) (past : List Event) (right : IsRight o.fences o.config.ha
         by_success false is = before h some
     call-keeps (Hsm HartStop) replies.Gone replied some = by_hart (h == x) refl some
       where
-        by_hart : (own : Bool) → (h == x) ≡ own → 0 < length (if x == h then [] else queues.waiting o.fences (turns o past) h) → is_interruptible (if own then states.StopPending else state o past h) ≡ true
+        by_hart : (own : Bool) → (h == x) ≡ own → 0 < length (if x == h then [] else queues.waiting o.fences (turns o past) h)
+            → is_interruptible (if own then states.StopPending else state o past h) ≡ true
         by_hart true same some = absurd (let here = eqb-true h x same in none-left here some)
           where
             none-left : h ≡ x → 0 < length (if x == h then [] else queues.waiting o.fences (turns o past) h) → ⊥
@@ -124,7 +126,8 @@ module _ (o : Opening) (past : List Event) (right : IsRight o.fences o.config.ha
         by_hart false other = before h some
     op-keeps ops.Serve r is some = before h (fewer (x == h) some)
       where
-        fewer : (own : Bool) → 0 < length (if own then drop 1 (queues.waiting o.fences (turns o past) h) else queues.waiting o.fences (turns o past) h) → 0 < length (queues.waiting o.fences (turns o past) h)
+        fewer : (own : Bool) → 0 < length (if own then drop 1 (queues.waiting o.fences (turns o past) h) else queues.waiting o.fences (turns o past) h)
+            → 0 < length (queues.waiting o.fences (turns o past) h)
         fewer true some = omega (arith, some, length-drop 1 (queues.waiting o.fences (turns o past) h))
         fewer false some = some
     op-keeps op r is some = before h some

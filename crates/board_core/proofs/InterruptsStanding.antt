@@ -9,7 +9,7 @@ use Rattle.interrupts.specs.Timing.{Timing, with_deadline, without_deadlines}
 use Rattle.board_core.specs.Opening.{Opening}
 use Rattle.board_core.specs.declared.csrs.Csrs.{Csrs}
 use Rattle.board_core.specs.declared.csrs.Sie.{Sie}
-use Rattle.board_core.specs.declared.event.Actor.TheVariants as actors
+use Rattle.board_terms.specs.declared.op.Actor.TheVariants as actors
 use Rattle.board_core.specs.History.{Event}
 use Rattle.board_core.specs.declared.interrupt_state.Interrupts.{Interrupts}
 use Rattle.board_core.specs.Course.{harts_of}
@@ -122,7 +122,8 @@ module _ (o : Opening) (past : List Event) (event : Event) (d : Deed) (does : de
     ssip = stand.ssip ∙ ids_where-agree (ssip o past) (ssip o (event ∷ past)) (λ i below. rw (reaches i, no_reach i, writes_ssip, none) refl);
   }
 
-  pub ipis-sent : (ipis targets : List ℕ) → d.interrupts.ssip ≡ None → ((i : ℕ) → i < 128 → has targets i ≡ d.interrupts.reach i) → IpisStand o past ipis → IpisStand o (event ∷ past) (union_of ipis targets)
+  pub ipis-sent : (ipis targets : List ℕ) → d.interrupts.ssip ≡ None → ((i : ℕ) → i < 128 → has targets i ≡ d.interrupts.reach i) → IpisStand o past ipis
+      → IpisStand o (event ∷ past) (union_of ipis targets)
   ipis-sent ipis targets none reached stand = record {
     ssip =
         ap (λ ids. union_of ids targets) stand.ssip

@@ -13,7 +13,7 @@ use Rattle.rfence.specs.Right.{IsRightTurn}
 use Rattle.rfence.specs.State.{AreAffected, State}
 use Rattle.rfence.specs.Turns.{Turn, Own}
 use Rattle.board_core.specs.Opening.{Opening, place_after, tlb_at, words_at}
-use Rattle.board_core.specs.declared.event.Actor.TheVariants as actors
+use Rattle.board_terms.specs.declared.op.Actor.TheVariants as actors
 use Rattle.board_core.specs.History.{Event}
 use Rattle.sbi_abi.specs.declared.reset.Reset.{Reset}
 use Rattle.board_core.specs.declared.memory.Memory.{Memory}
@@ -28,7 +28,7 @@ use Rattle.tlb_model.specs.Contents.{fenced}
 use Rattle.tlb_model.specs.Entries.{covers_entry}
 use Rattle.tlb_model.specs.Words.{covers_word}
 use Rattle.tlb_model.proofs.Living.{keeps_what_lives}
-use Rattle.board_core.specs.Limits.{spaces_of}
+use Rattle.board_terms.specs.Limits.{spaces_of}
 use Rattle.board_core.specs.Memory.{act_by, cached_in, entry_filling, hit_in, own_filling, memory, satp, satp_by, tlb_acts, word_acts, word_filling, writing_by, written_by, Zeroed, zeroed_by}
 use Rattle.board_core.specs.Stands.{FencesStand, MemoryStand, caches_at, caches_of}
 use Rattle.board_core.specs.Resets.{is_cold}
@@ -53,7 +53,8 @@ acts-affect date Empties k = refl
 pub own-drops : {E : Type 0} (o : fences.Opening Flush) (all : List (Turn Flush)) (h : ℕ) (flush : Flush) → (let act : Act E = act_by (effect o all (Own h flush) h) None in act) ≡ Drop flush
 own-drops o all h flush = rw (eqb-same h) refl
 
-pub own-spares : {E : Type 0} (o : fences.Opening Flush) (all : List (Turn Flush)) (h : ℕ) (flush : Flush) (j : ℕ) → h ≢ j → (let act : Act E = act_by (effect o all (Own h flush) j) None in act) ≡ Nothing
+pub own-spares : {E : Type 0} (o : fences.Opening Flush) (all : List (Turn Flush)) (h : ℕ) (flush : Flush) (j : ℕ) → h ≢ j
+    → (let act : Act E = act_by (effect o all (Own h flush) j) None in act) ≡ Nothing
 own-spares o all h flush j other = rw (eqb-other h j other) refl
 
 -- caches that are changed by index
@@ -80,10 +81,14 @@ module _ (o : Opening) (past : List Event) (event : Event) (d : Deed) (does : de
   writes : writing_by event.op event.reply event.translation ≡ d.memory.writing
   writes = ap (λ (e : Deed). e.memory.writing) does
 
-  acts_on_tlb : (h : ℕ) → act_by (effect o.fences (turns o past) (turn_of o past event.actor event.op event.reply) h) (own_filling (is_hart h event.actor) (entry_filling event.op event.translation (satp o past h) (hit_in o h (tlb_acts o past h)))) ≡ d.memory.tlb_act h
+  acts_on_tlb : (h : ℕ)
+      → act_by (effect o.fences (turns o past) (turn_of o past event.actor event.op event.reply) h)
+      (own_filling (is_hart h event.actor) (entry_filling event.op event.translation (satp o past h) (hit_in o h (tlb_acts o past h)))) ≡ d.memory.tlb_act h
   acts_on_tlb h = ap (λ (e : Deed). e.memory.tlb_act h) does
 
-  acts_on_words : (h : ℕ) → act_by (effect o.fences (turns o past) (turn_of o past event.actor event.op event.reply) h) (own_filling (is_hart h event.actor) (word_filling event.op event.reply event.translation (memory o past) (cached_in o h (word_acts o past h)))) ≡ d.memory.word_act h
+  acts_on_words : (h : ℕ)
+      → act_by (effect o.fences (turns o past) (turn_of o past event.actor event.op event.reply) h)
+      (own_filling (is_hart h event.actor) (word_filling event.op event.reply event.translation (memory o past) (cached_in o h (word_acts o past h)))) ≡ d.memory.word_act h
   acts_on_words h = ap (λ (e : Deed). e.memory.word_act h) does
 
   -- satp is written by its hart
@@ -96,7 +101,8 @@ module _ (o : Opening) (past : List Event) (event : Event) (d : Deed) (does : de
       (λ j other. rw (writes_satp, written, own, eqb-other j h (λ e. other (sym e))) refl)
 
   -- by a write, which may have no effect
-  pub satps-put : (satps : List ℕ) (h value : ℕ) → event.actor ≡ actors.Hart h → d.memory.satp ≡ option_map Here (satp_of_write (spaces_of o.config) value) → satps ≡ map (satp o past) (harts_of o.config)
+  pub satps-put : (satps : List ℕ) (h value : ℕ) → event.actor ≡ actors.Hart h → d.memory.satp ≡ option_map Here (satp_of_write (spaces_of o.config) value)
+      → satps ≡ map (satp o past) (harts_of o.config)
       → slice_set satps h (satp_written (spaces_of o.config) (satp o past h) value) ≡ map (satp o (event ∷ past)) (harts_of o.config)
   satps-put satps h value own written stand =
       ap (λ (xs : List ℕ). slice_set xs h (satp_written (spaces_of o.config) (satp o past h) value)) stand
@@ -120,7 +126,10 @@ module _ (o : Opening) (past : List Event) (event : Event) (d : Deed) (does : de
 
   -- the caches of a hart after the event
   caches-more : (h : ℕ) → caches_of o (event ∷ past) h
-      ≡ record { tlb = acted covers_entry (place_after o past) (caches_of o past h).tlb (d.memory.tlb_act h); words = acted covers_word (place_after o past) (caches_of o past h).words (d.memory.word_act h) }
+      ≡ record {
+        tlb = acted covers_entry (place_after o past) (caches_of o past h).tlb (d.memory.tlb_act h);
+        words = acted covers_word (place_after o past) (caches_of o past h).words (d.memory.word_act h);
+      }
   caches-more h =
       let tlb = keeps_what_lives o.places (tlb_at o h) covers_entry _ (tlb_acts o past h)
       ∙ (λ i. acted covers_entry (o.places + length-tlb_acts o past h i) (caches_of o past h).tlb (acts_on_tlb h i)) in
@@ -130,7 +139,10 @@ module _ (o : Opening) (past : List Event) (event : Event) (d : Deed) (does : de
 
   pub caches-same : (h : ℕ) → d.memory.tlb_act h ≡ Nothing → d.memory.word_act h ≡ Nothing → caches_of o (event ∷ past) h ≡ caches_of o past h
   caches-same h no_tlb no_words =
-      caches-more h ∙ (λ i. record { tlb = acted covers_entry (place_after o past) (caches_of o past h).tlb (no_tlb i); words = acted covers_word (place_after o past) (caches_of o past h).words (no_words i) })
+      caches-more h ∙ (λ i. record {
+        tlb = acted covers_entry (place_after o past) (caches_of o past h).tlb (no_tlb i);
+        words = acted covers_word (place_after o past) (caches_of o past h).words (no_words i);
+      })
 
   pub caches-still : (caches : List Caches) → ((h : ℕ) → d.memory.tlb_act h ≡ Nothing) → ((h : ℕ) → d.memory.word_act h ≡ Nothing)
       → caches ≡ map (caches_of o past) (harts_of o.config) → caches ≡ map (caches_of o (event ∷ past)) (harts_of o.config)
@@ -139,7 +151,10 @@ module _ (o : Opening) (past : List Event) (event : Event) (d : Deed) (does : de
 
   -- those of one hart change, and no others
   pub caches-acted : (caches : List Caches) (h : ℕ) (changed : Caches) → ((j : ℕ) → h ≢ j → (d.memory.tlb_act j ≡ Nothing) × (d.memory.word_act j ≡ Nothing))
-      → changed ≡ record { tlb = acted covers_entry (place_after o past) (caches_of o past h).tlb (d.memory.tlb_act h); words = acted covers_word (place_after o past) (caches_of o past h).words (d.memory.word_act h) }
+      → changed ≡ record {
+        tlb = acted covers_entry (place_after o past) (caches_of o past h).tlb (d.memory.tlb_act h);
+        words = acted covers_word (place_after o past) (caches_of o past h).words (d.memory.word_act h);
+      }
       → caches ≡ map (caches_of o past) (harts_of o.config) → slice_set caches h changed ≡ map (caches_of o (event ∷ past)) (harts_of o.config)
   caches-acted caches h changed others is stand =
       ap (slice_set caches h) (is ∙ sym (caches-more h))
@@ -150,7 +165,8 @@ module _ (o : Opening) (past : List Event) (event : Event) (d : Deed) (does : de
   -- a fence of a hart by itself alone drops what it covers there
   pub caches-fenced : (m : Memory) (h : ℕ) (flush : Flush) → ((j : ℕ) → h ≢ j → (d.memory.tlb_act j ≡ Nothing) × (d.memory.word_act j ≡ Nothing)) → caches_at m h ≡ caches_of o past h
       → d.memory.tlb_act h ≡ Drop flush → d.memory.word_act h ≡ Drop flush → m.caches.items ≡ map (caches_of o past) (harts_of o.config)
-      → slice_set m.caches.items h (record { tlb = fenced covers_entry (caches_at m h).tlb flush; words = fenced covers_word (caches_at m h).words flush }) ≡ map (caches_of o (event ∷ past)) (harts_of o.config)
+      → slice_set m.caches.items h (record { tlb = fenced covers_entry (caches_at m h).tlb flush; words = fenced covers_word (caches_at m h).words flush })
+      ≡ map (caches_of o (event ∷ past)) (harts_of o.config)
   caches-fenced m h flush others was tlb words stand =
       caches-acted m.caches.items h _ others
       ((λ i. record { tlb = fenced covers_entry (was i).tlb flush; words = fenced covers_word (was i).words flush })
@@ -166,7 +182,9 @@ module _ (o : Opening) (past : List Event) (event : Event) (d : Deed) (does : de
       ∙ ap (caches_after dropped_of emptied_of o.fences (turns o past) turn) stand_for
       ∙ tabulate-changed (λ t k. affected dropped_of emptied_of (effect o.fences (turns o past) turn t) k) (caches_of o past) 0 o.config.harts
       ∙ tabulate-same (λ t. affected dropped_of emptied_of (effect o.fences (turns o past) turn t) (caches_of o past t)) (caches_of o (event ∷ past))
-      (λ t. caches-more t ∙ (λ i. record { tlb = acted covers_entry (place_after o past) (caches_of o past t).tlb (tlb t i); words = acted covers_word (place_after o past) (caches_of o past t).words (words t i) }) ∙ acts-affect (place_after o past) (effect o.fences (turns o past) turn t) (caches_of o past t))
+      (λ t. caches-more t ∙
+      (λ i. record { tlb = acted covers_entry (place_after o past) (caches_of o past t).tlb (tlb t i); words = acted covers_word (place_after o past) (caches_of o past t).words (words t i) })
+      ∙ acts-affect (place_after o past) (effect o.fences (turns o past) turn t) (caches_of o past t))
       (harts_of o.config)
 
   -- what changes satp alone, or caches alone

@@ -16,12 +16,12 @@ use Rattle.hart_access.specs.Accesses as whole
 use Rattle.hart_access.specs.Ways.{in_memory, phys_at, phys_by}
 use Rattle.hart_access.proofs.Used.{place_of_used}
 use Rattle.board_core.specs.Accesses.{access_reply_of, cached, hit, used_by_actor}
-use Rattle.board_core.specs.declared.event.Actor.{Actor}
-use Rattle.board_core.specs.declared.event.Actor.TheVariants.{Hart, Clock}
-use Rattle.board_core.specs.declared.event.Op.{Op}
-use Rattle.board_core.specs.declared.event.Op.TheVariants.{Store}
-use Rattle.board_core.specs.declared.event.Reply.{Reply}
-use Rattle.board_core.specs.declared.event.Reply.TheVariants.{Done}
+use Rattle.board_terms.specs.declared.op.Actor.{Actor}
+use Rattle.board_terms.specs.declared.op.Actor.TheVariants.{Hart, Clock}
+use Rattle.board_terms.specs.declared.op.Op.{Op}
+use Rattle.board_terms.specs.declared.op.Op.TheVariants.{Store}
+use Rattle.board_terms.specs.declared.reply.Reply.{Reply}
+use Rattle.board_terms.specs.declared.reply.Reply.TheVariants.{Done}
 use Rattle.board_core.specs.History.{Event}
 use Rattle.board_core.specs.Memory.{memory, satp, writing_by, written_by, zeroed_by}
 use Rattle.board_core.specs.Opening.{Opening}

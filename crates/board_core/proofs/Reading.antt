@@ -14,13 +14,13 @@ use Rattle.board_core.specs.History.{Event}
 use Rattle.sbi_abi.specs.declared.call.Call.{Call}
 use Rattle.sbi_abi.specs.declared.reset.Reset.{Reset}
 use Rattle.sbi_abi.specs.Calls.{call_of}
-use Rattle.board_core.specs.declared.event.Op.{Op}
-use Rattle.board_core.specs.declared.event.Op.TheVariants.{Ecall, Load, Store, Fetch, WriteSatp, WriteSie, WriteSstatusSie, ReadSip, ClearSsip, Wfi, Sfence, FenceI, Poll, Serve, Advance, Tick}
+use Rattle.board_terms.specs.declared.op.Op.{Op}
+use Rattle.board_terms.specs.declared.op.Op.TheVariants.{Ecall, Load, Store, Fetch, WriteSatp, WriteSie, WriteSstatusSie, ReadSip, ClearSsip, Wfi, Sfence, FenceI, Poll, Serve, Advance, Tick}
 use Rattle.board_core.specs.declared.interrupt_state.Interrupts.{Interrupts}
 use Rattle.board_core.specs.declared.memory.Memory.{Memory}
 use Rattle.hsm.specs.Transitions.{hart_at}
 use Rattle.board_core.specs.Course.{harts_of}
-use Rattle.board_core.specs.declared.config.Config.{Config}
+use Rattle.board_terms.specs.declared.config.Config.{Config}
 use Rattle.board_core.specs.Csrs.{enables, interrupt_bits, sie}
 use Rattle.board_core.specs.Interrupts.{deadline, ssip, stip, wake}
 use Rattle.tlb_model.specs.declared.caches.Caches.{Caches}

@@ -7,7 +7,7 @@ use Rattle.sbi_abi.specs.declared.reset.Reset.{Reset}
 use Rattle.hsm.specs.declared.hart.Kept.{Kept}
 use Rattle.hsm.specs.Harts.{resting, starting}
 use Rattle.hsm.specs.Transitions.{hart_at_opening, reset_to}
-use Rattle.board_core.specs.declared.config.Config.{Config}
+use Rattle.board_terms.specs.declared.config.Config.{Config}
 use Rattle.board_core.specs.Course.{harts_of}
 use Rattle.board_core.specs.Resets.{begins_anew}
 use Rattle.board_core.proofs.HartsStanding.{hart_at_reset}

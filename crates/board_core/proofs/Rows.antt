@@ -13,13 +13,13 @@ use Rattle.hsm.specs.Transitions.{Step, advanced, advanced_from, changed, hart_a
 use Rattle.board_core.specs.Opening.{Opening}
 use Rattle.board_core.specs.History.{Event}
 use Rattle.interrupts.specs.Timing.{last_time}
-use Rattle.board_core.specs.declared.event.Actor.TheVariants.{Clock}
-use Rattle.board_core.specs.declared.event.Op.{Op}
-use Rattle.board_core.specs.declared.event.Op.TheVariants.{Advance}
-use Rattle.board_core.specs.declared.event.Refusal.{Refusal}
-use Rattle.board_core.specs.declared.event.Refusal.TheVariants.{Off, WrongPhase, Nothing, HistoryFull, TimeFull}
-use Rattle.board_core.specs.declared.event.Reply.{Reply}
-use Rattle.board_core.specs.declared.event.Reply.TheVariants as replies
+use Rattle.board_terms.specs.declared.op.Actor.TheVariants.{Clock}
+use Rattle.board_terms.specs.declared.op.Op.{Op}
+use Rattle.board_terms.specs.declared.op.Op.TheVariants.{Advance}
+use Rattle.board_terms.specs.declared.reply.Refusal.{Refusal}
+use Rattle.board_terms.specs.declared.reply.Refusal.TheVariants.{Off, WrongPhase, Nothing, HistoryFull, TimeFull}
+use Rattle.board_terms.specs.declared.reply.Reply.{Reply}
+use Rattle.board_terms.specs.declared.reply.Reply.TheVariants as replies
 use Rattle.board_core.specs.Refusals.{IsAccepted, Situation, first_that_holds, has_nothing_to_do, is_full, is_out_of_phase, is_running, is_tick, refusals_in}
 use Rattle.board_core.specs.Replies.{answer, advance_reply, refused_or, success}
 use Rattle.board_core.specs.Interrupts.{ticks_by, time}

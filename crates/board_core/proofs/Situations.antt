@@ -14,14 +14,14 @@ use Rattle.rfence.proofs.Counts.{few-asked, outstanding-set}
 use Rattle.rfence.proofs.Totals.{few-applied}
 use Rattle.rfence.proofs.Stands.{call_at-stands, length-calls, length-queues, queue_at-stands}
 use Rattle.tlb_model.specs.declared.fence.Flush.{Flush}
-use Rattle.board_core.specs.declared.config.Config.{Config}
+use Rattle.board_terms.specs.declared.config.Config.{Config}
 use Rattle.board_core.specs.Opening.{IsOpening, Opening, on}
 use Rattle.board_core.specs.declared.machine.Machine.{Machine}
 use Rattle.board_core.specs.Fences.{outstanding, turns, waiting}
 use Rattle.board_core.specs.History.{Event}
 use Rattle.board_core.specs.Course.{Course}
-use Rattle.board_core.specs.declared.event.Op.{Op}
-use Rattle.board_core.specs.Limits.{IsGood}
+use Rattle.board_terms.specs.declared.op.Op.{Op}
+use Rattle.board_terms.specs.Limits.{IsGood}
 use Rattle.board_core.specs.Refusals.{first_that_holds, is_empty, is_full, refusals_in, situation, waits_for_some}
 use Rattle.board_core.specs.Stands.{CanFill, FencesStand, HasRoom, IsKept, IsSized, IsStanding, StandsFor, situation_in}
 use Rattle.board_core.proofs.HartsStanding.{hart_at-stand, length-harts}
@@ -59,7 +59,8 @@ module _ (o : Opening) (past : List Event) (f : State Flush) (stand : FencesStan
   pub poll-right : (h : ℕ) → h < o.config.harts → is_none (call_at f h) ≡ false → waits_for_some (call_at f h) ≡ false → IsRightTurn o.fences o.config.harts (turns o past) (Poll h)
   poll-right h inside inside_call answered =
       let is = call-read h inside in
-      let parts = by_call (calls.open_call o.fences (turns o past) h) (calls.outstanding o.fences o.config.harts (turns o past) h) (sym (ap is_none is) ∙ inside_call) (sym (ap waits_for_some is) ∙ answered) in
+      let parts = by_call (calls.open_call o.fences (turns o past) h) (calls.outstanding o.fences o.config.harts (turns o past) h) (sym (ap is_none is) ∙ inside_call)
+      (sym (ap waits_for_some is) ∙ answered) in
       (inside, parts.0, parts.1)
     where
       by_call : (call : Option (FenceCall Flush)) (ids : List ℕ) → is_none (in_call call ids) ≡ false → waits_for_some (in_call call ids) ≡ false → (is_some call ≡ true) × (ids ≡ [])
@@ -97,7 +98,8 @@ module _ (o : Opening) (past : List Event) (m : Machine) (most : o.config.harts 
       λ i. record { state = (own i).state; wake = wake i; call = call i; fences = queue i }
 
 -- what the machine doesn't refuse while there is room, the past doesn't refuse
-pub unrefused-read : (b : Course) (o : Opening) (past : List Event) {m : Machine} → record { opening = o; past = past } ≡ b → o.config.harts ≤ 128 → StandsFor o past m → (h : ℕ) → h < o.config.harts → (op : Op)
+pub unrefused-read : (b : Course) (o : Opening) (past : List Event) {m : Machine} → record { opening = o; past = past } ≡ b → o.config.harts ≤ 128 → StandsFor o past m → (h : ℕ) → h < o.config.harts
+    → (op : Op)
     → first_that_holds (refusals_in (situation_in m h) op false) ≡ None → is_full b.opening b.past ≡ false
     → first_that_holds (refusals_in (situation b.opening b.past h) op (is_full b.opening b.past)) ≡ None
 unrefused-read b o past {m} is most stands h inside op none room =

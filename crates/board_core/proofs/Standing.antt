@@ -15,8 +15,8 @@ use Rattle.sbi_abi.specs.declared.call.Call.{Call}
 use Rattle.sbi_abi.specs.declared.call.Regs.{Regs}
 use Rattle.sbi_abi.specs.declared.reset.Reset.{Reset}
 use Rattle.sbi_abi.specs.Calls.{call_of}
-use Rattle.board_core.specs.declared.event.Op.TheVariants.{Ecall}
-use Rattle.board_core.specs.declared.event.Reply.{Reply}
+use Rattle.board_terms.specs.declared.op.Op.TheVariants.{Ecall}
+use Rattle.board_terms.specs.declared.reply.Reply.{Reply}
 use Rattle.board_core.specs.declared.counts.Counts.{Counts}
 use Rattle.board_core.specs.declared.interrupt_state.Interrupts.{Interrupts}
 use Rattle.board_core.specs.declared.machine.Machine.{Machine}
@@ -55,7 +55,8 @@ module _ (o : Opening) (past : List Event) (event : Event) (d : Deed) (does : de
   -- ---- fences
 
   -- what a turn makes of them
-  pub fences-turned : (f f' : State Flush) (turn : Turn Flush) → d.turn ≡ turn → IsTaken f turn f' → IsRightTurn o.fences o.config.harts (turns o past) turn → FencesStand o past f → FencesStand o (event ∷ past) f'
+  pub fences-turned : (f f' : State Flush) (turn : Turn Flush) → d.turn ≡ turn → IsTaken f turn f' → IsRightTurn o.fences o.config.harts (turns o past) turn → FencesStand o past f
+      → FencesStand o (event ∷ past) f'
   fences-turned f f' turn is taken right stand =
       let same = sym (turned ∙ is) in
       record {

@@ -18,16 +18,16 @@ use Rattle.hsm.specs.declared.hart.HartState.TheVariants.{Started, Stopped, Star
 use Rattle.hsm.specs.declared.hart.Kept.{Kept}
 use Rattle.hsm.specs.States.{goes_on, is_start_pending, is_started, is_stopped}
 use Rattle.board_core.specs.Opening.{IsOpening, Opening}
-use Rattle.board_core.specs.declared.event.Actor.{Actor}
-use Rattle.board_core.specs.declared.event.Actor.TheVariants.{Hart, Clock}
+use Rattle.board_terms.specs.declared.op.Actor.{Actor}
+use Rattle.board_terms.specs.declared.op.Actor.TheVariants.{Hart, Clock}
 use Rattle.board_core.specs.History.{Event}
-use Rattle.board_core.specs.declared.event.Op.{Op}
-use Rattle.board_core.specs.declared.event.Op.TheVariants.{Ecall, Load, Store, Fetch, WriteSatp, WriteSie, WriteSstatusSie, ReadSip, ClearSsip, Wfi, Sfence, FenceI, Poll, Serve, Advance, Tick}
-use Rattle.board_core.specs.declared.event.Reply.{Reply}
-use Rattle.board_core.specs.declared.event.Reply.TheVariants.{Ret, Entry}
+use Rattle.board_terms.specs.declared.op.Op.{Op}
+use Rattle.board_terms.specs.declared.op.Op.TheVariants.{Ecall, Load, Store, Fetch, WriteSatp, WriteSie, WriteSstatusSie, ReadSip, ClearSsip, Wfi, Sfence, FenceI, Poll, Serve, Advance, Tick}
+use Rattle.board_terms.specs.declared.reply.Reply.{Reply}
+use Rattle.board_terms.specs.declared.reply.Reply.TheVariants.{Ret, Entry}
 use Rattle.tlb_model.specs.declared.entry.Entry.{Entry as CacheEntry}
 use Rattle.board_core.specs.Csrs.{sstatus_sie}
-use Rattle.board_core.specs.Limits.{is_start_address}
+use Rattle.board_terms.specs.Limits.{is_start_address}
 use Rattle.board_core.specs.Refusals.{first_that_holds, is_full, situation}
 use Rattle.board_core.specs.Interrupts.{wake}
 use Rattle.board_core.specs.Suspends.{resume_point}
@@ -147,13 +147,15 @@ module _ (o : Opening) where
   anew past before h reset = by_kind (begins_anew reset.kind)
     where
       by_kind : (begins : Bool) → filter (is_of h) (if begins then boot_start o.config ∷ [] else [])
-          ≡ option_to_list (if is_start_pending (if begins then state_at_boot o.config h else Stopped) then Some (unwrap_or (find (is_of h) (if begins then boot_start o.config ∷ [] else [])) (boot_start o.config)) else None) ++ []
+          ≡ option_to_list (if is_start_pending (if begins then state_at_boot o.config h else Stopped) then Some
+          (unwrap_or (find (is_of h) (if begins then boot_start o.config ∷ [] else [])) (boot_start o.config)) else None) ++ []
       by_kind true = by_test (eqb h o.config.boot_hart)
       by_kind false = refl
 
   -- the law after a call
   after_call : (past : List Event) (before : (h : ℕ) → IsEntered past h) (h x : ℕ) (call : Call) (r : Reply)
-      → state o past x ≡ Started → call_reply o past x call ≡ r → IsEnteredBy past before h (move_by_call o.config x call r) (start_by_call o.config call r) (growth None (reset_by_call call r) (λ reset. []))
+      → state o past x ≡ Started → call_reply o past x call ≡ r
+      → IsEnteredBy past before h (move_by_call o.config x call r) (start_by_call o.config call r) (growth None (reset_by_call call r) (λ reset. []))
   after_call past before h x (Hsm (HartStart t addr opaque)) r running is = rw (← is) (by_errors (nat_le o.config.harts t) (is_start_address o.config.pages addr) (state o past t) refl)
     where
       by_errors : (missing right : Bool) (s : HartState) → state o past t ≡ s

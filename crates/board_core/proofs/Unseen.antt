@@ -30,18 +30,18 @@ use Rattle.board_core.specs.Accesses.{access_reply, access_reply_of}
 use Rattle.board_core.specs.Course.{harts_of}
 use Rattle.board_core.specs.Csrs.{enables, interrupt_bits, sie, sstatus_sie}
 use Rattle.board_core.specs.Cuts.{IsHeld, IsUnseen, opening_of}
-use Rattle.board_core.specs.declared.event.Actor.{Actor}
-use Rattle.board_core.specs.declared.event.Actor.TheVariants.{Hart as OfHart, Clock}
-use Rattle.board_core.specs.declared.event.Op.{Op}
-use Rattle.board_core.specs.declared.event.Op.TheVariants.{Ecall, Load, Store, Fetch, ReadSip, Advance}
-use Rattle.board_core.specs.declared.event.Refusal.{Refusal}
-use Rattle.board_core.specs.declared.event.Refusal.TheVariants.{Off, WrongPhase}
-use Rattle.board_core.specs.declared.event.Reply.{Reply}
-use Rattle.board_core.specs.declared.event.Reply.TheVariants.{Value}
+use Rattle.board_terms.specs.declared.op.Actor.{Actor}
+use Rattle.board_terms.specs.declared.op.Actor.TheVariants.{Hart as OfHart, Clock}
+use Rattle.board_terms.specs.declared.op.Op.{Op}
+use Rattle.board_terms.specs.declared.op.Op.TheVariants.{Ecall, Load, Store, Fetch, ReadSip, Advance}
+use Rattle.board_terms.specs.declared.reply.Refusal.{Refusal}
+use Rattle.board_terms.specs.declared.reply.Refusal.TheVariants.{Off, WrongPhase}
+use Rattle.board_terms.specs.declared.reply.Reply.{Reply}
+use Rattle.board_terms.specs.declared.reply.Reply.TheVariants.{Value}
 use Rattle.board_core.specs.Fences.{outstanding, turns, waiting}
 use Rattle.board_core.specs.History.{Event}
 use Rattle.board_core.specs.Interrupts.{ssip, stip, time, wake}
-use Rattle.board_core.specs.Limits.{is_start_address}
+use Rattle.board_terms.specs.Limits.{is_start_address}
 use Rattle.board_core.specs.Opening.{Opening}
 use Rattle.board_core.specs.Refusals.{first_that_holds, refusals_in, situation}
 use Rattle.board_core.specs.Replies.{advance_reply, answer_when, call_reply, refused_or, reply}
@@ -108,11 +108,14 @@ module _ (o : Opening) (past : List Event) (held : IsHeld o past) where
   call_reply-cut h inside (Hsm (HartStart t addr opaque)) = by_hart (nat_le o.config.harts t) refl
     where
       by_hart : (missing : Bool) → nat_le o.config.harts t ≡ missing
-          → as_reply (Returns (first_that_holds ((nat_le o.config.harts t, InvalidParam) ∷ (not (is_start_address o.config.pages addr), InvalidAddress) ∷ (not (is_stopped (state cut [] t)), AlreadyAvailable) ∷ [])) 0)
-          ≡ as_reply (Returns (first_that_holds ((nat_le o.config.harts t, InvalidParam) ∷ (not (is_start_address o.config.pages addr), InvalidAddress) ∷ (not (is_stopped (state o past t)), AlreadyAvailable) ∷ [])) 0)
+          → as_reply (Returns (first_that_holds
+          ((nat_le o.config.harts t, InvalidParam) ∷ (not (is_start_address o.config.pages addr), InvalidAddress) ∷ (not (is_stopped (state cut [] t)), AlreadyAvailable) ∷ [])) 0)
+          ≡ as_reply (Returns (first_that_holds
+          ((nat_le o.config.harts t, InvalidParam) ∷ (not (is_start_address o.config.pages addr), InvalidAddress) ∷ (not (is_stopped (state o past t)), AlreadyAvailable) ∷ [])) 0)
       by_hart true is = rw is refl
       by_hart false is =
-          ap (λ s. as_reply (Returns (first_that_holds ((nat_le o.config.harts t, InvalidParam) ∷ (not (is_start_address o.config.pages addr), InvalidAddress) ∷ (not (is_stopped s), AlreadyAvailable) ∷ [])) 0))
+          ap (λ s. as_reply (Returns
+          (first_that_holds ((nat_le o.config.harts t, InvalidParam) ∷ (not (is_start_address o.config.pages addr), InvalidAddress) ∷ (not (is_stopped s), AlreadyAvailable) ∷ [])) 0))
           (state-cut t (leb-false o.config.harts t is))
   call_reply-cut h inside (Hsm (HartGetStatus t)) = by_hart (nat_le o.config.harts t) refl
     where
@@ -138,7 +141,8 @@ module _ (o : Opening) (past : List Event) (held : IsHeld o past) where
       (ap (λ one. unwrap_or one (boot_start o.config)) (found-inside cut (opens-cut o past held) h inside ∙ ap (λ (hart : Hart). start_in h hart.state hart.kept) (hart-cut o past held h inside)))
     where
       by_state : (s : HartState) → state o past h ≡ s → last_start cut [] h ≡ unwrap_or (start_in h (state o past h) (hart_of o past h).kept) (boot_start o.config)
-          → advance_reply h (state o past h) (last_start cut [] h) (kept_in (state o past h) (last_start o past h) (resume_point o past h)) ≡ advance_reply h (state o past h) (last_start o past h) (resume_point o past h)
+          → advance_reply h (state o past h) (last_start cut [] h) (kept_in (state o past h) (last_start o past h) (resume_point o past h))
+          ≡ advance_reply h (state o past h) (last_start o past h) (resume_point o past h)
       by_state StartPending at last =
           ap (λ (start : Start). advance_reply h (state o past h) start (kept_in (state o past h) (last_start o past h) (resume_point o past h))) last ∙ (rw at refl)
       by_state Started at last = rw at refl
@@ -166,7 +170,8 @@ module _ (o : Opening) (past : List Event) (held : IsHeld o past) where
   answer-cut : (is_full : Bool) (actor : Actor) (op : Op) → answer_when is_full cut [] actor op ≡ answer_when is_full o past actor op
   answer-cut is_full (OfHart h) op = elim (cases_lt h o.config.harts) [
     | inl near ↦ λ i. refused_or (first_that_holds ((is_off o past, Off) ∷ (nat_le o.config.harts h, WrongPhase) ∷ refusals_in (situation-cut h near i) op is_full)) (reply-cut h near op i)
-    | inr far ↦ refused-far (is_off o past) (nat_le o.config.harts h) (le-leb o.config.harts h far) (refusals_in (situation cut [] h) op is_full) (refusals_in (situation o past h) op is_full) (reply cut [] h op) (reply o past h op)
+    | inr far ↦ refused-far (is_off o past) (nat_le o.config.harts h) (le-leb o.config.harts h far) (refusals_in (situation cut [] h) op is_full) (refusals_in (situation o past h) op is_full)
+        (reply cut [] h op) (reply o past h op)
   ]
   answer-cut is_full Clock op = refl
 

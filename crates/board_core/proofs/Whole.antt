@@ -5,10 +5,10 @@ use Rattle.std.proofs.lemmas.List.{length-replicate}
 use Rattle.std.proofs.lemmas.List.FromFn.{length-map-range_with_len}
 use Rattle.sv39.specs.declared.ram.TheConstants.{PAGE_WORDS, RAM_START}
 use Rattle.sv39.specs.Memory.{IsRam}
-use Rattle.board_core.specs.declared.config.Config.{Config}
+use Rattle.board_terms.specs.declared.config.Config.{Config}
 use Rattle.board_core.specs.declared.machine.Machine.{Machine}
 use Rattle.board_core.specs.Cuts.{OpensAfter, opening_in, opening_of}
-use Rattle.board_core.specs.Limits.{IsGood}
+use Rattle.board_terms.specs.Limits.{IsGood}
 use Rattle.board_core.specs.Memory.{memory}
 use Rattle.board_core.specs.Opening.{Opening}
 use Rattle.board_core.specs.Stands.{IsKept, StandsFor}

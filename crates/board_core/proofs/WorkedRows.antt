@@ -6,14 +6,14 @@ use Rattle.sbi_abi.specs.SuspendTypes.{suspend_kind_of}
 use Rattle.hart_mask.specs.HartList.{names_stray, targets_of}
 use Rattle.hart_mask.specs.Ids.{ids_where}
 use Rattle.hsm.specs.declared.hart.HartState.TheVariants.{Stopped, Suspended}
-use Rattle.board_core.specs.declared.event.Actor.{Actor}
-use Rattle.board_core.specs.declared.event.Actor.TheVariants.{Hart, Clock}
-use Rattle.board_core.specs.declared.event.Op.{Op}
-use Rattle.board_core.specs.declared.event.Op.TheVariants.{Advance, ClearSsip, Ecall, Poll, ReadSip, Serve, Tick, WriteSie, WriteSstatusSie}
-use Rattle.board_core.specs.declared.event.Refusal.{Refusal}
-use Rattle.board_core.specs.declared.event.Refusal.TheVariants.{Nothing, TimeFull, WrongPhase}
-use Rattle.board_core.specs.declared.event.Reply.{Reply}
-use Rattle.board_core.specs.declared.event.Reply.TheVariants.{Done, Entry, Gone, Moved, Ret, Served, Value, Waiting}
+use Rattle.board_terms.specs.declared.op.Actor.{Actor}
+use Rattle.board_terms.specs.declared.op.Actor.TheVariants.{Hart, Clock}
+use Rattle.board_terms.specs.declared.op.Op.{Op}
+use Rattle.board_terms.specs.declared.op.Op.TheVariants.{Advance, ClearSsip, Ecall, Poll, ReadSip, Serve, Tick, WriteSie, WriteSstatusSie}
+use Rattle.board_terms.specs.declared.reply.Refusal.{Refusal}
+use Rattle.board_terms.specs.declared.reply.Refusal.TheVariants.{Nothing, TimeFull, WrongPhase}
+use Rattle.board_terms.specs.declared.reply.Reply.{Reply}
+use Rattle.board_terms.specs.declared.reply.Reply.TheVariants.{Done, Entry, Gone, Moved, Ret, Served, Value, Waiting}
 use Rattle.board_core.specs.Course.{Course}
 use Rattle.board_core.specs.Opening.{opening_at}
 use Rattle.board_core.specs.Replies.{answer, stepped}

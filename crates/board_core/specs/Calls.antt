@@ -4,7 +4,7 @@ use Rattle.sbi_abi.specs.declared.answer.SbiError.TheVariants.{NotSupported}
 use Rattle.sbi_abi.specs.declared.call.Call.{Call}
 use Rattle.sbi_abi.specs.declared.call.Call.TheVariants as calls
 use Rattle.hsm.specs.declared.hart.HartState.{HartState}
-use Rattle.board_core.specs.declared.config.Config.{Config}
+use Rattle.board_terms.specs.declared.config.Config.{Config}
 use Rattle.board_core.specs.Calls.Base.{base_reply}
 use Rattle.board_core.specs.Calls.Hsm.{hsm_reply}
 use Rattle.board_core.specs.Calls.Ipi.{ipi_reply}

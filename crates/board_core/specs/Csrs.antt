@@ -5,10 +5,10 @@ use Rattle.hart_mask.specs.Ids.{has}
 use Rattle.board_core.specs.Opening.{Opening}
 use Rattle.board_core.specs.declared.csrs.Sie.{Sie}
 use Rattle.board_core.specs.History.{Event}
-use Rattle.board_core.specs.declared.event.Op.{Op}
-use Rattle.board_core.specs.declared.event.Op.TheVariants.{WriteSie, WriteSstatusSie, Advance}
-use Rattle.board_core.specs.declared.event.Reply.{Reply}
-use Rattle.board_core.specs.declared.event.Reply.TheVariants.{Entry}
+use Rattle.board_terms.specs.declared.op.Op.{Op}
+use Rattle.board_terms.specs.declared.op.Op.TheVariants.{WriteSie, WriteSstatusSie, Advance}
+use Rattle.board_terms.specs.declared.reply.Reply.{Reply}
+use Rattle.board_terms.specs.declared.reply.Reply.TheVariants.{Entry}
 use Rattle.board_core.specs.Course.{is_hart}
 use Rattle.board_core.specs.Resets.{reset_by}
 use Rattle.board_core.specs.States.{is_start_entry, is_starting}
@@ -23,7 +23,8 @@ sstatus_sie_by op reply = at_reset (reset_by op reply) false
 -- Whether sstatus.SIE of a hart is 1: what its last write, entry or reset made of it, and before any what the opening has.
 abbrev pub sstatus_sie : Opening → List Event → ℕ → Bool
 sstatus_sie o [] h = has o.sstatus_sie h
-sstatus_sie o (event ∷ past) h = latest (sstatus_sie_by event.op event.reply) (is_hart h event.actor) (sstatus_sie o past h)
+sstatus_sie o (event ∷ past) h = latest (sstatus_sie_by event.op event.reply) (is_hart h event.actor)
+    (sstatus_sie o past h)
 
 -- the bits of a number that sie keeps: SSIE is bit 1, and STIE is bit 5 (Privileged 4.1.3)
 abbrev pub sie_of : ℕ → Sie
@@ -48,7 +49,8 @@ enables sie ssip stip = (sie.ssie && ssip) || (sie.stie && stip)
 -- A guest writes sie, and the entry of a start clears it, and a reset everywhere (profile).
 abbrev pub sie_by : Op → Reply → (starting : Bool) → Option (Write Sie)
 sie_by (WriteSie value) reply starting = Some (Here (sie_of value))
-sie_by op reply starting = if is_start_entry op reply starting then Some (Here none_enabled) else at_reset (reset_by op reply) none_enabled
+sie_by op reply starting = if is_start_entry op reply starting then Some (Here none_enabled) else at_reset
+    (reset_by op reply) none_enabled
 
 -- sie of a hart: what its last write, entry by start or reset made of it, and before any what the opening has. The entry of a
 -- resume keeps it (profile).

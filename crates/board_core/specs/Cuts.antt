@@ -6,19 +6,19 @@ use Rattle.sv39.specs.declared.ram.TheConstants.{PAGE_WORDS, RAM_START}
 use Rattle.sv39.specs.Memory.{IsRam, pages_of, word_in}
 use Rattle.rfence.specs.Cuts as fence_cuts
 use Rattle.rfence.specs.Right.{IsRight}
-use Rattle.board_core.specs.declared.config.Config.{Config}
+use Rattle.board_terms.specs.declared.config.Config.{Config}
 use Rattle.board_core.specs.declared.machine.Machine.{Machine}
 use Rattle.board_core.specs.Course.{harts_of}
 use Rattle.board_core.specs.Csrs as csrs
 use Rattle.board_core.specs.Csrs.{sie, sstatus_sie}
-use Rattle.board_core.specs.declared.event.Actor.{Actor}
-use Rattle.board_core.specs.declared.event.Op.{Op}
+use Rattle.board_terms.specs.declared.op.Actor.{Actor}
+use Rattle.board_terms.specs.declared.op.Op.{Op}
 use Rattle.board_core.specs.Fences as fences
 use Rattle.board_core.specs.Fences.{turns}
 use Rattle.board_core.specs.History.{Event}
 use Rattle.board_core.specs.Interrupts as interrupts
 use Rattle.board_core.specs.Interrupts.{deadline, ssip, time}
-use Rattle.board_core.specs.Limits.{IsGood}
+use Rattle.board_terms.specs.Limits.{IsGood}
 use Rattle.board_core.specs.Memory as memory
 use Rattle.board_core.specs.Memory.{caches_of, satp}
 use Rattle.board_core.specs.Opening.{Opening, opening_at, place_after}
@@ -58,7 +58,8 @@ opening_of o past = record {
 abbrev pub OpensAfter : (cuts : ℕ) → Opening → Type 0
 OpensAfter zero o = IsGood o.config × (o ≡ opening_at o.config)
 OpensAfter (suc cuts) o =
-    (before : Opening) × (past : List Event) × OpensAfter cuts before × IsLegal before past × (o ≡ opening_of before past)
+    (before : Opening) × (past : List Event) × OpensAfter cuts before × IsLegal before past
+    × (o ≡ opening_of before past)
 
 pub record IsOpened (o : Opening) : Type 0 where
   pub cuts : ℕ
@@ -127,7 +128,8 @@ pub record IsUnseen (o : Opening) (past : List Event) : Type 0 where
   pub ssip : (h : ℕ) → h < o.config.harts → interrupts.ssip (opening_of o past) [] h ≡ interrupts.ssip o past h
   pub stip : (h : ℕ) → h < o.config.harts → interrupts.stip (opening_of o past) [] h ≡ interrupts.stip o past h
   pub wake : (h : ℕ) → h < o.config.harts → interrupts.wake (opening_of o past) [] h ≡ interrupts.wake o past h
-  pub deadline : (h : ℕ) → h < o.config.harts → interrupts.deadline (opening_of o past) [] h ≡ interrupts.deadline o past h
+  pub deadline : (h : ℕ) → h < o.config.harts
+      → interrupts.deadline (opening_of o past) [] h ≡ interrupts.deadline o past h
   pub satp : (h : ℕ) → h < o.config.harts → memory.satp (opening_of o past) [] h ≡ memory.satp o past h
   pub caches : (h : ℕ) → h < o.config.harts → memory.caches_of (opening_of o past) [] h ≡ memory.caches_of o past h
   pub waiting : (h : ℕ) → fences.waiting (opening_of o past) [] h ≡ fences.waiting o past h
@@ -137,4 +139,5 @@ pub record IsUnseen (o : Opening) (past : List Event) : Type 0 where
   pub last_reset : last_reset (opening_of o past) [] ≡ last_reset o past
   pub word : memory.memory (opening_of o past) [] ≡ memory.memory o past
   pub totals : totals (opening_of o past) [] ≡ totals o past
-  pub answer : (is_full : Bool) (actor : Actor) (op : Op) → answer_when is_full (opening_of o past) [] actor op ≡ answer_when is_full o past actor op
+  pub answer : (is_full : Bool) (actor : Actor) (op : Op)
+      → answer_when is_full (opening_of o past) [] actor op ≡ answer_when is_full o past actor op

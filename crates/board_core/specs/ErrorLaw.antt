@@ -3,8 +3,8 @@ use Rattle.std.specs.Prelude.{◌≡◌, ℕ, List, Bool, false, not}
 use Rattle.sbi_abi.specs.Errors.{is_success}
 use Rattle.board_core.specs.Opening.{Opening}
 use Rattle.board_core.specs.History.{Event}
-use Rattle.board_core.specs.declared.event.Reply.{Reply}
-use Rattle.board_core.specs.declared.event.Reply.TheVariants.{Ret}
+use Rattle.board_terms.specs.declared.reply.Reply.{Reply}
+use Rattle.board_terms.specs.declared.reply.Reply.TheVariants.{Ret}
 use Rattle.board_core.specs.Csrs as csrs
 use Rattle.board_core.specs.Fences as fences
 use Rattle.board_core.specs.Interrupts as interrupts

@@ -13,14 +13,14 @@ use Rattle.rfence.specs.Waiting as queues
 use Rattle.tlb_model.specs.declared.fence.Flush.{Flush}
 use Rattle.tlb_model.specs.declared.fence.Flush.TheVariants.{Words, Entries}
 use Rattle.tlb_model.specs.Fences.{fence_of_address}
-use Rattle.board_core.specs.declared.config.Config.{Config}
+use Rattle.board_terms.specs.declared.config.Config.{Config}
 use Rattle.board_core.specs.Opening.{Opening}
-use Rattle.board_core.specs.declared.event.Actor.{Actor}
-use Rattle.board_core.specs.declared.event.Actor.TheVariants.{Hart, Clock}
-use Rattle.board_core.specs.declared.event.Op.{Op}
-use Rattle.board_core.specs.declared.event.Op.TheVariants as ops
-use Rattle.board_core.specs.declared.event.Reply.{Reply}
-use Rattle.board_core.specs.declared.event.Reply.TheVariants as replies
+use Rattle.board_terms.specs.declared.op.Actor.{Actor}
+use Rattle.board_terms.specs.declared.op.Actor.TheVariants.{Hart, Clock}
+use Rattle.board_terms.specs.declared.op.Op.{Op}
+use Rattle.board_terms.specs.declared.op.Op.TheVariants as ops
+use Rattle.board_terms.specs.declared.reply.Reply.{Reply}
+use Rattle.board_terms.specs.declared.reply.Reply.TheVariants as replies
 use Rattle.board_core.specs.declared.phase.Phase.{Phase}
 use Rattle.board_core.specs.declared.phase.Phase.TheVariants.{Outside, Inside}
 use Rattle.board_core.specs.History.{Event}
@@ -28,7 +28,7 @@ use Rattle.board_core.specs.Calls.Hsm.{turn_by_hsm}
 pub use Rattle.board_core.specs.Calls.Rfence.{Remote}
 use Rattle.board_core.specs.Calls.Rfence.{remote_by_rfence}
 use Rattle.board_core.specs.Calls.Srst.{turn_by_srst}
-use Rattle.board_core.specs.Limits.{spaces_of}
+use Rattle.board_terms.specs.Limits.{spaces_of}
 use Rattle.board_core.specs.States.{state}
 use Rattle.board_core.specs.Targets.{is_reached}
 
@@ -88,7 +88,8 @@ module _ (o : Opening) (past : List Event) where
 
   -- The harts that a hart's fence call waits for, as ascending ids, while it is inside one.
   abbrev pub outstanding : ℕ → Option (List ℕ)
-  outstanding h = in_call (calls.open_call o.fences (turns o past) h) (calls.outstanding o.fences o.config.harts (turns o past) h)
+  outstanding h = in_call (calls.open_call o.fences (turns o past) h)
+      (calls.outstanding o.fences o.config.harts (turns o past) h)
 
   -- Whether a hart is inside a fence call (SBI 8; that a call waits: profile).
   abbrev pub phase : ℕ → Phase

@@ -7,9 +7,9 @@ use Rattle.hart_mask.specs.Ids.{has}
 use Rattle.interrupts.specs.Timing.{deadline_of, is_due}
 use Rattle.board_core.specs.Opening.{Opening}
 use Rattle.board_core.specs.History.{Event}
-use Rattle.board_core.specs.declared.event.Op.{Op}
-use Rattle.board_core.specs.declared.event.Op.TheVariants.{Ecall, ClearSsip, Tick}
-use Rattle.board_core.specs.declared.event.Reply.{Reply}
+use Rattle.board_terms.specs.declared.op.Op.{Op}
+use Rattle.board_terms.specs.declared.op.Op.TheVariants.{Ecall, ClearSsip, Tick}
+use Rattle.board_terms.specs.declared.reply.Reply.{Reply}
 use Rattle.board_core.specs.Calls.Hsm.{deadline_by_hsm}
 use Rattle.board_core.specs.Calls.Ipi.{reaches_by_ipi}
 use Rattle.board_core.specs.Calls.Time.{deadline_by_time}
@@ -33,7 +33,8 @@ reaches_by o past op reply h = false
 -- A guest clears SSIP of its hart, and so does the entry of a start; a reset clears it everywhere (profile).
 abbrev pub ssip_by : Op → Reply → (starting : Bool) → Option (Write Bool)
 ssip_by ClearSsip reply starting = Some (Here false)
-ssip_by op reply starting = if is_start_entry op reply starting then Some (Here false) else at_reset (reset_by op reply) false
+ssip_by op reply starting = if is_start_entry op reply starting then Some (Here false) else at_reset
+    (reset_by op reply) false
 
 -- Whether SSIP of a hart is 1: the last event that wrote it was an IPI, or none did, and the opening has it so.
 abbrev pub ssip : Opening → List Event → ℕ → Bool
@@ -68,7 +69,8 @@ deadline_by op reply starting = if is_start_entry op reply starting then Some (H
 abbrev pub deadline : Opening → List Event → ℕ → Option ℕ
 deadline o [] h = deadline_of o.timers h
 deadline o (event ∷ past) h =
-    latest (deadline_by event.op event.reply (is_starting o past event.actor)) (is_hart h event.actor) (deadline o past h)
+    latest (deadline_by event.op event.reply (is_starting o past event.actor)) (is_hart h event.actor)
+    (deadline o past h)
 
 -- Whether STIP of a hart is 1: it has a deadline, and the deadline has come (SBI 6.1; Privileged 4.1.3).
 abbrev pub stip : Opening → List Event → ℕ → Bool

@@ -3,12 +3,12 @@
 use Rattle.std.specs.Prelude.{◌≡◌, ◌<◌, FitsSigned, ℕ, Option, None}
 use Rattle.std.specs.Int.{w8}
 use Rattle.tlb_model.specs.declared.entry.Entry.{Entry}
-use Rattle.board_core.specs.declared.event.Actor.{Actor}
-use Rattle.board_core.specs.declared.event.Actor.TheVariants.{Hart, Clock}
-use Rattle.board_core.specs.declared.event.Op.{Op}
-use Rattle.board_core.specs.declared.event.Op.TheVariants as ops
-use Rattle.board_core.specs.declared.event.Reply.{Reply}
-use Rattle.board_core.specs.declared.event.Reply.TheVariants as replies
+use Rattle.board_terms.specs.declared.op.Actor.{Actor}
+use Rattle.board_terms.specs.declared.op.Actor.TheVariants.{Hart, Clock}
+use Rattle.board_terms.specs.declared.op.Op.{Op}
+use Rattle.board_terms.specs.declared.op.Op.TheVariants as ops
+use Rattle.board_terms.specs.declared.reply.Reply.{Reply}
+use Rattle.board_terms.specs.declared.reply.Reply.TheVariants as replies
 use Rattle.board_core.specs.declared.keeping.By.{By}
 use Rattle.board_core.specs.declared.keeping.By.TheVariants as makers
 use Rattle.board_core.specs.declared.keeping.Head.{Head}
@@ -181,5 +181,6 @@ reply_in what first = reply_of (head_in what).said (hart_in (head_in what).by) f
 
 -- what is kept is what its parts are kept as
 pub record IsKeptWell (what : What) (first : ℕ) : Type 0 where
-  pub what_again : what_of (head_of (actor_in what) (reply_in what first)) (op_in what) (used_in what) (opaque_of (reply_in what first)) ≡ what
+  pub what_again : what_of (head_of (actor_in what) (reply_in what first)) (op_in what) (used_in what)
+      (opaque_of (reply_in what first)) ≡ what
   pub first_again : first_of (reply_in what first) ≡ first

@@ -1,4 +1,3 @@
-pub mod Limits
 pub mod Opening
 pub mod Course
 pub mod States

@@ -15,16 +15,16 @@ use Rattle.tlb_model.specs.Entries.{covers_entry, matches}
 use Rattle.tlb_model.specs.Words.{covers_word, is_at}
 use Rattle.hart_access.specs.Accesses.{fetched_from}
 use Rattle.hart_access.specs.Ways.{phys_at}
-use Rattle.board_core.specs.declared.config.Config.{Config}
+use Rattle.board_terms.specs.declared.config.Config.{Config}
 use Rattle.board_core.specs.Opening.{Opening, opened_satp, tlb_at, words_at}
-use Rattle.board_core.specs.declared.event.Op.{Op}
-use Rattle.board_core.specs.declared.event.Op.TheVariants as ops
-use Rattle.board_core.specs.declared.event.Reply.{Reply}
-use Rattle.board_core.specs.declared.event.Reply.TheVariants as replies
+use Rattle.board_terms.specs.declared.op.Op.{Op}
+use Rattle.board_terms.specs.declared.op.Op.TheVariants as ops
+use Rattle.board_terms.specs.declared.reply.Reply.{Reply}
+use Rattle.board_terms.specs.declared.reply.Reply.TheVariants as replies
 use Rattle.board_core.specs.Course.{is_hart}
 use Rattle.board_core.specs.Fences.{turn_of, turns}
 use Rattle.board_core.specs.History.{Event}
-use Rattle.board_core.specs.Limits.{spaces_of}
+use Rattle.board_terms.specs.Limits.{spaces_of}
 use Rattle.board_core.specs.Resets.{is_cold, reset_by}
 use Rattle.board_core.specs.Writes.{Write, Here, at_reset, latest}
 
@@ -114,7 +114,8 @@ abbrev pub tlb_acts : Opening → List Event → ℕ → List (Act Entry)
 tlb_acts o [] h = []
 tlb_acts o (event ∷ past) h =
     act_by (effect o.fences (turns o past) (turn_of o past event.actor event.op event.reply) h)
-    (own_filling (is_hart h event.actor) (entry_filling event.op event.translation (satp o past h) (hit_in o h (tlb_acts o past h))))
+    (own_filling (is_hart h event.actor)
+    (entry_filling event.op event.translation (satp o past h) (hit_in o h (tlb_acts o past h))))
     ∷ tlb_acts o past h
 
 -- the word that was fetched last from a physical address, of those that live
@@ -122,7 +123,8 @@ abbrev pub cached_in : Opening → (h : ℕ) → List (Act FetchWord) → (pa : 
 cached_in o h acts pa = last_live o.places (words_at o h) covers_word is_at pa acts
 
 -- A fetch that answers a value fills the word that it read from the memory.
-abbrev pub word_filling : Op → Reply → (used : Option Entry) → (memory : ℕ → Option ℕ) → (cached : ℕ → Option FetchWord) → Option FetchWord
+abbrev pub word_filling : Op → Reply → (used : Option Entry) → (memory : ℕ → Option ℕ)
+    → (cached : ℕ → Option FetchWord) → Option FetchWord
 word_filling (ops.Fetch va) (replies.Value value) used memory cached =
     fetched_from (cached (phys_at used va)) (phys_at used va) (unwrap_or (memory (phys_at used va)) 0)
 word_filling op reply used memory cached = None
@@ -132,7 +134,8 @@ abbrev pub word_acts : Opening → List Event → ℕ → List (Act FetchWord)
 word_acts o [] h = []
 word_acts o (event ∷ past) h =
     act_by (effect o.fences (turns o past) (turn_of o past event.actor event.op event.reply) h)
-    (own_filling (is_hart h event.actor) (word_filling event.op event.reply event.translation (memory o past) (cached_in o h (word_acts o past h))))
+    (own_filling (is_hart h event.actor)
+    (word_filling event.op event.reply event.translation (memory o past) (cached_in o h (word_acts o past h))))
     ∷ word_acts o past h
 
 -- The caches of a hart: what those of the opening became by all of that.

@@ -16,7 +16,7 @@ use Rattle.tlb_model.specs.declared.word.FetchWord.{FetchWord}
 use Rattle.tlb_model.specs.Contents.{Contents, empty}
 use Rattle.rfence.specs.Opening as fences
 use Rattle.rfence.specs.Opening.{called_at, waited_at}
-use Rattle.board_core.specs.declared.config.Config.{Config}
+use Rattle.board_terms.specs.declared.config.Config.{Config}
 use Rattle.board_core.specs.History.{Event}
 
 -- The board's numbers, and how many events were accepted before. For each hart its state, with what is kept for its entry.

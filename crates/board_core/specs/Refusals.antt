@@ -7,22 +7,15 @@ use Rattle.interrupts.specs.Timing.{last_time}
 use Rattle.tlb_model.specs.declared.fence.Flush.{Flush}
 use Rattle.board_core.specs.Opening.{Opening}
 use Rattle.board_core.specs.History.{Event}
-use Rattle.board_core.specs.declared.event.Op.{Op}
-use Rattle.board_core.specs.declared.event.Op.TheVariants.{Ecall, Load, Store, Fetch, WriteSatp, WriteSie, WriteSstatusSie, ReadSip, ClearSsip, Wfi, Sfence, FenceI, Poll, Serve, Advance, Tick}
-use Rattle.board_core.specs.declared.event.Refusal.{Refusal}
-use Rattle.board_core.specs.declared.event.Refusal.TheVariants.{Off, WrongPhase, Nothing, HistoryFull, TimeFull}
+use Rattle.board_terms.specs.declared.op.Op.{Op}
+use Rattle.board_terms.specs.declared.op.Op.TheVariants.{Ecall, Load, Store, Fetch, WriteSatp, WriteSie, WriteSstatusSie, ReadSip, ClearSsip, Wfi, Sfence, FenceI, Poll, Serve, Advance, Tick}
+use Rattle.board_terms.specs.declared.reply.Refusal.{Refusal}
+use Rattle.board_terms.specs.declared.reply.Refusal.TheVariants.{Off, WrongPhase, Nothing, HistoryFull, TimeFull}
 use Rattle.board_core.specs.Fences.{outstanding, waiting}
 use Rattle.board_core.specs.Interrupts.{ticks_by, time, wake}
 use Rattle.board_core.specs.Resets.{is_off}
-pub use Rattle.board_core.specs.Returns.{first_that_holds}
+pub use Rattle.board_terms.specs.Refusals.{first_that_holds, refusal_number}
 use Rattle.board_core.specs.States.{state}
-
-abbrev pub refusal_number : Refusal → ℕ
-refusal_number Off = 1
-refusal_number WrongPhase = 2
-refusal_number Nothing = 3
-refusal_number HistoryFull = 4
-refusal_number TimeFull = 5
 
 -- what decides whether an operation of a hart happens: its state, its wake, the harts that its fence call waits for,
 -- while it is inside one, and the fences that wait at it

@@ -7,14 +7,14 @@ use Rattle.hsm.specs.declared.hart.HartState.{HartState}
 use Rattle.hsm.specs.declared.hart.HartState.TheVariants as states
 use Rattle.hsm.specs.declared.hart.Kept.{Kept}
 use Rattle.board_core.specs.Opening.{IsOpening, Opening}
-use Rattle.board_core.specs.declared.event.Actor.{Actor}
-use Rattle.board_core.specs.declared.event.Actor.TheVariants.{Hart, Clock}
+use Rattle.board_terms.specs.declared.op.Actor.{Actor}
+use Rattle.board_terms.specs.declared.op.Actor.TheVariants.{Hart, Clock}
 use Rattle.board_core.specs.History.{Event}
-use Rattle.board_core.specs.declared.event.Op.{Op}
-use Rattle.board_core.specs.declared.event.Op.TheVariants.{Ecall, Load, Store, Fetch, WriteSatp, WriteSie, WriteSstatusSie, ReadSip, ClearSsip, Wfi, Sfence, FenceI, Poll, Serve, Advance, Tick}
-use Rattle.board_core.specs.declared.event.Refusal.{Refusal}
-use Rattle.board_core.specs.declared.event.Reply.{Reply}
-use Rattle.board_core.specs.declared.event.Reply.TheVariants.{Ret, Entry, Value, Served, Moved, Done}
+use Rattle.board_terms.specs.declared.op.Op.{Op}
+use Rattle.board_terms.specs.declared.op.Op.TheVariants.{Ecall, Load, Store, Fetch, WriteSatp, WriteSie, WriteSstatusSie, ReadSip, ClearSsip, Wfi, Sfence, FenceI, Poll, Serve, Advance, Tick}
+use Rattle.board_terms.specs.declared.reply.Refusal.{Refusal}
+use Rattle.board_terms.specs.declared.reply.Reply.{Reply}
+use Rattle.board_terms.specs.declared.reply.Reply.TheVariants.{Ret, Entry, Value, Served, Moved, Done}
 use Rattle.board_core.specs.Accesses.{access_reply, used_by_actor}
 use Rattle.board_core.specs.Calls.{reply_to}
 use Rattle.board_core.specs.Returns.{as_reply}
@@ -72,7 +72,8 @@ refused_or None reply = Ok reply
 
 -- What a step answers, where the history is full or isn't: the first refusal that holds, else the reply.
 abbrev pub answer_when : (is_full : Bool) → Opening → List Event → Actor → Op → Result Reply Refusal
-answer_when is_full o past (Hart h) op = refused_or (first_that_holds (refusals is_full o past h op)) (reply o past h op)
+answer_when is_full o past (Hart h) op = refused_or (first_that_holds (refusals is_full o past h op))
+    (reply o past h op)
 answer_when is_full o past Clock op = refused_or (first_that_holds (clock_refusals is_full o past op)) Done
 
 -- What a step answers.
@@ -91,7 +92,8 @@ IsLegal o (event ∷ past) =
 abbrev pub recorded : Course → Actor → Op → Result Reply Refusal → Course
 recorded b actor op (Ok reply) = record {
   opening = b.opening;
-  past = record { actor = actor; op = op; reply = reply; translation = used_by_actor b.opening b.past actor op } ∷ b.past;
+  past = record { actor = actor; op = op; reply = reply; translation = used_by_actor b.opening b.past actor op }
+      ∷ b.past;
 }
 recorded b actor op (Err refusal) = b
 

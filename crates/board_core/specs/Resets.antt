@@ -8,9 +8,9 @@ use Rattle.sbi_abi.specs.declared.reset.ResetKind.TheVariants.{Shutdown, ColdReb
 use Rattle.sbi_abi.specs.Calls.{call_of}
 use Rattle.board_core.specs.History.{Event}
 use Rattle.board_core.specs.Opening.{Opening}
-use Rattle.board_core.specs.declared.event.Op.{Op}
-use Rattle.board_core.specs.declared.event.Op.TheVariants.{Ecall}
-use Rattle.board_core.specs.declared.event.Reply.{Reply}
+use Rattle.board_terms.specs.declared.op.Op.{Op}
+use Rattle.board_terms.specs.declared.op.Op.TheVariants.{Ecall}
+use Rattle.board_terms.specs.declared.reply.Reply.{Reply}
 use Rattle.board_core.specs.Calls.Srst.{reset_by_srst}
 
 -- The reset that a call is, if it is one.

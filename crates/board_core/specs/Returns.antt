@@ -3,13 +3,8 @@ use Rattle.std.specs.Prelude.{ℕ, pos, Bool, List, [], ◌∷◌, if◌then◌e
 use Rattle.sbi_abi.specs.declared.answer.Sbiret.{Sbiret}
 use Rattle.sbi_abi.specs.declared.answer.SbiError.{SbiError}
 use Rattle.sbi_abi.specs.Errors.{error_number}
-use Rattle.board_core.specs.declared.event.Reply.{Reply}
-use Rattle.board_core.specs.declared.event.Reply.TheVariants.{Ret, Waiting, Gone}
-
--- the second part of the first row whose test holds
-abbrev pub first_that_holds : {A : Type 0} → List (Bool × A) → Option A
-first_that_holds [] = None
-first_that_holds (row ∷ rows) = if row.0 then Some row.1 else first_that_holds rows
+use Rattle.board_terms.specs.declared.reply.Reply.{Reply}
+use Rattle.board_terms.specs.declared.reply.Reply.TheVariants.{Ret, Waiting, Gone}
 
 abbrev pub success : ℕ → Sbiret
 success value = record { error = pos 0; value = value }

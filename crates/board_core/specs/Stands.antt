@@ -17,7 +17,7 @@ use Rattle.tlb_model.specs.declared.word.FetchWord.{FetchWord}
 use Rattle.tlb_model.specs.Contents.{hit}
 use Rattle.tlb_model.specs.Entries.{matches}
 use Rattle.tlb_model.specs.Words.{is_at}
-use Rattle.board_core.specs.declared.config.Config.{Config}
+use Rattle.board_terms.specs.declared.config.Config.{Config}
 use Rattle.board_core.specs.Opening.{IsOpening, Opening, on, place_after}
 pub use Rattle.board_core.specs.Opening.{no_caches}
 use Rattle.board_core.specs.History.{Event}
@@ -31,7 +31,7 @@ use Rattle.board_core.specs.Course.{harts_of}
 use Rattle.board_core.specs.Csrs.{enables, sie, sstatus_sie}
 use Rattle.board_core.specs.Fences.{turns}
 use Rattle.board_core.specs.Interrupts.{deadline, ssip, time}
-use Rattle.board_core.specs.Limits.{IsGood}
+use Rattle.board_terms.specs.Limits.{IsGood}
 use Rattle.board_core.specs.Memory.{memory, satp}
 pub use Rattle.board_core.specs.Memory.{caches_of}
 use Rattle.board_core.specs.Refusals.{Situation}

@@ -11,13 +11,13 @@ use Rattle.hsm.specs.declared.hart.Kept.{Kept}
 use Rattle.hsm.specs.Harts.{Hart}
 use Rattle.hsm.specs.States.{is_start_pending}
 use Rattle.hsm.specs.Transitions.{hart_at}
-use Rattle.board_core.specs.declared.config.Config.{Config}
+use Rattle.board_terms.specs.declared.config.Config.{Config}
 use Rattle.board_core.specs.Opening.{Opening}
 use Rattle.board_core.specs.History.{Event}
-use Rattle.board_core.specs.declared.event.Op.{Op}
-use Rattle.board_core.specs.declared.event.Op.TheVariants.{Ecall, Advance}
-use Rattle.board_core.specs.declared.event.Reply.{Reply}
-use Rattle.board_core.specs.declared.event.Reply.TheVariants.{Entry}
+use Rattle.board_terms.specs.declared.op.Op.{Op}
+use Rattle.board_terms.specs.declared.op.Op.TheVariants.{Ecall, Advance}
+use Rattle.board_terms.specs.declared.reply.Reply.{Reply}
+use Rattle.board_terms.specs.declared.reply.Reply.TheVariants.{Entry}
 pub use Rattle.board_core.specs.Writes.{Start}
 use Rattle.board_core.specs.Calls.Hsm.{started_by_hsm}
 use Rattle.board_core.specs.Course.{harts_of}

@@ -7,9 +7,9 @@ use Rattle.hsm.specs.declared.hart.Kept.{Kept}
 use Rattle.hsm.specs.Transitions.{hart_at}
 use Rattle.board_core.specs.History.{Event}
 use Rattle.board_core.specs.Opening.{Opening}
-use Rattle.board_core.specs.declared.event.Op.{Op}
-use Rattle.board_core.specs.declared.event.Op.TheVariants.{Ecall}
-use Rattle.board_core.specs.declared.event.Reply.{Reply}
+use Rattle.board_terms.specs.declared.op.Op.{Op}
+use Rattle.board_terms.specs.declared.op.Op.TheVariants.{Ecall}
+use Rattle.board_terms.specs.declared.reply.Reply.{Reply}
 use Rattle.board_core.specs.Calls.Hsm.{resume_by_hsm}
 use Rattle.board_core.specs.Course.{is_hart}
 use Rattle.board_core.specs.Writes.{Write, latest}
@@ -26,4 +26,5 @@ resume_by op reply = None
 -- What the last suspend of a hart said of where it begins anew, if it did; before any, what the opening keeps for its entry.
 abbrev pub resume_point : Opening → List Event → ℕ → Option Kept
 resume_point o [] h = (hart_at o.harts h).kept
-resume_point o (event ∷ past) h = latest (resume_by event.op event.reply) (is_hart h event.actor) (resume_point o past h)
+resume_point o (event ∷ past) h = latest (resume_by event.op event.reply) (is_hart h event.actor)
+    (resume_point o past h)

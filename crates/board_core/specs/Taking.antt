@@ -1,11 +1,11 @@
 -- One step on what a board begins with, where no event was accepted since (profile).
 use Rattle.std.specs.Prelude.{[], ◌∷◌, Option, Result, Ok, Err, false}
-use Rattle.board_core.specs.declared.event.Actor.{Actor}
-use Rattle.board_core.specs.declared.event.Actor.TheVariants.{Hart, Clock}
-use Rattle.board_core.specs.declared.event.Op.{Op}
-use Rattle.board_core.specs.declared.event.Refusal.{Refusal}
-use Rattle.board_core.specs.declared.event.Reply.{Reply}
-use Rattle.board_core.specs.declared.event.Reply.TheVariants.{Done}
+use Rattle.board_terms.specs.declared.op.Actor.{Actor}
+use Rattle.board_terms.specs.declared.op.Actor.TheVariants.{Hart, Clock}
+use Rattle.board_terms.specs.declared.op.Op.{Op}
+use Rattle.board_terms.specs.declared.reply.Refusal.{Refusal}
+use Rattle.board_terms.specs.declared.reply.Reply.{Reply}
+use Rattle.board_terms.specs.declared.reply.Reply.TheVariants.{Done}
 use Rattle.board_core.specs.declared.opening.Taken.{Taken}
 use Rattle.board_core.specs.Accesses.{used_by_actor}
 use Rattle.board_core.specs.Cuts.{opening_of}
@@ -25,11 +25,13 @@ reply_at o Clock op = Done
 
 -- the event of a step with this reply
 abbrev pub event_with : Opening → Actor → Op → Reply → Event
-event_with o actor op reply = record { actor = actor; op = op; reply = reply; translation = used_by_actor o [] actor op }
+event_with o actor op
+    reply = record { actor = actor; op = op; reply = reply; translation = used_by_actor o [] actor op }
 
 -- what comes of a step with this answer
 abbrev pub step_with : Opening → Actor → Op → Result Reply Refusal → Result Taken Refusal
-step_with o actor op (Ok reply) = let event = event_with o actor op reply in Ok (record { event = event; opening = opening_of o (event ∷ []) })
+step_with o actor op (Ok reply) = let event = event_with o actor op reply in Ok
+    (record { event = event; opening = opening_of o (event ∷ []) })
 step_with o actor op (Err refusal) = Err refusal
 
 -- What comes of a step, while the history has room: the event of its answer, and what this leaves; or the refusal.

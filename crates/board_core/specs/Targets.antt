@@ -4,7 +4,7 @@ use Rattle.hart_mask.specs.HartList.{targets_of}
 use Rattle.hart_mask.specs.Ids.{has}
 use Rattle.hsm.specs.declared.hart.HartState.{HartState}
 use Rattle.hsm.specs.States.{is_interruptible}
-use Rattle.board_core.specs.declared.config.Config.{Config}
+use Rattle.board_terms.specs.declared.config.Config.{Config}
 
 -- whether a hart is one of the targets, if there are any
 abbrev pub is_target : Option (List ℕ) → ℕ → Bool

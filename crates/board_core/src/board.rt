@@ -1,16 +1,17 @@
+//! The board: its opening, its kept history, one atomic step, and the look-ups.
 ghost use Rattle.std.specs.Prelude.{◌≡◌, ◌⊎◌, ◌<◌, ◌≤◌, ◌↔◌, ◌++◌, List, [], ◌∷◌, vec_capacity, vec_len, true, false, IfErr, IfOk, IsErrOf, None, Ok, OnErr, OnOk, Some, length, reverse};
 ghost use Rattle.hsm.specs.declared.hart.HartState.{HartState};
 ghost use Rattle.interrupts.specs.Timing.{last_time};
 ghost use Rattle.sv39.specs.Maps.{maps};
-ghost use Rattle.board_core.specs.declared.config.BuildFault.TheVariants.{BadConfig, CutFull, NoMemory};
+ghost use Rattle.board_terms.specs.declared.config.BuildFault.TheVariants.{BadConfig, CutFull, NoMemory};
 ghost use Rattle.board_core.specs.Cuts.{IsOpened, IsUnseen, first_of, last_cut, opening_of};
 ghost use Rattle.board_core.specs.History.{Event, access_of, by_hart};
 ghost use Rattle.board_core.specs.Keeping.{IsShort};
-ghost use Rattle.board_core.specs.declared.event.Actor.TheVariants.{Hart, Clock};
+ghost use Rattle.board_terms.specs.declared.op.Actor.TheVariants.{Hart, Clock};
 ghost use Rattle.board_core.specs.Csrs.{sie, sstatus_sie};
 ghost use Rattle.board_core.specs.ErrorLaw.{LooksSame, is_error};
 ghost use Rattle.board_core.specs.Interrupts.{deadline, ssip, stip, time, wake};
-ghost use Rattle.board_core.specs.Limits.{IsGood};
+ghost use Rattle.board_terms.specs.Limits.{IsGood};
 ghost use Rattle.board_core.specs.Opening.{Opening, opening_at, place_after};
 ghost use Rattle.board_core.specs.Memory.{caches_of, memory, satp};
 ghost use Rattle.board_core.specs.Fences.{outstanding, phase, waiting};
@@ -23,12 +24,12 @@ ghost use Rattle.board_core.specs.Replies.{answer, stepped, IsLegal};
 ghost use Rattle.board_core.specs.Totals.{totals};
 
 use crate::calls::is_shutdown;
-use crate::config::{BuildFault, Config};
 use crate::csrs::Sie;
-use crate::event::{Actor, Event, Op, Refusal, Reply, access_of};
+use crate::event::{Event, access_of};
 use crate::machine::Machine;
 use crate::opening::Opening;
 use crate::phase::Phase;
+use board_terms::{Actor, BuildFault, Config, Op, Refusal, Reply};
 use hart_access::Access;
 use hart_mask::HartSet;
 use hsm::{HartState, Kept};
@@ -103,7 +104,8 @@ impl Board {
     pub fn new(alloc: Global, config: &Config) -> Result<Board, BuildFault>
         ensures bad { IsErrOf result BadConfig ↔ ¬ IsGood config.now }
         ensures fault { IfErr result (λ fault. (fault ≡ BadConfig) ⊎ (fault ≡ NoMemory)) }
-        ensures made { IfOk result (λ b. IsGood config.now × (b ≡ record { opening = opening_at config.now; past = [] })) }
+        ensures made { IfOk result
+            (λ b. IsGood config.now × (b ≡ record { opening = opening_at config.now; past = [] })) }
     {
         if !config.is_good() {
             return Err(BuildFault::BadConfig);
@@ -151,7 +153,8 @@ impl Board {
         ensures fault { IfErr result (λ fault. (fault ≡ CutFull) ⊎ (fault ≡ NoMemory)) }
         ensures unchanged { OnErr result (self.new ≡ self.old) }
         ensures segment { IfOk result (λ s. (s.opening ≡ self.old.opening) × (reverse s.events.items ≡ self.old.past)) }
-        ensures after { OnOk result (self.new ≡ record { opening = opening_of self.old.opening self.old.past; past = [] }) }
+        ensures after { OnOk result
+            (self.new ≡ record { opening = opening_of self.old.opening self.old.past; past = [] }) }
         ensures unseen { OnOk result (IsUnseen self.old.opening self.old.past) }
     {
         let place = self.place();
@@ -250,17 +253,19 @@ impl Board {
             return Err(Refusal::HistoryFull);
         }
         Ok(match access_of(op) {
-            Some((va, what)) => self.access(h, op, va, what),
-            None => self.perform(h, op),
+            Some((va, what)) => self.access_step(h, op, va, what),
+            None => self.other_step(h, op),
         })
     }
 
     /// Carries out an access of hart `h` that isn't refused, and records it: the reply.
     #[inline(always)]
-    fn access(&mut self, h: u64, op: Op, va: u64, what: Access) -> Reply
+    fn access_step(&mut self, h: u64, op: Op, va: u64, what: Access) -> Reply
         requires on { is_off self.old.opening self.old.past ≡ false }
         requires in_range { h < self.old.opening.config.harts }
-        requires unrefused { first_that_holds (refusals_in (situation self.old.opening self.old.past h) op (is_full self.old.opening self.old.past)) ≡ None }
+        requires unrefused { first_that_holds
+            (refusals_in (situation self.old.opening self.old.past h) op (is_full self.old.opening self.old.past))
+            ≡ None }
         requires same { access_of op ≡ Some (record { va = va; access = what }) }
         ensures answer { Ok result ≡ answer self.old.opening self.old.past (Hart h) op }
         ensures after { self.new ≡ stepped self.old (Hart h) op }
@@ -274,10 +279,12 @@ impl Board {
 
     /// Carries out an operation of hart `h` that isn't refused, and is no access, and records it: the reply.
     #[inline(always)]
-    fn perform(&mut self, h: u64, op: Op) -> Reply
+    fn other_step(&mut self, h: u64, op: Op) -> Reply
         requires on { is_off self.old.opening self.old.past ≡ false }
         requires in_range { h < self.old.opening.config.harts }
-        requires unrefused { first_that_holds (refusals_in (situation self.old.opening self.old.past h) op (is_full self.old.opening self.old.past)) ≡ None }
+        requires unrefused { first_that_holds
+            (refusals_in (situation self.old.opening self.old.past h) op (is_full self.old.opening self.old.past))
+            ≡ None }
         requires other { access_of op ≡ None }
         ensures answer { Ok result ≡ answer self.old.opening self.old.past (Hart h) op }
         ensures after { self.new ≡ stepped self.old (Hart h) op }
@@ -428,7 +435,8 @@ impl Board {
     /// isn't bare: the leaf that maps the address and allows the access, or why the access fails (Privileged 4.3.2).
     pub fn walk(&self, h: u64, va: u64, kind: Kind) -> Result<Leaf, Cause>
         requires { h < self.now.opening.config.harts }
-        ensures { result ≡ maps (memory self.now.opening self.now.past) (satp self.now.opening self.now.past h) va kind }
+        ensures { result ≡ maps (memory self.now.opening self.now.past)
+            (satp self.now.opening self.now.past h) va kind }
     {
         let memory = &self.machine.memory;
         walk(&memory.ram, memory.satp(h), va, kind)

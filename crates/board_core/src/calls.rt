@@ -6,9 +6,9 @@ ghost use Rattle.sbi_abi.specs.Calls.{call_of};
 ghost use Rattle.hsm.specs.declared.hart.HartState.TheVariants as states;
 ghost use Rattle.hsm.specs.Transitions.{hart_at};
 ghost use Rattle.board_core.specs.History.{Event, by_hart};
-ghost use Rattle.board_core.specs.declared.event.Op.TheVariants.{Ecall};
-ghost use Rattle.board_core.specs.declared.event.Reply.TheVariants.{Ret};
-ghost use Rattle.board_core.specs.Limits.{IsGood};
+ghost use Rattle.board_terms.specs.declared.op.Op.TheVariants.{Ecall};
+ghost use Rattle.board_terms.specs.declared.reply.Reply.TheVariants.{Ret};
+ghost use Rattle.board_terms.specs.Limits.{IsGood};
 ghost use Rattle.board_core.specs.Opening.{Opening, on, place_after};
 ghost use Rattle.board_core.specs.Replies.{call_reply, failure, success};
 ghost use Rattle.board_core.specs.Stands.{IsSized, IsStanding, StandsFor};
@@ -23,9 +23,8 @@ mod time_calls;
 
 use self::base_calls::base_reply;
 pub use self::srst_calls::is_shutdown;
-use crate::config::Config;
-use crate::event::Reply;
 use crate::machine::Machine;
+use board_terms::{Config, Reply};
 use sbi_abi::{Call, SbiError, Sbiret};
 
 impl Machine {
@@ -37,8 +36,10 @@ impl Machine {
         requires standing { IsStanding config.now self.old }
         requires started { (hart_at self.old.hsm h).state ≡ states.Started }
         requires outside { call_at self.old.fences h ≡ None }
-        ensures answered { (o : Opening) (past : List Event) → StandsFor (on config.now o) past self.old → result ≡ call_reply (on config.now o) past h call }
-        ensures after { (o : Opening) (past : List Event) (regs : Regs) → place ≡ place_after o past → call ≡ call_of regs → StandsFor (on config.now o) past self.old →
+        ensures answered { (o : Opening) (past : List Event) → StandsFor (on config.now o) past self.old
+            → result ≡ call_reply (on config.now o) past h call }
+        ensures after { (o : Opening) (past : List Event) (regs : Regs) → place ≡ place_after o past
+            → call ≡ call_of regs → StandsFor (on config.now o) past self.old →
             StandsFor (on config.now o) (by_hart h (Ecall regs) result ∷ past) self.new }
     {
         match call {

@@ -1,3 +1,4 @@
+//! The counts of a board's table, as they are kept.
 ghost use Rattle.std.specs.Prelude.{◌≡◌, if◌then◌else◌};
 
 /// How many starts were accepted, the boot start among them, and how many of them were entered, since the last reset.

@@ -1,3 +1,4 @@
+//! The harts' sie and sstatus.SIE, as sets of harts.
 ghost use Rattle.std.specs.Prelude.{◌≡◌, ◌<◌, ◌+◌, []};
 ghost use Rattle.hart_mask.specs.Ids.{has, with_bit};
 ghost use Rattle.board_core.specs.Csrs.{bits_of, enables, interrupt_bits, none_enabled, sie_of};

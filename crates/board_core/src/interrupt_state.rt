@@ -1,3 +1,4 @@
+//! Interrupts of harts: what is pending, what is enabled, and who wakes.
 ghost use Rattle.std.specs.Prelude.{◌≡◌, ◌<◌, [], IfOk, None, false, length};
 ghost use Rattle.hart_mask.specs.Ids.{has, with_bit, without_id};
 ghost use Rattle.interrupts.specs.Timing.{is_timer_pending, with_deadline, without_deadlines};

@@ -3,7 +3,7 @@
 ghost use Rattle.std.specs.Prelude.{◌≡◌};
 ghost use Rattle.board_core.specs.Keeping.{IsByte, IsByteError, actor_of, by_of, first_of, head_in, hart_in, op_in, opaque_in, opaque_of, reply_of, said_of, used_in, what_of};
 
-use crate::event::{Actor, Op, Reply};
+use board_terms::{Actor, Op, Reply};
 use hsm::HartState;
 use sbi_abi::{Regs, Sbiret};
 use sv39::Cause;

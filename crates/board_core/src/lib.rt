@@ -5,7 +5,6 @@
 
 mod board;
 mod calls;
-mod config;
 mod counts;
 mod csrs;
 mod cuts;
@@ -20,10 +19,10 @@ mod phase;
 mod taking;
 
 pub use board::{Board, Segment, Totals, errors_change_nothing, starts_are_entered};
-pub use config::{BuildFault, Config, USUAL_ASID_LEN, USUAL_WIDTH};
+pub use board_terms::{Actor, BuildFault, Config, Op, Refusal, Reply, USUAL_ASID_LEN, USUAL_WIDTH};
 pub use csrs::Sie;
 pub use cuts::{cuts_are_not_seen, cuts_open_boards};
-pub use event::{Actor, Event, Op, Refusal, Reply};
+pub use event::Event;
 pub use fence_queue::Request;
 pub use hart_mask::HartSet;
 pub use hsm::{HartState, Kept};

@@ -1,3 +1,4 @@
+//! The RAM, the harts' satp and their caches, and an access through them.
 ghost use Rattle.std.specs.Prelude.{◌≡◌, ◌<◌, ◌≤◌, IfOk, [], if◌then◌else◌, length, replicate, slice_set};
 ghost use Rattle.sv39.specs.Memory.{IsRam, pages_of, word_in, zero_memory};
 ghost use Rattle.sv39.specs.Satp.{satp_written};
@@ -5,11 +6,11 @@ ghost use Rattle.tlb_model.specs.Contents.{fenced, filled_if};
 ghost use Rattle.tlb_model.specs.Entries.{covers_entry};
 ghost use Rattle.tlb_model.specs.Words.{covers_word};
 ghost use Rattle.hart_access.specs.Accesses.{answer, filling, stored, used, word_filling};
-ghost use Rattle.board_core.specs.Limits.{IsGood};
+ghost use Rattle.board_terms.specs.Limits.{IsGood};
 ghost use Rattle.board_core.specs.Opening.{opening_at};
 ghost use Rattle.board_core.specs.Stands.{CanFill, MemoryStand, caches_at, satp_at, tlb_hit, word_hit};
 
-use crate::config::Config;
+use board_terms::Config;
 use hart_access::{Access, Accessed, access};
 use std::alloc::{AllocError, Global};
 use sv39::{Ram, Satp, Spaces};
@@ -52,7 +53,7 @@ impl Memory {
         satps.extend_from_slice(&self.satps)?;
         let mut caches = Vec::with_capacity(alloc, self.caches.len())?;
         for h in 0..self.caches.len() {
-            caches.push(self.caches[h].try_copy()?)?;
+            caches.push_reserved(self.caches[h].copy());
         }
         Ok(Memory { ram, satps, caches })
     }
@@ -69,7 +70,8 @@ impl Memory {
     pub fn write_satp(&mut self, h: u64, value: u64, spaces: Spaces)
         requires in_range { h < length self.old.satps.items }
         requires limit { spaces.asid_len ≤ 16 }
-        ensures satps { self.new.satps.items ≡ slice_set self.old.satps.items h (satp_written spaces (satp_at self.old h) value) }
+        ensures satps { self.new.satps.items
+            ≡ slice_set self.old.satps.items h (satp_written spaces (satp_at self.old h) value) }
         ensures ram { self.new.ram ≡ self.old.ram }
         ensures caches { self.new.caches.items ≡ self.old.caches.items }
     {
@@ -89,7 +91,8 @@ impl Memory {
     /// A reset: no hart's addresses are translated any more, and every word is 0 where the reboot is a cold one (profile).
     pub fn reset(&mut self, cold: bool)
         ensures satps { self.new.satps.items ≡ replicate (length self.old.satps.items) 0 }
-        ensures ram { word_in self.new.ram ≡ (if cold then zero_memory (pages_of self.old.ram) else word_in self.old.ram) }
+        ensures ram { word_in self.new.ram
+            ≡ (if cold then zero_memory (pages_of self.old.ram) else word_in self.old.ram) }
         ensures pages { pages_of self.new.ram ≡ pages_of self.old.ram }
         ensures caches { self.new.caches ≡ self.old.caches }
     {
@@ -102,14 +105,21 @@ impl Memory {
     /// An access of hart `h` at a virtual address, whose fills have this date.
     pub fn access(&mut self, date: u64, h: u64, va: u64, what: Access) -> Accessed
         requires { CanFill self.old h }
-        ensures result { result.result ≡ answer (word_in self.old.ram) (satp_at self.old h) (tlb_hit (caches_at self.old h)) (word_hit (caches_at self.old h)) va what }
-        ensures used { result.used ≡ used (word_in self.old.ram) (satp_at self.old h) (tlb_hit (caches_at self.old h)) va what }
-        ensures ram { word_in self.new.ram ≡ stored (word_in self.old.ram) (satp_at self.old h) (tlb_hit (caches_at self.old h)) va what }
+        ensures result { result.result
+            ≡ answer (word_in self.old.ram) (satp_at self.old h) (tlb_hit (caches_at self.old h))
+            (word_hit (caches_at self.old h)) va what }
+        ensures used { result.used
+            ≡ used (word_in self.old.ram) (satp_at self.old h) (tlb_hit (caches_at self.old h)) va what }
+        ensures ram { word_in self.new.ram
+            ≡ stored (word_in self.old.ram) (satp_at self.old h) (tlb_hit (caches_at self.old h)) va what }
         ensures pages { pages_of self.new.ram ≡ pages_of self.old.ram }
         ensures satps { self.new.satps.items ≡ self.old.satps.items }
         ensures caches { self.new.caches.items ≡ slice_set self.old.caches.items h (record {
-          tlb = filled_if (caches_at self.old h).tlb date (filling (word_in self.old.ram) (satp_at self.old h) (tlb_hit (caches_at self.old h)) va what);
-          words = filled_if (caches_at self.old h).words date (word_filling (word_in self.old.ram) (satp_at self.old h) (tlb_hit (caches_at self.old h)) (word_hit (caches_at self.old h)) va what);
+          tlb = filled_if (caches_at self.old h).tlb date
+              (filling (word_in self.old.ram) (satp_at self.old h) (tlb_hit (caches_at self.old h)) va what);
+          words = filled_if (caches_at self.old h).words date
+              (word_filling (word_in self.old.ram) (satp_at self.old h) (tlb_hit (caches_at self.old h))
+              (word_hit (caches_at self.old h)) va what);
         }) }
     {
         let satp = self.satps[h as usize];

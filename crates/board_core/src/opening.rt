@@ -4,12 +4,13 @@ ghost use Rattle.interrupts.specs.Timing.{last_time};
 ghost use Rattle.board_core.specs.Csrs.{sie, sstatus_sie};
 ghost use Rattle.board_core.specs.Cuts.{last_cut, opening_in, opening_of};
 ghost use Rattle.board_core.specs.Taking.{event_with, refusal_at, reply_at, step_from};
-ghost use Rattle.board_core.specs.declared.config.BuildFault.TheVariants.{CutFull, NoMemory};
-ghost use Rattle.board_core.specs.declared.event.Actor.TheVariants.{Hart, Clock};
+ghost use Rattle.board_terms.specs.declared.config.BuildFault.TheVariants.{CutFull, NoMemory};
+ghost use Rattle.board_terms.specs.declared.op.Actor.TheVariants.{Hart, Clock};
 ghost use Rattle.sv39.specs.Memory.{IsRam};
+ghost use Rattle.sv39.specs.Nonzero.{IsClear};
 ghost use Rattle.board_core.specs.Fences.{outstanding, phase, waiting};
 ghost use Rattle.board_core.specs.Interrupts.{deadline, ssip, stip, time, wake};
-ghost use Rattle.board_core.specs.Limits.{IsGood};
+ghost use Rattle.board_terms.specs.Limits.{IsGood};
 ghost use Rattle.board_core.specs.Memory.{caches_of, memory, satp};
 ghost use Rattle.board_core.specs.Need.{need};
 ghost use Rattle.board_core.specs.Opening.{IsOpening, opening_at};
@@ -22,11 +23,11 @@ ghost use Rattle.rfence.specs.Opening.{called_at};
 
 use crate::board::{LAST_CUT, Totals};
 use crate::calls::is_shutdown;
-use crate::config::{BuildFault, Config};
 use crate::csrs::Sie;
-use crate::event::{Actor, Event, Op, Refusal};
+use crate::event::Event;
 use crate::machine::Machine;
 use crate::phase::Phase;
+use board_terms::{Actor, BuildFault, Config, Op, Refusal};
 use hart_mask::HartSet;
 use hsm::{HartState, Kept};
 use rfence::{FenceCall, Waiting};
@@ -64,7 +65,8 @@ impl Model for Opening {
 
     ghost view = { λ o. opening_in o.config o.places o.machine };
 
-    ghost invariant = { λ o. IsKept (opening_in o.config o.places o.machine) [] × StandsFor (opening_in o.config o.places o.machine) [] o.machine };
+    ghost invariant = { λ o. IsKept (opening_in o.config o.places o.machine) []
+        × StandsFor (opening_in o.config o.places o.machine) [] o.machine };
 }
 
 impl Opening {
@@ -163,8 +165,8 @@ impl Opening {
         Ok(Ok(self.taken(machine, actor, op)))
     }
 
-    /// Why a step of an actor is refused here, if it is, while the history has room.
-    fn refusal(&self, actor: Actor, op: Op) -> Option<Refusal>
+    /// Why a step of one actor would be refused on a board that goes on from here, if it would be, while its history has room.
+    pub fn refusal(&self, actor: Actor, op: Op) -> Option<Refusal>
         ensures { result ≡ refusal_at self.now actor op }
     {
         if self.is_off() {
@@ -353,6 +355,14 @@ impl Opening {
         ensures { result.now ≡ self.now.ram }
     {
         self.machine.memory.ram.words()
+    }
+
+    /// From this place on each word of the RAM is 0.
+    pub fn ram_used(&self) -> usize
+        ensures within { result ≤ length self.now.ram }
+        ensures clear { IsClear self.now.ram result (length self.now.ram) }
+    {
+        self.machine.memory.ram.used()
     }
 
     /// The live entries of the TLB of hart `h`, in the order of filling.

@@ -3,18 +3,18 @@
 ghost use Rattle.std.specs.Prelude.{◌≡◌, ◌+◌, ◌<◌, ◌≤◌, List, ◌∷◌};
 ghost use Rattle.interrupts.specs.Timing.{last_time};
 ghost use Rattle.board_core.specs.Accesses.{used};
-ghost use Rattle.board_core.specs.declared.event.Op.TheVariants.{Tick};
-ghost use Rattle.board_core.specs.declared.event.Reply.TheVariants.{Done};
+ghost use Rattle.board_terms.specs.declared.op.Op.TheVariants.{Tick};
+ghost use Rattle.board_terms.specs.declared.reply.Reply.TheVariants.{Done};
 ghost use Rattle.board_core.specs.History.{Event, by_clock, using};
-ghost use Rattle.board_core.specs.Limits.{IsGood};
+ghost use Rattle.board_terms.specs.Limits.{IsGood};
 ghost use Rattle.board_core.specs.Opening.{Opening, on, place_after};
 ghost use Rattle.board_core.specs.Refusals.{IsAccepted};
 ghost use Rattle.board_core.specs.Replies.{reply};
 ghost use Rattle.board_core.specs.Stands.{IsSized, IsStanding, StandsFor, situation_in};
 
-use crate::config::Config;
-use crate::event::{Actor, Event, Op, Reply, access_of};
+use crate::event::{Event, access_of};
 use crate::machine::Machine;
+use board_terms::{Actor, Config, Op, Reply};
 use tlb_model::Entry;
 
 impl Machine {
@@ -27,7 +27,8 @@ impl Machine {
         requires accepted { IsAccepted op (situation_in self.old h) }
         ensures event { (o : Opening) (past : List Event) → StandsFor (on config.now o) past self.old →
             result ≡ using h op (reply (on config.now o) past h op) (used (on config.now o) past h op) }
-        ensures after { (o : Opening) (past : List Event) → place ≡ place_after o past → StandsFor (on config.now o) past self.old →
+        ensures after { (o : Opening) (past : List Event) → place ≡ place_after o past
+            → StandsFor (on config.now o) past self.old →
             StandsFor (on config.now o) (result ∷ past) self.new }
     {
         let (reply, used) = self.act(config, place, h, op);
@@ -45,7 +46,8 @@ impl Machine {
             result.0 ≡ reply (on config.now o) past h op }
         ensures used { (o : Opening) (past : List Event) → StandsFor (on config.now o) past self.old →
             result.1 ≡ used (on config.now o) past h op }
-        ensures after { (o : Opening) (past : List Event) → place ≡ place_after o past → StandsFor (on config.now o) past self.old →
+        ensures after { (o : Opening) (past : List Event) → place ≡ place_after o past
+            → StandsFor (on config.now o) past self.old →
             StandsFor (on config.now o) (using h op result.0 result.1 ∷ past) self.new }
     {
         match access_of(op) {
@@ -58,7 +60,8 @@ impl Machine {
     pub fn tick_event(&mut self, n: u64) -> Event
         requires { self.old.interrupts.timers.time + n ≤ last_time }
         ensures event { result ≡ by_clock (Tick n) Done }
-        ensures after { (o : Opening) (past : List Event) → StandsFor o past self.old → StandsFor o (result ∷ past) self.new }
+        ensures after { (o : Opening) (past : List Event) → StandsFor o past self.old
+            → StandsFor o (result ∷ past) self.new }
     {
         let Ok(()) = self.interrupts.timers.tick(n) else {
             unreachable!()

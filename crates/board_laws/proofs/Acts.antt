@@ -10,11 +10,11 @@ use Rattle.tlb_model.specs.declared.fence.Flush.{Flush}
 use Rattle.tlb_model.specs.declared.word.FetchWord.{FetchWord}
 use Rattle.tlb_model.specs.Acts.{Fill}
 use Rattle.board_core.specs.Opening.{Opening}
-use Rattle.board_core.specs.declared.event.Actor.{Actor}
-use Rattle.board_core.specs.declared.event.Actor.TheVariants.{Hart, Clock}
-use Rattle.board_core.specs.declared.event.Op.{Op}
-use Rattle.board_core.specs.declared.event.Op.TheVariants.{Sfence, FenceI}
-use Rattle.board_core.specs.declared.event.Reply.{Reply}
+use Rattle.board_terms.specs.declared.op.Actor.{Actor}
+use Rattle.board_terms.specs.declared.op.Actor.TheVariants.{Hart, Clock}
+use Rattle.board_terms.specs.declared.op.Op.{Op}
+use Rattle.board_terms.specs.declared.op.Op.TheVariants.{Sfence, FenceI}
+use Rattle.board_terms.specs.declared.reply.Reply.{Reply}
 use Rattle.board_core.specs.Course.{is_hart}
 use Rattle.board_core.specs.Fences.{turn_by, turn_of, turns}
 use Rattle.board_core.specs.History.{Event}
@@ -109,14 +109,16 @@ module _ (o : Opening) (t : ℕ) (event : Event) (older : List Event) where
   pub entry-filled : (item : Entry) → last_act (tlb_acts o (event ∷ older) t) ≡ Fill item
       → (event.actor ≡ Hart t) × (entry_filling event.op event.translation (satp o older t) (hit_in o t (tlb_acts o older t)) ≡ Some item)
   entry-filled item e =
-      let facts = fill-acted (is_hart t event.actor) (effect o.fences (turns o older) (turn_of o older event.actor event.op event.reply) t) (entry_filling event.op event.translation (satp o older t) (hit_in o t (tlb_acts o older t))) item e in
+      let facts = fill-acted (is_hart t event.actor) (effect o.fences (turns o older) (turn_of o older event.actor event.op event.reply) t)
+      (entry_filling event.op event.translation (satp o older t) (hit_in o t (tlb_acts o older t))) item e in
       (own-actor event.actor t facts.0, facts.1)
 
   -- and so is a word
   pub word-filled : (item : FetchWord) → last_act (word_acts o (event ∷ older) t) ≡ Fill item
       → (event.actor ≡ Hart t) × (word_filling event.op event.reply event.translation (memory o older) (cached_in o t (word_acts o older t)) ≡ Some item)
   word-filled item e =
-      let facts = fill-acted (is_hart t event.actor) (effect o.fences (turns o older) (turn_of o older event.actor event.op event.reply) t) (word_filling event.op event.reply event.translation (memory o older) (cached_in o t (word_acts o older t))) item e in
+      let facts = fill-acted (is_hart t event.actor) (effect o.fences (turns o older) (turn_of o older event.actor event.op event.reply) t)
+      (word_filling event.op event.reply event.translation (memory o older) (cached_in o t (word_acts o older t))) item e in
       (own-actor event.actor t facts.0, facts.1)
 
 -- what strikes the caches of a hart strikes each of them

@@ -2,8 +2,8 @@
 use Rattle.std.proofs.Common.{◌≡◌, ◌↔◌, List, [], ◌∷◌, subst, refl, sym, ap, ◌∙◌, Result, Ok, Err}
 use Rattle.board_core.specs.Opening.{IsOpening, Opening}
 use Rattle.board_core.specs.History.{Event}
-use Rattle.board_core.specs.declared.event.Refusal.{Refusal}
-use Rattle.board_core.specs.declared.event.Reply.{Reply}
+use Rattle.board_terms.specs.declared.reply.Refusal.{Refusal}
+use Rattle.board_terms.specs.declared.reply.Reply.{Reply}
 use Rattle.board_core.specs.Replies.{IsLegal, answer, recorded, stepped}
 use Rattle.board_core.specs.Accesses.{used_by_actor}
 use Rattle.board_laws.specs.Again.{Step, again, steps_of}

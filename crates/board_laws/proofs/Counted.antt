@@ -11,7 +11,7 @@ use Rattle.board_core.specs.Opening.{Opening}
 use Rattle.board_core.specs.Course.{harts_of}
 use Rattle.board_core.specs.Fences.{turns}
 use Rattle.board_core.specs.History.{Event}
-use Rattle.board_core.specs.Limits.{IsGood}
+use Rattle.board_terms.specs.Limits.{IsGood}
 use Rattle.board_core.specs.Replies.{IsLegal}
 use Rattle.board_core.specs.Totals.{totals}
 use Rattle.board_laws.proofs.Right.{turns_are_right}

@@ -28,15 +28,15 @@ use Rattle.rfence.specs.Opening.{called_at}
 use Rattle.rfence.specs.Right.{IsRight}
 use Rattle.board_core.specs.Cuts.{IsOpened, opening_of}
 use Rattle.board_core.specs.Opening.{IsOpening, Opening, opening_at}
-use Rattle.board_core.specs.declared.event.Actor.TheVariants.{Hart}
-use Rattle.board_core.specs.declared.event.Op.{Op}
-use Rattle.board_core.specs.declared.event.Op.TheVariants.{Advance, Ecall, Fetch, FenceI, Load, Poll, Serve, Sfence, Store, WriteSatp}
-use Rattle.board_core.specs.declared.event.Reply.{Reply}
-use Rattle.board_core.specs.declared.event.Reply.TheVariants.{Done, Entry, Gone, Ret, Served, Value, Waiting}
+use Rattle.board_terms.specs.declared.op.Actor.TheVariants.{Hart}
+use Rattle.board_terms.specs.declared.op.Op.{Op}
+use Rattle.board_terms.specs.declared.op.Op.TheVariants.{Advance, Ecall, Fetch, FenceI, Load, Poll, Serve, Sfence, Store, WriteSatp}
+use Rattle.board_terms.specs.declared.reply.Reply.{Reply}
+use Rattle.board_terms.specs.declared.reply.Reply.TheVariants.{Done, Entry, Gone, Ret, Served, Value, Waiting}
 use Rattle.board_core.specs.Calls.Rfence.{flush_of_range}
 use Rattle.board_core.specs.Fences.{turns}
 use Rattle.board_core.specs.History.{Event, Reach}
-use Rattle.board_core.specs.Limits.{IsGood, spaces_of}
+use Rattle.board_terms.specs.Limits.{IsGood, spaces_of}
 use Rattle.board_core.specs.Memory.{memory, satp}
 use Rattle.board_core.specs.Replies.{IsLegal}
 use Rattle.board_core.specs.Resets.{reset_by}

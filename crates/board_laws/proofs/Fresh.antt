@@ -26,7 +26,7 @@ use Rattle.board_core.specs.Opening.{IsOpening, Opening, place_after, tlb_at, wo
 use Rattle.board_core.specs.Accesses.{cached, hit}
 use Rattle.board_core.specs.History.{Event, Reach}
 use Rattle.board_core.specs.Memory.{memory, satp}
-use Rattle.board_core.specs.Limits.{IsGood}
+use Rattle.board_terms.specs.Limits.{IsGood}
 use Rattle.board_core.specs.Replies.{IsLegal}
 use Rattle.board_laws.specs.Fresh.{FencedAccess, FencedFetch, GivenAfter, StoodAfter}
 use Rattle.board_laws.specs.Fences.{ByCall, Itself, Reached}
@@ -164,7 +164,8 @@ module _ (o : Opening) (past : List Event) (t a p va value : ℕ) (good : IsGood
         place = y.date;
         after = later;
         upto = omega arith;
-        stood = ap (λ (before : List Event). memory o before pa) (sym again) ∙ ap (memory o (past_at o older y.date)) (sym at_pa) ∙ was.fetches.word ∙ ap (λ (w : FetchWord). let n : Option ℕ = Some w.word in n) gives;
+        stood = ap (λ (before : List Event). memory o before pa) (sym again) ∙ ap (memory o (past_at o older y.date)) (sym at_pa) ∙ was.fetches.word
+            ∙ ap (λ (w : FetchWord). let n : Option ℕ = Some w.word in n) gives;
       }
 
   -- and what a fetch hits was filled after the fence

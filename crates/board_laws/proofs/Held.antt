@@ -5,10 +5,10 @@ use Rattle.sv39.specs.declared.ram.TheConstants.{PAGE_WORDS}
 use Rattle.sv39.specs.Memory.{pages_of, zero_words}
 use Rattle.rfence.proofs.Seams.{opens-right}
 use Rattle.board_core.specs.Cuts.{IsHeld, IsOpened, OpensAfter, opening_of}
-use Rattle.board_core.specs.declared.config.Config.{Config}
+use Rattle.board_terms.specs.declared.config.Config.{Config}
 use Rattle.board_core.specs.Fences.{turns}
 use Rattle.board_core.specs.History.{Event}
-use Rattle.board_core.specs.Limits.{IsGood}
+use Rattle.board_terms.specs.Limits.{IsGood}
 use Rattle.board_core.specs.Opening.{Opening, opening_at}
 use Rattle.board_core.specs.Replies.{IsLegal}
 use Rattle.board_core.proofs.Beginning.{opens}

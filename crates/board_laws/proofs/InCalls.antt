@@ -17,6 +17,7 @@ use Rattle.board_laws.specs.Fences.{CallsAreMadeStarted}
 pub calls_are_made_started : (o : Opening) (past : List Event) → IsLegal o past → CallsAreMadeStarted o past
 calls_are_made_started o past legal h harts inside = by_call (open_call o.fences (turns o past) h) refl inside
   where
-    by_call : (opened : Option (FenceCall Flush)) → open_call o.fences (turns o past) h ≡ opened → in_call opened (calls.outstanding o.fences o.config.harts (turns o past) h) ≡ Some harts → state o past h ≡ states.Started
+    by_call : (opened : Option (FenceCall Flush)) → open_call o.fences (turns o past) h ≡ opened → in_call opened (calls.outstanding o.fences o.config.harts (turns o past) h) ≡ Some harts
+        → state o past h ≡ states.Started
     by_call None is e = cc
     by_call (Some place) is e = inside-started o past legal h place is

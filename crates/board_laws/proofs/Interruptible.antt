@@ -4,7 +4,7 @@ use Rattle.hsm.specs.States.{is_interruptible}
 use Rattle.rfence.specs.Waiting as queues
 use Rattle.board_core.specs.Fences.{turns}
 use Rattle.board_core.specs.History.{Event}
-use Rattle.board_core.specs.Limits.{IsGood}
+use Rattle.board_terms.specs.Limits.{IsGood}
 use Rattle.board_core.specs.Opening.{Opening}
 use Rattle.board_core.specs.Replies.{IsLegal}
 use Rattle.board_core.specs.States.{state}

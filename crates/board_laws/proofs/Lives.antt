@@ -19,13 +19,13 @@ use Rattle.hart_access.specs.Translations.{Fetches, Fills, hit_at}
 use Rattle.hart_access.specs.Ways.{phys_at}
 use Rattle.hart_access.proofs.Used.{is_used, place_of_used, word_filled}
 use Rattle.board_core.specs.Opening.{Opening, place_after, tlb_at, words_at}
-use Rattle.board_core.specs.declared.event.Actor.{Actor}
-use Rattle.board_core.specs.declared.event.Actor.TheVariants.{Hart}
-use Rattle.board_core.specs.declared.event.Op.{Op}
-use Rattle.board_core.specs.declared.event.Op.TheVariants.{Load, Store, Fetch}
-use Rattle.board_core.specs.declared.event.Refusal.{Refusal}
-use Rattle.board_core.specs.declared.event.Reply.{Reply}
-use Rattle.board_core.specs.declared.event.Reply.TheVariants.{Value}
+use Rattle.board_terms.specs.declared.op.Actor.{Actor}
+use Rattle.board_terms.specs.declared.op.Actor.TheVariants.{Hart}
+use Rattle.board_terms.specs.declared.op.Op.{Op}
+use Rattle.board_terms.specs.declared.op.Op.TheVariants.{Load, Store, Fetch}
+use Rattle.board_terms.specs.declared.reply.Refusal.{Refusal}
+use Rattle.board_terms.specs.declared.reply.Reply.{Reply}
+use Rattle.board_terms.specs.declared.reply.Reply.TheVariants.{Value}
 use Rattle.board_core.specs.Accesses.{access_reply, access_reply_of, cached, hit, used_by_access, used_by_actor}
 use Rattle.board_core.specs.History.{Event, Reach, access_of}
 use Rattle.board_core.specs.Memory.{address_by, entry_filling, filling_of, memory, satp, tlb_acts, word_acts, word_filling}
@@ -74,7 +74,8 @@ record FilledBy (op : Op) (used_entry : Option Entry) (satp_now : ℕ) (tlb : Ad
   missed : tlb (address_by satp_now reach.va) ≡ None
   is_used : used_entry ≡ Some item
 
-filled-by : (op : Op) (used_entry : Option Entry) (satp_now : ℕ) (tlb : Address → Option Entry) (item : Entry) → entry_filling op used_entry satp_now tlb ≡ Some item → FilledBy op used_entry satp_now tlb item
+filled-by : (op : Op) (used_entry : Option Entry) (satp_now : ℕ) (tlb : Address → Option Entry) (item : Entry) → entry_filling op used_entry satp_now tlb ≡ Some item
+    → FilledBy op used_entry satp_now tlb item
 filled-by (Load va) used_entry satp_now tlb item e = by_hit (tlb (address_by satp_now va)) refl e
   where
     by_hit : (found : Option Entry) → tlb (address_by satp_now va) ≡ found → filling_of found used_entry ≡ Some item → FilledBy (Load va) used_entry satp_now tlb item

@@ -8,14 +8,14 @@ use Rattle.hart_mask.specs.HartList.{names_stray, targets_of}
 use Rattle.hart_mask.specs.Ids.{ids_where}
 use Rattle.board_core.specs.Cuts.{IsOpened}
 use Rattle.board_core.specs.Opening.{IsOpening, Opening, opening_at}
-use Rattle.board_core.specs.declared.event.Actor.TheVariants.{Hart}
-use Rattle.board_core.specs.declared.event.Op.{Op}
-use Rattle.board_core.specs.declared.event.Op.TheVariants.{Advance, Ecall, Serve}
-use Rattle.board_core.specs.declared.event.Reply.{Reply}
-use Rattle.board_core.specs.declared.event.Reply.TheVariants.{Entry, Gone, Ret, Served, Waiting}
+use Rattle.board_terms.specs.declared.op.Actor.TheVariants.{Hart}
+use Rattle.board_terms.specs.declared.op.Op.{Op}
+use Rattle.board_terms.specs.declared.op.Op.TheVariants.{Advance, Ecall, Serve}
+use Rattle.board_terms.specs.declared.reply.Reply.{Reply}
+use Rattle.board_terms.specs.declared.reply.Reply.TheVariants.{Entry, Gone, Ret, Served, Waiting}
 use Rattle.board_core.specs.Fences.{outstanding}
 use Rattle.board_core.specs.History.{Event}
-use Rattle.board_core.specs.Limits.{IsGood}
+use Rattle.board_terms.specs.Limits.{IsGood}
 use Rattle.board_core.specs.Need.{need, total_need}
 use Rattle.board_core.specs.Replies.{IsLegal}
 use Rattle.board_laws.specs.Need.{AreFew, CanEnd, GoesOn, HaveServed, IsLeft, ServeIsAccepted, serves_in, stops}

@@ -26,17 +26,17 @@ use Rattle.sbi_abi.specs.Calls.{call_of}
 use Rattle.tlb_model.specs.declared.fence.Flush.{Flush}
 use Rattle.board_core.specs.Cuts.{IsOpened, OpensAfter, opening_of}
 use Rattle.board_core.specs.Opening.{Opening}
-use Rattle.board_core.specs.declared.event.Actor.{Actor}
-use Rattle.board_core.specs.declared.event.Actor.TheVariants.{Hart, Clock}
-use Rattle.board_core.specs.declared.event.Op.{Op}
-use Rattle.board_core.specs.declared.event.Op.TheVariants as ops
-use Rattle.board_core.specs.declared.event.Refusal.TheVariants as refusals
-use Rattle.board_core.specs.declared.event.Reply.{Reply}
-use Rattle.board_core.specs.declared.event.Reply.TheVariants as replies
+use Rattle.board_terms.specs.declared.op.Actor.{Actor}
+use Rattle.board_terms.specs.declared.op.Actor.TheVariants.{Hart, Clock}
+use Rattle.board_terms.specs.declared.op.Op.{Op}
+use Rattle.board_terms.specs.declared.op.Op.TheVariants as ops
+use Rattle.board_terms.specs.declared.reply.Refusal.TheVariants as refusals
+use Rattle.board_terms.specs.declared.reply.Reply.{Reply}
+use Rattle.board_terms.specs.declared.reply.Reply.TheVariants as replies
 use Rattle.board_core.specs.Course.{is_hart}
 use Rattle.board_core.specs.Fences.{Remote, outstanding, remote_of, turn_by_call, turn_by_flush, turn_by_remote, turn_of, turns}
 use Rattle.board_core.specs.History.{Event}
-use Rattle.board_core.specs.Limits.{IsGood}
+use Rattle.board_terms.specs.Limits.{IsGood}
 use Rattle.board_core.specs.Need.{need}
 use Rattle.board_core.specs.Refusals.{is_empty, is_full}
 use Rattle.board_core.specs.Replies.{IsLegal, answer, refused_or}
@@ -199,7 +199,8 @@ needed-accepted o past h t opened legal some =
 
 -- ---- one event
 
-need-event : (o : Opening) (event : Event) (past : List Event) (h t : ℕ) (p : FenceCall Flush) → IsGood o.config → IsLegal o (event ∷ past) → calls.open_call o.fences (turns o past) h ≡ Some p → ends_call h event ≡ false
+need-event : (o : Opening) (event : Event) (past : List Event) (h t : ℕ) (p : FenceCall Flush) → IsGood o.config → IsLegal o (event ∷ past) → calls.open_call o.fences (turns o past) h ≡ Some p
+    → ends_call h event ≡ false
     → need o (event ∷ past) h t ≡ (if stops t event then 0 else if serves t event then need o past h t - 1 else need o past h t)
 need-event o event past h t p good legal opened goes =
     need-more o.fences o.config.harts (turn_of o past event.actor event.op event.reply) (turns o past) h t p (turns_are_right o (event ∷ past) good legal) opened (goes-by o past event h goes)
@@ -237,7 +238,8 @@ are-few o past h good legal =
 -- ---- as long as a call goes on
 
 -- what one event more leaves
-left-more : (stop serve stopped : Bool) (k m : ℕ) → (if stop then 0 else if serve then (if stopped then 0 else k - m) - 1 else (if stopped then 0 else k - m)) ≡ (if stop || stopped then 0 else k - one_more serve m)
+left-more : (stop serve stopped : Bool) (k m : ℕ)
+    → (if stop then 0 else if serve then (if stopped then 0 else k - m) - 1 else (if stopped then 0 else k - m)) ≡ (if stop || stopped then 0 else k - one_more serve m)
 left-more true serve stopped k m = refl
 left-more false true true k m = omega arith
 left-more false true false k m = omega arith
@@ -252,7 +254,8 @@ record IsOpen (o : Opening) (newer past : List Event) (h : ℕ) : Type 0 where
 less-none : (k : ℕ) → k ≡ k - 0
 less-none k = omega arith
 
-stays-open : (o : Opening) (newer past : List Event) (h : ℕ) → IsGood o.config → IsLegal o (newer ++ past) → is_some (outstanding o past h) ≡ true → list_any (ends_call h) newer ≡ false → IsOpen o newer past h
+stays-open : (o : Opening) (newer past : List Event) (h : ℕ) → IsGood o.config → IsLegal o (newer ++ past) → is_some (outstanding o past h) ≡ true → list_any (ends_call h) newer ≡ false
+    → IsOpen o newer past h
 stays-open o [] past h good legal inside goes = let call = inside-call o past h inside in record { place = call.0; opened = call.1; left = λ t. less-none (need o past h t) }
 stays-open o (event ∷ newer) past h good legal inside goes =
     let parts = or_parts (ends_call h event) (list_any (ends_call h) newer) goes in
@@ -260,7 +263,8 @@ stays-open o (event ∷ newer) past h good legal inside goes =
     let right = turns_are_right o (event ∷ (newer ++ past)) good legal in
     record {
       place = before.place;
-      opened = open-more o.fences o.config.harts (turn_of o (newer ++ past) event.actor event.op event.reply) (turns o (newer ++ past)) h before.place right.0 before.opened (goes-by o (newer ++ past) event h parts.0);
+      opened = open-more o.fences o.config.harts (turn_of o (newer ++ past) event.actor event.op event.reply) (turns o (newer ++ past)) h before.place right.0 before.opened
+          (goes-by o (newer ++ past) event h parts.0);
       left = λ t.
           need-event o event (newer ++ past) h t before.place good legal before.opened parts.0
           ∙ ap (λ k. if stops t event then 0 else if serves t event then k - 1 else k) (before.left t)
@@ -275,7 +279,8 @@ can-end o newer past h opened on below served =
     let good = is-good o opened in
     let is = stays-open o newer past h good on.legal on.inside on.goes_on in
     let right = turns_are_right o (newer ++ past) good on.legal in
-    let none : calls.outstanding o.fences o.config.harts (turns o (newer ++ past)) h ≡ [] = needs-none o.fences o.config.harts (turns o (newer ++ past)) h (λ t inside. is.left t ∙ covered t (served t inside)) in
+    let none : calls.outstanding o.fences o.config.harts (turns o (newer ++ past)) h
+    ≡ [] = needs-none o.fences o.config.harts (turns o (newer ++ past)) h (λ t inside. is.left t ∙ covered t (served t inside)) in
     let waits_for_none : outstanding o (newer ++ past) h ≡ Some [] = rw (is.opened, none) refl in
     let power = inside-on o (newer ++ past) h is.place (opened-on o opened) on.legal is.opened in
     let there = lt-leb o.config.harts h (inside right is.place is.opened) in

@@ -15,7 +15,7 @@ use Rattle.board_core.specs.Opening.{Opening, tlb_at, words_at}
 use Rattle.board_core.specs.Fences.{turn_of, turns}
 use Rattle.board_core.specs.Memory.{tlb_acts, word_acts}
 use Rattle.board_core.specs.History.{Event}
-use Rattle.board_core.specs.Limits.{IsGood}
+use Rattle.board_terms.specs.Limits.{IsGood}
 use Rattle.board_core.specs.Replies.{IsLegal}
 use Rattle.board_laws.specs.Fences.{AppliedOnce, Asks, LeavesNothing, OpenedOnce, Stops}
 use Rattle.board_laws.specs.Places.{IsAt, past_at}

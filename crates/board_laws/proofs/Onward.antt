@@ -37,12 +37,12 @@ use Rattle.board_core.specs.Course.{harts_of, is_hart}
 use Rattle.board_core.specs.Csrs.{sie, sie_by, sstatus_sie, sstatus_sie_by}
 use Rattle.board_core.specs.Cuts.{IsHeld, opening_of, words_of}
 use Rattle.board_core.specs.declared.csrs.Sie.{Sie}
-use Rattle.board_core.specs.declared.event.Actor.{Actor}
-use Rattle.board_core.specs.declared.event.Actor.TheVariants.{Hart, Clock}
-use Rattle.board_core.specs.declared.event.Op.{Op}
-use Rattle.board_core.specs.declared.event.Op.TheVariants.{Advance, Ecall, Tick}
-use Rattle.board_core.specs.declared.event.Reply.{Reply}
-use Rattle.board_core.specs.declared.event.Reply.TheVariants as replies
+use Rattle.board_terms.specs.declared.op.Actor.{Actor}
+use Rattle.board_terms.specs.declared.op.Actor.TheVariants.{Hart, Clock}
+use Rattle.board_terms.specs.declared.op.Op.{Op}
+use Rattle.board_terms.specs.declared.op.Op.TheVariants.{Advance, Ecall, Tick}
+use Rattle.board_terms.specs.declared.reply.Reply.{Reply}
+use Rattle.board_terms.specs.declared.reply.Reply.TheVariants as replies
 use Rattle.board_core.specs.Fences.{Remote, remote_of, turn_by_call, turn_by_flush, turn_by_remote, turn_of, turns}
 use Rattle.board_core.specs.History.{Event, Reach, access_of}
 use Rattle.board_core.specs.Interrupts.{deadline, deadline_by, reaches_by, reaches_by_call, ssip, ssip_by, time}
@@ -226,8 +226,10 @@ module _ (o : Opening) (past : List Event) (held : IsHeld o past) where
     starts-anew start own = by_hart (h == start.hart)
       where
         by_hart : (same : Bool)
-            → (let s = if same then states.StartPending else state o past h in kept_in s (unwrap_or (if same then Some start else find (is_of h) (starts cut [])) (boot_start o.config)) (kept o past h))
-            ≡ (let s = if same then states.StartPending else state o past h in kept_in s (unwrap_or (if same then Some start else find (is_of h) (starts o past)) (boot_start o.config)) (resume_point o past h))
+            → (let s = if same then states.StartPending else state o past h in kept_in s (unwrap_or (if same then Some start else find (is_of h) (starts cut [])) (boot_start o.config))
+            (kept o past h))
+            ≡ (let s = if same then states.StartPending else state o past h in kept_in s (unwrap_or (if same then Some start else find (is_of h) (starts o past)) (boot_start o.config))
+            (resume_point o past h))
         by_hart true = refl
         by_hart false = stays own
 
@@ -272,7 +274,8 @@ module _ (o : Opening) (past : List Event) (held : IsHeld o past) where
     resets reset own = by_kind (begins_anew reset.kind) (unwrap_or (find (is_of h) (starts_at o.config reset)) (boot_start o.config))
       where
         by_kind : (anew : Bool) (start : Start)
-            → kept_in (if anew then state_at_boot o.config h else states.Stopped) start (kept o past h) ≡ kept_in (if anew then state_at_boot o.config h else states.Stopped) start (resume_point o past h)
+            → kept_in (if anew then state_at_boot o.config h else states.Stopped) start (kept o past h)
+            ≡ kept_in (if anew then state_at_boot o.config h else states.Stopped) start (resume_point o past h)
         by_kind true start = by_boot (h == o.config.boot_hart)
           where
             by_boot : (boot : Bool)
@@ -285,7 +288,8 @@ module _ (o : Opening) (past : List Event) (held : IsHeld o past) where
     call-agrees x (Hsm (HartStart t addr opaque)) (replies.Ret answered) = by_success (is_success answered)
       where
         by_success : (ok : Bool)
-            → Agree (if ok then Some (One t states.StartPending) else None) (growth (if ok then Some (record { hart = t; addr = addr; opaque = opaque }) else None) None (starts_at o.config)) None (h == x)
+            → Agree (if ok then Some (One t states.StartPending) else None) (growth (if ok then Some (record { hart = t; addr = addr; opaque = opaque }) else None) None (starts_at o.config)) None
+            (h == x)
         by_success true = starts-anew (record { hart = t; addr = addr; opaque = opaque }) (h == x)
         by_success false = stays (h == x)
     call-agrees x (Hsm HartStop) replies.Gone = rests x states.StopPending (h == x) (λ start resume. refl)

@@ -16,7 +16,7 @@ use Rattle.hart_access.specs.Operations.{kind_of}
 use Rattle.rfence.proofs.Seams.{all-same}
 use Rattle.board_core.specs.Cuts.{IsOpened, OpensAfter, opening_of}
 use Rattle.board_core.specs.History.{Event}
-use Rattle.board_core.specs.Limits.{IsGood}
+use Rattle.board_terms.specs.Limits.{IsGood}
 use Rattle.board_core.specs.Memory.{caches_of, memory, satp}
 use Rattle.board_core.specs.Opening.{Opening, no_caches, tlb_at}
 use Rattle.board_core.specs.Replies.{IsLegal}
@@ -57,7 +57,8 @@ is-page o past t opened x lives = elim lives [
 module _ (o : Opening) (past : List Event) (t : ℕ) (legal : IsLegal o past) (opened : OfPages (tlb_at o t).live) where
   live-pages : OfPages (live_entries o past t)
   live-pages =
-      All-weaker (λ x. EntryWasFilled o past t x ⊎ Contains (tlb_at o t).live x) (λ (x : Numbered Entry). IsPage x.item.leaf) (is-page o past t opened) (live_entries o past t) (lives_from_its_date o past t legal).entries
+      All-weaker (λ x. EntryWasFilled o past t x ⊎ Contains (tlb_at o t).live x) (λ (x : Numbered Entry). IsPage x.item.leaf) (is-page o past t opened) (live_entries o past t)
+      (lives_from_its_date o past t legal).entries
 
   cut-pages : OfPages (tlb_at (opening_of o past) t).live
   cut-pages = elim (cases_lt t o.config.harts) [

@@ -5,13 +5,13 @@ use Rattle.std.proofs.lemmas.Bool.{cases_Bool, ne_eqb}
 use Rattle.board_core.specs.Accesses.{used, used_by_actor}
 use Rattle.board_core.specs.Csrs.{sie, sstatus_sie}
 use Rattle.board_core.specs.Cuts.{IsHeld, IsOpened, IsUnseen, opening_of}
-use Rattle.board_core.specs.declared.event.Actor.{Actor}
-use Rattle.board_core.specs.declared.event.Actor.TheVariants.{Hart, Clock}
-use Rattle.board_core.specs.declared.event.Op.{Op}
-use Rattle.board_core.specs.declared.event.Refusal.{Refusal}
-use Rattle.board_core.specs.declared.event.Refusal.TheVariants as refusals
-use Rattle.board_core.specs.declared.event.Reply.{Reply}
-use Rattle.board_core.specs.declared.event.Reply.TheVariants.{Done}
+use Rattle.board_terms.specs.declared.op.Actor.{Actor}
+use Rattle.board_terms.specs.declared.op.Actor.TheVariants.{Hart, Clock}
+use Rattle.board_terms.specs.declared.op.Op.{Op}
+use Rattle.board_terms.specs.declared.reply.Refusal.{Refusal}
+use Rattle.board_terms.specs.declared.reply.Refusal.TheVariants as refusals
+use Rattle.board_terms.specs.declared.reply.Reply.{Reply}
+use Rattle.board_terms.specs.declared.reply.Reply.TheVariants.{Done}
 use Rattle.board_core.specs.Fences.{outstanding, waiting}
 use Rattle.board_core.specs.History.{Event}
 use Rattle.board_core.specs.Interrupts.{deadline, ssip, stip, time, wake}
@@ -41,7 +41,8 @@ full-refuses o past (Hart x) op r e =
     by_tests (is_off o past) (nat_le o.config.harts x) (is_out_of_phase op (situation o past x)) (has_nothing_to_do op (situation o past x)) e
   where
     by_tests : (off missing out idle : Bool)
-        → refused_or (first_that_holds ((off, refusals.Off) ∷ (missing, refusals.WrongPhase) ∷ (out, refusals.WrongPhase) ∷ (idle, refusals.Nothing) ∷ (true, refusals.HistoryFull) ∷ [])) (reply o past x op) ≡ Ok r → ⊥
+        → refused_or (first_that_holds ((off, refusals.Off) ∷ (missing, refusals.WrongPhase) ∷ (out, refusals.WrongPhase) ∷ (idle, refusals.Nothing) ∷ (true, refusals.HistoryFull) ∷ []))
+        (reply o past x op) ≡ Ok r → ⊥
     by_tests true missing out idle e = cc
     by_tests false true out idle e = cc
     by_tests false false true idle e = cc

@@ -12,10 +12,10 @@ use Rattle.sbi_abi.specs.declared.call.Call.{Call}
 use Rattle.sbi_abi.specs.declared.call.Call.TheVariants as calls
 use Rattle.sbi_abi.specs.Calls.{call_of}
 use Rattle.board_core.specs.Opening.{Opening}
-use Rattle.board_core.specs.declared.event.Reply.TheVariants as replies
+use Rattle.board_terms.specs.declared.reply.Reply.TheVariants as replies
 use Rattle.board_core.specs.Fences.{Remote, is_asked_by, remote_of, turn_by_call, turn_by_remote, turn_of, turns}
 use Rattle.board_core.specs.History.{Event}
-use Rattle.board_core.specs.Limits.{IsGood}
+use Rattle.board_terms.specs.Limits.{IsGood}
 use Rattle.board_core.specs.Replies.{IsLegal}
 use Rattle.board_laws.specs.Fences.{Asks, ByCall, FencesItself, Itself, Reached, Succeeded}
 use Rattle.board_laws.specs.Lives.{NoneLives, Struck}

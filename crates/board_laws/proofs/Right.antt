@@ -24,19 +24,19 @@ use Rattle.sbi_abi.specs.declared.reset.Reset.{Reset}
 use Rattle.sbi_abi.specs.Errors.{is_success}
 use Rattle.hart_mask.specs.HartList.{targets_of}
 use Rattle.tlb_model.specs.declared.fence.Flush.{Flush}
-use Rattle.board_core.specs.declared.config.Config.{Config}
+use Rattle.board_terms.specs.declared.config.Config.{Config}
 use Rattle.board_core.specs.Opening.{Opening}
-use Rattle.board_core.specs.declared.event.Actor.{Actor}
-use Rattle.board_core.specs.declared.event.Actor.TheVariants.{Hart, Clock}
-use Rattle.board_core.specs.declared.event.Op.{Op}
-use Rattle.board_core.specs.declared.event.Op.TheVariants.{Ecall, Sfence, FenceI, Advance}
-use Rattle.board_core.specs.declared.event.Op.TheVariants as ops
-use Rattle.board_core.specs.declared.event.Reply.{Reply}
-use Rattle.board_core.specs.declared.event.Reply.TheVariants as replies
+use Rattle.board_terms.specs.declared.op.Actor.{Actor}
+use Rattle.board_terms.specs.declared.op.Actor.TheVariants.{Hart, Clock}
+use Rattle.board_terms.specs.declared.op.Op.{Op}
+use Rattle.board_terms.specs.declared.op.Op.TheVariants.{Ecall, Sfence, FenceI, Advance}
+use Rattle.board_terms.specs.declared.op.Op.TheVariants as ops
+use Rattle.board_terms.specs.declared.reply.Reply.{Reply}
+use Rattle.board_terms.specs.declared.reply.Reply.TheVariants as replies
 use Rattle.board_core.specs.Fences.{Remote, is_asked_by, outstanding, remote_of, turn_by, turn_by_call, turn_by_flush, turn_by_remote, turn_of, turns}
 use Rattle.board_core.specs.History.{Event}
 use Rattle.board_core.specs.Targets.{is_target}
-use Rattle.board_core.specs.Limits.{IsGood, is_start_address}
+use Rattle.board_terms.specs.Limits.{IsGood, is_start_address}
 use Rattle.board_core.specs.Refusals.{first_that_holds, has_nothing_to_do, is_empty, is_out_of_phase, is_running, situation, waits_for_some}
 use Rattle.board_core.specs.Calls.Hsm.{start_errors}
 use Rattle.board_core.specs.Replies.{IsLegal, answer, call_reply, reply, unless}
@@ -53,7 +53,9 @@ started-inside : (o : Opening) (past : List Event) (t addr : ℕ) (answered : Sb
 started-inside o past t addr answered e ok = by_test (nat_le o.config.harts t) refl e
   where
     by_test : (missing : Bool) → nat_le o.config.harts t ≡ missing
-        → replies.Ret (unless (first_that_holds ((missing, InvalidParam) ∷ (not (is_start_address o.config.pages addr), InvalidAddress) ∷ (not (is_stopped (state o past t)), AlreadyAvailable) ∷ [])) 0) ≡ replies.Ret answered
+        → replies.Ret (unless
+        (first_that_holds ((missing, InvalidParam) ∷ (not (is_start_address o.config.pages addr), InvalidAddress) ∷ (not (is_stopped (state o past t)), AlreadyAvailable) ∷ [])) 0)
+        ≡ replies.Ret answered
         → t < o.config.harts
     by_test true there e =
         let failed : unless (Some InvalidParam) 0 ≡ answered = cc in

@@ -20,7 +20,7 @@ use Rattle.hart_access.specs.Operations.{kind_of}
 use Rattle.hart_access.specs.Translations.{IsTranslated, hit_at}
 use Rattle.hart_access.specs.Ways.{in_memory, phys_at, phys_by, phys_in, translated, used_by, way, way_by}
 use Rattle.board_core.specs.Opening.{Opening}
-use Rattle.board_core.specs.declared.event.Reply.TheVariants as replies
+use Rattle.board_terms.specs.declared.reply.Reply.TheVariants as replies
 use Rattle.board_core.specs.Accesses.{access_reply_of, cached, hit}
 use Rattle.board_core.specs.History.{Event, Reach}
 use Rattle.board_core.specs.Memory.{memory, satp}

@@ -13,16 +13,16 @@ use Rattle.sbi_abi.specs.ResetTypes.{reset_kind_of}
 use Rattle.hart_mask.specs.HartList.{names_stray, targets_of}
 use Rattle.hart_mask.specs.Ids.{ids_where}
 use Rattle.board_core.specs.Opening.{Opening, opening_at}
-use Rattle.board_core.specs.declared.event.Actor.TheVariants.{Hart}
-use Rattle.board_core.specs.declared.event.Op.{Op}
-use Rattle.board_core.specs.declared.event.Op.TheVariants.{Advance, Ecall, Fetch, FenceI, Load, Poll, Serve, Sfence, Store, WriteSatp}
-use Rattle.board_core.specs.declared.event.Reply.{Reply}
-use Rattle.board_core.specs.declared.event.Reply.TheVariants.{Done, Entry, Fault, Gone, Ret, Served, Value, Waiting}
+use Rattle.board_terms.specs.declared.op.Actor.TheVariants.{Hart}
+use Rattle.board_terms.specs.declared.op.Op.{Op}
+use Rattle.board_terms.specs.declared.op.Op.TheVariants.{Advance, Ecall, Fetch, FenceI, Load, Poll, Serve, Sfence, Store, WriteSatp}
+use Rattle.board_terms.specs.declared.reply.Reply.{Reply}
+use Rattle.board_terms.specs.declared.reply.Reply.TheVariants.{Done, Entry, Fault, Gone, Ret, Served, Value, Waiting}
 use Rattle.board_core.specs.Calls.Rfence.{flush_of_range}
 use Rattle.sv39.specs.declared.cause.Kind.TheVariants as kinds
 use Rattle.hart_access.specs.declared.operation.Access.TheVariants as accesses
 use Rattle.std.proofs.lemmas.Bool.{cases_eq}
-use Rattle.board_core.specs.Limits.{spaces_of}
+use Rattle.board_terms.specs.Limits.{spaces_of}
 use Rattle.board_core.specs.Memory.{memory, satp}
 use Rattle.board_core.specs.Totals.{totals}
 use Rattle.board_laws.specs.Fresh.{FencedAccess}

@@ -1,8 +1,8 @@
 -- A history from its steps alone.
 use Rattle.std.specs.Prelude.{List, [], ◌∷◌, map}
 use Rattle.board_core.specs.Opening.{Opening}
-use Rattle.board_core.specs.declared.event.Actor.{Actor}
-use Rattle.board_core.specs.declared.event.Op.{Op}
+use Rattle.board_terms.specs.declared.op.Actor.{Actor}
+use Rattle.board_terms.specs.declared.op.Op.{Op}
 use Rattle.board_core.specs.History.{Event}
 use Rattle.board_core.specs.Replies.{stepped}
 

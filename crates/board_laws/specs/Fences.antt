@@ -13,15 +13,15 @@ use Rattle.rfence.specs.declared.opened.FenceCall.{FenceCall}
 use Rattle.rfence.specs.Laws.{times_met, was_applied}
 use Rattle.rfence.specs.Opening.{called_at}
 use Rattle.rfence.specs.Turns.{is_asked}
-use Rattle.board_core.specs.declared.config.Config.{Config}
+use Rattle.board_terms.specs.declared.config.Config.{Config}
 use Rattle.board_core.specs.Opening.{Opening}
-use Rattle.board_core.specs.declared.event.Actor.TheVariants.{Hart}
-use Rattle.board_core.specs.declared.event.Op.{Op}
-use Rattle.board_core.specs.declared.event.Op.TheVariants.{Ecall, FenceI, Poll, Sfence}
-use Rattle.board_core.specs.declared.event.Reply.TheVariants.{Gone, Waiting}
+use Rattle.board_terms.specs.declared.op.Actor.TheVariants.{Hart}
+use Rattle.board_terms.specs.declared.op.Op.{Op}
+use Rattle.board_terms.specs.declared.op.Op.TheVariants.{Ecall, FenceI, Poll, Sfence}
+use Rattle.board_terms.specs.declared.reply.Reply.TheVariants.{Gone, Waiting}
 use Rattle.board_core.specs.Fences.{Remote, is_asked_by, outstanding, remote_of, turn_of, turns, waiting}
 use Rattle.board_core.specs.History.{Event}
-use Rattle.board_core.specs.Limits.{spaces_of}
+use Rattle.board_terms.specs.Limits.{spaces_of}
 use Rattle.board_core.specs.Resets.{reset_by}
 use Rattle.board_core.specs.States.{state}
 use Rattle.board_laws.specs.Lives.{live_entries, live_words}

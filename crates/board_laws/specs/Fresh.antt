@@ -12,9 +12,9 @@ use Rattle.tlb_model.specs.declared.fence.Range.{Range}
 use Rattle.tlb_model.specs.Fences.{meets}
 use Rattle.hart_access.specs.Operations.{kind_of}
 use Rattle.board_core.specs.Opening.{Opening}
-use Rattle.board_core.specs.declared.event.Actor.TheVariants.{Hart}
-use Rattle.board_core.specs.declared.event.Op.TheVariants.{Fetch}
-use Rattle.board_core.specs.declared.event.Reply.TheVariants.{Value}
+use Rattle.board_terms.specs.declared.op.Actor.TheVariants.{Hart}
+use Rattle.board_terms.specs.declared.op.Op.TheVariants.{Fetch}
+use Rattle.board_terms.specs.declared.reply.Reply.TheVariants.{Value}
 use Rattle.board_core.specs.History.{Event, Reach, access_of}
 use Rattle.board_core.specs.Memory.{memory, satp}
 use Rattle.board_laws.specs.Fences.{Reached}
@@ -42,7 +42,8 @@ pub record FencedAccess (o : Opening) (past : List Event) (t a p : ℕ) (fence :
   pub access : access_of event.op ≡ Some reach
   pub reached : Reached o (past_at o past p) t a (Entries fence)
   pub page : is_of_page fence.range reach.va ≡ true
-  pub space : (entry : Entry) → event.translation ≡ Some entry → is_of_space fence.asid (satp o (past_at o past p) t) entry.leaf ≡ true
+  pub space : (entry : Entry) → event.translation ≡ Some entry
+      → is_of_space fence.asid (satp o (past_at o past p) t) entry.leaf ≡ true
 
 -- At a place after a and not after p hart t made an access, of its kind; and the page tables in the memory of that place
 -- give an access of that kind to this address the leaf, by the hart's satp of that place.
@@ -52,7 +53,8 @@ pub record GivenAfter (o : Opening) (past : List Event) (t a p va : ℕ) (leaf :
   pub upto : place ≤ p
   pub there : Reach
   pub made : Accesses o past place t there
-  pub gives : maps (memory o (past_at o past place)) (satp o (past_at o past place) t) va (kind_of there.access) ≡ Ok leaf
+  pub gives : maps (memory o (past_at o past place)) (satp o (past_at o past place) t) va (kind_of there.access)
+      ≡ Ok leaf
 
 -- ---- fetched words
 

@@ -31,5 +31,6 @@ pub record Headline (o : Opening) (past : List Event) : Type 0 where
   -- profile).
   pub needs_are_few : (h : ℕ) → AreFew o past h
   pub needed_serves_are_accepted : (h t : ℕ) → 0 < need o past h t → ServeIsAccepted o past t
-  pub served_calls_can_end : (newer : List Event) (h : ℕ) → GoesOn o newer past h → length (newer ++ past) < o.config.limit → HaveServed o newer past h
+  pub served_calls_can_end : (newer : List Event) (h : ℕ) → GoesOn o newer past h
+      → length (newer ++ past) < o.config.limit → HaveServed o newer past h
       → CanEnd o (newer ++ past) h

@@ -30,13 +30,15 @@ live_words o past t = (caches_of o past t).words.live
 pub record EntryWasFilled (o : Opening) (past : List Event) (t : ℕ) (x : Numbered Entry) : Type 0 where
   pub reach : Reach
   pub made : Accesses o past x.date t reach
-  pub fills : Fills (memory o (past_at o past x.date)) (satp o (past_at o past x.date) t) (hit o (past_at o past x.date) t) reach.va reach.access x.item
+  pub fills : Fills (memory o (past_at o past x.date)) (satp o (past_at o past x.date) t)
+      (hit o (past_at o past x.date) t) reach.va reach.access x.item
 
 -- A fetch by hart t filled the word at its date: it is the word that the memory of that date had there.
 pub record WordWasFilled (o : Opening) (past : List Event) (t : ℕ) (x : Numbered FetchWord) : Type 0 where
   pub reach : Reach
   pub made : Accesses o past x.date t reach
-  pub fetches : Fetches (memory o (past_at o past x.date)) (satp o (past_at o past x.date) t) (hit o (past_at o past x.date) t) (cached o (past_at o past x.date) t) reach.va reach.access x.item
+  pub fetches : Fetches (memory o (past_at o past x.date)) (satp o (past_at o past x.date) t)
+      (hit o (past_at o past x.date) t) (cached o (past_at o past x.date) t) reach.va reach.access x.item
 
 -- What lives in a hart's caches is what the page tables and the memory gave one of its accesses at its date, or lived there
 -- at the opening.

@@ -7,12 +7,12 @@ use Rattle.sbi_abi.specs.declared.call.hsm.HsmCall.TheVariants.{HartStop}
 use Rattle.sbi_abi.specs.Calls.{call_of}
 use Rattle.rfence.specs.Waiting.{one_more}
 use Rattle.board_core.specs.Opening.{Opening}
-use Rattle.board_core.specs.declared.event.Actor.TheVariants.{Hart}
-use Rattle.board_core.specs.declared.event.Op.{Op}
-use Rattle.board_core.specs.declared.event.Op.TheVariants as ops
-use Rattle.board_core.specs.declared.event.Refusal.TheVariants.{HistoryFull}
-use Rattle.board_core.specs.declared.event.Reply.{Reply}
-use Rattle.board_core.specs.declared.event.Reply.TheVariants.{Gone, Ret, Served}
+use Rattle.board_terms.specs.declared.op.Actor.TheVariants.{Hart}
+use Rattle.board_terms.specs.declared.op.Op.{Op}
+use Rattle.board_terms.specs.declared.op.Op.TheVariants as ops
+use Rattle.board_terms.specs.declared.reply.Refusal.TheVariants.{HistoryFull}
+use Rattle.board_terms.specs.declared.reply.Reply.{Reply}
+use Rattle.board_terms.specs.declared.reply.Reply.TheVariants.{Gone, Ret, Served}
 use Rattle.board_core.specs.Course.{is_hart}
 use Rattle.board_core.specs.Fences.{outstanding}
 use Rattle.board_core.specs.History.{Event}
@@ -73,11 +73,13 @@ pub record GoesOn (o : Opening) (newer past : List Event) (h : ℕ) : Type 0 whe
 -- What the call needs of hart t is what it needed before without the hart's serves since then, and nothing where the hart
 -- has stopped.
 abbrev pub IsLeft : Opening → (newer past : List Event) → (h t : ℕ) → Type 0
-IsLeft o newer past h t = need o (newer ++ past) h t ≡ (if list_any (stops t) newer then 0 else need o past h t - serves_in t newer)
+IsLeft o newer past h t = need o (newer ++ past) h t
+    ≡ (if list_any (stops t) newer then 0 else need o past h t - serves_in t newer)
 
 -- Each hart has since served as often as the call needed of it, or has stopped.
 abbrev pub HaveServed : Opening → (newer past : List Event) → (h : ℕ) → Type 0
-HaveServed o newer past h = (t : ℕ) → t < o.config.harts → (need o past h t ≤ serves_in t newer) ⊎ (list_any (stops t) newer ≡ true)
+HaveServed o newer past h = (t : ℕ) → t < o.config.harts
+    → (need o past h t ≤ serves_in t newer) ⊎ (list_any (stops t) newer ≡ true)
 
 -- Hart h's fence call waits for no hart, and its poll is answered with success.
 pub record CanEnd (o : Opening) (past : List Event) (h : ℕ) : Type 0 where

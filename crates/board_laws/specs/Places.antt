@@ -1,7 +1,7 @@
 -- The places of a history. The place of an event, counted from 0, is the number of the events before it.
 use Rattle.std.specs.Prelude.{◌≡◌, ℕ, ◌-◌, ◌≤◌, List, ◌∷◌, ◌++◌, drop, Some}
 use Rattle.board_core.specs.Opening.{Opening, place_after}
-use Rattle.board_core.specs.declared.event.Actor.TheVariants.{Hart}
+use Rattle.board_terms.specs.declared.op.Actor.TheVariants.{Hart}
 use Rattle.board_core.specs.History.{Event, Reach, access_of}
 
 -- The history as it was at a place: its events of lower places.

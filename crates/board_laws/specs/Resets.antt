@@ -4,9 +4,9 @@ use Rattle.sbi_abi.specs.declared.reset.Reset.{Reset}
 use Rattle.hsm.specs.Harts.{resting, starting}
 use Rattle.sv39.specs.Memory.{zero_memory}
 use Rattle.board_core.specs.Opening.{Opening}
-use Rattle.board_core.specs.declared.event.Actor.{Actor}
-use Rattle.board_core.specs.declared.event.Op.{Op}
-use Rattle.board_core.specs.declared.event.Refusal.TheVariants.{Off}
+use Rattle.board_terms.specs.declared.op.Actor.{Actor}
+use Rattle.board_terms.specs.declared.op.Op.{Op}
+use Rattle.board_terms.specs.declared.reply.Refusal.TheVariants.{Off}
 use Rattle.board_core.specs.Csrs as csrs
 use Rattle.board_core.specs.Fences as fences
 use Rattle.board_core.specs.History.{Event}
@@ -21,7 +21,8 @@ pub record IsFresh (o : Opening) (reset : Reset) (past now : List Event) : Type 
   -- Each hart is STOPPED, and nothing is kept for it; but after a reboot the boot hart's start is pending, at the boot
   -- address and with the boot's opaque value.
   pub harts : (h : ℕ) → begun.hart_of o now h
-      ≡ (if begins_anew reset.kind && (h == o.config.boot_hart) then starting (record { addr = o.config.boot_addr; opaque = o.config.boot_opaque }) else resting)
+      ≡ (if begins_anew reset.kind && (h == o.config.boot_hart) then starting
+      (record { addr = o.config.boot_addr; opaque = o.config.boot_opaque }) else resting)
   -- That start is the only one that counts after a reboot, and none does after a shutdown; no entry counts, also none
   -- of before the opening.
   pub starts : begun.starts o now ≡ (if begins_anew reset.kind then begun.boot_start o.config ∷ [] else [])
@@ -42,7 +43,9 @@ pub record IsFresh (o : Opening) (reset : Reset) (past now : List Event) : Type 
   pub waiting : (h : ℕ) → fences.waiting o now h ≡ []
   pub outstanding : (h : ℕ) → fences.outstanding o now h ≡ None
   -- After a cold reboot each word of the memory is 0, and after another reset it is what it was.
-  pub memory : (at : ℕ) → memories.memory o now at ≡ (if is_cold reset.kind then zero_memory o.config.pages at else memories.memory o past at)
+  pub memory : (at : ℕ)
+      → memories.memory o now at
+      ≡ (if is_cold reset.kind then zero_memory o.config.pages at else memories.memory o past at)
   -- The time is what it was.
   pub time : interrupts.time o now ≡ interrupts.time o past
   -- After a shutdown each step of each actor is refused, since the power is off.

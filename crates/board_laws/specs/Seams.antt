@@ -1,7 +1,7 @@
 -- A cut changes no answer ever after.
 use Rattle.std.specs.Prelude.{◌≡◌, ℕ, ◌<◌, Bool, List, ◌++◌}
-use Rattle.board_core.specs.declared.event.Actor.{Actor}
-use Rattle.board_core.specs.declared.event.Op.{Op}
+use Rattle.board_terms.specs.declared.op.Actor.{Actor}
+use Rattle.board_terms.specs.declared.op.Op.{Op}
 use Rattle.board_core.specs.Accesses as accesses
 use Rattle.board_core.specs.Course.{Course}
 use Rattle.board_core.specs.Csrs as csrs

@@ -7,7 +7,7 @@ ghost use Rattle.rfence.specs.Right.{IsRight};
 ghost use Rattle.board_core.specs.Opening.{Opening};
 ghost use Rattle.board_core.specs.Fences.{turns};
 ghost use Rattle.board_core.specs.History.{Event};
-ghost use Rattle.board_core.specs.Limits.{IsGood};
+ghost use Rattle.board_terms.specs.Limits.{IsGood};
 ghost use Rattle.board_core.specs.Replies.{IsLegal};
 ghost use Rattle.board_core.specs.Totals.{totals};
 ghost use Rattle.board_laws.specs.Fences.{AppliedOnce, Asks, CallsAreMadeStarted, LeavesNothing, OpenedOnce, Stops};

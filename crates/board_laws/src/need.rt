@@ -4,7 +4,7 @@ ghost use Rattle.board_core.specs.Cuts.{IsOpened};
 ghost use Rattle.board_core.specs.Opening.{Opening};
 ghost use Rattle.board_core.specs.Fences.{outstanding};
 ghost use Rattle.board_core.specs.History.{Event};
-ghost use Rattle.board_core.specs.Limits.{IsGood};
+ghost use Rattle.board_terms.specs.Limits.{IsGood};
 ghost use Rattle.board_core.specs.Need.{need};
 ghost use Rattle.board_core.specs.Replies.{IsLegal};
 ghost use Rattle.board_laws.specs.Need.{AreFew, CanEnd, GoesOn, HaveServed, IsLeft, ServeIsAccepted, serves};

@@ -1,13 +1,13 @@
 -- An accepted step as words (profile).
 use Rattle.std.specs.Prelude.{ℕ, ℤ, pos, negsuc, Bool, true, false, List, [], ◌∷◌, map, Option, Some, None, Ok, suc}
-use Rattle.board_core.specs.declared.event.Actor.{Actor}
-use Rattle.board_core.specs.declared.event.Actor.TheVariants as actors
-use Rattle.board_core.specs.declared.event.Op.{Op}
-use Rattle.board_core.specs.declared.event.Op.TheVariants as ops
+use Rattle.board_terms.specs.declared.op.Actor.{Actor}
+use Rattle.board_terms.specs.declared.op.Actor.TheVariants as actors
+use Rattle.board_terms.specs.declared.op.Op.{Op}
+use Rattle.board_terms.specs.declared.op.Op.TheVariants as ops
 use Rattle.board_core.specs.History.{Event}
-use Rattle.guest_script.specs.Agreeing.{said_of}
-use Rattle.guest_script.specs.declared.said.Said.{Said}
-use Rattle.guest_script.specs.declared.said.Said.TheVariants as says
+use Rattle.script_lines.specs.Agreeing.{said_of}
+use Rattle.script_lines.specs.declared.said.Said.{Said}
+use Rattle.script_lines.specs.declared.said.Said.TheVariants as says
 use Rattle.conditions.specs.declared.items.Item.{Item}
 use Rattle.conditions.specs.declared.items.Item.TheVariants.{Word, Number, Below, Absent}
 use Rattle.conditions.specs.declared.names.Name.TheVariants as names

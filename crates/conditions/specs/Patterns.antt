@@ -13,7 +13,8 @@ FitsWord (Some wanted) (Some found) = wanted ≡ found
 
 -- Words of a pattern fit words: each the one in its place. Those behind them may be any.
 abbrev pub Fits : List (Option Item) → List Item → Type 0
-Fits pattern items = (k : ℕ) (wanted : Option Item) → slice_get pattern k ≡ Some wanted → FitsWord wanted (slice_get items k)
+Fits pattern items = (k : ℕ) (wanted : Option Item) → slice_get pattern k ≡ Some wanted
+    → FitsWord wanted (slice_get items k)
 
 -- the actor and the operation of a step fit a pattern, and its reply does
 abbrev pub FitsStep : Pattern → Event → Type 0

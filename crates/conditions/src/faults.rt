@@ -1,3 +1,4 @@
+//! What is wrong with a condition's text, and where.
 use std::alloc::{AllocError, AllocFailed};
 use thiserror::Error;
 

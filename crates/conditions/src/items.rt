@@ -1,6 +1,7 @@
+//! The words of a pattern, one after the other.
 ghost use Rattle.std.specs.Prelude.{◌≡◌, ◌∷◌, [], slice_get};
 ghost use Rattle.conditions.specs.Items.{actor_item, number_or_dash, op_items, reply_items, said_items, signed_item, step_items};
-ghost use Rattle.board_core.specs.declared.event.Op.TheVariants.{Ecall, Sfence};
+ghost use Rattle.board_terms.specs.declared.op.Op.TheVariants.{Ecall, Sfence};
 ghost use Rattle.conditions.specs.declared.items.Item.TheVariants as words;
 
 use crate::names::Name;
@@ -109,18 +110,21 @@ fn item_of(items: &[Item], place: usize) -> Option<Item>
     items.get(place).copied()
 }
 
+/// The item in a place, of a name that stands alone.
 fn alone(name: Name, place: usize) -> Option<Item>
     ensures { result ≡ slice_get (words.Word name ∷ []) place }
 {
     item_of(&[Item::Word(name)], place)
 }
 
+/// The item in a place, of a name with one number.
 fn one(name: Name, number: u64, place: usize) -> Option<Item>
     ensures { result ≡ slice_get (words.Word name ∷ words.Number number ∷ []) place }
 {
     item_of(&[Item::Word(name), Item::Number(number)], place)
 }
 
+/// A number, or the dash that stands for none.
 fn number_or_dash(number: Option<u64>) -> Item
     ensures { result ≡ number_or_dash number }
 {

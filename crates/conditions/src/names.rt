@@ -1,3 +1,4 @@
+//! The names of operations and of replies, as conditions write them.
 /// A word of a step that is no number: the clock's, an operation's name, or a reply's.
 #[derive(Clone, Copy, Debug, PartialEq, Eq)]
 pub enum Name {

@@ -1,3 +1,4 @@
+//! What a pattern means of a step.
 ghost use Rattle.std.specs.Prelude.{◌↔◌, ◌≡◌, true};
 ghost use Rattle.conditions.specs.Patterns.{FitsReply, FitsStep, FitsWord, Matches};
 

@@ -1,3 +1,4 @@
+//! The conditions of a script's text, read from its comments.
 ghost use Rattle.std.specs.Prelude.{◌<◌, OnSome, length};
 
 use crate::faults::{Fault, Unread, Wrong};
@@ -90,6 +91,7 @@ struct Words<'a> {
 }
 
 impl<'a> Words<'a> {
+    /// The next word, if there is one.
     fn next(&mut self) -> Option<Word<'a>>
         ensures { OnSome result (length self.new.rest.now < length self.old.rest.now) }
     {

@@ -1,3 +1,4 @@
+//! What a condition asks of a record, and whether one meets it.
 ghost use Rattle.std.specs.Prelude.{◌↔◌, ◌≡◌, ◌<◌, ◌≤◌, ℕ, MatchOption, Some, length, slice_get, true};
 ghost use Rattle.conditions.specs.Rules.{Holds, IsAt, IsFirst, IsFirstFrom, RepliesFit};
 ghost use Rattle.conditions.specs.declared.rules.Ending.{Ending as HowEnded};
@@ -88,7 +89,8 @@ fn is_before(p: &Pattern, q: &Pattern, events: &[Event]) -> bool
 
 /// The first step whose actor and operation fit a pattern, and whose reply doesn't.
 pub fn first_other_reply(p: &Pattern, events: &[Event]) -> Option<usize>
-    ensures { MatchOption result (RepliesFit p.now events.now) (λ k. (k < length events.now) × ¬ RepliesFit p.now events.now) }
+    ensures { MatchOption result (RepliesFit p.now events.now)
+        (λ k. (k < length events.now) × ¬ RepliesFit p.now events.now) }
 {
     for (k, event) in events.iter().enumerate() {
         if p.fits_step(event) && !p.fits_reply(event) {

@@ -81,6 +81,7 @@ impl Failing<'_> {
         }
     }
 
+    /// Gives the next bytes, or fails where its turn has come.
     fn give(&mut self, buffer: &mut [u8]) -> io::Result<usize>
         ensures bound { IfOk result (λ n. n ≤ length buffer.new) }
         ensures same { self.new.failures ≡ self.old.failures }
@@ -93,6 +94,7 @@ impl Failing<'_> {
         Ok(count)
     }
 
+    /// Takes bytes, or fails where its turn has come.
     fn take(&mut self, piece: &[u8]) -> io::Result<usize>
         ensures bound { IfOk result (λ n. n ≤ length piece.now) }
         ensures same { self.new.failures ≡ self.old.failures }
@@ -102,6 +104,7 @@ impl Failing<'_> {
         Ok(count)
     }
 
+    /// Passes on what was taken, or fails where its turn has come.
     fn pass_on(&mut self) -> io::Result<()>
         ensures { self.new.failures ≡ self.old.failures }
     {

@@ -75,6 +75,7 @@ impl Task {
         }
     }
 
+    /// Runs a task over devices of which a call fails.
     fn run<I: Source, O: Sink, R: AllocGlobal + Threads + Wait + Sync>(
         self,
         rt: &R,

@@ -42,7 +42,8 @@ module _ {F : Type 0} where
       let queues = queues_of-empty n room rings empty in
       record {
         limit = omega (arith, long);
-        room = rw empty (λ k d below. All-replicate (λ (ring : Buffer (Request F)). ring.capacity ≡ n - 1) n (buffer [] room) is k d below ∙ ap (λ m. m - 1) (sym (length-replicate n (buffer [] room))));
+        room = rw empty (λ k d below. All-replicate (λ (ring : Buffer (Request F)). ring.capacity ≡ n - 1) n (buffer [] room) is k d below
+            ∙ ap (λ m. m - 1) (sym (length-replicate n (buffer [] room))));
         each = λ t inside. rw (queues, get_or-replicate {A = List (Request F)} n t [] [] (omega arith)) tt;
         counted = sym (ap (sum_by length) queues ∙ sum_by-replicate length n [] ∙ omega arith);
       }
@@ -69,7 +70,8 @@ module _ {F : Type 0} where
       let end : i ≡ length rings = omega (arith, ap length is, past, within) in
       let empty = buffer [] (length rings - 1) in
       let all : changed ≡ replicate (length rings) empty =
-      so_far ∙ ap (λ rs. replicate i (buffer [] (length rs - 1)) ++ drop i rs) is ∙ ap (λ j. replicate j empty ++ drop j rings) end ∙ ap (λ rest. replicate (length rings) empty ++ rest) (drop_all (length rings) rings (omega arith)) ∙ append-nil (replicate (length rings) empty) in
+      so_far ∙ ap (λ rs. replicate i (buffer [] (length rs - 1)) ++ drop i rs) is ∙ ap (λ j. replicate j empty ++ drop j rings) end
+      ∙ ap (λ rest. replicate (length rings) empty ++ rest) (drop_all (length rings) rings (omega arith)) ∙ append-nil (replicate (length rings) empty) in
       let long = ap length all ∙ length-replicate (length rings) empty in
       ap (λ rest. take n (changed ++ rest)) (drop_all (length changed) rings (omega (arith, long)))
       ∙ ap (take n) (append-nil changed)

@@ -21,7 +21,8 @@ module _ {F : Type 0} where
       let parts = or_parts (is_from request.from first) (has_from request.from rest) once in (
         queue.0,
         queue.1,
-        list_any-append (is_from first.from) rest (request ∷ []) ∙ or_from (has_from first.from rest) (has_from first.from (request ∷ [])) queue.2 (or_from (request.from == first.from) false (eqb-flip first.from request.from parts.0) refl),
+        list_any-append (is_from first.from) rest (request ∷ [])
+            ∙ or_from (has_from first.from rest) (has_from first.from (request ∷ [])) queue.2 (or_from (request.from == first.from) false (eqb-flip first.from request.from parts.0) refl),
         IsQueue-push n t rest request queue.3 below other parts.1,
       )
 

@@ -4,9 +4,9 @@ use Rattle.std.specs.List.{list_all}
 use Rattle.std.specs.Option.{is_some}
 use Rattle.std.proofs.lemmas.Bool.{cases_Bool, lt-ltb, le-ltb}
 use Rattle.std.proofs.lemmas.List.{append_assoc, append-nil, length-append, length-map}
-use Rattle.board_core.specs.Refusals.{first_that_holds}
+use Rattle.board_terms.specs.Refusals.{first_that_holds}
 use Rattle.guest_script.specs.declared.fault.Fault.TheVariants.{BadNumber, WordCount}
-use Rattle.board_core.specs.declared.event.Actor.TheVariants.{Hart}
+use Rattle.board_terms.specs.declared.op.Actor.TheVariants.{Hart}
 use Rattle.guest_script.specs.Words.{last_hart}
 use Rattle.guest_script.specs.Values.{actor_in, arguments_in, is_clock, is_number, number_in}
 use Rattle.guest_script.specs.FirstFault.{actor_test, argument_tests, arguments_tests, is_argument, is_dash}
@@ -65,7 +65,8 @@ or_true : (b : Bool) → (b || true) ≡ true
 or_true true = refl
 or_true false = refl
 
-miscounted : (least most : ℕ) (dash : Bool) (limit : ℕ) (words : List (List ℕ)) (ns : List (Option ℕ)) → (length words < least) ⊎ (most < length words) → tested (arguments_tests least most dash limit words) ns ≡ Err WordCount
+miscounted : (least most : ℕ) (dash : Bool) (limit : ℕ) (words : List (List ℕ)) (ns : List (Option ℕ)) → (length words < least) ⊎ (most < length words)
+    → tested (arguments_tests least most dash limit words) ns ≡ Err WordCount
 miscounted least most dash limit words ns (inl few) = rw (lt-ltb _ _ few) refl
 miscounted least most dash limit words ns (inr many) = rw (lt-ltb _ _ many, or_true (ltb (length words) least)) refl
 
@@ -79,7 +80,8 @@ counted least most dash limit words ns enough not_more =
     rw (le-ltb _ _ enough, le-ltb _ _ not_more, first_argument_fault dash limit words) (or_bad_number (list_all (is_argument dash limit) words) ns)
 
 -- how the reading of the words ends
-module _ (least most : ℕ) (dash : Bool) (limit : ℕ) (all : List (List ℕ)) (found : List (Option ℕ)) (all_good : Bool) (words : List (List ℕ)) (read : AreRead most dash limit all found all_good words) where
+module _ (least most : ℕ) (dash : Bool) (limit : ℕ) (all : List (List ℕ)) (found : List (Option ℕ)) (all_good : Bool) (words : List (List ℕ))
+    (read : AreRead most dash limit all found all_good words) where
   pub one_too_many : (word : List ℕ) (others : List (List ℕ)) → words ≡ word ∷ others → most ≤ length found
       → tested (arguments_tests least most dash limit all) (arguments_in limit all) ≡ Err WordCount
   one_too_many word others at full =

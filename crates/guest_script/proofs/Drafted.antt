@@ -1,11 +1,11 @@
 -- What a line gave, with its number.
 use Rattle.std.proofs.Common.{◌≡◌, ◌⊎◌, ℕ, ◌+◌, ◌≤◌, Bool, true, false, List, [], ◌∷◌, ◌++◌, length, Option, Some, None, Ok, Err, refl, ap, inl, inr, arith, length-append}
-use Rattle.board_core.specs.Refusals.{first_that_holds}
+use Rattle.board_terms.specs.Refusals.{first_that_holds}
 use Rattle.guest_script.specs.declared.fault.Fault.{Fault}
 use Rattle.guest_script.specs.declared.fault.Fault.TheVariants.{BadByte, NoBoardLine, UnknownWord, BadNumber, WordCount, OtherKind, SecondBlock, TooLong, NoMemory}
 use Rattle.guest_script.specs.declared.kind.Kind.TheVariants.{Head, Operation, Step}
 use Rattle.guest_script.specs.declared.kind.Kind.{Kind}
-use Rattle.guest_script.specs.declared.script.Line.{Line}
+use Rattle.script_lines.specs.declared.script.Line.{Line}
 use Rattle.guest_script.specs.Grammar.{Blocked, Draft, Nothing, Stepped, Traced}
 use Rattle.guest_script.specs.Values.{kind_of, line_in, lines_in, next_in, next_of, with_operation, with_step, words_in}
 use Rattle.guest_script.specs.FirstFault.{byte_test, line_tests, no_memory}

@@ -5,11 +5,11 @@ use Rattle.std.specs.List.{AllByRecursion}
 use Rattle.std.specs.Str.Lines.{lines}
 use Rattle.std.proofs.lemmas.Bool.{cases_Bool}
 use Rattle.std.proofs.lemmas.Option.{same_Some}
-use Rattle.board_core.specs.Refusals.{first_that_holds}
+use Rattle.board_terms.specs.Refusals.{first_that_holds}
 use Rattle.guest_script.specs.declared.fault.Fault.{Fault}
 use Rattle.guest_script.specs.declared.fault.Fault.TheVariants.{NoMemory, SecondBlock, WordCount}
 use Rattle.guest_script.specs.declared.fault.ScriptFault.{ScriptFault}
-use Rattle.guest_script.specs.declared.script.Script.{Script}
+use Rattle.script_lines.specs.declared.script.Script.{Script}
 use Rattle.guest_script.specs.declared.kind.Kind.{Kind}
 use Rattle.guest_script.specs.declared.kind.Kind.TheVariants.{Head, Step, Operation}
 use Rattle.guest_script.specs.Words.{last_number}

@@ -9,7 +9,6 @@ pub mod LinesFrom
 pub mod LinesOf
 pub mod Named
 pub mod Numerals
-pub mod Packed
 pub mod PiecesRead
 pub mod PlainParts
 pub mod PlainRead

@@ -6,18 +6,18 @@ use Rattle.std.specs.Option.{unwrap_or}
 use Rattle.std.specs.Str.{bytes_eq}
 use Rattle.std.proofs.lemmas.Bool.{cases_Bool, lt-ltb, le-ltb, ltb-false, eqb-true, or_parts, or_from, not-false, not_from_true, false_from_ne_true}
 use Rattle.std.proofs.lemmas.Slice.Eq.{bytes_eq-Decides}
-use Rattle.board_core.specs.declared.event.Actor.{Actor}
-use Rattle.board_core.specs.declared.event.Actor.TheVariants.{Hart, Clock}
-use Rattle.board_core.specs.declared.event.Op.{Op}
-use Rattle.board_core.specs.declared.event.Op.TheVariants.{Advance}
-use Rattle.board_core.specs.Refusals.{first_that_holds}
+use Rattle.board_terms.specs.declared.op.Actor.{Actor}
+use Rattle.board_terms.specs.declared.op.Actor.TheVariants.{Hart, Clock}
+use Rattle.board_terms.specs.declared.op.Op.{Op}
+use Rattle.board_terms.specs.declared.op.Op.TheVariants.{Advance}
+use Rattle.board_terms.specs.Refusals.{first_that_holds}
 use Rattle.guest_script.specs.declared.fault.Fault.{Fault}
 use Rattle.guest_script.specs.declared.fault.Fault.TheVariants.{BadNumber, OtherKind, SecondBlock, UnknownWord, WordCount}
 use Rattle.guest_script.specs.declared.kind.Kind.{Kind}
 use Rattle.guest_script.specs.declared.kind.Kind.TheVariants.{Head, Step, Operation}
-use Rattle.guest_script.specs.declared.said.Said.{Said}
-use Rattle.guest_script.specs.declared.said.Said.TheVariants.{Done}
-use Rattle.guest_script.specs.declared.script.Line.{Line}
+use Rattle.script_lines.specs.declared.said.Said.{Said}
+use Rattle.script_lines.specs.declared.said.Said.TheVariants.{Done}
+use Rattle.script_lines.specs.declared.script.Line.{Line}
 use Rattle.guest_script.specs.Words.{AreNumbers, IsNumber, Spells, last_hart, last_number}
 use Rattle.guest_script.specs.Forms.{AreArguments, Form, IsArgument, IsNamed, IsRet, IsSaid, form_of, guest_form_of, number_at, said_form_of}
 use Rattle.guest_script.specs.Grammar.{Blocked, Blocks, Draft, Guest, IsActor, IsDoing, IsHead, IsInBlock, IsNext, IsStep, IsStepLine, Nothing, OfClock, OfGuest, Open, Stepped, Traced, clock_of, guests_of, has_block, opened, with_op, with_tick}
@@ -181,7 +181,8 @@ ret_passes words said ret =
     let error = spelled_signed ret.error_word ret.error ret.is_error in
     let value = spelled_number last_number ret.value_word ret.value ret.is_value in
     let tests : NoneHolds (ret_tests (ret.error_word ∷ ret.value_word ∷ [])) =
-    none_cons (not (is_signed ret.error_word), BadNumber) ((not (is_number last_number ret.value_word), BadNumber) ∷ []) (not_from_true _ error.0) (none_cons (not (is_number last_number ret.value_word), BadNumber) [] (not_from_true _ value.0) refl) in
+    none_cons (not (is_signed ret.error_word), BadNumber) ((not (is_number last_number ret.value_word), BadNumber) ∷ []) (not_from_true _ error.0)
+    (none_cons (not (is_number last_number ret.value_word), BadNumber) [] (not_from_true _ value.0) refl) in
     rw ret.parts (tests, rw (error.1, value.1) (sym ret.made))
 
 pub said_tested : (words : List (List ℕ)) → NoneHolds (said_tests words) → IsSaid words (said_in words)
@@ -263,7 +264,8 @@ arguments_no_arrow dash limit (word ∷ words) (n ∷ ns) arguments =
 op_no_arrow : (words : List (List ℕ)) (op : Op) → IsNamed form_of words op → has_arrow words ≡ false
 op_no_arrow words op is_op =
     let named = no_name form_of is_op.name (codes "->") is_op.form is_op.has_form form_of-arrow in
-    rw is_op.parts (or_from (bytes_eq is_op.name (codes "->")) (has_arrow is_op.others) named (arguments_no_arrow is_op.form.may_be_absent is_op.form.limit is_op.others is_op.arguments is_op.are_arguments))
+    rw is_op.parts (or_from (bytes_eq is_op.name (codes "->")) (has_arrow is_op.others) named
+    (arguments_no_arrow is_op.form.may_be_absent is_op.form.limit is_op.others is_op.arguments is_op.are_arguments))
 
 -- the words round the first arrow
 pub arrow_parts : (words : List (List ℕ)) → has_arrow words ≡ true → words ≡ before_arrow words ++ codes "->" ∷ after_arrow words
@@ -443,7 +445,8 @@ head_passes guests clock words next (inl (addr, (word, parts, number), fresh, ma
       others = word ∷ [];
       parts = parts;
       kind = refl;
-      none = none_both (number_tests (word ∷ [])) ((has_block guests (first_number (word ∷ [])), SecondBlock) ∷ []) pass.0 (none_cons (has_block guests (first_number (word ∷ [])), SecondBlock) [] (rw pass.1 fresh) refl);
+      none = none_both (number_tests (word ∷ [])) ((has_block guests (first_number (word ∷ [])), SecondBlock) ∷ []) pass.0
+          (none_cons (has_block guests (first_number (word ∷ [])), SecondBlock) [] (rw pass.1 fresh) refl);
       value = rw pass.1 (sym made);
     }
 head_passes guests clock words next (inr (parts, fresh, made)) = record {
@@ -569,7 +572,8 @@ pub record Follows (n : ℕ) (draft : Draft) (words : List (List ℕ)) (next : D
   pub none : NoneHolds (line_tests draft (first ∷ others))
   pub value : next_in n draft (first ∷ others) ≡ next
 
-follows : (n : ℕ) (draft : Draft) (words : List (List ℕ)) (next : Draft) (kind : Kind) (first : List ℕ) (others : List (List ℕ)) → words ≡ first ∷ others → kind_of first others ≡ kind → may_follow draft kind ≡ true
+follows : (n : ℕ) (draft : Draft) (words : List (List ℕ)) (next : Draft) (kind : Kind) (first : List ℕ) (others : List (List ℕ)) → words ≡ first ∷ others → kind_of first others ≡ kind
+    → may_follow draft kind ≡ true
     → NoneHolds (kind_tests kind draft first others) → next_of kind n draft first others ≡ next → Follows n draft words next
 follows n draft words next kind first others parts is may none value = record {
   first = first;
@@ -579,7 +583,8 @@ follows n draft words next kind first others parts is may none value = record {
   value = rw is value;
 }
 
-pub step_follows : (n : ℕ) (in_trace : Bool) (draft : Draft) (words : List (List ℕ)) (line : Line) (next : Draft) → may_follow draft (Step in_trace) ≡ true → IsStepLine n in_trace words line → with_step in_trace draft line ≡ next → Follows n draft words next
+pub step_follows : (n : ℕ) (in_trace : Bool) (draft : Draft) (words : List (List ℕ)) (line : Line) (next : Draft) → may_follow draft (Step in_trace) ≡ true → IsStepLine n in_trace words line
+    → with_step in_trace draft line ≡ next → Follows n draft words next
 step_follows n in_trace draft words line next may is value =
     let pass = step_line_passes n in_trace words line is in
     follows n draft words next (Step in_trace) pass.first pass.others pass.parts pass.kind may pass.none (ap (with_step in_trace draft) pass.value ∙ value)
@@ -595,7 +600,8 @@ next_passes n (Blocked p) words (Blocked next) (inl head) =
     follows n (Blocked p) words (Blocked next) Head pass.first pass.others pass.parts pass.kind refl pass.none (ap (λ (q : Blocks). Blocked q) pass.value)
 next_passes n (Blocked p) words (Blocked next) (inr (current, is, made)) =
     let pass = in_block_passes p.current current words is in
-    follows n (Blocked p) words (Blocked next) Operation pass.first pass.others pass.parts pass.kind refl pass.none (ap (λ (o : Open). Blocked (record p { current = o })) pass.value ∙ ap (λ (q : Blocks). Blocked q) (sym made))
+    follows n (Blocked p) words (Blocked next) Operation pass.first pass.others pass.parts pass.kind refl pass.none
+    (ap (λ (o : Open). Blocked (record p { current = o })) pass.value ∙ ap (λ (q : Blocks). Blocked q) (sym made))
 next_passes n (Stepped before) words (Stepped lines) (line, is, made) = step_follows n false (Stepped before) words line (Stepped lines) refl is (ap (λ (ls : List Line). Stepped ls) (sym made))
 next_passes n (Traced before) words (Traced lines) (line, is, made) = step_follows n true (Traced before) words line (Traced lines) refl is (ap (λ (ls : List Line). Traced ls) (sym made))
 next_passes n Nothing words Nothing is = absurd is

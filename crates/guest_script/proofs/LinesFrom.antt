@@ -4,8 +4,8 @@ use Rattle.std.specs.Option.{option_map}
 use Rattle.std.specs.Str.Lines.{lines}
 use Rattle.std.proofs.lemmas.Bool.{cases_Bool, lt-ltb, le-ltb}
 use Rattle.std.proofs.lemmas.Option.{same_Some}
-use Rattle.board_core.specs.declared.config.Config.{Config}
-use Rattle.board_core.specs.Refusals.{first_that_holds}
+use Rattle.board_terms.specs.declared.config.Config.{Config}
+use Rattle.board_terms.specs.Refusals.{first_that_holds}
 use Rattle.guest_script.specs.declared.fault.Fault.{Fault}
 use Rattle.guest_script.specs.declared.fault.Fault.TheVariants.{NoBoardLine, TooLong}
 use Rattle.guest_script.specs.declared.fault.ScriptFault.{ScriptFault}
@@ -62,13 +62,15 @@ module _ (n : ℕ) (draft : Draft) (texts : List (List ℕ)) (text : List ℕ) (
   pub good_line : (next : Draft) → line_from n draft text ≡ Ok next → lines_from n draft texts ≡ lines_from (n + 1) next others
   unfolding line_from lines_from
   good_line next read =
-      let good = line_good n (byte_test text ∷ line_tests draft (words_in text)) (next_in n draft (words_in text)) (lines_tests (n + 1) (next_in n draft (words_in text)) others) (draft_in n draft (text ∷ others)) next (sym read) in
+      let good = line_good n (byte_test text ∷ line_tests draft (words_in text)) (next_in n draft (words_in text)) (lines_tests (n + 1) (next_in n draft (words_in text)) others)
+      (draft_in n draft (text ∷ others)) next (sym read) in
       rw at (good.0 ∙ ap (λ (d : Draft). tested (lines_tests (n + 1) d others) (draft_in (n + 1) d others)) good.1)
 
   pub lines_from_bad : (e : ScriptFault) → line_from n draft text ≡ Err e → lines_from n draft texts ≡ Err e
   unfolding line_from lines_from
   lines_from_bad e read =
-      rw at (line_bad n (byte_test text ∷ line_tests draft (words_in text)) (next_in n draft (words_in text)) (lines_tests (n + 1) (next_in n draft (words_in text)) others) (draft_in n draft (text ∷ others)) e (sym read))
+      rw at (line_bad n (byte_test text ∷ line_tests draft (words_in text)) (next_in n draft (words_in text)) (lines_tests (n + 1) (next_in n draft (words_in text)) others)
+      (draft_in n draft (text ∷ others)) e (sym read))
 
 -- the same, whatever lines follow those of the bytes
 module _ (n : ℕ) (draft : Draft) (bytes text after : List ℕ) (at : lines bytes ≡ text ∷ lines after) where
@@ -111,14 +113,16 @@ module _ (n : ℕ) (texts : List (List ℕ)) (text : List ℕ) (others : List (L
   pub script_from_none : Ok None ≡ located n (tested (byte_test text ∷ board_tests (words_in text)) (board_in (words_in text))) → script_from n texts ≡ script_from (n + 1) others
   unfolding script_from
   script_from_none read =
-      let line = line_good n (byte_test text ∷ board_tests (words_in text)) (board_in (words_in text)) (cond (is_filled (words_in text)) (lines_tests (n + 1) Nothing others) (board_first_tests (n + 1) others)) (script_in n (text ∷ others)) None read in
+      let line = line_good n (byte_test text ∷ board_tests (words_in text)) (board_in (words_in text))
+      (cond (is_filled (words_in text)) (lines_tests (n + 1) Nothing others) (board_first_tests (n + 1) others)) (script_in n (text ∷ others)) None read in
       rw at (line.0 ∙ rw (no_board (words_in text) line.1, line.1) refl)
 
   pub script_from_board : (config : Config) → Ok (Some config) ≡ located n (tested (byte_test text ∷ board_tests (words_in text)) (board_in (words_in text)))
       → script_from n texts ≡ with_config config (lines_from (n + 1) Nothing others)
   unfolding script_from lines_from
   script_from_board config read =
-      let line = line_good n (byte_test text ∷ board_tests (words_in text)) (board_in (words_in text)) (cond (is_filled (words_in text)) (lines_tests (n + 1) Nothing others) (board_first_tests (n + 1) others)) (script_in n (text ∷ others)) (Some config) read in
+      let line = line_good n (byte_test text ∷ board_tests (words_in text)) (board_in (words_in text))
+      (cond (is_filled (words_in text)) (lines_tests (n + 1) Nothing others) (board_first_tests (n + 1) others)) (script_in n (text ∷ others)) (Some config) read in
       rw at (line.0 ∙ rw (some_board (words_in text) config line.1, line.1) (with_config_or_fault config (draft_in (n + 1) Nothing others) (first_that_holds (lines_tests (n + 1) Nothing others))))
 
   pub script_from_bad : (e : ScriptFault) → Err e ≡ located n (tested (byte_test text ∷ board_tests (words_in text)) (board_in (words_in text))) → script_from n texts ≡ Err e

@@ -2,9 +2,9 @@
 use Rattle.std.proofs.Common.{◌≡◌, ℕ, ℤ, Bool, true, false, List, [], ◌∷◌, ◌++◌, Option, Some, None, Ok, Err, refl, sym, ap, ◌∙◌, inl, inr}
 use Rattle.std.specs.Str.{bytes_eq}
 use Rattle.std.proofs.lemmas.Bool.{cases_Bool}
-use Rattle.board_core.specs.Refusals.{first_that_holds}
+use Rattle.board_terms.specs.Refusals.{first_that_holds}
 use Rattle.guest_script.specs.declared.fault.Fault.TheVariants.{BadNumber}
-use Rattle.guest_script.specs.declared.said.Said.TheVariants.{Ret}
+use Rattle.script_lines.specs.declared.said.Said.TheVariants.{Ret}
 use Rattle.guest_script.specs.Words.{last_number}
 use Rattle.guest_script.specs.Forms.{Form, form_of, guest_form_of, guest_forms, named, other_forms}
 use Rattle.guest_script.specs.Values.{is_signed, number_in, ret_in, signed_in}
@@ -35,13 +35,15 @@ signed_none : (word : List ℕ) → signed_in word ≡ None → is_signed word �
 unfolding signed_in
 signed_none word none = elim (cases_Bool (is_signed word)) [ inl good ↦ absurd (let no = rw good at none in cc) | inr bad ↦ bad ]
 
-pub ret_good : (error value : List ℕ) (e : ℤ) (v : ℕ) → signed_in error ≡ Some e → number_in last_number value ≡ Some v → tested (ret_tests (error ∷ value ∷ [])) (ret_in (error ∷ value ∷ [])) ≡ Ok (Ret e v)
+pub ret_good : (error value : List ℕ) (e : ℤ) (v : ℕ) → signed_in error ≡ Some e → number_in last_number value ≡ Some v
+    → tested (ret_tests (error ∷ value ∷ [])) (ret_in (error ∷ value ∷ [])) ≡ Ok (Ret e v)
 ret_good error value e v first second = rw (signed_some error e first, is_number_some last_number value v second, first, second) refl
 
 pub ret_bad_error : (error value : List ℕ) → signed_in error ≡ None → tested (ret_tests (error ∷ value ∷ [])) (ret_in (error ∷ value ∷ [])) ≡ Err BadNumber
 ret_bad_error error value first = rw (signed_none error first) refl
 
-pub ret_bad_value : (error value : List ℕ) (e : ℤ) → signed_in error ≡ Some e → number_in last_number value ≡ None → tested (ret_tests (error ∷ value ∷ [])) (ret_in (error ∷ value ∷ [])) ≡ Err BadNumber
+pub ret_bad_value : (error value : List ℕ) (e : ℤ) → signed_in error ≡ Some e → number_in last_number value ≡ None
+    → tested (ret_tests (error ∷ value ∷ [])) (ret_in (error ∷ value ∷ [])) ≡ Err BadNumber
 ret_bad_value error value e first second = rw (signed_some error e first, is_number_none last_number value second) refl
 
 -- ---- tests one after another
@@ -63,7 +65,8 @@ module _ {A B C F : Type 0} (tests more : List (Bool × F)) (value : A) (later :
       let first = value_of (first_that_holds tests) value a (sym good) in
       sym (tested_pass tests more all first.0 ∙ ap (λ (o : Option F). or_fault o all) (fault_of (first_that_holds more) later fault (sym bad)))
 
-pub both_good : {A B F : Type 0} (tests more : List (Bool × F)) (value a : A) (later b : B) (all found : A × B) → all ≡ (value, later) → found ≡ (a, b) → Ok a ≡ tested tests value → Ok b ≡ tested more later → Ok found ≡ tested (tests ++ more) all
+pub both_good : {A B F : Type 0} (tests more : List (Bool × F)) (value a : A) (later b : B) (all found : A × B) → all ≡ (value, later) → found ≡ (a, b) → Ok a ≡ tested tests value
+    → Ok b ≡ tested more later → Ok found ≡ tested (tests ++ more) all
 both_good tests more value a later b all found is was good after =
     let first = value_of (first_that_holds tests) value a (sym good) in
     let second = value_of (first_that_holds more) later b (sym after) in

@@ -7,7 +7,7 @@ use Rattle.guest_script.specs.declared.fault.Fault.TheVariants.{TooLong}
 use Rattle.guest_script.specs.declared.fault.ScriptFault.{ScriptFault}
 use Rattle.guest_script.specs.declared.progress.Progress.{Progress}
 use Rattle.guest_script.specs.declared.progress.Stage.TheVariants.{Nothing}
-use Rattle.guest_script.specs.declared.script.Script.{Script}
+use Rattle.script_lines.specs.declared.script.Script.{Script}
 use Rattle.guest_script.specs.Grammar.{Written, most_bytes, written}
 use Rattle.guest_script.specs.Pieces.{AreWhole, HasRead, IsAnswered, Part, script_with}
 use Rattle.guest_script.specs.Progress.{part_of, script_after}
@@ -28,7 +28,8 @@ module _ (size : ℕ) (p : Progress) (bytes : List ℕ) where
 pub nothing_read : (bytes : List ℕ) → script_of bytes ≡ script_with (part_of 0 (record { next = 1; stage = Nothing })) bytes
 nothing_read bytes = elim (cases_Bool (ltb most_bytes (length bytes))) [
   | inl long ↦ script_of_long bytes (ltb-true most_bytes (length bytes) long) ∙ sym (with_long 0 (record { next = 1; stage = Nothing }) bytes (omega (arith, ltb-true most_bytes (length bytes) long)))
-  | inr short ↦ script_of_short bytes (ltb-false most_bytes (length bytes) short) ∙ sym (with_short 0 (record { next = 1; stage = Nothing }) bytes (omega (arith, ltb-false most_bytes (length bytes) short)))
+  | inr short ↦ script_of_short bytes (ltb-false most_bytes (length bytes) short)
+      ∙ sym (with_short 0 (record { next = 1; stage = Nothing }) bytes (omega (arith, ltb-false most_bytes (length bytes) short)))
 ]
 
 -- ---- a piece
@@ -42,7 +43,11 @@ module _ (size : ℕ) (p p' : Progress) (whole : List ℕ) (more : List ℕ) whe
   with_piece are on = elim (cases_Bool (ltb most_bytes (size + length whole + length more))) [
     | inl long ↦ (both_long (size + length whole) (omega (arith, ltb-true _ _ long)) (ltb-true _ _ long))
     | inr short ↦
-        rw (with_short size p (whole ++ more) (omega (arith, ltb-false _ _ short, length-append whole more)), with_short (size + length whole) p' more (ltb-false _ _ short), lines_both whole more are) (on (lines more))
+        rw (
+          with_short size p (whole ++ more) (omega (arith, ltb-false _ _ short, length-append whole more)),
+          with_short (size + length whole) p' more (ltb-false _ _ short),
+          lines_both whole more are,
+        ) (on (lines more))
   ]
 
 -- what a reader makes of bytes, with what follows a piece
@@ -75,7 +80,8 @@ pub all_read : (size : ℕ) (p p' : Progress) (rest : List ℕ) (answer : Result
     → ((texts : List (List ℕ)) → script_after p (lines rest ++ texts) ≡ script_after p' texts) → GivesOrLacks written answer (script_after p' [])
     → GivesOrLacks written answer (script_with (part_of size p) rest)
 all_read size p p' rest answer short on gives =
-    rw (with_short size p rest short) (given answer (script_after p (lines rest)) (script_after p' []) (subst (λ (texts : List (List ℕ)). script_after p texts ≡ script_after p' []) (append-nil (lines rest)) (on [])) gives)
+    rw (with_short size p rest short)
+    (given answer (script_after p (lines rest)) (script_after p' []) (subst (λ (texts : List (List ℕ)). script_after p texts ≡ script_after p' []) (append-nil (lines rest)) (on [])) gives)
 
 pub all_long : (size : ℕ) (p : Progress) (rest : List ℕ) → most_bytes < size + length rest → GivesOrLacks written (Err (record { line = 0; fault = TooLong })) (script_with (part_of size p) rest)
 all_long size p rest long = inr (with_long size p rest long)

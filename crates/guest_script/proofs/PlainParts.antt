@@ -7,13 +7,13 @@ use Rattle.std.proofs.lemmas.Bool.{le-leb, ltb-true}
 use Rattle.std.proofs.lemmas.List.{append_assoc, append-nil, length-drop, take-append-drop, take_all}
 use Rattle.std.proofs.Math.Seq.{take-suc}
 use Rattle.std.proofs.lemmas.Slice.Eq.{bytes_eq-Decides}
-use Rattle.board_core.specs.declared.event.Actor.{Actor}
-use Rattle.board_core.specs.declared.event.Op.{Op}
-use Rattle.board_core.specs.declared.event.Op.TheVariants.{Sfence}
+use Rattle.board_terms.specs.declared.op.Actor.{Actor}
+use Rattle.board_terms.specs.declared.op.Op.{Op}
+use Rattle.board_terms.specs.declared.op.Op.TheVariants.{Sfence}
 use Rattle.guest_script.specs.declared.op_name.OpName.TheVariants as names
 use Rattle.guest_script.specs.declared.places.Places.{Places}
-use Rattle.guest_script.specs.declared.said.Said.{Said}
-use Rattle.guest_script.specs.declared.said.Said.TheVariants.{Ret}
+use Rattle.script_lines.specs.declared.said.Said.{Said}
+use Rattle.script_lines.specs.declared.said.Said.TheVariants.{Ret}
 use Rattle.guest_script.specs.Words.{last_below, AreNumbers, last_number}
 use Rattle.guest_script.specs.Forms.{AreArguments, argument_at, Form, form_of, IsNamed}
 use Rattle.guest_script.specs.Reading.{IsFormAt, made_from}
@@ -42,11 +42,13 @@ digits_filled (suc i) (b ∷ bytes) some within = (b, take i bytes, refl)
 
 numeral_read : (radix : ℕ) (ds : List ℕ) (b n : ℕ) (rest : List ℕ) → 1 ≤ radix → n < 2 ^ 64 → ds ≡ b ∷ rest → digits_after radix 0 ds ≡ Some n → IsNumeral radix ds × (n ≡ digits_value radix ds)
 numeral_read radix ds b n rest r small at read =
-    let kept = is_kept last_number (numeral_of radix (b ∷ rest)) (is_numeral radix last_number (b ∷ rest)) (digits_value radix (b ∷ rest)) n (rw at at read) (omega arith) (numeral_at_most radix last_number (b ∷ rest) r (omega arith)) in
+    let kept = is_kept last_number (numeral_of radix (b ∷ rest)) (is_numeral radix last_number (b ∷ rest)) (digits_value radix (b ∷ rest)) n (rw at at read) (omega arith)
+    (numeral_at_most radix last_number (b ∷ rest) r (omega arith)) in
     let tested = numeral_tested radix last_number (b ∷ rest) kept.0 in
     rw at (tested.0, kept.1)
 
-pub digits_begin : (radix : ℕ) (bytes : List ℕ) (i n : ℕ) (rest : List ℕ) → 1 ≤ radix → n < 2 ^ 64 → 0 < i → i ≤ length bytes → rest ≡ drop i bytes → digits_after radix 0 (take i bytes) ≡ Some n → BeginsDigits radix bytes n rest
+pub digits_begin : (radix : ℕ) (bytes : List ℕ) (i n : ℕ) (rest : List ℕ) → 1 ≤ radix → n < 2 ^ 64 → 0 < i → i ≤ length bytes → rest ≡ drop i bytes → digits_after radix 0 (take i bytes) ≡ Some n
+    → BeginsDigits radix bytes n rest
 digits_begin radix bytes i n rest r small some within is read =
     let filled = digits_filled i bytes some within in
     let numeral = numeral_read radix (take i bytes) filled.0 n filled.1 r small filled.2 read in
@@ -64,7 +66,8 @@ one_digit : (o : Option ℕ) → and_digits (λ n. Some n) o ≡ o
 one_digit None = refl
 one_digit (Some n) = refl
 
-pub digits_more : (radix : ℕ) (bytes : List ℕ) (i n more : ℕ) → i < length bytes → digits_after radix 0 (take i bytes) ≡ Some n → digit_after radix n (get_or bytes i 0) ≡ Some more → digits_after radix 0 (take (i + 1) bytes) ≡ Some more
+pub digits_more : (radix : ℕ) (bytes : List ℕ) (i n more : ℕ) → i < length bytes → digits_after radix 0 (take i bytes) ≡ Some n → digit_after radix n (get_or bytes i 0) ≡ Some more
+    → digits_after radix 0 (take (i + 1) bytes) ≡ Some more
 digits_more radix bytes i n more within read digit =
     let next : i + 1 ≡ suc i = omega arith in
     ap (λ (k : ℕ). digits_after radix 0 (take k bytes)) next
@@ -108,7 +111,8 @@ no_numbers bytes ns none = ([], refl, rw none tt)
 pub numbers_more : (bytes ns rest : List ℕ) (n : ℕ) (after : List ℕ) → BeginsNumbers bytes ns rest → BeginsNumber rest n after → BeginsNumbers bytes (ns ++ n ∷ []) after
 numbers_more bytes ns rest n after (words, parts, numbers) (word, at, number) = (
   words ++ word ∷ [],
-  parts ∙ rw at (sym (append_assoc (behind words) (32 ∷ (word ++ [])) after ∙ ap (λ (b : List ℕ). behind words ++ 32 ∷ b) (append_assoc word [] after))) ∙ ap (λ (b : List ℕ). b ++ after) (sym (behind-append words (word ∷ []))),
+  parts ∙ rw at (sym (append_assoc (behind words) (32 ∷ (word ++ [])) after ∙ ap (λ (b : List ℕ). behind words ++ 32 ∷ b) (append_assoc word [] after)))
+      ∙ ap (λ (b : List ℕ). b ++ after) (sym (behind-append words (word ∷ []))),
   numbers_append words (word ∷ []) ns (n ∷ []) numbers (number, tt),
 )
 
@@ -179,16 +183,19 @@ pub below_begins : (bytes front : List ℕ) (n : ℕ) (rest : List ℕ) → byte
 below_begins bytes front n rest at small (digits, parts, numeral, value) =
     (codes "-" ++ digits, at ∙ ap (λ (b : List ℕ). 45 ∷ b) parts, inr (digits, refl, numeral, omega (arith, small, value), ap (λ (k : ℕ). neg_ℤ (pos k)) value))
 
-pub ret_begins : (before bytes : List ℕ) (error : ℤ) (middle : List ℕ) (value : ℕ) (rest : List ℕ) → before ≡ codes " ret " ++ bytes → BeginsSigned bytes error middle → BeginsNumber middle value rest → BeginsSaid before (Ret error value) rest
+pub ret_begins : (before bytes : List ℕ) (error : ℤ) (middle : List ℕ) (value : ℕ) (rest : List ℕ) → before ≡ codes " ret " ++ bytes → BeginsSigned bytes error middle → BeginsNumber middle value rest
+    → BeginsSaid before (Ret error value) rest
 ret_begins before bytes error middle value rest at (word, parts, is_error) (next, more, is_value) = (
   codes "ret" ∷ word ∷ next ∷ [],
-  at ∙ ap (λ (b : List ℕ). codes " ret " ++ b) (parts ∙ ap (λ (b : List ℕ). word ++ b) (more ∙ ap (λ (b : List ℕ). 32 ∷ (b ++ rest)) (sym (append-nil next))) ∙ sym (append_assoc word (32 ∷ (next ++ [])) rest)),
+  at ∙ ap (λ (b : List ℕ). codes " ret " ++ b)
+      (parts ∙ ap (λ (b : List ℕ). word ++ b) (more ∙ ap (λ (b : List ℕ). 32 ∷ (b ++ rest)) (sym (append-nil next))) ∙ sym (append_assoc word (32 ∷ (next ++ [])) rest)),
   inl (record { error_word = word; value_word = next; error = error; value = value; parts = refl; is_error = is_error; is_value = is_value; made = refl }),
 )
 
 -- ---- lines
 
-pub told_begins : (n : ℕ) (bytes : List ℕ) (actor : Actor) (middle : List ℕ) (op : Op) (rest told : List ℕ) (said : Said) (end after : List ℕ) → BeginsActor bytes actor middle → BeginsOp middle op rest → rest ≡ codes " ->" ++ told
+pub told_begins : (n : ℕ) (bytes : List ℕ) (actor : Actor) (middle : List ℕ) (op : Op) (rest told : List ℕ) (said : Said) (end after : List ℕ) → BeginsActor bytes actor middle
+    → BeginsOp middle op rest → rest ≡ codes " ->" ++ told
     → BeginsSaid told said end → end ≡ codes "\n" ++ after → BeginsLine n true bytes (record { number = n; step = Some (actor, op); said = Some said }) after
 told_begins n bytes actor middle op rest told said end after (first, parts, is_actor) (words, more, is_op) arrow (replies, last, is_said) at = (
   first,

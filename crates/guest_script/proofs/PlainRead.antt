@@ -7,16 +7,16 @@ use Rattle.std.specs.Str.Parse.{digits_value}
 use Rattle.std.proofs.lemmas.Bool.{and_parts, cases_Bool, not-true, not_from_true}
 use Rattle.std.proofs.lemmas.Slice.Eq.{bytes_eq-Decides}
 use Rattle.std.proofs.lemmas.List.{append_assoc, append-nil}
-use Rattle.board_core.specs.declared.event.Actor.{Actor}
-use Rattle.board_core.specs.declared.event.Actor.TheVariants.{Hart, Clock}
-use Rattle.board_core.specs.Refusals.{first_that_holds}
+use Rattle.board_terms.specs.declared.op.Actor.{Actor}
+use Rattle.board_terms.specs.declared.op.Actor.TheVariants.{Hart, Clock}
+use Rattle.board_terms.specs.Refusals.{first_that_holds}
 use Rattle.guest_script.specs.declared.fault.Fault.{Fault}
 use Rattle.guest_script.specs.declared.kind.Kind.TheVariants.{Step}
-use Rattle.guest_script.specs.declared.said.Said.{Said}
-use Rattle.guest_script.specs.declared.script.Line.{Line}
+use Rattle.script_lines.specs.declared.said.Said.{Said}
+use Rattle.script_lines.specs.declared.script.Line.{Line}
 use Rattle.guest_script.specs.Drafts.{steps_of}
 use Rattle.guest_script.specs.Forms.{Form, form_of, guest_forms, IsSaid, named, other_forms, said_form_of, said_forms}
-use Rattle.board_core.specs.declared.event.Op.{Op}
+use Rattle.board_terms.specs.declared.op.Op.{Op}
 use Rattle.guest_script.specs.Words.{is_allowed, is_blank, is_hash, IsSigned}
 use Rattle.guest_script.specs.Grammar.{Draft, Stepped, Traced, IsActor, IsDoing, IsStep, IsStepLine}
 use Rattle.guest_script.specs.Values.{is_filled, next_in, with_step, words_in}
@@ -71,8 +71,10 @@ actor_plain word Clock is = word_plain word (ap is_plain is)
 step_plain : (words : List (List ℕ)) (actor : Actor) (op : Op) → IsStep words actor op → AllByRecursion IsPlain words
 step_plain words actor op step =
     let named = step.is_op in
-    rw (step.parts, named.parts)
-    (actor_plain step.first actor step.is_actor, (op_name_plain named.name named.form named.has_form, arguments_plain named.form.may_be_absent named.form.limit named.others named.arguments named.are_arguments))
+    rw (step.parts, named.parts) (
+      actor_plain step.first actor step.is_actor,
+      (op_name_plain named.name named.form named.has_form, arguments_plain named.form.may_be_absent named.form.limit named.others named.arguments named.are_arguments),
+    )
 
 doing_plain : (words : List (List ℕ)) (step : Option (Actor × Op)) → IsDoing words step → AllByRecursion IsPlain words
 doing_plain words None is = rw is (word_plain (codes "cut") refl, tt)
@@ -104,7 +106,8 @@ line_plain n true words line (before, after, said, number, has_said, parts, is, 
 located_none : (n : ℕ) (o : Option Fault) (x y : Draft) → o ≡ None → x ≡ y → located n (or_fault o x) ≡ Ok y
 located_none n o x y none value = rw (none, value) refl
 
-read_by : (n : ℕ) (draft : Draft) (text first : List ℕ) (others : List (List ℕ)) (next : Draft) → words_in text ≡ first ∷ others → list_all is_allowed text ≡ true → NoneHolds (line_tests draft (first ∷ others))
+read_by : (n : ℕ) (draft : Draft) (text first : List ℕ) (others : List (List ℕ)) (next : Draft) → words_in text ≡ first ∷ others → list_all is_allowed text ≡ true
+    → NoneHolds (line_tests draft (first ∷ others))
     → next_in n draft (first ∷ others) ≡ next → line_from n draft text ≡ Ok next
 unfolding line_from
 read_by n draft text first others next at allowed none value =
@@ -116,7 +119,8 @@ line_read : (n : ℕ) (in_trace : Bool) (draft : Draft) (words : List (List ℕ)
 line_read n in_trace draft words line plain is may =
     let joined = joined_line words plain in
     let follows = step_follows n in_trace draft words line (with_step in_trace draft line) may is refl in
-    read_by n draft (join_with_byte 32 words) follows.first follows.others (with_step in_trace draft line) (line_words (join_with_byte 32 words) words joined ∙ follows.parts) (line_allowed (join_with_byte 32 words) words joined) follows.none follows.value
+    read_by n draft (join_with_byte 32 words) follows.first follows.others (with_step in_trace draft line) (line_words (join_with_byte 32 words) words joined ∙ follows.parts)
+    (line_allowed (join_with_byte 32 words) words joined) follows.none follows.value
 
 pub plain_read : (n : ℕ) (in_trace : Bool) (draft : Draft) (bytes : List ℕ) (line : Line) (after : List ℕ) → BeginsLine n in_trace bytes line after → may_follow draft (Step in_trace) ≡ true
     → GoesOn n draft bytes (n + 1) (with_step in_trace draft line) after

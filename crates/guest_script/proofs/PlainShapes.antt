@@ -2,21 +2,21 @@
 use Rattle.std.proofs.Common.{◌≡◌, ℕ, zero, suc, ◌≤◌, List, [], ◌∷◌, length, take, map, Option, Some, refl, sym, arith}
 use Rattle.std.proofs.lemmas.List.{take_all}
 use Rattle.std.proofs.lemmas.Option.{same_Some}
-use Rattle.board_core.specs.declared.event.Op.TheVariants.{Advance, Sfence}
+use Rattle.board_terms.specs.declared.op.Op.TheVariants.{Advance, Sfence}
 use Rattle.guest_script.specs.declared.op_name.OpName.{OpName}
 use Rattle.guest_script.specs.declared.op_name.OpName.TheVariants as ops
-use Rattle.guest_script.specs.declared.op_shape.OpShape.{OpShape}
-use Rattle.guest_script.specs.declared.op_shape.OpShape.TheVariants as shapes
+use Rattle.script_lines.specs.declared.op_shape.OpShape.{OpShape}
+use Rattle.script_lines.specs.declared.op_shape.OpShape.TheVariants as shapes
 use Rattle.guest_script.specs.declared.places.Places.{Places}
-use Rattle.guest_script.specs.declared.said.Said.{Said}
-use Rattle.guest_script.specs.declared.said.Said.TheVariants.{Done}
+use Rattle.script_lines.specs.declared.said.Said.{Said}
+use Rattle.script_lines.specs.declared.said.Said.TheVariants.{Done}
 use Rattle.guest_script.specs.declared.said_name.SaidName.{SaidName}
 use Rattle.guest_script.specs.declared.said_name.SaidName.TheVariants as saids
 use Rattle.guest_script.specs.Words.{last_number}
 use Rattle.guest_script.specs.Forms.{argument_at, form_of, number_at, said_form_of}
 use Rattle.guest_script.specs.Reading.{IsFormAt, made_from, op_spelling, said_spelling}
-use Rattle.guest_script.specs.Packing.{kept_count, number_from, op_made, plain_said_shape, plain_shape, said_made}
-use Rattle.guest_script.proofs.Packed.{taken}
+use Rattle.guest_script.specs.PlainShapes.{plain_said_shape, plain_shape}
+use Rattle.script_lines.specs.Packing.{number_from, op_made, said_made}
 
 -- each number as an argument
 abbrev pub some_all : List ℕ → List (Option ℕ)
@@ -63,29 +63,3 @@ said_makes saids.Value ns said is = rw (at_some ns 0) (same_Some _ _ (sym is))
 said_makes saids.Fault ns said is = rw (at_some ns 0) (same_Some _ _ (sym is))
 said_makes saids.Moved ns said is = rw (at_some ns 0) (same_Some _ _ (sym is))
 said_makes saids.Refused ns said is = rw (at_some ns 0) (same_Some _ _ (sym is))
-
-all_kept : (shape : OpShape) (ns : List ℕ) (count : ℕ) → count ≡ length ns → op_made shape (take count ns) ≡ op_made shape ns
-all_kept shape ns count all = rw (take_all count ns (omega (arith, all))) refl
-
--- the zeros at the end of a call say nothing
-pub kept_makes : (shape : OpShape) (ns : List ℕ) → op_made shape (take (kept_count shape ns) ns) ≡ op_made shape ns
-kept_makes shapes.Ecall ns = rw (taken ns 0, taken ns 1, taken ns 2, taken ns 3, taken ns 4, taken ns 5, taken ns 6, taken ns 7) refl
-kept_makes shapes.Load ns = all_kept shapes.Load ns (length ns) refl
-kept_makes shapes.Store ns = all_kept shapes.Store ns (length ns) refl
-kept_makes shapes.Fetch ns = all_kept shapes.Fetch ns (length ns) refl
-kept_makes shapes.WriteSatp ns = all_kept shapes.WriteSatp ns (length ns) refl
-kept_makes shapes.WriteSie ns = all_kept shapes.WriteSie ns (length ns) refl
-kept_makes shapes.SstatusOff ns = all_kept shapes.SstatusOff ns (length ns) refl
-kept_makes shapes.SstatusOn ns = all_kept shapes.SstatusOn ns (length ns) refl
-kept_makes shapes.ReadSip ns = all_kept shapes.ReadSip ns (length ns) refl
-kept_makes shapes.ClearSsip ns = all_kept shapes.ClearSsip ns (length ns) refl
-kept_makes shapes.SfenceAll ns = all_kept shapes.SfenceAll ns (length ns) refl
-kept_makes shapes.SfenceAddress ns = all_kept shapes.SfenceAddress ns (length ns) refl
-kept_makes shapes.SfenceAsid ns = all_kept shapes.SfenceAsid ns (length ns) refl
-kept_makes shapes.SfenceBoth ns = all_kept shapes.SfenceBoth ns (length ns) refl
-kept_makes shapes.FenceI ns = all_kept shapes.FenceI ns (length ns) refl
-kept_makes shapes.Wfi ns = all_kept shapes.Wfi ns (length ns) refl
-kept_makes shapes.Poll ns = all_kept shapes.Poll ns (length ns) refl
-kept_makes shapes.Serve ns = all_kept shapes.Serve ns (length ns) refl
-kept_makes shapes.Advance ns = all_kept shapes.Advance ns (length ns) refl
-kept_makes shapes.Tick ns = all_kept shapes.Tick ns (length ns) refl

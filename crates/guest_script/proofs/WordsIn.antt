@@ -25,7 +25,8 @@ word_length_le (b ∷ text) = elim (cases_Bool (is_word_end b)) [
 ]
 
 -- the text's first part, and the words in the others
-first_part : (text : List ℕ) → (parts : List (List ℕ)) × (slice_split is_blank (before_comment text) ≡ take (word_length text) text ∷ parts) × (filter is_filled parts ≡ words_in (drop (word_length text) text))
+first_part : (text : List ℕ)
+    → (parts : List (List ℕ)) × (slice_split is_blank (before_comment text) ≡ take (word_length text) text ∷ parts) × (filter is_filled parts ≡ words_in (drop (word_length text) text))
 unfolding words_in
 first_part [] = ([], refl, refl)
 first_part (b ∷ text) = elim (cases_Bool (is_blank b)) [

@@ -2,7 +2,7 @@
 use Rattle.std.specs.Prelude.{Bool, true, false, List}
 use Rattle.guest_script.specs.declared.draft.BodyDraft.{BodyDraft}
 use Rattle.guest_script.specs.declared.draft.BodyDraft.TheVariants as drafts
-use Rattle.guest_script.specs.declared.script.Line.{Line}
+use Rattle.script_lines.specs.declared.script.Line.{Line}
 use Rattle.guest_script.specs.Grammar.{Draft, Nothing, Blocked, Stepped, Traced}
 
 abbrev pub draft_of : BodyDraft → Draft

@@ -3,7 +3,7 @@ use Rattle.std.specs.Prelude.{ℕ, ◌+◌, Bool, true, false, not, ◌==◌, �
 use Rattle.std.specs.List.{list_all}
 use Rattle.std.specs.Str.{bytes_eq}
 use Rattle.std.specs.Str.Lines.{lines}
-use Rattle.board_core.specs.Refusals.{first_that_holds}
+use Rattle.board_terms.specs.Refusals.{first_that_holds}
 use Rattle.guest_script.specs.declared.fault.Fault.{Fault}
 use Rattle.guest_script.specs.declared.fault.Fault.TheVariants.{BadByte, NoBoardLine, UnknownWord, BadNumber, WordCount, OtherKind, SecondBlock, TooLong, NoMemory}
 use Rattle.guest_script.specs.declared.fault.ScriptFault.{ScriptFault}
@@ -41,7 +41,8 @@ abbrev pub argument_tests : (may_be_absent : Bool) → (limit : ℕ) → List (L
 argument_tests may_be_absent limit words = map (λ word. (not (is_argument may_be_absent limit word), BadNumber)) words
 
 -- so many arguments: their count, and then each from left to right
-abbrev pub arguments_tests : (least most : ℕ) → (may_be_absent : Bool) → (limit : ℕ) → List (List ℕ) → List (Bool × Fault)
+abbrev pub arguments_tests : (least most : ℕ) → (may_be_absent : Bool) → (limit : ℕ) → List (List ℕ)
+    → List (Bool × Fault)
 arguments_tests least most may_be_absent limit words =
     (nat_lt (length words) least || nat_lt most (length words), WordCount) ∷ argument_tests may_be_absent limit words
 
@@ -61,7 +62,8 @@ number_tests words = arguments_tests 1 1 false last_number words
 
 -- a signed number and a number
 abbrev pub ret_tests : List (List ℕ) → List (Bool × Fault)
-ret_tests (error ∷ value ∷ []) = (not (is_signed error), BadNumber) ∷ (not (is_number last_number value), BadNumber) ∷ []
+ret_tests (error ∷ value ∷ []) = (not (is_signed error), BadNumber) ∷ (not (is_number last_number value), BadNumber)
+    ∷ []
 ret_tests words = (true, WordCount) ∷ []
 
 -- the words of a reply or a refusal: there is one, it is known, and its arguments are as it takes them
@@ -151,7 +153,8 @@ at_line n tests = map (λ test. (test.0, record { line = n; fault = test.1 })) t
 abbrev pub lines_tests : ℕ → Draft → List (List ℕ) → List (Bool × ScriptFault)
 lines_tests n draft [] = []
 lines_tests n draft (text ∷ texts) =
-    at_line n (byte_test text ∷ line_tests draft (words_in text)) ++ lines_tests (n + 1) (next_in n draft (words_in text)) texts
+    at_line n (byte_test text ∷ line_tests draft (words_in text))
+    ++ lines_tests (n + 1) (next_in n draft (words_in text)) texts
 
 -- the tests of the lines from line n on, of which the first with words is the board's
 abbrev pub board_first_tests : ℕ → List (List ℕ) → List (Bool × ScriptFault)

@@ -3,11 +3,11 @@ use Rattle.std.specs.Prelude.{◌≡◌, ◌⊎◌, ℕ, ℤ, ◌≤◌, Bool, t
 use Rattle.std.specs.List.{AllZip}
 use Rattle.std.specs.Str.{bytes_eq}
 use Rattle.sbi_abi.specs.declared.call.Regs.{Regs}
-use Rattle.board_core.specs.declared.event.Op.{Op}
-use Rattle.board_core.specs.declared.event.Op.TheVariants.{Ecall, Load, Store, Fetch, WriteSatp, WriteSie, WriteSstatusSie, ReadSip, ClearSsip, Sfence, FenceI, Wfi, Poll, Serve, Advance, Tick}
-use Rattle.board_core.specs.Refusals.{first_that_holds}
-use Rattle.guest_script.specs.declared.said.Said.{Said}
-use Rattle.guest_script.specs.declared.said.Said.TheVariants as says
+use Rattle.board_terms.specs.declared.op.Op.{Op}
+use Rattle.board_terms.specs.declared.op.Op.TheVariants.{Ecall, Load, Store, Fetch, WriteSatp, WriteSie, WriteSstatusSie, ReadSip, ClearSsip, Sfence, FenceI, Wfi, Poll, Serve, Advance, Tick}
+use Rattle.board_terms.specs.Refusals.{first_that_holds}
+use Rattle.script_lines.specs.declared.said.Said.{Said}
+use Rattle.script_lines.specs.declared.said.Said.TheVariants as says
 use Rattle.guest_script.specs.Words.{IsNumber, IsSigned, last_number}
 
 -- ---- arguments
@@ -43,7 +43,8 @@ pub record Form (A : Type 0) : Type 0 where
 
 -- numbers of any size, from `least` to `most` of them
 abbrev pub of_numbers : {A : Type 0} → (least most : ℕ) → (List (Option ℕ) → A) → Form A
-of_numbers least most makes = record { least = least; most = most; limit = last_number; may_be_absent = false; makes = makes }
+of_numbers least most
+    makes = record { least = least; most = most; limit = last_number; may_be_absent = false; makes = makes }
 
 -- a name alone
 abbrev pub alone : {A : Type 0} → A → Form A
@@ -85,10 +86,28 @@ guest_forms =
     ∷ (codes "fetch", of_numbers 1 1 (λ ns. Fetch (number_at ns 0)))
     ∷ (codes "satp", of_numbers 1 1 (λ ns. WriteSatp (number_at ns 0)))
     ∷ (codes "sie", of_numbers 1 1 (λ ns. WriteSie (number_at ns 0)))
-    ∷ (codes "sstatus", record { least = 1; most = 1; limit = 1; may_be_absent = false; makes = λ ns. WriteSstatusSie (number_at ns 0 == 1) })
+    ∷ (
+      codes "sstatus",
+      record {
+        least = 1;
+        most = 1;
+        limit = 1;
+        may_be_absent = false;
+        makes = λ ns. WriteSstatusSie (number_at ns 0 == 1);
+      },
+    )
     ∷ (codes "sip", alone ReadSip)
     ∷ (codes "clearssip", alone ClearSsip)
-    ∷ (codes "sfence", record { least = 2; most = 2; limit = last_number; may_be_absent = true; makes = λ ns. Sfence (argument_at ns 0) (argument_at ns 1) })
+    ∷ (
+      codes "sfence",
+      record {
+        least = 2;
+        most = 2;
+        limit = last_number;
+        may_be_absent = true;
+        makes = λ ns. Sfence (argument_at ns 0) (argument_at ns 1);
+      },
+    )
     ∷ (codes "fencei", alone FenceI)
     ∷ (codes "wfi", alone Wfi)
     ∷ []

@@ -2,18 +2,18 @@
 use Rattle.std.specs.Prelude.{◌≡◌, ◌⊎◌, ℕ, ◌+◌, ◌≤◌, Bool, true, false, ◌==◌, List, [], ◌∷◌, ◌++◌, length, map, codes, Option, Some, None, unwrap_or}
 use Rattle.std.specs.List.{list_any}
 use Rattle.std.specs.Str.Lines.{lines}
-use Rattle.board_core.specs.declared.config.Config.{Config}
-use Rattle.board_core.specs.Limits.{first_numbers, numbers_of, usual_asid_len, usual_width}
-use Rattle.board_core.specs.declared.event.Actor.{Actor}
-use Rattle.board_core.specs.declared.event.Actor.TheVariants.{Hart, Clock}
-use Rattle.board_core.specs.declared.event.Op.{Op}
+use Rattle.board_terms.specs.declared.config.Config.{Config}
+use Rattle.board_terms.specs.Limits.{first_numbers, numbers_of, usual_asid_len, usual_width}
+use Rattle.board_terms.specs.declared.op.Actor.{Actor}
+use Rattle.board_terms.specs.declared.op.Actor.TheVariants.{Hart, Clock}
+use Rattle.board_terms.specs.declared.op.Op.{Op}
 use Rattle.guest_script.specs.declared.reader.TheConstants.{MOST_BYTES}
-use Rattle.guest_script.specs.declared.said.Said.{Said}
-use Rattle.guest_script.specs.declared.script.Block.{Block}
-use Rattle.guest_script.specs.declared.script.Body.{Body}
-use Rattle.guest_script.specs.declared.script.Body.TheVariants as bodies
-use Rattle.guest_script.specs.declared.script.Line.{Line}
-use Rattle.guest_script.specs.declared.script.Script.{Script}
+use Rattle.script_lines.specs.declared.said.Said.{Said}
+use Rattle.script_lines.specs.declared.script.Block.{Block}
+use Rattle.script_lines.specs.declared.script.Body.{Body}
+use Rattle.script_lines.specs.declared.script.Body.TheVariants as bodies
+use Rattle.script_lines.specs.declared.script.Line.{Line}
+use Rattle.script_lines.specs.declared.script.Script.{Script}
 use Rattle.guest_script.specs.Words.{AreNumbers, IsLine, IsNumber, last_hart, last_number}
 use Rattle.guest_script.specs.Forms.{form_of, guest_form_of, IsNamed, IsSaid}
 
@@ -74,7 +74,8 @@ abbrev pub IsStepLine : (n : ℕ) → (in_trace : Bool) → List (List ℕ) → 
 IsStepLine n false words line = (line.number ≡ n) × (line.said ≡ None) × IsDoing words line.step
 IsStepLine n true words line =
     (before after : List (List ℕ)) × (said : Said)
-    × (line.number ≡ n) × (line.said ≡ Some said) × (words ≡ before ++ codes "->" ∷ after) × IsDoing before line.step × IsSaid after said
+    × (line.number ≡ n) × (line.said ≡ Some said) × (words ≡ before ++ codes "->" ∷ after) × IsDoing before line.step
+    × IsSaid after said
 
 -- a name, and one number behind it
 abbrev pub IsNumbered : (name : List ℕ) → List (List ℕ) → ℕ → Type 0
@@ -138,7 +139,8 @@ with_tick ticks n = OfClock (ticks ++ n ∷ [])
 -- A block's head: `at` and an address that no block has, or `clock` where the clock has no block.
 abbrev pub IsHead : List Guest → Option (List ℕ) → List (List ℕ) → Blocks → Type 0
 IsHead guests clock words next =
-    ((addr : ℕ) × IsNumbered (codes "at") words addr × (has_block guests addr ≡ false) × (next ≡ opened guests clock (guest_at addr)))
+    ((addr : ℕ) × IsNumbered (codes "at") words addr × (has_block guests addr ≡ false)
+    × (next ≡ opened guests clock (guest_at addr)))
     ⊎ ((words ≡ codes "clock" ∷ []) × (clock ≡ None) × (next ≡ opened guests clock (OfClock [])))
 
 -- An operation of the open block: a guest's, or the clock's tick.
@@ -152,9 +154,12 @@ IsNext n Nothing words (Blocked next) = IsHead [] None words next
 IsNext n Nothing words (Stepped lines) = (line : Line) × IsStepLine n false words line × (lines ≡ line ∷ [])
 IsNext n Nothing words (Traced lines) = (line : Line) × IsStepLine n true words line × (lines ≡ line ∷ [])
 IsNext n (Blocked p) words (Blocked next) =
-    IsHead (guests_of p) (clock_of p) words next ⊎ ((current : Open) × IsInBlock p.current words current × (next ≡ record p { current = current }))
-IsNext n (Stepped before) words (Stepped lines) = (line : Line) × IsStepLine n false words line × (lines ≡ before ++ line ∷ [])
-IsNext n (Traced before) words (Traced lines) = (line : Line) × IsStepLine n true words line × (lines ≡ before ++ line ∷ [])
+    IsHead (guests_of p) (clock_of p) words next
+    ⊎ ((current : Open) × IsInBlock p.current words current × (next ≡ record p { current = current }))
+IsNext n (Stepped before) words (Stepped lines) = (line : Line) × IsStepLine n false words line
+    × (lines ≡ before ++ line ∷ [])
+IsNext n (Traced before) words (Traced lines) = (line : Line) × IsStepLine n true words line
+    × (lines ≡ before ++ line ∷ [])
 IsNext n draft words next = ⊥
 
 -- The lines from line n on. One without words is passed over.
@@ -162,7 +167,8 @@ abbrev pub AreLines : (n : ℕ) → Draft → List (List ℕ) → Draft → Type
 AreLines n draft [] last = last ≡ draft
 AreLines n draft (text ∷ texts) last =
     (IsLine text [] × AreLines (n + 1) draft texts last)
-    ⊎ ((words : List (List ℕ)) × (next : Draft) × IsLine text words × IsNext n draft words next × AreLines (n + 1) next texts last)
+    ⊎ ((words : List (List ℕ)) × (next : Draft) × IsLine text words × IsNext n draft words next
+    × AreLines (n + 1) next texts last)
 
 -- what all lines say
 abbrev pub content_of : Draft → Content
@@ -190,7 +196,8 @@ abbrev pub AreScript : (n : ℕ) → List (List ℕ) → Written → Type 0
 AreScript n [] s = ⊥
 AreScript n (text ∷ texts) s =
     (IsLine text [] × AreScript (n + 1) texts s)
-    ⊎ ((words : List (List ℕ)) × (last : Draft) × IsLine text words × IsBoard words s.config × AreLines (n + 1) Nothing texts last × (s.content ≡ content_of last))
+    ⊎ ((words : List (List ℕ)) × (last : Draft) × IsLine text words × IsBoard words s.config
+    × AreLines (n + 1) Nothing texts last × (s.content ≡ content_of last))
 
 -- the size of the largest script
 abbrev pub most_bytes : ℕ

@@ -1,13 +1,11 @@
-pub mod Agreeing
 pub mod Drafts
 pub mod FirstFault
 pub mod Forms
 pub mod Grammar
-pub mod KeptLines
 pub mod OpenBlocks
-pub mod Packing
 pub mod Pieces
 pub mod PlainLines
+pub mod PlainShapes
 pub mod Progress
 pub mod Reading
 pub mod Scanning

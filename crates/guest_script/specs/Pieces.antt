@@ -1,10 +1,10 @@
 -- A script that is read in pieces (profile).
 use Rattle.std.specs.Prelude.{◌≡◌, ◌≢◌, ◌⊎◌, ℕ, ◌+◌, nat_lt, if◌then◌else◌, List, [], ◌∷◌, ◌++◌, length, Some, Result, Err, IfErr, IfOk, MatchResult}
 use Rattle.std.specs.Str.Lines.{lines}
-use Rattle.board_core.specs.declared.config.Config.{Config}
+use Rattle.board_terms.specs.declared.config.Config.{Config}
 use Rattle.guest_script.specs.declared.fault.Fault.TheVariants.{NoMemory, TooLong}
 use Rattle.guest_script.specs.declared.fault.ScriptFault.{ScriptFault}
-use Rattle.guest_script.specs.declared.script.Script.{Script}
+use Rattle.script_lines.specs.declared.script.Script.{Script}
 use Rattle.guest_script.specs.FirstFault.{first_fault}
 use Rattle.guest_script.specs.Grammar.{Draft, Reads, Written, most_bytes, written}
 use Rattle.guest_script.specs.Reading.{lines_from, script_from, script_of, with_config}
@@ -35,7 +35,8 @@ told_after (Wrong fault) n texts = Err fault
 -- the script, where these bytes follow
 abbrev pub script_with : Part → List ℕ → Result Written ScriptFault
 script_with part bytes =
-    if nat_lt most_bytes (part.size + length bytes) then Err (record { line = 0; fault = TooLong }) else told_after part.told part.next (lines bytes)
+    if nat_lt most_bytes (part.size + length bytes) then Err
+    (record { line = 0; fault = TooLong }) else told_after part.told part.next (lines bytes)
 
 -- A reader was given these bytes: whatever follows, the script is what it makes of that.
 abbrev pub HasRead : (reader : Part) → List ℕ → Type 0

@@ -1,12 +1,12 @@
 -- Lines as steps are printed: words of letters, digits and marks, one blank between each two, and a line feed.
 use Rattle.std.specs.Prelude.{◌≡◌, ℕ, ℤ, Bool, true, List, [], ◌∷◌, ◌++◌, Option}
 use Rattle.std.specs.Str.Parse.{IsNumeral, digits_value}
-use Rattle.board_core.specs.declared.event.Actor.{Actor}
-use Rattle.board_core.specs.declared.event.Op.{Op}
+use Rattle.board_terms.specs.declared.op.Actor.{Actor}
+use Rattle.board_terms.specs.declared.op.Op.{Op}
 use Rattle.guest_script.specs.declared.op_name.OpName.{OpName}
-use Rattle.guest_script.specs.declared.said.Said.{Said}
+use Rattle.script_lines.specs.declared.said.Said.{Said}
 use Rattle.guest_script.specs.declared.said_name.SaidName.{SaidName}
-use Rattle.guest_script.specs.declared.script.Line.{Line}
+use Rattle.script_lines.specs.declared.script.Line.{Line}
 use Rattle.guest_script.specs.Words.{AreNumbers, IsNumber, IsSigned, last_number}
 use Rattle.guest_script.specs.Forms.{form_of, IsArgument, IsNamed, IsSaid}
 use Rattle.guest_script.specs.Grammar.{IsActor, IsStepLine}
@@ -19,7 +19,8 @@ behind (word ∷ words) = 32 ∷ (word ++ behind words)
 
 -- the bytes begin with digits
 abbrev pub BeginsDigits : (radix : ℕ) → List ℕ → ℕ → List ℕ → Type 0
-BeginsDigits radix bytes n rest = (digits : List ℕ) × (bytes ≡ digits ++ rest) × IsNumeral radix digits × (n ≡ digits_value radix digits)
+BeginsDigits radix bytes n rest = (digits : List ℕ) × (bytes ≡ digits ++ rest) × IsNumeral radix digits
+    × (n ≡ digits_value radix digits)
 
 -- the bytes begin with an actor
 abbrev pub BeginsActor : List ℕ → Actor → List ℕ → Type 0
@@ -39,7 +40,8 @@ BeginsNumber bytes n rest = (word : List ℕ) × (bytes ≡ 32 ∷ (word ++ rest
 
 -- the bytes begin with a blank, and a number or the dash that stands for none
 abbrev pub BeginsArgument : List ℕ → Option ℕ → List ℕ → Type 0
-BeginsArgument bytes argument rest = (word : List ℕ) × (bytes ≡ 32 ∷ (word ++ rest)) × IsArgument true last_number word argument
+BeginsArgument bytes argument rest = (word : List ℕ) × (bytes ≡ 32 ∷ (word ++ rest))
+    × IsArgument true last_number word argument
 
 -- the bytes begin with numbers, a blank before each
 abbrev pub BeginsNumbers : List ℕ → List ℕ → List ℕ → Type 0
@@ -64,4 +66,5 @@ BeginsSaid bytes said rest = (words : List (List ℕ)) × (bytes ≡ behind word
 -- the bytes begin with line n, a step, and in a trace what it gave
 abbrev pub BeginsLine : (n : ℕ) → (in_trace : Bool) → List ℕ → Line → List ℕ → Type 0
 BeginsLine n in_trace bytes line after =
-    (first : List ℕ) × (others : List (List ℕ)) × (bytes ≡ first ++ (behind others ++ 10 ∷ after)) × IsStepLine n in_trace (first ∷ others) line
+    (first : List ℕ) × (others : List (List ℕ)) × (bytes ≡ first ++ (behind others ++ 10 ∷ after))
+    × IsStepLine n in_trace (first ∷ others) line

@@ -4,7 +4,7 @@ use Rattle.guest_script.specs.declared.fault.ScriptFault.{ScriptFault}
 use Rattle.guest_script.specs.declared.progress.Progress.{Progress}
 use Rattle.guest_script.specs.declared.progress.Stage.{Stage}
 use Rattle.guest_script.specs.declared.progress.Stage.TheVariants.{Nothing, Lines, Faulty}
-use Rattle.guest_script.specs.declared.script.Line.{Line}
+use Rattle.script_lines.specs.declared.script.Line.{Line}
 use Rattle.guest_script.specs.Drafts.{draft_of}
 use Rattle.guest_script.specs.Grammar.{Written, most_bytes}
 use Rattle.guest_script.specs.Pieces.{OnBoard, Part, Told, Untold, Wrong, told_after}

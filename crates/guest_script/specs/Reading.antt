@@ -1,8 +1,8 @@
 -- What is read, where no test holds.
 use Rattle.std.specs.Prelude.{◌≡◌, ◌⊎◌, ℕ, List, ◌∷◌, ◌++◌, codes, Option, Some, None, Result, Ok, Err, Bool}
 use Rattle.std.specs.Str.Lines.{lines}
-use Rattle.board_core.specs.declared.config.Config.{Config}
-use Rattle.board_core.specs.Refusals.{first_that_holds}
+use Rattle.board_terms.specs.declared.config.Config.{Config}
+use Rattle.board_terms.specs.Refusals.{first_that_holds}
 use Rattle.guest_script.specs.declared.fault.Fault.{Fault}
 use Rattle.guest_script.specs.declared.fault.Fault.TheVariants.{NoMemory}
 use Rattle.guest_script.specs.declared.fault.ScriptFault.{ScriptFault}
@@ -76,7 +76,8 @@ said_spelling saids.Refused = codes "refused"
 -- The places are those of a form.
 abbrev pub IsFormAt : {A : Type 0} → Places → Option (Form A) → Type 0
 IsFormAt places None = ⊥
-IsFormAt places (Some form) = (form.least ≡ places.least) × (form.most ≡ places.most) × (form.limit ≡ places.limit) × (form.may_be_absent ≡ places.may_be_absent)
+IsFormAt places (Some form) = (form.least ≡ places.least) × (form.most ≡ places.most) × (form.limit ≡ places.limit)
+    × (form.may_be_absent ≡ places.may_be_absent)
 
 -- what a form makes of arguments
 abbrev pub made_from : {A : Type 0} → (otherwise : A) → Option (Form A) → List (Option ℕ) → A
@@ -97,7 +98,8 @@ located_fault n fault = record { line = n; fault = fault }
 
 -- what the lines say with line n, or its fault
 unfoldable pub line_from : ℕ → Draft → List ℕ → Result Draft ScriptFault
-line_from n draft text = located n (tested (byte_test text ∷ line_tests draft (words_in text)) (next_in n draft (words_in text)))
+line_from n draft text = located n
+    (tested (byte_test text ∷ line_tests draft (words_in text)) (next_in n draft (words_in text)))
 
 -- what the lines say with those from line n on, or their first fault
 unfoldable pub lines_from : ℕ → Draft → List (List ℕ) → Result Draft ScriptFault

@@ -20,7 +20,8 @@ word_length (b ∷ text) = if is_word_end b then 0 else suc (word_length text)
 -- the number with one more digit
 unfoldable pub digit_after : (radix n digit : ℕ) → Option ℕ
 digit_after radix n digit =
-    if is_digit digit radix && nat_lt (n * radix + digit_value digit) (2 ^ 64) then Some (n * radix + digit_value digit) else None
+    if is_digit digit radix && nat_lt (n * radix + digit_value digit) (2 ^ 64) then Some
+    (n * radix + digit_value digit) else None
 
 abbrev pub and_digits : (ℕ → Option ℕ) → Option ℕ → Option ℕ
 and_digits others None = None

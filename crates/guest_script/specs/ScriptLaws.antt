@@ -2,7 +2,7 @@
 -- (profile).
 use Rattle.std.specs.Prelude.{◌≡◌, ◌↔◌, ◌⊎◌, ℕ, ◌+◌, ◌<◌, ◌≤◌, List, [], ◌∷◌, ◌++◌, length, None}
 use Rattle.std.specs.Str.Lines.{lines}
-use Rattle.board_core.specs.declared.config.Config.{Config}
+use Rattle.board_terms.specs.declared.config.Config.{Config}
 use Rattle.guest_script.specs.declared.fault.Fault.TheVariants.{NoBoardLine, TooLong}
 use Rattle.guest_script.specs.declared.fault.ScriptFault.{ScriptFault}
 use Rattle.guest_script.specs.Words.{IsLine}
@@ -38,7 +38,8 @@ abbrev pub IsAtFirstWrong : (n : ℕ) → List (List ℕ) → ScriptFault → Ty
 IsAtFirstWrong n [] e = e ≡ record { line = 0; fault = NoBoardLine }
 IsAtFirstWrong n (text ∷ texts) e =
     (IsLine text [] × IsAtFirstWrong (n + 1) texts e)
-    ⊎ ((words : List (List ℕ)) × (config : Config) × IsLine text words × IsBoard words config × IsFirstWrong (n + 1) Nothing texts e.line)
+    ⊎ ((words : List (List ℕ)) × (config : Config) × IsLine text words × IsBoard words config
+    × IsFirstWrong (n + 1) Nothing texts e.line)
     ⊎ ((e.line ≡ n) × IsNoBoard text)
 
 -- A fault is that the script is too long, or else is at its first wrong line.

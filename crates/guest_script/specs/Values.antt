@@ -4,17 +4,17 @@ use Rattle.std.specs.Char.{is_digit}
 use Rattle.std.specs.List.{filter, list_any, list_all, slice_split}
 use Rattle.std.specs.Str.{bytes_eq}
 use Rattle.std.specs.Str.Parse.{digits_value}
-use Rattle.board_core.specs.declared.config.Config.{Config}
-use Rattle.board_core.specs.Limits.{usual_asid_len, usual_width}
-use Rattle.board_core.specs.declared.event.Actor.{Actor}
-use Rattle.board_core.specs.declared.event.Actor.TheVariants.{Hart, Clock}
-use Rattle.board_core.specs.declared.event.Op.{Op}
-use Rattle.board_core.specs.declared.event.Op.TheVariants.{Advance}
+use Rattle.board_terms.specs.declared.config.Config.{Config}
+use Rattle.board_terms.specs.Limits.{usual_asid_len, usual_width}
+use Rattle.board_terms.specs.declared.op.Actor.{Actor}
+use Rattle.board_terms.specs.declared.op.Actor.TheVariants.{Hart, Clock}
+use Rattle.board_terms.specs.declared.op.Op.{Op}
+use Rattle.board_terms.specs.declared.op.Op.TheVariants.{Advance}
 use Rattle.guest_script.specs.declared.kind.Kind.{Kind}
 use Rattle.guest_script.specs.declared.kind.Kind.TheVariants.{Head, Step, Operation}
-use Rattle.guest_script.specs.declared.said.Said.{Said}
-use Rattle.guest_script.specs.declared.said.Said.TheVariants.{Ret, Done}
-use Rattle.guest_script.specs.declared.script.Line.{Line}
+use Rattle.script_lines.specs.declared.said.Said.{Said}
+use Rattle.script_lines.specs.declared.said.Said.TheVariants.{Ret, Done}
+use Rattle.script_lines.specs.declared.script.Line.{Line}
 use Rattle.guest_script.specs.Words.{is_blank, is_hash, last_above, last_below, last_hart, last_number}
 use Rattle.guest_script.specs.Forms.{Form, form_of, guest_form_of, number_at, number_or, said_form_of}
 use Rattle.guest_script.specs.Grammar.{clock_of, content_of, Draft, Nothing, Blocked, Stepped, Traced, guest_at, Guest, guests_of, Open, OfClock, OfGuest, opened, with_op, with_tick, Written}
@@ -96,7 +96,8 @@ op_in words = named_in form_of Advance words
 
 -- what `ret` says
 abbrev pub ret_in : List (List ℕ) → Said
-ret_in words = Ret (unwrap_or (signed_in (slice_index_or words 0 [])) (pos 0)) (unwrap_or (number_in last_number (slice_index_or words 1 [])) 0)
+ret_in words = Ret (unwrap_or (signed_in (slice_index_or words 0 [])) (pos 0))
+    (unwrap_or (number_in last_number (slice_index_or words 1 [])) 0)
 
 -- whether a word is `ret`
 abbrev pub is_ret : List ℕ → Bool
@@ -155,7 +156,8 @@ is_clock_head word = bytes_eq word (codes "clock")
 -- what a line is by its first word, and whether it has an arrow
 abbrev pub kind_of : (first : List ℕ) → List (List ℕ) → Kind
 kind_of first words =
-    if is_at first || is_clock_head first then Head else if begins_actor_line first then Step (has_arrow words) else Operation
+    if is_at first || is_clock_head first then Head else if begins_actor_line first then Step
+    (has_arrow words) else Operation
 
 -- what a line does: a step, or nothing but a cut
 abbrev pub step_in : (first : List ℕ) → List (List ℕ) → Option (Actor × Op)
@@ -164,7 +166,11 @@ step_in first words = if is_cut first then None else Some (actor_in first, op_in
 -- line n of a schedule, and of a trace
 abbrev pub line_in : (n : ℕ) → (in_trace : Bool) → (first : List ℕ) → List (List ℕ) → Line
 line_in n false first words = record { number = n; step = step_in first words; said = None }
-line_in n true first words = record { number = n; step = step_in first (before_arrow words); said = Some (said_in (after_arrow words)) }
+line_in n true first words = record {
+  number = n;
+  step = step_in first (before_arrow words);
+  said = Some (said_in (after_arrow words));
+}
 
 -- the guests' blocks so far, and the clock's ticks
 abbrev pub guests_in : Draft → List Guest
@@ -249,4 +255,5 @@ script_with (Some config) draft later = record { config = config; content = cont
 -- the script of the lines from line n on
 abbrev pub script_in : (n : ℕ) → List (List ℕ) → Written
 script_in n [] = record { config = config_of []; content = content_of Nothing }
-script_in n (text ∷ texts) = script_with (board_in (words_in text)) (draft_in (n + 1) Nothing texts) (script_in (n + 1) texts)
+script_in n (text ∷ texts) = script_with (board_in (words_in text)) (draft_in (n + 1) Nothing texts)
+    (script_in (n + 1) texts)

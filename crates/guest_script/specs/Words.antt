@@ -32,7 +32,8 @@ IsApart (b ∷ text) = IsTrue (is_blank b)
 abbrev pub Spaces : List ℕ → List (List ℕ) → Type 0
 Spaces text [] = IsGap text
 Spaces text (word ∷ words) =
-    (gap : List ℕ) × (rest : List ℕ) × IsGap gap × IsWord word × (text ≡ gap ++ (word ++ rest)) × IsApart rest × Spaces rest words
+    (gap : List ℕ) × (rest : List ℕ) × IsGap gap × IsWord word × (text ≡ gap ++ (word ++ rest)) × IsApart rest
+    × Spaces rest words
 
 -- nothing, or what a `#` begins
 abbrev pub IsComment : List ℕ → Type 0
@@ -86,4 +87,5 @@ last_above = 2 ^ 63 - 1
 abbrev pub IsSigned : List ℕ → ℤ → Type 0
 IsSigned word e =
     (IsNumeral 10 word × (digits_value 10 word ≤ last_above) × (e ≡ pos (digits_value 10 word)))
-    ⊎ ((digits : List ℕ) × (word ≡ codes "-" ++ digits) × IsNumeral 10 digits × (digits_value 10 digits ≤ last_below) × (e ≡ neg_ℤ (pos (digits_value 10 digits))))
+    ⊎ ((digits : List ℕ) × (word ≡ codes "-" ++ digits) × IsNumeral 10 digits × (digits_value 10 digits ≤ last_below)
+    × (e ≡ neg_ℤ (pos (digits_value 10 digits))))

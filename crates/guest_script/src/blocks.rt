@@ -1,3 +1,4 @@
+//! The blocks of a program, while its lines are read.
 ghost use Rattle.std.specs.Prelude.{◌≡◌, ◌⊎◌, ◌∷◌, ◌<◌, ℕ, true, false, List, [], map, None, Some, is_some, OnErr, IfErr, IfOk, MatchResult, vec_len, vec_capacity};
 ghost use Rattle.std.specs.BTreeSet.{contains};
 ghost use Rattle.std.specs.Option.{option_map};
@@ -10,8 +11,8 @@ ghost use Rattle.guest_script.specs.Reading.{GivesOrWants, tested};
 ghost use Rattle.guest_script.specs.Values.{in_block, words_in};
 
 use crate::fault::Fault;
-use crate::script::{Block, Body};
 use crate::step::{guest_op, one_number};
+use script_lines::{Block, Body};
 use std::alloc::{AllocError, Global};
 use std::collections::BTreeSet;
 use std::marker::Model;
@@ -30,7 +31,8 @@ impl OpenBlock {
     /// Reads an operation of the block.
     fn line(&mut self, first: &[u8], rest: &[u8]) -> Result<(), Fault>
         ensures read { GivesOrWants (λ _. open_of self.new) result
-            (tested (in_block_tests (open_of self.old) (first.now ∷ words_in rest.now)) (in_block (open_of self.old) (first.now ∷ words_in rest.now))) }
+            (tested (in_block_tests (open_of self.old) (first.now ∷ words_in rest.now))
+            (in_block (open_of self.old) (first.now ∷ words_in rest.now))) }
         ensures err { OnErr result (open_of self.new ≡ open_of self.old) }
     {
         match self {
@@ -62,9 +64,15 @@ pub struct BlocksDraft {
 impl Model for BlocksDraft {
     ghost Value = { Blocks };
 
-    ghost view = { λ d. record { before = map guest d.before.items; clock = option_map (λ ticks. ticks.items) d.clock; current = open_of d.current } };
+    ghost view = { λ d. record {
+      before = map guest d.before.items;
+      clock = option_map (λ ticks. ticks.items) d.clock;
+      current = open_of d.current;
+    } };
 
-    ghost invariant = { λ d. (addr : ℕ) → contains nat_cmp d.addresses addr ≡ has_block (guests_with (open_of d.current) (map guest d.before.items)) addr };
+    ghost invariant = { λ d. (addr : ℕ)
+        → contains nat_cmp d.addresses addr
+        ≡ has_block (guests_with (open_of d.current) (map guest d.before.items)) addr };
 }
 
 impl BlocksDraft {
@@ -100,7 +108,8 @@ impl BlocksDraft {
     /// Opens a block at an address that no block has.
     pub fn open_guest(&mut self, alloc: Global, addr: u64) -> Result<(), Fault>
         ensures { MatchResult result
-            (λ _. (has_block (guests_of self.old) addr ≡ false) × (self.new ≡ opened (guests_of self.old) (clock_of self.old) (guest_at addr)))
+            (λ _. (has_block (guests_of self.old) addr ≡ false)
+            × (self.new ≡ opened (guests_of self.old) (clock_of self.old) (guest_at addr)))
             (λ fault. (fault ≡ NoMemory) ⊎ ((fault ≡ SecondBlock) × (has_block (guests_of self.old) addr ≡ true))) }
     {
         self.before.reserve(1)?;
@@ -131,6 +140,7 @@ impl BlocksDraft {
         Ok(())
     }
 
+    /// Whether the clock has a block.
     fn has_clock(&self) -> bool
         ensures { result ≡ is_some (clock_of self.now) }
     {
@@ -143,7 +153,8 @@ impl BlocksDraft {
     /// Reads an operation of the open block.
     pub fn line(&mut self, first: &[u8], rest: &[u8]) -> Result<(), Fault>
         ensures { GivesOrWants (λ _. self.new) result
-            (tested (in_block_tests self.old.current (first.now ∷ words_in rest.now)) (record self.old { current = in_block self.old.current (first.now ∷ words_in rest.now) })) }
+            (tested (in_block_tests self.old.current (first.now ∷ words_in rest.now))
+            (record self.old { current = in_block self.old.current (first.now ∷ words_in rest.now) })) }
     {
         self.current.line(first, rest)
     }
@@ -175,7 +186,8 @@ impl BlocksDraft {
 fn close(before: &mut Vec<Block>, clock: &mut Option<Vec<u64>>, closed: OpenBlock)
     requires { vec_len before.old < vec_capacity before.old }
     ensures before { map guest before.new.items ≡ guests_with (open_of closed) (map guest before.old.items) }
-    ensures clock { option_map (λ ticks. ticks.items) clock.new ≡ clock_with (open_of closed) (option_map (λ ticks. ticks.items) clock.old) }
+    ensures clock { option_map (λ ticks. ticks.items) clock.new
+        ≡ clock_with (open_of closed) (option_map (λ ticks. ticks.items) clock.old) }
 {
     match closed {
         OpenBlock::Guest(block) => before.push_reserved(block),

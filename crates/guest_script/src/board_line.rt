@@ -1,3 +1,4 @@
+//! The first line: a board's numbers.
 ghost use Rattle.std.specs.Prelude.{◌≡◌, ◌∷◌};
 ghost use Rattle.guest_script.specs.FirstFault.{board_number_tests, board_tests, byte_test};
 ghost use Rattle.guest_script.specs.Reading.{Gives, tested};
@@ -10,7 +11,7 @@ use crate::places::any_numbers;
 use crate::text::is_clean;
 use crate::words::next_word;
 use arrayvec::ArrayVec;
-use board_core::{Config, USUAL_ASID_LEN, USUAL_WIDTH};
+use board_terms::{Config, USUAL_ASID_LEN, USUAL_WIDTH};
 
 /// The board that a line's words name, if the line has words.
 pub fn board_words(text: &[u8]) -> Result<Option<Config>, Fault>

@@ -1,6 +1,7 @@
+//! What the lines so far say, of a script whose kind they decide.
 ghost use Rattle.std.specs.Prelude.{◌≡◌, ◌⊎◌, ◌∷◌, [], ◌++◌, Bool, ℕ, List, true, false, is_some, None, IfOk, OnOk, Err, MatchOption, MatchResult, ◌+◌, ◌<◌, ◌≤◌, length};
 ghost use Rattle.std.specs.Str.Lines.{lines};
-ghost use Rattle.guest_script.specs.Packing.{StepFits};
+ghost use Rattle.script_lines.specs.Packing.{StepFits};
 ghost use Rattle.guest_script.specs.declared.fault.Fault.TheVariants.{NoMemory, SecondBlock};
 ghost use Rattle.guest_script.specs.declared.kind.Kind.TheVariants.{Head, Operation, Step};
 ghost use Rattle.guest_script.specs.Drafts.{draft_of};
@@ -13,12 +14,11 @@ ghost use Rattle.guest_script.specs.Values.{clock_in, guests_in, lines_in, next_
 use crate::blocks::BlocksDraft;
 use crate::fault::{Fault, NO_MEMORY, ScriptFault};
 use crate::kind::Kind;
-use crate::lines::{Lines, MOST_LINES};
 use crate::plain::read_plain_lines;
-use crate::script::{Body, Line};
 use crate::step::{one_number, step_line};
 use crate::text::{is_clean, next_line};
 use crate::words::next_word;
+use script_lines::{Body, Line, Lines, MOST_LINES};
 use std::alloc::{AllocError, Global};
 
 /// What the lines so far say.
@@ -62,12 +62,13 @@ impl BodyDraft {
         requires few { length (lines_in (draft_of self.old)) ≤ n }
         ensures read { MatchResult result
             (λ found. GoesOn n (draft_of self.old) bytes.now found.0 (draft_of self.new) found.1.now)
-            (λ e. (e ≡ no_memory) ⊎ ((more : List (List ℕ)) → lines_from n (draft_of self.old) (lines bytes.now ++ more) ≡ Err e)) }
+            (λ e. (e ≡ no_memory)
+            ⊎ ((more : List (List ℕ)) → lines_from n (draft_of self.old) (lines bytes.now ++ more) ≡ Err e)) }
         ensures within { IfOk result (λ found. found.0 + length found.1.now ≤ n + length bytes.now) }
         ensures shorter { IfOk result (λ found. length found.1.now < length bytes.now) }
         ensures few { IfOk result (λ found. length (lines_in (draft_of self.new)) ≤ found.0) }
     {
-        let Ok((next, rest)) = self.read_plain(expected, n, bytes) else {
+        let Ok((next, rest)) = self.read_printed(expected, n, bytes) else {
             return Err(NO_MEMORY);
         };
         if rest.is_empty() {
@@ -80,7 +81,7 @@ impl BodyDraft {
 
     /// Reads the lines of a schedule or a trace from number `n` on, as long as they stand in the form in which steps are
     /// printed, and answers the next line's number, and the bytes from it on.
-    fn read_plain<'a>(
+    fn read_printed<'a>(
         &mut self,
         expected: usize,
         n: u64,
@@ -88,7 +89,8 @@ impl BodyDraft {
     ) -> Result<(u64, &'a [u8]), AllocError>
         requires number { n + length bytes.now < MOST_LINES }
         requires few { length (lines_in (draft_of self.old)) ≤ n }
-        ensures read { IfOk result (λ found. GoesOn n (draft_of self.old) bytes.now found.0 (draft_of self.new) found.1.now) }
+        ensures read { IfOk result
+            (λ found. GoesOn n (draft_of self.old) bytes.now found.0 (draft_of self.new) found.1.now) }
         ensures within { IfOk result (λ found. found.0 + length found.1.now ≤ n + length bytes.now) }
         ensures shorter { IfOk result (λ found. length found.1.now ≤ length bytes.now) }
         ensures few { IfOk result (λ found. length (lines_in (draft_of self.new)) ≤ found.0) }
@@ -106,11 +108,13 @@ impl BodyDraft {
         }
     }
 
+    /// One line more, which has bytes that may stand in a script, or doesn't.
     fn line(&mut self, alloc: Global, n: u64, text: &[u8]) -> Result<(), Fault>
         requires number { n < MOST_LINES }
         requires few { length (lines_in (draft_of self.old)) < MOST_LINES }
         ensures { GivesOrWants (λ _. draft_of self.new) result
-            (tested (byte_test text.now ∷ line_tests (draft_of self.old) (words_in text.now)) (next_in n (draft_of self.old) (words_in text.now))) }
+            (tested (byte_test text.now ∷ line_tests (draft_of self.old) (words_in text.now))
+            (next_in n (draft_of self.old) (words_in text.now))) }
     {
         if !is_clean(text) {
             return Err(Fault::BadByte);
@@ -126,7 +130,8 @@ impl BodyDraft {
         requires number { n < MOST_LINES }
         requires few { length (lines_in (draft_of self.old)) < MOST_LINES }
         ensures { GivesOrWants (λ _. draft_of self.new) result
-            (tested (line_tests (draft_of self.old) (first.now ∷ words_in rest.now)) (next_in n (draft_of self.old) (first.now ∷ words_in rest.now))) }
+            (tested (line_tests (draft_of self.old) (first.now ∷ words_in rest.now))
+            (next_in n (draft_of self.old) (first.now ∷ words_in rest.now))) }
     {
         let kind = Kind::of(first, rest);
         if !self.may_follow(kind) {
@@ -159,7 +164,8 @@ impl BodyDraft {
     fn head(&mut self, alloc: Global, first: &[u8], rest: &[u8]) -> Result<(), Fault>
         requires { may_follow (draft_of self.old) Head ≡ true }
         ensures { GivesOrWants (λ _. draft_of self.new) result
-            (tested (kind_tests Head (draft_of self.old) first.now (words_in rest.now)) (next_of Head 0 (draft_of self.old) first.now (words_in rest.now))) }
+            (tested (kind_tests Head (draft_of self.old) first.now (words_in rest.now))
+            (next_of Head 0 (draft_of self.old) first.now (words_in rest.now))) }
     {
         if first == b"at".as_slice() {
             let addr = one_number(rest)?;
@@ -171,12 +177,15 @@ impl BodyDraft {
         }
     }
 
+    /// A guest's block begins.
     fn open_guest(&mut self, alloc: Global, addr: u64) -> Result<(), Fault>
         requires { may_follow (draft_of self.old) Head ≡ true }
         ensures { MatchResult result
             (λ _. (has_block (guests_in (draft_of self.old)) addr ≡ false)
-            × (draft_of self.new ≡ Blocked (opened (guests_in (draft_of self.old)) (clock_in (draft_of self.old)) (guest_at addr))))
-            (λ fault. (fault ≡ NoMemory) ⊎ ((fault ≡ SecondBlock) × (has_block (guests_in (draft_of self.old)) addr ≡ true))) }
+            × (draft_of self.new ≡ Blocked
+            (opened (guests_in (draft_of self.old)) (clock_in (draft_of self.old)) (guest_at addr))))
+            (λ fault. (fault ≡ NoMemory)
+            ⊎ ((fault ≡ SecondBlock) × (has_block (guests_in (draft_of self.old)) addr ≡ true))) }
     {
         match self {
             BodyDraft::Blocks(blocks) => blocks.open_guest(alloc, addr),
@@ -187,10 +196,12 @@ impl BodyDraft {
         }
     }
 
+    /// The clock's block begins.
     fn open_clock(&mut self, alloc: Global) -> Result<(), Fault>
         requires { may_follow (draft_of self.old) Head ≡ true }
         ensures { MatchResult result
-            (λ _. (clock_in (draft_of self.old) ≡ None) × (draft_of self.new ≡ Blocked (opened (guests_in (draft_of self.old)) None (OfClock []))))
+            (λ _. (clock_in (draft_of self.old) ≡ None)
+            × (draft_of self.new ≡ Blocked (opened (guests_in (draft_of self.old)) None (OfClock []))))
             (λ fault. (fault ≡ NoMemory) ⊎ ((fault ≡ SecondBlock) × (is_some (clock_in (draft_of self.old)) ≡ true))) }
     {
         match self {
@@ -230,7 +241,8 @@ impl BodyDraft {
     fn operation(&mut self, first: &[u8], rest: &[u8]) -> Result<(), Fault>
         requires { may_follow (draft_of self.old) Operation ≡ true }
         ensures { GivesOrWants (λ _. draft_of self.new) result
-            (tested (kind_tests Operation (draft_of self.old) first.now (words_in rest.now)) (next_of Operation 0 (draft_of self.old) first.now (words_in rest.now))) }
+            (tested (kind_tests Operation (draft_of self.old) first.now (words_in rest.now))
+            (next_of Operation 0 (draft_of self.old) first.now (words_in rest.now))) }
     {
         match self {
             BodyDraft::Blocks(blocks) => blocks.line(first, rest),

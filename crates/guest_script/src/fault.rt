@@ -1,3 +1,4 @@
+//! Why a text is no script, and where.
 ghost use Rattle.std.specs.Prelude.{◌≡◌};
 ghost use Rattle.guest_script.specs.declared.fault.Fault.TheVariants.{NoMemory};
 ghost use Rattle.guest_script.specs.FirstFault.{fault_number};

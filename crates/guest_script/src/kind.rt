@@ -1,3 +1,4 @@
+//! What kind of line a line is, by its first words.
 ghost use Rattle.std.specs.Prelude.{◌≡◌};
 ghost use Rattle.guest_script.specs.Values.{begins_actor_line, kind_of, words_in};
 

@@ -1,3 +1,4 @@
+//! Laws of scripts: one reading, and where a first fault is.
 ghost use Rattle.std.specs.Prelude.{◌≡◌, ℕ, List, Some};
 ghost use Rattle.guest_script.specs.declared.fault.ScriptFault.{ScriptFault};
 ghost use Rattle.guest_script.specs.FirstFault.{first_fault};

@@ -1,3 +1,4 @@
+//! Numbers as they are written.
 ghost use Rattle.std.specs.Prelude.{◌≡◌, ◌≤◌, neg_ℤ, pos, IfSome};
 ghost use Rattle.std.specs.Char.{digit_value};
 ghost use Rattle.guest_script.specs.Words.{last_below};

@@ -1,3 +1,4 @@
+//! The arguments of a line: numbers, and dashes for absent ones.
 ghost use Rattle.std.specs.Prelude.{◌≡◌, ◌≤◌, ◌&&◌, ◌||◌, is_some};
 ghost use Rattle.guest_script.specs.Forms.{argument_at, number_at, number_or};
 ghost use Rattle.guest_script.specs.FirstFault.{arguments_tests, is_dash};
@@ -23,7 +24,8 @@ pub fn arguments_in(
 ) -> Result<ArrayVec<Option<u64>, MOST_ARGUMENTS>, Fault>
     requires { places.now.most ≤ MOST_ARGUMENTS }
     ensures { Gives (λ found. found.items) result
-        (tested (arguments_tests places.now.least places.now.most places.now.may_be_absent places.now.limit (words_until until_arrow (words_in text.now)))
+        (tested (arguments_tests places.now.least places.now.most places.now.may_be_absent places.now.limit
+        (words_until until_arrow (words_in text.now)))
         (arguments_in places.now.limit (words_until until_arrow (words_in text.now)))) }
 {
     let mut found = ArrayVec::new();

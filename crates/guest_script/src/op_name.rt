@@ -1,11 +1,12 @@
+//! The names of operations, and what may follow each.
 ghost use Rattle.std.specs.Prelude.{◌≡◌, ◌≤◌, MatchOption, None, if◌then◌else◌};
-ghost use Rattle.board_core.specs.declared.event.Op.TheVariants.{Advance};
+ghost use Rattle.board_terms.specs.declared.op.Op.TheVariants.{Advance};
 ghost use Rattle.guest_script.specs.Forms.{form_of, guest_form_of, regs_of};
 ghost use Rattle.guest_script.specs.Reading.{IsFormAt, made_from, op_spelling};
 
 use crate::numbers::{MOST_ARGUMENTS, argument_at, number_at};
 use crate::places::{Places, any_numbers};
-use board_core::Op;
+use board_terms::Op;
 use sbi_abi::Regs;
 
 /// An operation by its name.

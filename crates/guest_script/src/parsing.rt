@@ -1,10 +1,11 @@
+//! A script of bytes that are there at once.
 ghost use Rattle.std.specs.Prelude.{◌≡◌, ◌≢◌, IfErr, IfOk, MatchResult, Some};
 ghost use Rattle.guest_script.specs.Grammar.{Reads, Written, written};
 ghost use Rattle.guest_script.specs.FirstFault.{first_fault};
 
 use crate::fault::{Fault, ScriptFault};
 use crate::reader::Reader;
-use crate::script::Script;
+use script_lines::Script;
 use std::alloc::Global;
 
 /// The script that the bytes are, or the first fault.
@@ -12,7 +13,8 @@ pub fn parse(alloc: Global, bytes: &[u8]) -> Result<Script, ScriptFault>
     // What is read is a script that the bytes are.
     ensures script { IfOk result (λ script. Reads bytes.now (written script)) }
     // Bytes that are a script are read as that one, unless memory runs out.
-    ensures only { (s : Written) → Reads bytes.now s → MatchResult result (λ script. written script ≡ s) (λ e. e.fault ≡ Fault.NoMemory) }
+    ensures only { (s : Written) → Reads bytes.now s
+        → MatchResult result (λ script. written script ≡ s) (λ e. e.fault ≡ Fault.NoMemory) }
     // Any other fault is the first one.
     ensures fault { IfErr result (λ e. e.fault ≢ Fault.NoMemory → first_fault bytes.now ≡ Some e) }
     ensures memory { IfErr result (λ e. e.fault ≡ Fault.NoMemory → e.line ≡ 0) }

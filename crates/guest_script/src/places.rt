@@ -1,3 +1,4 @@
+//! What may follow a name.
 ghost use Rattle.std.specs.Prelude.{◌≡◌, false};
 ghost use Rattle.guest_script.specs.Words.{last_number};
 

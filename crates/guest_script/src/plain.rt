@@ -1,39 +1,27 @@
+//! Lines that stand in the form in which steps are printed, each read in one pass.
 ghost use Rattle.std.specs.Prelude.{◌≡◌, ◌+◌, ◌≤◌, ◌<◌, ◌++◌, ◌^◌, ◌∷◌, [], ℕ, List, None, Some, codes, IfOk, IfSome, MatchOption, length};
-ghost use Rattle.board_core.specs.declared.event.Op.TheVariants.{Sfence};
-ghost use Rattle.guest_script.specs.declared.script.Line.{Line};
+ghost use Rattle.board_terms.specs.declared.op.Op.TheVariants.{Sfence};
+ghost use Rattle.script_lines.specs.declared.script.Line.{Line};
 ghost use Rattle.guest_script.specs.Words.{last_number};
 ghost use Rattle.guest_script.specs.Drafts.{steps_of};
 ghost use Rattle.guest_script.specs.Reading.{GoesOn};
 ghost use Rattle.guest_script.specs.PlainLines.{BeginsActor, BeginsArgument, BeginsDigits, BeginsLine, BeginsName, BeginsNumber, BeginsNumbers, BeginsOp, BeginsSaid, BeginsSaidName, BeginsSigned, BeginsWord};
-ghost use Rattle.guest_script.specs.KeptLines.{plain_line};
-ghost use Rattle.guest_script.specs.Packing.{FitsKept, op_made};
+ghost use Rattle.script_lines.specs.KeptLines.{plain_line};
+ghost use Rattle.script_lines.specs.Packing.{FitsKept, op_made};
 
-use crate::lines::{Lines, MOST_LINES};
 use crate::number::{LAST_ABOVE, LAST_BELOW, below_zero, push_digit};
 use crate::numbers::MOST_ARGUMENTS;
 use crate::op_name::OpName;
-use crate::op_shape::OpShape;
 use crate::places::Places;
-use crate::said::Said;
+use crate::plain_shapes::{plain_said_shape, plain_shape};
 use crate::said_name::SaidName;
-use crate::said_shape::SaidShape;
 use arrayvec::ArrayVec;
-use board_core::Actor;
+use board_terms::Actor;
+use script_lines::{Lines, MOST_LINES, OpShape, Plain, Said};
 use std::alloc::AllocError;
 
 /// The largest number of a hart.
 const LAST_HART: u64 = 127;
-
-/// The parts of a line, but for its number and its operation's numbers.
-#[derive(Clone, Copy)]
-pub struct Plain {
-    /// Who makes the step.
-    pub actor: Actor,
-    /// What it does.
-    pub op: OpShape,
-    /// What it gave, in a trace.
-    pub said: Option<Said>,
-}
 
 /// Puts the lines from number `first` on, which the bytes are, behind the others, as long as they stand in the form in which
 /// steps are printed, and answers the next line's number, and the bytes from it on.
@@ -49,14 +37,16 @@ pub fn read_plain_lines<'a>(
 ) -> Result<(u64, &'a [u8]), AllocError>
     requires number { first + length bytes.now < MOST_LINES }
     requires few { length steps.old ≤ first }
-    ensures read { IfOk result (λ found. GoesOn first (steps_of in_trace steps.old) bytes.now found.0 (steps_of in_trace steps.new) found.1.now) }
+    ensures read { IfOk result
+        (λ found. GoesOn first (steps_of in_trace steps.old) bytes.now found.0
+        (steps_of in_trace steps.new) found.1.now) }
     ensures within { IfOk result (λ found. found.0 + length found.1.now ≤ first + length bytes.now) }
     ensures shorter { IfOk result (λ found. length found.1.now ≤ length bytes.now) }
     ensures few { IfOk result (λ found. length steps.new ≤ found.0) }
 {
     let mut number = first;
     let mut rest = bytes;
-    while let Some(after) = read_plain(steps, number, in_trace, rest)? {
+    while let Some(after) = read_plain_line(steps, number, in_trace, rest)? {
         rest = after;
         number += 1;
     }
@@ -70,7 +60,7 @@ pub fn read_plain_lines<'a>(
 ///
 /// Memory was refused.
 #[inline(always)]
-fn read_plain<'a>(
+fn read_plain_line<'a>(
     lines: &mut Lines,
     n: u64,
     in_trace: bool,
@@ -79,7 +69,8 @@ fn read_plain<'a>(
     requires number { n < MOST_LINES }
     requires few { length lines.old < MOST_LINES }
     ensures { IfOk result (λ found. MatchOption found (lines.new ≡ lines.old)
-        (λ after. (line : Line) × BeginsLine n in_trace bytes.now line after.now × (lines.new ≡ lines.old ++ line ∷ []) × (length after.now < length bytes.now))) }
+        (λ after. (line : Line) × BeginsLine n in_trace bytes.now line after.now × (lines.new ≡ lines.old ++ line ∷ [])
+        × (length after.now < length bytes.now))) }
 {
     let mut numbers = ArrayVec::new();
     match plain_line(in_trace, bytes, &mut numbers) {
@@ -102,7 +93,8 @@ fn plain_line<'a>(
 ) -> Option<(Plain, &'a [u8])>
     requires { numbers.old.items ≡ [] }
     ensures actor { IfSome result (λ found. FitsKept found.0.actor) }
-    ensures line { IfSome result (λ found. (n : ℕ) → BeginsLine n in_trace bytes.now (plain_line n found.0 numbers.new.items) found.1.now) }
+    ensures line { IfSome result
+        (λ found. (n : ℕ) → BeginsLine n in_trace bytes.now (plain_line n found.0 numbers.new.items) found.1.now) }
     ensures shorter { IfSome result (λ found. length found.1.now < length bytes.now) }
 {
     let (actor, rest) = plain_actor(bytes)?;
@@ -118,6 +110,7 @@ fn plain_line<'a>(
     }
 }
 
+/// The parts of a schedule's line.
 #[inline(always)]
 fn step(actor: Actor, op: OpShape) -> Plain
     ensures { result ≡ record { actor = actor; op = op; said = None } }
@@ -129,6 +122,7 @@ fn step(actor: Actor, op: OpShape) -> Plain
     }
 }
 
+/// The parts of a trace's line.
 #[inline(always)]
 fn told(actor: Actor, op: OpShape, said: Said) -> Plain
     ensures { result ≡ record { actor = actor; op = op; said = Some said } }
@@ -140,6 +134,7 @@ fn told(actor: Actor, op: OpShape, said: Said) -> Plain
     }
 }
 
+/// The actor that the bytes begin with, and what stands behind it.
 #[inline(always)]
 fn plain_actor(bytes: &[u8]) -> Option<(Actor, &[u8])>
     ensures actor { IfSome result (λ found. BeginsActor bytes.now found.0 found.1.now) }
@@ -207,7 +202,7 @@ fn plain_named<'a>(
         OpName::Sfence => plain_fence(rest, numbers),
         _ => {
             let rest = plain_places(name.places(), rest, numbers)?;
-            Some((OpShape::of_name(name), rest))
+            Some((plain_shape(name), rest))
         }
     }
 }
@@ -219,7 +214,9 @@ fn plain_fence<'a>(
     numbers: &mut ArrayVec<u64, MOST_ARGUMENTS>,
 ) -> Option<(OpShape, &'a [u8])>
     requires { numbers.old.items ≡ [] }
-    ensures op { IfSome result (λ found. (before : List ℕ) → BeginsName before OpName.Sfence bytes.now → BeginsOp before (op_made found.0 numbers.new.items) found.1.now) }
+    ensures op { IfSome result
+        (λ found. (before : List ℕ) → BeginsName before OpName.Sfence bytes.now
+        → BeginsOp before (op_made found.0 numbers.new.items) found.1.now) }
     ensures shorter { IfSome result (λ found. length found.1.now ≤ length bytes.now) }
 {
     let (va, rest) = plain_argument(bytes)?;
@@ -429,7 +426,8 @@ fn plain_said(bytes: &[u8]) -> Option<(Said, &[u8])>
 /// The error and the value behind `ret`.
 #[inline(always)]
 fn plain_ret(bytes: &[u8]) -> Option<(Said, &[u8])>
-    ensures said { (before : List ℕ) → before ≡ codes " ret " ++ bytes.now → IfSome result (λ found. BeginsSaid before found.0 found.1.now) }
+    ensures said { (before : List ℕ) → before ≡ codes " ret " ++ bytes.now
+        → IfSome result (λ found. BeginsSaid before found.0 found.1.now) }
     ensures shorter { IfSome result (λ found. length found.1.now ≤ length bytes.now) }
 {
     let (error, rest) = plain_signed(bytes)?;
@@ -437,6 +435,7 @@ fn plain_ret(bytes: &[u8]) -> Option<(Said, &[u8])>
     Some((Said::Ret { error, value }, rest))
 }
 
+/// The error that the bytes begin with, a decimal number that may have a sign, and what stands behind it.
 #[inline(always)]
 fn plain_signed(bytes: &[u8]) -> Option<(i64, &[u8])>
     ensures error { IfSome result (λ found. BeginsSigned bytes.now found.0 found.1.now) }
@@ -491,7 +490,7 @@ fn plain_said_as(name: SaidName, bytes: &[u8]) -> Option<(Said, &[u8])>
     let rest = after_said(name, bytes)?;
     let mut numbers = ArrayVec::new();
     let rest = plain_places(name.places(), rest, &mut numbers)?;
-    let said = SaidShape::of_name(name).said(&numbers)?;
+    let said = plain_said_shape(name).said(&numbers)?;
     Some((said, rest))
 }
 

@@ -1,3 +1,4 @@
+//! How far a reader is: before the board line, or at a line after it.
 ghost use Rattle.std.specs.Prelude.{◌≡◌, ◌+◌, ◌<◌, ◌≤◌, ◌++◌, ◌∷◌, [], List, Ok, IfOk, OnOk, ℕ, length};
 ghost use Rattle.std.specs.Str.Lines.{lines};
 ghost use Rattle.guest_script.specs.Drafts.{draft_of};
@@ -8,10 +9,9 @@ ghost use Rattle.guest_script.specs.Reading.{GivesOrLacks, script_from, with_con
 use crate::board_line::board_words;
 use crate::draft::BodyDraft;
 use crate::fault::{Fault, NO_MEMORY, ScriptFault};
-use crate::lines::MOST_LINES;
-use crate::script::Script;
 use crate::text::next_line;
-use board_core::Config;
+use board_terms::Config;
+use script_lines::{MOST_LINES, Script};
 use std::alloc::{AllocError, Global};
 
 /// What the lines of a script so far say.
@@ -53,7 +53,8 @@ impl Progress {
     ) -> Result<(), AllocError>
         requires number { self.old.next + length bytes.now < MOST_LINES }
         requires few { length (lines_so_far self.old) ≤ self.old.next }
-        ensures read { OnOk result ((more : List (List ℕ)) → script_after self.old (lines bytes.now ++ more) ≡ script_after self.new more) }
+        ensures read { OnOk result
+            ((more : List (List ℕ)) → script_after self.old (lines bytes.now ++ more) ≡ script_after self.new more) }
         ensures within { OnOk result (self.new.next ≤ self.old.next + length bytes.now) }
         ensures few { OnOk result (length (lines_so_far self.new) ≤ self.new.next) }
     {
@@ -75,7 +76,9 @@ impl Progress {
         requires some { 0 < length bytes.now }
         requires number { self.old.next + length bytes.now < MOST_LINES }
         requires few { length (lines_so_far self.old) ≤ self.old.next }
-        ensures read { IfOk result (λ rest. (more : List (List ℕ)) → script_after self.old (lines bytes.now ++ more) ≡ script_after self.new (lines rest.now ++ more)) }
+        ensures read { IfOk result
+            (λ rest. (more : List (List ℕ))
+            → script_after self.old (lines bytes.now ++ more) ≡ script_after self.new (lines rest.now ++ more)) }
         ensures within { IfOk result (λ rest. self.new.next + length rest.now ≤ self.old.next + length bytes.now) }
         ensures shorter { IfOk result (λ rest. length rest.now < length bytes.now) }
         ensures few { OnOk result (length (lines_so_far self.new) ≤ self.new.next) }

@@ -1,3 +1,4 @@
+//! A script that comes in pieces.
 ghost use Rattle.std.specs.Prelude.{◌≡◌, ◌+◌, ◌≤◌, ◌++◌, [], ℕ, List, IfOk, length};
 ghost use Rattle.guest_script.specs.Grammar.{most_bytes};
 ghost use Rattle.guest_script.specs.Pieces.{AreWhole, HasRead, IsAnswered, Part};
@@ -5,7 +6,7 @@ ghost use Rattle.guest_script.specs.Progress.{grown, lines_so_far, part_of};
 
 use crate::fault::{Fault, NO_MEMORY, ScriptFault};
 use crate::progress::{Progress, Stage};
-use crate::script::Script;
+use script_lines::Script;
 use std::alloc::{AllocError, Global};
 use std::marker::Model;
 
@@ -25,7 +26,8 @@ impl Model for Reader {
 
     ghost view = { λ r. part_of r.size r.progress };
 
-    ghost invariant = { λ r. (r.size ≤ most_bytes + 1) × (r.progress.next ≤ r.size + 1) × (length (lines_so_far r.progress) ≤ r.progress.next) };
+    ghost invariant = { λ r. (r.size ≤ most_bytes + 1) × (r.progress.next ≤ r.size + 1)
+        × (length (lines_so_far r.progress) ≤ r.progress.next) };
 }
 
 impl Reader {
@@ -52,7 +54,8 @@ impl Reader {
     /// Memory was refused. The reading ends there: no reader is left that more could be given to.
     pub fn read(self, alloc: Global, lines: &[u8]) -> Result<Reader, AllocError>
         requires { AreWhole lines.now }
-        ensures { (before : List ℕ) → HasRead self before → IfOk result (λ reader. HasRead reader (before ++ lines.now)) }
+        ensures { (before : List ℕ) → HasRead self before
+            → IfOk result (λ reader. HasRead reader (before ++ lines.now)) }
     {
         let Reader {
             size,

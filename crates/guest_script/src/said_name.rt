@@ -1,11 +1,12 @@
+//! The names of replies, and what may follow each.
 ghost use Rattle.std.specs.Prelude.{◌≡◌, ◌≤◌, MatchOption, None};
-ghost use Rattle.guest_script.specs.declared.said.Said.TheVariants.{Done};
+ghost use Rattle.script_lines.specs.declared.said.Said.TheVariants.{Done};
 ghost use Rattle.guest_script.specs.Forms.{said_form_of};
 ghost use Rattle.guest_script.specs.Reading.{IsFormAt, made_from, said_spelling};
 
 use crate::numbers::{MOST_ARGUMENTS, number_at};
 use crate::places::{Places, any_numbers};
-use crate::said::Said;
+use script_lines::Said;
 
 /// What is said of a step, by its name, but for `ret`.
 #[derive(Clone, Copy)]

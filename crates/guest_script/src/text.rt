@@ -1,3 +1,4 @@
+//! Lines of bytes, and the bytes that a line may have.
 ghost use Rattle.std.specs.Prelude.{◌≡◌, ◌∷◌, ◌<◌, ◌≤◌, ◌^◌, ◌==◌, length};
 ghost use Rattle.std.specs.List.{list_all, position};
 ghost use Rattle.std.specs.Str.Lines.{lines, strip_carriage_return};
@@ -15,12 +16,14 @@ pub fn next_line(bytes: &[u8]) -> (&[u8], &[u8])
     }
 }
 
+/// Where the first line ends: at its line feed, if it has one.
 fn line_end(bytes: &[u8]) -> Option<usize>
     ensures { result ≡ position (λ b. b == 10) bytes.now }
 {
     bytes.iter().position(|byte| *byte == b'\n')
 }
 
+/// A line without the carriage return at its end.
 fn without_return(text: &[u8]) -> &[u8]
     ensures { result.now ≡ strip_carriage_return text.now }
 {
@@ -41,6 +44,7 @@ pub fn is_clean(text: &[u8]) -> bool
     clean
 }
 
+/// Whether a byte may stand in a script, comments aside.
 fn is_allowed(byte: u8) -> bool
     ensures { result ≡ is_allowed byte }
 {

@@ -1,3 +1,4 @@
+//! Words of a line, and the arrow before what was given.
 ghost use Rattle.std.specs.Prelude.{◌≡◌, ◌∷◌, [], ◌<◌, ◌≤◌, IsFalse, MatchOption, IfSome, length};
 ghost use Rattle.guest_script.specs.Words.{is_blank};
 ghost use Rattle.guest_script.specs.Values.{after_arrow, has_arrow, is_arrow, words_in};
@@ -6,7 +7,8 @@ ghost use Rattle.guest_script.specs.Scanning.{begins_blank, is_word_end, word_le
 /// The first word of a text, and what follows it.
 #[tactic(auto, using(crate::proofs::WordsIn::word_length_le, crate::proofs::WordsIn::words_in_word, crate::proofs::WordsIn::words_in_none))]
 pub fn next_word(text: &[u8]) -> Option<(&[u8], &[u8])>
-    ensures words { MatchOption result (words_in text.now ≡ []) (λ found. words_in text.now ≡ found.0.now ∷ words_in found.1.now) }
+    ensures words { MatchOption result (words_in text.now ≡ [])
+        (λ found. words_in text.now ≡ found.0.now ∷ words_in found.1.now) }
     ensures shorter { IfSome result (λ found. length found.1.now < length text.now) }
 {
     let from = skip_gap(text);
@@ -17,7 +19,8 @@ pub fn next_word(text: &[u8]) -> Option<(&[u8], &[u8])>
 /// The first word of a text that isn't an arrow where words end at the first arrow, and what follows it.
 pub fn next_word_until(text: &[u8], until_arrow: bool) -> Option<(&[u8], &[u8])>
     ensures words { MatchOption result (words_until until_arrow (words_in text.now) ≡ [])
-        (λ found. words_until until_arrow (words_in text.now) ≡ found.0.now ∷ words_until until_arrow (words_in found.1.now)) }
+        (λ found. words_until until_arrow (words_in text.now)
+        ≡ found.0.now ∷ words_until until_arrow (words_in found.1.now)) }
     ensures shorter { IfSome result (λ found. length found.1.now < length text.now) }
 {
     let (word, after) = next_word(text)?;
@@ -56,18 +59,21 @@ pub fn after_arrow(text: &[u8]) -> &[u8]
     rest
 }
 
+/// Whether a word is the arrow before what was given.
 fn is_arrow(word: &[u8]) -> bool
     ensures { result ≡ is_arrow word.now }
 {
     word == b"->".as_slice()
 }
 
+/// Whether a byte parts words.
 fn is_blank(byte: u8) -> bool
     ensures { result ≡ is_blank byte }
 {
     byte == b' ' || byte == b'\t'
 }
 
+/// Whether a byte ends a word: a blank, or the one that begins a comment.
 fn is_word_end(byte: u8) -> bool
     ensures { result ≡ is_word_end byte }
 {

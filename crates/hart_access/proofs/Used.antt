@@ -86,13 +86,15 @@ module _ (memory : ℕ → Option ℕ) (satp : ℕ) (tlb : Address → Option En
       where
         there : filling memory satp tlb va access ≡ Some entry → Fills memory satp tlb va access entry
         there e =
-            let parts = fill-checked (eqb (va % 8) 0) (translates satp) (is_valid satp va) (misaligned (kind_of access)) (page_fault (kind_of access)) (way_by (hit_at satp tlb va) (asid_of satp) (maps memory satp va (kind_of access))) entry e in
+            let parts = fill-checked (eqb (va % 8) 0) (translates satp) (is_valid satp va) (misaligned (kind_of access)) (page_fault (kind_of access))
+            (way_by (hit_at satp tlb va) (asid_of satp) (maps memory satp va (kind_of access))) entry e in
             filled_by (fill-way (hit_at satp tlb va) (asid_of satp) (maps memory satp va (kind_of access)) entry parts.1) (passed parts.0)
 
         back : Fills memory satp tlb va access entry → filling memory satp tlb va access ≡ Some entry
         back fills =
             ap fill_by
-            (checked-passes (eqb (va % 8) 0) (translates satp) (is_valid satp va) (misaligned (kind_of access)) (page_fault (kind_of access)) (way_by (hit_at satp tlb va) (asid_of satp) (maps memory satp va (kind_of access))) (passing fills.translated)
+            (checked-passes (eqb (va % 8) 0) (translates satp) (is_valid satp va) (misaligned (kind_of access)) (page_fault (kind_of access))
+            (way_by (hit_at satp tlb va) (asid_of satp) (maps memory satp va (kind_of access))) (passing fills.translated)
             ∙ filled-way (hit_at satp tlb va) (asid_of satp) (maps memory satp va (kind_of access)) entry (mapped_by fills))
 
     pub is_used : used memory satp tlb va access ≡ Some entry ↔ (Hits satp tlb va entry ⊎ Fills memory satp tlb va access entry)
@@ -100,14 +102,18 @@ module _ (memory : ℕ → Option ℕ) (satp : ℕ) (tlb : Address → Option En
       where
         there : used memory satp tlb va access ≡ Some entry → Hits satp tlb va entry ⊎ Fills memory satp tlb va access entry
         there e =
-            let parts = used-checked (eqb (va % 8) 0) (translates satp) (is_valid satp va) (misaligned (kind_of access)) (page_fault (kind_of access)) (way_by (hit_at satp tlb va) (asid_of satp) (maps memory satp va (kind_of access))) entry e in
+            let parts = used-checked (eqb (va % 8) 0) (translates satp) (is_valid satp va) (misaligned (kind_of access)) (page_fault (kind_of access))
+            (way_by (hit_at satp tlb va) (asid_of satp) (maps memory satp va (kind_of access))) entry e in
             elim (used-way (hit_at satp tlb va) (asid_of satp) (maps memory satp va (kind_of access)) entry parts.1) [
               | inl hit ↦ inl (record { translated = passed parts.0; hit = hit })
               | inr mapped ↦ inr (filled_by mapped (passed parts.0))
             ]
 
-        all_checked : IsTranslated satp va → checked (eqb (va % 8) 0) (translates satp) (is_valid satp va) (misaligned (kind_of access)) (page_fault (kind_of access)) (way_by (hit_at satp tlb va) (asid_of satp) (maps memory satp va (kind_of access))) ≡ way_by (hit_at satp tlb va) (asid_of satp) (maps memory satp va (kind_of access))
-        all_checked is = checked-passes (eqb (va % 8) 0) (translates satp) (is_valid satp va) (misaligned (kind_of access)) (page_fault (kind_of access)) (way_by (hit_at satp tlb va) (asid_of satp) (maps memory satp va (kind_of access))) (passing is)
+        all_checked : IsTranslated satp va
+            → checked (eqb (va % 8) 0) (translates satp) (is_valid satp va) (misaligned (kind_of access)) (page_fault (kind_of access))
+            (way_by (hit_at satp tlb va) (asid_of satp) (maps memory satp va (kind_of access))) ≡ way_by (hit_at satp tlb va) (asid_of satp) (maps memory satp va (kind_of access))
+        all_checked is = checked-passes (eqb (va % 8) 0) (translates satp) (is_valid satp va) (misaligned (kind_of access)) (page_fault (kind_of access))
+            (way_by (hit_at satp tlb va) (asid_of satp) (maps memory satp va (kind_of access))) (passing is)
 
         back : Hits satp tlb va entry ⊎ Fills memory satp tlb va access entry → used memory satp tlb va access ≡ Some entry
         back (inl hits) = ap used_by (all_checked hits.translated ∙ ap (λ hit. way_by hit (asid_of satp) (maps memory satp va (kind_of access))) hits.hit)

@@ -35,13 +35,15 @@ fetched_from (Some fetched) pa word = None
 fetched_from None pa word = Some (record { pa = pa; word = word })
 
 -- What is filled into the instruction cache: what a fetch read from the memory. Stores touch no cached word (profile).
-abbrev pub word_filling_at : (memory : ℕ → Option ℕ) → (words : ℕ → Option FetchWord) → (pa : ℕ) → Access → Option FetchWord
+abbrev pub word_filling_at : (memory : ℕ → Option ℕ) → (words : ℕ → Option FetchWord) → (pa : ℕ) → Access
+    → Option FetchWord
 word_filling_at memory words pa Load = None
 word_filling_at memory words pa (Store value) = None
 word_filling_at memory words pa Fetch = fetched_from (words pa) pa (unwrap_or (memory pa) 0)
 
 -- the same by a place, which may be a fault: an access that fails reads, stores and fetches nothing
-abbrev pub answer_by : (memory : ℕ → Option ℕ) → (words : ℕ → Option FetchWord) → (place : Result ℕ Cause) → Access → Result ℕ Cause
+abbrev pub answer_by : (memory : ℕ → Option ℕ) → (words : ℕ → Option FetchWord) → (place : Result ℕ Cause) → Access
+    → Result ℕ Cause
 answer_by memory words (Ok pa) access = Ok (read_at memory words pa access)
 answer_by memory words (Err cause) access = Err cause
 
@@ -49,7 +51,8 @@ abbrev pub stored_by : (memory : ℕ → Option ℕ) → (place : Result ℕ Cau
 stored_by memory (Ok pa) access = stored_at memory pa access
 stored_by memory (Err cause) access = memory
 
-abbrev pub word_filling_by : (memory : ℕ → Option ℕ) → (words : ℕ → Option FetchWord) → (place : Result ℕ Cause) → Access → Option FetchWord
+abbrev pub word_filling_by : (memory : ℕ → Option ℕ) → (words : ℕ → Option FetchWord) → (place : Result ℕ Cause)
+    → Access → Option FetchWord
 word_filling_by memory words (Ok pa) access = word_filling_at memory words pa access
 word_filling_by memory words (Err cause) access = None
 

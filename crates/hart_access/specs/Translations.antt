@@ -27,14 +27,16 @@ pub record Hits (satp : ℕ) (tlb : Address → Option Entry) (va : ℕ) (entry 
 
 -- The access fills this entry: it hits none, and the page tables give the entry's leaf. The entry has satp's ASID
 -- (Privileged 4.2.1, 4.3.2).
-pub record Fills (memory : ℕ → Option ℕ) (satp : ℕ) (tlb : Address → Option Entry) (va : ℕ) (access : Access) (entry : Entry) : Type 0 where
+pub record Fills (memory : ℕ → Option ℕ) (satp : ℕ) (tlb : Address → Option Entry) (va : ℕ) (access : Access)
+    (entry : Entry) : Type 0 where
   pub translated : IsTranslated satp va
   pub missed : hit_at satp tlb va ≡ None
   pub mapped : maps memory satp va (kind_of access) ≡ Ok entry.leaf
   pub space : entry.asid ≡ asid_of satp
 
 -- The access fills this word: it is a fetch that has a word of the memory, and the cache had none (Zifencei).
-pub record Fetches (memory : ℕ → Option ℕ) (satp : ℕ) (tlb : Address → Option Entry) (words : ℕ → Option FetchWord) (va : ℕ) (access : Access) (fetched : FetchWord) : Type 0 where
+pub record Fetches (memory : ℕ → Option ℕ) (satp : ℕ) (tlb : Address → Option Entry) (words : ℕ → Option FetchWord)
+    (va : ℕ) (access : Access) (fetched : FetchWord) : Type 0 where
   pub kind : access ≡ Fetch
   pub place : place memory satp tlb va access ≡ Ok fetched.pa
   pub missed : words fetched.pa ≡ None

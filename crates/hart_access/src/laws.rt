@@ -11,21 +11,28 @@ ghost use Rattle.hart_access.specs.Ways.{phys_at};
 /// An access fills an entry exactly where it is aligned, satp translates, the address is valid, nothing is hit and
 /// the page tables give the entry's leaf.
 pub fn entry_is_filled()
-    ensures { (memory : ℕ → Option ℕ) (satp : ℕ) (tlb : Address → Option Entry) (va : ℕ) (access : Access) (entry : Entry) → filling memory satp tlb va access ≡ Some entry ↔ Fills memory satp tlb va access entry }
+    ensures { (memory : ℕ → Option ℕ) (satp : ℕ) (tlb : Address → Option Entry) (va : ℕ) (access : Access)
+        (entry : Entry) → filling memory satp tlb va access ≡ Some entry ↔ Fills memory satp tlb va access entry }
 {}
 
 /// An access uses exactly the entry that it hits or fills.
 pub fn entry_is_used()
-    ensures { (memory : ℕ → Option ℕ) (satp : ℕ) (tlb : Address → Option Entry) (va : ℕ) (access : Access) (entry : Entry) → used memory satp tlb va access ≡ Some entry ↔ (Hits satp tlb va entry ⊎ Fills memory satp tlb va access entry) }
+    ensures { (memory : ℕ → Option ℕ) (satp : ℕ) (tlb : Address → Option Entry) (va : ℕ) (access : Access)
+        (entry : Entry) → used memory satp tlb va access ≡ Some entry
+        ↔ (Hits satp tlb va entry ⊎ Fills memory satp tlb va access entry) }
 {}
 
 /// The physical address of an access that doesn't fail follows from the virtual one and the entry used alone.
 pub fn place_is_of_the_entry()
-    ensures { (memory : ℕ → Option ℕ) (satp : ℕ) (tlb : Address → Option Entry) (va : ℕ) (access : Access) (pa : ℕ) → place memory satp tlb va access ≡ Ok pa → pa ≡ phys_at (used memory satp tlb va access) va }
+    ensures { (memory : ℕ → Option ℕ) (satp : ℕ) (tlb : Address → Option Entry) (va : ℕ) (access : Access) (pa : ℕ)
+        → place memory satp tlb va access ≡ Ok pa → pa ≡ phys_at (used memory satp tlb va access) va }
 {}
 
 /// An access fills a word into the instruction cache exactly where it is a fetch that doesn't fail and finds none there,
 /// and the word is the memory's.
 pub fn word_is_filled()
-    ensures { (memory : ℕ → Option ℕ) (satp : ℕ) (tlb : Address → Option Entry) (words : ℕ → Option FetchWord) (va : ℕ) (access : Access) (fetched : FetchWord) → word_filling memory satp tlb words va access ≡ Some fetched ↔ Fetches memory satp tlb words va access fetched }
+    ensures { (memory : ℕ → Option ℕ) (satp : ℕ) (tlb : Address → Option Entry) (words : ℕ → Option FetchWord) (va : ℕ)
+        (access : Access) (fetched : FetchWord)
+        → word_filling memory satp tlb words va access ≡ Some fetched
+        ↔ Fetches memory satp tlb words va access fetched }
 {}

@@ -1,3 +1,4 @@
+//! What an access asks, and what comes of it.
 ghost use Rattle.std.specs.Prelude.{◌≡◌};
 ghost use Rattle.hart_access.specs.Operations.{kind_of};
 

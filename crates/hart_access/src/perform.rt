@@ -1,3 +1,4 @@
+//! One whole access: address, translation, memory, caches.
 ghost use Rattle.std.specs.Prelude.{◌≡◌, ◌<◌, ◌^◌, IsTrue, is_some};
 ghost use Rattle.sv39.specs.Memory.{pages_of, word_in};
 ghost use Rattle.tlb_model.specs.Contents.{filled_if, hit};
@@ -24,12 +25,16 @@ pub fn access(
 ) -> Accessed
     requires entries { tlb.old.next < 2 ^ 63 }
     requires words { words.old.next < 2 ^ 63 }
-    ensures result { result.result ≡ answer (word_in ram.old) satp (λ at. hit matches at tlb.old) (λ pa. hit is_at pa words.old) va access }
+    ensures result { result.result
+        ≡ answer (word_in ram.old) satp (λ at. hit matches at tlb.old) (λ pa. hit is_at pa words.old) va access }
     ensures used { result.used ≡ used (word_in ram.old) satp (λ at. hit matches at tlb.old) va access }
     ensures memory { word_in ram.new ≡ stored (word_in ram.old) satp (λ at. hit matches at tlb.old) va access }
     ensures pages { pages_of ram.new ≡ pages_of ram.old }
-    ensures tlb { tlb.new ≡ filled_if tlb.old date (filling (word_in ram.old) satp (λ at. hit matches at tlb.old) va access) }
-    ensures words { words.new ≡ filled_if words.old date (word_filling (word_in ram.old) satp (λ at. hit matches at tlb.old) (λ pa. hit is_at pa words.old) va access) }
+    ensures tlb { tlb.new
+        ≡ filled_if tlb.old date (filling (word_in ram.old) satp (λ at. hit matches at tlb.old) va access) }
+    ensures words { words.new
+        ≡ filled_if words.old date
+        (word_filling (word_in ram.old) satp (λ at. hit matches at tlb.old) (λ pa. hit is_at pa words.old) va access) }
 {
     let kind = access.kind();
     let way = Way::of(ram, satp, tlb, va, kind);
@@ -54,7 +59,8 @@ fn carry_out(ram: &mut Ram, words: &mut ICache, pa: u64, access: Access, date: u
     ensures read { result ≡ read_at (word_in ram.old) (λ pa. hit is_at pa words.old) pa access }
     ensures memory { word_in ram.new ≡ stored_at (word_in ram.old) pa access }
     ensures pages { pages_of ram.new ≡ pages_of ram.old }
-    ensures words { words.new ≡ filled_if words.old date (word_filling_at (word_in ram.old) (λ pa. hit is_at pa words.old) pa access) }
+    ensures words { words.new
+        ≡ filled_if words.old date (word_filling_at (word_in ram.old) (λ pa. hit is_at pa words.old) pa access) }
 {
     match access {
         Access::Load => ram.load(pa),
@@ -72,7 +78,8 @@ fn fetch(ram: &Ram, words: &mut ICache, pa: u64, date: u64) -> u64
     requires place { IsTrue (is_some (word_in ram.now pa)) }
     requires words { words.old.next < 2 ^ 63 }
     ensures read { result ≡ read_at (word_in ram.now) (λ pa. hit is_at pa words.old) pa Access.Fetch }
-    ensures words { words.new ≡ filled_if words.old date (word_filling_at (word_in ram.now) (λ pa. hit is_at pa words.old) pa Access.Fetch) }
+    ensures words { words.new
+        ≡ filled_if words.old date (word_filling_at (word_in ram.now) (λ pa. hit is_at pa words.old) pa Access.Fetch) }
 {
     match words.lookup(pa) {
         Some(fetched) => fetched.word,

@@ -1,3 +1,4 @@
+//! How an access comes to its word, or why it fails.
 ghost use Rattle.std.specs.Prelude.{◌≡◌, Ok};
 ghost use Rattle.sv39.specs.Memory.{word_in};
 ghost use Rattle.tlb_model.specs.Contents.{hit};

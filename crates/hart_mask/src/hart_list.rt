@@ -28,7 +28,8 @@ impl From<InvalidParam> for SbiError {
 /// the mask names is `n` or more.
 pub fn targets(mask: u64, base: u64, n: u64) -> Result<HartSet, InvalidParam>
     requires { n ≤ 128 }
-    ensures answer { MatchResult result (λ set. targets_of mask base n ≡ Some set) (λ _. targets_of mask base n ≡ None) }
+    ensures answer { MatchResult result (λ set. targets_of mask base n ≡ Some set)
+        (λ _. targets_of mask base n ≡ None) }
     ensures below { IfOk result (λ set. (id : ℕ) → has set id ≡ true → id < n) }
 {
     if base == u64::MAX {

@@ -3,12 +3,12 @@ use Rattle.std.proofs.Common.{◌≡◌, ◌≢◌, ◌⊎◌, ℕ, ◌+◌, ◌
 use Rattle.std.specs.Prelude.{Err, nat_le, not}
 use Rattle.std.proofs.lemmas.Bool.{eqb-true}
 use Rattle.std.proofs.lemmas.List.{length-append}
-use Rattle.board_core.specs.declared.event.Actor.{Actor}
-use Rattle.board_core.specs.declared.event.Actor.TheVariants.{Hart, Clock}
-use Rattle.board_core.specs.declared.event.Op.{Op}
-use Rattle.board_core.specs.declared.event.Refusal.TheVariants as refusals
-use Rattle.board_core.specs.declared.event.Reply.{Reply}
-use Rattle.board_core.specs.declared.event.Reply.TheVariants.{Done}
+use Rattle.board_terms.specs.declared.op.Actor.{Actor}
+use Rattle.board_terms.specs.declared.op.Actor.TheVariants.{Hart, Clock}
+use Rattle.board_terms.specs.declared.op.Op.{Op}
+use Rattle.board_terms.specs.declared.reply.Refusal.TheVariants as refusals
+use Rattle.board_terms.specs.declared.reply.Reply.{Reply}
+use Rattle.board_terms.specs.declared.reply.Reply.TheVariants.{Done}
 use Rattle.board_core.specs.History.{Event}
 use Rattle.board_core.specs.Opening.{Opening}
 use Rattle.board_core.specs.Refusals.{first_that_holds, has_nothing_to_do, is_full, is_out_of_phase, is_tick, situation}
@@ -26,7 +26,8 @@ use Rattle.hart_threads.specs.Shares.{AreThreads, HasMetFull, HasNoMore, HasStop
 -- ---- a call that was refused for a full history: the history is full
 
 full-for-hart : (off missing phase idle full : Bool) (r : Reply)
-    → refused_or (first_that_holds ((off, refusals.Off) ∷ (missing, refusals.WrongPhase) ∷ (phase, refusals.WrongPhase) ∷ (idle, refusals.Nothing) ∷ (full, refusals.HistoryFull) ∷ [])) r ≡ Err refusals.HistoryFull
+    → refused_or (first_that_holds ((off, refusals.Off) ∷ (missing, refusals.WrongPhase) ∷ (phase, refusals.WrongPhase) ∷ (idle, refusals.Nothing) ∷ (full, refusals.HistoryFull) ∷ [])) r
+    ≡ Err refusals.HistoryFull
     → full ≡ true
 full-for-hart true missing phase idle full r is = absurd (let t = is in cc)
 full-for-hart false true phase idle full r is = absurd (let t = is in cc)

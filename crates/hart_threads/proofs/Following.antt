@@ -1,7 +1,7 @@
 -- What is left of a block after one operation more.
 use Rattle.std.proofs.Common.{◌≡◌, ◌≢◌, ◌↔◌, List, [], ◌∷◌, ◌++◌, refl, sym, ◌∙◌, append_assoc, append-nil}
 use Rattle.std.specs.Prelude.{Option, Some, None}
-use Rattle.board_core.specs.declared.event.Op.{Op}
+use Rattle.board_terms.specs.declared.op.Op.{Op}
 use Rattle.hart_threads.specs.Guests.{AreLeft}
 
 -- the first of what stands behind the same operations

@@ -3,8 +3,8 @@ use Rattle.std.proofs.Common.{◌≡◌, ◌⊎◌, ℕ, Bool, true, false, List
 use Rattle.std.specs.Prelude.{◌==◌, Option, Some, not}
 use Rattle.fence_queue.specs.declared.request.Request.{Request}
 use Rattle.tlb_model.specs.declared.fence.Flush.{Flush}
-use Rattle.board_core.specs.declared.event.Op.{Op}
-use Rattle.board_core.specs.declared.event.Op.TheVariants.{Ecall, Load, Store, Fetch, WriteSatp, WriteSie, WriteSstatusSie, ReadSip, ClearSsip, Wfi, Sfence, FenceI, Poll, Serve, Advance, Tick}
+use Rattle.board_terms.specs.declared.op.Op.{Op}
+use Rattle.board_terms.specs.declared.op.Op.TheVariants.{Ecall, Load, Store, Fetch, WriteSatp, WriteSie, WriteSstatusSie, ReadSip, ClearSsip, Wfi, Sfence, FenceI, Poll, Serve, Advance, Tick}
 use Rattle.board_core.specs.Refusals.{IsAccepted, Situation, is_empty, is_running, waits_for_some}
 use Rattle.hsm.specs.declared.hart.HartState.TheVariants.{Started}
 use Rattle.hsm.specs.States.{is_interruptible, is_started}

@@ -4,7 +4,7 @@ use Rattle.std.specs.List.{All}
 use Rattle.std.specs.PromisedHandle.{KeepsEach}
 use Rattle.std.specs.declared.thread.PromisedHandle.{PromisedHandle}
 use Rattle.std.specs.declared.thread.Promise as Promise
-use Rattle.board_core.specs.declared.event.Actor.{Actor}
+use Rattle.board_terms.specs.declared.op.Actor.{Actor}
 
 module _ {T P : Type 0} (g : Promise.Ghosts P T) (actor : T → Actor) (promised : P → Actor)
     (says : (p : P) (r : T) → g.kept_by p r → actor r ≡ promised p) where
@@ -16,7 +16,8 @@ module _ {T P : Type 0} (g : Promise.Ghosts P T) (actor : T → Actor) (promised
   kept_all many (h ∷ handles) (r ∷ results) is same each =
       let first = (each 0 r (omega arith)).1 in
       let one : actor r ≡ promised h.promise = says first.handle.promise r first.kept ∙ ap (λ (x : PromisedHandle T P). promised x.promise) first.handle_is in
-      let others = kept_all (length handles) handles results refl (omega arith) (λ i d below. let k = (each (suc i) d (omega arith)).1 in (refl, record { handle = k.handle; handle_is = k.handle_is; kept = k.kept })) in
+      let others = kept_all (length handles) handles results refl (omega arith)
+      (λ i d below. let k = (each (suc i) d (omega arith)).1 in (refl, record { handle = k.handle; handle_is = k.handle_is; kept = k.kept })) in
       rw one rw others refl
 
 -- and what each promised

@@ -3,12 +3,12 @@ use Rattle.std.proofs.Common.{◌≡◌, ◌≢◌, ℕ, ◌+◌, ◌≤◌, Boo
 use Rattle.std.specs.Prelude.{reverse, if◌then◌else◌, Option, Some, None, Result, Err}
 use Rattle.std.proofs.lemmas.List.{reverse-reverse}
 use mathlib.Core.List.{IsSuffix, IsSuffix-trans, suffix_refl}
-use Rattle.board_core.specs.declared.event.Actor.{Actor}
-use Rattle.board_core.specs.declared.event.Actor.TheVariants.{Hart, Clock}
-use Rattle.board_core.specs.declared.event.Op.{Op}
-use Rattle.board_core.specs.declared.event.Refusal.{Refusal}
-use Rattle.board_core.specs.declared.event.Refusal.TheVariants.{HistoryFull}
-use Rattle.board_core.specs.declared.event.Reply.{Reply}
+use Rattle.board_terms.specs.declared.op.Actor.{Actor}
+use Rattle.board_terms.specs.declared.op.Actor.TheVariants.{Hart, Clock}
+use Rattle.board_terms.specs.declared.op.Op.{Op}
+use Rattle.board_terms.specs.declared.reply.Refusal.{Refusal}
+use Rattle.board_terms.specs.declared.reply.Refusal.TheVariants.{HistoryFull}
+use Rattle.board_terms.specs.declared.reply.Reply.{Reply}
 use Rattle.board_core.specs.Accesses.{used_by_actor}
 use Rattle.board_core.specs.History.{Event}
 use Rattle.board_core.specs.Replies.{answer, recorded}
@@ -149,7 +149,10 @@ module _ (t : Task) (a : Actor) (n : ℕ) (seen before : List Event) (op : Op) (
     no_fewer = (let more = own-one-more a e before own in let few = work.no_fewer in let later = no-more a seen before since in omega arith);
     due = λ same.
         let now = one-more same in (
-          (λ is. (subst (λ (k : ℕ). t.lets (gate_number t.opening.config a) k true) (sym now) let_, subst (λ (o : Op). IsTurn t.opening t.blocks t.ticks a o before) (sym asked) (turn before since now))),
+          (λ is. (
+            subst (λ (k : ℕ). t.lets (gate_number t.opening.config a) k true) (sym now) let_,
+            subst (λ (o : Op). IsTurn t.opening t.blocks t.ticks a o before) (sym asked) (turn before since now),
+          )),
           each-later a n seen before since work.no_fewer now (IsDue t.lets t.opening t.blocks t.ticks a) work.due,
         );
   }

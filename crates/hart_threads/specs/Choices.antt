@@ -1,7 +1,7 @@
 -- What a hart's thread may choose (profile).
 use Rattle.std.specs.Prelude.{◌≡◌, ◌⊎◌, ℕ, Bool, true, false, ◌&&◌, List, [], ◌∷◌, nat_lt, length, if◌then◌else◌, Option, Some, None, is_some}
-use Rattle.board_core.specs.declared.event.Op.{Op}
-use Rattle.board_core.specs.declared.event.Op.TheVariants.{Poll, Serve, Advance, Wfi}
+use Rattle.board_terms.specs.declared.op.Op.{Op}
+use Rattle.board_terms.specs.declared.op.Op.TheVariants.{Poll, Serve, Advance, Wfi}
 use Rattle.hsm.specs.States.{goes_on, is_interruptible, is_started}
 use Rattle.board_core.specs.Refusals.{IsAccepted, Situation, first_that_holds}
 use Rattle.board_lock.specs.declared.rests.Awaits.{Awaits}

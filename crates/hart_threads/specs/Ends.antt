@@ -37,7 +37,8 @@ abbrev pub IsEndBy : Met → Opening → List Event → List Guest → End → T
 IsEndBy met o past blocks GateLimit = met ≡ ClosedGate
 IsEndBy met o past blocks Off = (met ≢ ClosedGate) × (is_off o past ≡ true)
 IsEndBy met o past blocks HistoryFull = (met ≡ FullHistory) × (is_off o past ≡ false) × (length past ≡ o.config.limit)
-IsEndBy met o past blocks Quiet = (met ≢ ClosedGate) × (is_off o past ≡ false) × ¬ IsFull met o past × AreQuiet o past blocks
+IsEndBy met o past blocks Quiet = (met ≢ ClosedGate) × (is_off o past ≡ false) × ¬ IsFull met o past
+    × AreQuiet o past blocks
 IsEndBy met o past blocks Stuck =
     (met ≢ ClosedGate) × (is_off o past ≡ false) × ¬ IsFull met o past
     × ((h : ℕ) × (h < o.config.harts) × ¬ IsQuiet o past blocks h)

@@ -1,9 +1,9 @@
 -- What the guest of a hart did, and what it had to do (profile).
 use Rattle.std.specs.Prelude.{◌≡◌, ◌≢◌, ℕ, ◌<◌, Bool, true, false, ◌==◌, if◌then◌else◌, List, [], ◌∷◌, ◌++◌, length, get_or, Option, Some, None}
-use Rattle.board_core.specs.declared.event.Op.{Op}
-use Rattle.board_core.specs.declared.event.Op.TheVariants.{Poll, Serve, Advance, Tick}
-use Rattle.board_core.specs.declared.event.Reply.{Reply}
-use Rattle.board_core.specs.declared.event.Reply.TheVariants.{Entry}
+use Rattle.board_terms.specs.declared.op.Op.{Op}
+use Rattle.board_terms.specs.declared.op.Op.TheVariants.{Poll, Serve, Advance, Tick}
+use Rattle.board_terms.specs.declared.reply.Reply.{Reply}
+use Rattle.board_terms.specs.declared.reply.Reply.TheVariants.{Entry}
 use Rattle.board_core.specs.Course.{is_hart}
 use Rattle.board_core.specs.History.{Event}
 use Rattle.std.specs.Option.{option_map}
@@ -78,7 +78,8 @@ IsLeft blocks left past h = AreLeft left (done past h) (block_of blocks (last_en
 
 -- so of each hart
 abbrev pub AllLeft : List Guest → List following.Guest → List Event → Type 0
-AllLeft blocks guests past = (h : ℕ) (d : following.Guest) → h < length guests → IsLeft blocks (left_of (get_or guests h d)) past h
+AllLeft blocks guests past = (h : ℕ) (d : following.Guest) → h < length guests
+    → IsLeft blocks (left_of (get_or guests h d)) past h
 
 -- the first operation that is left
 abbrev pub next_of : Option (List Op) → Option Op

@@ -1,7 +1,7 @@
 -- Programs: what a script has its board's threads do (profile).
 use Rattle.std.specs.Prelude.{◌≡◌, ℕ, List, [], length, map, take}
-use Rattle.board_core.specs.declared.event.Op.{Op}
-use Rattle.board_core.specs.declared.event.Op.TheVariants.{Tick}
+use Rattle.board_terms.specs.declared.op.Op.{Op}
+use Rattle.board_terms.specs.declared.op.Op.TheVariants.{Tick}
 use Rattle.guest_script.specs.Grammar.{Content, Guest, Empty, Program, Schedule, Trace}
 
 -- A script is a program, or an empty script, which serves as one.

@@ -1,13 +1,13 @@
 -- What a run's record says of its threads: each did what was due, and why it did no more (profile).
 use Rattle.std.specs.Prelude.{◌≡◌, ◌≢◌, ◌⊎◌, ℕ, ◌+◌, Bool, true, false, if◌then◌else◌, List, [], ◌∷◌, ◌++◌, length, slice_get, Option, Some, None, Err}
 use mathlib.Core.List.{IsSuffix}
-use Rattle.board_core.specs.declared.config.Config.{Config}
-use Rattle.board_core.specs.declared.event.Actor.{Actor}
-use Rattle.board_core.specs.declared.event.Actor.TheVariants.{Hart, Clock}
-use Rattle.board_core.specs.declared.event.Op.{Op}
-use Rattle.board_core.specs.declared.event.Op.TheVariants.{Tick}
-use Rattle.board_core.specs.declared.event.Refusal.{Refusal}
-use Rattle.board_core.specs.declared.event.Refusal.TheVariants.{HistoryFull}
+use Rattle.board_terms.specs.declared.config.Config.{Config}
+use Rattle.board_terms.specs.declared.op.Actor.{Actor}
+use Rattle.board_terms.specs.declared.op.Actor.TheVariants.{Hart, Clock}
+use Rattle.board_terms.specs.declared.op.Op.{Op}
+use Rattle.board_terms.specs.declared.op.Op.TheVariants.{Tick}
+use Rattle.board_terms.specs.declared.reply.Refusal.{Refusal}
+use Rattle.board_terms.specs.declared.reply.Refusal.TheVariants.{HistoryFull}
 use Rattle.board_core.specs.History.{Event}
 use Rattle.board_core.specs.Opening.{Opening}
 use Rattle.board_core.specs.Replies.{answer}
@@ -73,8 +73,10 @@ gate_number c (Hart h) = h
 gate_number c Clock = c.harts
 
 -- An event was let by the gate, and was its actor's turn.
-abbrev pub IsDue : (lets : ℕ → ℕ → Bool → Type 0) → Opening → List Guest → (ticks : List ℕ) → Actor → Event → List Event → Type 0
-IsDue lets o blocks ticks a e past = lets (gate_number o.config a) (many_of a past) true × IsTurn o blocks ticks a e.op past
+abbrev pub IsDue : (lets : ℕ → ℕ → Bool → Type 0) → Opening → List Guest → (ticks : List ℕ) → Actor → Event
+    → List Event → Type 0
+IsDue lets o blocks ticks a e past = lets (gate_number o.config a) (many_of a past) true
+    × IsTurn o blocks ticks a e.op past
 
 -- ---- why it did no more
 
@@ -103,16 +105,19 @@ HasNoMore o blocks ticks past Clock =
     ⊎ ((op : Op) × (r : Refusal) × (r ≢ HistoryFull) × Earlier Clock past (Refuses o blocks ticks Clock op r))
 
 -- Why an actor's thread did no more, by what it met.
-abbrev pub HasStopped : (lets : ℕ → ℕ → Bool → Type 0) → Opening → List Guest → (ticks : List ℕ) → List Event → Actor → Met → Type 0
+abbrev pub HasStopped : (lets : ℕ → ℕ → Bool → Type 0) → Opening → List Guest → (ticks : List ℕ) → List Event → Actor
+    → Met → Type 0
 HasStopped lets o blocks ticks past a ClosedGate = IsClosed lets o past a
 HasStopped lets o blocks ticks past a FullHistory = HasMetFull o blocks ticks past a
 HasStopped lets o blocks ticks past a Nothing = HasNoMore o blocks ticks past a
 
 -- What threads did that met this together: each event was due, each thread stopped for what it met, and one of them met what
 -- all met together.
-pub record AreThreads (lets : ℕ → ℕ → Bool → Type 0) (o : Opening) (blocks : List Guest) (ticks : List ℕ) (past : List Event) (met : Met) : Type 0 where
+pub record AreThreads (lets : ℕ → ℕ → Bool → Type 0) (o : Opening) (blocks : List Guest) (ticks : List ℕ)
+    (past : List Event) (met : Met) : Type 0 where
   pub due : (a : Actor) → IsActor o.config a → EachOf (IsDue lets o blocks ticks a) a past
-  pub stopped : (a : Actor) → IsActor o.config a → (m : Met) × (met_by_both m met ≡ met) × HasStopped lets o blocks ticks past a m
+  pub stopped : (a : Actor) → IsActor o.config a
+      → (m : Met) × (met_by_both m met ≡ met) × HasStopped lets o blocks ticks past a m
   pub met_by : (a : Actor) × IsActor o.config a × HasStopped lets o blocks ticks past a met
 
 -- A run in which the history was full for a thread ends neither quiet nor stuck: with that, or with what comes before it.
@@ -121,7 +126,8 @@ IsOverFull end = (end ≢ ends.Quiet) × (end ≢ ends.Stuck)
 
 -- What threads did whose run ended so: each event of an actor was due; it did no more since its gate closed, which ends the
 -- run, or since the history was full, or since there was no more; and a run that ended with either has a thread that met it.
-pub record IsRun (lets : ℕ → ℕ → Bool → Type 0) (o : Opening) (blocks : List Guest) (ticks : List ℕ) (past : List Event) (end : End) : Type 0 where
+pub record IsRun (lets : ℕ → ℕ → Bool → Type 0) (o : Opening) (blocks : List Guest) (ticks : List ℕ)
+    (past : List Event) (end : End) : Type 0 where
   pub due : (a : Actor) → IsActor o.config a → EachOf (IsDue lets o blocks ticks a) a past
   pub stopped : (a : Actor) → IsActor o.config a →
       (IsClosed lets o past a × (end ≡ GateLimit))

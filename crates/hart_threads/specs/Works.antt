@@ -2,12 +2,12 @@
 -- what is known where as many were seen holds of the record.
 use Rattle.std.specs.Prelude.{◌≡◌, ◌≢◌, ◌⊎◌, ℕ, ◌≤◌, Bool, false, List, [], length, reverse, Option}
 use mathlib.Core.List.{IsSuffix}
-use Rattle.board_core.specs.declared.config.Config.{Config}
-use Rattle.board_core.specs.declared.event.Actor.{Actor}
-use Rattle.board_core.specs.declared.event.Actor.TheVariants.{Hart, Clock}
-use Rattle.board_core.specs.declared.event.Op.{Op}
-use Rattle.board_core.specs.declared.event.Refusal.{Refusal}
-use Rattle.board_core.specs.declared.event.Refusal.TheVariants.{HistoryFull}
+use Rattle.board_terms.specs.declared.config.Config.{Config}
+use Rattle.board_terms.specs.declared.op.Actor.{Actor}
+use Rattle.board_terms.specs.declared.op.Actor.TheVariants.{Hart, Clock}
+use Rattle.board_terms.specs.declared.op.Op.{Op}
+use Rattle.board_terms.specs.declared.reply.Refusal.{Refusal}
+use Rattle.board_terms.specs.declared.reply.Refusal.TheVariants.{HistoryFull}
 use Rattle.board_core.specs.History.{Event}
 use Rattle.board_core.specs.Opening.{Opening}
 use Rattle.board_lock.specs.Events.{IsActor}
@@ -66,7 +66,8 @@ IsLeftTo blocks left past (Hart h) = IsLeft blocks left past h
 IsLeftTo blocks left past Clock = Unit {0}
 
 -- The thread is at work, met this so far, and knows what is left of its guest's block.
-pub record IsGoing (t : Task) (a : Actor) (n : ℕ) (past : List Event) (left : Option (List Op)) (met : Met) : Type 0 where
+pub record IsGoing (t : Task) (a : Actor) (n : ℕ) (past : List Event) (left : Option (List Op))
+    (met : Met) : Type 0 where
   pub work : IsAtWork t a n past
   pub left_is : many_of a past ≡ n → IsLeftTo t.blocks left past a
   pub met_is : HasMet t a n past met
@@ -86,7 +87,8 @@ WorkedAt t s met = HasWorked t s.actor s.count (reverse s.saw) met
 
 -- an operation is its actor's turn, as long as no event of that actor comes
 abbrev pub HasTurn : Task → Actor → (n : ℕ) → (seen : List Event) → Op → Type 0
-HasTurn t a n seen op = (past : List Event) → IsSuffix seen past → many_of a past ≡ n → IsTurn t.opening t.blocks t.ticks a op past
+HasTurn t a n seen op = (past : List Event) → IsSuffix seen past → many_of a past ≡ n
+    → IsTurn t.opening t.blocks t.ticks a op past
 
 -- what a gate answers is what the plan says that it may
 abbrev pub IsGate : (lets plan : ℕ → ℕ → Bool → Type 0) → Type 0

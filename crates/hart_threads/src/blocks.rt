@@ -21,7 +21,9 @@ pub struct Program<'a> {
     pub ticks: &'a [u64],
     /// The first block of each address.
     first: BTreeMap<u64, &'a Block>,
-    ghost indexed: { (addr : ℕ) → unwrap_or (option_map (λ block. block.now.ops.items) (get nat_cmp first addr)) [] ≡ block_at (map guest blocks.now) addr },
+    ghost indexed: { (addr : ℕ)
+        → unwrap_or (option_map (λ block. block.now.ops.items) (get nat_cmp first addr)) []
+        ≡ block_at (map guest blocks.now) addr },
 }
 
 impl<'a> Program<'a> {
@@ -42,7 +44,8 @@ fn first_blocks<'a>(
     alloc: Global,
     blocks: &'a [Block],
 ) -> Result<BTreeMap<u64, &'a Block>, AllocError>
-    ensures { IfOk result (λ first. (addr : ℕ) → unwrap_or (option_map (λ block. block.now.ops.items) (get nat_cmp first addr)) []
+    ensures { IfOk result
+        (λ first. (addr : ℕ) → unwrap_or (option_map (λ block. block.now.ops.items) (get nat_cmp first addr)) []
         ≡ block_at (map guest blocks.now) addr) }
 {
     let mut first = BTreeMap::new(alloc);

@@ -1,5 +1,6 @@
+//! A new board for a run.
 ghost use Rattle.std.specs.Prelude.{◌≡◌, ◌↔◌, [], IfOk, IsErrOf};
-ghost use Rattle.board_core.specs.Limits.{IsGood};
+ghost use Rattle.board_terms.specs.Limits.{IsGood};
 ghost use Rattle.board_core.specs.Opening.{opening_at};
 ghost use Rattle.hart_threads.specs.declared.ends.RunFault.TheVariants.{BadConfig};
 

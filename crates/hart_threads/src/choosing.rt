@@ -1,3 +1,4 @@
+//! What a hart's thread does next, as its view shows its hart.
 ghost use Rattle.std.specs.Prelude.{◌≡◌, ℕ, List, IfSome, None};
 ghost use Rattle.board_core.specs.History.{Event};
 ghost use Rattle.board_core.specs.Opening.{Opening};
@@ -15,7 +16,8 @@ use board_lock::HartNow;
 pub(crate) fn choice(now: &HartNow, guest: Option<Op>) -> Option<Op>
     ensures exact { result ≡ first_choice now.now guest }
     ensures happens { (s : Situation) → Sees s now.now → IfSome result (λ op. IsAccepted op s) }
-    ensures rests { (o : Opening) (past : List Event) (h : ℕ) → IsLegal o past → Sees (situation o past h) now.now → result ≡ None → HasNothing guest (situation o past h) }
+    ensures rests { (o : Opening) (past : List Event) (h : ℕ) → IsLegal o past → Sees (situation o past h) now.now
+        → result ≡ None → HasNothing guest (situation o past h) }
 {
     if now.waiting > 0 && now.state.is_interruptible() {
         return Some(Op::Serve);

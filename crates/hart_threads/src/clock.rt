@@ -1,5 +1,6 @@
+//! The clock's thread: each tick in its turn.
 ghost use Rattle.std.specs.Prelude.{◌≡◌, [], reverse};
-ghost use Rattle.board_core.specs.declared.event.Actor.TheVariants.{Clock};
+ghost use Rattle.board_terms.specs.declared.op.Actor.TheVariants.{Clock};
 ghost use Rattle.board_lock.specs.Events.{IsActor};
 ghost use Rattle.board_lock.specs.Seats.{sitting};
 ghost use Rattle.hart_threads.specs.Programs.{AreFirst};

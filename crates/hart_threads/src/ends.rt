@@ -1,3 +1,4 @@
+//! How a run ended, and why none was made.
 ghost use Rattle.std.specs.Prelude.{◌≡◌};
 ghost use Rattle.hart_threads.specs.Faults.{run_fault_number};
 ghost use Rattle.hart_threads.specs.declared.ends.RunFault.TheVariants.{NoMemory};

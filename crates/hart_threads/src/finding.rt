@@ -1,3 +1,4 @@
+//! How a run ended, found from its record.
 ghost use Rattle.std.specs.Prelude.{◌≡◌, ◌∷◌, ◌<◌, ◌↔◌, true, IfOk, List, MatchOption, length, map};
 ghost use Rattle.guest_script.specs.Grammar.{guest};
 ghost use Rattle.hart_threads.specs.Ends.{AreQuiet, IsEnd, IsEndBy, IsQuiet};
@@ -19,7 +20,8 @@ pub fn end_of(
     met: Met,
 ) -> Result<End, AllocError>
     ensures end { IfOk result (λ end. IsEnd end board.now.opening board.now.past (map guest program.now.blocks.now)) }
-    ensures by { IfOk result (λ end. IsEndBy met board.now.opening board.now.past (map guest program.now.blocks.now) end) }
+    ensures by { IfOk result
+        (λ end. IsEndBy met board.now.opening board.now.past (map guest program.now.blocks.now) end) }
 {
     if met == Met::ClosedGate {
         return Ok(End::GateLimit);
@@ -56,7 +58,8 @@ fn guests_after<'a>(
 /// The guest of the event's hart goes on by it.
 fn see<'a>(guests: &mut [Guest<'a>], program: &Program<'a>, event: &Event)
     ensures many { length guests.new ≡ length guests.old }
-    ensures left { (past : List _) → AllLeft (map guest program.now.blocks.now) guests.old past → AllLeft (map guest program.now.blocks.now) guests.new (event.now ∷ past) }
+    ensures left { (past : List _) → AllLeft (map guest program.now.blocks.now) guests.old past
+        → AllLeft (map guest program.now.blocks.now) guests.new (event.now ∷ past) }
 {
     if let Actor::Hart(h) = event.actor()
         && (h as usize) < guests.len()
@@ -70,7 +73,8 @@ fn first_unquiet(board: &Board, program: &Program<'_>, guests: &[Guest<'_>]) -> 
     requires many { length guests.now ≡ board.now.opening.config.harts }
     requires left { AllLeft (map guest program.now.blocks.now) guests.now board.now.past }
     ensures { MatchOption result (AreQuiet board.now.opening board.now.past (map guest program.now.blocks.now))
-        (λ h. (h < board.now.opening.config.harts) × ¬ IsQuiet board.now.opening board.now.past (map guest program.now.blocks.now) h) }
+        (λ h. (h < board.now.opening.config.harts)
+        × ¬ IsQuiet board.now.opening board.now.past (map guest program.now.blocks.now) h) }
 {
     for (h, found) in guests.iter().enumerate() {
         if !is_quiet(board, program, h as u64, found) {

@@ -1,3 +1,4 @@
+//! What holds threads back before their operations.
 use board_core::{Actor, Op, Reply};
 
 /// Who may go on with an operation: each thread asks before each of its operations, and holds no lock then. Of an operation that

@@ -1,6 +1,7 @@
+//! Where a guest is in its block.
 ghost use Rattle.std.specs.Prelude.{◌≡◌, ◌↔◌, ◌∷◌, ◌++◌, ℕ, true, List, [], Some, map};
 ghost use Rattle.std.specs.Option.{option_map};
-ghost use Rattle.board_core.specs.declared.event.Actor.TheVariants.{Hart};
+ghost use Rattle.board_terms.specs.declared.op.Actor.TheVariants.{Hart};
 ghost use Rattle.board_core.specs.History.{Event};
 ghost use Rattle.guest_script.specs.Grammar.{guest};
 ghost use Rattle.hart_threads.specs.Guests.{AreLeft, IsLeft, is_guest, left_of, next_of};
@@ -53,7 +54,8 @@ impl<'a> Guest<'a> {
     /// What is left after an operation of the guest.
     #[tactic(auto, using(crate::proofs::Following::left_next, crate::proofs::Following::left_other, crate::proofs::Following::left_over, crate::proofs::Following::left_never))]
     fn without(&self, op: Op) -> Option<&'a [Op]>
-        ensures { (done whole : List _) → AreLeft (left_of self.now) done whole → AreLeft (option_map (λ ops. ops.now) result) (done ++ op ∷ []) whole }
+        ensures { (done whole : List _) → AreLeft (left_of self.now) done whole
+            → AreLeft (option_map (λ ops. ops.now) result) (done ++ op ∷ []) whole }
     {
         let Some((next, rest)) = self.left?.split_first() else {
             return None;

@@ -1,5 +1,6 @@
+//! A hart's thread: its firmware's work, and its guest's.
 ghost use Rattle.std.specs.Prelude.{◌≡◌, ◌≢◌, [], reverse};
-ghost use Rattle.board_core.specs.declared.event.Actor.TheVariants.{Clock};
+ghost use Rattle.board_terms.specs.declared.op.Actor.TheVariants.{Clock};
 ghost use Rattle.board_lock.specs.Events.{IsActor};
 ghost use Rattle.board_lock.specs.Seats.{sitting};
 ghost use Rattle.board_lock.specs.Views.{IsView};
@@ -90,7 +91,8 @@ fn attempt<'a, K: Plan, G: Gate, R: Wait>(
 ) -> Met
     requires gate { IsGate (G.lets work.now.gate.now) K.lets }
     requires going { Goes (task K.lets K.opening K.blocks K.ticks) seat.old (left_of guest.old) Nothing }
-    requires turn { HasTurn (task K.lets K.opening K.blocks K.ticks) seat.old.actor seat.old.count (reverse seat.old.saw) op }
+    requires turn { HasTurn (task K.lets K.opening K.blocks K.ticks) seat.old.actor seat.old.count
+        (reverse seat.old.saw) op }
     requires view { IsView K.opening seat.old view.old }
     ensures actor { seat.new.actor ≡ seat.old.actor }
     ensures going { Goes (task K.lets K.opening K.blocks K.ticks) seat.new (left_of guest.new) result }

@@ -1,3 +1,4 @@
+//! What threads met at their ends.
 ghost use Rattle.std.specs.Prelude.{◌≡◌};
 ghost use Rattle.hart_threads.specs.Met.{met_by_both, met_by_refusal};
 

@@ -1,3 +1,4 @@
+//! What a run's threads have in common, for proofs.
 use board_lock::Room;
 use std::marker::Brand;
 

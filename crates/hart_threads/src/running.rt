@@ -1,6 +1,7 @@
+//! A program's run on threads, from its board to its record.
 ghost use Rattle.std.specs.Prelude.{◌≡◌, ◌↔◌, All, IfOk, IsErrOf, map};
-ghost use Rattle.board_core.specs.declared.event.Actor.TheVariants.{Clock};
-ghost use Rattle.board_core.specs.Limits.{IsGood};
+ghost use Rattle.board_terms.specs.declared.op.Actor.TheVariants.{Clock};
+ghost use Rattle.board_terms.specs.Limits.{IsGood};
 ghost use Rattle.board_core.specs.Opening.{opening_at};
 ghost use Rattle.board_core.specs.Replies.{IsLegal};
 ghost use Rattle.board_laws.specs.Headline.{Headline};
@@ -43,9 +44,12 @@ pub fn run<G: Gate + Sync, R: AllocGlobal + Threads + Wait + Sync>(
     ensures opening { IfOk result (λ run. run.board.opening ≡ opening_at script.now.config) }
     ensures legal { IfOk result (λ run. IsLegal run.board.opening run.board.past) }
     ensures headline { IfOk result (λ run. Headline run.board.opening run.board.past) }
-    ensures ticks { IfOk result (λ run. AreFirst (ticks_of (content script.now.body)) (ops_of Clock (events_in run.board))) }
-    ensures end { IfOk result (λ run. IsEnd run.end run.board.opening run.board.past (blocks_of (content script.now.body))) }
-    ensures threads { IfOk result (λ run. IsRun (G.lets gate.now) run.board.opening (blocks_of (content script.now.body))
+    ensures ticks { IfOk result
+        (λ run. AreFirst (ticks_of (content script.now.body)) (ops_of Clock (events_in run.board))) }
+    ensures end { IfOk result
+        (λ run. IsEnd run.end run.board.opening run.board.past (blocks_of (content script.now.body))) }
+    ensures threads { IfOk result
+        (λ run. IsRun (G.lets gate.now) run.board.opening (blocks_of (content script.now.body))
         (ticks_of (content script.now.body)) run.board.past run.end) }
 {
     run_in::<Brand, G, R>(rt, NewRoom::new(&script.config), &script.body, gate)
@@ -131,7 +135,8 @@ fn opened<K: Plan>(alloc: Global, room: NewRoom) -> Result<(SharedBoard<K>, Vec<
 
 /// The seats of the threads, and what they met.
 fn parted<K: Plan>(alloc: Global, all: Vec<Worked<K>>) -> Result<(Vec<Seat<K>>, Met), AllocError>
-    ensures seats { IfOk result (λ r. map (λ seat. seat.actor) r.0.items ≡ map (λ worked. worked.seat.actor) all.items) }
+    ensures seats { IfOk result
+        (λ r. map (λ seat. seat.actor) r.0.items ≡ map (λ worked. worked.seat.actor) all.items) }
     ensures same { IfOk result (λ r. r.0.items ≡ map (λ worked. worked.seat) all.items) }
     ensures ticks { IfOk result (λ r. All (λ seat. seat.actor ≡ Clock → AreFirst K.ticks seat.ops) r.0.items) }
     ensures met { IfOk result (λ r. r.1 ≡ met_by_all (map (λ worked. worked.met) all.items)) }

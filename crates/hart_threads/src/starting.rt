@@ -1,3 +1,4 @@
+//! Threads that are started, and waited for.
 ghost use Rattle.std.specs.Prelude.{◌≡◌, All, IfOk, IsErrOf, map};
 ghost use Rattle.hart_threads.specs.Works.{IsFresh, IsGate, WorkedAt, task};
 ghost use Rattle.hart_threads.specs.declared.ends.RunFault.TheVariants.{BadConfig};
@@ -33,7 +34,8 @@ pub(crate) fn work_all<
 >(rt: &R, work: &Work<'_, '_, K, G>, seats: Vec<Seat<K>>) -> Result<Vec<Worked<K>>, RunFault>
     requires fresh { All (IsFresh K.opening.config) seats.items }
     requires gate { IsGate (G.lets work.now.gate.now) K.lets }
-    ensures seats { IfOk result (λ all. map (λ worked. worked.seat.actor) all.items ≡ map (λ seat. seat.actor) seats.items) }
+    ensures seats { IfOk result
+        (λ all. map (λ worked. worked.seat.actor) all.items ≡ map (λ seat. seat.actor) seats.items) }
     ensures worked { IfOk result (λ all.
         All (λ worked. WorkedAt (task K.lets K.opening K.blocks K.ticks) worked.seat worked.met) all.items) }
     ensures board { ¬ IsErrOf result BadConfig }
@@ -45,7 +47,8 @@ pub(crate) fn work_all<
             requires fresh { All (IsFresh K.opening.config) seats.items }
             requires gate { IsGate (G.lets work.now.gate.now) K.lets }
             ensures board { ¬ IsErrOf result BadConfig }
-            ensures seats { IfOk result (λ all. map (λ worked. worked.seat.actor) all.items ≡ map (λ seat. seat.actor) seats.items) }
+            ensures seats { IfOk result
+                (λ all. map (λ worked. worked.seat.actor) all.items ≡ map (λ seat. seat.actor) seats.items) }
             ensures worked { IfOk result (λ all.
                 All (λ worked. WorkedAt (task K.lets K.opening K.blocks K.ticks) worked.seat worked.met) all.items) }
         {

@@ -1,5 +1,6 @@
+//! What a thread is given, and what it hands back.
 ghost use Rattle.std.specs.Prelude.{◌≡◌, map};
-ghost use Rattle.board_core.specs.declared.event.Actor.TheVariants.{Clock};
+ghost use Rattle.board_terms.specs.declared.op.Actor.TheVariants.{Clock};
 ghost use Rattle.guest_script.specs.Grammar.{guest};
 ghost use Rattle.hart_threads.specs.Programs.{AreFirst};
 ghost use Rattle.hart_threads.specs.Shares.{gate_number};

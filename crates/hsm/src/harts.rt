@@ -30,7 +30,8 @@ impl Model for Hsm {
 
     ghost view = { λ m. map hart_of m.phases.items };
 
-    ghost invariant = { λ m. AreKept (map hart_of m.phases.items) m.interruptible × (vec_capacity m.phases ≡ vec_len m.phases) };
+    ghost invariant = { λ m. AreKept (map hart_of m.phases.items) m.interruptible
+        × (vec_capacity m.phases ≡ vec_len m.phases) };
 }
 
 impl Hsm {
@@ -68,8 +69,10 @@ impl Hsm {
     /// refused, and left as it is.
     pub fn start(&mut self, t: u64, addr: u64, opaque: u64) -> Result<(), AlreadyAvailable>
         requires { t < length self.old }
-        ensures answer { is_ok result ≡ is_some (started (record { addr = addr; opaque = opaque }) (hart_at self.old t)) }
-        ensures after { self.new ≡ changed self.old t (started (record { addr = addr; opaque = opaque }) (hart_at self.old t)) }
+        ensures answer { is_ok result
+            ≡ is_some (started (record { addr = addr; opaque = opaque }) (hart_at self.old t)) }
+        ensures after { self.new
+            ≡ changed self.old t (started (record { addr = addr; opaque = opaque }) (hart_at self.old t)) }
     {
         match self.phases[t as usize] {
             Phase::Stopped => {
@@ -107,7 +110,8 @@ impl Hsm {
         requires { h < length self.old }
         ensures answer { result ≡ option_map (λ step. step.moved) (advanced wake (hart_at self.old h)) }
         ensures some { is_some result ≡ goes_on wake (hart_at self.old h).state }
-        ensures after { self.new ≡ changed self.old h (option_map (λ step. step.hart) (advanced wake (hart_at self.old h))) }
+        ensures after { self.new
+            ≡ changed self.old h (option_map (λ step. step.hart) (advanced wake (hart_at self.old h))) }
     {
         let (phase, moved) = self.phases[h as usize].advanced(wake)?;
         self.put(h, phase);
@@ -151,7 +155,8 @@ impl Hsm {
     pub fn kept(&self, t: u64) -> Option<Kept>
         requires { t < length self.now }
         ensures kept { result ≡ (hart_at self.now t).kept }
-        ensures pending { is_in_suspend (hart_at self.now t).state ≡ false → is_some result ≡ is_start_pending (hart_at self.now t).state }
+        ensures pending { is_in_suspend (hart_at self.now t).state ≡ false
+            → is_some result ≡ is_start_pending (hart_at self.now t).state }
     {
         self.phases[t as usize].kept()
     }

@@ -50,7 +50,8 @@ impl Phase {
 
     /// The phase that the firmware's own step brings this one to, and what it tells.
     pub fn advanced(self, wake: bool) -> Option<(Phase, Moved)>
-        ensures { option_map (λ step. record { hart = hart_of step.0; moved = step.1 }) result ≡ advanced wake (hart_of self) }
+        ensures { option_map (λ step. record { hart = hart_of step.0; moved = step.1 }) result
+            ≡ advanced wake (hart_of self) }
     {
         match self {
             Phase::StartPending(kept) => Some((Phase::Started, Moved::Entered(kept))),

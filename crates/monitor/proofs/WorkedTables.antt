@@ -3,10 +3,10 @@ use Rattle.std.proofs.Common.{◌≡◌, [], ◌∷◌, replicate, None, codes, 
 use Rattle.std.specs.Fmt.{digits}
 use Rattle.sbi_abi.specs.Calls.{call_of}
 use Rattle.sbi_abi.specs.ResetTypes.{reset_kind_of}
-use Rattle.board_core.specs.declared.config.Config.{Config}
-use Rattle.board_core.specs.declared.event.Actor.TheVariants.{Hart}
-use Rattle.board_core.specs.declared.event.Op.TheVariants.{Ecall, Advance}
-use Rattle.board_core.specs.declared.event.Reply.TheVariants.{Ret, Entry, Gone, Waiting}
+use Rattle.board_terms.specs.declared.config.Config.{Config}
+use Rattle.board_terms.specs.declared.op.Actor.TheVariants.{Hart}
+use Rattle.board_terms.specs.declared.op.Op.TheVariants.{Ecall, Advance}
+use Rattle.board_terms.specs.declared.reply.Reply.TheVariants.{Ret, Entry, Gone, Waiting}
 use Rattle.board_core.specs.Opening.{opening_at}
 use Rattle.hart_mask.specs.HartList.{names_stray, targets_of}
 use Rattle.hart_mask.specs.Ids.{ids_where}

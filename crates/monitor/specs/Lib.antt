@@ -1,4 +1,1 @@
-pub mod LineText
-pub mod Sinks
 pub mod Table
-pub mod Words

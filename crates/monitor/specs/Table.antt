@@ -27,22 +27,8 @@ use Rattle.board_core.specs.Resets.{is_off, last_reset}
 use Rattle.board_core.specs.Starts.{kept}
 use Rattle.board_core.specs.States.{state}
 use Rattle.board_core.specs.Totals.{totals}
-use Rattle.monitor.specs.Words.{bit_of, line_of}
-
--- a text after as many of these bytes as fill the width
-abbrev pub filled : (width byte : ℕ) → List ℕ → List ℕ
-filled width byte text = replicate (width - length text) byte ++ text
-
--- a text at the right, or at the left, of a column of this width
-abbrev pub right : (width : ℕ) → List ℕ → List ℕ
-right width text = filled width 32 text
-
-abbrev pub left : (width : ℕ) → List ℕ → List ℕ
-left width text = text ++ replicate (width - length text) 32
-
--- lower case hexadecimal digits with leading zeros
-abbrev pub hex_column : (width : ℕ) → ℕ → List ℕ
-hex_column width n = filled width 48 (digits 16 false n)
+use Rattle.printed_lines.specs.Columns.{hex_column, left, right}
+use Rattle.printed_lines.specs.Words.{bit_of, line_of}
 
 abbrev pub hex16 : ℕ → List ℕ
 hex16 n = hex_column 16 n
@@ -161,7 +147,8 @@ letter present byte = if present then byte else 45
 
 -- the rights of an entry's page: `r`, `w`, `x` and `d`
 abbrev pub rights : Entry → List ℕ
-rights entry = letter entry.leaf.r 114 ∷ letter entry.leaf.w 119 ∷ letter entry.leaf.x 120 ∷ letter entry.leaf.d 100 ∷ []
+rights entry = letter entry.leaf.r 114 ∷ letter entry.leaf.w 119 ∷ letter entry.leaf.x 120 ∷ letter entry.leaf.d 100
+    ∷ []
 
 -- a TLB's entry: its page, level, ASID, whether it is global, the physical page, and the rights
 unfoldable pub tlb_cells : ℕ → Entry → List (List ℕ)
@@ -205,7 +192,8 @@ flush_words (Entries fence) = codes "vma" ∷ (range_words fence.range ++ asid_w
 -- a fence that waits at a hart, and the hart that asked it
 unfoldable pub fence_cells : ℕ → Request Flush → List (List ℕ)
 fence_cells h request =
-    codes "#" ∷ codes "fence" ∷ right 3 (decimal h) ∷ codes "from" ∷ right 3 (decimal request.from) ∷ flush_words request.flush
+    codes "#" ∷ codes "fence" ∷ right 3 (decimal h) ∷ codes "from" ∷ right 3 (decimal request.from)
+    ∷ flush_words request.flush
 
 abbrev pub fence_line : ℕ → Request Flush → List ℕ
 fence_line h request = line_of (fence_cells h request)

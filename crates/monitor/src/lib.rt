@@ -1,13 +1,9 @@
-//! What is printed of a board: sinks of bytes, and the lines that go into them (profile).
+//! The printed table of a board, and the line of an event (profile).
 #![tactic(auto)]
 
-mod line_text;
-mod lines;
-mod page;
-mod sink;
+mod events;
 mod table;
 
-pub use lines::{print_event, print_head, print_line, print_reply};
-pub use page::Page;
-pub use sink::{Failed, Sink, write_all};
+pub use events::print_event;
+pub use printed_lines::{Failed, Page, Sink, print_head, print_line, print_reply, write_all};
 pub use table::print;

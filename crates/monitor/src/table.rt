@@ -1,18 +1,17 @@
+//! The table of a board.
 ghost use Rattle.std.specs.Prelude.{◌≡◌, ◌+◌, ◌*◌, ◌^◌, ◌<◌, ◌≤◌, [], ◌∷◌, ◌++◌, length};
 ghost use Rattle.std.specs.List.{flat_map};
 ghost use Rattle.board_core.specs.Course.{harts_of};
 ghost use Rattle.board_core.specs.Fences.{waiting};
-ghost use Rattle.monitor.specs.LineText.{decimal_room, fence_room, flush_room, hex_column_room, hex_column_work, line_room, power_room, reset_room, with_words};
-ghost use Rattle.monitor.specs.Sinks.{Puts};
+ghost use Rattle.printed_lines.specs.LineText.{decimal_room, fence_room, flush_room, hex_column_room, hex_column_work, line_room, power_room, reset_room, with_words};
+ghost use Rattle.printed_lines.specs.Sinks.{Puts};
 ghost use Rattle.monitor.specs.Table.{asid_words, deadline_cell, details, entries, entry_cells, entry_line, fence_cells, fence_line, flush_words, hart_cells, head_cells, letter, outstanding_cell, power_word, range_words, reset_words, rights, row, state_name, table, time_cells, tlb_cells, tlb_line, totals_cells, word_cells, word_line, words};
-ghost use Rattle.monitor.specs.Words.{line_of};
+ghost use Rattle.printed_lines.specs.Words.{line_of};
 
-use crate::line_text::LineText;
-use crate::lines::bit;
-use crate::sink::{Failed, Sink};
 use board_core::{Board, Entry, FetchWord, HartState, Kept, Reset, Totals};
 use fence_queue::Request;
 use hart_mask::HartSet;
+use printed_lines::{Failed, LineText, Sink, bit};
 use tlb_model::{Flush, Range};
 
 /// Prints the board's table, of lines that are comments in a script.
@@ -28,6 +27,7 @@ pub fn print<W: Sink>(board: &Board, sink: &mut W) -> Result<(), Failed>
     print_details(board, sink)
 }
 
+/// Prints each hart's row.
 fn print_rows<W: Sink>(board: &Board, sink: &mut W) -> Result<(), Failed>
     requires { W.failures sink.old < 2 ^ 63 }
     ensures { Puts W.written W.failures sink.old sink.new result
@@ -39,6 +39,7 @@ fn print_rows<W: Sink>(board: &Board, sink: &mut W) -> Result<(), Failed>
     Ok(())
 }
 
+/// Prints what follows the rows: of each hart what it keeps, holds in its caches, and what waits at it.
 fn print_details<W: Sink>(board: &Board, sink: &mut W) -> Result<(), Failed>
     requires { W.failures sink.old < 2 ^ 63 }
     ensures { Puts W.written W.failures sink.old sink.new result
@@ -62,6 +63,7 @@ fn print_hart<W: Sink>(board: &Board, h: u64, sink: &mut W) -> Result<(), Failed
     print_fences(board, h, sink)
 }
 
+/// Prints what is live in a hart's TLB.
 fn print_tlb<W: Sink>(board: &Board, h: u64, sink: &mut W) -> Result<(), Failed>
     requires failures { W.failures sink.old < 2 ^ 63 }
     requires is_hart { h < board.now.opening.config.harts }
@@ -74,6 +76,7 @@ fn print_tlb<W: Sink>(board: &Board, h: u64, sink: &mut W) -> Result<(), Failed>
     Ok(())
 }
 
+/// Prints which fetched words are live at a hart.
 fn print_fetched<W: Sink>(board: &Board, h: u64, sink: &mut W) -> Result<(), Failed>
     requires failures { W.failures sink.old < 2 ^ 63 }
     requires is_hart { h < board.now.opening.config.harts }
@@ -86,6 +89,7 @@ fn print_fetched<W: Sink>(board: &Board, h: u64, sink: &mut W) -> Result<(), Fai
     Ok(())
 }
 
+/// Prints the fences that wait at a hart.
 fn print_fences<W: Sink>(board: &Board, h: u64, sink: &mut W) -> Result<(), Failed>
     requires failures { W.failures sink.old < 2 ^ 63 }
     requires is_hart { h < board.now.opening.config.harts }
@@ -98,6 +102,7 @@ fn print_fences<W: Sink>(board: &Board, h: u64, sink: &mut W) -> Result<(), Fail
     Ok(())
 }
 
+/// Prints what a hart keeps for its entry, if it keeps something.
 fn print_entry<W: Sink>(h: u64, kept: Option<Kept>, sink: &mut W) -> Result<(), Failed>
     requires { W.failures sink.old < 2 ^ 63 }
     ensures { Puts W.written W.failures sink.old sink.new result (entry_line h kept) }
@@ -108,6 +113,7 @@ fn print_entry<W: Sink>(h: u64, kept: Option<Kept>, sink: &mut W) -> Result<(), 
     }
 }
 
+/// The line of the time, the events, the power and the last reset.
 #[tactic(auto, unfolding(crate::specs::Table::time_cells))]
 fn time_line(board: &Board) -> LineText
     ensures text { result ≡ with_words [] (time_cells board.now.opening board.now.past) }
@@ -127,6 +133,7 @@ fn time_line(board: &Board) -> LineText
     line
 }
 
+/// The word for the power.
 fn power(is_off: bool) -> &'static [u8]
     ensures name { result.now ≡ power_word is_off }
     ensures len { length result.now ≤ 3 }
@@ -150,6 +157,7 @@ fn reset_onto(line: &mut LineText, last: Option<Reset>)
     }
 }
 
+/// The line of the counts.
 #[tactic(auto, unfolding(crate::specs::Table::totals_cells))]
 fn totals_line(totals: &Totals) -> LineText
     ensures text { result ≡ with_words [] (totals_cells totals.now) }
@@ -173,6 +181,7 @@ fn totals_line(totals: &Totals) -> LineText
     line
 }
 
+/// The line of the columns' heads.
 #[tactic(auto, unfolding(crate::specs::Table::head_cells))]
 fn columns_line() -> LineText
     ensures text { result ≡ with_words [] (head_cells) }
@@ -196,6 +205,7 @@ fn columns_line() -> LineText
     line
 }
 
+/// A hart's row.
 #[tactic(auto, unfolding(crate::specs::Table::hart_cells))]
 fn hart_line(board: &Board, h: u64) -> LineText
     requires { h < board.now.opening.config.harts }
@@ -220,6 +230,7 @@ fn hart_line(board: &Board, h: u64) -> LineText
     line
 }
 
+/// How many entries are live in a hart's TLB.
 fn entry_count(board: &Board, h: u64) -> u64
     requires { h < board.now.opening.config.harts }
     ensures { result ≡ length (entries board.now.opening board.now.past h) }
@@ -227,6 +238,7 @@ fn entry_count(board: &Board, h: u64) -> u64
     board.tlb(h).len() as u64
 }
 
+/// How many fetched words are live at a hart.
 fn word_count(board: &Board, h: u64) -> u64
     requires { h < board.now.opening.config.harts }
     ensures { result ≡ length (words board.now.opening board.now.past h) }
@@ -234,6 +246,7 @@ fn word_count(board: &Board, h: u64) -> u64
     board.fetched(h).len() as u64
 }
 
+/// Appends how many harts a fence call waits for, or a dash outside of a call.
 fn outstanding_onto(line: &mut LineText, harts: Option<HartSet>)
     requires { length line.old + decimal_room ≤ line_room }
     ensures text { line.new ≡ line.old ++ 32 ∷ outstanding_cell harts }
@@ -245,6 +258,7 @@ fn outstanding_onto(line: &mut LineText, harts: Option<HartSet>)
     }
 }
 
+/// Appends a deadline, or dashes where there is none.
 fn deadline_onto(line: &mut LineText, deadline: Option<u64>)
     requires { length line.old + hex_column_work ≤ line_room }
     ensures text { line.new ≡ line.old ++ 32 ∷ deadline_cell deadline }
@@ -256,6 +270,7 @@ fn deadline_onto(line: &mut LineText, deadline: Option<u64>)
     }
 }
 
+/// The line of what a hart keeps for its entry.
 #[tactic(auto, unfolding(crate::specs::Table::entry_cells))]
 fn entry_line(h: u64, start: &Kept) -> LineText
     ensures text { result ≡ with_words [] (entry_cells h start.now) }
@@ -271,6 +286,7 @@ fn entry_line(h: u64, start: &Kept) -> LineText
     line
 }
 
+/// The line of a TLB entry.
 #[tactic(auto, unfolding(crate::specs::Table::tlb_cells))]
 fn tlb_line(h: u64, entry: &Entry) -> LineText
     ensures text { result ≡ with_words [] (tlb_cells h entry.now) }
@@ -311,6 +327,7 @@ fn letter(present: bool, byte: u8) -> u8
     if present { byte } else { b'-' }
 }
 
+/// The line of a fetched word.
 #[tactic(auto, unfolding(crate::specs::Table::word_cells))]
 fn word_line(h: u64, fetched: &FetchWord) -> LineText
     ensures text { result ≡ with_words [] (word_cells h fetched.now) }
@@ -326,6 +343,7 @@ fn word_line(h: u64, fetched: &FetchWord) -> LineText
     line
 }
 
+/// The line of a fence that waits.
 #[tactic(auto, unfolding(crate::specs::Table::fence_cells))]
 fn fence_line(h: u64, request: &Request<Flush>) -> LineText
     ensures text { result ≡ with_words [] (fence_cells h request.now) }
@@ -388,6 +406,7 @@ fn asid_onto(line: &mut LineText, asid: Option<u16>)
     }
 }
 
+/// The name of a hart's state (SBI 9).
 fn name(state: HartState) -> &'static [u8]
     ensures name { result.now ≡ state_name state }
     ensures len { length result.now ≤ 15 }

@@ -1,3 +1,4 @@
+//! What is odd about a program, as comments.
 use crate::report::Report;
 use guest_script::next_word;
 use script_text::{Case, number_in, said};

@@ -1,3 +1,4 @@
+//! Points for a person who reads them on a terminal.
 use std::alloc::{AllocError, Global};
 
 /// What points say, for a reader at a terminal.

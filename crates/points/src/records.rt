@@ -1,3 +1,4 @@
+//! Steps and records as text.
 ghost use Rattle.std.specs.Prelude.{◌≡◌};
 
 use board_core::{Actor, Board, Event, Op, Refusal, Reply};
@@ -13,6 +14,7 @@ struct Text {
 }
 
 impl Text {
+    /// A text without bytes, to which no call failed.
     fn new(alloc: Global) -> Text
         ensures { result.failures ≡ 0 }
     {

@@ -1,3 +1,4 @@
+//! Points of the Test Anything Protocol, one after the other.
 use crate::counts::{Counts, Whole};
 use std::alloc::{AllocError, Global};
 use std::fmt::Write;

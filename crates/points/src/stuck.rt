@@ -1,3 +1,4 @@
+//! Why a program is stuck: what each hart waits for.
 ghost use Rattle.std.specs.Prelude.{◌<◌};
 
 use crate::report::Report;

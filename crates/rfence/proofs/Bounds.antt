@@ -112,7 +112,8 @@ module _ {F : Type 0} (o : Opening F) where
       covered : (t : ℕ) → (need o older c t ≤ serves_in t newer) ⊎ (list_any (is_stop t) newer ≡ true) → (if list_any (is_stop t) newer then 0 else need o older c t - serves_in t newer) ≡ 0
       covered t enough = by_stop (list_any (is_stop t) newer) refl enough
         where
-          by_stop : (stopped : Bool) → list_any (is_stop t) newer ≡ stopped → (need o older c t ≤ serves_in t newer) ⊎ (stopped ≡ true) → (if stopped then 0 else need o older c t - serves_in t newer) ≡ 0
+          by_stop : (stopped : Bool) → list_any (is_stop t) newer ≡ stopped → (need o older c t ≤ serves_in t newer) ⊎ (stopped ≡ true)
+              → (if stopped then 0 else need o older c t - serves_in t newer) ≡ 0
           by_stop true is enough = refl
           by_stop false is enough = elim enough [
             | inl most ↦ omega (arith, most)

@@ -47,15 +47,18 @@ module _ {F : Type 0} (o : Opening F) (n : ℕ) where
   open-below [] c call right is = let low = right.before c call is in omega arith
   open-below (turn ∷ turns) c call right is = by_turn (λ before. let low = open-below turns c call right.1 before in omega arith) turn is
     where
-      asked : (open_call o turns c ≡ Some call → call.place < place_after o (turn ∷ turns)) → (own : Bool) (now : FenceCall F) → now.place ≡ place_after o turns → (if own then Some now else open_call o turns c) ≡ Some call → call.place < place_after o (turn ∷ turns)
+      asked : (open_call o turns c ≡ Some call → call.place < place_after o (turn ∷ turns)) → (own : Bool) (now : FenceCall F) → now.place ≡ place_after o turns
+          → (if own then Some now else open_call o turns c) ≡ Some call → call.place < place_after o (turn ∷ turns)
       asked older true now here is = let same : now.place ≡ call.place = ap place_of is in omega (arith, same, here)
       asked older false now here is = older is
 
-      polled : (open_call o turns c ≡ Some call → call.place < place_after o (turn ∷ turns)) → (own : Bool) → (if own then None else open_call o turns c) ≡ Some call → call.place < place_after o (turn ∷ turns)
+      polled : (open_call o turns c ≡ Some call → call.place < place_after o (turn ∷ turns)) → (own : Bool) → (if own then None else open_call o turns c) ≡ Some call
+          → call.place < place_after o (turn ∷ turns)
       polled older true now = cc
       polled older false now = older now
 
-      by_turn : (open_call o turns c ≡ Some call → call.place < place_after o (turn ∷ turns)) → (turn : Turn F) → open_by (place_after o turns) turn c (open_call o turns c) ≡ Some call → call.place < place_after o (turn ∷ turns)
+      by_turn : (open_call o turns c ≡ Some call → call.place < place_after o (turn ∷ turns)) → (turn : Turn F) → open_by (place_after o turns) turn c (open_call o turns c) ≡ Some call
+          → call.place < place_after o (turn ∷ turns)
       by_turn older (Ask x ids flush) now = asked older (x == c) (record { place = place_after o turns; asked = ids_where ids; flush = flush }) refl now
       by_turn older (Own x flush) now = older now
       by_turn older (Serve x) now = older now
@@ -65,7 +68,8 @@ module _ {F : Type 0} (o : Opening F) (n : ℕ) where
       by_turn older Quiet now = older now
 
   -- no two harts are in the same call
-  pub open-apart : (turns : List (Turn F)) (c d : ℕ) (call other : FenceCall F) → IsRight o n turns → open_call o turns c ≡ Some call → open_call o turns d ≡ Some other → call.place ≡ other.place → c ≡ d
+  pub open-apart : (turns : List (Turn F)) (c d : ℕ) (call other : FenceCall F) → IsRight o n turns → open_call o turns c ≡ Some call → open_call o turns d ≡ Some other → call.place ≡ other.place
+      → c ≡ d
   open-apart [] c d call other right is also same = right.apart c d call other is also same
   open-apart (turn ∷ turns) c d call other right is also same =
       by_turn (λ now too. open-apart turns c d call other right.1 now too same) (λ now. open-below turns c call right.1 now) (λ too. open-below turns d other right.1 too) turn is also
@@ -82,14 +86,17 @@ module _ {F : Type 0} (o : Opening F) (n : ℕ) where
           let low = low_c now in absurd (omega (arith, its, place, same, low))
       asked older low_c low_d x false false made place here there now too = older now too
 
-      polled : (open_call o turns c ≡ Some call → open_call o turns d ≡ Some other → c ≡ d) → (b e : Bool) → (if b then None else open_call o turns c) ≡ Some call → (if e then None else open_call o turns d) ≡ Some other → c ≡ d
+      polled : (open_call o turns c ≡ Some call → open_call o turns d ≡ Some other → c ≡ d) → (b e : Bool) → (if b then None else open_call o turns c) ≡ Some call
+          → (if e then None else open_call o turns d) ≡ Some other → c ≡ d
       polled older true e now too = cc
       polled older false true now too = cc
       polled older false false now too = older now too
 
       by_turn : (open_call o turns c ≡ Some call → open_call o turns d ≡ Some other → c ≡ d) → (open_call o turns c ≡ Some call → call.place < place_after o turns)
-          → (open_call o turns d ≡ Some other → other.place < place_after o turns) → (turn : Turn F) → open_by (place_after o turns) turn c (open_call o turns c) ≡ Some call → open_by (place_after o turns) turn d (open_call o turns d) ≡ Some other → c ≡ d
-      by_turn older low_c low_d (Ask x ids flush) now too = asked older low_c low_d x (x == c) (x == d) (record { place = place_after o turns; asked = ids_where ids; flush = flush }) refl refl refl now too
+          → (open_call o turns d ≡ Some other → other.place < place_after o turns) → (turn : Turn F) → open_by (place_after o turns) turn c (open_call o turns c) ≡ Some call
+          → open_by (place_after o turns) turn d (open_call o turns d) ≡ Some other → c ≡ d
+      by_turn older low_c low_d (Ask x ids flush) now too = asked older low_c low_d x (x == c) (x == d)
+          (record { place = place_after o turns; asked = ids_where ids; flush = flush }) refl refl refl now too
       by_turn older low_c low_d (Own x flush) now too = older now too
       by_turn older low_c low_d (Serve x) now too = older now too
       by_turn older low_c low_d (Poll x) now too = polled older (x == c) (x == d) now too
@@ -221,7 +228,8 @@ module _ {F : Type 0} (o : Opening F) (n : ℕ) where
               let last : Asked F = record { place = place_after o turns; from = x; flush = flush } in
               let inside = ok.1 t there in
               sound-as _ t (waiting o turns t ++ last ∷ []) (is ∙ rw (here, there) refl)
-              (AreOpen-push t (open_call o (Ask x asked flush ∷ turns)) (waiting o turns t) last opens (rw (eq-eqb x x refl) (refl, refl, has-ids_where asked t (omega (arith, inside, few-harts o n turns right.1)) ∙ there)))
+              (AreOpen-push t (open_call o (Ask x asked flush ∷ turns)) (waiting o turns t) last opens
+              (rw (eq-eqb x x refl) (refl, refl, has-ids_where asked t (omega (arith, inside, few-harts o n turns right.1)) ∙ there)))
               (queue-push t (waiting o turns t) last s.queue ok.0 here closed)
               (λ far. absurd (omega arith))
       by_turn (Own x flush) ok is s = sound-as _ t (waiting o turns t) is s.opens s.queue s.within

@@ -83,7 +83,9 @@ module _ {F : Type 0} (o : Opening F) where
       → ends c turn ≡ false → position_of (is_at (Some p)) (waited (waiting o turns t) (place_after o turns) turn t) ≡ needed turn t (position_of (is_at (Some p)) (waiting o turns t))
   position-more n (Ask x asked flush) turns c t p right opened goes = by_asked (not (x == t) && asked t)
     where
-      by_asked : (is : Bool) → position_of (is_at (Some p)) (added (waiting o turns t) (if is then Some (record { place = place_after o turns; from = x; flush = flush }) else None)) ≡ position_of (is_at (Some p)) (waiting o turns t)
+      by_asked : (is : Bool)
+          → position_of (is_at (Some p)) (added (waiting o turns t) (if is then Some (record { place = place_after o turns; from = x; flush = flush }) else None))
+          ≡ position_of (is_at (Some p)) (waiting o turns t)
       by_asked true =
           let low = open-below o n turns c p right.1 opened in
           position_of-push (is_at (Some p)) (waiting o turns t) (record { place = place_after o turns; from = x; flush = flush }) (ne_eqb (place_after o turns) p.place (λ e. absurd (omega arith)))
@@ -95,7 +97,8 @@ module _ {F : Type 0} (o : Opening F) where
       served =
           let s = sound o n turns t right.1 in
           let before = need-caller n turns c t right.1 ∙ ap (λ call. position_of (is_at call) (waiting o turns t)) opened in
-          let now = position-caller n turns c t (drop 1 (waiting o turns t)) right.1 (AreOpen-drop t (open_call o turns) (waiting o turns t) s.opens) ∙ ap (λ call. position_of (is_at call) (drop 1 (waiting o turns t))) opened in
+          let now = position-caller n turns c t (drop 1 (waiting o turns t)) right.1 (AreOpen-drop t (open_call o turns) (waiting o turns t) s.opens)
+          ∙ ap (λ call. position_of (is_at call) (drop 1 (waiting o turns t))) opened in
           sym now ∙ ap (position_of (is_from c)) (map-drop (waiting o turns t)) ∙ position_of-drop n t c (map kept (waiting o turns t)) s.queue ∙ ap (λ m. m - 1) before
 
       by_hart : (own : Bool) → position_of (is_at (Some p)) (if own then drop 1 (waiting o turns t) else waiting o turns t)

@@ -56,7 +56,8 @@ module _ {F : Type 0} where
 
   -- what a turn applies and leaves, of what waited: its own fence is one more
   by-turn : (p q t : ℕ) (waits : List (Asked F)) (turn : Turn F)
-      → times p (places_now (applied_by q waits turn t)) + times p (places_of (waited waits q turn t)) ≡ (if is_asked turn t then one_more (q == p) (times p (places_of waits)) else times p (places_of waits))
+      → times p (places_now (applied_by q waits turn t)) + times p (places_of (waited waits q turn t))
+      ≡ (if is_asked turn t then one_more (q == p) (times p (places_of waits)) else times p (places_of waits))
   unfolding places_now places_of
   by-turn p q t waits (Ask x asked flush) = by_member (x == t) (asked t)
     where
@@ -94,7 +95,8 @@ module _ {F : Type 0} (o : Opening F) where
   asked_places (turn ∷ turns) t = if is_asked turn t then place_after o turns ∷ asked_places turns t else asked_places turns t
 
   -- applied and waiting fences are those that were asked, and those that waited at the opening
-  all-asked : (n p t : ℕ) (turns : List (Turn F)) → IsRight o n turns → times p (applied_places o turns t) + times p (waiting_places o turns t) ≡ times p (asked_places turns t) + times p (places_of (waited_at o t))
+  all-asked : (n p t : ℕ) (turns : List (Turn F)) → IsRight o n turns
+      → times p (applied_places o turns t) + times p (waiting_places o turns t) ≡ times p (asked_places turns t) + times p (places_of (waited_at o t))
   unfolding asked_places places_now places_of
   all-asked n p t [] right = refl
   all-asked n p t (turn ∷ turns) right =
@@ -106,7 +108,8 @@ module _ {F : Type 0} (o : Opening F) where
       join (is_asked turn t) _ _ _ _ _ _ step now later before
     where
       join : (is : Bool) (now_all now_one later_all one_later rest wait : ℕ)
-          → now_one + one_later ≡ (if is then one_more (place_after o turns == p) wait else wait) → now_all ≡ now_one + rest → later_all ≡ one_later → rest + wait ≡ times p (asked_places turns t) + times p (places_of (waited_at o t))
+          → now_one + one_later ≡ (if is then one_more (place_after o turns == p) wait else wait) → now_all ≡ now_one + rest → later_all ≡ one_later
+          → rest + wait ≡ times p (asked_places turns t) + times p (places_of (waited_at o t))
           → now_all + later_all ≡ times p (if is then place_after o turns ∷ asked_places turns t else asked_places turns t) + times p (places_of (waited_at o t))
       join true now_all now_one later_all one_later rest wait a b c d = by_place (place_after o turns == p) a
         where
@@ -138,7 +141,8 @@ module _ {F : Type 0} (o : Opening F) where
   asked-once (first ∷ newer) turn older t = by_asked (is_asked first t) (asked-once newer turn older t)
     where
       by_asked : (is : Bool) → times (place_after o older) (asked_places (newer ++ turn ∷ older) t) ≡ (if is_asked turn t then 1 else 0)
-          → times (place_after o older) (if is then place_after o (newer ++ turn ∷ older) ∷ asked_places (newer ++ turn ∷ older) t else asked_places (newer ++ turn ∷ older) t) ≡ (if is_asked turn t then 1 else 0)
+          → times (place_after o older) (if is then place_after o (newer ++ turn ∷ older) ∷ asked_places (newer ++ turn ∷ older) t else asked_places (newer ++ turn ∷ older) t)
+          ≡ (if is_asked turn t then 1 else 0)
       by_asked true same =
           let far = length-append newer (turn ∷ older) in
           rw (ne_eqb (place_after o (newer ++ turn ∷ older)) (place_after o older) (λ e. absurd (omega (arith, far)))) same

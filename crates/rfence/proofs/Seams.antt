@@ -133,8 +133,20 @@ module _ {F : Type 0} (o : Opening F) (n : ℕ) (turns : List (Turn F)) (right :
       ∙ tabulate-map (map (placed fences.opened)) (queue_of o turns) (range_with_len 0 n)
       ∙ tabulate-agree _ _ n (λ t inside. placed-all fences stands t (waiting o turns t) (sound o n turns t right).opens (sound o n turns t right).queue))
       ∙ ap (λ calls. record { first = place_after o turns; waiting = map (waiting o turns) (range_with_len 0 n); calls = calls; asked = fences.asked; applied = fences.applied }) stands.opened
-      ∙ ap (λ asked. record { first = place_after o turns; waiting = map (waiting o turns) (range_with_len 0 n); calls = map (open_call o turns) (range_with_len 0 n); asked = asked; applied = fences.applied }) stands.asked
-      ∙ ap (λ applied. record { first = place_after o turns; waiting = map (waiting o turns) (range_with_len 0 n); calls = map (open_call o turns) (range_with_len 0 n); asked = total_asked o turns; applied = applied }) stands.applied
+      ∙ ap (λ asked. record {
+        first = place_after o turns;
+        waiting = map (waiting o turns) (range_with_len 0 n);
+        calls = map (open_call o turns) (range_with_len 0 n);
+        asked = asked;
+        applied = fences.applied;
+      }) stands.asked
+      ∙ ap (λ applied. record {
+        first = place_after o turns;
+        waiting = map (waiting o turns) (range_with_len 0 n);
+        calls = map (open_call o turns) (range_with_len 0 n);
+        asked = total_asked o turns;
+        applied = applied;
+      }) stands.applied
 
 module _ {F : Type 0} (o : Opening F) (n : ℕ) (older : List (Turn F)) where
   -- ---- newer turns, on what older ones left
@@ -144,7 +156,12 @@ module _ {F : Type 0} (o : Opening F) (n : ℕ) (older : List (Turn F)) where
   turn-right newer (Ask x asked flush) so_far ok = (ok.0, ok.1, so_far.calls x ∙ ok.2)
   turn-right newer (Own x flush) so_far ok = ok
   turn-right newer (Serve x) so_far ok = (ok.0, rw (so_far.waits x) ok.1)
-  turn-right newer (Poll x) so_far ok = (ok.0, rw (so_far.calls x) ok.1, filter_agree (is_outstanding (opening_after o n older) newer x) (is_outstanding o (newer ++ older) x) (λ t. rw (so_far.calls x, so_far.waits t) refl) (range_with_len 0 n) ∙ ok.2)
+  turn-right newer (Poll x) so_far
+      ok = (
+        ok.0,
+        rw (so_far.calls x) ok.1,
+        filter_agree (is_outstanding (opening_after o n older) newer x) (is_outstanding o (newer ++ older) x) (λ t. rw (so_far.calls x, so_far.waits t) refl) (range_with_len 0 n) ∙ ok.2,
+      )
   turn-right newer (Stop x) so_far ok = ok
   turn-right newer Reset so_far ok = tt
   turn-right newer Quiet so_far ok = tt

@@ -134,7 +134,8 @@ module _ {F : Type 0} (o : Opening F) (n : ℕ) (turns : List (Turn F)) (fences 
 
   -- ---- a reset
 
-  pub stands-reset : StandsFor o n (Reset ∷ turns) (record { queues = replicate n []; calls = replicate n None; opened = replicate n None; asked = fences.asked; applied = fences.applied + sum_by length fences.queues })
+  pub stands-reset : StandsFor o n (Reset ∷ turns)
+      (record { queues = replicate n []; calls = replicate n None; opened = replicate n None; asked = fences.asked; applied = fences.applied + sum_by length fences.queues })
   stands-reset = record {
     limit = stands.limit;
     queues = tabulate-replicate _ [] n (λ t. refl);
@@ -169,7 +170,15 @@ module _ {F : Type 0} (o : Opening F) (n : ℕ) (turns : List (Turn F)) (fences 
       | inr other ↦ rw (stop-waits t, other.0, ne_eqb x t (λ e. other.1 (sym e))) refl
     ]
 
-    pub stands-stop : StandsFor o n (Stop x ∷ turns) (record { queues = drained fences.queues x; calls = map (forgotten x) fences.calls; opened = fences.opened; asked = fences.asked; applied = fences.applied + length (queue_at fences.queues x) })
+    pub stands-stop : StandsFor o n (Stop x ∷ turns)
+        (record {
+          queues = drained fences.queues x;
+          calls = map (forgotten x) fences.calls;
+          opened = fences.opened;
+          asked = fences.asked;
+          applied = fences.applied
+              + length (queue_at fences.queues x);
+        })
     stands-stop = record {
       limit = stands.limit;
       queues = ap (λ queues. set queues x []) stands.queues
@@ -235,7 +244,8 @@ module _ {F : Type 0} (o : Opening F) (n : ℕ) (turns : List (Turn F)) (fences 
     pub first-below : first.from < n
     first-below = let queue = (sound o n turns x right.1).queue in let parts = rw front at queue in parts.0
 
-    pub stands-serve : StandsFor o n (Serve x ∷ turns) (record { queues = popped fences.queues x; calls = forgotten_at fences.calls first.from x; opened = fences.opened; asked = fences.asked; applied = fences.applied + 1 })
+    pub stands-serve : StandsFor o n (Serve x ∷ turns)
+        (record { queues = popped fences.queues x; calls = forgotten_at fences.calls first.from x; opened = fences.opened; asked = fences.asked; applied = fences.applied + 1 })
     stands-serve = record {
       limit = stands.limit;
       queues = ap (λ queue. set fences.queues x (drop 1 queue)) (queue_at-stands x right.0.0)
@@ -343,7 +353,8 @@ module _ {F : Type 0} (o : Opening F) (n : ℕ) (turns : List (Turn F)) (fences 
     })
     stands-ask = record {
       limit = stands.limit;
-      queues = requested-map (without_id ids x) fences.queues (record { from = x; flush = flush }) (apart-ids (λ i. not (i == x) && has ids i)) (λ t is. let low = ask-below t is in omega (arith, length-queues))
+      queues = requested-map (without_id ids x) fences.queues (record { from = x; flush = flush }) (apart-ids (λ i. not (i == x) && has ids i))
+          (λ t is. let low = ask-below t is in omega (arith, length-queues))
           ∙ ap (λ m. map (λ t. queue_at fences.queues t ++ (if has (without_id ids x) t then record { from = x; flush = flush } ∷ [] else [])) (range_with_len 0 m)) length-queues
           ∙ tabulate-agree _ _ n (λ t inside.
           let below : t < 128 = let limit = stands.limit in omega arith in
@@ -353,7 +364,8 @@ module _ {F : Type 0} (o : Opening F) (n : ℕ) (turns : List (Turn F)) (fences 
       calls = ap (λ calls. set calls x (Some (without_id ids x))) stands.calls
           ∙ sym (ap (set (map (call_of o turns) (range_with_len 0 n)) x) opened)
           ∙ tabulate-set (call_of o turns) (call_of o (Ask x (has ids) flush ∷ turns)) n x (λ c other.
-          same-call (Ask x (has ids) flush) c (rw (ne_eqb x c other) refl) (λ t below. ask-outstanding c t ∙ rw (ne_eqb x c other) (and-false (not (x == t) && has ids t) (is_outstanding o turns c t))));
+          same-call (Ask x (has ids) flush) c (rw (ne_eqb x c other) refl)
+          (λ t below. ask-outstanding c t ∙ rw (ne_eqb x c other) (and-false (not (x == t) && has ids t) (is_outstanding o turns c t))));
       opened = ap (λ calls. set calls x (Some (record { place = place_after o turns; asked = ids; flush = flush }))) stands.opened
           ∙ sym (ap (set (map (open_call o turns) (range_with_len 0 n)) x) made)
           ∙ tabulate-set (open_call o turns) (open_call o (Ask x (has ids) flush ∷ turns)) n x (λ c other. rw (ne_eqb x c other) refl);

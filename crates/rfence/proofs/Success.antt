@@ -126,7 +126,8 @@ module _ {F : Type 0} (o : Opening F) where
       let turns = between ++ Ask x ids flush ∷ older in
       let polled = right-older n newer (Poll x ∷ turns) right in
       let s = sound o n turns t polled.1 in
-      struck-more newer (Poll x ∷ turns) t (place_after o older) flush (struck-more (Poll x ∷ []) turns t (place_after o older) flush (elim (waits-or-strikes n between older x ids flush t named polled.1) [
+      struck-more newer (Poll x ∷ turns) t (place_after o older) flush
+      (struck-more (Poll x ∷ []) turns t (place_after o older) flush (elim (waits-or-strikes n between older x ids flush t named polled.1) [
         | inl among ↦
             let outstanding = is-outstanding (open_call o turns) t (waiting o turns t) _ s.opens among in
             absurd (elim (cases_lt t n) [

@@ -42,7 +42,8 @@ module _ {F : Type 0} (fences : State F) (has_turns : HasTurns fences) where
   takes-ask c ids flush inside targets outside =
       let below : c < has_turns.n = omega (arith, harts, inside) in
       let is = sym (call_at-stands has_turns.o has_turns.n has_turns.turns _ has_turns.stands.stands c below) ∙ outside in
-      takes (Ask c (has ids) flush) (below, λ t asked. omega (arith, harts, targets t asked), no-call (open_call has_turns.o has_turns.turns c) (ids_where (is_outstanding has_turns.o has_turns.turns c)) is)
+      takes (Ask c (has ids) flush)
+      (below, λ t asked. omega (arith, harts, targets t asked), no-call (open_call has_turns.o has_turns.turns c) (ids_where (is_outstanding has_turns.o has_turns.turns c)) is)
 
   pub takes-serve : (t : ℕ) → t < length fences.queues → 0 < length (queue_at fences.queues t) → Takes fences (Serve t)
   takes-serve t inside waits =

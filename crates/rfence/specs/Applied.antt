@@ -27,7 +27,8 @@ module _ {F : Type 0} where
   abbrev pub applied_by : ℕ → List (Asked F) → Turn F → ℕ → List (Applied F)
   applied_by place waits (Ask x asked flush) t =
       if (x == t) && asked t then record { place = place; at = place; flush = flush } ∷ [] else []
-  applied_by place waits (Own x flush) t = if x == t then record { place = place; at = place; flush = flush } ∷ [] else []
+  applied_by place waits (Own x flush) t = if x == t then record { place = place; at = place; flush = flush }
+      ∷ [] else []
   applied_by place waits (Serve x) t = if x == t then map (applied_at place) (take 1 waits) else []
   applied_by place waits (Stop x) t = if x == t then map (applied_at place) waits else []
   applied_by place waits Reset t = map (applied_at place) waits

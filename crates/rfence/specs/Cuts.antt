@@ -28,7 +28,11 @@ module _ {F : Type 0} where
 
   -- a request with the place of its caller's call
   abbrev pub placed : List (Option (FenceCall F)) → Request F → Asked F
-  placed calls request = record { place = place_of (slice_index_or calls request.from None); from = request.from; flush = request.flush }
+  placed calls request = record {
+    place = place_of (slice_index_or calls request.from None);
+    from = request.from;
+    flush = request.flush;
+  }
 
   -- What is kept, as the opening of the turns from this place on.
   abbrev pub opening_in : (first : ℕ) → State F → Opening F

@@ -22,7 +22,8 @@ module _ {F : Type 0} where
   -- what is told of a need is right, whatever opening and turns the fences stand for
   abbrev pub IsNeed : State F → (c t told : ℕ) → Type 0
   IsNeed fences c t told =
-      (o : Opening F) (n : ℕ) (turns : List (Turn F)) → StandsFor o n turns fences → IsRight o n turns → told ≡ need o turns c t
+      (o : Opening F) (n : ℕ) (turns : List (Turn F)) → StandsFor o n turns fences → IsRight o n turns
+      → told ≡ need o turns c t
 
   -- whether a turn ends the call of hart c: the hart polls, or the board is reset
   abbrev pub ends : (c : ℕ) → Turn F → Bool
@@ -47,7 +48,8 @@ pub record IsLowered {F : Type 0} (o : Opening F) (n : ℕ) (turns : List (Turn 
 
 abbrev pub ServesLowerNeeds : Type 0 → Type 0
 ServesLowerNeeds F =
-    (o : Opening F) (n : ℕ) (turns : List (Turn F)) (c t : ℕ) → IsRight o n turns → 0 < need o turns c t → IsLowered o n turns c t
+    (o : Opening F) (n : ℕ) (turns : List (Turn F)) (c t : ℕ) → IsRight o n turns → 0 < need o turns c t
+    → IsLowered o n turns c t
 
 -- No turn raises what an open call needs.
 abbrev pub NoneRaisesNeeds : Type 0 → Type 0
@@ -72,16 +74,19 @@ NeedsAreBounded F =
 -- since then; where the hart has stopped, it needs nothing of it.
 pub record IsLeft {F : Type 0} (o : Opening F) (newer older : List (Turn F)) (c : ℕ) : Type 0 where
   pub opened : open_call o (newer ++ older) c ≡ open_call o older c
-  pub left : (t : ℕ) → need o (newer ++ older) c t ≡ (if list_any (is_stop t) newer then 0 else need o older c t - serves_in t newer)
+  pub left : (t : ℕ) → need o (newer ++ older) c t
+      ≡ (if list_any (is_stop t) newer then 0 else need o older c t - serves_in t newer)
 
 abbrev pub NeedsAreLeft : Type 0 → Type 0
 NeedsAreLeft F =
     (o : Opening F) (n : ℕ) (newer older : List (Turn F)) (c : ℕ)
-    → IsRight o n (newer ++ older) → is_some (open_call o older c) ≡ true → list_any (ends c) newer ≡ false → IsLeft o newer older c
+    → IsRight o n (newer ++ older) → is_some (open_call o older c) ≡ true → list_any (ends c) newer ≡ false
+    → IsLeft o newer older c
 
 -- Each hart has since served as often as the call needed of it, or has stopped.
 abbrev pub HaveServed : {F : Type 0} → (o : Opening F) (n : ℕ) (newer older : List (Turn F)) (c : ℕ) → Type 0
-HaveServed o n newer older c = (t : ℕ) → t < n → (need o older c t ≤ serves_in t newer) ⊎ (list_any (is_stop t) newer ≡ true)
+HaveServed o n newer older c = (t : ℕ) → t < n
+    → (need o older c t ≤ serves_in t newer) ⊎ (list_any (is_stop t) newer ≡ true)
 
 -- Then the call waits for no hart, and can end.
 abbrev pub ServedCallsCanEnd : Type 0 → Type 0

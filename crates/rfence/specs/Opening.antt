@@ -56,6 +56,7 @@ module _ {F : Type 0} where
     pub within : (t : ℕ) → n ≤ t → waited_at o t ≡ []
     pub callers : (c : ℕ) → n ≤ c → called_at o c ≡ None
     pub before : (c : ℕ) (call : FenceCall F) → called_at o c ≡ Some call → call.place < o.first
-    pub apart : (c d : ℕ) (call other : FenceCall F) → called_at o c ≡ Some call → called_at o d ≡ Some other → call.place ≡ other.place → c ≡ d
+    pub apart : (c d : ℕ) (call other : FenceCall F) → called_at o c ≡ Some call → called_at o d ≡ Some other
+        → call.place ≡ other.place → c ≡ d
     pub agree : o.asked ≡ o.applied + sum_by (λ t. length (waited_at o t)) (range_with_len 0 n)
     pub few : o.asked ≤ 128 * o.first

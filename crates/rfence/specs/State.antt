@@ -89,10 +89,12 @@ module _ {F : Type 0} where
   abbrev pub IsTakenAt : (place : ℕ) → State F → Turn F → State F → Type 0
   IsTakenAt place before turn now =
       (o : Opening F) (n : ℕ) (turns : List (Turn F))
-      → StandsFor o n turns before → IsRight o n (turn ∷ turns) → place ≡ place_after o turns → StandsFor o n (turn ∷ turns) now
+      → StandsFor o n turns before → IsRight o n (turn ∷ turns) → place ≡ place_after o turns
+      → StandsFor o n (turn ∷ turns) now
 
   -- What a turn leaves of the harts' caches, by the opening and the turns that it stood for.
-  abbrev pub AreAffected : {C : Type 0} → (dropped : F → C → C) → (emptied : C → C) → State F → Turn F → List C → List C → Type 0
+  abbrev pub AreAffected : {C : Type 0} → (dropped : F → C → C) → (emptied : C → C) → State F → Turn F → List C
+      → List C → Type 0
   AreAffected dropped emptied before turn caches now =
       (o : Opening F) (n : ℕ) (turns : List (Turn F))
       → StandsFor o n turns before → IsRight o n (turn ∷ turns) → now ≡ caches_after dropped emptied o turns turn caches

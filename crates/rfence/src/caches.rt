@@ -1,3 +1,4 @@
+//! What fences do to the caches of harts.
 ghost use Rattle.std.specs.Prelude.{◌≡◌, ◌<◌, length, map, if◌then◌else◌};
 ghost use Rattle.rfence.specs.Effects.{changed_at};
 

@@ -1,3 +1,4 @@
+//! The open fence calls of harts.
 ghost use Rattle.std.specs.Prelude.{◌≡◌, ◌<◌, ◌≤◌, IfOk, length, map, replicate, None};
 ghost use Rattle.rfence.specs.Marks.{CanAsk, forgotten, forgotten_at, requested};
 

@@ -1,3 +1,4 @@
+//! All fences of a board: what waits, what is open, what was applied.
 ghost use Rattle.std.specs.Prelude.{◌≡◌, ℕ, ◌<◌, ◌≤◌, [], true, Some, None, ◌==◌, not, unwrap_or, IfOk, if◌then◌else◌, is_some, length, slice_get, sum_by};
 ghost use Rattle.hart_mask.specs.Ids.{has};
 ghost use Rattle.fence_queue.specs.Positions.{position_of};

@@ -1,3 +1,4 @@
+//! Laws of right turns of fences.
 ghost use Rattle.rfence.specs.Laws.{AppliedOnce, BoardsAreSmall, CountsAgree, OpenedOnce, OthersChangeNothing, SuccessStrikes, WaitsAreOfOpenCalls};
 
 /// The fences that wait at a hart are of distinct other harts of the board, each inside the call by which it asked;

@@ -1,3 +1,4 @@
+//! The requests that wait at harts.
 ghost use Rattle.std.specs.Prelude.{◌≡◌, ◌<◌, ◌≤◌, ◌==◌, false, length, IfOk, replicate, sum_by, [], slice_get};
 ghost use Rattle.std.specs.Iterator.{YieldsFirst, item_count};
 ghost use Rattle.fence_queue.specs.Positions.{position_of};

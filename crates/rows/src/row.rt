@@ -1,3 +1,4 @@
+//! One row: a script, and what it must give.
 use anyhow::{Context, Result, ensure};
 use sbiboard::{Device, Outcome};
 use std::alloc::{AllocError, Global};

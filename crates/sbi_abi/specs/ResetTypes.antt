@@ -34,7 +34,8 @@ is_reason reason = nat_le reason 1 || nat_le 0xE0000000 reason
 -- The type is looked at first, and then the low 32 bits of the reason (profile).
 abbrev pub with_reason : Result ResetKind SbiError → ℕ → Result Reset SbiError
 with_reason (Err error) reason = Err error
-with_reason (Ok kind) reason = if is_reason reason then Ok (record { kind = kind; reason = reason }) else Err InvalidParam
+with_reason (Ok kind) reason = if is_reason reason then Ok
+    (record { kind = kind; reason = reason }) else Err InvalidParam
 
 abbrev pub reset_of : (type reason : ℕ) → Result Reset SbiError
 reset_of type reason = with_reason (reset_kind_of type) (reason % 2 ^ 32)

@@ -76,7 +76,8 @@ other_fails : (word : Text) → subcommand_met names idle word ≡ None → byte
 unfolding flags_fault bundle_met
 other_fails word none plain e = by_long (long_of word) refl
   where
-    parts : (word_fault whole.top names false idle word nothing_held ≡ []) × (step_fault whole.top 1 (word_met rules names false idle 1 word nothing_held).0 (word_met rules names false idle 1 word nothing_held).1 ≡ [])
+    parts : (word_fault whole.top names false idle word nothing_held ≡ [])
+        × (step_fault whole.top 1 (word_met rules names false idle 1 word nothing_held).0 (word_met rules names false idle 1 word nothing_held).1 ≡ [])
     parts = both_empty _ _ e
 
     by_char : (b : ℕ) (bs : Text) → long_of word ≡ None → short_of word ≡ Some (b ∷ bs) → (o : Option ℕ) → slice_get (chars (b ∷ bs)) 0 ≡ o → ⊥

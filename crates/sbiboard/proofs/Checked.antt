@@ -1,11 +1,11 @@
 -- What a check has found after some of the lines.
 use Rattle.std.proofs.Common.{◌≡◌, ℕ, List, ◌∷◌, Some, subst, sym, ap, ◌∙◌, inl, inr}
 use Rattle.std.specs.Prelude.{Result}
-use Rattle.board_core.specs.declared.event.Refusal.{Refusal}
-use Rattle.board_core.specs.declared.event.Reply.{Reply}
+use Rattle.board_terms.specs.declared.reply.Refusal.{Refusal}
+use Rattle.board_terms.specs.declared.reply.Reply.{Reply}
 use Rattle.board_core.specs.Course.{Course}
-use Rattle.guest_script.specs.declared.script.Line.{Line}
-use Rattle.guest_script.specs.Agreeing.{said_of}
+use Rattle.script_lines.specs.declared.script.Line.{Line}
+use Rattle.script_lines.specs.Agreeing.{said_of}
 use Rattle.sbiboard.specs.Check.{Agrees, AllAgree, DiffersFirst}
 use Rattle.sbiboard.specs.Running.{after_line, answer_of, StopsAtCut}
 

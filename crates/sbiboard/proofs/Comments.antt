@@ -27,8 +27,9 @@ use Rattle.board_core.specs.Totals.{totals}
 use Rattle.guest_script.specs.Words.{is_allowed, IsLine}
 use Rattle.hart_threads.specs.declared.ends.End.{End}
 use Rattle.hart_threads.specs.declared.ends.End.TheVariants as ends
-use Rattle.monitor.specs.Table.{asid_words, deadline_cell, details, entries, entry_cells, entry_line, fence_cells, fence_line, flush_words, hart_cells, head_cells, hex_column, left, letter, outstanding_cell, power_word, range_words, reset_words, right, rights, row, state_name, table, time_cells, tlb_cells, tlb_line, totals_cells, word_cells, word_line, words}
-use Rattle.monitor.specs.Words.{line_of}
+use Rattle.printed_lines.specs.Columns.{hex_column, left, right}
+use Rattle.monitor.specs.Table.{asid_words, deadline_cell, details, entries, entry_cells, entry_line, fence_cells, fence_line, flush_words, hart_cells, head_cells, letter, outstanding_cell, power_word, range_words, reset_words, rights, row, state_name, table, time_cells, tlb_cells, tlb_line, totals_cells, word_cells, word_line, words}
+use Rattle.printed_lines.specs.Words.{line_of}
 use Rattle.sbiboard.specs.PrintedScripts.{AreComments, TableIsComments}
 use Rattle.sbiboard.specs.Threaded.{end_line}
 use Rattle.guest_script.proofs.PlainWords.{append_all, lines_allowed}
@@ -153,13 +154,61 @@ time_passes o past =
 totals_passes : (t : Totals) → Passes (line_of (totals_cells t))
 unfolding totals_cells
 totals_passes t =
-    let shown : AreShown (drop 1 (totals_cells t)) = (written_shown (codes "starts") refl, (decimal_shown t.starts, (written_shown (codes "entries") refl, (decimal_shown t.entries, (written_shown (codes "pending") refl, (decimal_shown t.pending, (written_shown (codes "asked") refl, (decimal_shown t.asked, (written_shown (codes "applied") refl, (decimal_shown t.applied, (written_shown (codes "waiting") refl, (decimal_shown t.waiting, tt)))))))))))) in
+    let shown : AreShown (drop 1 (totals_cells t)) = (
+      written_shown (codes "starts") refl,
+      (
+        decimal_shown t.starts,
+        (
+          written_shown (codes "entries") refl,
+          (
+            decimal_shown t.entries,
+            (
+              written_shown (codes "pending") refl,
+              (
+                decimal_shown t.pending,
+                (
+                  written_shown (codes "asked") refl,
+                  (decimal_shown t.asked, (written_shown (codes "applied") refl, (decimal_shown t.applied, (written_shown (codes "waiting") refl, (decimal_shown t.waiting, tt))))),
+                ),
+              ),
+            ),
+          ),
+        ),
+      ),
+    ) in
     pass_line (drop 1 (totals_cells t)) shown
 
 head_passes : Passes (line_of head_cells)
 unfolding head_cells
 head_passes =
-    let shown : AreShown (drop 1 (head_cells)) = (written_shown (codes "hart") refl, (left_shown 15 (codes "state") (written_shown (codes "state") refl), (written_shown (codes "wait") refl, (written_shown (codes "out") refl, (written_shown (codes "ss") refl, (written_shown (codes "st") refl, (written_shown (codes "ie") refl, (written_shown (codes "se") refl, (left_shown 16 (codes "satp") (written_shown (codes "satp") refl), (left_shown 16 (codes "deadline") (written_shown (codes "deadline") refl), (written_shown (codes "tlb") refl, (written_shown (codes "ic") refl, tt)))))))))))) in
+    let shown : AreShown (drop 1 (head_cells)) = (
+      written_shown (codes "hart") refl,
+      (
+        left_shown 15 (codes "state") (written_shown (codes "state") refl),
+        (
+          written_shown (codes "wait") refl,
+          (
+            written_shown (codes "out") refl,
+            (
+              written_shown (codes "ss") refl,
+              (
+                written_shown (codes "st") refl,
+                (
+                  written_shown (codes "ie") refl,
+                  (
+                    written_shown (codes "se") refl,
+                    (
+                      left_shown 16 (codes "satp") (written_shown (codes "satp") refl),
+                      (left_shown 16 (codes "deadline") (written_shown (codes "deadline") refl), (written_shown (codes "tlb") refl, (written_shown (codes "ic") refl, tt))),
+                    ),
+                  ),
+                ),
+              ),
+            ),
+          ),
+        ),
+      ),
+    ) in
     pass_line (drop 1 (head_cells)) shown
 
 state_shown : (state : HartState) → IsShown (state_name state)
@@ -251,7 +300,10 @@ flush_shown (Entries fence) =
 fence_passes : (h : ℕ) (request : Request Flush) → Passes (fence_line h request)
 unfolding fence_cells
 fence_passes h request =
-    let shown : AreShown (drop 1 (fence_cells h request)) = (written_shown (codes "fence") refl, (number_shown 3 h, (written_shown (codes "from") refl, (number_shown 3 request.from, flush_shown request.flush)))) in
+    let shown : AreShown (drop 1 (fence_cells h request)) = (
+      written_shown (codes "fence") refl,
+      (number_shown 3 h, (written_shown (codes "from") refl, (number_shown 3 request.from, flush_shown request.flush))),
+    ) in
     pass_line (drop 1 (fence_cells h request)) shown
 
 details_passes : (o : Opening) (past : List Event) (h : ℕ) → Passes (details o past h)

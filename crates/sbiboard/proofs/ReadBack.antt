@@ -15,24 +15,24 @@ use Rattle.sv39.specs.Causes.{cause_number}
 use Rattle.hsm.specs.declared.hart.HartState.{HartState}
 use Rattle.hsm.specs.declared.hart.HartState.TheVariants as states
 use Rattle.hsm.specs.States.{state_number}
-use Rattle.board_core.specs.declared.config.Config.{Config}
-use Rattle.board_core.specs.declared.event.Actor.{Actor}
-use Rattle.board_core.specs.declared.event.Actor.TheVariants.{Hart, Clock}
-use Rattle.board_core.specs.declared.event.Op.{Op}
-use Rattle.board_core.specs.declared.event.Op.TheVariants.{Ecall, Load, Store, Fetch, WriteSatp, WriteSie, WriteSstatusSie, ReadSip, ClearSsip, Sfence, FenceI, Wfi, Poll, Serve, Advance, Tick}
-use Rattle.board_core.specs.declared.event.Refusal.{Refusal}
-use Rattle.board_core.specs.declared.event.Refusal.TheVariants as refusals
-use Rattle.board_core.specs.declared.event.Reply.{Reply}
-use Rattle.board_core.specs.declared.event.Reply.TheVariants as replies
-use Rattle.board_core.specs.Limits.{first_numbers, has_usual_spaces, numbers_of}
+use Rattle.board_terms.specs.declared.config.Config.{Config}
+use Rattle.board_terms.specs.declared.op.Actor.{Actor}
+use Rattle.board_terms.specs.declared.op.Actor.TheVariants.{Hart, Clock}
+use Rattle.board_terms.specs.declared.op.Op.{Op}
+use Rattle.board_terms.specs.declared.op.Op.TheVariants.{Ecall, Load, Store, Fetch, WriteSatp, WriteSie, WriteSstatusSie, ReadSip, ClearSsip, Sfence, FenceI, Wfi, Poll, Serve, Advance, Tick}
+use Rattle.board_terms.specs.declared.reply.Refusal.{Refusal}
+use Rattle.board_terms.specs.declared.reply.Refusal.TheVariants as refusals
+use Rattle.board_terms.specs.declared.reply.Reply.{Reply}
+use Rattle.board_terms.specs.declared.reply.Reply.TheVariants as replies
+use Rattle.board_terms.specs.Limits.{first_numbers, has_usual_spaces, numbers_of}
 use Rattle.board_core.specs.Refusals.{refusal_number}
-use Rattle.guest_script.specs.declared.said.Said.{Said}
-use Rattle.guest_script.specs.declared.script.Line.{Line}
-use Rattle.guest_script.specs.Agreeing.{said_of}
+use Rattle.script_lines.specs.declared.said.Said.{Said}
+use Rattle.script_lines.specs.declared.script.Line.{Line}
+use Rattle.script_lines.specs.Agreeing.{said_of}
 use Rattle.guest_script.specs.Forms.{AreArguments, Form, form_of, IsArgument, IsNamed, IsSaid, number_at, regs_of, said_form_of}
 use Rattle.guest_script.specs.Grammar.{AreLines, Draft, HasUsualSpaces, Nothing, Traced, IsActor, IsDoing, IsStep, content_of}
 use Rattle.guest_script.specs.Words.{AreNumbers, IsLine, IsNumber, last_hart, last_number}
-use Rattle.monitor.specs.Words.{actor_word, board_words, doing_words, hex, hex_or_dash, line_of, op_words, reply_words}
+use Rattle.printed_lines.specs.Words.{actor_word, board_words, doing_words, hex, hex_or_dash, line_of, op_words, reply_words}
 use Rattle.sbiboard.specs.PrintedScripts.{ActorFits, Answered, AreComments, FitsActor, FitsAnswer, FitsAnswered, FitsConfig, FitsError, FitsOp, LineReadsBack, NumberReadsBack, OpFits, SignedReadsBack, TraceReadsBack, trace_line, trace_lines, trace_of, words_of}
 use Rattle.guest_script.proofs.PlainWords.{append_all, arguments_plain, IsPlain, joined_line, lines_printed, name_plain, numbers_plain, spelled_plain}
 

@@ -3,15 +3,15 @@ use Rattle.std.proofs.Common.{◌≡◌, ℕ, ◌+◌, ◌≤◌, Bool, true, fa
 use Rattle.std.specs.Prelude.{◌⊎◌, Result}
 use Rattle.std.specs.List.{AllByRecursion}
 use Rattle.std.specs.Str.Lines.{lines}
-use Rattle.board_core.specs.declared.event.Actor.{Actor}
-use Rattle.board_core.specs.declared.event.Actor.TheVariants.{Hart, Clock}
-use Rattle.board_core.specs.declared.event.Op.{Op}
-use Rattle.board_core.specs.declared.event.Refusal.{Refusal}
-use Rattle.board_core.specs.declared.event.Reply.{Reply}
+use Rattle.board_terms.specs.declared.op.Actor.{Actor}
+use Rattle.board_terms.specs.declared.op.Actor.TheVariants.{Hart, Clock}
+use Rattle.board_terms.specs.declared.op.Op.{Op}
+use Rattle.board_terms.specs.declared.reply.Refusal.{Refusal}
+use Rattle.board_terms.specs.declared.reply.Reply.{Reply}
 use Rattle.board_core.specs.Course.{Course}
-use Rattle.board_core.specs.declared.config.Config.{Config}
-use Rattle.board_core.specs.Limits.{IsGood, first_numbers, numbers_of}
-use Rattle.guest_script.specs.declared.script.Line.{Line}
+use Rattle.board_terms.specs.declared.config.Config.{Config}
+use Rattle.board_terms.specs.Limits.{IsGood, first_numbers, numbers_of}
+use Rattle.script_lines.specs.declared.script.Line.{Line}
 use Rattle.guest_script.specs.Grammar.{AreLines, AreScript, Content, content_of, Draft, Empty, Nothing, Blocked, IsActor, IsDoing, IsNext, IsStepLine, HasUsualSpaces, IsBoard, Program, Reads, Schedule, Stepped, Trace, Traced, Written}
 use Rattle.guest_script.specs.Words.{AreNumbers, last_number}
 use Rattle.sbiboard.specs.declared.running.Job.{Job}

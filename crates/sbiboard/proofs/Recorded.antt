@@ -2,11 +2,11 @@
 use Rattle.std.proofs.Common.{◌≡◌, ℕ, ◌+◌, ◌<◌, List, ◌++◌, length, get_or, drop, sym, ap, ◌∙◌}
 use Rattle.std.specs.Prelude.{Ok}
 use Rattle.std.proofs.lemmas.List.{at_drop_more}
-use Rattle.board_core.specs.declared.event.Actor.{Actor}
-use Rattle.board_core.specs.declared.event.Op.{Op}
-use Rattle.board_core.specs.declared.event.Reply.{Reply}
+use Rattle.board_terms.specs.declared.op.Actor.{Actor}
+use Rattle.board_terms.specs.declared.op.Op.{Op}
+use Rattle.board_terms.specs.declared.reply.Reply.{Reply}
 use Rattle.board_core.specs.History.{Event}
-use Rattle.monitor.specs.Words.{event_words, line_of}
+use Rattle.printed_lines.specs.Words.{event_words, line_of}
 use Rattle.sbiboard.specs.Threaded.{events_text}
 
 pub events_text-more : (events : List Event) (i : ℕ) (e : Event) → e ≡ get_or events i e → i < length events

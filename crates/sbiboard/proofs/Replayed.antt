@@ -3,14 +3,14 @@ use Rattle.std.proofs.Common.{◌≡◌, ℕ, Bool, true, false, List, [], ◌�
 use Rattle.std.specs.Prelude.{Option, None, Result}
 use Rattle.std.specs.Io.KnownBytes.{Appends, Keeps}
 use Rattle.std.proofs.KnownBytes.{Appends-kept, Appends-nil, Appends-trans}
-use Rattle.board_core.specs.declared.config.Config.{Config}
-use Rattle.board_core.specs.declared.event.Actor.{Actor}
-use Rattle.board_core.specs.declared.event.Op.{Op}
-use Rattle.board_core.specs.declared.event.Refusal.{Refusal}
-use Rattle.board_core.specs.declared.event.Reply.{Reply}
+use Rattle.board_terms.specs.declared.config.Config.{Config}
+use Rattle.board_terms.specs.declared.op.Actor.{Actor}
+use Rattle.board_terms.specs.declared.op.Op.{Op}
+use Rattle.board_terms.specs.declared.reply.Refusal.{Refusal}
+use Rattle.board_terms.specs.declared.reply.Reply.{Reply}
 use Rattle.board_core.specs.Course.{Course}
-use Rattle.guest_script.specs.declared.script.Line.{Line}
-use Rattle.monitor.specs.Words.{board_words, line_of, line_words}
+use Rattle.script_lines.specs.declared.script.Line.{Line}
+use Rattle.printed_lines.specs.Words.{board_words, line_of, line_words}
 use Rattle.sbiboard.specs.Replay.{AreDone, is_history_full, lines_text, meets_full, table_of, text_of}
 use Rattle.sbiboard.specs.Running.{after_line, answer_of, answer_to, course_after, course_with, new_course}
 
@@ -106,7 +106,8 @@ module _ (first b next : Course) (lines others rest : List Line) (line : Line) (
       }
 
 -- Memory for a cut was refused: what waited is written.
-module _ (first b : Course) (lines others : List Line) (old middle new : Option (List ℕ)) (waiting : List ℕ) (so_far : HasDone first b lines others old middle waiting) (put : Appends middle new waiting) where
+module _ (first b : Course) (lines others : List Line) (old middle new : Option (List ℕ)) (waiting : List ℕ) (so_far : HasDone first b lines others old middle waiting)
+    (put : Appends middle new waiting) where
   pub stopped_at_cut : (line : Line) (rest : List Line) → others ≡ line ∷ rest → line.step ≡ None
       → (text : List ℕ) × AreDone first lines None text × Appends old new text
   stopped_at_cut line rest are is_cut = (

@@ -1,11 +1,11 @@
 -- What a replay writes is a trace with which the board agrees.
 use Rattle.std.proofs.Common.{◌≡◌, ℕ, suc, ◌+◌, ◌≤◌, List, [], ◌∷◌, ◌++◌, length, true, false, Some, subst, refl, sym, ap, ◌∙◌, inl}
 use Rattle.std.specs.List.{AllByRecursion, flat_map}
-use Rattle.board_core.specs.declared.config.Config.{Config}
+use Rattle.board_terms.specs.declared.config.Config.{Config}
 use Rattle.board_core.specs.Course.{Course}
-use Rattle.guest_script.specs.declared.script.Line.{Line}
+use Rattle.script_lines.specs.declared.script.Line.{Line}
 use Rattle.guest_script.specs.Grammar.{most_bytes}
-use Rattle.monitor.specs.Words.{board_words, line_of}
+use Rattle.printed_lines.specs.Words.{board_words, line_of}
 use Rattle.sbiboard.specs.declared.outcome.Outcome.TheVariants.{Good, HistoryFull}
 use Rattle.sbiboard.specs.Check.{AllAgree, agrees_text, EndsCheck, traced}
 use Rattle.sbiboard.specs.Fitting.{ActorsFit, AllFit, AreRead}

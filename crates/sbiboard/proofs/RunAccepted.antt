@@ -4,26 +4,26 @@ use Rattle.std.specs.List.{AllByRecursion, flat_map}
 use Rattle.std.specs.Prelude.{nat_le}
 use Rattle.std.proofs.lemmas.Bool.{leb-false}
 use Rattle.std.proofs.lemmas.List.{append_assoc, append-nil, at_drop_more, length-reverse, reverse-append, reverse-reverse}
-use Rattle.board_core.specs.declared.config.Config.{Config}
-use Rattle.board_core.specs.declared.event.Actor.{Actor}
-use Rattle.board_core.specs.declared.event.Actor.TheVariants.{Hart, Clock}
-use Rattle.board_core.specs.declared.event.Op.{Op}
-use Rattle.board_core.specs.declared.event.Refusal.{Refusal}
-use Rattle.board_core.specs.declared.event.Refusal.TheVariants as refusals
-use Rattle.board_core.specs.declared.event.Reply.{Reply}
+use Rattle.board_terms.specs.declared.config.Config.{Config}
+use Rattle.board_terms.specs.declared.op.Actor.{Actor}
+use Rattle.board_terms.specs.declared.op.Actor.TheVariants.{Hart, Clock}
+use Rattle.board_terms.specs.declared.op.Op.{Op}
+use Rattle.board_terms.specs.declared.reply.Refusal.{Refusal}
+use Rattle.board_terms.specs.declared.reply.Refusal.TheVariants as refusals
+use Rattle.board_terms.specs.declared.reply.Reply.{Reply}
 use Rattle.board_core.specs.Course.{Course}
 use Rattle.board_core.specs.History.{Event}
-use Rattle.board_core.specs.Limits.{IsGood}
+use Rattle.board_terms.specs.Limits.{IsGood}
 use Rattle.board_core.specs.Opening.{Opening, opening_at}
 use Rattle.board_core.specs.Refusals.{first_that_holds, is_full, refusals_in, situation}
 use Rattle.board_core.specs.Replies.{IsLegal, answer, recorded, refused_or, reply, stepped}
 use Rattle.board_core.specs.Resets.{is_off}
-use Rattle.guest_script.specs.Agreeing.{said_of}
+use Rattle.script_lines.specs.Agreeing.{said_of}
 use Rattle.guest_script.specs.Grammar.{most_bytes}
 use Rattle.hart_threads.specs.declared.ends.End.{End}
 use Rattle.hart_threads.specs.declared.ends.End.TheVariants as ends
 use Rattle.monitor.specs.Table.{table}
-use Rattle.monitor.specs.Words.{board_words, event_words, line_of}
+use Rattle.printed_lines.specs.Words.{board_words, event_words, line_of}
 use Rattle.sbiboard.specs.declared.outcome.Outcome.TheVariants.{Good}
 use Rattle.sbiboard.specs.Check.{AllAgree, EndsCheck, agrees_text}
 use Rattle.sbiboard.specs.Fitting.{EventFits}

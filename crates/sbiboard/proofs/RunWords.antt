@@ -216,11 +216,13 @@ waits rows met (word ∷ rest) utf8 = by_dashes (is_dashes word) refl
         stops run_leaf (waiting_at rows met) word rest (flag_bad rows (Some (codes "keep", [])) (empty_bad rows) (option (codes "keep")) (position_of met) word (flag word first dashed is) is)
         ∙ (rw dashed refl)
     by_dashed is false dashed =
-        next run_leaf (waiting_at rows met) (spot (holding rows (keep_met word)) idle (position_of met) false) word rest (value_quiet rows met word (plain word dashed)) (value_walked rows met word (plain word dashed)) ∙ (rw dashed refl)
+        next run_leaf (waiting_at rows met) (spot (holding rows (keep_met word)) idle (position_of met) false) word rest (value_quiet rows met word (plain word dashed))
+        (value_walked rows met word (plain word dashed)) ∙ (rw dashed refl)
 
     by_dashes : (b : Bool) → is_dashes word ≡ b → Waits word
     by_dashes true is = subst Waits (eq_dashes word is)
-        (next run_leaf (waiting_at rows met) (spot h (option (codes "keep")) (position_of met) true) (codes "--") rest (dashes_quiet h (option (codes "keep")) (position_of met)) (dashes_walked h (option (codes "keep")) (position_of met))
+        (next run_leaf (waiting_at rows met) (spot h (option (codes "keep")) (position_of met) true) (codes "--") rest (dashes_quiet h (option (codes "keep")) (position_of met))
+        (dashes_walked h (option (codes "keep")) (position_of met))
         ∙ doomed_trailing rows (Some (codes "keep", [])) (empty_bad rows) (option (codes "keep")) met rest)
     by_dashes false is = by_dashed is (is_dashed word) refl
 
@@ -288,7 +290,8 @@ module _ (rows : List Row) (pending : Option (Text × List Text)) (ok : settle_f
       go : (v : Option Text) → k.given ≡ v → finds run_leaf (spot (holding rows pending) idle (position_of met) false) (word ∷ rest) ≡ None
       go (Some value) given = stops run_leaf (spot (holding rows pending) idle (position_of met) false) word rest (given_again met word k value given again undashed)
       go None given =
-          next run_leaf (spot (holding rows pending) idle (position_of met) false) (waiting_at (settled_rows run_rules pending rows) met) word rest (asked_quiet met word k given undashed) (asked_walked met word k given undashed)
+          next run_leaf (spot (holding rows pending) idle (position_of met) false) (waiting_at (settled_rows run_rules pending rows) met) word rest (asked_quiet met word k given undashed)
+          (asked_walked met word k given undashed)
           ∙ waits (settled_rows run_rules pending rows) met rest utf8 ∙ valued_none (name_in rest) refl
 
   -- FILE
@@ -319,9 +322,11 @@ module _ (rows : List Row) (pending : Option (Text × List Text)) (ok : settle_f
   Full words = finds run_leaf (spot (holding rows pending) idle 2 false) words ≡ cond (are_over words) (run_asks file (Some name)) None
 
   full_behind : (rest : List Text) → Full (codes "--" ∷ rest)
-  full_behind [] = next run_leaf (spot (holding rows pending) idle 2 false) (spot (holding rows pending) idle 2 true) (codes "--") [] (dashes_quiet (holding rows pending) idle 2) (dashes_walked (holding rows pending) idle 2) ∙ over true
+  full_behind [] = next run_leaf (spot (holding rows pending) idle 2 false) (spot (holding rows pending) idle 2 true) (codes "--") [] (dashes_quiet (holding rows pending) idle 2)
+      (dashes_walked (holding rows pending) idle 2) ∙ over true
   full_behind (word ∷ rest) =
-      next run_leaf (spot (holding rows pending) idle 2 false) (spot (holding rows pending) idle 2 true) (codes "--") (word ∷ rest) (dashes_quiet (holding rows pending) idle 2) (dashes_walked (holding rows pending) idle 2) ∙ stray_behind rows pending word rest
+      next run_leaf (spot (holding rows pending) idle 2 false) (spot (holding rows pending) idle 2 true) (codes "--") (word ∷ rest) (dashes_quiet (holding rows pending) idle 2)
+      (dashes_walked (holding rows pending) idle 2) ∙ stray_behind rows pending word rest
 
   not_over : (word : Text) (rest : List Text) → is_dashes word ≡ false → None ≡ cond (are_over (word ∷ rest)) (run_asks file (Some name)) None
   not_over word [] is = rw is refl

@@ -1,14 +1,14 @@
 -- What the check of a trace writes, and how it ends (profile).
 use Rattle.std.specs.Prelude.{◌≡◌, ◌⊎◌, ℕ, List, [], ◌∷◌, ◌++◌, length, codes, decimal, Option, Some, None, Result}
 use Rattle.std.specs.List.{join_with_byte}
-use Rattle.board_core.specs.declared.config.Config.{Config}
-use Rattle.board_core.specs.declared.event.Refusal.{Refusal}
-use Rattle.board_core.specs.declared.event.Reply.{Reply}
+use Rattle.board_terms.specs.declared.config.Config.{Config}
+use Rattle.board_terms.specs.declared.reply.Refusal.{Refusal}
+use Rattle.board_terms.specs.declared.reply.Reply.{Reply}
 use Rattle.board_core.specs.Course.{Course}
-use Rattle.guest_script.specs.declared.script.Line.{Line}
-use Rattle.guest_script.specs.Agreeing.{said_of}
+use Rattle.script_lines.specs.declared.script.Line.{Line}
+use Rattle.script_lines.specs.Agreeing.{said_of}
 use Rattle.guest_script.specs.Grammar.{Content, Empty, Program, Schedule, Trace}
-use Rattle.monitor.specs.Words.{reply_words}
+use Rattle.printed_lines.specs.Words.{reply_words}
 use Rattle.sbiboard.specs.declared.outcome.Outcome.{Outcome}
 use Rattle.sbiboard.specs.declared.outcome.Outcome.TheVariants.{Good, Differs, NoMemory}
 use Rattle.sbiboard.specs.Running.{after_line, answer_of, EndsAs, new_course, StopsAtCut}
@@ -49,7 +49,8 @@ differs_text number answer =
 abbrev pub Checks : Config → List Line → Outcome → List ℕ → Type 0
 Checks c lines Good text = AllAgree (new_course c) lines × (text ≡ agrees_text (length lines))
 Checks c lines Differs text =
-    (number : ℕ) × (answer : Result Reply Refusal) × DiffersFirst (new_course c) lines number answer × (text ≡ differs_text number answer)
+    (number : ℕ) × (answer : Result Reply Refusal) × DiffersFirst (new_course c) lines number answer
+    × (text ≡ differs_text number answer)
 Checks c lines NoMemory text =
     (before : List Line) × StopsAtCut lines before × AllAgree (new_course c) before × (text ≡ [])
 Checks c lines outcome text = ⊥

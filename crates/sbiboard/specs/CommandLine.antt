@@ -115,7 +115,8 @@ kept_in [] = None
 kept_in (word ∷ rest) = kept_by (long_of word) rest
 
 -- FILE, with NAME of `--keep` before it or behind it, in the words after `run`.
-abbrev pub run_before : (kept : Option (Text × List Text)) → (unkept : Option (Text × Option Text)) → Option (Text × Option Text)
+abbrev pub run_before : (kept : Option (Text × List Text)) → (unkept : Option (Text × Option Text))
+    → Option (Text × Option Text)
 run_before None unkept = unkept
 run_before (Some p) unkept = option_map (λ path. (path, Some p.0)) (file_in p.1)
 
@@ -125,14 +126,17 @@ are_over [] = true
 are_over (word ∷ []) = is_dashes word
 are_over words = false
 
-abbrev pub run_behind : (path : Text) → (kept : Option (Text × List Text)) → (unkept : Option (Text × Option Text)) → Option (Text × Option Text)
+abbrev pub run_behind : (path : Text) → (kept : Option (Text × List Text)) → (unkept : Option (Text × Option Text))
+    → Option (Text × Option Text)
 run_behind path None unkept = unkept
-run_behind path (Some p) unkept = if is_dashed path then unkept else (if are_over p.1 then Some (path, Some p.0) else None)
+run_behind path (Some p) unkept = if is_dashed path then unkept else
+    (if are_over p.1 then Some (path, Some p.0) else None)
 
 abbrev pub run_in : List Text → Option (Text × Option Text)
 run_in [] = None
 run_in (word ∷ rest) =
-    run_before (kept_in (word ∷ rest)) (run_behind word (kept_in rest) (option_map (λ path. (path, None)) (file_in (word ∷ rest))))
+    run_before (kept_in (word ∷ rest))
+    (run_behind word (kept_in rest) (option_map (λ path. (path, None)) (file_in (word ∷ rest))))
 
 -- What a subcommand's words ask for: a run may keep its record.
 abbrev pub task_in : (name : Text) → List Text → Option Asked

@@ -13,7 +13,8 @@ with_failure d = record d { failures = d.failures + 1 }
 
 -- What a call answered is handed on as it is: a good answer changes nothing, and a failed one is counted once.
 abbrev pub HandsOn : {T A E F : Type 0} → Counted T → Counted T → Result A E → Result A F → Type 0
-HandsOn old new answer result = MatchResult answer (λ value. (result ≡ Ok value) × (new ≡ old)) (λ _. IsErr result × (new ≡ with_failure old))
+HandsOn old new answer result = MatchResult answer (λ value. (result ≡ Ok value) × (new ≡ old))
+    (λ _. IsErr result × (new ≡ with_failure old))
 
 -- whether a write of a piece that has bytes took none of it
 abbrev pub takes_nothing : (n : ℕ) → (piece : List ℕ) → Bool

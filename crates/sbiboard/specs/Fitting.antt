@@ -1,11 +1,11 @@
 -- Schedules whose replay is a trace: each of their numbers, and of the answers', has a place in a trace's line (profile).
 use Rattle.std.specs.Prelude.{List, [], ◌∷◌, Ok}
 use Rattle.std.specs.List.{AllByRecursion}
-use Rattle.board_core.specs.declared.config.Config.{Config}
+use Rattle.board_terms.specs.declared.config.Config.{Config}
 use Rattle.board_core.specs.Course.{Course}
 use Rattle.board_core.specs.History.{Event}
-use Rattle.board_core.specs.Limits.{IsGood}
-use Rattle.guest_script.specs.declared.script.Line.{Line}
+use Rattle.board_terms.specs.Limits.{IsGood}
+use Rattle.script_lines.specs.declared.script.Line.{Line}
 use Rattle.sbiboard.specs.PrintedScripts.{ActorFits, FitsAnswer, FitsConfig, FitsOp, OpFits}
 use Rattle.sbiboard.specs.Running.{after_line, answer_of}
 

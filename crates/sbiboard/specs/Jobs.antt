@@ -1,7 +1,7 @@
 -- What is done with a script, by its name (profile).
 use Rattle.std.specs.Prelude.{ℕ, List, Option}
-use Rattle.board_core.specs.declared.config.Config.{Config}
-use Rattle.guest_script.specs.declared.script.Line.{Line}
+use Rattle.board_terms.specs.declared.config.Config.{Config}
+use Rattle.script_lines.specs.declared.script.Line.{Line}
 use Rattle.guest_script.specs.Grammar.{Content}
 use Rattle.sbiboard.specs.declared.outcome.Outcome.{Outcome}
 use Rattle.sbiboard.specs.declared.running.Job.{Job}

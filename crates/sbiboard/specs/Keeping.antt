@@ -1,7 +1,7 @@
 -- What a run's keeper appends to a record, and how a run is told whose record was kept in part (profile).
 use Rattle.std.specs.Prelude.{◌≡◌, ℕ, List, [], ◌∷◌, ◌++◌, Option, Result, Ok, Err}
 use Rattle.std.specs.Io.KnownBytes.{Appends}
-use Rattle.monitor.specs.Words.{event_words, line_of}
+use Rattle.printed_lines.specs.Words.{event_words, line_of}
 use Rattle.sbiboard.specs.declared.keeping.KeepFault.{KeepFault}
 use Rattle.sbiboard.specs.declared.keeping.KeepFault.TheVariants.{Failed, NoMemory as NoRoom}
 use Rattle.sbiboard.specs.declared.keeping.Step.{Step}

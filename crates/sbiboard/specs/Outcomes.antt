@@ -53,7 +53,8 @@ IsMemory (Usage error) = ⊥
 
 -- The status with which a run ends that came to no outcome. Of help, and of a fault of usage, the text may fail to be written.
 abbrev pub StopsWith : Stop → (status : ℕ) → Type 0
-StopsWith (System error) status = (outcome : Outcome) × FailsAs (error_kind error) outcome × (status ≡ status_of outcome)
+StopsWith (System error) status = (outcome : Outcome) × FailsAs (error_kind error) outcome
+    × (status ≡ status_of outcome)
 StopsWith (Usage error) status =
     (status ≡ usage_status (kind_of error)) ⊎ ((status ≡ status_of NoMemory) ⊎ (status ≡ status_of Io))
 

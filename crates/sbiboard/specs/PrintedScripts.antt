@@ -3,29 +3,30 @@ use Rattle.std.specs.Prelude.{◌≡◌, ℕ, suc, ℤ, pos, negsuc, ◌+◌, �
 use Rattle.std.specs.Fmt.{signed_decimal}
 use Rattle.std.specs.List.{AllByRecursion, flat_map, join_with_byte}
 use Rattle.std.specs.Str.Lines.{lines}
-use Rattle.board_core.specs.declared.config.Config.{Config}
-use Rattle.board_core.specs.Limits.{numbers_of}
+use Rattle.board_terms.specs.declared.config.Config.{Config}
+use Rattle.board_terms.specs.Limits.{numbers_of}
 use Rattle.board_core.specs.Opening.{Opening}
-use Rattle.board_core.specs.declared.event.Actor.{Actor}
-use Rattle.board_core.specs.declared.event.Actor.TheVariants.{Hart, Clock}
-use Rattle.board_core.specs.declared.event.Op.{Op}
-use Rattle.board_core.specs.declared.event.Op.TheVariants.{Ecall, Load, Store, Fetch, WriteSatp, WriteSie, Sfence, Tick}
-use Rattle.board_core.specs.declared.event.Refusal.{Refusal}
-use Rattle.board_core.specs.declared.event.Reply.{Reply}
-use Rattle.board_core.specs.declared.event.Reply.TheVariants.{Ret, Entry, Value}
+use Rattle.board_terms.specs.declared.op.Actor.{Actor}
+use Rattle.board_terms.specs.declared.op.Actor.TheVariants.{Hart, Clock}
+use Rattle.board_terms.specs.declared.op.Op.{Op}
+use Rattle.board_terms.specs.declared.op.Op.TheVariants.{Ecall, Load, Store, Fetch, WriteSatp, WriteSie, Sfence, Tick}
+use Rattle.board_terms.specs.declared.reply.Refusal.{Refusal}
+use Rattle.board_terms.specs.declared.reply.Reply.{Reply}
+use Rattle.board_terms.specs.declared.reply.Reply.TheVariants.{Ret, Entry, Value}
 use Rattle.board_core.specs.History.{Event}
-use Rattle.guest_script.specs.declared.script.Line.{Line}
-use Rattle.guest_script.specs.Agreeing.{said_of}
+use Rattle.script_lines.specs.declared.script.Line.{Line}
+use Rattle.script_lines.specs.Agreeing.{said_of}
 use Rattle.guest_script.specs.Grammar.{Content, Empty, IsStepLine, most_bytes, Reads, Trace}
 use Rattle.guest_script.specs.Words.{IsLine, IsNumber, IsSigned, last_above, last_below, last_hart, last_number}
 use Rattle.monitor.specs.Table.{table}
-use Rattle.monitor.specs.Words.{board_words, hex, line_of, line_words}
+use Rattle.printed_lines.specs.Words.{board_words, hex, line_of, line_words}
 
 -- ---- numbers
 
 -- a printed number spells that number
 abbrev pub NumberReadsBack : Type 0
-NumberReadsBack = (limit n : ℕ) → n ≤ limit → limit ≤ last_number → IsNumber limit (decimal n) n × IsNumber limit (hex n) n
+NumberReadsBack = (limit n : ℕ) → n ≤ limit → limit ≤ last_number
+    → IsNumber limit (decimal n) n × IsNumber limit (hex n) n
 
 -- a signed number of 64 bits
 abbrev pub FitsError : ℤ → Type 0
@@ -45,7 +46,8 @@ FitsActor Clock = Unit {0}
 
 -- an operation whose numbers fit registers, with six arguments to a call
 abbrev pub FitsOp : Op → Type 0
-FitsOp (Ecall regs) = (regs.eid ≤ last_number) × (regs.fid ≤ last_number) × (length regs.a ≡ 6) × AllByRecursion (λ n. n ≤ last_number) regs.a
+FitsOp (Ecall regs) = (regs.eid ≤ last_number) × (regs.fid ≤ last_number) × (length regs.a ≡ 6)
+    × AllByRecursion (λ n. n ≤ last_number) regs.a
 FitsOp (Load va) = va ≤ last_number
 FitsOp (Store va value) = (va ≤ last_number) × (value ≤ last_number)
 FitsOp (Fetch va) = va ≤ last_number
@@ -125,6 +127,7 @@ FitsConfig c = AllByRecursion (λ n. n ≤ last_number) (numbers_of c)
 
 -- a printed trace that isn't too long is read as that trace, its lines numbered from 2
 abbrev pub TraceReadsBack : Type 0
-TraceReadsBack = (c : Config) (steps : List Answered) (comments : List ℕ) → FitsConfig c → AllByRecursion FitsAnswered steps → AreComments comments
+TraceReadsBack = (c : Config) (steps : List Answered) (comments : List ℕ) → FitsConfig c
+    → AllByRecursion FitsAnswered steps → AreComments comments
     → length (printed c steps comments) ≤ most_bytes
     → Reads (printed c steps comments) (record { config = c; content = trace_of (trace_lines 2 steps) })

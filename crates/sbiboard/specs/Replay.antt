@@ -1,14 +1,14 @@
 -- What the replay of a schedule writes, and how it ends (profile).
 use Rattle.std.specs.Prelude.{◌≡◌, ℕ, ◌≤◌, Bool, true, false, ◌||◌, List, [], ◌∷◌, ◌++◌, length, Option, Some, None, Result, Ok, Err}
-use Rattle.board_core.specs.declared.config.Config.{Config}
-use Rattle.board_core.specs.declared.event.Refusal.{Refusal}
-use Rattle.board_core.specs.declared.event.Refusal.TheVariants as refusals
-use Rattle.board_core.specs.declared.event.Reply.{Reply}
+use Rattle.board_terms.specs.declared.config.Config.{Config}
+use Rattle.board_terms.specs.declared.reply.Refusal.{Refusal}
+use Rattle.board_terms.specs.declared.reply.Refusal.TheVariants as refusals
+use Rattle.board_terms.specs.declared.reply.Reply.{Reply}
 use Rattle.board_core.specs.Course.{Course}
-use Rattle.guest_script.specs.declared.script.Line.{Line}
+use Rattle.script_lines.specs.declared.script.Line.{Line}
 use Rattle.guest_script.specs.Grammar.{Content, Empty, Program, most_bytes, Schedule, Trace}
 use Rattle.monitor.specs.Table.{table}
-use Rattle.monitor.specs.Words.{board_words, line_of, line_words}
+use Rattle.printed_lines.specs.Words.{board_words, line_of, line_words}
 use Rattle.sbiboard.specs.declared.outcome.Outcome.{Outcome}
 use Rattle.sbiboard.specs.declared.outcome.Outcome.TheVariants.{Good, HistoryFull, NoMemory}
 use Rattle.sbiboard.specs.Check.{agrees_text, EndsCheck}
@@ -61,7 +61,8 @@ AreDone b lines (Some met_full) text = (met_full ≡ meets_full b lines) × (tex
 -- the same of a schedule's replay as a whole
 abbrev pub IsPrinted : Config → List Line → (met_full : Option Bool) → List ℕ → Type 0
 IsPrinted c lines None text =
-    (before : List Line) × StopsAtCut lines before × (text ≡ line_of (board_words c) ++ lines_text (new_course c) before)
+    (before : List Line) × StopsAtCut lines before
+    × (text ≡ line_of (board_words c) ++ lines_text (new_course c) before)
 IsPrinted c lines (Some met_full) text = (met_full ≡ meets_full (new_course c) lines) × (text ≡ text_of c lines)
 
 -- What the replay of these lines writes with each outcome. Where memory for a cut was refused, it has written what comes before.

@@ -1,21 +1,21 @@
 -- How a task over a script ends, whichever it is (profile).
 use Rattle.std.specs.Prelude.{◌≡◌, ◌⊎◌, ℕ, ◌<◌, Bool, true, List, [], ◌∷◌, ◌++◌, Option, Some, None, is_some, Result, Ok}
 use Rattle.std.specs.Io.KnownBytes.{Appends, IsAtEnd}
-use Rattle.board_core.specs.declared.config.Config.{Config}
-use Rattle.board_core.specs.declared.event.Actor.{Actor}
-use Rattle.board_core.specs.declared.event.Op.{Op}
-use Rattle.board_core.specs.declared.event.Refusal.{Refusal}
-use Rattle.board_core.specs.declared.event.Reply.{Reply}
-use Rattle.board_core.specs.declared.event.Reply.TheVariants.{Done}
+use Rattle.board_terms.specs.declared.config.Config.{Config}
+use Rattle.board_terms.specs.declared.op.Actor.{Actor}
+use Rattle.board_terms.specs.declared.op.Op.{Op}
+use Rattle.board_terms.specs.declared.reply.Refusal.{Refusal}
+use Rattle.board_terms.specs.declared.reply.Reply.{Reply}
+use Rattle.board_terms.specs.declared.reply.Reply.TheVariants.{Done}
 use Rattle.board_core.specs.Course.{Course}
 use Rattle.board_core.specs.Cuts.{opening_of}
-use Rattle.board_core.specs.Limits.{IsGood}
+use Rattle.board_terms.specs.Limits.{IsGood}
 use Rattle.board_core.specs.Opening.{opening_at}
 use Rattle.board_core.specs.Replies.{answer, stepped}
 use Rattle.guest_script.specs.declared.fault.Fault.{Fault}
 use Rattle.guest_script.specs.declared.fault.Fault.TheVariants as faults
 use Rattle.guest_script.specs.declared.fault.ScriptFault.{ScriptFault}
-use Rattle.guest_script.specs.declared.script.Line.{Line}
+use Rattle.script_lines.specs.declared.script.Line.{Line}
 use Rattle.guest_script.specs.FirstFault.{fault_number, first_fault}
 use Rattle.guest_script.specs.Grammar.{Content, Reads, Written}
 use Rattle.sbiboard.specs.declared.device.pieces.ReadFault.{ReadFault}
@@ -64,7 +64,8 @@ pub record StopsAtCut (lines before : List Line) : Type 0 where
 -- ---- the end of a task
 
 -- The bytes are a script of the kind that is wanted, with these lines or blocks, and its board can be made.
-pub record Runs {A : Type 0} (lines_of : Content → Option A) (bytes : List ℕ) (config : Config) (lines : A) : Type 0 where
+pub record Runs {A : Type 0} (lines_of : Content → Option A) (bytes : List ℕ) (config : Config)
+    (lines : A) : Type 0 where
   pub script : Written
   pub reads : Reads bytes script
   pub config_is : script.config ≡ config
@@ -73,9 +74,11 @@ pub record Runs {A : Type 0} (lines_of : Content → Option A) (bytes : List ℕ
 
 -- Why no line was run: the bytes have a fault, or are a script of another kind, or its board can't be made; or memory was refused.
 abbrev pub Stops : {A : Type 0} (lines_of : Content → Option A) → List ℕ → Outcome → Type 0
-Stops lines_of bytes (Script line number) = (f : ScriptFault) × (first_fault bytes ≡ Some f) × (f.line ≡ line) × (fault_number f.fault ≡ number)
+Stops lines_of bytes (Script line number) = (f : ScriptFault) × (first_fault bytes ≡ Some f) × (f.line ≡ line)
+    × (fault_number f.fault ≡ number)
 Stops lines_of bytes WrongKind = (s : Written) × Reads bytes s × (lines_of s.content ≡ None)
-Stops lines_of bytes BadBoard = (s : Written) × Reads bytes s × (is_some (lines_of s.content) ≡ true) × (¬ IsGood s.config)
+Stops lines_of bytes BadBoard = (s : Written) × Reads bytes s × (is_some (lines_of s.content) ≡ true)
+    × (¬ IsGood s.config)
 Stops lines_of bytes NoMemory = Unit {0}
 Stops lines_of bytes outcome = ⊥
 

@@ -1,7 +1,7 @@
 -- What is known of a source after reads, and of the script that was read (profile).
 use Rattle.std.specs.Prelude.{◌≡◌, ℕ, ◌+◌, ◌<◌, ◌≤◌, List, ◌++◌, length, take, Option, Result, Ok, Err, IfSome, MatchResult}
 use Rattle.std.specs.Io.KnownBytes.{Consumes, IsAtEnd}
-use Rattle.guest_script.specs.declared.script.Script.{Script}
+use Rattle.script_lines.specs.declared.script.Script.{Script}
 use Rattle.guest_script.specs.FirstFault.{no_memory}
 use Rattle.guest_script.specs.Grammar.{most_bytes}
 use Rattle.guest_script.specs.Pieces.{HasRead, IsAnswered, Part}

@@ -1,7 +1,7 @@
 -- What the run of a program on threads writes, and how it ends (profile).
 use Rattle.std.specs.Prelude.{◌≡◌, ℕ, ◌≤◌, Bool, true, List, length, [], ◌∷◌, ◌++◌, codes, reverse, Option, Some, None, Ok}
-use Rattle.board_core.specs.declared.config.Config.{Config}
-use Rattle.board_core.specs.declared.event.Actor.TheVariants.{Clock}
+use Rattle.board_terms.specs.declared.config.Config.{Config}
+use Rattle.board_terms.specs.declared.op.Actor.TheVariants.{Clock}
 use Rattle.board_core.specs.History.{Event}
 use Rattle.board_core.specs.Opening.{Opening, opening_at}
 use Rattle.board_core.specs.Replies.{IsLegal}
@@ -13,7 +13,7 @@ use Rattle.hart_threads.specs.Ends.{IsEnd}
 use Rattle.hart_threads.specs.Programs.{AreFirst}
 use Rattle.hart_threads.specs.Shares.{IsRun}
 use Rattle.monitor.specs.Table.{table}
-use Rattle.monitor.specs.Words.{board_words, event_words, line_of}
+use Rattle.printed_lines.specs.Words.{board_words, event_words, line_of}
 use Rattle.sbiboard.specs.declared.outcome.Outcome.{Outcome}
 use Rattle.sbiboard.specs.declared.outcome.Outcome.TheVariants.{Good, HistoryFull, Stuck}
 use Rattle.sbiboard.specs.Check.{EndsCheck, agrees_text}
@@ -64,7 +64,8 @@ outcome_of ends.Stuck = Stuck
 -- operations were accepted: a record that is a legal history, in which the clock did the first of its ticks in order, what its
 -- threads did and why they did no more, and how it ended. Where the text isn't too long, it is a trace, and its check says that
 -- as many lines agree as there are events.
-pub record RunsOnThreads (lets : ℕ → ℕ → Bool → Type 0) (c : Config) (tasks : Tasks) (outcome : Outcome) (text : List ℕ) : Type 0 where
+pub record RunsOnThreads (lets : ℕ → ℕ → Bool → Type 0) (c : Config) (tasks : Tasks) (outcome : Outcome)
+    (text : List ℕ) : Type 0 where
   pub past : List Event
   pub end : End
   pub legal : IsLegal (opening_at c) past

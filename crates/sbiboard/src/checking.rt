@@ -1,7 +1,8 @@
+//! A trace, compared with what the board answers.
 ghost use Rattle.std.specs.Prelude.{◌≡◌, ◌↔◌, ◌^◌, ◌<◌, true, IfSome, List, MatchOption, MatchResult, OnOk, take, Some, decimal, ◌++◌};
-ghost use Rattle.guest_script.specs.declared.script.Line.{Line};
-ghost use Rattle.guest_script.specs.Agreeing.{said_of};
-ghost use Rattle.monitor.specs.Sinks.{Puts};
+ghost use Rattle.script_lines.specs.declared.script.Line.{Line};
+ghost use Rattle.script_lines.specs.Agreeing.{said_of};
+ghost use Rattle.printed_lines.specs.Sinks.{Puts};
 ghost use Rattle.sbiboard.specs.Check.{AllAgree, Checks, DiffersFirst, EndsCheck, agrees_text, differs_text};
 ghost use Rattle.sbiboard.specs.Running.{CountsEnd, EndsFlushed, EndsRead, StopsAtCut, Writes, new_course};
 ghost use Rattle.sbiboard.specs.Sources.{ReadsUpTo, read_limit};
@@ -108,6 +109,7 @@ fn agrees(line: &KeptLine, answer: &Result<Reply, Refusal>) -> bool
     }
 }
 
+/// Writes that a trace agrees, and how many lines it has.
 fn print_agrees<W: Sink>(count: usize, writer: &mut W) -> Result<(), Failed>
     requires { W.failures writer.old < 2 ^ 63 }
     ensures text { Puts W.written W.failures writer.old writer.new result (agrees_text count) }
@@ -118,6 +120,7 @@ fn print_agrees<W: Sink>(count: usize, writer: &mut W) -> Result<(), Failed>
     writer.flush()
 }
 
+/// Writes the first line where a trace differs, and the board's own answer.
 fn print_difference<W: Sink>(difference: Difference, writer: &mut W) -> Result<(), Failed>
     requires { W.failures writer.old < 2 ^ 63 }
     ensures text { Puts W.written W.failures writer.old writer.new result

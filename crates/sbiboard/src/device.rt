@@ -1,7 +1,7 @@
 //! What is read, and the devices behind readers and writers.
 
 ghost use Rattle.std.specs.Prelude.{◌≡◌, ℕ, ◌^◌, ◌<◌, Bool, false, List, Option};
-ghost use Rattle.monitor.specs.Sinks.{CountsWrite};
+ghost use Rattle.printed_lines.specs.Sinks.{CountsWrite};
 ghost use Rattle.sbiboard.specs.Devices.{Counted, HandsOn, HandsOnFlush, HandsOnWrite};
 
 mod pieces;

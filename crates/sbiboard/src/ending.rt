@@ -1,3 +1,4 @@
+//! How the program ends: what it tells, and its status.
 ghost use Rattle.std.specs.Prelude.{◌≡◌};
 ghost use Rattle.sbiboard.specs.Outcomes.{EndsWith, IsMemory, StopsWith, status_of, usage_status};
 ghost use Rattle.sbiboard.specs.declared.ending.Stop.TheVariants.{System, Usage};

@@ -8,6 +8,7 @@ ghost use Rattle.sbiboard.specs.PrintedScripts.{FitsAnswer, FitsOp};
 
 use board_core::{Op, Refusal, Reply};
 
+/// A law: the numbers of an operation are such as a script can have.
 pub fn op_fits(op: Op)
     ensures { FitsOp op }
 {
@@ -24,6 +25,7 @@ pub fn op_fits(op: Op)
     }
 }
 
+/// A law: so are those of a call's registers.
 fn regs_fit(eid: u64, fid: u64, a: [u64; 6])
     ensures eid { eid ≤ last_number }
     ensures fid { fid ≤ last_number }
@@ -33,6 +35,7 @@ fn regs_fit(eid: u64, fid: u64, a: [u64; 6])
     let [_a0, _a1, _a2, _a3, _a4, _a5] = a;
 }
 
+/// A law: so are those of a reply or a refusal.
 pub fn answer_fits(answer: Result<Reply, Refusal>)
     ensures { FitsAnswer answer }
 {}

@@ -1,8 +1,8 @@
 //! A run's record is written while it grows.
 
 ghost use Rattle.std.specs.Prelude.{◌≡◌, ◌^◌, ◌<◌, true, [], Ok, OnOk};
-ghost use Rattle.monitor.specs.Sinks.{Passes};
-ghost use Rattle.monitor.specs.Words.{event_words, line_of};
+ghost use Rattle.printed_lines.specs.Sinks.{Passes};
+ghost use Rattle.printed_lines.specs.Words.{event_words, line_of};
 ghost use Rattle.sbiboard.specs.Keeping.{AppendsLines};
 
 use board_core::{Actor, Config, Op, Reply};

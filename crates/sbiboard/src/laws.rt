@@ -1,3 +1,4 @@
+//! The law that what is printed is read back.
 ghost use Rattle.sbiboard.specs.PrintedScripts.{LineReadsBack, NumberReadsBack, SignedReadsBack, TableIsComments, TraceReadsBack};
 
 /// What is printed of a trace is read back.

@@ -1,3 +1,4 @@
+//! What came of a task, by number.
 ghost use Rattle.std.specs.Prelude.{◌≡◌};
 ghost use Rattle.std.specs.IoError.{error_kind};
 ghost use Rattle.sbiboard.specs.Outcomes.{FailsAs, is_told, status_of};

@@ -1,3 +1,4 @@
+//! A schedule, replayed on a new board.
 ghost use Rattle.std.specs.Prelude.{◌≡◌, ◌^◌, ◌<◌, ℕ, true, IfOk, IfSome, List, MatchOption, MatchResult, None, Some, take};
 ghost use Rattle.std.specs.Io.KnownBytes.{Appends};
 ghost use Rattle.sbiboard.specs.Fitting.{AllFit, AreRead};
@@ -127,7 +128,8 @@ fn print_done<W: Sink>(
     requires { W.failures writer.old < 2 ^ 63 }
     ensures done { MatchResult result
         (λ found. MatchOption found
-        (IsLeft line.now.step page.old page.new (W.written writer.old) (W.written writer.new) (W.failures writer.old) (W.failures writer.new))
+        (IsLeft line.now.step page.old page.new (W.written writer.old) (W.written writer.new) (W.failures writer.old)
+        (W.failures writer.new))
         (λ full. IsDone board.old board.new line.now.step full page.old page.new
         (W.written writer.old) (W.written writer.new) (W.failures writer.old) (W.failures writer.new)))
         (λ _. W.failures writer.old < W.failures writer.new) }
@@ -156,7 +158,8 @@ fn print_cut<W: Sink>(
     requires { W.failures writer.old < 2 ^ 63 }
     ensures done { MatchResult result
         (λ found. MatchOption found
-        (IsLeft None page.old page.new (W.written writer.old) (W.written writer.new) (W.failures writer.old) (W.failures writer.new))
+        (IsLeft None page.old page.new (W.written writer.old) (W.written writer.new) (W.failures writer.old)
+        (W.failures writer.new))
         (λ full. IsDone board.old board.new None full page.old page.new
         (W.written writer.old) (W.written writer.new) (W.failures writer.old) (W.failures writer.new)))
         (λ _. W.failures writer.old < W.failures writer.new) }
@@ -169,6 +172,7 @@ fn print_cut<W: Sink>(
     Ok(Some(is_history_full(&answer)))
 }
 
+/// Whether an answer is that the history is full.
 fn is_history_full(answer: &Result<Reply, Refusal>) -> bool
     ensures { result ≡ is_history_full answer.now }
 {

@@ -31,7 +31,8 @@ pub fn run<R: Source, W: Sink>(job: Job, alloc: Global, reader: &mut R, writer: 
     requires reader_counts { R.failures reader.old < 2 ^ 63 }
     requires writer_counts { W.failures writer.old < 2 ^ 63 }
     ensures writes { IfSome (R.left reader.old) (λ bytes.
-        Writes (EndsAs (lines_for job) (Does job) (take read_limit bytes)) result (W.written writer.old) (W.written writer.new)) }
+        Writes (EndsAs (lines_for job) (Does job) (take read_limit bytes)) result (W.written writer.old)
+        (W.written writer.new)) }
     ensures to_the_end { EndsRead result (R.left reader.new) }
     ensures at_most { ReadsUpTo read_limit (R.left reader.old) (R.left reader.new) }
     ensures untouched { R.failures reader.old < R.failures reader.new → writer.new ≡ writer.old }
@@ -40,12 +41,13 @@ pub fn run<R: Source, W: Sink>(job: Job, alloc: Global, reader: &mut R, writer: 
         (W.failures writer.old) (W.failures writer.new) }
 {
     match read_script(alloc, reader) {
-        Ok(script) => run_script(job, alloc, script, writer),
+        Ok(script) => outcome_of_script(job, alloc, script, writer),
         Err(fault) => unread(fault),
     }
 }
 
-fn run_script<W: Sink>(job: Job, alloc: Global, script: Script, writer: &mut W) -> Outcome
+/// Does a job with a script, where it is of the job's kind.
+fn outcome_of_script<W: Sink>(job: Job, alloc: Global, script: Script, writer: &mut W) -> Outcome
     requires read { (bytes : List ℕ) × Reads bytes (written script) }
     requires counts { W.failures writer.old < 2 ^ 63 }
     ensures writes { (bytes : List ℕ) → Reads bytes (written script)
@@ -80,12 +82,12 @@ pub fn unread(fault: ReadFault) -> Outcome
 {
     match fault {
         ReadFault::Failed => Outcome::Io,
-        ReadFault::Script(fault) => ended(fault),
+        ReadFault::Script(fault) => outcome_of_fault(fault),
     }
 }
 
 /// How a run ends that found no script.
-pub fn ended(fault: ScriptFault) -> Outcome
+pub fn outcome_of_fault(fault: ScriptFault) -> Outcome
     ensures { result ≡ ended_as fault.line fault.fault }
 {
     match fault.fault {
@@ -97,6 +99,7 @@ pub fn ended(fault: ScriptFault) -> Outcome
     }
 }
 
+/// Does a job with lines, on a new board of these numbers.
 fn run_lines<W: Sink>(
     job: Job,
     alloc: Global,

@@ -1,8 +1,9 @@
+//! A program, run on threads, and its record printed.
 ghost use Rattle.std.specs.Prelude.{◌≡◌, ◌^◌, ◌<◌, true, ℕ, IfOk, IfSome, List, OnErr, OnOk, is_some, reverse, take};
 ghost use Rattle.std.specs.List.{AllByRecursion};
-ghost use Rattle.board_core.specs.Limits.{IsGood};
+ghost use Rattle.board_terms.specs.Limits.{IsGood};
 ghost use Rattle.guest_script.specs.Grammar.{Reads, content, written};
-ghost use Rattle.monitor.specs.Sinks.{Puts};
+ghost use Rattle.printed_lines.specs.Sinks.{Puts};
 ghost use Rattle.sbiboard.specs.Fitting.{EventFits};
 ghost use Rattle.sbiboard.specs.Keeping.{told_as};
 ghost use Rattle.sbiboard.specs.Running.{CountsEnd, EndsFlushed, EndsRead, Writes};
@@ -60,7 +61,8 @@ pub fn run_script<S: Source, W: Sink, G: Gate + Sync, R: AllocGlobal + Threads +
     requires reader_counts { S.failures reader.old < 2 ^ 63 }
     requires writer_counts { W.failures writer.old < 2 ^ 63 }
     ensures writes { IfSome (S.left reader.old) (λ bytes.
-        Writes (EndsRun (G.lets gate.now) (take read_limit bytes)) result (W.written writer.old) (W.written writer.new)) }
+        Writes (EndsRun (G.lets gate.now) (take read_limit bytes)) result (W.written writer.old)
+        (W.written writer.new)) }
     ensures to_the_end { EndsRead result (S.left reader.new) }
     ensures at_most { ReadsUpTo read_limit (S.left reader.old) (S.left reader.new) }
     ensures untouched { S.failures reader.old < S.failures reader.new → writer.new ≡ writer.old }
@@ -128,6 +130,7 @@ fn unkept(outcome: Outcome) -> KeptRun
     }
 }
 
+/// Runs a script that was read, where it is a program.
 fn run_read<W: Sink, G: Gate + Sync, R: AllocGlobal + Threads + Wait + Sync>(
     rt: &R,
     script: &Script,
@@ -177,7 +180,8 @@ fn outcome_of(end: End) -> Outcome
 /// Writes all that a run prints.
 fn print_run<W: Sink>(run: &RunEnd, writer: &mut W) -> Result<(), Failed>
     requires { W.failures writer.old < 2 ^ 63 }
-    ensures text { Puts W.written W.failures writer.old writer.new result (run_text run.now.board.opening run.now.board.past run.now.end) }
+    ensures text { Puts W.written W.failures writer.old writer.new result
+        (run_text run.now.board.opening run.now.board.past run.now.end) }
     ensures flushed { OnOk result (W.is_flushed writer.new ≡ true) }
     ensures good { IsGood run.now.board.opening.config }
     ensures fits { OnOk result (AllByRecursion EventFits (reverse run.now.board.past)) }

@@ -1,3 +1,4 @@
+//! What the command lines of `test` and `explore` ask for.
 ghost use Rattle.std.specs.Prelude.{◌<◌};
 
 use crate::limit::Limit;
@@ -205,7 +206,7 @@ fn described_exploring<'a>(alloc: Global) -> Result<Command<'a>, AllocError> {
         .about("Look at all orders of a program, and judge its conditions")
         .after_help(AFTER_EXPLORE);
     let states = number(alloc, STATES, "N", "How many states may be found");
-    let command = command.arg(states.default_value("100000"))?;
+    let command = command.arg(states.default_value("1000000"))?;
     let no_outcomes = Arg::new(alloc, NO_OUTCOMES)
         .long(NO_OUTCOMES)
         .action(ArgAction::SetTrue)

@@ -1,3 +1,4 @@
+//! How far the program is with its files, and what it found.
 use board_core::{Actor, Board, Event, Op, Refusal, Reply};
 use std::alloc::{AllocError, Global};
 

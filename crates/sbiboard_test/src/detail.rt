@@ -1,3 +1,4 @@
+//! What stands below a point that failed.
 use crate::command_line::Options;
 use crate::stop::Stop;
 use board_core::{Board, Event};

@@ -1,3 +1,4 @@
+//! How long orders may be tried.
 ghost use Rattle.std.specs.Prelude.{◌≡◌, ◌≢◌, true, IfOk, None};
 
 use std::io;

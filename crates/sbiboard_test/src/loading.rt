@@ -1,3 +1,4 @@
+//! A file, read with its conditions, or why it can't be.
 use conditions::{Condition, Wrong, conditions};
 use guest_script::{Fault, Script, parse};
 use script_text::{bad_board, faulty};

@@ -1,3 +1,4 @@
+//! How fast it goes, for the line that tells how long it will take.
 ghost use Rattle.std.specs.Prelude.{◌<◌};
 
 use std::io;

@@ -1,3 +1,4 @@
+//! What is told on a terminal while it goes on.
 /// What stands where the program prints.
 #[derive(Clone, Copy, Debug)]
 pub(crate) struct Screen {

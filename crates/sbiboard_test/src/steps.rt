@@ -1,3 +1,4 @@
+//! Schedules that are replayed, and traces that are compared.
 use crate::command_line::Options;
 use crate::course::Course;
 use crate::detail::put_record;

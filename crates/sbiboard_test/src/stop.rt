@@ -1,3 +1,4 @@
+//! Why the program stops early, and its status.
 use clap::error::ErrorKind;
 use hart_threads::RunFault;
 use std::alloc::{AllocError, AllocFailed};

@@ -1,3 +1,4 @@
+//! Runs of a program on threads, judged.
 ghost use Rattle.guest_script.specs.Grammar.{content};
 ghost use Rattle.hart_threads.specs.Programs.{IsProgram};
 

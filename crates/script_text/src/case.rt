@@ -1,3 +1,4 @@
+//! A script's text beside what was read of it.
 use conditions::Condition;
 use guest_script::{next_word, unsigned_number};
 use std::str;

@@ -1,3 +1,4 @@
+//! Where a word stands in a text.
 ghost use Rattle.std.specs.Prelude.{◌<◌, OnSome, length};
 
 use guest_script::{Fault, ScriptFault, next_word, signed_number, unsigned_number};

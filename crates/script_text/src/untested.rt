@@ -1,3 +1,4 @@
+//! What is wrong with a text, in words.
 use crate::spots::{Spot, spot_of};
 use board_core::{Config, USUAL_ASID_LEN, USUAL_WIDTH};
 use guest_script::ScriptFault;

@@ -3,12 +3,12 @@ use Rattle.std.proofs.Common.{◌≡◌, ℕ, zero, suc, ◌+◌, ◌-◌, ◌%�
 use Rattle.std.specs.Prelude.{Option, Some, None, Result, Ok, Err, IfOk, Bool, true, false, slice_get}
 use Rattle.std.proofs.lemmas.Option.{slice_get-get_or}
 use Rattle.rand_pcg.specs.Pcg.{pcg64_dxsm}
-use Rattle.board_core.specs.declared.config.Config.{Config}
+use Rattle.board_terms.specs.declared.config.Config.{Config}
 use Rattle.board_core.specs.Opening.{Opening, opening_at}
-use Rattle.board_core.specs.declared.event.Actor.{Actor}
-use Rattle.board_core.specs.declared.event.Op.{Op}
-use Rattle.board_core.specs.declared.event.Refusal.{Refusal}
-use Rattle.board_core.specs.declared.event.Reply.{Reply}
+use Rattle.board_terms.specs.declared.op.Actor.{Actor}
+use Rattle.board_terms.specs.declared.op.Op.{Op}
+use Rattle.board_terms.specs.declared.reply.Refusal.{Refusal}
+use Rattle.board_terms.specs.declared.reply.Reply.{Reply}
 use Rattle.board_core.specs.History.{Event}
 use Rattle.board_core.specs.Replies.{answer, recorded}
 use Rattle.guest_script.specs.Grammar.{Content, guest}

@@ -1,7 +1,8 @@
+//! What is kept of a record: its choices.
 ghost use Rattle.std.specs.Prelude.{◌≡◌, List, IfOk, map, reverse};
 ghost use Rattle.board_core.specs.Opening.{Opening};
 ghost use Rattle.board_core.specs.History.{Event};
-ghost use Rattle.board_core.specs.Limits.{IsGood};
+ghost use Rattle.board_terms.specs.Limits.{IsGood};
 ghost use Rattle.board_core.specs.Replies.{IsLegal};
 ghost use Rattle.seeded_orders.specs.Choices.{choice_of, own_number};
 ghost use Rattle.seeded_orders.specs.Steps.{AreOwn, Task};

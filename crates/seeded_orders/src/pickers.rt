@@ -1,3 +1,4 @@
+//! Who picks the next step: all alike, or by ranks.
 ghost use Rattle.std.specs.Prelude.{◌≡◌, ◌≤◌, IfOk};
 ghost use Rattle.seeded_orders.specs.Orders.{pick, picker_of};
 

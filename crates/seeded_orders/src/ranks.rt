@@ -1,3 +1,4 @@
+//! The ranks of actors, which change at few places.
 ghost use Rattle.std.specs.Prelude.{◌≡◌, ◌^◌, ◌*◌, ◌+◌, ◌%◌, ◌<◌, ◌≤◌, zero, slice_set, IfOk, None, Some};
 ghost use Rattle.seeded_orders.specs.Ranks.{higher, highest, place_of, rank_of, ranking, ranks_from, reranked};
 
@@ -105,6 +106,7 @@ fn place_of(step: Step) -> usize
     }
 }
 
+/// The rank of the step's actor.
 fn rank_of(ranks: &[u64], step: Step) -> u64
     ensures { result ≡ rank_of ranks.now step }
 {

@@ -4,3 +4,4 @@ pub mod Words
 pub mod MapsLaws
 pub mod PageLaw
 pub mod WorkedMaps
+pub mod ClearWords

@@ -7,3 +7,4 @@ pub mod Packing
 pub mod Satp
 pub mod Entries
 pub mod Maps
+pub mod Nonzero

@@ -1,3 +1,4 @@
+//! Kinds of accesses, and why they fail.
 ghost use Rattle.std.specs.Prelude.{◌≡◌};
 ghost use Rattle.sv39.specs.Causes.{access_fault, cause_number, misaligned, page_fault};
 

@@ -1,3 +1,4 @@
+//! An entry of a page table.
 ghost use Rattle.std.specs.Prelude.{◌≡◌, ◌*◌, ◌<◌, Some, None, if◌then◌else◌};
 ghost use Rattle.sv39.specs.Entries.{has_bit, has_g, is_aligned, is_leaf, is_pointer, is_present, leaf_of, page_number};
 ghost use Rattle.sv39.specs.Maps.{outcome};
@@ -115,6 +116,7 @@ impl TableEntry {
         }
     }
 
+    /// The leaf that this entry is, at its level, of the page of an address.
     fn leaf(self, va: u64, level: Level, global: bool) -> Leaf
         ensures { result ≡ leaf_of self.bits va level global }
     {

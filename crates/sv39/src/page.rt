@@ -1,3 +1,4 @@
+//! Levels of page tables, and leaves.
 ghost use Rattle.std.specs.Prelude.{◌≡◌};
 ghost use Rattle.sv39.specs.Leaves.{allows};
 ghost use Rattle.sv39.specs.Pages.{below, level_number, part, size};

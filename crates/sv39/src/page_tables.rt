@@ -1,3 +1,4 @@
+//! The walk of page tables.
 ghost use Rattle.std.specs.Prelude.{◌≡◌, ◌↔◌, ◌≤◌, ◌<◌, ◌+◌, ℕ, Option, Result};
 ghost use Rattle.sv39.specs.Leaves.{by_right};
 ghost use Rattle.sv39.specs.Maps.{Maps, maps};

@@ -1,3 +1,4 @@
+//! Paging modes, and how wide address spaces are.
 ghost use Rattle.std.specs.Prelude.{◌≡◌, ◌≤◌, ◌<◌, ◌^◌};
 ghost use Rattle.sv39.specs.Paging.{cut_asid, is_valid_by, named, scheme};
 

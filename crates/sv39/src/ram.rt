@@ -1,5 +1,7 @@
-ghost use Rattle.std.specs.Prelude.{◌≡◌, ◌≤◌, ◌-◌, ◌/◌, IfOk, IsTrue, Some, is_some, replicate, vec_capacity, vec_len};
+//! The RAM.
+ghost use Rattle.std.specs.Prelude.{◌≡◌, ◌≤◌, ◌+◌, ◌-◌, ◌/◌, ◌++◌, IfOk, IsTrue, Some, is_some, length, replicate, vec_capacity, vec_len};
 ghost use Rattle.sv39.specs.Memory.{IsRam, is_in_ram, pages_of, word_in, written, zero_memory};
+ghost use Rattle.sv39.specs.Nonzero.{IsClear};
 
 use std::alloc::{AllocError, Global};
 use std::marker::Model;
@@ -14,17 +16,21 @@ pub const PAGE_WORDS: usize = 512;
 #[derive(Debug, Drop)]
 pub struct Ram {
     words: Vec<u64>,
+    // (from this place on each word is 0: most boards use the beginning of their RAM alone)
+    used: usize,
 }
 
 impl Model for Ram {
-    ghost use Rattle.std.specs.Prelude.{◌≡◌, List, ℕ, vec_capacity, vec_len};
+    ghost use Rattle.std.specs.Prelude.{◌≡◌, ◌≤◌, List, ℕ, length, vec_capacity, vec_len};
     ghost use Rattle.sv39.specs.Memory.{IsRam};
+    ghost use Rattle.sv39.specs.Nonzero.{IsClear};
 
     ghost Value = { List ℕ };
 
     ghost view = { λ ram. ram.words.items };
 
-    ghost invariant = { λ ram. IsRam ram.words.items × (vec_capacity ram.words ≡ vec_len ram.words) };
+    ghost invariant = { λ ram. IsRam ram.words.items × (vec_capacity ram.words ≡ vec_len ram.words)
+        × (ram.used ≤ length ram.words.items) × IsClear ram.words.items ram.used (length ram.words.items) };
 }
 
 impl Ram {
@@ -37,16 +43,18 @@ impl Ram {
         ensures ram { IfOk result IsRam }
     {
         let words = zeros(alloc, PAGE_WORDS * pages as usize)?;
-        Ok(Ram { words })
+        Ok(Ram { words, used: 0 })
     }
 
-    /// The RAM of these words, which take no more room than they need.
-    pub(crate) fn of(words: Vec<u64>) -> Ram
+    /// The RAM of these words, which take no more room than they need. From the place `used` on each is 0.
+    pub(crate) fn of(words: Vec<u64>, used: usize) -> Ram
         requires ram { IsRam words.items }
         requires room { vec_capacity words ≡ vec_len words }
+        requires within { used ≤ length words.items }
+        requires clear { IsClear words.items used (length words.items) }
         ensures { result ≡ words.items }
     {
-        Ram { words }
+        Ram { words, used }
     }
 
     /// A RAM that is equal to this one. It fails where memory runs out.
@@ -55,10 +63,12 @@ impl Ram {
         ensures pages { IsRam self.now }
     {
         let mut words = Vec::with_capacity(alloc, self.words.len())?;
-        for word in &self.words {
-            words.push_reserved(*word);
-        }
-        Ok(Ram { words })
+        put_reserved(&mut words, &self.words[..self.used]);
+        put_zeros(&mut words, self.words.len() - self.used);
+        Ok(Ram {
+            words,
+            used: self.used,
+        })
     }
 
     /// Its words, from its start on.
@@ -67,6 +77,14 @@ impl Ram {
         ensures ram { IsRam self.now }
     {
         &self.words
+    }
+
+    /// From this place on each of its words is 0. (Most boards use the beginning of their RAM alone.)
+    pub fn used(&self) -> usize
+        ensures within { result ≤ length self.now }
+        ensures clear { IsClear self.now result (length self.now) }
+    {
+        self.used
     }
 
     /// Whether a word of the RAM stands at the address, which then is aligned to 8 and not outside the RAM.
@@ -96,7 +114,9 @@ impl Ram {
         ensures words { word_in self.new ≡ written (word_in self.old) at value }
         ensures pages { pages_of self.new ≡ pages_of self.old }
     {
-        self.words[word_place(at)] = value;
+        let there = word_place(at);
+        self.words[there] = value;
+        self.used = self.used.max(there + 1);
     }
 
     /// Each word becomes 0.
@@ -105,6 +125,7 @@ impl Ram {
         ensures pages { pages_of self.new ≡ pages_of self.old }
     {
         self.words.fill(0);
+        self.used = 0;
     }
 }
 
@@ -114,10 +135,30 @@ pub(crate) fn zeros(alloc: Global, count: usize) -> Result<Vec<u64>, AllocError>
     ensures room { IfOk result (λ words. vec_capacity words ≡ count) }
 {
     let mut words = Vec::with_capacity(alloc, count)?;
+    put_zeros(&mut words, count);
+    Ok(words)
+}
+
+/// These words more, for which there is room.
+fn put_reserved(words: &mut Vec<u64>, more: &[u64])
+    requires { vec_len words.old + length more.now ≤ vec_capacity words.old }
+    ensures items { words.new.items ≡ words.old.items ++ more.now }
+    ensures room { vec_capacity words.new ≡ vec_capacity words.old }
+{
+    for word in more {
+        words.push_reserved(*word);
+    }
+}
+
+/// So many words more, each of which is 0, for which there is room.
+fn put_zeros(words: &mut Vec<u64>, count: usize)
+    requires { vec_len words.old + count ≤ vec_capacity words.old }
+    ensures items { words.new.items ≡ words.old.items ++ replicate count 0 }
+    ensures room { vec_capacity words.new ≡ vec_capacity words.old }
+{
     for _ in 0..count {
         words.push_reserved(0);
     }
-    Ok(words)
 }
 
 /// The place of the word at an address among the RAM's words.

@@ -1,3 +1,4 @@
+//! The satp register, as it is kept.
 ghost use Rattle.std.specs.Prelude.{◌≡◌, ◌≤◌, false};
 ghost use Rattle.sv39.specs.Satp.{asid_of, is_valid, kept_of, paging_of, root_address, satp_written, translates};
 

@@ -2,7 +2,7 @@
 use Rattle.std.proofs.Common.{◌≡◌, ℕ, ◌+◌, List, [], ◌∷◌, ◌++◌, map, refl, sym, subst}
 use Rattle.std.specs.Prelude.{reverse}
 use Rattle.std.proofs.lemmas.List.{reverse-reverse}
-use Rattle.board_core.specs.declared.config.Config.{Config}
+use Rattle.board_terms.specs.declared.config.Config.{Config}
 use Rattle.board_core.specs.History.{Event}
 use Rattle.conditions.specs.declared.reading.Condition.{Condition}
 use Rattle.guest_script.specs.Grammar.{Content, guest}
@@ -29,7 +29,8 @@ pub found-none : (c : Config) (content : Content) (conditions : List Condition) 
 found-none c content conditions seed from found none = ([], refl, none)
 
 -- one order more
-pub found-next : (c : Config) (content : Content) (conditions : List Condition) (seed from i : ℕ) (past : List Event) (end : End) (before after : Findings) → IsTried c (task_of content) seed i past end
+pub found-next : (c : Config) (content : Content) (conditions : List Condition) (seed from i : ℕ) (past : List Event) (end : End) (before after : Findings)
+    → IsTried c (task_of content) seed i past end
     → ((tried : List Tried) (x : Tried) → x.number ≡ i → x.events ≡ reverse past → x.end ≡ ending end → AreFound conditions tried before → AreFound conditions (x ∷ tried) after)
     → AreFoundOf c content conditions seed from i before → AreFoundOf c content conditions seed from (i + 1) after
 found-next c content conditions seed from i past end before after is sees found =

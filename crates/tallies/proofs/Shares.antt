@@ -1,7 +1,7 @@
 -- Shares of orders, put together.
 use Rattle.std.proofs.Common.{◌≡◌, ℕ, zero, suc, ◌+◌, ◌-◌, ◌*◌, ◌<◌, ◌≤◌, List, [], ◌∷◌, subst, length, get_or, arith}
 use Rattle.std.specs.Prelude.{min, Result, IfOk}
-use Rattle.board_core.specs.declared.config.Config.{Config}
+use Rattle.board_terms.specs.declared.config.Config.{Config}
 use Rattle.conditions.specs.declared.reading.Condition.{Condition}
 use Rattle.guest_script.specs.Grammar.{Content}
 use Rattle.hart_threads.specs.declared.ends.RunFault.{RunFault}

@@ -1,6 +1,6 @@
 -- What was found of orders of a program (profile).
 use Rattle.std.specs.Prelude.{◌≡◌, ◌≢◌, ℕ, ◌+◌, List, [], ◌∷◌, length, reverse, slice_get, Option, Some, None}
-use Rattle.board_core.specs.declared.config.Config.{Config}
+use Rattle.board_terms.specs.declared.config.Config.{Config}
 use Rattle.board_core.specs.History.{Event}
 use Rattle.conditions.specs.declared.reading.Condition.{Condition}
 use Rattle.conditions.specs.declared.rules.Ending.{Ending}
@@ -40,7 +40,8 @@ pub record AreFound (conditions : List Condition) (tried : List Tried) (found : 
 
 -- A record is the order of a program that a seed and its number pick, and it ended so.
 abbrev pub IsOrder : Config → Content → (seed : ℕ) → Tried → Type 0
-IsOrder c content seed x = (end : End) × (x.end ≡ ending end) × IsTried c (task_of content) seed x.number (reverse x.events) end
+IsOrder c content seed x = (end : End) × (x.end ≡ ending end)
+    × IsTried c (task_of content) seed x.number (reverse x.events) end
 
 -- These are the orders of a seed from one number up to another, the last in front.
 abbrev pub AreOrders : Config → Content → (seed from : ℕ) → List Tried → (to : ℕ) → Type 0

@@ -1,6 +1,6 @@
 -- Shares of orders: private.
 use Rattle.std.specs.Prelude.{ℕ, ◌+◌, ◌*◌, min, List, [], ◌∷◌, Result, IfOk}
-use Rattle.board_core.specs.declared.config.Config.{Config}
+use Rattle.board_terms.specs.declared.config.Config.{Config}
 use Rattle.conditions.specs.declared.reading.Condition.{Condition}
 use Rattle.guest_script.specs.Grammar.{Content}
 use Rattle.hart_threads.specs.declared.ends.RunFault.{RunFault}

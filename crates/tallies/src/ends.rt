@@ -1,3 +1,4 @@
+//! How many orders ended how.
 ghost use Rattle.std.specs.Prelude.{◌≡◌, ◌↔◌, ◌∷◌, ◌++◌, List, Some, true, []};
 ghost use Rattle.conditions.specs.declared.rules.Ending.{Ending as HowEnded};
 ghost use Rattle.tallies.specs.Records.{Tried, ending};

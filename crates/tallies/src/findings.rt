@@ -1,3 +1,4 @@
+//! What was found of many orders.
 ghost use Rattle.std.specs.Prelude.{◌≡◌, ◌∷◌, ◌++◌, List, [], IfOk, OnOk, length, reverse};
 ghost use Rattle.conditions.specs.declared.reading.Condition.{Condition as Asked};
 ghost use Rattle.tallies.specs.Records.{Tried, ending};

@@ -1,3 +1,4 @@
+//! A record, judged by a condition.
 ghost use Rattle.std.specs.Prelude.{◌≡◌, ◌↔◌, ◌∷◌, List, Some, true};
 ghost use Rattle.tallies.specs.Records.{IsSo, IsSpared, Meets, Tells, Tried, ending};
 

@@ -1,3 +1,4 @@
+//! Orders of a seed, tried one after the other.
 ghost use Rattle.std.specs.Prelude.{◌≤◌, IfOk};
 ghost use Rattle.guest_script.specs.Grammar.{content};
 ghost use Rattle.hart_threads.specs.Programs.{IsProgram};

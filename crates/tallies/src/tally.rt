@@ -1,3 +1,4 @@
+//! What was found of one condition.
 ghost use Rattle.std.specs.Prelude.{◌≡◌, ◌↔◌, ◌∷◌, ◌++◌, List, Option, Some, true, []};
 ghost use Rattle.conditions.specs.declared.rules.Rule.{Rule as Asked};
 ghost use Rattle.tallies.specs.Records.{AllMeet, EachIs, IsSo, SomeIs, Tells, Tried};

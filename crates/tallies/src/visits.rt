@@ -1,3 +1,4 @@
+//! What guests met: entries, blocks and calls.
 use board_core::{Actor, Event, Op, Reply};
 use hart_threads::is_guest;
 use std::alloc::{AllocError, Global};

@@ -31,7 +31,8 @@ module _ {E : Type 0} (first : ℕ) where
     all-early : (acts : List (Act E)) → All (λ (x : Numbered E). x.date < first + length acts) (fillings first opening acts)
     all-early [] = λ k d before. absurd (omega arith)
     all-early (act ∷ acts) =
-        by_act act (All-weaker (λ (x : Numbered E). x.date < first + length acts) (λ (x : Numbered E). x.date < first + length (act ∷ acts)) (λ x early. omega arith) (fillings first opening acts) (all-early acts))
+        by_act act (All-weaker (λ (x : Numbered E). x.date < first + length acts) (λ (x : Numbered E). x.date < first + length (act ∷ acts)) (λ x early. omega arith) (fillings first opening acts)
+        (all-early acts))
       where
         by_act : (a : Act E) → All (λ (x : Numbered E). x.date < first + length (act ∷ acts)) (fillings first opening acts)
             → All (λ (x : Numbered E). x.date < first + length (act ∷ acts)) (fillings first opening (a ∷ acts))
@@ -224,7 +225,8 @@ module _ {E : Type 0} (first : ℕ) (opening : Contents E) (covers : Flush → E
 
   all-young : All (λ (x : Numbered E). ltb next (x.number + 17) ≡ true) (live first opening covers older)
   all-young =
-      All-append (λ (x : Numbered E). ltb next (x.number + 17) ≡ true) (filter (is_live first opening covers older) (fillings first opening older)) (filter (outlives first opening covers older older) opening.live)
+      All-append (λ (x : Numbered E). ltb next (x.number + 17) ≡ true) (filter (is_live first opening covers older) (fillings first opening older))
+      (filter (outlives first opening covers older older) opening.live)
       (All-weaker (λ (x : Numbered E). is_live first opening covers older x ≡ true) (λ (x : Numbered E). ltb next (x.number + 17) ≡ true) (λ x lives. young (after first older x.date) x lives)
       (filter (is_live first opening covers older) (fillings first opening older)) (filter_passes (is_live first opening covers older) (fillings first opening older)))
       (All-weaker (λ (x : Numbered E). outlives first opening covers older older x ≡ true) (λ (x : Numbered E). ltb next (x.number + 17) ≡ true) (λ x lives. young older x lives)

@@ -119,7 +119,8 @@ module _ {E : Type 0} where
       ap (λ place. kept place (bit_at w (n % 16) == 1) (get_or es (n % 16) 0) n ++ seen n k others es w) (same (n % 16) (λ e. apart e))
       ∙ ap (λ day. kept (slice_get places (n % 16)) (bit_at w (n % 16) == 1) day n ++ seen n k others es w) (days (n % 16) (λ e. apart e))
       ∙ ap (λ b. kept (slice_get places (n % 16)) (b == 1) (get_or ds (n % 16) 0) n ++ seen n k others es w) (bits (n % 16) (omega arith) (λ e. apart e))
-      ∙ ap (λ rest. kept (slice_get places (n % 16)) (bit_at d (n % 16) == 1) (get_or ds (n % 16) 0) n ++ rest) (seen-elsewhere m n k places others ds es d w (omega arith) (omega arith) same days bits)
+      ∙ ap (λ rest. kept (slice_get places (n % 16)) (bit_at d (n % 16) == 1) (get_or ds (n % 16) 0) n ++ rest)
+      (seen-elsewhere m n k places others ds es d w (omega arith) (omega arith) same days bits)
     where
       apart : n % 16 ≢ m % 16
       apart e = omega arith
@@ -170,10 +171,12 @@ module _ {E : Type 0} where
       ∙ ap (λ i. kept (slice_get places (i % 16)) (bit_at d (i % 16) == 1) (get_or ds (i % 16) 0) i) same
   seen-more (suc n) (suc k) m places ds d last =
       ap (λ rest. kept (slice_get places (n % 16)) (bit_at d (n % 16) == 1) (get_or ds (n % 16) 0) n ++ rest) (seen-more n k m places ds d (omega arith))
-      ∙ sym (append_assoc (kept (slice_get places (n % 16)) (bit_at d (n % 16) == 1) (get_or ds (n % 16) 0) n) (seen n k places ds d) (kept (slice_get places (m % 16)) (bit_at d (m % 16) == 1) (get_or ds (m % 16) 0) m))
+      ∙ sym (append_assoc (kept (slice_get places (n % 16)) (bit_at d (n % 16) == 1) (get_or ds (n % 16) 0) n) (seen n k places ds d)
+      (kept (slice_get places (m % 16)) (bit_at d (m % 16) == 1) (get_or ds (m % 16) 0) m))
 
   -- the newest of the fills, and the others
-  seen-at : (m j n k : ℕ) (places : List E) (ds : List ℕ) (d : ℕ) → m ≡ suc n → j ≡ suc k → seen m j places ds d ≡ kept (slice_get places (n % 16)) (bit_at d (n % 16) == 1) (get_or ds (n % 16) 0) n ++ seen n k places ds d
+  seen-at : (m j n k : ℕ) (places : List E) (ds : List ℕ) (d : ℕ) → m ≡ suc n → j ≡ suc k
+      → seen m j places ds d ≡ kept (slice_get places (n % 16)) (bit_at d (n % 16) == 1) (get_or ds (n % 16) 0) n ++ seen n k places ds d
   seen-at m j n k places ds d first many = rw (first, many) refl
 
   -- two contents with equal parts
@@ -203,7 +206,8 @@ module _ {E : Type 0} where
       by_place (slice_get places (n % 16)) (which (n % 16)) (fenced-places p q is n k places ds d w which)
     where
       by_bits : (item : E) (new old gone : Bool) → new ≡ old || gone → p (record { date = get_or ds (n % 16) 0; number = n; item = item }) ≡ not gone
-          → seen n k places ds w ≡ filter p (seen n k places ds d) → kept (Some item) new (get_or ds (n % 16) 0) n ++ seen n k places ds w ≡ filter p (kept (Some item) old (get_or ds (n % 16) 0) n ++ seen n k places ds d)
+          → seen n k places ds w ≡ filter p (seen n k places ds d)
+          → kept (Some item) new (get_or ds (n % 16) 0) n ++ seen n k places ds w ≡ filter p (kept (Some item) old (get_or ds (n % 16) 0) n ++ seen n k places ds d)
       by_bits item true true gone e keeps rest = rest
       by_bits item false true gone e keeps rest = cc
       by_bits item true false false e keeps rest = cc

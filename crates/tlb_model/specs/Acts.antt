@@ -60,7 +60,8 @@ module _ {E : Type 0} where
       -- Whether a fill outlives the acts after it: none of them drops it, and fewer than sixteen fills came after it, by the
       -- numbers (profile).
       abbrev pub outlives : (acts later : List (Act E)) → Numbered E → Bool
-      outlives acts later fill = not (list_any (ends covers fill.item) later) && nat_lt (next_number acts) (fill.number + 17)
+      outlives acts later fill = not (list_any (ends covers fill.item) later) && nat_lt (next_number acts)
+          (fill.number + 17)
 
       -- A fill among the acts lives while it outlives those after it.
       abbrev pub is_live : List (Act E) → Numbered E → Bool
@@ -89,16 +90,19 @@ module _ {E : Type 0} where
 abbrev pub KeepsWhatLives : Type 0 → Type 0
 KeepsWhatLives E =
     (first : ℕ) (opening : Contents E) (covers : Flush → E → Bool) (act : Act E) (acts : List (Act E))
-    → cache_after first opening covers (act ∷ acts) ≡ acted covers (first + length acts) (cache_after first opening covers acts) act
+    → cache_after first opening covers (act ∷ acts)
+    ≡ acted covers (first + length acts) (cache_after first opening covers acts) act
 
 -- The hit in a cache is the item of the key's that was filled last, of those that live.
 abbrev pub HitIsTheLast : Type 0 → Type 0 → Type 0
 HitIsTheLast E K =
-    (first : ℕ) (opening : Contents E) (covers : Flush → E → Bool) (holds : K → E → Bool) (key : K) (acts : List (Act E))
+    (first : ℕ) (opening : Contents E) (covers : Flush → E → Bool) (holds : K → E → Bool) (key : K)
+    (acts : List (Act E))
     → hit holds key (cache_after first opening covers acts) ≡ last_live first opening covers holds key acts
 
 -- the acts have the fill at its date
-pub record WasFilled {E : Type 0} (first : ℕ) (opening : Contents E) (acts : List (Act E)) (fill : Numbered E) : Type 0 where
+pub record WasFilled {E : Type 0} (first : ℕ) (opening : Contents E) (acts : List (Act E))
+    (fill : Numbered E) : Type 0 where
   pub newer : List (Act E)
   pub older : List (Act E)
   pub acted : acts ≡ newer ++ Fill fill.item ∷ older
@@ -114,8 +118,10 @@ LiveWasFilled E =
 -- After a fence no fill lives that it covers and that isn't of a later date.
 abbrev pub CoveredIsGone : Type 0 → Type 0
 CoveredIsGone E =
-    (first : ℕ) (opening : Contents E) (covers : Flush → E → Bool) (newer : List (Act E)) (flush : Flush) (older : List (Act E))
-    → All (λ fill. fill.date ≤ first + length older → covers flush fill.item ≡ false) (live first opening covers (newer ++ Drop flush ∷ older))
+    (first : ℕ) (opening : Contents E) (covers : Flush → E → Bool) (newer : List (Act E)) (flush : Flush)
+    (older : List (Act E))
+    → All (λ fill. fill.date ≤ first + length older → covers flush fill.item ≡ false)
+    (live first opening covers (newer ++ Drop flush ∷ older))
 
 -- After all was dropped every fill that lives is of a later date.
 abbrev pub ClearedIsGone : Type 0 → Type 0
@@ -128,4 +134,5 @@ ClearedIsGone E =
 abbrev pub GoesOnFromACut : Type 0 → Type 0
 GoesOnFromACut E =
     (first : ℕ) (opening : Contents E) (covers : Flush → E → Bool) (newer older : List (Act E))
-    → cache_after (first + length older) (cache_after first opening covers older) covers newer ≡ cache_after first opening covers (newer ++ older)
+    → cache_after (first + length older) (cache_after first opening covers older) covers newer
+    ≡ cache_after first opening covers (newer ++ older)

@@ -19,7 +19,11 @@ module _ {E : Type 0} where
   -- A fill at a date takes the next number, and replaces the fill sixteen before it (profile).
   abbrev pub filled : Contents E → (date : ℕ) → E → Contents E
   filled cache date item =
-      record { next = cache.next + 1; live = record { date = date; number = cache.next; item = item } ∷ filter (is_young cache.next) cache.live }
+      record {
+        next = cache.next + 1;
+        live = record { date = date; number = cache.next; item = item }
+            ∷ filter (is_young cache.next) cache.live;
+      }
 
   -- the cache after this fill, or after none
   abbrev pub filled_if : Contents E → (date : ℕ) → Option E → Contents E

@@ -41,4 +41,7 @@ is_wrong_range start size = not (is_full start size) && nat_lt (2 ^ 64) (start +
 
 abbrev pub fence_of_range : Spaces → (start size : ℕ) (asid : Option ℕ) → Fence
 fence_of_range spaces start size asid =
-    record { asid = low_asid spaces asid; range = if is_full start size then None else Some (record { start = start; size = size }) }
+    record {
+      asid = low_asid spaces asid;
+      range = if is_full start size then None else Some (record { start = start; size = size });
+    }

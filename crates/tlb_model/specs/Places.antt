@@ -28,4 +28,5 @@ module _ {E : Type 0} where
   -- The items of those of so many places whose bits are set in the word, from the last place down.
   abbrev pub marked : (count : ℕ) → (places : List E) → (word : ℕ) → List E
   marked zero places word = []
-  marked (suc place) places word = marked_at (slice_get places place) (bit_at word place == 1) ++ marked place places word
+  marked (suc place) places word = marked_at (slice_get places place) (bit_at word place == 1)
+      ++ marked place places word

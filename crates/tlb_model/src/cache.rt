@@ -1,4 +1,5 @@
-ghost use Rattle.std.specs.Prelude.{◌≡◌, ◌-◌, ◌/◌, ◌%◌, ◌<◌, ◌≤◌, ◌^◌, ℕ, Bool, IfOk, find, length, reverse};
+//! One cache of a hart: fills in their order, of which the latest are kept.
+ghost use Rattle.std.specs.Prelude.{◌≡◌, ◌-◌, ◌/◌, ◌%◌, ◌<◌, ◌≤◌, ◌^◌, ℕ, Bool, find, length, reverse};
 ghost use Rattle.std.specs.Int.{bit_at};
 ghost use Rattle.tlb_model.specs.Contents.{cleared, empty, fenced, filled, hit};
 ghost use Rattle.tlb_model.specs.Places.{marked};
@@ -6,7 +7,6 @@ ghost use Rattle.tlb_model.specs.Places.{marked};
 use crate::fence::Flush;
 use crate::live::Live;
 use arrayvec::ArrayVec;
-use std::alloc::AllocError;
 use std::marker::Model;
 
 /// What a cache keeps.
@@ -151,20 +151,21 @@ impl<E: Cached> Cache<E> {
         self.next
     }
 
-    /// A cache that is equal to this one. It fails where memory runs out.
-    pub fn try_copy(&self) -> Result<Cache<E>, AllocError>
-        ensures { IfOk result (λ copy. copy ≡ self.now) }
+    /// A cache that is equal to this one.
+    #[inline(always)]
+    pub fn copy(&self) -> Cache<E>
+        ensures { result ≡ self.now }
     {
         let mut places = ArrayVec::new();
         let Ok(()) = places.try_extend_from_slice(&self.places) else {
             unreachable!()
         };
-        Ok(Cache {
+        Cache {
             next: self.next,
             dropped: self.dropped,
             places,
             dates: self.dates,
-        })
+        }
     }
 
     /// What is live, in the order of filling.

@@ -1,4 +1,5 @@
-ghost use Rattle.std.specs.Prelude.{◌≡◌, IfOk};
+//! The two caches of a hart.
+ghost use Rattle.std.specs.Prelude.{◌≡◌};
 ghost use Rattle.tlb_model.specs.Contents.{cleared, empty, fenced};
 ghost use Rattle.tlb_model.specs.Entries.{covers_entry};
 ghost use Rattle.tlb_model.specs.Words.{covers_word};
@@ -7,7 +8,6 @@ use crate::cache::Cache;
 use crate::entry::Entry;
 use crate::fence::Flush;
 use crate::word::FetchWord;
-use std::alloc::AllocError;
 
 /// The cache of a hart's translations (Privileged 4.2.1).
 pub type Tlb = Cache<Entry>;
@@ -46,14 +46,15 @@ impl Caches {
         }
     }
 
-    /// Caches that are equal to these. It fails where memory runs out.
-    pub fn try_copy(&self) -> Result<Caches, AllocError>
-        ensures { IfOk result (λ copy. copy ≡ self.now) }
+    /// Caches that are equal to these.
+    #[inline(always)]
+    pub fn copy(&self) -> Caches
+        ensures { result ≡ self.now }
     {
-        Ok(Caches {
-            tlb: self.tlb.try_copy()?,
-            words: self.words.try_copy()?,
-        })
+        Caches {
+            tlb: self.tlb.copy(),
+            words: self.words.copy(),
+        }
     }
 
     /// Drops everything in both, as a stop of the hart or a reset does (profile).

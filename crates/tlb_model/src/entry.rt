@@ -1,3 +1,4 @@
+//! An entry of a TLB.
 ghost use Rattle.std.specs.Prelude.{◌≡◌};
 ghost use Rattle.tlb_model.specs.Entries.{covers_entry, is_in_space, matches, reaches};
 

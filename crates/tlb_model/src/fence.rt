@@ -1,3 +1,4 @@
+//! What a fence covers.
 ghost use Rattle.std.specs.Prelude.{◌≡◌, ◌<◌, ◌≤◌, ◌+◌, None};
 ghost use Rattle.tlb_model.specs.Fences.{fence_of_address, fence_of_range, is_full, is_wrong_range, low_asid, meets};
 

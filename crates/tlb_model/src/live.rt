@@ -1,3 +1,4 @@
+//! What of a cache is live, in order.
 ghost use Rattle.std.specs.Prelude.{◌≡◌, length, min, reverse};
 ghost use Rattle.std.specs.Iterator.{YieldsFirst, item_count};
 ghost use Rattle.tlb_model.specs.Places.{seen};

@@ -1,3 +1,4 @@
+//! A word that was fetched.
 ghost use Rattle.tlb_model.specs.Words.{covers_word, is_at};
 
 use crate::cache::Cached;

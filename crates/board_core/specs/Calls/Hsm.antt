@@ -13,11 +13,12 @@ use Rattle.hsm.specs.declared.hart.Kept.{Kept}
 use Rattle.hsm.specs.States.{is_stopped, state_number}
 use Rattle.rfence.specs.Turns.{Turn, Stop, Quiet}
 use Rattle.tlb_model.specs.declared.fence.Flush.{Flush}
-use Rattle.board_core.specs.declared.config.Config.{Config}
-use Rattle.board_core.specs.declared.event.Reply.{Reply}
-use Rattle.board_core.specs.declared.event.Reply.TheVariants.{Ret, Waiting, Gone}
-use Rattle.board_core.specs.Limits.{is_start_address}
-use Rattle.board_core.specs.Returns.{CallReply, Leaves, Returns, Waits, first_that_holds}
+use Rattle.board_terms.specs.declared.config.Config.{Config}
+use Rattle.board_terms.specs.declared.reply.Reply.{Reply}
+use Rattle.board_terms.specs.declared.reply.Reply.TheVariants.{Ret, Waiting, Gone}
+use Rattle.board_terms.specs.Limits.{is_start_address}
+use Rattle.board_terms.specs.Refusals.{first_that_holds}
+use Rattle.board_core.specs.Returns.{CallReply, Leaves, Returns, Waits}
 use Rattle.board_core.specs.Writes.{Move, One, Start, Write, Here}
 
 -- ---- replies
@@ -39,13 +40,15 @@ status_errors c t = (nat_le c.harts t, InvalidParam) ∷ []
 abbrev pub suspend_reply : Config → Result SuspendKind SbiError → (addr : ℕ) → CallReply
 suspend_reply c (Err error) addr = Returns (Some error) 0
 suspend_reply c (Ok Retentive) addr = Waits
-suspend_reply c (Ok NonRetentive) addr = if is_start_address c.pages addr then Leaves else Returns (Some InvalidAddress) 0
+suspend_reply c (Ok NonRetentive) addr = if is_start_address c.pages addr then Leaves else Returns
+    (Some InvalidAddress) 0
 
 -- A stop doesn't return; it fails while the caller's interrupts are enabled (SBI 9.2; that this is looked at: profile).
 abbrev pub hsm_reply : Config → (sstatus_sie : Bool) → (state : ℕ → HartState) → HsmCall → CallReply
 hsm_reply c sstatus_sie state (HartStart t addr opaque) = Returns (first_that_holds (start_errors c state t addr)) 0
 hsm_reply c sstatus_sie state HartStop = if sstatus_sie then Returns (Some Failed) 0 else Leaves
-hsm_reply c sstatus_sie state (HartGetStatus t) = Returns (first_that_holds (status_errors c t)) (state_number (state t))
+hsm_reply c sstatus_sie state (HartGetStatus t) = Returns (first_that_holds (status_errors c t))
+    (state_number (state t))
 hsm_reply c sstatus_sie state (HartSuspend kind addr opaque) = suspend_reply c kind addr
 
 -- ---- what they do
@@ -53,7 +56,8 @@ hsm_reply c sstatus_sie state (HartSuspend kind addr opaque) = suspend_reply c k
 -- The move that a call by hart x is: a start that succeeded makes its hart START_PENDING (SBI 9.1), a stop makes its
 -- caller STOP_PENDING (SBI 9.2), and a suspend makes its caller SUSPEND_PENDING (SBI 9.4).
 abbrev pub move_by_hsm : (x : ℕ) → HsmCall → Reply → Option Move
-move_by_hsm x (HartStart t addr opaque) (Ret answer) = if is_success answer then Some (One t states.StartPending) else None
+move_by_hsm x (HartStart t addr opaque) (Ret answer) = if is_success answer then Some
+    (One t states.StartPending) else None
 move_by_hsm x HartStop Gone = Some (One x states.StopPending)
 move_by_hsm x (HartSuspend kind addr opaque) Gone = Some (One x states.SuspendPending)
 move_by_hsm x (HartSuspend kind addr opaque) Waiting = Some (One x states.SuspendPending)

@@ -7,10 +7,11 @@ use Rattle.sbi_abi.specs.declared.call.ipi.IpiCall.TheVariants.{SendIpi}
 use Rattle.sbi_abi.specs.Errors.{is_success}
 use Rattle.hart_mask.specs.HartList.{targets_of}
 use Rattle.hsm.specs.declared.hart.HartState.{HartState}
-use Rattle.board_core.specs.declared.config.Config.{Config}
-use Rattle.board_core.specs.declared.event.Reply.{Reply}
-use Rattle.board_core.specs.declared.event.Reply.TheVariants.{Ret}
-use Rattle.board_core.specs.Returns.{CallReply, Returns, first_that_holds}
+use Rattle.board_terms.specs.declared.config.Config.{Config}
+use Rattle.board_terms.specs.declared.reply.Reply.{Reply}
+use Rattle.board_terms.specs.declared.reply.Reply.TheVariants.{Ret}
+use Rattle.board_terms.specs.Refusals.{first_that_holds}
+use Rattle.board_core.specs.Returns.{CallReply, Returns}
 use Rattle.board_core.specs.Targets.{is_reached}
 
 -- Why an IPI is refused: the base of its hart list, or a hart that it names, isn't there (SBI 3 and 7.1).

@@ -9,8 +9,8 @@ use Rattle.sv39.specs.declared.paging.Spaces.{Spaces}
 use Rattle.tlb_model.specs.declared.fence.Flush.{Flush}
 use Rattle.tlb_model.specs.declared.fence.Flush.TheVariants.{Words, Entries}
 use Rattle.tlb_model.specs.Fences.{fence_of_range, is_wrong_range}
-use Rattle.board_core.specs.declared.config.Config.{Config}
-use Rattle.board_core.specs.Limits.{spaces_of}
+use Rattle.board_terms.specs.declared.config.Config.{Config}
+use Rattle.board_terms.specs.Limits.{spaces_of}
 use Rattle.board_core.specs.Returns.{CallReply, Returns, Waits}
 
 -- What a remote SFENCE.VMA of a range drops, or the error that its range brings (SBI 8; what a wrong range is: profile).
@@ -27,7 +27,11 @@ pub record Remote : Type 0 where
 -- The remote fence that a call is (SBI 8.1 to 8.3).
 abbrev pub remote_by_rfence : Config → RfenceCall → Remote
 remote_by_rfence c (RemoteFenceI mask base) = record { mask = mask; base = base; flush = Ok Words }
-remote_by_rfence c (RemoteSfenceVma mask base start size) = record { mask = mask; base = base; flush = flush_of_range (spaces_of c) start size None }
+remote_by_rfence c (RemoteSfenceVma mask base start size) = record {
+  mask = mask;
+  base = base;
+  flush = flush_of_range (spaces_of c) start size None;
+}
 remote_by_rfence c (RemoteSfenceVmaAsid mask base start size asid) =
     record { mask = mask; base = base; flush = flush_of_range (spaces_of c) start size (Some asid) }
 

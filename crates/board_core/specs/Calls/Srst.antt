@@ -7,8 +7,8 @@ use Rattle.sbi_abi.specs.declared.reset.Reset.{Reset}
 use Rattle.rfence.specs.Turns as turns
 use Rattle.rfence.specs.Turns.{Turn}
 use Rattle.tlb_model.specs.declared.fence.Flush.{Flush}
-use Rattle.board_core.specs.declared.event.Reply.{Reply}
-use Rattle.board_core.specs.declared.event.Reply.TheVariants.{Gone}
+use Rattle.board_terms.specs.declared.reply.Reply.{Reply}
+use Rattle.board_terms.specs.declared.reply.Reply.TheVariants.{Gone}
 use Rattle.board_core.specs.Returns.{CallReply, Leaves, Returns}
 
 -- A system reset doesn't return (SBI 10.1), or answers why its type or its reason is refused.

@@ -2,8 +2,8 @@
 use Rattle.std.specs.Prelude.{ℕ, Option, Some, None}
 use Rattle.sbi_abi.specs.declared.call.time.TimeCall.{TimeCall}
 use Rattle.sbi_abi.specs.declared.call.time.TimeCall.TheVariants.{SetTimer}
-use Rattle.board_core.specs.declared.event.Reply.{Reply}
-use Rattle.board_core.specs.declared.event.Reply.TheVariants.{Ret}
+use Rattle.board_terms.specs.declared.reply.Reply.{Reply}
+use Rattle.board_terms.specs.declared.reply.Reply.TheVariants.{Ret}
 use Rattle.board_core.specs.Returns.{CallReply, Returns}
 use Rattle.board_core.specs.Writes.{Write, Here}
 

@@ -5,7 +5,7 @@ ghost use Rattle.board_core.specs.Calls.Base.{base_reply};
 ghost use Rattle.board_core.specs.Returns.{as_reply};
 
 use super::success;
-use crate::event::Reply;
+use board_terms::Reply;
 use sbi_abi::call::BaseCall;
 use sbi_abi::is_extension;
 

@@ -8,16 +8,15 @@ ghost use Rattle.sbi_abi.specs.Calls.{call_of};
 ghost use Rattle.hsm.specs.declared.hart.HartState.TheVariants as states;
 ghost use Rattle.hsm.specs.Transitions.{hart_at};
 ghost use Rattle.board_core.specs.History.{Event, by_hart};
-ghost use Rattle.board_core.specs.declared.event.Op.TheVariants.{Ecall};
-ghost use Rattle.board_core.specs.Limits.{IsGood};
+ghost use Rattle.board_terms.specs.declared.op.Op.TheVariants.{Ecall};
+ghost use Rattle.board_terms.specs.Limits.{IsGood};
 ghost use Rattle.board_core.specs.Opening.{Opening, on};
 ghost use Rattle.board_core.specs.Replies.{call_reply};
 ghost use Rattle.board_core.specs.Stands.{HasRoom, IsSized, IsStanding, StandsFor};
 
 use super::{failure, success};
-use crate::config::{Config, is_start_address};
-use crate::event::Reply;
 use crate::machine::Machine;
+use board_terms::{Config, Reply, is_start_address};
 use sbi_abi::call::HsmCall;
 use sbi_abi::{SbiError, SuspendKind};
 
@@ -29,8 +28,10 @@ impl Machine {
         requires in_range { h < config.now.harts }
         requires standing { IsStanding config.now self.old }
         requires started { (hart_at self.old.hsm h).state ≡ states.Started }
-        ensures answered { (o : Opening) (past : List Event) → StandsFor (on config.now o) past self.old → result ≡ call_reply (on config.now o) past h (Hsm call) }
-        ensures after { (o : Opening) (past : List Event) (regs : Regs) → Hsm call ≡ call_of regs → StandsFor (on config.now o) past self.old →
+        ensures answered { (o : Opening) (past : List Event) → StandsFor (on config.now o) past self.old
+            → result ≡ call_reply (on config.now o) past h (Hsm call) }
+        ensures after { (o : Opening) (past : List Event) (regs : Regs) → Hsm call ≡ call_of regs
+            → StandsFor (on config.now o) past self.old →
             StandsFor (on config.now o) (by_hart h (Ecall regs) result ∷ past) self.new }
     {
         match call {
@@ -52,7 +53,8 @@ impl Machine {
         requires room { HasRoom self.old.counts }
         ensures answered { (x : ℕ) (o : Opening) (past : List Event) → StandsFor (on config.now o) past self.old →
             result ≡ call_reply (on config.now o) past x (Hsm (calls.HartStart t addr opaque)) }
-        ensures after { (x : ℕ) (o : Opening) (past : List Event) (regs : Regs) → Hsm (calls.HartStart t addr opaque) ≡ call_of regs → StandsFor (on config.now o) past self.old →
+        ensures after { (x : ℕ) (o : Opening) (past : List Event) (regs : Regs)
+            → Hsm (calls.HartStart t addr opaque) ≡ call_of regs → StandsFor (on config.now o) past self.old →
             StandsFor (on config.now o) (by_hart x (Ecall regs) result ∷ past) self.new }
     {
         if t >= config.harts {
@@ -78,8 +80,10 @@ impl Machine {
         requires in_range { h < config.now.harts }
         requires standing { IsStanding config.now self.old }
         requires running { (hart_at self.old.hsm h).state ≡ states.Started }
-        ensures answered { (o : Opening) (past : List Event) → StandsFor (on config.now o) past self.old → result ≡ call_reply (on config.now o) past h (Hsm calls.HartStop) }
-        ensures after { (o : Opening) (past : List Event) (regs : Regs) → Hsm calls.HartStop ≡ call_of regs → StandsFor (on config.now o) past self.old →
+        ensures answered { (o : Opening) (past : List Event) → StandsFor (on config.now o) past self.old
+            → result ≡ call_reply (on config.now o) past h (Hsm calls.HartStop) }
+        ensures after { (o : Opening) (past : List Event) (regs : Regs) → Hsm calls.HartStop ≡ call_of regs
+            → StandsFor (on config.now o) past self.old →
             StandsFor (on config.now o) (by_hart h (Ecall regs) result ∷ past) self.new }
     {
         if self.interrupts.csrs.sstatus_sie.contains(h) {
@@ -103,8 +107,10 @@ impl Machine {
         requires good { IsGood config.now }
         requires in_range { h < length self.old.hsm }
         requires running { (hart_at self.old.hsm h).state ≡ states.Started }
-        ensures answered { (o : Opening) (past : List Event) → result ≡ call_reply (on config.now o) past h (Hsm (calls.HartSuspend kind addr opaque)) }
-        ensures after { (o : Opening) (past : List Event) (regs : Regs) → Hsm (calls.HartSuspend kind addr opaque) ≡ call_of regs → StandsFor (on config.now o) past self.old →
+        ensures answered { (o : Opening) (past : List Event)
+            → result ≡ call_reply (on config.now o) past h (Hsm (calls.HartSuspend kind addr opaque)) }
+        ensures after { (o : Opening) (past : List Event) (regs : Regs)
+            → Hsm (calls.HartSuspend kind addr opaque) ≡ call_of regs → StandsFor (on config.now o) past self.old →
             StandsFor (on config.now o) (by_hart h (Ecall regs) result ∷ past) self.new }
     {
         match kind {

@@ -5,16 +5,15 @@ ghost use Rattle.sbi_abi.specs.declared.call.Call.TheVariants as calls;
 ghost use Rattle.sbi_abi.specs.declared.call.Regs.{Regs};
 ghost use Rattle.sbi_abi.specs.Calls.{call_of};
 ghost use Rattle.board_core.specs.History.{Event, by_hart};
-ghost use Rattle.board_core.specs.declared.event.Op.TheVariants.{Ecall};
+ghost use Rattle.board_terms.specs.declared.op.Op.TheVariants.{Ecall};
 ghost use Rattle.board_core.specs.Calls.Ipi.{ipi_reply};
 ghost use Rattle.board_core.specs.Returns.{as_reply};
 ghost use Rattle.board_core.specs.Opening.{Opening, on};
 ghost use Rattle.board_core.specs.Stands.{IsSized, StandsFor};
 
 use super::{failure, success};
-use crate::config::Config;
-use crate::event::Reply;
 use crate::machine::Machine;
+use board_terms::{Config, Reply};
 use hart_mask::targets;
 use sbi_abi::call::IpiCall;
 
@@ -25,7 +24,8 @@ impl Machine {
         requires sized { IsSized config.now self.old }
         requires most { config.now.harts ≤ 128 }
         ensures answered { result ≡ as_reply (ipi_reply config.now call) }
-        ensures after { (x : ℕ) (o : Opening) (past : List Event) (regs : Regs) → calls.Ipi call ≡ call_of regs → StandsFor (on config.now o) past self.old →
+        ensures after { (x : ℕ) (o : Opening) (past : List Event) (regs : Regs) → calls.Ipi call ≡ call_of regs
+            → StandsFor (on config.now o) past self.old →
             StandsFor (on config.now o) (by_hart x (Ecall regs) result ∷ past) self.new }
     {
         let IpiCall::SendIpi { mask, base } = call;

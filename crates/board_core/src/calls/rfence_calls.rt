@@ -10,15 +10,14 @@ ghost use Rattle.rfence.specs.State.{call_at};
 ghost use Rattle.board_core.specs.Calls.Rfence.{fence_reply, flush_of_range, remote_by_rfence, rfence_reply};
 ghost use Rattle.board_core.specs.Returns.{as_reply};
 ghost use Rattle.board_core.specs.History.{Event, by_hart};
-ghost use Rattle.board_core.specs.declared.event.Op.TheVariants.{Ecall};
-ghost use Rattle.board_core.specs.Limits.{IsGood};
+ghost use Rattle.board_terms.specs.declared.op.Op.TheVariants.{Ecall};
+ghost use Rattle.board_terms.specs.Limits.{IsGood};
 ghost use Rattle.board_core.specs.Opening.{Opening, on, place_after};
 ghost use Rattle.board_core.specs.Stands.{IsSized, IsStanding, StandsFor};
 
 use super::failure;
-use crate::config::Config;
-use crate::event::Reply;
 use crate::machine::Machine;
+use board_terms::{Config, Reply};
 use hart_mask::targets;
 use sbi_abi::SbiError;
 use sbi_abi::call::RfenceCall;
@@ -35,7 +34,8 @@ impl Machine {
         requires standing { IsStanding config.now self.old }
         requires outside { call_at self.old.fences h ≡ None }
         ensures answered { result ≡ as_reply (rfence_reply config.now call) }
-        ensures after { (o : Opening) (past : List Event) (regs : Regs) → place ≡ place_after o past → calls.Rfence call ≡ call_of regs → StandsFor (on config.now o) past self.old →
+        ensures after { (o : Opening) (past : List Event) (regs : Regs) → place ≡ place_after o past
+            → calls.Rfence call ≡ call_of regs → StandsFor (on config.now o) past self.old →
             StandsFor (on config.now o) (by_hart h (Ecall regs) result ∷ past) self.new }
     {
         match call {
@@ -85,8 +85,11 @@ impl Machine {
         requires in_range { h < config.now.harts }
         requires standing { IsStanding config.now self.old }
         requires outside { call_at self.old.fences h ≡ None }
-        ensures answered { result ≡ as_reply (fence_reply config.now (record { mask = mask; base = base; flush = flush })) }
-        ensures after { (o : Opening) (past : List Event) (regs : Regs) (call : RfenceCall) → place ≡ place_after o past → remote_by_rfence config.now call ≡ record { mask = mask; base = base; flush = flush } →
+        ensures answered { result
+            ≡ as_reply (fence_reply config.now (record { mask = mask; base = base; flush = flush })) }
+        ensures after { (o : Opening) (past : List Event) (regs : Regs) (call : RfenceCall)
+            → place ≡ place_after o past
+            → remote_by_rfence config.now call ≡ record { mask = mask; base = base; flush = flush } →
             calls.Rfence call ≡ call_of regs → StandsFor (on config.now o) past self.old →
             StandsFor (on config.now o) (by_hart h (Ecall regs) result ∷ past) self.new }
     {

@@ -5,8 +5,8 @@ ghost use Rattle.sbi_abi.specs.declared.call.Call.TheVariants as calls;
 ghost use Rattle.sbi_abi.specs.declared.call.Regs.{Regs};
 ghost use Rattle.sbi_abi.specs.Calls.{call_of};
 ghost use Rattle.board_core.specs.History.{Event, by_hart};
-ghost use Rattle.board_core.specs.declared.event.Op.TheVariants.{Ecall};
-ghost use Rattle.board_core.specs.Limits.{IsGood};
+ghost use Rattle.board_terms.specs.declared.op.Op.TheVariants.{Ecall};
+ghost use Rattle.board_terms.specs.Limits.{IsGood};
 ghost use Rattle.board_core.specs.Opening.{Opening, on};
 ghost use Rattle.board_core.specs.Calls.Srst.{srst_reply};
 ghost use Rattle.board_core.specs.Returns.{as_reply};
@@ -14,10 +14,9 @@ ghost use Rattle.board_core.specs.Resets.{begins_anew, is_cold, is_shutdown};
 ghost use Rattle.board_core.specs.Stands.{IsSized, IsStanding, StandsFor};
 
 use super::failure;
-use crate::config::Config;
 use crate::counts::Counts;
-use crate::event::Reply;
 use crate::machine::Machine;
+use board_terms::{Config, Reply};
 use hsm::Kept;
 use sbi_abi::call::SrstCall;
 use sbi_abi::{Reset, ResetKind};
@@ -31,7 +30,8 @@ impl Machine {
         requires sized { IsSized config.now self.old }
         requires standing { IsStanding config.now self.old }
         ensures answered { result ≡ as_reply (srst_reply call) }
-        ensures after { (h : ℕ) (o : Opening) (past : List Event) (regs : Regs) → calls.Srst call ≡ call_of regs → StandsFor (on config.now o) past self.old →
+        ensures after { (h : ℕ) (o : Opening) (past : List Event) (regs : Regs) → calls.Srst call ≡ call_of regs
+            → StandsFor (on config.now o) past self.old →
             StandsFor (on config.now o) (by_hart h (Ecall regs) result ∷ past) self.new }
     {
         let SrstCall::SystemReset(asked) = call;
@@ -66,7 +66,8 @@ fn is_cold(kind: ResetKind) -> bool
 
 /// What the boot hart begins with, if it does.
 fn boot(config: &Config, begins: bool) -> Option<Kept>
-    ensures { result ≡ (if begins then Some (record { addr = config.now.boot_addr; opaque = config.now.boot_opaque }) else None) }
+    ensures { result ≡ (if begins then Some
+        (record { addr = config.now.boot_addr; opaque = config.now.boot_opaque }) else None) }
 {
     begins.then_some(Kept {
         addr: config.boot_addr,

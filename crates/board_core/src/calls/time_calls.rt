@@ -5,15 +5,15 @@ ghost use Rattle.sbi_abi.specs.declared.call.Call.TheVariants as calls;
 ghost use Rattle.sbi_abi.specs.declared.call.Regs.{Regs};
 ghost use Rattle.sbi_abi.specs.Calls.{call_of};
 ghost use Rattle.board_core.specs.History.{Event, by_hart};
-ghost use Rattle.board_core.specs.declared.event.Op.TheVariants.{Ecall};
+ghost use Rattle.board_terms.specs.declared.op.Op.TheVariants.{Ecall};
 ghost use Rattle.board_core.specs.Calls.Time.{time_reply};
 ghost use Rattle.board_core.specs.Returns.{as_reply};
 ghost use Rattle.board_core.specs.Opening.{Opening};
 ghost use Rattle.board_core.specs.Stands.{StandsFor};
 
 use super::success;
-use crate::event::Reply;
 use crate::machine::Machine;
+use board_terms::Reply;
 use sbi_abi::call::TimeCall;
 
 impl Machine {
@@ -21,7 +21,8 @@ impl Machine {
     pub fn time_call(&mut self, h: u64, call: TimeCall) -> Reply
         requires { h < length self.old.interrupts.timers.deadlines }
         ensures answered { result ≡ as_reply (time_reply call) }
-        ensures after { (o : Opening) (past : List Event) (regs : Regs) → calls.Time call ≡ call_of regs → StandsFor o past self.old →
+        ensures after { (o : Opening) (past : List Event) (regs : Regs) → calls.Time call ≡ call_of regs
+            → StandsFor o past self.old →
             StandsFor o (by_hart h (Ecall regs) result ∷ past) self.new }
     {
         let TimeCall::SetTimer(deadline) = call;

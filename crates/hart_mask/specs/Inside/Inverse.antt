@@ -20,7 +20,8 @@ range-more n =
     ∙ ap (λ below. below ++ n ∷ []) (map-id (range_with_len 0 n))
 
 -- what a test keeps below one number more
-pub filter-more : (p : ℕ → Bool) (n : ℕ) → filter p (range_with_len 0 (suc n)) ≡ filter p (range_with_len 0 n) ++ cond (p n) (n ∷ []) []
+pub filter-more : (p : ℕ → Bool) (n : ℕ)
+    → filter p (range_with_len 0 (suc n)) ≡ filter p (range_with_len 0 n) ++ cond (p n) (n ∷ []) []
 filter-more p n =
     ap (λ m. filter p (range_with_len 0 m)) (sym (add-one n))
     ∙ ap (filter p) (range-more n)

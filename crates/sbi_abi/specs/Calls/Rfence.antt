@@ -12,6 +12,14 @@ rfence_id = 0x52464E43
 abbrev pub rfence_listing : Regs → List (ℕ × Call)
 rfence_listing regs =
     (0, Rfence (RemoteFenceI (slice_index regs.a 0) (slice_index regs.a 1)))
-    ∷ (1, Rfence (RemoteSfenceVma (slice_index regs.a 0) (slice_index regs.a 1) (slice_index regs.a 2) (slice_index regs.a 3)))
-    ∷ (2, Rfence (RemoteSfenceVmaAsid (slice_index regs.a 0) (slice_index regs.a 1) (slice_index regs.a 2) (slice_index regs.a 3) (slice_index regs.a 4)))
+    ∷ (
+      1,
+      Rfence (RemoteSfenceVma (slice_index regs.a 0) (slice_index regs.a 1) (slice_index regs.a 2)
+          (slice_index regs.a 3)),
+    )
+    ∷ (
+      2,
+      Rfence (RemoteSfenceVmaAsid (slice_index regs.a 0) (slice_index regs.a 1) (slice_index regs.a 2)
+          (slice_index regs.a 3) (slice_index regs.a 4)),
+    )
     ∷ []

@@ -1,8 +1,9 @@
+//! A script, read from a device in pieces of whole lines.
 ghost use Rattle.std.specs.Prelude.{◌≡◌, ◌==◌, ◌+◌, ◌-◌, ◌^◌, ◌<◌, ◌≤◌, ℕ, List, Option, drop, length, take, vec_len, [], IfErr, IfOk, not, true};
 ghost use Rattle.std.specs.List.{list_all};
 ghost use Rattle.std.specs.Io.KnownBytes.{IsAtEnd};
 ghost use Rattle.guest_script.specs.Pieces.{AreWhole, HasRead};
-ghost use Rattle.monitor.specs.Sinks.{CountsCall};
+ghost use Rattle.printed_lines.specs.Sinks.{CountsCall};
 ghost use Rattle.sbiboard.specs.Sources.{CountsReading, HasTaken, HasTakenAll, Lacks, ReadsBehind, ReadsScript, ReadsUpTo, read_limit};
 ghost use Rattle.sbiboard.specs.declared.device.pieces.ReadFault.TheVariants.{Failed as ReadFailed, Script as NoScript};
 ghost use Rattle.guest_script.specs.FirstFault.{no_memory};
@@ -88,7 +89,8 @@ fn read_pieces<S: Source>(
     requires counts { S.failures source.old < 2 ^ 63 }
     requires nothing { HasRead reader [] }
     requires room { 0 < vec_len bytes.old }
-    ensures taken { IfOk result (λ read. HasTakenAll (S.left source.old) (S.left source.new) read.0 (take read.1 bytes.new.items)) }
+    ensures taken { IfOk result
+        (λ read. HasTakenAll (S.left source.old) (S.left source.new) read.0 (take read.1 bytes.new.items)) }
     ensures within { IfOk result (λ read. read.1 ≤ vec_len bytes.new) }
     ensures lacks { IfErr result Lacks }
     ensures at_most { ReadsUpTo read_limit (S.left source.old) (S.left source.new) }
@@ -103,7 +105,7 @@ fn read_pieces<S: Source>(
             return Ok((reader, pending));
         }
         left -= count;
-        let handed = hand_on(alloc, reader, bytes, pending, pending + count)?;
+        let handed = give_lines(alloc, reader, bytes, pending, pending + count)?;
         reader = handed.0;
         pending = handed.1;
     }
@@ -123,7 +125,8 @@ fn read_behind<S: Source>(
     requires most { 0 < most }
     ensures fits { IfOk result (λ count. pending + count ≤ vec_len bytes.new) }
     ensures most { IfOk result (λ count. count ≤ most) }
-    ensures bytes { IfOk result (λ count. ReadsBehind pending (S.left source.old) (S.left source.new) bytes.old.items bytes.new.items count) }
+    ensures bytes { IfOk result
+        (λ count. ReadsBehind pending (S.left source.old) (S.left source.new) bytes.old.items bytes.new.items count) }
     ensures lacks { IfErr result Lacks }
     ensures at_most { ReadsUpTo most (S.left source.old) (S.left source.new) }
     ensures end { IfOk result (λ count. count ≡ 0 → IsAtEnd (S.left source.new)) }
@@ -148,7 +151,8 @@ fn read_at<S: Source>(
     requires within { end ≤ length bytes.old }
     ensures len { length bytes.new ≡ length bytes.old }
     ensures fits { IfOk result (λ count. at + count ≤ end) }
-    ensures bytes { IfOk result (λ count. ReadsBehind at (S.left source.old) (S.left source.new) bytes.old bytes.new count) }
+    ensures bytes { IfOk result
+        (λ count. ReadsBehind at (S.left source.old) (S.left source.new) bytes.old bytes.new count) }
     ensures at_most { ReadsUpTo (end - at) (S.left source.old) (S.left source.new) }
     ensures end { IfOk result (λ count. count ≡ 0 → IsAtEnd (S.left source.new)) }
     ensures failed { CountsCall (S.failures source.old) (S.failures source.new) result }
@@ -158,7 +162,7 @@ fn read_at<S: Source>(
 
 /// Hands the whole lines of the first `filled` bytes to the reader, and answers the reader, and how many bytes are left, which
 /// then stand in front. There is no line feed among those up to `from`.
-fn hand_on(
+fn give_lines(
     alloc: Global,
     reader: Reader,
     bytes: &mut Vec<u8>,
@@ -169,7 +173,8 @@ fn hand_on(
     requires within { filled ≤ vec_len bytes.old }
     ensures len { vec_len bytes.new ≡ vec_len bytes.old }
     ensures fits { IfOk result (λ handed. handed.1 ≤ filled) }
-    ensures taken { (old new : Option (List ℕ)) → (count : ℕ) → HasTaken old new reader (take filled bytes.old.items) count
+    ensures taken { (old new : Option (List ℕ)) → (count : ℕ)
+        → HasTaken old new reader (take filled bytes.old.items) count
         → IfOk result (λ handed. HasTaken old new handed.0 (take handed.1 bytes.new.items) count) }
 {
     let lines = whole_lines(&bytes[from..filled]);

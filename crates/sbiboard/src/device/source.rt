@@ -1,6 +1,7 @@
+//! What gives bytes, and may fail.
 ghost use Rattle.std.specs.Prelude.{◌≡◌, ℕ, ◌^◌, ◌<◌, ◌≤◌, List, Option, length, MatchResult, IfOk};
 ghost use Rattle.std.specs.Io.KnownBytes.{ReadConsumes};
-ghost use Rattle.monitor.specs.Sinks.{CountsCall};
+ghost use Rattle.printed_lines.specs.Sinks.{CountsCall};
 
 use monitor::Failed;
 

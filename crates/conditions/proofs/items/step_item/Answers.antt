@@ -1,6 +1,6 @@
 use Rattle.std.proofs.Common.{◌-◌, sym, ap, ◌∙◌, arith}
 use Rattle.std.specs.Prelude.{slice_get}
-use Rattle.board_core.specs.declared.event.Op.{Op}
+use Rattle.board_terms.specs.declared.op.Op.{Op}
 use Rattle.conditions.specs.Items.{actor_item, op_items}
 use Rattle.conditions.proofs.Places.{behind}
 use Rattle.conditions.proofs.items.step_item.Goals as goal

@@ -6,7 +6,8 @@ use Rattle.conditions.proofs.rules.first_other_reply.Goals.{else-fits_step-via-t
 pub returns-then-not-fits_reply : goal.returns-then-not-fits_reply
 returns-then-not-fits_reply c = (
   omega arith,
-  reply-misfit c.args.p.now c.args.events.now c.loop-k.k c.index-events-k.result c.fits_reply.result (omega arith) c.index-events-k.is (c.fits_step.ensures.0 c.if-fits_step.true) c.fits_reply.ensures.1 c.if-not-fits_reply.true,
+  reply-misfit c.args.p.now c.args.events.now c.loop-k.k c.index-events-k.result c.fits_reply.result (omega arith) c.index-events-k.is
+      (c.fits_step.ensures.0 c.if-fits_step.true) c.fits_reply.ensures.1 c.if-not-fits_reply.true,
 )
 
 pub loop-k-preserved : goal.loop-k-preserved

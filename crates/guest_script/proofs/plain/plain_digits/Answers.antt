@@ -4,7 +4,8 @@ use Rattle.guest_script.proofs.plain.plain_digits.Goals as goal
 
 pub returns-in-None-2-clause-number : goal.returns-in-None-2-clause-number
 returns-in-None-2-clause-number c =
-    digits_begin c.args.radix c.args.bytes.now c.loop-i.i c.loop-i.n _ (omega arith) c.loop-i.invariant.1 (omega arith) (omega arith) (rest_of c.args.bytes.now c.loop-i.i (omega arith)) c.loop-i.invariant.0
+    digits_begin c.args.radix c.args.bytes.now c.loop-i.i c.loop-i.n _ (omega arith) c.loop-i.invariant.1 (omega arith) (omega arith)
+    (rest_of c.args.bytes.now c.loop-i.i (omega arith)) c.loop-i.invariant.0
 
 pub loop-i-preserved : goal.loop-i-preserved
 loop-i-preserved c =

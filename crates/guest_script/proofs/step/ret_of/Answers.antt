@@ -8,4 +8,5 @@ returns-in-None-number c =
     sym (ret_bad_value c.args.error.now c.args.value.now c.in-Some.error (sym c.signed_number.ensures ∙ c.in-Some.is) (sym c.number.ensures.value ∙ c.in-None-number.is))
 
 pub returns-in-Some-number : goal.returns-in-Some-number
-returns-in-Some-number c = rw (to_z-of_z w64 c.in-Some.error (grind (arith, ints))) (sym (ret_good c.args.error.now c.args.value.now c.in-Some.error c.in-Some-number.value (sym c.signed_number.ensures ∙ c.in-Some.is) (sym c.number.ensures.value ∙ c.in-Some-number.is)))
+returns-in-Some-number c = rw (to_z-of_z w64 c.in-Some.error (grind (arith, ints)))
+    (sym (ret_good c.args.error.now c.args.value.now c.in-Some.error c.in-Some-number.value (sym c.signed_number.ensures ∙ c.in-Some.is) (sym c.number.ensures.value ∙ c.in-Some-number.is)))

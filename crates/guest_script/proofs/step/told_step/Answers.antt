@@ -10,17 +10,20 @@ returns-in_err-step-clause-read c =
     let first = c.args.first.now in
     let words = words_in c.args.rest.now in
     let p = err_from_is_err_and c.from_residual.result c.from_residual.ensures.1 in
-    rw (p.1, p.2) (first_bad (doing_tests first (before_arrow words)) (said_tests (after_arrow words)) (step_in first (before_arrow words)) (said_in (after_arrow words)) (step_in first (before_arrow words), said_in (after_arrow words)) _ c.in_err-step.ensures.read)
+    rw (p.1, p.2) (first_bad (doing_tests first (before_arrow words)) (said_tests (after_arrow words)) (step_in first (before_arrow words)) (said_in (after_arrow words))
+    (step_in first (before_arrow words), said_in (after_arrow words)) _ c.in_err-step.ensures.read)
 
 pub returns-in_err-said-clause-read : goal.returns-in_err-said-clause-read
 returns-in_err-said-clause-read c =
     let first = c.args.first.now in
     let words = words_in c.args.rest.now in
     let p = err_from_is_err_and c.from_residual-in_err-said.result c.from_residual-in_err-said.ensures.1 in
-    rw (p.1, p.2) (second_bad (doing_tests first (before_arrow words)) (said_tests (after_arrow words)) (step_in first (before_arrow words)) (said_in (after_arrow words)) (step_in first (before_arrow words), said_in (after_arrow words)) c.in_ok-step.step _ c.in_ok-step.ensures.read (rw c.after_arrow.ensures at c.in_err-said.ensures))
+    rw (p.1, p.2) (second_bad (doing_tests first (before_arrow words)) (said_tests (after_arrow words)) (step_in first (before_arrow words)) (said_in (after_arrow words))
+    (step_in first (before_arrow words), said_in (after_arrow words)) c.in_ok-step.step _ c.in_ok-step.ensures.read (rw c.after_arrow.ensures at c.in_err-said.ensures))
 
 pub returns-clause-read : goal.returns-clause-read
 returns-clause-read c =
     let first = c.args.first.now in
     let words = words_in c.args.rest.now in
-    both_good (doing_tests first (before_arrow words)) (said_tests (after_arrow words)) (step_in first (before_arrow words)) c.in_ok-step.step (said_in (after_arrow words)) c.in_ok-said.said (step_in first (before_arrow words), said_in (after_arrow words)) (c.in_ok-step.step, c.in_ok-said.said) refl refl c.in_ok-step.ensures.read (rw c.after_arrow.ensures at c.in_ok-said.ensures)
+    both_good (doing_tests first (before_arrow words)) (said_tests (after_arrow words)) (step_in first (before_arrow words)) c.in_ok-step.step (said_in (after_arrow words)) c.in_ok-said.said
+    (step_in first (before_arrow words), said_in (after_arrow words)) (c.in_ok-step.step, c.in_ok-said.said) refl refl c.in_ok-step.ensures.read (rw c.after_arrow.ensures at c.in_ok-said.ensures)

@@ -1,8 +1,8 @@
 use Rattle.std.proofs.Common.{true, Option, Some}
-use Rattle.board_core.specs.declared.event.Actor.{Actor}
-use Rattle.board_core.specs.declared.event.Op.{Op}
-use Rattle.guest_script.specs.declared.said.Said.{Said}
-use Rattle.guest_script.specs.declared.script.Line.{Line}
+use Rattle.board_terms.specs.declared.op.Actor.{Actor}
+use Rattle.board_terms.specs.declared.op.Op.{Op}
+use Rattle.script_lines.specs.declared.said.Said.{Said}
+use Rattle.script_lines.specs.declared.script.Line.{Line}
 use Rattle.guest_script.specs.FirstFault.{step_tests}
 use Rattle.guest_script.specs.Values.{after_arrow, before_arrow, said_in, step_in, words_in}
 use Rattle.guest_script.proofs.Named.{made_good}

@@ -14,7 +14,8 @@ returns-in-Err g c =
     let next = next-tick g.K.Plan.ticks program c.loop-n.seat.count c.loop-n.n-index c.args.work.now.planned c.loop-n.invariant.2 c.loop-n-test.true in
     record {
       actor = e.actor ∙ c.loop-n.invariant.0;
-      ticks = first-of c.loop-n.seat.ops c.call.new.seat.ops program g.K.Plan.ticks c.loop-n.n-index c.args.work.now.planned c.loop-n-test.true c.loop-n.invariant.1 (ap (λ (s : Sitting). s.ops) e.refused);
+      ticks = first-of c.loop-n.seat.ops c.call.new.seat.ops program g.K.Plan.ticks c.loop-n.n-index c.args.work.now.planned c.loop-n-test.true c.loop-n.invariant.1
+          (ap (λ (s : Sitting). s.ops) e.refused);
       worked = subst (λ (m : Met). WorkedAt t c.call.new.seat m) (sym c.by_refusal.ensures)
           (clock-refused t c.loop-n.seat c.call.new.seat _ c.loop-n.invariant.0 c.loop-n.invariant.3 next e.refused e.later c.in-Err.refusal e.refusal);
     }

@@ -1,8 +1,8 @@
 use Rattle.std.proofs.Common.{◌≡◌, ◌∙◌, List, [], length, get_or, sym, ap, subst, replicate, refl, arith}
 use Rattle.std.proofs.lemmas.List.{get_or-replicate, length-replicate}
 use Rattle.std.specs.Prelude.{Option}
-use Rattle.board_core.specs.declared.config.Config.{Config}
-use Rattle.board_core.specs.declared.event.Op.{Op}
+use Rattle.board_terms.specs.declared.config.Config.{Config}
+use Rattle.board_terms.specs.declared.op.Op.{Op}
 use Rattle.hart_threads.specs.declared.guests.Guest.{Guest}
 use Rattle.hart_threads.specs.Guests.{AreLeft, left_of}
 use Rattle.hart_threads.proofs.finding.guests_after.Goals as goal

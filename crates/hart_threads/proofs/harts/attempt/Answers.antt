@@ -1,6 +1,6 @@
 use Rattle.std.proofs.Common.{List, ◌∷◌, ap, subst, sym, ◌∙◌}
 use Rattle.std.specs.Prelude.{Option}
-use Rattle.board_core.specs.declared.event.Op.{Op}
+use Rattle.board_terms.specs.declared.op.Op.{Op}
 use Rattle.board_lock.specs.Seats.{Sitting}
 use Rattle.guest_script.specs.Grammar.{Guest}
 use Rattle.hart_threads.specs.declared.met.Met.{Met}

@@ -23,7 +23,8 @@ pub loop-init : goal.loop-init
 loop-init g c =
     let t : Task = task g.K.Plan.lets g.K.Room.opening g.K.Plan.blocks g.K.Plan.ticks in (
       ap (λ (s : Sitting). s.actor) c.view-view.ensures.seat,
-      looked t c.args.seat c.view-view.new.seat (left_of c.new-guest.result) Nothing c.view-view.ensures.seat c.view-view.ensures.later (fresh-going t c.args.seat (left_of c.new-guest.result) c.requires.fresh c.new-guest.ensures),
+      looked t c.args.seat c.view-view.new.seat (left_of c.new-guest.result) Nothing c.view-view.ensures.seat c.view-view.ensures.later
+          (fresh-going t c.args.seat (left_of c.new-guest.result) c.requires.fresh c.new-guest.ensures),
       c.view-view.ensures.view,
     )
 

@@ -1,7 +1,7 @@
 use Rattle.std.proofs.Common.{◌≡◌, ◌∙◌, ◌++◌, ◌∷◌, [], List, ap, sym, append_assoc, length, map, arith}
 use Rattle.std.specs.Vec.Iter.{into_iter_items}
 use Rattle.std.proofs.lemmas.List.{map-append}
-use Rattle.board_core.specs.declared.event.Actor.{Actor}
+use Rattle.board_terms.specs.declared.op.Actor.{Actor}
 use Rattle.board_lock.specs.Seats.{Sitting}
 use Rattle.hart_threads.specs.declared.met.Met.{Met}
 use Rattle.hart_threads.specs.Met.{met_by_all, met_by_both}

@@ -2,7 +2,7 @@ use Rattle.std.proofs.Common.{◌≡◌, ◌+◌, List, ◌∙◌, ap, subst, le
 use Rattle.std.specs.List.{All}
 use Rattle.std.proofs.lemmas.List.{reverse-reverse}
 use mathlib.Core.List.{IsPrefix}
-use Rattle.board_core.specs.declared.event.Actor.TheVariants.{Clock}
+use Rattle.board_terms.specs.declared.op.Actor.TheVariants.{Clock}
 use Rattle.board_core.specs.History.{Event}
 use Rattle.board_lock.specs.Events.{events_in, events_of}
 use Rattle.board_lock.specs.Seats.{Sitting, seats_of}

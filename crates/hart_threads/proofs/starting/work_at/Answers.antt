@@ -1,5 +1,5 @@
 use Rattle.std.proofs.Common.{[], ap, sym, ◌∙◌}
-use Rattle.board_core.specs.declared.event.Actor.{Actor}
+use Rattle.board_terms.specs.declared.op.Actor.{Actor}
 use Rattle.board_lock.specs.Seats.{sitting}
 use Rattle.hart_threads.proofs.starting.work_at.Goals as goal
 

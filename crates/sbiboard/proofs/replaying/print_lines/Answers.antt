@@ -30,7 +30,8 @@ loop-line-preserved g c =
           c.args.board.now c.args.lines.now c.loop-line.met_full c.in-Some-2.is_full done.is_full so_far.replaying;
       done = has_done-more c.args.board.now c.loop-line.board c.print_done.new.board c.args.lines.now c.loop-line.line-iterator c.next.new.self c.in-Some.line are done.course
           step refl (answer_to c.loop-line.board step) refl
-          (g.W.Sink.written c.args.writer.now) (g.W.Sink.written c.loop-line.writer) (g.W.Sink.written c.print_done.new.writer) c.loop-line.page done.taken c.print_done.new.page done.written done.passed so_far.done;
+          (g.W.Sink.written c.args.writer.now) (g.W.Sink.written c.loop-line.writer)
+          (g.W.Sink.written c.print_done.new.writer) c.loop-line.page done.taken c.print_done.new.page done.written done.passed so_far.done;
       fits = λ later. so_far.fits (all_fit-more c.loop-line.board c.print_done.new.board c.loop-line.line-iterator c.next.new.self c.in-Some.line are
           done.course (answer_to c.loop-line.board step) refl done.step_fits done.answer_fits later);
       failures = done.none_failed ∙ so_far.failures;

@@ -1,7 +1,7 @@
 use Rattle.std.proofs.Common.{ℕ, List, ◌++◌, refl, ap, ◌∙◌}
 use Rattle.std.proofs.KnownBytes.{Appends-trans}
 use Rattle.board_core.specs.Course.{Course}
-use Rattle.monitor.specs.Words.{board_words, line_of}
+use Rattle.printed_lines.specs.Words.{board_words, line_of}
 use Rattle.sbiboard.specs.Replay.{lines_text, meets_full, text_of}
 use Rattle.sbiboard.proofs.Replayed.{text_of-printed}
 use Rattle.sbiboard.proofs.replaying.print_replay.Goals as goal

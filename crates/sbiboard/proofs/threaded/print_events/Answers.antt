@@ -1,5 +1,5 @@
 use Rattle.std.proofs.Common.{◌∙◌, ◌+◌, Ok, drop, subst}
-use Rattle.board_core.specs.declared.event.Reply.{Reply}
+use Rattle.board_terms.specs.declared.reply.Reply.{Reply}
 use Rattle.sbiboard.specs.PrintedScripts.{FitsAnswer, FitsOp}
 use Rattle.sbiboard.specs.Threaded.{events_text}
 use Rattle.sbiboard.proofs.Recorded.{events_text-more}

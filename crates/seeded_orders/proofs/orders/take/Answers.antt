@@ -1,5 +1,5 @@
 use Rattle.std.proofs.Common.{◌≡◌, List, ◌∷◌, refl, sym, ap, ◌∙◌, subst}
-use Rattle.board_core.specs.declared.event.Actor.{Actor}
+use Rattle.board_terms.specs.declared.op.Actor.{Actor}
 use Rattle.board_core.specs.Course.{Course}
 use Rattle.board_core.specs.History.{Event}
 use Rattle.seeded_orders.specs.Places.{AreAt}

@@ -1,5 +1,5 @@
 use Rattle.std.proofs.Common.{◌≡◌, ℕ, ◌∙◌, subst, arith}
-use Rattle.board_core.specs.declared.config.Config.{Config}
+use Rattle.board_terms.specs.declared.config.Config.{Config}
 use Rattle.guest_script.specs.Grammar.{content, Content}
 use Rattle.seeded_orders.specs.Orders.{IsTried}
 use Rattle.seeded_orders.specs.Steps.{task_in, Task}

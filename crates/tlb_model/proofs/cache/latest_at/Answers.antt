@@ -28,7 +28,8 @@ returns-then-holds g c =
     let met : h item ≡ true = sym c.holds.ensures ∙ c.if-holds.true in
     let rest = bit_and left (4294967295 - 1 * 2 ^ place % 4294967296) in
     let found : find h (marked (length places) places left) ≡ Some item =
-    ap (find h) (marked-last place (length places) places left rest item within here last.set (λ i up below. last.none i up) last.clear (λ i below other. last.same i (omega (arith, c.requires.few)) other))
+    ap (find h) (marked-last place (length places) places left rest item within here last.set (λ i up below. last.none i up) last.clear
+    (λ i below other. last.same i (omega (arith, c.requires.few)) other))
     ∙ (rw met refl) in
     sym (sym c.loop-left.invariant.0 ∙ found)
 
@@ -49,7 +50,8 @@ loop-left-preserved g c =
     let rest = bit_and left (4294967295 - 1 * 2 ^ place % 4294967296) in
     let less : rest < left = last.less in
     let found : find h (marked (length places) places left) ≡ find h (marked (length places) places rest) =
-    ap (find h) (marked-last place (length places) places left rest item within here last.set (λ i up below. last.none i up) last.clear (λ i below other. last.same i (omega (arith, c.requires.few)) other))
+    ap (find h) (marked-last place (length places) places left rest item within here last.set (λ i up below. last.none i up) last.clear
+    (λ i below other. last.same i (omega (arith, c.requires.few)) other))
     ∙ (rw past refl) in
     (sym found ∙ c.loop-left.invariant.0, omega (arith, less, c.loop-left.invariant.1))
 

@@ -2,8 +2,8 @@ use Rattle.std.proofs.Common.{◌≡◌, ◌+◌, ◌++◌, ◌∷◌, [], ap, r
 use Rattle.std.specs.Prelude.{is_some, nat_lt, not}
 use Rattle.interrupts.specs.Timing.{last_time, ticked}
 use Rattle.board_core.specs.History.{Event, by_clock}
-use Rattle.board_core.specs.declared.event.Op.TheVariants.{Tick}
-use Rattle.board_core.specs.declared.event.Reply.TheVariants.{Done}
+use Rattle.board_terms.specs.declared.op.Op.TheVariants.{Tick}
+use Rattle.board_terms.specs.declared.reply.Reply.TheVariants.{Done}
 use Rattle.board_core.specs.Course.{Course}
 use Rattle.board_core.specs.Refusals.{is_full}
 use Rattle.board_core.specs.Resets.{is_off}

@@ -1,6 +1,6 @@
 use Rattle.std.proofs.Common.{◌≡◌, ◌<◌, false, ap, sym, true, ◌∙◌, arith, reverse, refl}
-use Rattle.board_core.specs.declared.event.Actor.TheVariants.{Hart}
-use Rattle.board_core.specs.declared.event.Refusal.TheVariants.{HistoryFull}
+use Rattle.board_terms.specs.declared.op.Actor.TheVariants.{Hart}
+use Rattle.board_terms.specs.declared.reply.Refusal.TheVariants.{HistoryFull}
 use Rattle.board_core.specs.Course.{Course}
 use Rattle.board_core.specs.Refusals.{first_that_holds, is_full, refusals_in, situation}
 use Rattle.board_core.specs.Replies.{answer}
@@ -55,12 +55,14 @@ returns-then-is_full-clause-after c =
     rw (← refused) refl
 
 -- the step is accepted
-pub access-requires-clause-unrefused : goal.access-requires-clause-unrefused
-access-requires-clause-unrefused c =
+pub access_step-requires-clause-unrefused : goal.access_step-requires-clause-unrefused
+access_step-requires-clause-unrefused c =
     let inside : c.args.h < c.self.inside.config.harts = omega (arith, ap (λ (b : Course). b.opening.config.harts) c.self.view_is) in
-    unrefused-read _ _ _ c.self.view_is c.self.invariant.0.good.at_most_128_harts c.self.invariant.1 c.args.h inside c.args.op (sym c.refusal.ensures ∙ c.in_default.is) (sym c.is_full.ensures ∙ c.if-is_full.false)
+    unrefused-read _ _ _ c.self.view_is c.self.invariant.0.good.at_most_128_harts c.self.invariant.1 c.args.h inside c.args.op (sym c.refusal.ensures ∙ c.in_default.is)
+    (sym c.is_full.ensures ∙ c.if-is_full.false)
 
-pub perform-requires-clause-unrefused : goal.perform-requires-clause-unrefused
-perform-requires-clause-unrefused c =
+pub other_step-requires-clause-unrefused : goal.other_step-requires-clause-unrefused
+other_step-requires-clause-unrefused c =
     let inside : c.args.h < c.self.inside.config.harts = omega (arith, ap (λ (b : Course). b.opening.config.harts) c.self.view_is) in
-    unrefused-read _ _ _ c.self.view_is c.self.invariant.0.good.at_most_128_harts c.self.invariant.1 c.args.h inside c.args.op (sym c.refusal.ensures ∙ c.in_default.is) (sym c.is_full.ensures ∙ c.if-is_full.false)
+    unrefused-read _ _ _ c.self.view_is c.self.invariant.0.good.at_most_128_harts c.self.invariant.1 c.args.h inside c.args.op (sym c.refusal.ensures ∙ c.in_default.is)
+    (sym c.is_full.ensures ∙ c.if-is_full.false)

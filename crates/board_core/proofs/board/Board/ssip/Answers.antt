@@ -10,4 +10,7 @@ returns c =
     let same_config = ap (λ (b : Course). b.opening.config.harts) c.self.view_is in
     let most = c.self.invariant.0.good.at_most_128_harts in
     let past = reverse c.self.inside.events.items in
-    rw (← c.self.view_is) (c.pending.ensures.answer ∙ bit-read (opened_by c.self.inside.config c.self.inside.places c.self.inside.opened) past (ssip (opened_by c.self.inside.config c.self.inside.places c.self.inside.opened) past) _ c.args.h (omega arith) c.self.invariant.1.interrupts.ipis.ssip)
+    rw (← c.self.view_is)
+    (c.pending.ensures.answer
+    ∙ bit-read (opened_by c.self.inside.config c.self.inside.places c.self.inside.opened) past (ssip (opened_by c.self.inside.config c.self.inside.places c.self.inside.opened) past) _ c.args.h
+    (omega arith) c.self.invariant.1.interrupts.ipis.ssip)

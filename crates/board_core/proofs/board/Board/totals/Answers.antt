@@ -17,7 +17,8 @@ returns-clause-counts c =
     let fences = stands.fences.stands in
     let asked_are = c.asked.ensures ∙ fences.asked in
     let applied_are = c.applied.ensures ∙ fences.applied in
-    let waiting_are = c.waiting.ensures ∙ ap (sum_by length) fences.queues ∙ sum_by-map length (waiting (opened_by c.self.inside.config c.self.inside.places c.self.inside.opened) (reverse c.self.inside.events.items)) (harts_of c.self.inside.config) in
+    let waiting_are = c.waiting.ensures ∙ ap (sum_by length) fences.queues
+    ∙ sum_by-map length (waiting (opened_by c.self.inside.config c.self.inside.places c.self.inside.opened) (reverse c.self.inside.events.items)) (harts_of c.self.inside.config) in
     rw (← c.self.view_is) cc
 
 pub returns-clause-starts : goal.returns-clause-starts

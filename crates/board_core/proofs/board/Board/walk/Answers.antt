@@ -13,5 +13,6 @@ pub returns : goal.returns
 returns c =
     let same_config = ap (λ (b : Course). b.opening.config.harts) c.self.view_is in
     let stands = c.self.invariant.1.memory in
-    let satp_is = satp-read (opened_by c.self.inside.config c.self.inside.places c.self.inside.opened) (reverse c.self.inside.events.items) c.self.inside.machine.memory c.args.h 0 (omega arith) stands in
+    let satp_is = satp-read (opened_by c.self.inside.config c.self.inside.places c.self.inside.opened) (reverse c.self.inside.events.items) c.self.inside.machine.memory c.args.h 0
+    (omega arith) stands in
     rw (← c.self.view_is, ← stands.ram, ← satp_is, ← c.satp.ensures) c.walk.ensures

@@ -2,8 +2,8 @@ use Rattle.std.proofs.Common.{◌≡◌, ap, sym, refl, ◌∙◌, false, true}
 use Rattle.std.specs.Prelude.{None, Some, is_some}
 use Rattle.hsm.specs.declared.hart.HartState.TheVariants.{Started}
 use Rattle.hsm.specs.declared.hart.Moved.TheVariants as moves
-use Rattle.board_core.specs.declared.event.Op.TheVariants.{Advance}
-use Rattle.board_core.specs.declared.event.Reply.TheVariants.{Entry, Moved, Ret}
+use Rattle.board_terms.specs.declared.op.Op.TheVariants.{Advance}
+use Rattle.board_terms.specs.declared.reply.Reply.TheVariants.{Entry, Moved, Ret}
 use Rattle.board_core.specs.Csrs.{none_enabled}
 use Rattle.board_core.specs.Replies.{success}
 use Rattle.board_core.specs.History.{by_hart}

@@ -1,5 +1,5 @@
 use Rattle.std.proofs.Common.{◌∷◌, sym, ◌∙◌, arith, subst}
-use Rattle.board_core.specs.declared.event.Actor.TheVariants.{Hart}
+use Rattle.board_terms.specs.declared.op.Actor.TheVariants.{Hart}
 use Rattle.board_core.specs.History.{Event}
 use Rattle.board_core.specs.Keeping.{IsShort}
 use Rattle.board_core.specs.Opening.{on}

@@ -3,7 +3,7 @@ use Rattle.std.proofs.lemmas.Bool.{lt-leb}
 use Rattle.hsm.specs.Harts.{Hart}
 use Rattle.hsm.specs.States.{state_number}
 use Rattle.board_core.specs.Replies.{success}
-use Rattle.board_core.specs.declared.event.Reply.TheVariants.{Ret}
+use Rattle.board_terms.specs.declared.reply.Reply.TheVariants.{Ret}
 use Rattle.board_core.specs.Opening.{on}
 use Rattle.board_core.proofs.HartsStanding.{hart_at-stand}
 use Rattle.board_core.proofs.machine.Machine.hart_get_status.Goals as goal

@@ -7,8 +7,8 @@ use Rattle.hsm.specs.Transitions.{changed, hart_at, started_from}
 use Rattle.sbi_abi.specs.declared.answer.SbiError.TheVariants.{AlreadyAvailable, InvalidAddress, InvalidParam}
 use Rattle.sbi_abi.specs.declared.call.Call.TheVariants.{Hsm}
 use Rattle.sbi_abi.specs.declared.call.hsm.HsmCall.TheVariants.{HartStart}
-use Rattle.board_core.specs.declared.event.Op.TheVariants.{Ecall}
-use Rattle.board_core.specs.declared.event.Reply.TheVariants.{Ret}
+use Rattle.board_terms.specs.declared.op.Op.TheVariants.{Ecall}
+use Rattle.board_terms.specs.declared.reply.Reply.TheVariants.{Ret}
 use Rattle.board_core.specs.Replies.{failure, success}
 use Rattle.board_core.specs.History.{by_hart}
 use Rattle.board_core.specs.Opening.{on}

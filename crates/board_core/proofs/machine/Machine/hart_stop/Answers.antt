@@ -4,8 +4,8 @@ use Rattle.sbi_abi.specs.declared.answer.SbiError.TheVariants.{Failed}
 use Rattle.sbi_abi.specs.declared.call.Call.TheVariants.{Hsm}
 use Rattle.sbi_abi.specs.declared.call.hsm.HsmCall.TheVariants.{HartStop}
 use Rattle.hsm.specs.declared.hart.HartState.TheVariants.{StopPending}
-use Rattle.board_core.specs.declared.event.Op.TheVariants.{Ecall}
-use Rattle.board_core.specs.declared.event.Reply.TheVariants.{Ret, Gone}
+use Rattle.board_terms.specs.declared.op.Op.TheVariants.{Ecall}
+use Rattle.board_terms.specs.declared.reply.Reply.TheVariants.{Ret, Gone}
 use Rattle.board_core.specs.Csrs.{sstatus_sie}
 use Rattle.board_core.specs.Replies.{failure}
 use Rattle.board_core.specs.History.{by_hart}
@@ -29,7 +29,8 @@ pub returns-then-contains-clause-answered : goal.returns-then-contains-clause-an
 returns-then-contains-clause-answered c = λ o past stands.
     let opening = on c.args.config.now o in
     let on : sstatus_sie opening past c.args.h ≡ true =
-    sym (bit-read opening past (sstatus_sie opening past) c.args.self.now.interrupts.csrs.sstatus_sie c.args.h (omega (arith, c.requires.in_range, c.requires.good.at_most_128_harts)) stands.interrupts.csrs.sstatus_sie)
+    sym (bit-read opening past (sstatus_sie opening past) c.args.self.now.interrupts.csrs.sstatus_sie c.args.h
+    (omega (arith, c.requires.in_range, c.requires.good.at_most_128_harts)) stands.interrupts.csrs.sstatus_sie)
     ∙ sym c.contains.ensures.answer ∙ c.if-contains.true in
     rw on c.failure.ensures
 
@@ -45,7 +46,8 @@ pub returns-clause-answered : goal.returns-clause-answered
 returns-clause-answered c = λ o past stands.
     let opening = on c.args.config.now o in
     let off : sstatus_sie opening past c.args.h ≡ false =
-    sym (bit-read opening past (sstatus_sie opening past) c.args.self.now.interrupts.csrs.sstatus_sie c.args.h (omega (arith, c.requires.in_range, c.requires.good.at_most_128_harts)) stands.interrupts.csrs.sstatus_sie)
+    sym (bit-read opening past (sstatus_sie opening past) c.args.self.now.interrupts.csrs.sstatus_sie c.args.h
+    (omega (arith, c.requires.in_range, c.requires.good.at_most_128_harts)) stands.interrupts.csrs.sstatus_sie)
     ∙ sym c.contains.ensures.answer ∙ c.if-contains.false in
     rw off refl
 

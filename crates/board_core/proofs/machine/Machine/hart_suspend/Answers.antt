@@ -4,8 +4,8 @@ use Rattle.sbi_abi.specs.declared.call.Call.TheVariants.{Hsm}
 use Rattle.sbi_abi.specs.declared.call.hsm.HsmCall.TheVariants.{HartSuspend}
 use Rattle.board_core.specs.Replies.{failure}
 use Rattle.hsm.specs.declared.hart.HartState.TheVariants.{SuspendPending}
-use Rattle.board_core.specs.declared.event.Op.TheVariants.{Ecall}
-use Rattle.board_core.specs.declared.event.Reply.TheVariants.{Gone, Ret, Waiting}
+use Rattle.board_terms.specs.declared.op.Op.TheVariants.{Ecall}
+use Rattle.board_terms.specs.declared.reply.Reply.TheVariants.{Gone, Ret, Waiting}
 use Rattle.board_core.specs.History.{by_hart}
 use Rattle.board_core.specs.Opening.{on}
 use Rattle.board_core.proofs.Events.{deed_of_call, does_call}

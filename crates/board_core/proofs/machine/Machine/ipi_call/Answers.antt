@@ -3,8 +3,8 @@ use Rattle.sbi_abi.specs.declared.answer.SbiError.TheVariants.{InvalidParam}
 use Rattle.sbi_abi.specs.declared.call.Call.TheVariants.{Ipi}
 use Rattle.sbi_abi.specs.declared.call.ipi.IpiCall.{IpiCall}
 use Rattle.sbi_abi.specs.declared.call.ipi.IpiCall.TheVariants.{SendIpi}
-use Rattle.board_core.specs.declared.event.Op.TheVariants.{Ecall}
-use Rattle.board_core.specs.declared.event.Reply.TheVariants.{Ret}
+use Rattle.board_terms.specs.declared.op.Op.TheVariants.{Ecall}
+use Rattle.board_terms.specs.declared.reply.Reply.TheVariants.{Ret}
 use Rattle.board_core.specs.Replies.{failure, success}
 use Rattle.board_core.specs.History.{by_hart}
 use Rattle.board_core.specs.Opening.{on}
@@ -42,4 +42,5 @@ returns-in-Ok-clause-after c = λ x o past regs is stands.
 pub returns-in-Err-clause-after : goal.returns-in-Err-clause-after
 returns-in-Err-clause-after c = λ x o past regs is stands.
     rw (c.failure.ensures, c.into.ensures)
-    (call-quiet (on c.args.config.now o) past x regs (Ipi (SendIpi (mask_in c.args.call) (base_in c.args.call))) (Ret (failure InvalidParam)) c.args.self.now (ap Ipi (sym (sends c.args.call)) ∙ is) refl stands)
+    (call-quiet (on c.args.config.now o) past x regs (Ipi (SendIpi (mask_in c.args.call) (base_in c.args.call))) (Ret (failure InvalidParam)) c.args.self.now
+    (ap Ipi (sym (sends c.args.call)) ∙ is) refl stands)

@@ -5,7 +5,7 @@ use Rattle.tlb_model.specs.Contents.{fenced}
 use Rattle.tlb_model.specs.Entries.{covers_entry}
 use Rattle.tlb_model.specs.Fences.{fence_of_address}
 use Rattle.tlb_model.specs.Words.{covers_word}
-use Rattle.board_core.specs.Limits.{spaces_of}
+use Rattle.board_terms.specs.Limits.{spaces_of}
 use Rattle.board_core.specs.Stands.{caches_at, satp_at, situation_in}
 use Rattle.std.specs.Vec.{with_items}
 use Rattle.rfence.specs.Turns as fence_turns
@@ -18,8 +18,8 @@ use Rattle.board_core.proofs.Situations.{call-over, counts-room, fences-room, po
 use Rattle.board_core.proofs.Tables.{tabulated-items}
 use Rattle.sv39.specs.declared.paging.Spaces.{Spaces}
 use Rattle.sv39.specs.Satp.{satp_written}
-use Rattle.board_core.specs.declared.event.Op.TheVariants.{ClearSsip, FenceI, Poll, ReadSip, Serve, Sfence, Wfi, WriteSatp, WriteSie, WriteSstatusSie}
-use Rattle.board_core.specs.declared.event.Reply.TheVariants.{Done, Ret, Served, Value}
+use Rattle.board_terms.specs.declared.op.Op.TheVariants.{ClearSsip, FenceI, Poll, ReadSip, Serve, Sfence, Wfi, WriteSatp, WriteSie, WriteSstatusSie}
+use Rattle.board_terms.specs.declared.reply.Reply.TheVariants.{Done, Ret, Served, Value}
 use Rattle.board_core.specs.Csrs.{sie_of}
 use Rattle.board_core.specs.History.{by_hart}
 use Rattle.board_core.specs.Replies.{success}
@@ -58,9 +58,12 @@ returns-in-Sfence-clause-after c = λ o past at stands.
     rw (c.in-Sfence.is)
     (stands-fences opening past event d refl m _ m.fences refl stands (memory-caches opening past event d refl m.memory _ refl refl stands.memory c.fence.ensures.ram c.fence.ensures.satps
     (c.fence.ensures.caches
-    ∙ ap (λ f. slice_set m.memory.caches.items h (record { tlb = fenced covers_entry (caches_at m.memory h).tlb (Entries f); words = fenced covers_word (caches_at m.memory h).words (Entries f) })) (c.of_address.ensures ∙ ap (λ (s : Spaces). fence_of_address s c.in-Sfence.va c.in-Sfence.asid) c.spaces-in-Sfence.ensures.spaces)
-    ∙ caches-fenced opening past event d refl m.memory h flush (λ j other. (own-spares opening.fences (turns opening past) h flush j other, own-spares opening.fences (turns opening past) h flush j other))
-    (caches-read opening past m.memory h c.requires.in_range stands.memory) (own-drops opening.fences (turns opening past) h flush) (own-drops opening.fences (turns opening past) h flush) stands.memory.caches))
+    ∙ ap (λ f. slice_set m.memory.caches.items h (record { tlb = fenced covers_entry (caches_at m.memory h).tlb (Entries f); words = fenced covers_word (caches_at m.memory h).words (Entries f) }))
+    (c.of_address.ensures ∙ ap (λ (s : Spaces). fence_of_address s c.in-Sfence.va c.in-Sfence.asid) c.spaces-in-Sfence.ensures.spaces)
+    ∙ caches-fenced opening past event d refl m.memory h flush
+    (λ j other. (own-spares opening.fences (turns opening past) h flush j other, own-spares opening.fences (turns opening past) h flush j other))
+    (caches-read opening past m.memory h c.requires.in_range stands.memory) (own-drops opening.fences (turns opening past) h flush)
+    (own-drops opening.fences (turns opening past) h flush) stands.memory.caches))
     (fences-own opening past event d refl m.fences h flush c.requires.in_range refl stands.fences))
 
 pub returns-in-FenceI-clause-after : goal.returns-in-FenceI-clause-after
@@ -71,10 +74,13 @@ returns-in-FenceI-clause-after c = λ o past at stands.
     let event = by_hart h FenceI Done in
     let d = deed opening past event in
     rw (c.in-FenceI.is)
-    (stands-fences opening past event d refl m _ m.fences refl stands (memory-caches opening past event d refl m.memory _ refl refl stands.memory c.fence-in-FenceI.ensures.ram c.fence-in-FenceI.ensures.satps
+    (stands-fences opening past event d refl m _ m.fences refl stands
+    (memory-caches opening past event d refl m.memory _ refl refl stands.memory c.fence-in-FenceI.ensures.ram c.fence-in-FenceI.ensures.satps
     (c.fence-in-FenceI.ensures.caches
-    ∙ caches-fenced opening past event d refl m.memory h Words (λ j other. (own-spares opening.fences (turns opening past) h Words j other, own-spares opening.fences (turns opening past) h Words j other))
-    (caches-read opening past m.memory h c.requires.in_range stands.memory) (own-drops opening.fences (turns opening past) h Words) (own-drops opening.fences (turns opening past) h Words) stands.memory.caches))
+    ∙ caches-fenced opening past event d refl m.memory h Words
+    (λ j other. (own-spares opening.fences (turns opening past) h Words j other, own-spares opening.fences (turns opening past) h Words j other))
+    (caches-read opening past m.memory h c.requires.in_range stands.memory) (own-drops opening.fences (turns opening past) h Words)
+    (own-drops opening.fences (turns opening past) h Words) stands.memory.caches))
     (fences-own opening past event d refl m.fences h Words c.requires.in_range refl stands.fences))
 
 pub poll-requires-clause-over : goal.poll-requires-clause-over
@@ -92,7 +98,8 @@ returns-in-Poll-clause-after c = λ o past at stands.
     let ready = rw c.in-Poll.is at c.requires.accepted in
     rw c.in-Poll.is
     (stands-fences opening past event d refl m m.memory c.poll.new.self refl stands (memory-still opening past event d refl m.memory refl stands.memory)
-    (fences-turned opening past event d refl m.fences _ (fence_turns.Poll h) refl c.poll.ensures (poll-right opening past m.fences stands.fences h c.requires.in_range ready.in_phase ready.to_do) stands.fences))
+    (fences-turned opening past event d refl m.fences _ (fence_turns.Poll h) refl c.poll.ensures
+    (poll-right opening past m.fences stands.fences h c.requires.in_range ready.in_phase ready.to_do) stands.fences))
 
 pub serve-requires-clause-waits : goal.serve-requires-clause-waits
 serve-requires-clause-waits c =
@@ -167,7 +174,8 @@ returns-in-WriteSstatusSie-clause-after c = λ o past at stands.
 pub returns-in-ReadSip-clause-answered : goal.returns-in-ReadSip-clause-answered
 returns-in-ReadSip-clause-answered c = λ o past stands.
     let below = c.requires.good.at_most_128_harts in
-    rw c.in-ReadSip.is (ap Value (c.sip.ensures ∙ sip-read (on c.args.config.now o) past c.args.self.now.interrupts c.args.h (omega (arith, c.requires.in_range)) c.requires.in_range stands.interrupts))
+    rw c.in-ReadSip.is (ap Value
+    (c.sip.ensures ∙ sip-read (on c.args.config.now o) past c.args.self.now.interrupts c.args.h (omega (arith, c.requires.in_range)) c.requires.in_range stands.interrupts))
 
 pub returns-in-ReadSip-clause-after : goal.returns-in-ReadSip-clause-after
 returns-in-ReadSip-clause-after c = λ o past at stands.

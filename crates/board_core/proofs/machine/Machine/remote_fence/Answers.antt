@@ -6,8 +6,8 @@ use Rattle.rfence.specs.HartCaches.{dropped_of, emptied_of}
 use Rattle.rfence.specs.Right.{IsRightTurn}
 use Rattle.rfence.specs.State.{AreAffected, IsTakenAt}
 use Rattle.rfence.specs.Turns.{Ask}
-use Rattle.board_core.specs.declared.event.Op.TheVariants.{Ecall}
-use Rattle.board_core.specs.declared.event.Reply.TheVariants.{Ret, Waiting}
+use Rattle.board_terms.specs.declared.op.Op.TheVariants.{Ecall}
+use Rattle.board_terms.specs.declared.reply.Reply.TheVariants.{Ret, Waiting}
 use Rattle.board_core.specs.Calls.Rfence.{Remote}
 use Rattle.board_core.specs.Fences.{is_asked_by, turns}
 use Rattle.board_core.specs.History.{by_hart}
@@ -84,5 +84,6 @@ returns-in-Ok-flush-clause-after c = λ o past regs call at remote is stands.
     stands-fences opening past event d does m memory _ refl stands
     (memory-caches opening past event d does m.memory memory refl refl stands.memory refl refl
     (tabulated-items m.memory.caches _ _ opening.config.harts (length-caches opening past m.memory stands.memory)
-    (caches-turned opening past event d does m.fences turn c.deref_mut.result.now c.ask.new.caches (λ j. refl) (λ j. refl) right stands.fences affected (c.deref_mut.ensures.value ∙ stands.memory.caches))))
+    (caches-turned opening past event d does m.fences turn c.deref_mut.result.now c.ask.new.caches (λ j. refl) (λ j. refl) right stands.fences affected
+    (c.deref_mut.ensures.value ∙ stands.memory.caches))))
     (fences-asked opening past event d does m.fences c.ask.new.self turn c.args.place refl taken at right stands.fences)

@@ -19,23 +19,30 @@ returns-in-RemoteFenceI-clause-after c = λ o past regs at is stands.
 pub returns-in-RemoteSfenceVma-clause-answered : goal.returns-in-RemoteSfenceVma-clause-answered
 returns-in-RemoteSfenceVma-clause-answered c =
     c.remote_fence-in-RemoteSfenceVma.ensures.answered
-    ∙ ap (λ f. as_reply (fence_reply c.args.config.now (record { mask = c.in-RemoteSfenceVma.mask; base = c.in-RemoteSfenceVma.base; flush = f }))) (c.flush_of_range.ensures ∙ ap (λ (s : Spaces). flush_of_range s c.in-RemoteSfenceVma.start c.in-RemoteSfenceVma.size None) c.spaces.ensures.spaces)
+    ∙ ap (λ f. as_reply (fence_reply c.args.config.now (record { mask = c.in-RemoteSfenceVma.mask; base = c.in-RemoteSfenceVma.base; flush = f })))
+    (c.flush_of_range.ensures ∙ ap (λ (s : Spaces). flush_of_range s c.in-RemoteSfenceVma.start c.in-RemoteSfenceVma.size None) c.spaces.ensures.spaces)
     ∙ ap (λ call. as_reply (rfence_reply c.args.config.now call)) (sym c.in-RemoteSfenceVma.is)
 
 pub returns-in-RemoteSfenceVma-clause-after : goal.returns-in-RemoteSfenceVma-clause-after
 returns-in-RemoteSfenceVma-clause-after c = λ o past regs at is stands.
     let remote : Result Flush SbiError → Remote = λ f. record { mask = c.in-RemoteSfenceVma.mask; base = c.in-RemoteSfenceVma.base; flush = f } in
     c.remote_fence-in-RemoteSfenceVma.ensures.after o past regs (calls.RemoteSfenceVma c.in-RemoteSfenceVma.mask c.in-RemoteSfenceVma.base c.in-RemoteSfenceVma.start c.in-RemoteSfenceVma.size) at
-    (ap remote (sym (c.flush_of_range.ensures ∙ ap (λ (s : Spaces). flush_of_range s c.in-RemoteSfenceVma.start c.in-RemoteSfenceVma.size None) c.spaces.ensures.spaces))) (ap Rfence (sym c.in-RemoteSfenceVma.is) ∙ is) stands
+    (ap remote (sym (c.flush_of_range.ensures ∙ ap (λ (s : Spaces). flush_of_range s c.in-RemoteSfenceVma.start c.in-RemoteSfenceVma.size None) c.spaces.ensures.spaces)))
+    (ap Rfence (sym c.in-RemoteSfenceVma.is) ∙ is) stands
 
 pub returns-in-RemoteSfenceVmaAsid-clause-answered : goal.returns-in-RemoteSfenceVmaAsid-clause-answered
 returns-in-RemoteSfenceVmaAsid-clause-answered c =
     c.remote_fence-in-RemoteSfenceVmaAsid.ensures.answered
-    ∙ ap (λ f. as_reply (fence_reply c.args.config.now (record { mask = c.in-RemoteSfenceVmaAsid.mask; base = c.in-RemoteSfenceVmaAsid.base; flush = f }))) (c.flush_of_range-flush.ensures ∙ ap (λ (s : Spaces). flush_of_range s c.in-RemoteSfenceVmaAsid.start c.in-RemoteSfenceVmaAsid.size (Some c.in-RemoteSfenceVmaAsid.asid)) c.spaces-in-RemoteSfenceVmaAsid.ensures.spaces)
+    ∙ ap (λ f. as_reply (fence_reply c.args.config.now (record { mask = c.in-RemoteSfenceVmaAsid.mask; base = c.in-RemoteSfenceVmaAsid.base; flush = f })))
+    (c.flush_of_range-flush.ensures
+    ∙ ap (λ (s : Spaces). flush_of_range s c.in-RemoteSfenceVmaAsid.start c.in-RemoteSfenceVmaAsid.size (Some c.in-RemoteSfenceVmaAsid.asid)) c.spaces-in-RemoteSfenceVmaAsid.ensures.spaces)
     ∙ ap (λ call. as_reply (rfence_reply c.args.config.now call)) (sym c.in-RemoteSfenceVmaAsid.is)
 
 pub returns-in-RemoteSfenceVmaAsid-clause-after : goal.returns-in-RemoteSfenceVmaAsid-clause-after
 returns-in-RemoteSfenceVmaAsid-clause-after c = λ o past regs at is stands.
     let remote : Result Flush SbiError → Remote = λ f. record { mask = c.in-RemoteSfenceVmaAsid.mask; base = c.in-RemoteSfenceVmaAsid.base; flush = f } in
-    c.remote_fence-in-RemoteSfenceVmaAsid.ensures.after o past regs (calls.RemoteSfenceVmaAsid c.in-RemoteSfenceVmaAsid.mask c.in-RemoteSfenceVmaAsid.base c.in-RemoteSfenceVmaAsid.start c.in-RemoteSfenceVmaAsid.size c.in-RemoteSfenceVmaAsid.asid) at
-    (ap remote (sym (c.flush_of_range-flush.ensures ∙ ap (λ (s : Spaces). flush_of_range s c.in-RemoteSfenceVmaAsid.start c.in-RemoteSfenceVmaAsid.size (Some c.in-RemoteSfenceVmaAsid.asid)) c.spaces-in-RemoteSfenceVmaAsid.ensures.spaces))) (ap Rfence (sym c.in-RemoteSfenceVmaAsid.is) ∙ is) stands
+    c.remote_fence-in-RemoteSfenceVmaAsid.ensures.after o past regs
+    (calls.RemoteSfenceVmaAsid c.in-RemoteSfenceVmaAsid.mask c.in-RemoteSfenceVmaAsid.base c.in-RemoteSfenceVmaAsid.start c.in-RemoteSfenceVmaAsid.size c.in-RemoteSfenceVmaAsid.asid) at
+    (ap remote (sym (c.flush_of_range-flush.ensures
+    ∙ ap (λ (s : Spaces). flush_of_range s c.in-RemoteSfenceVmaAsid.start c.in-RemoteSfenceVmaAsid.size (Some c.in-RemoteSfenceVmaAsid.asid)) c.spaces-in-RemoteSfenceVmaAsid.ensures.spaces)))
+    (ap Rfence (sym c.in-RemoteSfenceVmaAsid.is) ∙ is) stands

@@ -11,8 +11,8 @@ use Rattle.sbi_abi.specs.declared.call.srst.SrstCall.{SrstCall}
 use Rattle.sbi_abi.specs.declared.call.srst.SrstCall.TheVariants.{SystemReset}
 use Rattle.sbi_abi.specs.declared.reset.Reset.{Reset}
 use Rattle.rfence.specs.Turns as turns
-use Rattle.board_core.specs.declared.event.Op.TheVariants.{Ecall}
-use Rattle.board_core.specs.declared.event.Reply.TheVariants.{Ret, Gone}
+use Rattle.board_terms.specs.declared.op.Op.TheVariants.{Ecall}
+use Rattle.board_terms.specs.declared.reply.Reply.TheVariants.{Ret, Gone}
 use Rattle.board_core.specs.History.{by_hart}
 use Rattle.board_core.specs.Replies.{failure}
 use Rattle.board_core.specs.Opening.{on}
@@ -41,7 +41,8 @@ reset-requires-4 c = fences-room c.args.config.now c.args.self.now c.requires.go
 pub returns-in-Err-clause-after : goal.returns-in-Err-clause-after
 returns-in-Err-clause-after c = λ h o past regs is stands.
     rw c.failure.ensures
-    (call-quiet (on c.args.config.now o) past h regs (Srst (SystemReset (Err c.in-Err.error))) (Ret (failure c.in-Err.error)) c.args.self.now (ap Srst (sym (resets c.args.call ∙ ap SystemReset (rw (resets c.args.call) at c.in-Err.is))) ∙ is) refl stands)
+    (call-quiet (on c.args.config.now o) past h regs (Srst (SystemReset (Err c.in-Err.error))) (Ret (failure c.in-Err.error)) c.args.self.now
+    (ap Srst (sym (resets c.args.call ∙ ap SystemReset (rw (resets c.args.call) at c.in-Err.is))) ∙ is) refl stands)
 
 pub returns-clause-after : goal.returns-clause-after
 returns-clause-after c = λ h o past regs is stands.
@@ -59,11 +60,13 @@ returns-clause-after c = λ h o past regs is stands.
     record {
       harts = harts-reset opening past event d does c.reset.new.self reset refl refl
           (c.reset.ensures ∙ ap (λ n. reset_to n opening.config.boot_hart c.boot.result) (length-harts opening past m.hsm stands.harts)
-          ∙ harts-anew opening.config reset c.boot.result (c.boot.ensures ∙ ap (λ b. if b then Some (record { addr = opening.config.boot_addr; opaque = opening.config.boot_opaque }) else None) c.begins_anew-anew.ensures));
+          ∙ harts-anew opening.config reset c.boot.result
+          (c.boot.ensures ∙ ap (λ b. if b then Some (record { addr = opening.config.boot_addr; opaque = opening.config.boot_opaque }) else None) c.begins_anew-anew.ensures));
       interrupts = rw c.reset-2.ensures (interrupts-reset opening past event d does m.interrupts refl stands.interrupts);
       memory = memory-reset opening past event d does m.memory memory reset refl refl stands.memory c.reset-3.ensures.satps
           (c.reset-3.ensures.ram ∙ ap (λ b. if b then zero_memory (pages_of m.memory.ram) else word_in m.memory.ram) c.is_cold.ensures) c.reset-3.ensures.pages
-          (tabulated-items c.reset-3.new.self.caches _ _ opening.config.harts (ap length (ap (λ (caches : Vec Caches). caches.items) c.reset-3.ensures.caches) ∙ length-caches opening past m.memory stands.memory) turned);
+          (tabulated-items c.reset-3.new.self.caches _ _ opening.config.harts
+          (ap length (ap (λ (caches : Vec Caches). caches.items) c.reset-3.ensures.caches) ∙ length-caches opening past m.memory stands.memory) turned);
       fences = fences-turned opening past event d does m.fences c.reset-4.new.self turns.Reset refl c.reset-4.ensures.taken tt stands.fences;
       counts = rw (c.new-self.ensures, c.begins_anew-anew.ensures) (counts-reset opening past event d does reset refl refl);
       last_reset = last-reset opening past event d does reset refl;

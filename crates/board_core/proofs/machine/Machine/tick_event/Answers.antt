@@ -2,8 +2,8 @@ use Rattle.std.proofs.Common.{◌≡◌, refl, sym, ap, ◌∙◌, true}
 use Rattle.std.specs.Prelude.{is_ok, is_some}
 use Rattle.interrupts.specs.Timing.{ticked}
 use Rattle.board_core.specs.History.{by_clock}
-use Rattle.board_core.specs.declared.event.Op.TheVariants.{Tick}
-use Rattle.board_core.specs.declared.event.Reply.TheVariants.{Done}
+use Rattle.board_terms.specs.declared.op.Op.TheVariants.{Tick}
+use Rattle.board_terms.specs.declared.reply.Reply.TheVariants.{Done}
 use Rattle.board_core.proofs.Events.{deed}
 use Rattle.board_core.proofs.InterruptsStanding.{interrupts-timers, timers-ticked}
 use Rattle.board_core.proofs.Standing.{stands-interrupts}

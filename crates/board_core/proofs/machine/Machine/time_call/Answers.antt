@@ -3,8 +3,8 @@ use Rattle.std.specs.Prelude.{Some}
 use Rattle.sbi_abi.specs.declared.call.Call.TheVariants.{Time}
 use Rattle.sbi_abi.specs.declared.call.time.TimeCall.{TimeCall}
 use Rattle.sbi_abi.specs.declared.call.time.TimeCall.TheVariants.{SetTimer}
-use Rattle.board_core.specs.declared.event.Op.TheVariants.{Ecall}
-use Rattle.board_core.specs.declared.event.Reply.TheVariants.{Ret}
+use Rattle.board_terms.specs.declared.op.Op.TheVariants.{Ecall}
+use Rattle.board_terms.specs.declared.reply.Reply.TheVariants.{Ret}
 use Rattle.board_core.specs.Replies.{success}
 use Rattle.board_core.specs.History.{by_hart}
 use Rattle.board_core.proofs.Events.{deed_of_call, does_call}

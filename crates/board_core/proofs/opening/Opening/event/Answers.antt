@@ -1,7 +1,7 @@
 use Rattle.std.proofs.Common.{[], ◌∷◌, false, subst, ap, sym, ◌∙◌, arith}
 use Rattle.board_core.specs.Cuts.{opening_in}
-use Rattle.board_core.specs.declared.event.Actor.{Actor}
-use Rattle.board_core.specs.declared.event.Actor.TheVariants.{Hart}
+use Rattle.board_terms.specs.declared.op.Actor.{Actor}
+use Rattle.board_terms.specs.declared.op.Actor.TheVariants.{Hart}
 use Rattle.board_core.specs.Opening.{Opening}
 use Rattle.board_core.specs.Refusals.{IsAccepted, situation}
 use Rattle.board_core.specs.Stands.{StandsFor}

@@ -12,4 +12,6 @@ satp-requires c =
 pub returns : goal.returns
 returns c =
     let same_config = ap (λ (o : Opening). o.config.harts) c.self.view_is in
-    rw (← c.self.view_is) (c.bits.ensures ∙ c.satp.ensures ∙ satp-read (opening_in c.self.inside.config c.self.inside.places c.self.inside.machine) [] c.self.inside.machine.memory c.args.h 0 (omega arith) c.self.invariant.1.memory)
+    rw (← c.self.view_is)
+    (c.bits.ensures ∙ c.satp.ensures
+    ∙ satp-read (opening_in c.self.inside.config c.self.inside.places c.self.inside.machine) [] c.self.inside.machine.memory c.args.h 0 (omega arith) c.self.invariant.1.memory)

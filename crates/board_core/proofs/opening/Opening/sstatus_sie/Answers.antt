@@ -9,4 +9,7 @@ pub returns : goal.returns
 returns c =
     let same_config = ap (λ (o : Opening). o.config.harts) c.self.view_is in
     let most = c.self.invariant.0.good.at_most_128_harts in
-    rw (← c.self.view_is) (c.contains.ensures.answer ∙ bit-read (opening_in c.self.inside.config c.self.inside.places c.self.inside.machine) [] (sstatus_sie (opening_in c.self.inside.config c.self.inside.places c.self.inside.machine) []) _ c.args.h (omega arith) c.self.invariant.1.interrupts.csrs.sstatus_sie)
+    rw (← c.self.view_is)
+    (c.contains.ensures.answer
+    ∙ bit-read (opening_in c.self.inside.config c.self.inside.places c.self.inside.machine) []
+    (sstatus_sie (opening_in c.self.inside.config c.self.inside.places c.self.inside.machine) []) _ c.args.h (omega arith) c.self.invariant.1.interrupts.csrs.sstatus_sie)

@@ -11,7 +11,8 @@ pub returns-in-Some : goal.returns-in-Some
 returns-in-Some g c =
     let rings = c.self.inside.rings.items in
     let inside : c.args.t < length rings = omega (arith, c.if-t-len.false, ap length c.self.view_is, length-map rings queue_in) in
-    let found = position_from_yields_List (is_from c.args.from) _ _ c.position.result c.position.ensures.ran (YieldsList-from_rest c.index-ring.result.now.items c.iter.ensures.rest) (λ x b q k. search (rules, tests)) in
+    let found = position_from_yields_List (is_from c.args.from) _ _ c.position.result c.position.ensures.ran (YieldsList-from_rest c.index-ring.result.now.items c.iter.ensures.rest)
+    (λ x b q k. search (rules, tests)) in
     let told = position_of-found rings _ c.args.t c.args.from c.index-ring.result.now c.position.result c.self.view_is inside c.index-ring.ensures found in
     omega (arith, told, ap counted c.in-Some.is)
 
@@ -19,6 +20,7 @@ pub returns-in-None : goal.returns-in-None
 returns-in-None g c =
     let rings = c.self.inside.rings.items in
     let inside : c.args.t < length rings = omega (arith, c.if-t-len.false, ap length c.self.view_is, length-map rings queue_in) in
-    let found = position_from_yields_List (is_from c.args.from) _ _ c.position.result c.position.ensures.ran (YieldsList-from_rest c.index-ring.result.now.items c.iter.ensures.rest) (λ x b q k. search (rules, tests)) in
+    let found = position_from_yields_List (is_from c.args.from) _ _ c.position.result c.position.ensures.ran (YieldsList-from_rest c.index-ring.result.now.items c.iter.ensures.rest)
+    (λ x b q k. search (rules, tests)) in
     let told = position_of-found rings _ c.args.t c.args.from c.index-ring.result.now c.position.result c.self.view_is inside c.index-ring.ensures found in
     omega (arith, told, ap counted c.in-None.is)

@@ -10,4 +10,5 @@ returns-then-grown-gt-MOST_BYTES c before read =
 pub returns-in-Ok : goal.returns-in-Ok
 returns-in-Ok c before read =
     answered c.args.self c.self.inside.size c.self.inside.progress before c.args.rest.now c.script.result (sym c.self.view_is) read
-    (all_read c.self.inside.size c.self.inside.progress c.read_lines.new.self c.args.rest.now c.script.result (omega (arith, c.grown.ensures, c.if-grown-gt-MOST_BYTES.false)) c.in-Ok.ensures.read c.script.ensures)
+    (all_read c.self.inside.size c.self.inside.progress c.read_lines.new.self c.args.rest.now c.script.result
+    (omega (arith, c.grown.ensures, c.if-grown-gt-MOST_BYTES.false)) c.in-Ok.ensures.read c.script.ensures)

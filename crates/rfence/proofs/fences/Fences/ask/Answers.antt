@@ -43,7 +43,8 @@ ask-requires-clause-out g c = λ t inside.
     let takes = takes-ask c.args.self.now (has-turns _ _ c.self.view_is c.self.invariant) c.args.c c.args.asked c.args.flush c.requires.caller c.requires.targets c.requires.outside in
     let stands = (almost-seen takes.o takes.n takes.turns _ _ c.self.view_is takes.stands).stands in
     let below : t < takes.n = omega (arith, inside, length-queues takes.o takes.n takes.turns _ stands) in
-    ap (has_from c.args.c) (queue_at-stands takes.o takes.n takes.turns _ stands t below) ∙ none-of takes.o takes.n takes.turns _ stands c.args.c c.args.asked c.args.flush c.contains-own.ensures.whole takes.right t
+    ap (has_from c.args.c) (queue_at-stands takes.o takes.n takes.turns _ stands t below)
+    ∙ none-of takes.o takes.n takes.turns _ stands c.args.c c.args.asked c.args.flush c.contains-own.ensures.whole takes.right t
 
 pub ask-requires-clause-can : goal.ask-requires-clause-can
 ask-requires-clause-can g c =

@@ -28,7 +28,7 @@ pub loop-left-preserved : goal.loop-left-preserved
 loop-left-preserved g c =
     let read = read_taken _ _ _ c.loop-left.reader c.loop-left.pending _ c.in_ok-count.count _ _ c.loop-left.invariant.0 c.in_ok-count.ensures.bytes in
     let count : (read_limit - c.loop-left.left) + c.in_ok-count.count ≡ read_limit - (c.loop-left.left - c.in_ok-count.count) = omega (arith, c.in_ok-count.ensures.most, c.loop-left.invariant.3) in (
-      subst (HasTaken (g.S.Source.left c.args.source.now) (g.S.Source.left c.read_behind.new.source) c.in_ok-handed.handed.0 (take c.in_ok-handed.handed.1 c.hand_on.new.bytes.items)) count
+      subst (HasTaken (g.S.Source.left c.args.source.now) (g.S.Source.left c.read_behind.new.source) c.in_ok-handed.handed.0 (take c.in_ok-handed.handed.1 c.give_lines.new.bytes.items)) count
           (c.in_ok-handed.ensures.taken _ _ _ read),
       c.in_ok-count.ensures.failed ∙ c.loop-left.invariant.1,
       omega (arith, c.in_ok-handed.ensures.len, c.in_ok-handed.ensures.fits, c.in_ok-count.ensures.fits),

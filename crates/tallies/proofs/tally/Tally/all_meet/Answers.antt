@@ -9,7 +9,8 @@ pub returns-in-Never : goal.returns-in-Never
 returns-in-Never c tried tells = all-each c.args.rule.now _ tried c.is_each.result c.in-Never.is (λ same. same) (c.is_each.ensures (Some c.args.rule.now) tried tells)
 
 pub returns-in-NeverAfter : goal.returns-in-NeverAfter
-returns-in-NeverAfter c tried tells = all-each c.args.rule.now _ tried c.is_each-in-NeverAfter.result c.in-NeverAfter.is (λ same. same) (c.is_each-in-NeverAfter.ensures (Some c.args.rule.now) tried tells)
+returns-in-NeverAfter c tried tells = all-each c.args.rule.now _ tried c.is_each-in-NeverAfter.result c.in-NeverAfter.is (λ same. same)
+    (c.is_each-in-NeverAfter.ensures (Some c.args.rule.now) tried tells)
 
 pub returns-in-Each : goal.returns-in-Each
 returns-in-Each c tried tells = all-each c.args.rule.now _ tried c.is_each-in-Each.result c.in-Each.is (λ same. same) (c.is_each-in-Each.ensures (Some c.args.rule.now) tried tells)

@@ -1,5 +1,0 @@
-use Rattle.guest_script.proofs.Packed.{call_made}
-use Rattle.guest_script.proofs.op_shape.put_call.Goals as goal
-
-pub returns-clause-made : goal.returns-clause-made
-returns-clause-made c = call_made c.args.regs (search)

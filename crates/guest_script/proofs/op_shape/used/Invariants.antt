@@ -1,9 +1,0 @@
-use Rattle.std.proofs.Common.{length, ◌≤◌}
-use Rattle.guest_script.specs.Packing.{used}
-use Rattle.guest_script.proofs.op_shape.used.Given as goal
-
-abbrev pub invariant-loop-count : goal.invariant-loop-count
-invariant-loop-count l = (used l.numbers ≤ l.count) × (l.count ≤ length l.numbers)
-
-abbrev pub decreases-loop-count : goal.decreases-loop-count
-decreases-loop-count l = l.count

@@ -1,9 +1,0 @@
-use Rattle.std.proofs.Common.{ℕ, List, ap, ◌∙◌, rules}
-use Rattle.monitor.specs.LineText.{with_words}
-use Rattle.monitor.specs.Words.{board_words, spaces_words}
-use Rattle.monitor.proofs.lines.print_head.Goals as goal
-
-pub returns : goal.returns
-returns g c =
-    c.put.ensures.puts (board_words c.args.config.now)
-    (c.spaces_onto.ensures.text ∙ ap (λ (l : List ℕ). with_words l (spaces_words c.args.config.now)) (search rules))

@@ -1,0 +1,5 @@
+pub mod Arguments
+pub mod Decimal
+pub mod DigitPairs
+pub mod Hex
+pub mod PrintedLines

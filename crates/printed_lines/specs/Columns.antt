@@ -1,0 +1,18 @@
+-- Columns of a table.
+use Rattle.std.specs.Prelude.{ℕ, ◌-◌, List, ◌++◌, length, replicate, false}
+use Rattle.std.specs.Fmt.{digits}
+
+-- a text after as many of these bytes as fill the width
+abbrev pub filled : (width byte : ℕ) → List ℕ → List ℕ
+filled width byte text = replicate (width - length text) byte ++ text
+
+-- a text at the right, or at the left, of a column of this width
+abbrev pub right : (width : ℕ) → List ℕ → List ℕ
+right width text = filled width 32 text
+
+abbrev pub left : (width : ℕ) → List ℕ → List ℕ
+left width text = text ++ replicate (width - length text) 32
+
+-- lower case hexadecimal digits with leading zeros
+abbrev pub hex_column : (width : ℕ) → ℕ → List ℕ
+hex_column width n = filled width 48 (digits 16 false n)

@@ -1,0 +1,4 @@
+pub mod Columns
+pub mod LineText
+pub mod Sinks
+pub mod Words

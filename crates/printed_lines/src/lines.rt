@@ -1,0 +1,274 @@
+//! The line of a board, of a step, of a cut and of a reply.
+ghost use Rattle.std.specs.Prelude.{◌≡◌, ◌+◌, ◌*◌, ◌^◌, ◌<◌, ◌≤◌, ◌∷◌, ◌++◌, length, map, codes, decimal, None, Ok};
+ghost use Rattle.std.specs.Fmt.{signed_decimal};
+ghost use Rattle.std.specs.List.{join_with_byte};
+ghost use Rattle.printed_lines.specs.LineText.{arguments_room, decimal_room, hex_room, line_room, op_room, page_room, reply_room, signed_room, with_words};
+ghost use Rattle.printed_lines.specs.Sinks.{Puts};
+ghost use Rattle.printed_lines.specs.Words.{bit_of, hex, hex_or_dash, actor_word, board_words, event_words, line_of, line_words, op_words, reply_words, spaces_words};
+ghost use Rattle.board_terms.specs.declared.op.Op.TheVariants.{Ecall};
+ghost use Rattle.board_terms.specs.declared.reply.Reply.TheVariants.{Entry};
+
+use crate::line_text::LineText;
+use crate::page::Page;
+use crate::sink::{Failed, Sink, write_all};
+use board_terms::{Actor, Config, Op, Refusal, Reply};
+use sbi_abi::Regs;
+
+/// Prints the board line.
+pub fn print_head<W: Sink>(config: &Config, sink: &mut W) -> Result<(), Failed>
+    requires { W.failures sink.old < 2 ^ 63 }
+    ensures { Puts W.written W.failures sink.old sink.new result (line_of (board_words config.now)) }
+{
+    let mut line = LineText::new();
+    line.word(b"board");
+    line.decimal(config.harts);
+    line.decimal(config.pages);
+    line.decimal(config.limit);
+    line.decimal(config.boot_hart);
+    line.hex(config.boot_addr);
+    line.hex(config.boot_opaque);
+    spaces_onto(&mut line, config);
+    line.put(sink)
+}
+
+/// Appends the last two numbers of a board, which its line leaves out where they are the usual ones.
+fn spaces_onto(line: &mut LineText, config: &Config)
+    requires { length line.old + 2 * decimal_room ≤ page_room }
+    ensures text { line.new ≡ with_words line.old (spaces_words config.now) }
+    ensures len { length line.new ≤ length line.old + 2 * decimal_room }
+{
+    if !config.has_usual_spaces() {
+        line.decimal(config.asid_len);
+        line.decimal(config.width);
+    }
+}
+
+/// Prints the line of a step, or of a cut where it is none, and of what was answered.
+pub fn print_line<W: Sink>(
+    step: Option<(Actor, Op)>,
+    answer: Result<Reply, Refusal>,
+    sink: &mut W,
+) -> Result<(), Failed>
+    requires { W.failures sink.old < 2 ^ 63 }
+    ensures { Puts W.written W.failures sink.old sink.new result (line_of (line_words step answer)) }
+{
+    let mut page = Page::new();
+    page.print_line(step, answer, sink)?;
+    page.put(sink)
+}
+
+/// Prints the words of a reply or a refusal alone, with no line feed.
+pub fn print_reply<W: Sink>(answer: Result<Reply, Refusal>, sink: &mut W) -> Result<(), Failed>
+    requires { W.failures sink.old < 2 ^ 63 }
+    ensures { Puts W.written W.failures sink.old sink.new result
+        (join_with_byte 32 (reply_words answer)) }
+{
+    let mut line = LineText::new();
+    reply_onto(&mut line, answer);
+    write_all(sink, line.without_blank())
+}
+
+/// Appends the line of a cut and of what was answered. It is apart, so that steps are written in place.
+#[inline(never)]
+pub fn cut_onto(line: &mut LineText, answer: Result<Reply, Refusal>)
+    requires { length line.old + line_room ≤ page_room }
+    ensures text { line.new ≡ line.old ++ line_of (line_words None answer) }
+    ensures len { length line.new ≤ length line.old + line_room }
+{
+    line.text(b"cut ->");
+    reply_onto(line, answer);
+    line.text(b"\n");
+}
+
+/// Appends the line of a step and of what it answered.
+#[inline(always)]
+pub fn step_onto(line: &mut LineText, actor: Actor, op: Op, answer: Result<Reply, Refusal>)
+    requires { length line.old + line_room ≤ page_room }
+    ensures text { line.new ≡ line.old ++ line_of (event_words actor op answer) }
+    ensures len { length line.new ≤ length line.old + line_room }
+{
+    actor_onto(line, actor);
+    op_onto(line, &op);
+    line.word(b"->");
+    reply_onto(line, answer);
+    line.text(b"\n");
+}
+
+/// Appends the word for an actor.
+#[inline(always)]
+fn actor_onto(line: &mut LineText, actor: Actor)
+    requires { length line.old + decimal_room ≤ page_room }
+    ensures text { line.new ≡ line.old ++ actor_word actor }
+    ensures len { length line.new ≤ length line.old + decimal_room }
+{
+    match actor {
+        Actor::Hart(hart) => line.decimal_digits(hart),
+        Actor::Clock => line.text(b"c"),
+    }
+}
+
+/// Appends an operation's words, each after a blank.
+#[inline(always)]
+fn op_onto(line: &mut LineText, op: &Op)
+    requires { length line.old + op_room ≤ page_room }
+    ensures text { line.new ≡ with_words line.old (op_words op.now) }
+    ensures len { length line.new ≤ length line.old + op_room }
+{
+    match op {
+        Op::Ecall(regs) => ecall_onto(line, regs),
+        Op::Load(va) => hex_onto(line, b"load", *va),
+        Op::Store(va, value) => {
+            hex_onto(line, b"store", *va);
+            line.hex(*value);
+        }
+        Op::Fetch(va) => hex_onto(line, b"fetch", *va),
+        Op::WriteSatp(value) => hex_onto(line, b"satp", *value),
+        Op::WriteSie(value) => hex_onto(line, b"sie", *value),
+        Op::WriteSstatusSie(value) => decimal_onto(line, b"sstatus", bit(*value)),
+        Op::ReadSip => line.word(b"sip"),
+        Op::ClearSsip => line.word(b"clearssip"),
+        Op::Sfence(va, asid) => {
+            line.word(b"sfence");
+            hex_or_dash_onto(line, *va);
+            hex_or_dash_onto(line, *asid);
+        }
+        Op::FenceI => line.word(b"fencei"),
+        Op::Wfi => line.word(b"wfi"),
+        Op::Poll => line.word(b"poll"),
+        Op::Serve => line.word(b"serve"),
+        Op::Advance => line.word(b"advance"),
+        Op::Tick(n) => hex_onto(line, b"tick", *n),
+    }
+}
+
+/// Appends a call. It is apart, so that the registers are read here alone.
+#[inline(never)]
+fn ecall_onto(line: &mut LineText, regs: &Regs)
+    requires { length line.old + op_room ≤ page_room }
+    ensures text { line.new ≡ with_words line.old (op_words (Ecall regs.now)) }
+    ensures len { length line.new ≤ length line.old + op_room }
+{
+    line.word(b"ecall");
+    line.hex(regs.eid);
+    line.hex(regs.fid);
+    arguments_onto(line, &regs.a);
+}
+
+/// Appends a name and a number in hexadecimal digits.
+#[inline(always)]
+fn hex_onto(line: &mut LineText, name: &[u8], n: u64)
+    requires name { length name.now ≤ 8 }
+    requires room { length line.old + 9 + hex_room ≤ page_room }
+    ensures text { line.new ≡ (line.old ++ 32 ∷ name.now) ++ 32 ∷ hex n }
+    ensures len { length line.new ≤ length line.old + 9 + hex_room }
+{
+    line.word(name);
+    line.hex(n);
+}
+
+/// Appends a name and a number in decimal digits.
+#[inline(always)]
+fn decimal_onto(line: &mut LineText, name: &[u8], n: u64)
+    requires name { length name.now ≤ 8 }
+    requires room { length line.old + 9 + decimal_room ≤ page_room }
+    ensures text { line.new ≡ (line.old ++ 32 ∷ name.now) ++ 32 ∷ decimal n }
+    ensures len { length line.new ≤ length line.old + 9 + decimal_room }
+{
+    line.word(name);
+    line.decimal(n);
+}
+
+/// Appends a number, or a dash where it is absent.
+fn hex_or_dash_onto(line: &mut LineText, n: Option<u64>)
+    requires { length line.old + hex_room ≤ page_room }
+    ensures text { line.new ≡ line.old ++ 32 ∷ hex_or_dash n }
+    ensures len { length line.new ≤ length line.old + hex_room }
+{
+    match n {
+        Some(n) => line.hex(n),
+        None => line.word(b"-"),
+    }
+}
+
+/// Appends the words of a reply or a refusal, each after a blank.
+#[inline(always)]
+fn reply_onto(line: &mut LineText, answer: Result<Reply, Refusal>)
+    requires { length line.old + reply_room ≤ page_room }
+    ensures text { line.new ≡ with_words line.old (reply_words answer) }
+    ensures len { length line.new ≤ length line.old + reply_room }
+    ensures some { 0 < length line.new }
+{
+    match answer {
+        Ok(Reply::Ret(answer)) => ret_onto(line, answer.error, answer.value),
+        Ok(Reply::Waiting) => line.word(b"waiting"),
+        Ok(Reply::Gone) => line.word(b"gone"),
+        Ok(Reply::Entry { addr, hart, opaque }) => entry_onto(line, addr, hart, opaque),
+        Ok(Reply::Value(value)) => value_onto(line, value),
+        Ok(Reply::Fault(cause)) => decimal_onto(line, b"fault", cause.number()),
+        Ok(Reply::Served) => line.word(b"served"),
+        Ok(Reply::Moved(state)) => decimal_onto(line, b"moved", state.number()),
+        Ok(Reply::Done) => line.word(b"done"),
+        Err(refusal) => decimal_onto(line, b"refused", refusal.number()),
+    }
+}
+
+/// Appends what a call returned. It is apart, as each reply of long numbers, so that the others are written in place.
+#[inline(never)]
+fn ret_onto(line: &mut LineText, error: i64, value: u64)
+    requires { length line.old + 4 + signed_room + hex_room ≤ page_room }
+    ensures text { line.new ≡ ((line.old ++ 32 ∷ codes "ret") ++ 32 ∷ signed_decimal error) ++ 32 ∷ hex value }
+    ensures len { length line.new ≤ length line.old + 4 + signed_room + hex_room }
+{
+    line.word(b"ret");
+    line.signed(error);
+    line.hex(value);
+}
+
+/// Appends what was read.
+#[inline(never)]
+fn value_onto(line: &mut LineText, value: u64)
+    requires { length line.old + 9 + hex_room ≤ page_room }
+    ensures text { line.new ≡ (line.old ++ 32 ∷ codes "value") ++ 32 ∷ hex value }
+    ensures len { length line.new ≤ length line.old + 9 + hex_room }
+{
+    hex_onto(line, b"value", value);
+}
+
+/// Appends an entry.
+#[inline(never)]
+fn entry_onto(line: &mut LineText, addr: u64, hart: u64, opaque: u64)
+    requires { length line.old + reply_room ≤ page_room }
+    ensures text { line.new ≡ with_words line.old (reply_words (Ok (Entry addr hart opaque))) }
+    ensures len { length line.new ≤ length line.old + reply_room }
+{
+    line.word(b"entry");
+    line.hex(addr);
+    line.decimal(hart);
+    line.hex(opaque);
+}
+
+/// A bit: 1 for true.
+pub fn bit(value: bool) -> u64
+    ensures { result ≡ bit_of value }
+{
+    u64::from(value)
+}
+
+/// Appends the arguments of a call. Most calls have at most two, and the others are 0.
+fn arguments_onto(line: &mut LineText, arguments: &[u64; 6])
+    requires { length line.old + arguments_room ≤ page_room }
+    ensures text { line.new ≡ with_words line.old (map hex arguments.now) }
+    ensures len { length line.new ≤ length line.old + arguments_room }
+{
+    let [a0, a1, a2, a3, a4, a5] = *arguments;
+    line.hex(a0);
+    line.hex(a1);
+    if a2 == 0 && a3 == 0 && a4 == 0 && a5 == 0 {
+        line.text(b" 0x0 0x0 0x0 0x0");
+    } else {
+        line.hex(a2);
+        line.hex(a3);
+        line.hex(a4);
+        line.hex(a5);
+    }
+}

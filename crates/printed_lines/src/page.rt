@@ -1,0 +1,140 @@
+//! Lines on their way to a sink, some at a time.
+ghost use Rattle.std.specs.Prelude.{◌≡◌, ℕ, ◌+◌, ◌^◌, ◌<◌, ◌≤◌, List, [], None, OnOk, length};
+ghost use Rattle.printed_lines.specs.LineText.{line_room, page_room};
+ghost use Rattle.printed_lines.specs.Sinks.{Passes, Puts};
+ghost use Rattle.printed_lines.specs.Words.{event_words, line_of, line_words};
+
+use crate::line_text::{CAPACITY, LineText};
+use crate::lines::{cut_onto, step_onto};
+use crate::sink::{Failed, Sink, write_all};
+use board_terms::{Actor, Op, Refusal, Reply};
+use std::marker::Model;
+
+/// The most bytes of a line.
+const LINE_ROOM: usize = 256;
+
+/// Lines on their way to a sink, which takes them some at a time. Those that wait are lost with the page.
+#[derive(Drop)]
+pub struct Page {
+    text: LineText,
+}
+
+impl Model for Page {
+    ghost Value = { List ℕ };
+
+    ghost view = { λ p. p.text };
+
+    // a line has room
+    ghost invariant = { λ p. length p.text + line_room ≤ page_room };
+}
+
+impl Page {
+    /// A page on which nothing waits.
+    #[inline(always)]
+    pub fn new() -> Page
+        ensures { result ≡ [] }
+    {
+        Page {
+            text: LineText::new(),
+        }
+    }
+
+    /// Prints the line of a step and of what it answered, behind the lines that wait.
+    ///
+    /// # Errors
+    ///
+    /// A write of the lines that waited failed.
+    #[inline(never)]
+    pub fn print_step<W: Sink>(
+        &mut self,
+        actor: Actor,
+        op: Op,
+        answer: Result<Reply, Refusal>,
+        sink: &mut W,
+    ) -> Result<(), Failed>
+        requires { W.failures sink.old < 2 ^ 63 }
+        ensures { Passes W.written W.failures sink.old sink.new result self.old self.new
+            (line_of (event_words actor op answer)) }
+    {
+        step_onto(&mut self.text, actor, op, answer);
+        put_full(&mut self.text, sink)
+    }
+
+    /// Prints the line of a step, or of a cut where it is none, and of what was answered, behind the lines that wait.
+    ///
+    /// # Errors
+    ///
+    /// A write of the lines that waited failed.
+    pub fn print_line<W: Sink>(
+        &mut self,
+        step: Option<(Actor, Op)>,
+        answer: Result<Reply, Refusal>,
+        sink: &mut W,
+    ) -> Result<(), Failed>
+        requires { W.failures sink.old < 2 ^ 63 }
+        ensures { Passes W.written W.failures sink.old sink.new result self.old self.new
+            (line_of (line_words step answer)) }
+    {
+        match step {
+            Some((actor, op)) => self.print_step(actor, op, answer, sink),
+            None => self.print_cut(answer, sink),
+        }
+    }
+
+    /// Prints the line of a cut and of what was answered, behind the lines that wait.
+    ///
+    /// # Errors
+    ///
+    /// A write of the lines that waited failed.
+    pub fn print_cut<W: Sink>(
+        &mut self,
+        answer: Result<Reply, Refusal>,
+        sink: &mut W,
+    ) -> Result<(), Failed>
+        requires { W.failures sink.old < 2 ^ 63 }
+        ensures { Passes W.written W.failures sink.old sink.new result self.old self.new
+            (line_of (line_words None answer)) }
+    {
+        cut_onto(&mut self.text, answer);
+        put_full(&mut self.text, sink)
+    }
+
+    /// Writes the lines that wait.
+    ///
+    /// # Errors
+    ///
+    /// A write failed.
+    pub fn put<W: Sink>(&mut self, sink: &mut W) -> Result<(), Failed>
+        requires { W.failures sink.old < 2 ^ 63 }
+        ensures text { Puts W.written W.failures sink.old sink.new result self.old }
+        ensures none { OnOk result (self.new ≡ []) }
+    {
+        put_all(&mut self.text, sink)
+    }
+}
+
+/// Writes the text, and leaves none of it, where it has no room for another line.
+#[inline(always)]
+fn put_full<W: Sink>(text: &mut LineText, sink: &mut W) -> Result<(), Failed>
+    requires { W.failures sink.old < 2 ^ 63 }
+    ensures passes { Passes W.written W.failures sink.old sink.new result text.old text.new [] }
+    ensures room { length text.old ≤ page_room → length text.new + line_room ≤ page_room }
+{
+    if text.len() > CAPACITY - LINE_ROOM {
+        return put_all(text, sink);
+    }
+    Ok(())
+}
+
+/// Writes the text, and leaves none of it, also where a write failed.
+#[cold]
+#[inline(never)]
+fn put_all<W: Sink>(text: &mut LineText, sink: &mut W) -> Result<(), Failed>
+    requires { W.failures sink.old < 2 ^ 63 }
+    ensures puts { Puts W.written W.failures sink.old sink.new result text.old }
+    ensures none { text.new ≡ [] }
+{
+    let written = write_all(sink, text.all());
+    text.clear();
+    written
+}

@@ -1,0 +1,193 @@
+-- How a line is kept: its shape, and its numbers among those of all lines.
+use Rattle.std.specs.Prelude.{ℕ, suc, ◌<◌, true, false, ◌&&◌, if◌then◌else◌, ◌==◌, List, [], ◌∷◌, ◌++◌, take, length, slice_index_or, Option, Some, None}
+use Rattle.std.specs.Int.{w64, cast_signed, cast_unsigned}
+use Rattle.board_terms.specs.declared.op.Actor.{Actor}
+use Rattle.board_terms.specs.declared.op.Actor.TheVariants.{Hart, Clock}
+use Rattle.board_terms.specs.declared.op.Op.{Op}
+use Rattle.board_terms.specs.declared.op.Op.TheVariants as ops
+use Rattle.script_lines.specs.declared.op_shape.OpShape.{OpShape}
+use Rattle.script_lines.specs.declared.op_shape.OpShape.TheVariants.{Ecall, Load, Store, Fetch, WriteSatp, WriteSie, SstatusOff, SstatusOn, ReadSip, ClearSsip, SfenceAll, SfenceAddress, SfenceAsid, SfenceBoth, FenceI, Wfi, Poll, Serve, Advance, Tick}
+use Rattle.script_lines.specs.declared.said.Said.{Said}
+use Rattle.script_lines.specs.declared.said.Said.TheVariants as says
+use Rattle.script_lines.specs.declared.said_shape.SaidShape.{SaidShape}
+use Rattle.script_lines.specs.declared.said_shape.SaidShape.TheVariants as shapes
+
+-- the number in a place, which is 0 past the end
+abbrev pub number_from : List ℕ → ℕ → ℕ
+number_from ns i = slice_index_or ns i 0
+
+-- ---- operations
+
+-- how many numbers stand before the zeros at the end
+abbrev pub used : List ℕ → ℕ
+used [] = 0
+used (n ∷ ns) = if (used ns == 0) && (n == 0) then 0 else suc (used ns)
+
+abbrev pub shape_of : Op → OpShape
+shape_of (ops.Ecall regs) = Ecall
+shape_of (ops.Load va) = Load
+shape_of (ops.Store va value) = Store
+shape_of (ops.Fetch va) = Fetch
+shape_of (ops.WriteSatp value) = WriteSatp
+shape_of (ops.WriteSie value) = WriteSie
+shape_of (ops.WriteSstatusSie false) = SstatusOff
+shape_of (ops.WriteSstatusSie true) = SstatusOn
+shape_of ops.ReadSip = ReadSip
+shape_of ops.ClearSsip = ClearSsip
+shape_of (ops.Sfence None None) = SfenceAll
+shape_of (ops.Sfence (Some va) None) = SfenceAddress
+shape_of (ops.Sfence None (Some asid)) = SfenceAsid
+shape_of (ops.Sfence (Some va) (Some asid)) = SfenceBoth
+shape_of ops.FenceI = FenceI
+shape_of ops.Wfi = Wfi
+shape_of ops.Poll = Poll
+shape_of ops.Serve = Serve
+shape_of ops.Advance = Advance
+shape_of (ops.Tick n) = Tick
+
+-- an absent number is none
+abbrev pub given : Option ℕ → List ℕ
+given None = []
+given (Some n) = n ∷ []
+
+-- an operation's numbers, of a call without the arguments that are 0 to its end
+abbrev pub op_numbers : Op → List ℕ
+op_numbers (ops.Ecall regs) = regs.eid ∷ regs.fid ∷ take (used regs.a) regs.a
+op_numbers (ops.Load va) = va ∷ []
+op_numbers (ops.Store va value) = va ∷ value ∷ []
+op_numbers (ops.Fetch va) = va ∷ []
+op_numbers (ops.WriteSatp value) = value ∷ []
+op_numbers (ops.WriteSie value) = value ∷ []
+op_numbers (ops.WriteSstatusSie value) = []
+op_numbers ops.ReadSip = []
+op_numbers ops.ClearSsip = []
+op_numbers (ops.Sfence va asid) = given va ++ given asid
+op_numbers ops.FenceI = []
+op_numbers ops.Wfi = []
+op_numbers ops.Poll = []
+op_numbers ops.Serve = []
+op_numbers ops.Advance = []
+op_numbers (ops.Tick n) = n ∷ []
+
+-- the operation of a shape and its numbers
+abbrev pub op_made : OpShape → List ℕ → Op
+op_made Ecall ns = ops.Ecall (record {
+  eid = number_from ns 0;
+  fid = number_from ns 1;
+  a = number_from ns 2 ∷ number_from ns 3 ∷ number_from ns 4 ∷ number_from ns 5 ∷ number_from ns 6 ∷ number_from ns 7
+      ∷ [];
+})
+op_made Load ns = ops.Load (number_from ns 0)
+op_made Store ns = ops.Store (number_from ns 0) (number_from ns 1)
+op_made Fetch ns = ops.Fetch (number_from ns 0)
+op_made WriteSatp ns = ops.WriteSatp (number_from ns 0)
+op_made WriteSie ns = ops.WriteSie (number_from ns 0)
+op_made SstatusOff ns = ops.WriteSstatusSie false
+op_made SstatusOn ns = ops.WriteSstatusSie true
+op_made ReadSip ns = ops.ReadSip
+op_made ClearSsip ns = ops.ClearSsip
+op_made SfenceAll ns = ops.Sfence None None
+op_made SfenceAddress ns = ops.Sfence (Some (number_from ns 0)) None
+op_made SfenceAsid ns = ops.Sfence None (Some (number_from ns 0))
+op_made SfenceBoth ns = ops.Sfence (Some (number_from ns 0)) (Some (number_from ns 1))
+op_made FenceI ns = ops.FenceI
+op_made Wfi ns = ops.Wfi
+op_made Poll ns = ops.Poll
+op_made Serve ns = ops.Serve
+op_made Advance ns = ops.Advance
+op_made Tick ns = ops.Tick (number_from ns 0)
+
+-- how many of its numbers are kept: of a call those before the zeros at the end
+abbrev pub kept_count : OpShape → List ℕ → ℕ
+kept_count Ecall ns = used ns
+kept_count shape ns = length ns
+
+-- ---- what is said
+
+abbrev pub said_shape_of : Option Said → SaidShape
+said_shape_of None = shapes.Nothing
+said_shape_of (Some (says.Ret error value)) = shapes.Ret
+said_shape_of (Some says.Waiting) = shapes.Waiting
+said_shape_of (Some says.Gone) = shapes.Gone
+said_shape_of (Some (says.Entry addr hart opaque)) = shapes.Entry
+said_shape_of (Some (says.Value value)) = shapes.Value
+said_shape_of (Some (says.Fault cause)) = shapes.Fault
+said_shape_of (Some says.Served) = shapes.Served
+said_shape_of (Some (says.Moved state)) = shapes.Moved
+said_shape_of (Some says.Done) = shapes.Done
+said_shape_of (Some (says.Refused n)) = shapes.Refused
+
+-- the numbers of what is said; an error by its bits
+abbrev pub said_numbers : Option Said → List ℕ
+said_numbers None = []
+said_numbers (Some (says.Ret error value)) = cast_unsigned w64 error ∷ value ∷ []
+said_numbers (Some says.Waiting) = []
+said_numbers (Some says.Gone) = []
+said_numbers (Some (says.Entry addr hart opaque)) = addr ∷ hart ∷ opaque ∷ []
+said_numbers (Some (says.Value value)) = value ∷ []
+said_numbers (Some (says.Fault cause)) = cause ∷ []
+said_numbers (Some says.Served) = []
+said_numbers (Some (says.Moved state)) = state ∷ []
+said_numbers (Some says.Done) = []
+said_numbers (Some (says.Refused n)) = n ∷ []
+
+abbrev pub said_made : SaidShape → List ℕ → Option Said
+said_made shapes.Nothing ns = None
+said_made shapes.Ret ns = Some (says.Ret (cast_signed w64 (number_from ns 0)) (number_from ns 1))
+said_made shapes.Waiting ns = Some says.Waiting
+said_made shapes.Gone ns = Some says.Gone
+said_made shapes.Entry ns = Some (says.Entry (number_from ns 0) (number_from ns 1) (number_from ns 2))
+said_made shapes.Value ns = Some (says.Value (number_from ns 0))
+said_made shapes.Fault ns = Some (says.Fault (number_from ns 0))
+said_made shapes.Served ns = Some says.Served
+said_made shapes.Moved ns = Some (says.Moved (number_from ns 0))
+said_made shapes.Done ns = Some says.Done
+said_made shapes.Refused ns = Some (says.Refused (number_from ns 0))
+
+-- how many numbers that is
+abbrev pub said_count : SaidShape → ℕ
+said_count shapes.Nothing = 0
+said_count shapes.Ret = 2
+said_count shapes.Waiting = 0
+said_count shapes.Gone = 0
+said_count shapes.Entry = 3
+said_count shapes.Value = 1
+said_count shapes.Fault = 1
+said_count shapes.Served = 0
+said_count shapes.Moved = 1
+said_count shapes.Done = 0
+said_count shapes.Refused = 1
+
+-- ---- a line
+
+-- an actor as a number: a hart's, or 128 for the clock
+abbrev pub actor_number : Actor → ℕ
+actor_number (Hart h) = h
+actor_number Clock = 128
+
+abbrev pub actor_made : ℕ → Actor
+actor_made n = if n == 128 then Clock else Hart n
+
+-- a hart's number is at most 127
+abbrev pub FitsKept : Actor → Type 0
+FitsKept (Hart h) = h < 128
+FitsKept Clock = Unit {0}
+
+-- what a line does as a number: its actor's, or 129 for a cut
+abbrev pub step_number : Option (Actor × Op) → ℕ
+step_number None = 129
+step_number (Some step) = actor_number step.0
+
+-- its numbers: those of its operation, and none of a cut
+abbrev pub step_numbers : Option (Actor × Op) → List ℕ
+step_numbers None = []
+step_numbers (Some step) = op_numbers step.1
+
+-- A cut's shape says nothing.
+abbrev pub step_made : ℕ → OpShape → List ℕ → Option (Actor × Op)
+step_made n shape ns = if n == 129 then None else Some (actor_made n, op_made shape ns)
+
+-- the actor of a step can be kept
+abbrev pub StepFits : Option (Actor × Op) → Type 0
+StepFits None = Unit {0}
+StepFits (Some step) = FitsKept step.0

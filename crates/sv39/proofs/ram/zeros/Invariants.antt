@@ -1,8 +1,0 @@
-use Rattle.std.proofs.Common.{◌≡◌, replicate, vec_capacity, vec_len}
-use Rattle.sv39.proofs.ram.zeros.Given as goal
-
-abbrev pub invariant-loop : goal.invariant-loop
-invariant-loop l =
-    (l.words.items ≡ replicate l.counter 0)
-    × (vec_len l.words ≡ l.counter)
-    × (vec_capacity l.words ≡ l.count)

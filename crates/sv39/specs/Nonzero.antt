@@ -1,0 +1,13 @@
+-- Words that are 0, and the next one that isn't.
+use Rattle.std.specs.Prelude.{◌≡◌, ℕ, ◌<◌, ◌≤◌, List, slice_index}
+
+-- each word from a place on, up to another place, is 0
+abbrev pub IsClear : (words : List ℕ) (from to : ℕ) → Type 0
+IsClear words from to = (k : ℕ) → from ≤ k → k < to → slice_index words k ≡ 0
+
+-- the place of the first word that isn't 0, from a place on, up to another one
+pub record IsNextSet (words : List ℕ) (from to place : ℕ) : Type 0 where
+  pub not_before : from ≤ place
+  pub within : place < to
+  pub is_set : 0 < slice_index words place
+  pub first : IsClear words from place
