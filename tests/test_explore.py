@@ -216,6 +216,9 @@ def ends_are_asked_of_all_orders(room):
         found, lines = explored(room, text)
         if found != status:
             raise Wrong(f"without a condition: status {found}, {lines}")
+    found, lines = explored(room, "board 1 1 10 0 0x80000000 0\nat 0x80000000\necall 0x53525354 0 0 0\n")
+    if found != 0 or "# orders: 1, off 1" not in lines:
+        raise Wrong(f"of a shutdown: status {found}, {lines}")
 
 
 def failing_orders_are_traces(room):
@@ -227,9 +230,15 @@ def failing_orders_are_traces(room):
     path = os.path.join(room, name)
     found = ran(["check", path], program=PROGRAM)
     with open(path, encoding="utf-8") as file:
-        steps = file.read().count(" -> ")
+        record = file.read()
+    steps = record.count(" -> ")
     if found.returncode or found.stdout != b"agrees %d\n" % steps:
         raise Wrong(f"{found}, of {steps} steps")
+    with open(os.path.join(room, "a.sched"), "w", encoding="utf-8") as file:
+        file.writelines(line.partition(" -> ")[0] + "\n" for line in record.splitlines())
+    replayed = ran(["replay", file.name], program=PROGRAM)
+    if replayed.stdout.decode() != record:
+        raise Wrong(f"the record is {record!r}, and a replay prints {replayed}")
 
 
 def bounds_are_told(room):
@@ -246,6 +255,11 @@ def bounds_are_told(room):
     status, lines = explored(room, "boar\n")
     if status != 1:
         raise Wrong(f"status {status}, {lines}")
+    # (three states: before the entry, before the load, and behind it)
+    for most, wanted in (("2", 8), ("3", 0)):
+        status, lines = explored(room, "board 1 1 10 0 0x80000000 0\nat 0x80000000\nload 0x80000000\n", "--states", most)
+        if status != wanted or ("# outcomes: 1" in lines) != (wanted == 0):
+            raise Wrong(f"{most} states: status {status}, {lines}")
 
 
 def tour_is_as_written(room):

@@ -4,6 +4,7 @@ import pty
 import random
 import shutil
 import subprocess
+import threading
 
 import programs
 from harness import HANG, NO_MEMORY, PROGRAM, ROOT, Passed, Wrong, allocating, ran, shim
@@ -95,7 +96,7 @@ FAULTS = (
     ("\t#!  never  x load", 13, "not a number"), ("#! never 0x80 load", 10, "not a number"), ("#! some 1 ecall 1 2 3 4 5 6 7 8 9", 33, "too few or too many words"),
     ("#! some 1 load -> valu 1", 19, "unknown word"), ("#! each 1 load -> value 1 2", 27, "too few or too many words"), ("#! some 1 load 0x8000000000000000000", 16, "not a number"),
     ("#! some 1 poll -> ret -9223372036854775809", 23, "not a number"), ("#! before 0 store,", 19, "too few or too many words"), ("#! before 0 store, 1 laod", 22, "unknown word"),
-    ("#! NEVER 1 load", 4, "unknown condition"), ("#! end quiet, off", 8, "unknown word"),
+    ("#!/usr/bin/env sbiboard", 3, "unknown condition"), ("#! NEVER 1 load", 4, "unknown condition"), ("#! end quiet, off", 8, "unknown word"),
 )  # fmt: skip
 
 # What can't be tested: a file's text, and what is said of it: the place, what is wrong, and the word.
@@ -112,6 +113,7 @@ UNTESTED = (
     ("board 1 1 9 0 0x80000000\n", ":1:25: a word is missing (fault 5)"), (HEAD + "0 # nothing\n", ":2:2: a word is missing (fault 5)"),
     (HEAD + "0 load 1 2\n", ":2:10: a word too many: '2' (fault 5)"), (HEAD + "0 store 1 -> done\n", ":2:11: a word is missing before '->' (fault 5)"),
     (HEAD + "0 sip ->\n", ":2:9: a word is missing (fault 5)"), (HEAD + "0 sip -> value\n", ":2:15: a word is missing (fault 5)"),
+    (HEAD + "0 advance -> entry 1 2\n", ":2:23: a word is missing (fault 5)"), (HEAD + "0 advance -> entry 1 0 3 4\n", ":2:26: a word too many: '4' (fault 5)"),
     (HEAD + "0 sip -> done -> done\n", ":2:15: a word too many: '->' (fault 5)"), (HEAD + "at 1 2\n", ":2:6: a word too many: '2' (fault 5)"),
     (HEAD + "sip\n", ":2:1: a line of another kind: 'sip' (fault 6)"), (HEAD + "at 16\nat 0x10\n", ":3:4: a second block of '0x10' (fault 7)"),
     (HEAD + "clock\nclock\n", ":3:1: a second block of 'clock' (fault 7)"), ("bord 1\n", ":1:1: no board line, but 'bord' (fault 2)"),
@@ -152,6 +154,11 @@ def conditions_are_judged(room):
         status, lines = told(room, f"#! {asked} # as it is\n{RACE}", "--times", "200")
         point = f"{'' if holds else 'not '}ok 1 - race.program: line 1: {asked}"
         must(f"{asked}: {status}, {lines[:3]}", status == (0 if holds else 1) and lines[0] == "TAP version 14" and lines[1] == point)
+    # (a dash stands for itself alone)
+    for asked, holds in (("- 5", False), ("0x1000 -", False), ("- -", True), ("0x1000 5", True), ("_ 5", False), ("- _", False)):
+        text = "board 1 1 10 0 0x80000000 0\n0 advance\n0 sfence - 5\n0 sfence 0x1000 -\n"
+        status, lines = told(room, f"#! never 0 sfence {asked}\n{text}", name="a.sched")
+        must(f"{asked}: {status}, {lines[:3]}", status == (0 if holds else 1))
 
 
 def points_are_told(room):
@@ -163,6 +170,10 @@ def points_are_told(room):
         "# ends: 0 off, 0 history-full, 50 quiet, 0 stuck",
     ]  # fmt: skip
     must(f"{lines}", status == 0 and lines == wanted)
+    # (those of several files are summed)
+    told(room, RACE, name="other.program")
+    status, lines = told_of(room, "--times", "50", "race.program", "other.program")
+    must(f"{lines}", status == 0 and "# 2 files, 100 orders, 8 different records" in lines)
 
 
 def names_are_escaped(room):
@@ -177,6 +188,9 @@ def bad_conditions_are_told(room):
     for line, column, why in FAULTS:
         status, lines = told(room, RACE + line + "\n")
         must(f"{line}: {lines}", status == 1 and lines[1] == f"not ok 1 - race.program:8:{column}: {why}")
+    # (on the first line it makes a script that can be executed, and says nothing)
+    status, lines = told(room, f"#!/usr/bin/env -S sbiboard test\n{RACE}", "--times", "3")
+    must(f"{lines}", status == 0 and lines[1] == "ok 1 - race.program (3 orders)")
 
 
 def bad_files_are_told(room):
@@ -250,12 +264,17 @@ def a_seed_is_one_order(room):
     first, again = (told(room, text, "--seed", "7") for _ in range(2))
     must("two runs of one seed differ", first == again)
     must("another seed tells the same", told(room, text, "--seed", "8") != first)
-    order = next(line.split()[1] for line in first[1] if line.startswith("  order:"))
-    path = os.path.join(room, f"race.program.7-{order}.failed")
+    # (a seed whose first order holds)
+    for seed in map(str, range(7, 99)):
+        order = next(line.split()[1] for line in told(room, text, "--seed", seed)[1] if line.startswith("  order:"))
+        if order != "0":
+            break
+    must("the first order fails whatever the seed", order != "0")
+    path = os.path.join(room, f"race.program.{seed}-{order}.failed")
     with open(path) as file:
         record = file.read()
     os.remove(path)
-    must("the order alone meets the condition", told(room, text, "--seed", "7", "--order", order)[0] == 1)
+    must("the order alone meets the condition", told(room, text, "--seed", seed, "--order", order)[0] == 1)
     with open(path) as file:
         must("the order alone has another record", file.read() == record)
     status, lines = told_of(room, os.path.basename(path))
@@ -269,6 +288,10 @@ def failures_are_counted(room):
     _, lines = told(room, "#! end off\n" + RACE, "--times", "40", "--failed", room)
     wanted = ["  ---", "  seed: 0", "  failing: 40", "  orders: 40", "  order: 0", f'  record: "{room}/race.program.0-0.failed"', "  place: 5", "  steps: |"]
     must(f"{lines}", lines[2:10] == wanted and lines[10].startswith("    0 0 advance -> entry") and lines[15].startswith("    5 1 load"))
+    # (a record has its file's name, and not its folder's)
+    os.mkdir(os.path.join(room, "folder"))
+    _, lines = told(room, "#! end off\n" + RACE, "--times", "40", name="folder/race.program")
+    must(f"{lines}", '  record: "./race.program.0-0.failed"' in lines and os.path.exists(os.path.join(room, "race.program.0-0.failed")))
     _, lines = told(room, "#! some 1 load -> value 9\n" + RACE, "--times", "40")
     must(f"{lines}", lines[2:7] == ["  ---", "  seed: 0", "  failing: 40", "  orders: 40", "  ..."])
 
@@ -316,6 +339,46 @@ def all_differences_are_told(room):
     must(f"{lines}", status == 1 and lines[1 : 1 + len(wanted)] == wanted)
 
 
+# Pages 0x1000, to be fetched from, and 0x2000, to be loaded from, change places without a fence.
+STALE = """\
+board 1 8 100 0 0x80000000 0x0
+0 advance
+0 store 0x80001000 0x20000801
+0 store 0x80002000 0x20000c01
+0 store 0x80003008 0x20001049
+0 store 0x80003010 0x20001443
+0 store 0x80004000 0x11
+0 store 0x80005000 0x22
+0 satp 0x8000000000080001
+0 fetch 0x1000
+0 load 0x2000
+0 fetch 0x1000
+0 satp 0
+0 store 0x80003008 0x20001449
+0 store 0x80003010 0x20001043
+0 satp 0x8000000000080001
+0 fetch 0x1000
+0 load 0x2000
+0 sfence - -
+0 fetch 0x1000
+0 load 0x2000
+0 satp 0
+0 fetch 0x80005000
+0 store 0x80005000 0x33
+0 fetch 0x80005000
+0 fencei
+0 fetch 0x80005000
+"""
+
+
+def stale_accesses_are_told(room):
+    """Accesses that used a translation or a word that isn't there any more are told by their lines, and no others."""
+    status, lines = told(room, STALE, name="a.sched")
+    found = [it for it in lines if it.startswith("# line ")]
+    translation, word = "stale: a walk gives another translation", "stale: memory has another word"
+    must(f"{lines}", status == 0 and found == [f"# line 17: {translation}", f"# line 18: {translation}", f"# line 25: {word}"])
+
+
 def schedules_are_replayed(room):
     """A schedule's own record is judged by its conditions; an end is a program's alone."""
     text = "board 1 1 10 0 0x80000000 0x0\n0 advance\n0 poll\n0 ecall 0x10 0\n"
@@ -328,6 +391,13 @@ def schedules_are_replayed(room):
         "ok 2 - a.sched: line 2: some 0 advance", "not ok 3 - a.sched: line 3: end quiet", "  ---", '  reason: "only a program has an end"', "  ...",
     ]  # fmt: skip
     must(f"{lines}", status == 1 and lines[1 : 1 + len(wanted)] == wanted)
+    # (six steps before the one that fails, and six behind it)
+    steps = "".join(f"0 sie {k}\n" for k in range(1, 20))
+    status, lines = told(room, f"#! never 0 sie 9\nboard 1 1 100 0 0x80000000 0x0\n0 advance\n{steps}", name="a.sched")
+    must(f"{lines}", status == 1 and [it.split()[0] for it in lines if it.startswith("    ")] == [str(k) for k in range(3, 16)])
+    # (what was cut off is judged, too)
+    status, lines = told(room, "#! some 0 advance\n#! never 0 ecall after 0 advance\n" + text.replace("0 poll", "cut"), name="a.sched")
+    must(f"{lines}", status == 1 and lines[1] == "ok 1 - a.sched: line 1: some 0 advance" and lines[2].startswith("not ok 2 - "))
 
 
 def statuses_are_told(room):
@@ -378,10 +448,14 @@ def odd_programs_are_told(room):
         "# line 8: no order entered the block at 0x80001004", "# a hart was entered at 0x80001000, where no block is",
     ]  # fmt: skip
     must(f"{lines}", [line for line in lines if line.startswith(("# line", "# a "))] == wanted)
-    _, lines = told(room, "#! end quiet\n" + RACE.replace("store 0x80002000 0x1", "store 0x80002000 0x1 #! never 0 store"), "--times", "50")
-    must(f"{lines}", "# line 5: behind other words '#!' begins a comment, and no condition" in lines)
+    status, lines = told(room, "#! end quiet\n" + RACE.replace("store 0x80002000 0x1", "store 0x80002000 0x1 #! never 0 store"), "--times", "50")
+    must(f"{lines}", "# line 5: behind other words '#!' begins a comment, and no condition" in lines and status == 0 and "1..1" in lines)
     _, lines = told(room, "#! end quiet\n" + RACE, "--times", "50")
     must(f"{lines}", not [line for line in lines if line.startswith(("# line", "# a "))])
+    # (a call that hart 0 makes well, and then hart 1 in vain)
+    once = "#! end quiet\nboard 2 2 100 0 0x80001000 0x0\nat 0x80001000\necall 0x48534d 0 1 0x80001000 0\n"
+    status, lines = told(room, once, "--times", "50")
+    must(f"{lines}", status == 0 and not [line for line in lines if line.startswith(("# line", "# a "))])
 
 
 def threads_are_judged_too(room):
@@ -403,6 +477,9 @@ def at_a_terminal(room, *words, seconds=HANG):
     ours, its = pty.openpty()
     child = subprocess.Popen(["sbiboard", *words], executable=TESTER, cwd=room, stdin=subprocess.DEVNULL, stdout=its, stderr=its)
     os.close(its)
+    # (one that goes on and on is ended, and has told what it has)
+    timer = threading.Timer(seconds, child.kill)
+    timer.start()
     text = b""
     try:
         while piece := os.read(ours, 4096):
@@ -410,7 +487,9 @@ def at_a_terminal(room, *words, seconds=HANG):
     except OSError:
         pass  # (the terminal ends so)
     os.close(ours)
-    return child.wait(seconds), text.decode().replace("\r\n", "\n")
+    status = child.wait(seconds)
+    timer.cancel()
+    return status, text.decode().replace("\r\n", "\n")
 
 
 def a_terminal_is_told_plainly(room):
@@ -419,6 +498,7 @@ def a_terminal_is_told_plainly(room):
     status, text = at_a_terminal(room, "--times", "10", "--tap", "points.tap", "race.program")
     lines = text.split("\n")
     must(f"{text}", status == 1 and lines[0] == "ok    race.program: line 1: end quiet" and lines[1] == "FAIL  race.program: line 2: end off")
+    must(f"{text}", not any(it.strip().startswith("1..") for it in lines))
     must(f"{text}", "      failing: 10" in lines and "2 points, 1 failed" in lines and "TAP" not in text and "---" not in text and lines[-2].startswith("time: "))
     with open(os.path.join(room, "points.tap"), encoding="utf-8") as file:
         must("no points", file.read().startswith("TAP version 14\nok 1 - "))
@@ -482,6 +562,7 @@ TESTS = [
     ("orders of a program of 10,000 blocks", many_blocks_are_found),
     ("orders that end stuck fail", stuck_orders_fail), ("orders that the limit cut off are spared", full_histories_are_spared),
     ("all differences of a trace are told", all_differences_are_told), ("schedules are replayed and judged", schedules_are_replayed),
+    ("stale accesses are told", stale_accesses_are_told),
     ("statuses of tests", statuses_are_told), ("points are written into a file too", tap_is_written_too),
     ("any number of jobs tells the same", jobs_tell_the_same), ("odd programs are told", odd_programs_are_told),
     ("runs on threads are judged too", threads_are_judged_too), ("a terminal is told plainly", a_terminal_is_told_plainly),

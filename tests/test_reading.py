@@ -120,6 +120,10 @@ def few_calls(room):
                 raise Wrong(f"{len(reads)} reads of {len(text)} bytes, {len(writes)} writes")
             if len(sizes) > 90 or sum(sizes) > 5 * most:
                 raise Wrong(f"{len(sizes)} allocations, of {sum(sizes)} bytes, for {len(text)} bytes")
+    # (a line that has room in a piece needs no more)
+    found, sizes, _ = calling(made, room, ["replay", script(room, BOARD + b"#" * (PIECE - 2 * len(BOARD)))])
+    if found.returncode or max(sizes) > PIECE:
+        raise Wrong(f"status {found.returncode}, an allocation of {max(sizes)} bytes")
     steps = BOARD.replace(b" 10 ", b" 100000 ") + b"0 advance\n" + b"0 ecall 0x10 0\n" * 99_999
     found, _, calls = calling(made, room, ["replay", script(room, steps)])
     must_be(found, 0, None, b"")

@@ -224,6 +224,12 @@ def clocks(room):
             raise Wrong(f"{text!r}: it printed {out.decode()}")
         if [it for it in events if it[:1] == b"0"] != harts or [it for it in events if it[:1] == b"c"] != ticks:
             raise Wrong(f"{text!r}: its events are {events}")
+    # (the clock has one tick; harts rest long after that, until one wakes the other)
+    first = b"at 0x80000000\nsie 0x2\necall 0x48534d 0 1 0x80000100 0\nwfi\nclearssip\n" + b"sip\n" * 3_000 + b"ecall 0x735049 0 0x2 0\n"
+    second = b"at 0x80000100\nsie 0x2\n" + b"sip\n" * 3_000 + b"ecall 0x735049 0 0x1 0\nwfi\nclearssip\n"
+    text = b"board 2 1 9000 0 0x80000000 0x0\nclock\ntick 1\n" + first + second
+    for _ in range(5):
+        must_run(room, script(room, text), "quiet")
 
 
 def many_ticks(room):

@@ -18,12 +18,12 @@ use Rattle.tlb_model.specs.Acts.{Act, acted}
 use Rattle.tlb_model.specs.Contents.{Contents, filled_if}
 use Rattle.tlb_model.specs.Entries.{covers_entry}
 use Rattle.tlb_model.specs.Words.{covers_word}
-use Rattle.hart_access.specs.declared.operation.Access.{Access}
-use Rattle.hart_access.specs.declared.operation.Access.TheVariants.{Load, Store, Fetch}
+use Rattle.hart_access.specs.declared.accesses.Access.{Access}
+use Rattle.hart_access.specs.declared.accesses.Access.TheVariants.{Load, Store, Fetch}
 use Rattle.hart_access.specs.declared.way.Way.{Way}
 use Rattle.hart_access.specs.declared.way.Way.TheVariants.{Plain, Fault}
 use Rattle.hart_access.specs.Accesses as whole
-use Rattle.hart_access.specs.Operations.{kind_of}
+use Rattle.hart_access.specs.AccessKinds.{kind_of}
 use Rattle.hart_access.specs.Ways.{fill_by, place_by, used_by, way, way_by}
 use Rattle.hart_access.proofs.Used.{place_of_used}
 use Rattle.board_core.specs.Accesses.{access_reply_of}

@@ -7,7 +7,7 @@ use Rattle.std.proofs.lemmas.Bool.Decides.{eqb_tells}
 use Rattle.std.proofs.lemmas.List.{get_or_past, length-replicate}
 use Rattle.std.proofs.lemmas.List.FromFn.{get_or-map-range_with_len, length-map-range_with_len}
 use Rattle.hsm.specs.declared.hart.HartState.TheVariants.{StartPending}
-use Rattle.hsm.specs.declared.hart.Kept.{Kept}
+use Rattle.hsm.specs.declared.hart.EntryPoint.{EntryPoint}
 use Rattle.hsm.specs.Harts.{Hart, resting, starting}
 use Rattle.hsm.specs.Transitions.{hart_at, hart_at_opening}
 use Rattle.rfence.proofs.Seams.{all-same, begins-right}
@@ -52,7 +52,7 @@ module _ (f : ℕ → Option Start) (b : ℕ) (start : Start) (is : f b ≡ Some
   ]
 
 module _ (c : Config) (good : IsGood c) where
-  abbrev boot : Kept
+  abbrev boot : EntryPoint
   boot = record { addr = c.boot_addr; opaque = c.boot_opaque }
 
   -- the boot hart's start is pending, and the others are at rest, those that aren't there too

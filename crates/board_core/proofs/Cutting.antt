@@ -12,7 +12,7 @@ use Rattle.hart_mask.specs.Ids.{has, ids_where}
 use Rattle.hart_mask.proofs.Sets.{has-ids_where, ids_where-agree}
 use Rattle.hsm.specs.declared.hart.HartState.{HartState}
 use Rattle.hsm.specs.declared.hart.HartState.TheVariants.{Started, Stopped, StartPending, StopPending, Suspended, SuspendPending, ResumePending}
-use Rattle.hsm.specs.declared.hart.Kept.{Kept}
+use Rattle.hsm.specs.declared.hart.EntryPoint.{EntryPoint}
 use Rattle.hsm.specs.Harts.{Hart, resting}
 use Rattle.hsm.specs.States.{is_interruptible, is_start_pending}
 use Rattle.hsm.specs.Transitions.{hart_at}
@@ -42,7 +42,7 @@ use Rattle.board_core.specs.History.{Event}
 use Rattle.board_core.specs.Interrupts.{deadline, ssip}
 use Rattle.board_core.specs.Memory.{caches_of, memory, satp, tlb_acts, word_acts}
 use Rattle.board_core.specs.Opening.{IsOpening, Opening, no_caches, place_after, tlb_at, words_at}
-use Rattle.board_core.specs.Stands.{IsKept, StandsFor}
+use Rattle.board_core.specs.Inside.Stands.{IsKept, StandsFor}
 use Rattle.board_core.specs.Starts.{Start, boot_start, entries, hart_of, is_of, kept_in, last_start, pending, start_in, starts, starts_opened}
 use Rattle.board_core.specs.States.{state}
 use Rattle.board_core.specs.Suspends.{resume_point}
@@ -87,7 +87,7 @@ module _ (o : Opening) (past : List Event) (held : IsHeld o past) where
   places-cut : fence_openings.place_after o.fences (turns o past) ≡ place_after o past
   places-cut = omega (arith, opened.places, length-turns o past)
 
-  starts-kept : (s : HartState) (start : Start) (resume : Option Kept) → s ≡ StartPending → is_some (kept_in s start resume) ≡ true
+  starts-kept : (s : HartState) (start : Start) (resume : Option EntryPoint) → s ≡ StartPending → is_some (kept_in s start resume) ≡ true
   starts-kept s start resume is = ap (λ (t : HartState). is_some (kept_in t start resume)) is
 
   by_call : (h : ℕ) (call : Option (FenceCall Flush)) → calls.open_call o.fences (turns o past) h ≡ call → is_some (calls.open_call o.fences (turns o past) h) ≡ true → state o past h ≡ Started

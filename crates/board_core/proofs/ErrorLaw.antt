@@ -23,7 +23,7 @@ use Rattle.sbi_abi.specs.Calls.{call_of}
 use Rattle.hart_mask.specs.HartList.{targets_of}
 use Rattle.hsm.specs.declared.hart.HartState.{HartState}
 use Rattle.hsm.specs.declared.hart.HartState.TheVariants.{Started, Stopped, StartPending, StopPending, Suspended, SuspendPending, ResumePending}
-use Rattle.hsm.specs.declared.hart.Kept.{Kept}
+use Rattle.hsm.specs.declared.hart.EntryPoint.{EntryPoint}
 use Rattle.hsm.specs.States.{is_stopped}
 use Rattle.board_core.specs.Opening.{Opening}
 use Rattle.board_terms.specs.declared.op.Actor.{Actor}
@@ -38,8 +38,8 @@ use Rattle.board_core.specs.Course.{harts_of}
 use Rattle.sv39.specs.declared.cause.Cause.{Cause}
 use Rattle.tlb_model.specs.declared.caches.Caches.{Caches}
 use Rattle.tlb_model.specs.declared.entry.Entry.{Entry}
-use Rattle.hart_access.specs.declared.operation.Access.{Access}
-use Rattle.hart_access.specs.declared.operation.Access.TheVariants as accesses
+use Rattle.hart_access.specs.declared.accesses.Access.{Access}
+use Rattle.hart_access.specs.declared.accesses.Access.TheVariants as accesses
 use Rattle.hart_access.specs.Accesses as whole
 use Rattle.board_core.specs.Accesses.{access_reply_of, cached, hit}
 use Rattle.board_core.specs.Csrs.{sstatus_sie}
@@ -128,7 +128,7 @@ module _ (o : Opening) (past : List Event) where
     failed_call call r is error = refl
 
     -- an Advance answers no error
-    advanced_well : (s : HartState) (start : Start) (resume : Option Kept) → is_error (advance_reply x s start resume) ≡ false
+    advanced_well : (s : HartState) (start : Start) (resume : Option EntryPoint) → is_error (advance_reply x s start resume) ≡ false
     advanced_well Started start resume = refl
     advanced_well Stopped start resume = refl
     advanced_well StartPending start resume = refl

@@ -9,7 +9,7 @@ use Rattle.sbi_abi.specs.declared.call.Regs.{Regs}
 use Rattle.sbi_abi.specs.declared.reset.Reset.{Reset}
 use Rattle.sbi_abi.specs.Calls.{call_of}
 use Rattle.hsm.specs.declared.hart.HartState.TheVariants as states
-use Rattle.hsm.specs.declared.hart.Kept.{Kept}
+use Rattle.hsm.specs.declared.hart.EntryPoint.{EntryPoint}
 use Rattle.hsm.specs.States.{is_start_pending}
 use Rattle.tlb_model.specs.declared.entry.Entry.{Entry as CacheEntry}
 use Rattle.tlb_model.specs.declared.word.FetchWord.{FetchWord}
@@ -39,7 +39,7 @@ use Rattle.board_core.specs.Writes.{Write, Here, at_reset}
 pub record HartsDeed : Type 0 where
   pub move : Option Move
   pub start : Option Growth
-  pub resume : Option (Write (Option Kept))
+  pub resume : Option (Write (Option EntryPoint))
 
 -- of interrupts: values for sstatus.SIE, sie, SSIP and the deadline; ticks; and the harts that an IPI reaches
 pub record InterruptsDeed : Type 0 where

@@ -25,7 +25,7 @@ use Rattle.board_core.specs.Interrupts.{deadline, ssip}
 use Rattle.board_terms.specs.Limits.{IsGood}
 use Rattle.board_core.specs.Memory.{caches_of, memory, satp}
 use Rattle.board_core.specs.Opening.{Opening, no_caches, opening_at}
-use Rattle.board_core.specs.Stands.{IsKept, StandsFor}
+use Rattle.board_core.specs.Inside.Stands.{IsKept, StandsFor}
 use Rattle.board_core.specs.Starts.{hart_of}
 use Rattle.board_core.proofs.Beginning.{caches-opened, deadline-opened, opened_as, opens, satp-opened}
 use Rattle.board_core.proofs.Cutting.{held-by, is-cut, words-again}

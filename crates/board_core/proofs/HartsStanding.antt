@@ -4,7 +4,7 @@ use Rattle.std.specs.Prelude.{Option, Some, None, count_by, find, unwrap_or, ◌
 use Rattle.std.proofs.lemmas.List.FromFn.{get_or-map-range_with_len, length-map-range_with_len}
 use Rattle.hsm.specs.declared.hart.HartState.{HartState}
 use Rattle.hsm.specs.declared.hart.HartState.TheVariants.{StartPending, Stopped}
-use Rattle.hsm.specs.declared.hart.Kept.{Kept}
+use Rattle.hsm.specs.declared.hart.EntryPoint.{EntryPoint}
 use Rattle.hsm.specs.Harts.{Hart, resting, starting}
 use Rattle.hsm.specs.States.{is_start_pending}
 use Rattle.hsm.specs.Transitions.{hart_at, hart_at_opening}
@@ -15,7 +15,7 @@ use Rattle.board_core.specs.History.{Event}
 use Rattle.sbi_abi.specs.declared.reset.Reset.{Reset}
 use Rattle.board_core.specs.Course.{harts_of}
 use Rattle.board_core.specs.Starts.{Anew, More, all_pending, boot_start, hart_of, is_of, kept_in, last_start, start_by, starts_at}
-use Rattle.board_core.specs.Stands.{HartsStand}
+use Rattle.board_core.specs.Inside.Stands.{HartsStand}
 use Rattle.board_core.specs.States.{Each, One, move_of, state, state_at_boot, state_at_reset}
 use Rattle.board_core.specs.Resets.{begins_anew}
 use Rattle.board_core.specs.Writes.{latest}
@@ -60,7 +60,7 @@ module _ (o : Opening) (past : List Event) (harts : List Hart) (stand : HartsSta
 abbrev pub hart_at_reset : Config → Reset → ℕ → Hart
 hart_at_reset c reset h = if begins_anew reset.kind then hart_at_opening c.boot_hart (record { addr = c.boot_addr; opaque = c.boot_opaque }) h else resting
 
-as_reset : (c : Config) (reset : Reset) (h : ℕ) (resume : Option Kept)
+as_reset : (c : Config) (reset : Reset) (h : ℕ) (resume : Option EntryPoint)
     → (let s = state_at_reset c reset h in let hart : Hart = record { state = s; kept = kept_in s (unwrap_or (find (is_of h) (starts_at c reset)) (boot_start c)) resume } in hart)
     ≡ hart_at_reset c reset h
 as_reset c reset h resume = by_kind (begins_anew reset.kind)

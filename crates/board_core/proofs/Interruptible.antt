@@ -5,7 +5,7 @@ use Rattle.std.proofs.lemmas.Bool.{and_parts, both_ways, eq-eqb, eqb-true}
 use Rattle.std.proofs.lemmas.List.{length-drop}
 use Rattle.hsm.specs.declared.hart.HartState.{HartState}
 use Rattle.hsm.specs.declared.hart.HartState.TheVariants as states
-use Rattle.hsm.specs.declared.hart.Kept.{Kept}
+use Rattle.hsm.specs.declared.hart.EntryPoint.{EntryPoint}
 use Rattle.hsm.specs.States.{is_interruptible}
 use Rattle.hart_mask.specs.HartList.{targets_of}
 use Rattle.rfence.specs.Opening as fences
@@ -40,7 +40,7 @@ use Rattle.board_core.specs.Suspends.{resume_point}
 use Rattle.board_core.proofs.InCalls.{IsTaken, starts-at-stopped, taken}
 
 -- an Advance of a hart in an interruptible state brings it to one
-advances : (x : ℕ) (now s : HartState) (start : Start) (resume : Option Kept) → advance_reply x now start resume ≡ replies.Moved s → is_interruptible now ≡ true → is_interruptible s ≡ true
+advances : (x : ℕ) (now s : HartState) (start : Start) (resume : Option EntryPoint) → advance_reply x now start resume ≡ replies.Moved s → is_interruptible now ≡ true → is_interruptible s ≡ true
 advances x states.Started s start resume replied can = let same : states.Started ≡ s = cc in ap is_interruptible (sym same)
 advances x states.Stopped s start resume replied can = cc
 advances x states.StartPending s start resume replied can = cc

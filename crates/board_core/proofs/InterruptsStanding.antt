@@ -16,7 +16,7 @@ use Rattle.board_core.specs.Course.{harts_of}
 use Rattle.board_core.specs.Csrs.{none_enabled, sie, sie_by, sstatus_sie, sstatus_sie_by}
 use Rattle.board_core.specs.Interrupts.{deadline, deadline_by, reaches_by, ssip, ssip_by, ticks_by}
 use Rattle.tlb_model.specs.Contents.{cleared}
-use Rattle.board_core.specs.Stands.{CsrsStand, InterruptsStand, IpisStand, TimersStand}
+use Rattle.board_core.specs.Inside.Stands.{CsrsStand, InterruptsStand, IpisStand, TimersStand}
 use Rattle.board_core.specs.States.{is_starting}
 use Rattle.board_core.specs.Writes.{Everywhere, Here}
 use Rattle.board_core.proofs.Events.{Deed, InterruptsDeed, deed, still}

@@ -10,7 +10,7 @@ use Rattle.board_terms.specs.declared.reply.Reply.TheVariants as replies
 use Rattle.board_core.specs.declared.keeping.Head.{Head}
 use Rattle.board_core.specs.declared.keeping.What.{What}
 use Rattle.board_core.specs.History.{access_of, entry_of}
-use Rattle.board_core.specs.Keeping.{IsKeptWell, IsOwnEntry, actor_in, actor_of, by_of, first_of, hart_in, head_in, head_of, op_in, opaque_in, opaque_of, reply_in, reply_of, said_of, used_in, what_of}
+use Rattle.board_core.specs.Inside.Keeping.{IsKeptWell, IsOwnEntry, actor_in, actor_of, by_of, first_of, hart_in, head_in, head_of, op_in, opaque_in, opaque_of, reply_in, reply_of, said_of, used_in, what_of}
 
 actor_again : (a : Actor) → actor_of (by_of a) ≡ a
 actor_again (Hart h) = refl

@@ -17,7 +17,7 @@ use Rattle.board_core.specs.Opening.{Opening}
 use Rattle.board_core.specs.Refusals.{first_that_holds, is_full, refusals, refusals_in, situation}
 use Rattle.board_core.specs.Replies.{answer, answer_when, refused_or, reply}
 use Rattle.board_core.specs.Resets.{is_off}
-use Rattle.board_core.specs.Stands.{IsKept, StandsFor}
+use Rattle.board_core.specs.Inside.Stands.{IsKept, StandsFor}
 use Rattle.board_core.specs.Taking.{event_with, refusal_at, reply_at, step_from, step_with}
 use Rattle.board_core.proofs.Cutting.{held-by, is-cut, kept-cut, stands-cut}
 use Rattle.board_core.proofs.Rams.{ram-after, same-ram}

@@ -8,7 +8,7 @@ use Rattle.rfence.specs.Applied as effects
 use Rattle.rfence.specs.Opening as fences
 use Rattle.rfence.specs.Applied.{Effect, Drops, Empties, effect}
 use Rattle.rfence.specs.Effects.{affected, caches_after, changed_from}
-use Rattle.rfence.specs.HartCaches.{dropped_of, emptied_of}
+use Rattle.rfence.specs.Inside.HartCaches.{dropped_of, emptied_of}
 use Rattle.rfence.specs.Right.{IsRightTurn}
 use Rattle.rfence.specs.State.{AreAffected, State}
 use Rattle.rfence.specs.Turns.{Turn, Own}
@@ -30,7 +30,7 @@ use Rattle.tlb_model.specs.Words.{covers_word}
 use Rattle.tlb_model.proofs.Living.{keeps_what_lives}
 use Rattle.board_terms.specs.Limits.{spaces_of}
 use Rattle.board_core.specs.Memory.{act_by, cached_in, entry_filling, hit_in, own_filling, memory, satp, satp_by, tlb_acts, word_acts, word_filling, writing_by, written_by, Zeroed, zeroed_by}
-use Rattle.board_core.specs.Stands.{FencesStand, MemoryStand, caches_at, caches_of}
+use Rattle.board_core.specs.Inside.Stands.{FencesStand, MemoryStand, caches_at, caches_of}
 use Rattle.board_core.specs.Resets.{is_cold}
 use Rattle.board_core.specs.Writes.{Everywhere, Here, latest}
 use Rattle.board_core.proofs.Events.{Deed, MemoryDeed, deed, still}

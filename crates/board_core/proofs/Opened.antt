@@ -8,7 +8,7 @@ use Rattle.std.proofs.lemmas.Bool.Decides.{eqb_tells}
 use Rattle.std.proofs.lemmas.List.{get_or_past}
 use Rattle.hsm.specs.declared.hart.HartState.{HartState}
 use Rattle.hsm.specs.declared.hart.HartState.TheVariants.{Started, Stopped, StartPending, StopPending, Suspended, SuspendPending, ResumePending}
-use Rattle.hsm.specs.declared.hart.Kept.{Kept}
+use Rattle.hsm.specs.declared.hart.EntryPoint.{EntryPoint}
 use Rattle.hsm.specs.Harts.{Hart, resting}
 use Rattle.hsm.specs.States.{is_start_pending}
 use Rattle.hsm.specs.Transitions.{hart_at}
@@ -58,7 +58,7 @@ find-filter p (x ∷ xs) found is = by_test (p x) refl found is (find-filter p x
 -- ---- the pending starts of an opening
 
 -- a hart's own start is of it
-own-start : (h : ℕ) (s : HartState) (kept : Option Kept) (start : Start) → start_in h s kept ≡ Some start → start.hart ≡ h
+own-start : (h : ℕ) (s : HartState) (kept : Option EntryPoint) (start : Start) → start_in h s kept ≡ Some start → start.hart ≡ h
 own-start h StartPending (Some kept) start is = ap hart_in (sym is)
   where
     hart_in : Option Start → ℕ
@@ -99,7 +99,7 @@ module _ (o : Opening) (opens : IsOpening o) where
     | inr far ↦ opened-outside h far ∙ sym (ap (λ (hart : Hart). option_to_list (if is_start_pending hart.state then Some (last_start o [] h) else None) ++ []) (rests-outside h far))
   ]
     where
-      by_state : (s : HartState) → (hart_at o.harts h).state ≡ s → (kept : Option Kept) → (hart_at o.harts h).kept ≡ kept
+      by_state : (s : HartState) → (hart_at o.harts h).state ≡ s → (kept : Option EntryPoint) → (hart_at o.harts h).kept ≡ kept
           → ((hart_at o.harts h).state ≡ StartPending → is_some (hart_at o.harts h).kept ≡ true)
           → find (is_of h) (starts_opened o) ≡ start_in h (hart_at o.harts h).state (hart_at o.harts h).kept
           → option_to_list (start_in h (hart_at o.harts h).state (hart_at o.harts h).kept) ≡ option_to_list (pending o [] h) ++ []

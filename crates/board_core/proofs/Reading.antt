@@ -28,7 +28,7 @@ use Rattle.tlb_model.specs.Acts.{Act, Fill, Drop, Clear, Nothing, next_number}
 use Rattle.board_core.specs.Accesses.{cached, hit}
 use Rattle.board_core.specs.Memory.{satp, tlb_acts, word_acts}
 use Rattle.board_core.specs.Starts.{Start, boot_start, entered_before, entered_by, entries, grown, growth, start_by, start_by_call, start_in, started_by_call, starts, starts_at, unless_reset}
-use Rattle.board_core.specs.Stands.{CanFill, CsrsStand, InterruptsStand, MemoryStand, TimersStand, caches_at, caches_of, no_caches, tlb_hit, word_hit}
+use Rattle.board_core.specs.Inside.Stands.{CanFill, CsrsStand, InterruptsStand, MemoryStand, TimersStand, caches_at, caches_of, no_caches, tlb_hit, word_hit}
 use Rattle.board_core.specs.States.{is_starting}
 use Rattle.board_core.specs.Resets.{begins_anew, reset_by, reset_by_call}
 

@@ -4,7 +4,7 @@ use Rattle.std.specs.Prelude.{Option, Some, None, if◌then◌else◌}
 use Rattle.std.proofs.lemmas.List.FromFn.{length-range_with_len}
 use Rattle.std.proofs.lemmas.Simd.{splat_is_map}
 use Rattle.sbi_abi.specs.declared.reset.Reset.{Reset}
-use Rattle.hsm.specs.declared.hart.Kept.{Kept}
+use Rattle.hsm.specs.declared.hart.EntryPoint.{EntryPoint}
 use Rattle.hsm.specs.Harts.{resting, starting}
 use Rattle.hsm.specs.Transitions.{hart_at_opening, reset_to}
 use Rattle.board_terms.specs.declared.config.Config.{Config}
@@ -15,12 +15,12 @@ use Rattle.fence_queue.proofs.Tables.{tabulate-set}
 use Rattle.board_core.proofs.Tables.{eqb-other, eqb-same}
 
 -- every hart is STOPPED, and the boot hart begins anew, if it is to
-pub harts-anew : (c : Config) (reset : Reset) (boot : Option Kept)
+pub harts-anew : (c : Config) (reset : Reset) (boot : Option EntryPoint)
     → boot ≡ (if begins_anew reset.kind then Some (record { addr = c.boot_addr; opaque = c.boot_opaque }) else None)
     → reset_to c.harts c.boot_hart boot ≡ map (hart_at_reset c reset) (harts_of c)
 harts-anew c reset boot is = ap (reset_to c.harts c.boot_hart) is ∙ by_kind (begins_anew reset.kind)
   where
-    kept : Kept
+    kept : EntryPoint
     kept = record { addr = c.boot_addr; opaque = c.boot_opaque }
 
     all : replicate c.harts resting ≡ map (λ h. resting) (harts_of c)

@@ -5,11 +5,11 @@ use Rattle.sbi_abi.specs.declared.answer.SbiError.{SbiError}
 use Rattle.sbi_abi.specs.declared.answer.SbiError.TheVariants as errors
 use Rattle.sbi_abi.specs.Calls.{call_of}
 use Rattle.sbi_abi.specs.Errors.{error_number}
-use Rattle.hart_access.specs.declared.operation.Access.{Access}
-use Rattle.hart_access.specs.declared.operation.Access.TheVariants as accesses
+use Rattle.hart_access.specs.declared.accesses.Access.{Access}
+use Rattle.hart_access.specs.declared.accesses.Access.TheVariants as accesses
 use Rattle.hsm.specs.declared.hart.HartState.{HartState}
 use Rattle.hsm.specs.declared.hart.HartState.TheVariants as states
-use Rattle.hsm.specs.declared.hart.Kept.{Kept}
+use Rattle.hsm.specs.declared.hart.EntryPoint.{EntryPoint}
 use Rattle.sv39.specs.declared.cause.Cause.{Cause}
 use Rattle.board_core.specs.Opening.{Opening}
 use Rattle.board_terms.specs.declared.op.Actor.TheVariants.{Hart}
@@ -20,7 +20,7 @@ use Rattle.board_core.specs.Accesses.{access_reply_of}
 use Rattle.board_core.specs.Csrs.{sstatus_sie}
 use Rattle.board_core.specs.Calls.{reply_to}
 use Rattle.board_core.specs.History.{Event}
-use Rattle.board_core.specs.Keeping.{IsByteError, IsOwnEntry, IsShort}
+use Rattle.board_core.specs.Inside.Keeping.{IsByteError, IsOwnEntry, IsShort}
 use Rattle.board_core.specs.Replies.{advance_reply, reply, resume_reply}
 use Rattle.board_core.specs.Returns.{CallReply, Leaves, Returns, Waits, as_reply, unless}
 use Rattle.board_core.specs.Starts.{Start, last_start}
@@ -61,11 +61,11 @@ module _ (x : ℕ) (op : Op) where
   access_room access (Err cause) = (tt, tt)
 
 module _ (x : ℕ) where
-  resume_room : (resume : Option Kept) → HasRoom x ops.Advance (resume_reply x resume)
+  resume_room : (resume : Option EntryPoint) → HasRoom x ops.Advance (resume_reply x resume)
   resume_room None = (zero_short, tt)
   resume_room (Some resume) = (tt, (refl, refl))
 
-  advance_room : (s : HartState) (start : Start) (resume : Option Kept) → HasRoom x ops.Advance (advance_reply x s start resume)
+  advance_room : (s : HartState) (start : Start) (resume : Option EntryPoint) → HasRoom x ops.Advance (advance_reply x s start resume)
   advance_room states.StartPending start resume = (tt, (refl, refl))
   advance_room states.StopPending start resume = (tt, tt)
   advance_room states.SuspendPending start resume = (tt, tt)

@@ -4,7 +4,7 @@ use Rattle.std.proofs.lemmas.Option.{same_Some}
 use Rattle.std.specs.Prelude.{Option, Some, None, Ok, not, nat_lt, ◌&&◌, is_none, is_some, option_map, slice_set}
 use Rattle.hsm.specs.declared.hart.HartState.{HartState}
 use Rattle.hsm.specs.declared.hart.HartState.TheVariants.{Started, Stopped, StartPending, StopPending, Suspended, SuspendPending, ResumePending}
-use Rattle.hsm.specs.declared.hart.Kept.{Kept}
+use Rattle.hsm.specs.declared.hart.EntryPoint.{EntryPoint}
 use Rattle.hsm.specs.declared.hart.Moved.{Moved}
 use Rattle.hsm.specs.declared.hart.Moved.TheVariants as moves
 use Rattle.hsm.specs.Harts.{Hart, running}
@@ -25,13 +25,13 @@ use Rattle.board_core.specs.Replies.{answer, advance_reply, refused_or, success}
 use Rattle.board_core.specs.Interrupts.{ticks_by, time}
 use Rattle.board_core.specs.Resets.{is_off}
 use Rattle.board_core.specs.Starts.{Start, kept_in, last_start}
-use Rattle.board_core.specs.Stands.{HartsStand}
+use Rattle.board_core.specs.Inside.Stands.{HartsStand}
 use Rattle.board_core.specs.States.{state}
 use Rattle.board_core.specs.Suspends.{resume_point}
 use Rattle.board_core.proofs.HartsStanding.{hart_at-inside}
 
 -- a hart that a start moves was STOPPED, and one that it doesn't wasn't
-pub started_stopped : (kept : Kept) (s : HartState) → true ≡ is_some (started_from kept s) → s ≡ Stopped
+pub started_stopped : (kept : EntryPoint) (s : HartState) → true ≡ is_some (started_from kept s) → s ≡ Stopped
 started_stopped kept Stopped started = refl
 started_stopped kept Started started = cc
 started_stopped kept StartPending started = cc
@@ -40,7 +40,7 @@ started_stopped kept Suspended started = cc
 started_stopped kept SuspendPending started = cc
 started_stopped kept ResumePending started = cc
 
-pub unstarted_not_stopped : (kept : Kept) (s : HartState) → false ≡ is_some (started_from kept s) → is_stopped s ≡ false
+pub unstarted_not_stopped : (kept : EntryPoint) (s : HartState) → false ≡ is_some (started_from kept s) → is_stopped s ≡ false
 unstarted_not_stopped kept Stopped unstarted = cc
 unstarted_not_stopped kept Started unstarted = refl
 unstarted_not_stopped kept StartPending unstarted = refl
@@ -49,7 +49,7 @@ unstarted_not_stopped kept Suspended unstarted = refl
 unstarted_not_stopped kept SuspendPending unstarted = refl
 unstarted_not_stopped kept ResumePending unstarted = refl
 
-pub unstarted_same : (kept : Kept) (s : HartState) → false ≡ is_some (started_from kept s) → started_from kept s ≡ None
+pub unstarted_same : (kept : EntryPoint) (s : HartState) → false ≡ is_some (started_from kept s) → started_from kept s ≡ None
 unstarted_same kept Stopped unstarted = cc
 unstarted_same kept Started unstarted = refl
 unstarted_same kept StartPending unstarted = refl
@@ -157,16 +157,16 @@ is_entered (moves.Entered start) = true
 is_entered moved = false
 
 -- a row of the table, by what the past says of the hart: the reply, the hart afterwards, and whether it is an entry
-pub record Row (x : ℕ) (s : HartState) (start : Start) (resume : Option Kept) (moved : Moved) (hart : Hart) : Type 0 where
+pub record Row (x : ℕ) (s : HartState) (start : Start) (resume : Option EntryPoint) (moved : Moved) (hart : Hart) : Type 0 where
   pub reply : reply_of x moved ≡ advance_reply x s start resume
   pub after : hart ≡ record { state = state_after moved; kept = kept_in (state_after moved) start resume }
   pub enters : is_start_pending s ≡ is_entered moved
 
-resume_row : (x : ℕ) (start : Start) (resume : Option Kept) → Row x ResumePending start resume (resumed resume) running
+resume_row : (x : ℕ) (start : Start) (resume : Option EntryPoint) → Row x ResumePending start resume (resumed resume) running
 resume_row x start None = record { reply = refl; after = refl; enters = refl }
 resume_row x start (Some kept) = record { reply = refl; after = refl; enters = refl }
 
-module _ (x : ℕ) (start : Start) (resume : Option Kept) where
+module _ (x : ℕ) (start : Start) (resume : Option EntryPoint) where
   row : (wake : Bool) (s : HartState) (step : Step) → advanced_from wake s (kept_in s start resume) ≡ Some step → Row x s start resume step.moved step.hart
   row wake Started step is = absurd cc
   row wake Stopped step is = absurd cc

@@ -23,7 +23,7 @@ use Rattle.board_core.specs.Course.{Course}
 use Rattle.board_terms.specs.declared.op.Op.{Op}
 use Rattle.board_terms.specs.Limits.{IsGood}
 use Rattle.board_core.specs.Refusals.{first_that_holds, is_empty, is_full, refusals_in, situation, waits_for_some}
-use Rattle.board_core.specs.Stands.{CanFill, FencesStand, HasRoom, IsKept, IsSized, IsStanding, StandsFor, situation_in}
+use Rattle.board_core.specs.Inside.Stands.{CanFill, FencesStand, HasRoom, IsKept, IsSized, IsStanding, StandsFor, situation_in}
 use Rattle.board_core.proofs.HartsStanding.{hart_at-stand, length-harts}
 use Rattle.board_core.specs.Replies.{IsLegal}
 use Rattle.board_core.proofs.Standing.{length-turns}

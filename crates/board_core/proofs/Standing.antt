@@ -25,7 +25,7 @@ use Rattle.board_core.specs.Fences.{turn_of, turns}
 use Rattle.tlb_model.specs.declared.fence.Flush.{Flush}
 use Rattle.board_core.specs.Memory.{memory}
 use Rattle.board_core.specs.Starts.{Anew, More, Start, boot_start, entry_by, start_by, starts_at}
-use Rattle.board_core.specs.Stands.{CountsStand, FencesStand, HartsStand, InterruptsStand, MemoryStand, StandsFor}
+use Rattle.board_core.specs.Inside.Stands.{CountsStand, FencesStand, HartsStand, InterruptsStand, MemoryStand, StandsFor}
 use Rattle.board_core.specs.States.{is_starting}
 use Rattle.board_core.specs.Resets.{begins_anew, last_reset, newer_or, reset_by}
 use Rattle.board_core.proofs.Events.{CountsDeed, Deed, deed, deed_of_call, does_call, still}

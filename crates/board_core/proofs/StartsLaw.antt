@@ -15,7 +15,7 @@ use Rattle.sbi_abi.specs.declared.suspend.SuspendKind.TheVariants.{Retentive, No
 use Rattle.sbi_abi.specs.Calls.{call_of}
 use Rattle.hsm.specs.declared.hart.HartState.{HartState}
 use Rattle.hsm.specs.declared.hart.HartState.TheVariants.{Started, Stopped, StartPending, StopPending, Suspended, SuspendPending, ResumePending}
-use Rattle.hsm.specs.declared.hart.Kept.{Kept}
+use Rattle.hsm.specs.declared.hart.EntryPoint.{EntryPoint}
 use Rattle.hsm.specs.States.{goes_on, is_start_pending, is_started, is_stopped}
 use Rattle.board_core.specs.Opening.{IsOpening, Opening}
 use Rattle.board_terms.specs.declared.op.Actor.{Actor}
@@ -203,7 +203,7 @@ module _ (o : Opening) where
   after_advance past before h x Suspended wake r in_phase to_do at is = rw (← is) (settled past before h x ResumePending refl (ap is_start_pending at))
   after_advance past before h x ResumePending wake r in_phase to_do at is = rw (← is) (by_resume (resume_point o past x))
     where
-      by_resume : (resume : Option Kept) → (let r = resume_reply x resume in
+      by_resume : (resume : Option EntryPoint) → (let r = resume_reply x resume in
           IsEnteredBy past before h (move_by o.config x Advance r) None (entry_by Advance r false))
       by_resume None = settled past before h x Started refl (ap is_start_pending at)
       by_resume (Some kept) = settled past before h x Started refl (ap is_start_pending at)

@@ -8,8 +8,8 @@ use Rattle.interrupts.specs.Timing.{Timing, last_time, ticked}
 use Rattle.tlb_model.specs.declared.entry.Entry.{Entry}
 use Rattle.board_core.specs.Opening.{Opening}
 use Rattle.board_terms.specs.declared.op.Actor.TheVariants.{Hart, Clock}
-use Rattle.hart_access.specs.declared.operation.Access.{Access}
-use Rattle.hart_access.specs.declared.operation.Access.TheVariants as accesses
+use Rattle.hart_access.specs.declared.accesses.Access.{Access}
+use Rattle.hart_access.specs.declared.accesses.Access.TheVariants as accesses
 use Rattle.board_core.specs.History.{Event, Reach, access_of, access_op, entry_of, using}
 use Rattle.board_terms.specs.declared.op.Op.{Op}
 use Rattle.board_terms.specs.declared.op.Op.TheVariants.{Load, Store, Fetch, Tick}
@@ -22,7 +22,7 @@ use Rattle.board_core.specs.Interrupts.{time}
 use Rattle.board_core.specs.Refusals.{first_that_holds, is_full, refusals_in, situation}
 use Rattle.board_core.specs.Replies.{answer, refused_or, reply, stepped}
 use Rattle.board_core.specs.Resets.{is_off}
-use Rattle.board_core.specs.Stands.{IsKept}
+use Rattle.board_core.specs.Inside.Stands.{IsKept}
 use Rattle.board_core.proofs.Tables.{eqb-same}
 
 -- the answer to a hart that is there: its first refusal, or else the reply

@@ -14,7 +14,7 @@ use Rattle.board_core.specs.Opening.{Opening}
 use Rattle.board_core.specs.Fences.{is_asked_by}
 use Rattle.board_core.specs.History.{Event}
 use Rattle.board_core.specs.Targets.{is_target}
-use Rattle.board_core.specs.Stands.{HartsStand}
+use Rattle.board_core.specs.Inside.Stands.{HartsStand}
 use Rattle.board_core.specs.States.{state}
 use Rattle.board_core.proofs.HartsStanding.{hart_at-stand}
 

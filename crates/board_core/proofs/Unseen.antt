@@ -9,8 +9,8 @@ use Rattle.sbi_abi.specs.declared.call.Call.{Call}
 use Rattle.sbi_abi.specs.declared.call.Call.TheVariants.{Hsm}
 use Rattle.sbi_abi.specs.declared.call.hsm.HsmCall.TheVariants.{HartGetStatus, HartStart, HartStop}
 use Rattle.sbi_abi.specs.Calls.{call_of}
-use Rattle.hart_access.specs.declared.operation.Access.{Access}
-use Rattle.hart_access.specs.declared.operation.Access.TheVariants as accesses
+use Rattle.hart_access.specs.declared.accesses.Access.{Access}
+use Rattle.hart_access.specs.declared.accesses.Access.TheVariants as accesses
 use Rattle.hart_access.specs.Accesses as whole
 use Rattle.hsm.specs.declared.hart.HartState.{HartState}
 use Rattle.hsm.specs.declared.hart.HartState.TheVariants.{Started, Stopped, StartPending, StopPending, Suspended, SuspendPending, ResumePending}

@@ -11,7 +11,7 @@ use Rattle.board_core.specs.Cuts.{OpensAfter, opening_in, opening_of}
 use Rattle.board_terms.specs.Limits.{IsGood}
 use Rattle.board_core.specs.Memory.{memory}
 use Rattle.board_core.specs.Opening.{Opening}
-use Rattle.board_core.specs.Stands.{IsKept, StandsFor}
+use Rattle.board_core.specs.Inside.Stands.{IsKept, StandsFor}
 use Rattle.board_core.proofs.Cutting.{held-by, is-cut}
 
 -- the RAM has the pages of the board

@@ -3,7 +3,6 @@ pub mod Course
 pub mod States
 pub mod Csrs
 pub mod History
-pub mod Keeping
 pub mod Resets
 pub mod Writes
 pub mod Returns
@@ -20,7 +19,6 @@ pub mod Refusals
 pub mod Need
 pub mod Totals
 pub mod ErrorLaw
-pub mod Stands
 pub mod Cuts
-pub mod Packing
 pub mod Taking
+pub mod Inside

@@ -2,10 +2,10 @@
 use Rattle.std.specs.Prelude.{◌≡◌, ℕ, List, [], ◌∷◌, Bool, Option, Some, None, Result, Ok, Err}
 use Rattle.sbi_abi.specs.declared.call.Call.{Call}
 use Rattle.sbi_abi.specs.Calls.{call_of}
-use Rattle.hart_access.specs.declared.operation.Access.TheVariants as accesses
+use Rattle.hart_access.specs.declared.accesses.Access.TheVariants as accesses
 use Rattle.hsm.specs.declared.hart.HartState.{HartState}
 use Rattle.hsm.specs.declared.hart.HartState.TheVariants as states
-use Rattle.hsm.specs.declared.hart.Kept.{Kept}
+use Rattle.hsm.specs.declared.hart.EntryPoint.{EntryPoint}
 use Rattle.board_core.specs.Opening.{IsOpening, Opening}
 use Rattle.board_terms.specs.declared.op.Actor.{Actor}
 use Rattle.board_terms.specs.declared.op.Actor.TheVariants.{Hart, Clock}
@@ -32,14 +32,14 @@ abbrev pub call_reply : Opening → List Event → (x : ℕ) → Call → Reply
 call_reply o past x call = as_reply (reply_to o.config (sstatus_sie o past x) (state o past) call)
 
 -- The reply to the end of a suspend: an entry where the suspend said, or the return of its call (SBI 9.4).
-abbrev pub resume_reply : (x : ℕ) → Option Kept → Reply
+abbrev pub resume_reply : (x : ℕ) → Option EntryPoint → Reply
 resume_reply x (Some resume) = Entry resume.addr x resume.opaque
 resume_reply x None = Ret (success 0)
 
 -- The reply to the Advance of hart x, by its state, its last start and where its last suspend said that it begins anew.
 -- An entry hands over the address, the hart's id and the opaque value (SBI 9.1 and 9.4). A STARTED or STOPPED hart is
 -- refused before.
-abbrev pub advance_reply : (x : ℕ) → HartState → Start → (resume : Option Kept) → Reply
+abbrev pub advance_reply : (x : ℕ) → HartState → Start → (resume : Option EntryPoint) → Reply
 advance_reply x states.StartPending start resume = Entry start.addr x start.opaque
 advance_reply x states.StopPending start resume = Moved states.Stopped
 advance_reply x states.SuspendPending start resume = Moved states.Suspended

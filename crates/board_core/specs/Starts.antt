@@ -7,7 +7,7 @@ use Rattle.sbi_abi.specs.Calls.{call_of}
 use Rattle.sbi_abi.specs.declared.reset.Reset.{Reset}
 use Rattle.hsm.specs.declared.hart.HartState.{HartState}
 use Rattle.hsm.specs.declared.hart.HartState.TheVariants as states
-use Rattle.hsm.specs.declared.hart.Kept.{Kept}
+use Rattle.hsm.specs.declared.hart.EntryPoint.{EntryPoint}
 use Rattle.hsm.specs.Harts.{Hart}
 use Rattle.hsm.specs.States.{is_start_pending}
 use Rattle.hsm.specs.Transitions.{hart_at}
@@ -62,7 +62,7 @@ start_by c (Ecall regs) reply = start_by_call c (call_of regs) reply
 start_by c op reply = None
 
 -- a pending start of a hart, by its state and what is kept for its entry
-abbrev pub start_in : (h : ℕ) → HartState → Option Kept → Option Start
+abbrev pub start_in : (h : ℕ) → HartState → Option EntryPoint → Option Start
 start_in h states.StartPending (Some kept) = Some (record { hart = h; addr = kept.addr; opaque = kept.opaque })
 start_in h s kept = None
 
@@ -115,14 +115,14 @@ all_pending o past = filter_map (pending o past) (harts_of o.config)
 
 -- What is kept for a hart's entry, by its state: in START_PENDING its start (SBI 9.1), and in a suspend where it is to
 -- begin anew (SBI 9.4).
-abbrev pub kept_in : HartState → Start → (resume : Option Kept) → Option Kept
+abbrev pub kept_in : HartState → Start → (resume : Option EntryPoint) → Option EntryPoint
 kept_in states.StartPending start resume = Some (record { addr = start.addr; opaque = start.opaque })
 kept_in states.SuspendPending start resume = resume
 kept_in states.Suspended start resume = resume
 kept_in states.ResumePending start resume = resume
 kept_in s start resume = None
 
-abbrev pub kept : Opening → List Event → ℕ → Option Kept
+abbrev pub kept : Opening → List Event → ℕ → Option EntryPoint
 kept o past h = kept_in (state o past h) (last_start o past h) (resume_point o past h)
 
 -- a hart as its history makes it: its state, and what is kept for its entry

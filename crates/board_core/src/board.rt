@@ -6,7 +6,7 @@ ghost use Rattle.sv39.specs.Maps.{maps};
 ghost use Rattle.board_terms.specs.declared.config.BuildFault.TheVariants.{BadConfig, CutFull, NoMemory};
 ghost use Rattle.board_core.specs.Cuts.{IsOpened, IsUnseen, first_of, last_cut, opening_of};
 ghost use Rattle.board_core.specs.History.{Event, access_of, by_hart};
-ghost use Rattle.board_core.specs.Keeping.{IsShort};
+ghost use Rattle.board_core.specs.Inside.Keeping.{IsShort};
 ghost use Rattle.board_terms.specs.declared.op.Actor.TheVariants.{Hart, Clock};
 ghost use Rattle.board_core.specs.Csrs.{sie, sstatus_sie};
 ghost use Rattle.board_core.specs.ErrorLaw.{LooksSame, is_error};
@@ -32,7 +32,7 @@ use crate::phase::Phase;
 use board_terms::{Actor, BuildFault, Config, Op, Refusal, Reply};
 use hart_access::Access;
 use hart_mask::HartSet;
-use hsm::{HartState, Kept};
+use hsm::{EntryPoint, HartState};
 use rfence::Waiting;
 use sbi_abi::Reset;
 use std::alloc::{AllocError, Global};
@@ -89,7 +89,7 @@ impl Model for Board {
 
     ghost Value = { Course };
 
-    ghost use Rattle.board_core.specs.Stands.{IsKept, StandsFor};
+    ghost use Rattle.board_core.specs.Inside.Stands.{IsKept, StandsFor};
 
     ghost view = { λ b. record { opening = opened_by b.config b.places b.opened; past = reverse b.events.items } };
 
@@ -364,7 +364,7 @@ impl Board {
     }
 
     /// Where hart `h` begins, while its start is pending, or while it is in a non-retentive suspend.
-    pub fn kept(&self, h: u64) -> Option<Kept>
+    pub fn kept(&self, h: u64) -> Option<EntryPoint>
         requires { h < self.now.opening.config.harts }
         ensures { result ≡ kept self.now.opening self.now.past h }
     {

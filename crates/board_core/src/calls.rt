@@ -11,7 +11,7 @@ ghost use Rattle.board_terms.specs.declared.reply.Reply.TheVariants.{Ret};
 ghost use Rattle.board_terms.specs.Limits.{IsGood};
 ghost use Rattle.board_core.specs.Opening.{Opening, on, place_after};
 ghost use Rattle.board_core.specs.Replies.{call_reply, failure, success};
-ghost use Rattle.board_core.specs.Stands.{IsSized, IsStanding, StandsFor};
+ghost use Rattle.board_core.specs.Inside.Stands.{IsSized, IsStanding, StandsFor};
 ghost use Rattle.rfence.specs.State.{call_at};
 
 mod base_calls;

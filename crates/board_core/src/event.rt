@@ -1,7 +1,7 @@
 //! An accepted step, as the history holds it.
 ghost use Rattle.std.specs.Prelude.{◌≡◌, None, option_map};
 ghost use Rattle.board_core.specs.History.{access_of, entry_of};
-ghost use Rattle.board_core.specs.Keeping.{IsShort};
+ghost use Rattle.board_core.specs.Inside.Keeping.{IsShort};
 
 use crate::keeping::{By, Head, Said, What};
 use board_terms::{Actor, Op, Reply};
@@ -18,7 +18,7 @@ pub struct Event {
 
 impl Model for Event {
     ghost use Rattle.board_core.specs.History.{Event as Seen};
-    ghost use Rattle.board_core.specs.Keeping.{IsKeptWell, actor_in, first_of, head_of, op_in, opaque_of, reply_in, used_in, what_of};
+    ghost use Rattle.board_core.specs.Inside.Keeping.{IsKeptWell, actor_in, first_of, head_of, op_in, opaque_of, reply_in, used_in, what_of};
 
     ghost Value = { Seen };
 

@@ -1,7 +1,7 @@
 //! How an event keeps who made it, what was answered and what was done, in less room than the three have side by side.
 
 ghost use Rattle.std.specs.Prelude.{◌≡◌};
-ghost use Rattle.board_core.specs.Keeping.{IsByte, IsByteError, actor_of, by_of, first_of, head_in, hart_in, op_in, opaque_in, opaque_of, reply_of, said_of, used_in, what_of};
+ghost use Rattle.board_core.specs.Inside.Keeping.{IsByte, IsByteError, actor_of, by_of, first_of, head_in, hart_in, op_in, opaque_in, opaque_of, reply_of, said_of, used_in, what_of};
 
 use board_terms::{Actor, Op, Reply};
 use hsm::HartState;

@@ -25,7 +25,7 @@ pub use cuts::{cuts_are_not_seen, cuts_open_boards};
 pub use event::Event;
 pub use fence_queue::Request;
 pub use hart_mask::HartSet;
-pub use hsm::{HartState, Kept};
+pub use hsm::{EntryPoint, HartState};
 pub use opening::{Opening, Taken};
 pub use packed::PackedOpening;
 pub use phase::Phase;

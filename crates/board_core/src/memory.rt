@@ -8,7 +8,7 @@ ghost use Rattle.tlb_model.specs.Words.{covers_word};
 ghost use Rattle.hart_access.specs.Accesses.{answer, filling, stored, used, word_filling};
 ghost use Rattle.board_terms.specs.Limits.{IsGood};
 ghost use Rattle.board_core.specs.Opening.{opening_at};
-ghost use Rattle.board_core.specs.Stands.{CanFill, MemoryStand, caches_at, satp_at, tlb_hit, word_hit};
+ghost use Rattle.board_core.specs.Inside.Stands.{CanFill, MemoryStand, caches_at, satp_at, tlb_hit, word_hit};
 
 use board_terms::Config;
 use hart_access::{Access, Accessed, access};

@@ -15,7 +15,7 @@ ghost use Rattle.board_core.specs.Memory.{caches_of, memory, satp};
 ghost use Rattle.board_core.specs.Need.{need};
 ghost use Rattle.board_core.specs.Opening.{IsOpening, opening_at};
 ghost use Rattle.board_core.specs.Resets.{is_off, last_reset};
-ghost use Rattle.board_core.specs.Stands.{IsKept, StandsFor};
+ghost use Rattle.board_core.specs.Inside.Stands.{IsKept, StandsFor};
 ghost use Rattle.board_core.specs.Starts.{kept, StartsAreEntered};
 ghost use Rattle.board_core.specs.States.{state};
 ghost use Rattle.board_core.specs.Totals.{totals};
@@ -29,7 +29,7 @@ use crate::machine::Machine;
 use crate::phase::Phase;
 use board_terms::{Actor, BuildFault, Config, Op, Refusal};
 use hart_mask::HartSet;
-use hsm::{HartState, Kept};
+use hsm::{EntryPoint, HartState};
 use rfence::{FenceCall, Waiting};
 use sbi_abi::Reset;
 use std::alloc::{AllocError, Global};
@@ -61,7 +61,7 @@ impl Model for Opening {
     ghost Value = { Opening };
 
     ghost use Rattle.board_core.specs.Cuts.{opening_in};
-    ghost use Rattle.board_core.specs.Stands.{IsKept, StandsFor};
+    ghost use Rattle.board_core.specs.Inside.Stands.{IsKept, StandsFor};
 
     ghost view = { λ o. opening_in o.config o.places o.machine };
 
@@ -255,7 +255,7 @@ impl Opening {
     }
 
     /// Where hart `h` begins, while its start is pending, or while it is in a non-retentive suspend.
-    pub fn kept(&self, h: u64) -> Option<Kept>
+    pub fn kept(&self, h: u64) -> Option<EntryPoint>
         requires { h < self.now.config.harts }
         ensures { result ≡ kept self.now [] h }
     {

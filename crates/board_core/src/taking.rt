@@ -10,7 +10,7 @@ ghost use Rattle.board_terms.specs.Limits.{IsGood};
 ghost use Rattle.board_core.specs.Opening.{Opening, on, place_after};
 ghost use Rattle.board_core.specs.Refusals.{IsAccepted};
 ghost use Rattle.board_core.specs.Replies.{reply};
-ghost use Rattle.board_core.specs.Stands.{IsSized, IsStanding, StandsFor, situation_in};
+ghost use Rattle.board_core.specs.Inside.Stands.{IsSized, IsStanding, StandsFor, situation_in};
 
 use crate::event::{Event, access_of};
 use crate::machine::Machine;

@@ -19,7 +19,7 @@ use Rattle.tlb_model.specs.declared.fence.Fence.{Fence}
 use Rattle.tlb_model.specs.declared.fence.Flush.{Flush}
 use Rattle.tlb_model.specs.declared.fence.Flush.TheVariants.{Entries}
 use Rattle.tlb_model.specs.Fences.{fence_of_address, fence_of_range}
-use Rattle.hart_access.specs.declared.operation.Access.TheVariants as accesses
+use Rattle.hart_access.specs.declared.accesses.Access.TheVariants as accesses
 use Rattle.hart_access.specs.Translations.{IsTranslated}
 use Rattle.hart_access.specs.Ways.{phys_at}
 use Rattle.rfence.specs.declared.opened.FenceCall.{FenceCall}

@@ -15,9 +15,9 @@ use Rattle.tlb_model.specs.declared.word.FetchWord.{FetchWord}
 use Rattle.tlb_model.specs.declared.cache.Numbered.{Numbered}
 use Rattle.tlb_model.specs.Entries.{covers_entry, matches}
 use Rattle.tlb_model.specs.Words.{covers_word, is_at}
-use Rattle.hart_access.specs.declared.operation.Access.TheVariants as accesses
+use Rattle.hart_access.specs.declared.accesses.Access.TheVariants as accesses
 use Rattle.hart_access.specs.Accesses as whole
-use Rattle.hart_access.specs.Operations.{kind_of}
+use Rattle.hart_access.specs.AccessKinds.{kind_of}
 use Rattle.hart_access.specs.Translations.{Fills, Hits}
 use Rattle.hart_access.specs.Ways.{phys_at}
 use Rattle.hart_access.proofs.Used.{is_used, word_filled}

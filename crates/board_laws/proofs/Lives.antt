@@ -12,8 +12,8 @@ use Rattle.tlb_model.specs.declared.cache.Numbered.{Numbered}
 use Rattle.tlb_model.specs.Entries.{covers_entry}
 use Rattle.tlb_model.specs.Words.{covers_word}
 use Rattle.tlb_model.proofs.Living.{live_was_filled}
-use Rattle.hart_access.specs.declared.operation.Access.{Access}
-use Rattle.hart_access.specs.declared.operation.Access.TheVariants as accesses
+use Rattle.hart_access.specs.declared.accesses.Access.{Access}
+use Rattle.hart_access.specs.declared.accesses.Access.TheVariants as accesses
 use Rattle.hart_access.specs.Accesses as whole
 use Rattle.hart_access.specs.Translations.{Fetches, Fills, hit_at}
 use Rattle.hart_access.specs.Ways.{phys_at}

@@ -6,7 +6,7 @@ use Rattle.hart_mask.specs.Ids.{has, ids_where}
 use Rattle.hart_mask.proofs.Sets.{has-ids_where, ids_where-agree}
 use Rattle.hsm.specs.declared.hart.HartState.{HartState}
 use Rattle.hsm.specs.declared.hart.HartState.TheVariants as states
-use Rattle.hsm.specs.declared.hart.Kept.{Kept}
+use Rattle.hsm.specs.declared.hart.EntryPoint.{EntryPoint}
 use Rattle.hsm.specs.Harts.{Hart as HartSeen}
 use Rattle.hsm.specs.States.{is_start_pending}
 use Rattle.rfence.specs.Applied.{Empties, applied_by, effect, first_drop}
@@ -212,7 +212,7 @@ module _ (o : Opening) (past : List Event) (held : IsHeld o past) where
 
   module _ (h : ℕ) (near : h < o.config.harts) where
     -- after this move, this start and this word of a suspend, the hart's own or not, the same is kept of hart h
-    abbrev Agree : Option Move → Option Growth → Option (Write (Option Kept)) → (own : Bool) → Type 0
+    abbrev Agree : Option Move → Option Growth → Option (Write (Option EntryPoint)) → (own : Bool) → Type 0
     Agree move start resume own =
         kept_in (moved_to move h (state o past h)) (unwrap_or (find (is_of h) (grown start (starts cut []))) (boot_start o.config)) (latest resume own (kept o past h))
         ≡ kept_in (moved_to move h (state o past h)) (unwrap_or (find (is_of h) (grown start (starts o past))) (boot_start o.config)) (latest resume own (resume_point o past h))
@@ -235,7 +235,7 @@ module _ (o : Opening) (past : List Event) (held : IsHeld o past) where
 
     -- a hart that is moved to where nothing is kept
     abbrev KeepsNone : HartState → Type 0
-    KeepsNone s = (start : Start) (resume : Option Kept) → kept_in s start resume ≡ None
+    KeepsNone s = (start : Start) (resume : Option EntryPoint) → kept_in s start resume ≡ None
 
     rests : (x : ℕ) (s : HartState) (own : Bool) → KeepsNone s → Agree (Some (One x s)) None None own
     rests x s own none = by_hart (h == x)
@@ -246,7 +246,7 @@ module _ (o : Opening) (past : List Event) (held : IsHeld o past) where
         by_hart false = stays own
 
     -- one that is suspended
-    suspends : (x : ℕ) (resume : Option Kept) → Agree (Some (One x states.SuspendPending)) None (Some (Here resume)) (h == x)
+    suspends : (x : ℕ) (resume : Option EntryPoint) → Agree (Some (One x states.SuspendPending)) None (Some (Here resume)) (h == x)
     suspends x resume = by_hart (h == x)
       where
         by_hart : (same : Bool) → kept_in (if same then states.SuspendPending else state o past h) (last_start cut [] h) (if same then resume else kept o past h)
@@ -256,7 +256,7 @@ module _ (o : Opening) (past : List Event) (held : IsHeld o past) where
 
     -- and one that goes on in its suspend
     abbrev KeepsResume : HartState → Type 0
-    KeepsResume s = (start : Start) (resume : Option Kept) → kept_in s start resume ≡ resume
+    KeepsResume s = (start : Start) (resume : Option EntryPoint) → kept_in s start resume ≡ resume
 
     sleeps : (x : ℕ) (before s : HartState) (own : Bool) → state o past x ≡ before → KeepsResume before → KeepsResume s → Agree (Some (One x s)) None None own
     sleeps x before s own is kept_before kept_now = by_hart (h == x) refl
@@ -298,7 +298,7 @@ module _ (o : Opening) (past : List Event) (held : IsHeld o past) where
     call-agrees x (Srst (SystemReset (Ok reset))) replies.Gone = resets reset (h == x)
     call-agrees x call r = stays (h == x)
 
-    advance-agrees : (x : ℕ) (before s : HartState) (start : Start) (resume : Option Kept) → state o past x ≡ before → advance_reply x before start resume ≡ replies.Moved s
+    advance-agrees : (x : ℕ) (before s : HartState) (start : Start) (resume : Option EntryPoint) → state o past x ≡ before → advance_reply x before start resume ≡ replies.Moved s
         → Agree (Some (One x s)) None None (h == x)
     advance-agrees x states.Started s start resume is replied =
         let same : states.Started ≡ s = cc in subst (λ s. Agree (Some (One x s)) None None (h == x)) same (rests x states.Started (h == x) (λ start resume. refl))

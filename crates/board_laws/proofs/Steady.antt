@@ -13,10 +13,10 @@ use Rattle.sv39.proofs.PageLaw.{one_leaf_for_a_page}
 use Rattle.tlb_model.specs.declared.entry.Address.{Address}
 use Rattle.tlb_model.specs.declared.entry.Entry.{Entry}
 use Rattle.tlb_model.specs.declared.fence.Fence.{Fence}
-use Rattle.hart_access.specs.declared.operation.Access.{Access}
-use Rattle.hart_access.specs.declared.operation.Access.TheVariants.{Load, Store, Fetch}
+use Rattle.hart_access.specs.declared.accesses.Access.{Access}
+use Rattle.hart_access.specs.declared.accesses.Access.TheVariants.{Load, Store, Fetch}
 use Rattle.hart_access.specs.Accesses as whole
-use Rattle.hart_access.specs.Operations.{kind_of}
+use Rattle.hart_access.specs.AccessKinds.{kind_of}
 use Rattle.hart_access.specs.Translations.{IsTranslated, hit_at}
 use Rattle.hart_access.specs.Ways.{in_memory, phys_at, phys_by, phys_in, translated, used_by, way, way_by}
 use Rattle.board_core.specs.Opening.{Opening}

@@ -20,7 +20,7 @@ use Rattle.board_terms.specs.declared.reply.Reply.{Reply}
 use Rattle.board_terms.specs.declared.reply.Reply.TheVariants.{Done, Entry, Fault, Gone, Ret, Served, Value, Waiting}
 use Rattle.board_core.specs.Calls.Rfence.{flush_of_range}
 use Rattle.sv39.specs.declared.cause.Kind.TheVariants as kinds
-use Rattle.hart_access.specs.declared.operation.Access.TheVariants as accesses
+use Rattle.hart_access.specs.declared.accesses.Access.TheVariants as accesses
 use Rattle.std.proofs.lemmas.Bool.{cases_eq}
 use Rattle.board_terms.specs.Limits.{spaces_of}
 use Rattle.board_core.specs.Memory.{memory, satp}

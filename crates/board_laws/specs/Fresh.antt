@@ -10,7 +10,7 @@ use Rattle.tlb_model.specs.declared.fence.Fence.{Fence}
 use Rattle.tlb_model.specs.declared.fence.Flush.TheVariants.{Words, Entries}
 use Rattle.tlb_model.specs.declared.fence.Range.{Range}
 use Rattle.tlb_model.specs.Fences.{meets}
-use Rattle.hart_access.specs.Operations.{kind_of}
+use Rattle.hart_access.specs.AccessKinds.{kind_of}
 use Rattle.board_core.specs.Opening.{Opening}
 use Rattle.board_terms.specs.declared.op.Actor.TheVariants.{Hart}
 use Rattle.board_terms.specs.declared.op.Op.TheVariants.{Fetch}

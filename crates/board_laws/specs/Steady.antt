@@ -6,7 +6,7 @@ use Rattle.sv39.specs.Maps.{maps}
 use Rattle.tlb_model.specs.declared.entry.Address.{Address}
 use Rattle.tlb_model.specs.declared.entry.Entry.{Entry}
 use Rattle.hart_access.specs.Accesses as whole
-use Rattle.hart_access.specs.Operations.{kind_of}
+use Rattle.hart_access.specs.AccessKinds.{kind_of}
 use Rattle.hart_access.specs.Ways.{phys_at, phys_in}
 use Rattle.board_core.specs.Opening.{Opening}
 use Rattle.board_terms.specs.declared.reply.Reply.TheVariants.{Fault}

@@ -4,7 +4,7 @@ use Rattle.board_terms.specs.declared.config.Config.{Config}
 use Rattle.board_terms.specs.declared.op.Actor.{Actor}
 use Rattle.board_terms.specs.declared.op.Actor.TheVariants.{Hart, Clock}
 use Rattle.board_lock.specs.Events.{IsActor, is_same}
-use Rattle.board_lock.specs.Kept.{number_of}
+use Rattle.board_lock.specs.Inside.Kept.{number_of}
 
 pub same-itself : (a : Actor) → is_same a a ≡ true
 same-itself (Hart h) = grind arith

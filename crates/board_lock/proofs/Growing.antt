@@ -18,7 +18,7 @@ use Rattle.board_core.specs.History.{Event}
 use Rattle.board_core.specs.Opening.{Opening}
 use Rattle.board_core.specs.Replies.{answer, recorded, stepped}
 use Rattle.board_lock.specs.Events.{IsActor, events_in, events_of, is_same}
-use Rattle.board_lock.specs.Kept.{IsDesk, IsSeated, IsTold, Tally, count_of, counter, number_of, tally}
+use Rattle.board_lock.specs.Inside.Kept.{IsDesk, IsSeated, IsTold, Tally, count_of, counter, number_of, tally}
 use Rattle.board_lock.specs.Receipts.{told}
 use Rattle.board_lock.specs.Seats.{Sitting}
 use Rattle.board_lock.specs.Views.{IsDone, board_after}

@@ -7,9 +7,9 @@ use Rattle.board_terms.specs.declared.op.Actor.{Actor}
 use Rattle.board_terms.specs.declared.op.Op.{Op}
 use Rattle.board_core.specs.History.{Event}
 use Rattle.board_lock.specs.Events.{events_from, is_same, ops_of}
-use Rattle.board_lock.specs.Kept.{count_of}
+use Rattle.board_lock.specs.Inside.Kept.{count_of}
 use Rattle.board_lock.specs.Seats.{Sitting}
-use Rattle.board_lock.specs.Settling.{Knows}
+use Rattle.board_lock.specs.Inside.Settling.{Knows}
 use Rattle.board_lock.proofs.Places.{count_of-append}
 
 -- the operations without the places

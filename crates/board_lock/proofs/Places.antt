@@ -6,7 +6,7 @@ use Rattle.std.proofs.lemmas.List.{length-append}
 use Rattle.board_terms.specs.declared.op.Actor.{Actor}
 use Rattle.board_core.specs.History.{Event}
 use Rattle.board_lock.specs.Events.{events_from, is_same}
-use Rattle.board_lock.specs.Kept.{count_of}
+use Rattle.board_lock.specs.Inside.Kept.{count_of}
 use Rattle.board_lock.proofs.Actors.{same-itself}
 
 pub count_of-append : (a : Actor) (xs ys : List Event) → count_of a (xs ++ ys) ≡ count_of a xs + count_of a ys

@@ -19,9 +19,9 @@ use Rattle.board_core.specs.Course.{Course}
 use Rattle.board_core.specs.History.{Event}
 use Rattle.board_terms.specs.Limits.{IsGood}
 use Rattle.board_core.specs.Opening.{Opening}
-use Rattle.board_lock.specs.Kept.{IsDesk, Tally, count_of, number_of}
-use Rattle.board_lock.specs.Rests.{Held, IsRests, awake, held, less, none_rest, none_woken, resting}
-use Rattle.board_lock.specs.Waking.{comes_to, concerned, woken}
+use Rattle.board_lock.specs.Inside.Kept.{IsDesk, Tally, count_of, number_of}
+use Rattle.board_lock.specs.Inside.Rests.{Held, IsRests, awake, held, less, none_rest, none_woken, resting}
+use Rattle.board_lock.specs.Inside.Waking.{comes_to, concerned, woken}
 use Rattle.board_lock.specs.declared.rests.Rests.{Rests}
 use Rattle.board_lock.specs.declared.rests.Until.{Until}
 use Rattle.board_lock.specs.declared.rests.Woken.{Woken}

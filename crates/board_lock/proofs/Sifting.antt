@@ -6,7 +6,7 @@ use Rattle.std.proofs.lemmas.Bool.Decides.{eqb_tells}
 use Rattle.hart_mask.specs.Ids.{IsIdSet, has, ids_below, ids_where, intersection_of, union_of, with_id, without_id}
 use Rattle.hart_mask.proofs.Below.{eqb-same}
 use Rattle.hart_mask.proofs.Sets.{IsIdSet-ids_where, has-ids_where, ids_where-agree, passes-ids_where, same_sets}
-use Rattle.board_lock.specs.Rests.{less}
+use Rattle.board_lock.specs.Inside.Rests.{less}
 use Rattle.board_lock.specs.declared.rests.Woken.{Woken}
 use Rattle.board_lock.proofs.Resting.{and-left, no-ids}
 

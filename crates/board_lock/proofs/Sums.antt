@@ -9,9 +9,9 @@ use Rattle.board_terms.specs.declared.config.Config.{Config}
 use Rattle.board_terms.specs.declared.op.Actor.{Actor}
 use Rattle.board_core.specs.History.{Event}
 use Rattle.board_lock.specs.Events.{IsActor, events_of, is_same, ops_of}
-use Rattle.board_lock.specs.Kept.{count_of}
+use Rattle.board_lock.specs.Inside.Kept.{count_of}
 use Rattle.board_lock.specs.Seats.{IsOneEach, Sitting, seats_of}
-use Rattle.board_lock.specs.Settling.{IsSettling, Knows, Looked, Within, counts}
+use Rattle.board_lock.specs.Inside.Settling.{IsSettling, Knows, Looked, Within, counts}
 use Rattle.board_lock.proofs.Ops.{knows-more}
 use Rattle.board_lock.proofs.Places.{count_of-append, length-events}
 

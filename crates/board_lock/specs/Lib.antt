@@ -1,11 +1,8 @@
 pub mod Events
 pub mod Seats
-pub mod Receipts
-pub mod Rooms
 pub mod Views
 pub mod Coming
-pub mod Rests
-pub mod Waking
-pub mod Kept
-pub mod Settling
 pub mod Splits
+pub mod Receipts
+pub mod Rooms
+pub mod Inside

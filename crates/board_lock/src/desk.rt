@@ -3,9 +3,9 @@ ghost use Rattle.std.specs.Prelude.{◌≡◌, ◌+◌, ◌<◌, ◌∷◌, ◌+
 ghost use mathlib.Core.List.{IsPrefix};
 ghost use Rattle.board_core.specs.Replies.{answer, stepped};
 ghost use Rattle.board_lock.specs.Events.{IsActor, events_in};
-ghost use Rattle.board_lock.specs.Kept.{IsTold, number_of};
+ghost use Rattle.board_lock.specs.Inside.Kept.{IsTold, number_of};
 ghost use Rattle.board_lock.specs.Receipts.{told};
-ghost use Rattle.board_lock.specs.Rests.{IsPause, IsPauseFor, IsStay, held};
+ghost use Rattle.board_lock.specs.Inside.Rests.{IsPause, IsPauseFor, IsStay, held};
 ghost use Rattle.board_lock.specs.Seats.{seeing};
 ghost use Rattle.board_lock.specs.Views.{IsDone, IsRefused, IsView, Shows};
 
@@ -33,8 +33,8 @@ pub(crate) struct Desk<K: Room> {
 }
 
 impl<K: Room> Model for Desk<K> {
-    ghost use Rattle.board_lock.specs.Kept.{IsDesk, tally};
-    ghost use Rattle.board_lock.specs.Rests.{Held, held};
+    ghost use Rattle.board_lock.specs.Inside.Kept.{IsDesk, tally};
+    ghost use Rattle.board_lock.specs.Inside.Rests.{Held, held};
 
     ghost Value = { Held };
 

@@ -23,7 +23,7 @@ pub struct Past<K: Room> {
 impl<K: Room> Model for Past<K> {
     ghost use Rattle.std.specs.Prelude.{reverse};
     ghost use Rattle.board_core.specs.Course.{Course};
-    ghost use Rattle.board_lock.specs.Kept.{IsPast};
+    ghost use Rattle.board_lock.specs.Inside.Kept.{IsPast};
 
     ghost Value = { Course };
 

@@ -1,6 +1,6 @@
 //! What an accepted call is told.
 ghost use Rattle.std.specs.Prelude.{◌≡◌};
-ghost use Rattle.board_lock.specs.Kept.{IsTold};
+ghost use Rattle.board_lock.specs.Inside.Kept.{IsTold};
 ghost use Rattle.board_lock.specs.Receipts.{told};
 
 use crate::rooms::Room;
@@ -51,7 +51,7 @@ pub struct Receipt<K: Room> {
 }
 
 impl<K: Room> Model for Receipt<K> {
-    ghost use Rattle.board_lock.specs.Kept.{IsTold};
+    ghost use Rattle.board_lock.specs.Inside.Kept.{IsTold};
     ghost use Rattle.board_lock.specs.Receipts.{Told, told};
 
     ghost Value = { Told };

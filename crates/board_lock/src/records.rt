@@ -7,7 +7,7 @@ ghost use Rattle.board_terms.specs.Limits.{IsGood};
 ghost use Rattle.board_core.specs.Opening.{place_after};
 ghost use Rattle.board_core.specs.Replies.{IsLegal};
 ghost use Rattle.board_lock.specs.Events.{IsPlaced, events_from, events_in, placed_of};
-ghost use Rattle.board_lock.specs.Kept.{IsKeptLog};
+ghost use Rattle.board_lock.specs.Inside.Kept.{IsKeptLog};
 ghost use Rattle.board_lock.specs.Splits.{split_fault};
 
 use crate::past::Past;
@@ -28,7 +28,7 @@ pub struct Record<K: Room> {
 
 impl<K: Room> Model for Record<K> {
     ghost use Rattle.board_core.specs.Course.{Course};
-    ghost use Rattle.board_lock.specs.Kept.{IsRecord};
+    ghost use Rattle.board_lock.specs.Inside.Kept.{IsRecord};
 
     ghost Value = { Course };
 

@@ -2,7 +2,7 @@
 ghost use Rattle.std.specs.Prelude.{◌≡◌, ◌↔◌, ℕ, ◌<◌, ◌≤◌, [], IsTrue, false};
 ghost use Rattle.board_terms.specs.declared.op.Actor.TheVariants.{Hart};
 ghost use Rattle.hart_mask.specs.Ids.{IsIdSet};
-ghost use Rattle.board_lock.specs.Rests.{AllRest, IsRests, awake, for_turn, for_wake, is_any, less, none_rest, resting};
+ghost use Rattle.board_lock.specs.Inside.Rests.{AllRest, IsRests, awake, for_turn, for_wake, is_any, less, none_rest, resting};
 
 use board_core::{Actor, HartSet};
 

@@ -50,9 +50,9 @@ pub struct NewRoom {
 impl Model for NewRoom {
     ghost use Rattle.std.specs.Prelude.{◌≡◌, ◌+◌, []};
     ghost use Rattle.board_terms.specs.Limits.{IsGood};
-    ghost use Rattle.board_lock.specs.Rooms.{Place};
+    ghost use Rattle.board_lock.specs.Rooms.{RoomNames};
 
-    ghost Value = { Place };
+    ghost Value = { RoomNames };
 
     ghost view = { λ r. record {
       config = r.config;

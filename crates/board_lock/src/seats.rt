@@ -22,7 +22,7 @@ pub struct Seat<K: Room> {
 
 impl<K: Room> Model for Seat<K> {
     ghost use Rattle.board_lock.specs.Events.{ops_of};
-    ghost use Rattle.board_lock.specs.Kept.{IsSeated, counter};
+    ghost use Rattle.board_lock.specs.Inside.Kept.{IsSeated, counter};
     ghost use Rattle.board_lock.specs.Seats.{Sitting, sitting};
 
     ghost Value = { Sitting };

@@ -2,9 +2,9 @@
 
 ghost use Rattle.std.specs.Prelude.{◌≡◌, ℕ, ◌<◌, ◌≤◌, ◌&&◌, true};
 ghost use Rattle.hart_mask.specs.Ids.{has, ids_where};
-ghost use Rattle.board_lock.specs.Rests.{awake, held, none_woken};
+ghost use Rattle.board_lock.specs.Inside.Rests.{awake, held, none_woken};
 ghost use Rattle.board_lock.specs.Coming.{has_come, has_turn, has_wake};
-ghost use Rattle.board_lock.specs.Waking.{alone, comes_to, concerned, concerned_by, named, named_by, woken};
+ghost use Rattle.board_lock.specs.Inside.Waking.{alone, comes_to, concerned, concerned_by, named, named_by, woken};
 
 use crate::desk::Desk;
 use crate::rests::{Awaits, Woken};

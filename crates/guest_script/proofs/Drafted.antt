@@ -3,8 +3,8 @@ use Rattle.std.proofs.Common.{◌≡◌, ◌⊎◌, ℕ, ◌+◌, ◌≤◌, Boo
 use Rattle.board_terms.specs.Refusals.{first_that_holds}
 use Rattle.guest_script.specs.declared.fault.Fault.{Fault}
 use Rattle.guest_script.specs.declared.fault.Fault.TheVariants.{BadByte, NoBoardLine, UnknownWord, BadNumber, WordCount, OtherKind, SecondBlock, TooLong, NoMemory}
-use Rattle.guest_script.specs.declared.kind.Kind.TheVariants.{Head, Operation, Step}
-use Rattle.guest_script.specs.declared.kind.Kind.{Kind}
+use Rattle.guest_script.specs.declared.line_kind.LineKind.TheVariants.{Head, Operation, Step}
+use Rattle.guest_script.specs.declared.line_kind.LineKind.{LineKind}
 use Rattle.script_lines.specs.declared.script.Line.{Line}
 use Rattle.guest_script.specs.Grammar.{Blocked, Draft, Nothing, Stepped, Traced}
 use Rattle.guest_script.specs.Values.{kind_of, line_in, lines_in, next_in, next_of, with_operation, with_step, words_in}
@@ -51,7 +51,7 @@ operation_grows (Blocked p) words = omega arith
 operation_grows (Stepped lines) words = omega arith
 operation_grows (Traced lines) words = omega arith
 
-kind_grows : (kind : Kind) (n : ℕ) (draft : Draft) (first : List ℕ) (words : List (List ℕ)) → length (lines_in (next_of kind n draft first words)) ≤ length (lines_in draft) + 1
+kind_grows : (kind : LineKind) (n : ℕ) (draft : Draft) (first : List ℕ) (words : List (List ℕ)) → length (lines_in (next_of kind n draft first words)) ≤ length (lines_in draft) + 1
 kind_grows Head n draft first words = omega arith
 kind_grows (Step in_trace) n draft first words = step_grows in_trace draft (line_in n in_trace first words)
 kind_grows Operation n draft first words = operation_grows draft (first ∷ words)

@@ -10,8 +10,8 @@ use Rattle.guest_script.specs.declared.fault.Fault.{Fault}
 use Rattle.guest_script.specs.declared.fault.Fault.TheVariants.{NoMemory, SecondBlock, WordCount}
 use Rattle.guest_script.specs.declared.fault.ScriptFault.{ScriptFault}
 use Rattle.script_lines.specs.declared.script.Script.{Script}
-use Rattle.guest_script.specs.declared.kind.Kind.{Kind}
-use Rattle.guest_script.specs.declared.kind.Kind.TheVariants.{Head, Step, Operation}
+use Rattle.guest_script.specs.declared.line_kind.LineKind.{LineKind}
+use Rattle.guest_script.specs.declared.line_kind.LineKind.TheVariants.{Head, Step, Operation}
 use Rattle.guest_script.specs.Words.{last_number}
 use Rattle.guest_script.specs.Forms.{Form, form_of, guest_form_of, said_form_of}
 use Rattle.guest_script.specs.Grammar.{Blocked, Draft, Guest, Nothing, OfClock, OfGuest, Open, Reads, Stepped, Traced, Written, has_block, written}
@@ -84,7 +84,7 @@ operation_of_bytes (Blocked p) words = in_block_of_bytes p.current words
 operation_of_bytes (Stepped lines) words = tt
 operation_of_bytes (Traced lines) words = tt
 
-kind_of_bytes : (kind : Kind) (draft : Draft) (first : List ℕ) (words : List (List ℕ)) → AreOfBytes (kind_tests kind draft first words)
+kind_of_bytes : (kind : LineKind) (draft : Draft) (first : List ℕ) (words : List (List ℕ)) → AreOfBytes (kind_tests kind draft first words)
 kind_of_bytes Head draft first words = head_of_bytes (guests_in draft) (clock_in draft) first words
 kind_of_bytes (Step in_trace) draft first words = step_of_bytes in_trace first words
 kind_of_bytes Operation draft first words = operation_of_bytes draft (first ∷ words)

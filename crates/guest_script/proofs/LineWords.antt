@@ -13,8 +13,8 @@ use Rattle.board_terms.specs.declared.op.Op.TheVariants.{Advance}
 use Rattle.board_terms.specs.Refusals.{first_that_holds}
 use Rattle.guest_script.specs.declared.fault.Fault.{Fault}
 use Rattle.guest_script.specs.declared.fault.Fault.TheVariants.{BadNumber, OtherKind, SecondBlock, UnknownWord, WordCount}
-use Rattle.guest_script.specs.declared.kind.Kind.{Kind}
-use Rattle.guest_script.specs.declared.kind.Kind.TheVariants.{Head, Step, Operation}
+use Rattle.guest_script.specs.declared.line_kind.LineKind.{LineKind}
+use Rattle.guest_script.specs.declared.line_kind.LineKind.TheVariants.{Head, Step, Operation}
 use Rattle.script_lines.specs.declared.said.Said.{Said}
 use Rattle.script_lines.specs.declared.said.Said.TheVariants.{Done}
 use Rattle.script_lines.specs.declared.script.Line.{Line}
@@ -22,7 +22,7 @@ use Rattle.guest_script.specs.Words.{AreNumbers, IsNumber, Spells, last_hart, la
 use Rattle.guest_script.specs.Forms.{AreArguments, Form, IsArgument, IsNamed, IsRet, IsSaid, form_of, guest_form_of, number_at, said_form_of}
 use Rattle.guest_script.specs.Grammar.{Blocked, Blocks, Draft, Guest, IsActor, IsDoing, IsHead, IsInBlock, IsNext, IsStep, IsStepLine, Nothing, OfClock, OfGuest, Open, Stepped, Traced, clock_of, guests_of, has_block, opened, with_op, with_tick}
 use Rattle.guest_script.specs.Values.{actor_in, after_arrow, arguments_in, before_arrow, begins_actor_line, first_number, has_arrow, in_block, is_arrow, is_at, is_clock, is_clock_head, is_cut, is_filled, is_number, is_ret, is_signed, kind_of, line_in, made_by, named_in, next_in, next_of, number_in, op_in, opened_by, ret_in, said_in, signed_in, step_in, with_step}
-use Rattle.guest_script.specs.FirstFault.{acting_tests, actor_test, argument_tests, arguments_tests, doing_tests, form_tests, head_tests, in_block_tests, kind_tests, line_tests, may_follow, named_tests, number_tests, ret_tests, said_tests, step_tests}
+use Rattle.guest_script.specs.FirstFault.{actor_test, argument_tests, arguments_tests, doing_tests, form_tests, head_tests, in_block_tests, kind_tests, line_tests, may_follow, named_tests, number_tests, ret_tests, said_tests, step_tests}
 use Rattle.guest_script.proofs.ArgumentsIn.{first_argument_fault}
 use Rattle.guest_script.proofs.Spelling.{arguments_as_numbers, arguments_spelled, number_spelled, signed_spelled, spelled_number, spelled_arguments, spelled_signed}
 
@@ -541,7 +541,7 @@ in_block_passes (OfClock ticks) next words (n, (word, parts, number), made) =
 
 -- ---- lines
 
-kind_tested : (n : ℕ) (kind : Kind) (draft : Draft) (first : List ℕ) (words : List (List ℕ)) → kind_of first words ≡ kind → may_follow draft kind ≡ true → NoneHolds (kind_tests kind draft first words)
+kind_tested : (n : ℕ) (kind : LineKind) (draft : Draft) (first : List ℕ) (words : List (List ℕ)) → kind_of first words ≡ kind → may_follow draft kind ≡ true → NoneHolds (kind_tests kind draft first words)
     → IsNext n draft (first ∷ words) (next_of kind n draft first words)
 kind_tested n Head Nothing first words is follows none = head_tested [] None first words (is_head first words is) none
 kind_tested n Head (Blocked p) first words is follows none = inl (head_tested (guests_of p) (clock_of p) first words (is_head first words is) none)
@@ -572,7 +572,7 @@ pub record Follows (n : ℕ) (draft : Draft) (words : List (List ℕ)) (next : D
   pub none : NoneHolds (line_tests draft (first ∷ others))
   pub value : next_in n draft (first ∷ others) ≡ next
 
-follows : (n : ℕ) (draft : Draft) (words : List (List ℕ)) (next : Draft) (kind : Kind) (first : List ℕ) (others : List (List ℕ)) → words ≡ first ∷ others → kind_of first others ≡ kind
+follows : (n : ℕ) (draft : Draft) (words : List (List ℕ)) (next : Draft) (kind : LineKind) (first : List ℕ) (others : List (List ℕ)) → words ≡ first ∷ others → kind_of first others ≡ kind
     → may_follow draft kind ≡ true
     → NoneHolds (kind_tests kind draft first others) → next_of kind n draft first others ≡ next → Follows n draft words next
 follows n draft words next kind first others parts is may none value = record {

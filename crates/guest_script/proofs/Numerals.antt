@@ -6,7 +6,7 @@ use Rattle.std.specs.List.{list_all}
 use Rattle.std.specs.Str.Parse.{digits_value_after}
 use Rattle.std.proofs.lemmas.Bool.{cases_Bool, cases_lt, lt-ltb, le-ltb, lt-leb}
 use Rattle.guest_script.specs.Values.{is_hexadecimal, is_number, is_numeral, number_in}
-use Rattle.guest_script.specs.Scanning.{decimal_in, digit_after, digits_after, numeral_of, spelled_of}
+use Rattle.guest_script.specs.Inside.Scanning.{decimal_in, digit_after, digits_after, numeral_of, spelled_of}
 
 abbrev pub at_most : ℕ → Option ℕ → Option ℕ
 at_most limit None = None

@@ -10,7 +10,7 @@ use Rattle.guest_script.specs.declared.progress.Stage.TheVariants.{Nothing}
 use Rattle.script_lines.specs.declared.script.Script.{Script}
 use Rattle.guest_script.specs.Grammar.{Written, most_bytes, written}
 use Rattle.guest_script.specs.Pieces.{AreWhole, HasRead, IsAnswered, Part, script_with}
-use Rattle.guest_script.specs.Progress.{part_of, script_after}
+use Rattle.guest_script.specs.Inside.Progress.{part_of, script_after}
 use Rattle.guest_script.specs.Reading.{GivesOrLacks, script_of}
 use Rattle.guest_script.proofs.FaultsFound.{answered_fault, answered_memory, answered_only, answered_script}
 use Rattle.guest_script.proofs.LinesFrom.{script_of_long, script_of_short}

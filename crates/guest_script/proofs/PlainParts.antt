@@ -10,16 +10,17 @@ use Rattle.std.proofs.lemmas.Slice.Eq.{bytes_eq-Decides}
 use Rattle.board_terms.specs.declared.op.Actor.{Actor}
 use Rattle.board_terms.specs.declared.op.Op.{Op}
 use Rattle.board_terms.specs.declared.op.Op.TheVariants.{Sfence}
+use Rattle.guest_script.specs.declared.op_name.OpName.{OpName}
 use Rattle.guest_script.specs.declared.op_name.OpName.TheVariants as names
 use Rattle.guest_script.specs.declared.places.Places.{Places}
 use Rattle.script_lines.specs.declared.said.Said.{Said}
 use Rattle.script_lines.specs.declared.said.Said.TheVariants.{Ret}
 use Rattle.guest_script.specs.Words.{last_below, AreNumbers, last_number}
-use Rattle.guest_script.specs.Forms.{AreArguments, argument_at, Form, form_of, IsNamed}
-use Rattle.guest_script.specs.Reading.{IsFormAt, made_from}
+use Rattle.guest_script.specs.Forms.{AreArguments, argument_at, Form, form_of, guest_form_of, IsNamed}
+use Rattle.guest_script.specs.Reading.{IsFormAt, made_from, op_spelling}
 use Rattle.guest_script.specs.Values.{is_numeral}
-use Rattle.guest_script.specs.Scanning.{digit_after, digits_after, and_digits, numeral_of}
-use Rattle.guest_script.specs.PlainLines.{behind, BeginsActor, BeginsArgument, BeginsDigits, BeginsLine, BeginsName, BeginsNumber, BeginsNumbers, BeginsOp, BeginsSaid, BeginsSigned, BeginsWord}
+use Rattle.guest_script.specs.Inside.Scanning.{digit_after, digits_after, and_digits, numeral_of}
+use Rattle.guest_script.specs.Inside.PlainLines.{behind, BeginsActor, BeginsArgument, BeginsDigits, BeginsGuest, BeginsLine, BeginsName, BeginsNamed, BeginsNumber, BeginsNumbers, BeginsOp, BeginsSaid, BeginsSigned, BeginsWord}
 use Rattle.guest_script.proofs.PlainShapes.{some_all}
 use Rattle.guest_script.proofs.LineWords.{length_numbers}
 use Rattle.guest_script.proofs.Numerals.{at_most, numeral_at_most}
@@ -142,23 +143,53 @@ module _ {A : Type 0} (form_of : List ℕ → Option (Form A)) (otherwise : A) w
   }
 
   -- a name and its numbers
-  pub named_begins : (bytes name middle : List ℕ) (places : Places) (ns rest : List ℕ) (value : A) → bytes ≡ 32 ∷ (name ++ middle) → IsFormAt places (form_of name) → places.limit ≡ last_number
+  pub named_begins : (bytes name middle : List ℕ) (places : Places) (ns rest : List ℕ) (value : A) → bytes ≡ name ++ middle → IsFormAt places (form_of name) → places.limit ≡ last_number
       → BeginsNumbers middle ns rest → places.least ≤ length ns → length ns ≤ places.most → value ≡ made_from otherwise (form_of name) (some_all ns)
-      → (words : List (List ℕ)) × (bytes ≡ behind words ++ rest) × IsNamed form_of words value
+      → (others : List (List ℕ)) × (bytes ≡ name ++ (behind others ++ rest)) × IsNamed form_of (name ∷ others) value
   named_begins bytes name middle places ns rest value at is limit (words, parts, numbers) enough not_more made = (
-    name ∷ words,
-    at ∙ ap (λ (b : List ℕ). 32 ∷ (name ++ b)) parts ∙ ap (λ (b : List ℕ). 32 ∷ b) (sym (append_assoc name (behind words) rest)),
+    words,
+    at ∙ ap (λ (b : List ℕ). name ++ b) parts,
     rw made (named_by name places (form_of name) words ns refl is limit numbers enough not_more),
   )
 
+-- the same behind a blank
+pub behind_blank : (bytes name : List ℕ) (others : List (List ℕ)) (rest : List ℕ) → bytes ≡ name ++ (behind others ++ rest) → 32 ∷ bytes ≡ behind (name ∷ others) ++ rest
+behind_blank bytes name others rest parts = ap (λ (b : List ℕ). 32 ∷ b) (parts ∙ sym (append_assoc name (behind others) rest))
+
+pub op_behind : (name : OpName) (bytes : List ℕ) (op : Op) (rest : List ℕ) → BeginsNamed name bytes op rest → BeginsOp (32 ∷ bytes) op rest
+op_behind name bytes op rest (others, parts, is) = (op_spelling name ∷ others, behind_blank bytes (op_spelling name) others rest parts, is)
+
+-- of a guest, whose forms have this name too
+pub guest_begins : (name : OpName) (bytes : List ℕ) (op : Op) (rest after : List ℕ) → guest_form_of (op_spelling name) ≡ form_of (op_spelling name) → BeginsNamed name bytes op rest
+    → rest ≡ 10 ∷ after → BeginsGuest bytes op after
+guest_begins name bytes op rest after same (others, parts, is) end = (
+  op_spelling name,
+  others,
+  parts ∙ ap (λ (b : List ℕ). op_spelling name ++ (behind others ++ b)) end,
+  guest_named same is,
+) where
+  guest_named : {words : List (List ℕ)} → guest_form_of (op_spelling name) ≡ form_of (op_spelling name) → IsNamed form_of (op_spelling name ∷ words) op → IsNamed guest_form_of (op_spelling name ∷ words) op
+  guest_named same named = record {
+    name = named.name;
+    others = named.others;
+    form = named.form;
+    arguments = named.arguments;
+    parts = named.parts;
+    has_form = (let is : op_spelling name ≡ named.name = cc in rw (sym is) (same ∙ rw is named.has_form));
+    enough = named.enough;
+    not_more = named.not_more;
+    are_arguments = named.are_arguments;
+    made = named.made;
+  }
+
 -- a fence with its arguments
 pub fence_begins : (before bytes : List ℕ) (va : Option ℕ) (middle : List ℕ) (asid : Option ℕ) (rest : List ℕ) (op : Op) → BeginsName before names.Sfence bytes
-    → BeginsArgument bytes va middle → BeginsArgument middle asid rest → op ≡ Sfence va asid → BeginsOp before op rest
+    → BeginsArgument bytes va middle → BeginsArgument middle asid rest → op ≡ Sfence va asid → BeginsNamed names.Sfence before op rest
 unfolding form_of
 fence_begins before bytes va middle asid rest op at (first, parts, is_va) (second, more, is_asid) made = (
-  codes "sfence" ∷ first ∷ second ∷ [],
+  first ∷ second ∷ [],
   at
-      ∙ ap (λ (b : List ℕ). codes " sfence" ++ b) (
+      ∙ ap (λ (b : List ℕ). codes "sfence" ++ b) (
       parts
       ∙ ap (λ (b : List ℕ). 32 ∷ (first ++ b)) (more ∙ ap (λ (b : List ℕ). 32 ∷ (b ++ rest)) (sym (append-nil second)))
       ∙ ap (λ (b : List ℕ). 32 ∷ b) (sym (append_assoc first (32 ∷ (second ++ [])) rest))

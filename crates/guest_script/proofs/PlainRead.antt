@@ -11,19 +11,19 @@ use Rattle.board_terms.specs.declared.op.Actor.{Actor}
 use Rattle.board_terms.specs.declared.op.Actor.TheVariants.{Hart, Clock}
 use Rattle.board_terms.specs.Refusals.{first_that_holds}
 use Rattle.guest_script.specs.declared.fault.Fault.{Fault}
-use Rattle.guest_script.specs.declared.kind.Kind.TheVariants.{Step}
+use Rattle.guest_script.specs.declared.line_kind.LineKind.TheVariants.{Step}
 use Rattle.script_lines.specs.declared.said.Said.{Said}
 use Rattle.script_lines.specs.declared.script.Line.{Line}
-use Rattle.guest_script.specs.Drafts.{steps_of}
-use Rattle.guest_script.specs.Forms.{Form, form_of, guest_forms, IsSaid, named, other_forms, said_form_of, said_forms}
+use Rattle.guest_script.specs.Inside.Drafts.{in_guest, steps_of}
+use Rattle.guest_script.specs.Forms.{Form, form_of, guest_form_of, guest_forms, IsNamed, IsSaid, named, other_forms, said_form_of, said_forms}
 use Rattle.board_terms.specs.declared.op.Op.{Op}
 use Rattle.guest_script.specs.Words.{is_allowed, is_blank, is_hash, IsSigned}
-use Rattle.guest_script.specs.Grammar.{Draft, Stepped, Traced, IsActor, IsDoing, IsStep, IsStepLine}
+use Rattle.guest_script.specs.Grammar.{Draft, Guest, OfGuest, Stepped, Traced, IsActor, IsDoing, IsStep, IsStepLine}
 use Rattle.guest_script.specs.Values.{is_filled, next_in, with_step, words_in}
 use Rattle.guest_script.specs.FirstFault.{byte_test, line_tests, may_follow}
 use Rattle.guest_script.specs.Reading.{GoesOn, line_from, located, or_fault}
-use Rattle.guest_script.specs.PlainLines.{behind, BeginsLine}
-use Rattle.guest_script.proofs.LineWords.{none_cons, NoneHolds, step_follows}
+use Rattle.guest_script.specs.Inside.PlainLines.{behind, BeginsGuest, BeginsLine}
+use Rattle.guest_script.proofs.LineWords.{next_passes, none_cons, NoneHolds, step_follows}
 use Rattle.guest_script.proofs.LinesFrom.{goes_on}
 use Rattle.guest_script.proofs.PlainWords.{append_all, arguments_plain, IsPlain, IsPlainByte, joined_line, lines_printed, spelled_plain}
 use Rattle.guest_script.proofs.Spacing.{line_allowed, line_words}
@@ -130,6 +130,29 @@ plain_read n in_trace draft bytes line after (first, others, parts, is) may =
     let whole : bytes ≡ (join_with_byte 32 words ++ 10 ∷ []) ++ after =
     parts ∙ sym (append_assoc first (behind others) (10 ∷ after)) ∙ ap (λ (b : List ℕ). b ++ 10 ∷ after) (joined_behind first others) ∙ sym (append_assoc (join_with_byte 32 words) (10 ∷ []) after) in
     goes_on n draft bytes (join_with_byte 32 words) after (ap lines whole ∙ lines_printed words after plain) (with_step in_trace draft line) (line_read n in_trace draft words line plain is may)
+
+-- an operation more of a guest's block
+guest_plain : (words : List (List ℕ)) (op : Op) → IsNamed guest_form_of words op → AllByRecursion IsPlain words
+unfolding guest_form_of
+guest_plain words op named = rw named.parts (
+  named_plain guest_forms named.name named.form refl named.has_form,
+  arguments_plain named.form.may_be_absent named.form.limit named.others named.arguments named.are_arguments,
+)
+
+pub guest_read : (n : ℕ) (before : List Guest) (clock : Option (List ℕ)) (addr : ℕ) (ops : List Op) (bytes : List ℕ) (op : Op) (after : List ℕ) → BeginsGuest bytes op after
+    → GoesOn n (in_guest before clock addr ops) bytes (n + 1) (in_guest before clock addr (ops ++ op ∷ [])) after
+guest_read n before clock addr ops bytes op after (first, others, parts, is) =
+    let words : List (List ℕ) = first ∷ others in
+    let draft = in_guest before clock addr ops in
+    let next = in_guest before clock addr (ops ++ op ∷ []) in
+    let plain = guest_plain words op is in
+    let joined = joined_line words plain in
+    let follows = next_passes n draft words next (inr (OfGuest (record { addr = addr; ops = ops ++ op ∷ [] }), (op, is, refl), refl)) in
+    let read = read_by n draft (join_with_byte 32 words) follows.first follows.others next (line_words (join_with_byte 32 words) words joined ∙ follows.parts)
+    (line_allowed (join_with_byte 32 words) words joined) follows.none follows.value in
+    let whole : bytes ≡ (join_with_byte 32 words ++ 10 ∷ []) ++ after =
+    parts ∙ sym (append_assoc first (behind others) (10 ∷ after)) ∙ ap (λ (b : List ℕ). b ++ 10 ∷ after) (joined_behind first others) ∙ sym (append_assoc (join_with_byte 32 words) (10 ∷ []) after) in
+    goes_on n draft bytes (join_with_byte 32 words) after (ap lines whole ∙ lines_printed words after plain) next read
 
 -- a step more of a schedule or a trace
 pub step_read : (n : ℕ) (in_trace : Bool) (old new : List Line) (bytes after : List ℕ) → (line : Line) × BeginsLine n in_trace bytes line after × (new ≡ old ++ line ∷ [])

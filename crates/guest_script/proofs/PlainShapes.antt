@@ -1,11 +1,9 @@
 -- Names with a number in each place, and the shapes that they are kept as.
-use Rattle.std.proofs.Common.{◌≡◌, ℕ, zero, suc, ◌≤◌, List, [], ◌∷◌, length, take, map, Option, Some, refl, sym, arith}
-use Rattle.std.proofs.lemmas.List.{take_all}
+use Rattle.std.proofs.Common.{◌≡◌, ℕ, zero, suc, ◌≤◌, List, [], ◌∷◌, length, map, Option, Some, refl, sym, arith}
 use Rattle.std.proofs.lemmas.Option.{same_Some}
 use Rattle.board_terms.specs.declared.op.Op.TheVariants.{Advance, Sfence}
 use Rattle.guest_script.specs.declared.op_name.OpName.{OpName}
 use Rattle.guest_script.specs.declared.op_name.OpName.TheVariants as ops
-use Rattle.script_lines.specs.declared.op_shape.OpShape.{OpShape}
 use Rattle.script_lines.specs.declared.op_shape.OpShape.TheVariants as shapes
 use Rattle.guest_script.specs.declared.places.Places.{Places}
 use Rattle.script_lines.specs.declared.said.Said.{Said}
@@ -15,7 +13,7 @@ use Rattle.guest_script.specs.declared.said_name.SaidName.TheVariants as saids
 use Rattle.guest_script.specs.Words.{last_number}
 use Rattle.guest_script.specs.Forms.{argument_at, form_of, number_at, said_form_of}
 use Rattle.guest_script.specs.Reading.{IsFormAt, made_from, op_spelling, said_spelling}
-use Rattle.guest_script.specs.PlainShapes.{plain_said_shape, plain_shape}
+use Rattle.guest_script.specs.Inside.PlainShapes.{plain_said_shape, plain_shape}
 use Rattle.script_lines.specs.Packing.{number_from, op_made, said_made}
 
 -- each number as an argument

@@ -5,7 +5,7 @@ use Rattle.std.specs.List.{filter, slice_split}
 use Rattle.std.proofs.lemmas.Bool.{cases_Bool, eqb-true, or_cases}
 use Rattle.guest_script.specs.Words.{is_blank, is_hash}
 use Rattle.guest_script.specs.Values.{before_comment, is_filled, words_in}
-use Rattle.guest_script.specs.Scanning.{begins_blank, is_word_end, word_length}
+use Rattle.guest_script.specs.Inside.Scanning.{begins_blank, is_word_end, word_length}
 
 pub blank_no_hash : (b : ℕ) → is_blank b ≡ true → is_hash b ≡ false
 blank_no_hash b e = elim (or_cases (eqb b 32) (eqb b 9) e) [

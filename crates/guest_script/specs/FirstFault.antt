@@ -7,8 +7,8 @@ use Rattle.board_terms.specs.Refusals.{first_that_holds}
 use Rattle.guest_script.specs.declared.fault.Fault.{Fault}
 use Rattle.guest_script.specs.declared.fault.Fault.TheVariants.{BadByte, NoBoardLine, UnknownWord, BadNumber, WordCount, OtherKind, SecondBlock, TooLong, NoMemory}
 use Rattle.guest_script.specs.declared.fault.ScriptFault.{ScriptFault}
-use Rattle.guest_script.specs.declared.kind.Kind.{Kind}
-use Rattle.guest_script.specs.declared.kind.Kind.TheVariants.{Head, Step, Operation}
+use Rattle.guest_script.specs.declared.line_kind.LineKind.{LineKind}
+use Rattle.guest_script.specs.declared.line_kind.LineKind.TheVariants.{Head, Step, Operation}
 use Rattle.guest_script.specs.Words.{is_allowed, last_hart, last_number}
 use Rattle.guest_script.specs.Forms.{Form, form_of, guest_form_of, said_form_of}
 use Rattle.guest_script.specs.Grammar.{Draft, Nothing, Blocked, Stepped, Traced, Guest, has_block, most_bytes, Open, OfClock, OfGuest}
@@ -103,7 +103,7 @@ in_block_tests (OfClock ticks) [] = []
 in_block_tests (OfClock ticks) (name ∷ words) = (not (bytes_eq name (codes "tick")), UnknownWord) ∷ number_tests words
 
 -- whether a line of this kind may follow: the first one may not be an operation alone, and the others are as the first
-abbrev pub may_follow : Draft → Kind → Bool
+abbrev pub may_follow : Draft → LineKind → Bool
 may_follow Nothing Operation = false
 may_follow Nothing kind = true
 may_follow (Blocked p) (Step in_trace) = false
@@ -118,7 +118,7 @@ operation_tests (Blocked p) words = in_block_tests p.current words
 operation_tests draft words = []
 
 -- the tests of a line of this kind
-abbrev pub kind_tests : Kind → Draft → (first : List ℕ) → List (List ℕ) → List (Bool × Fault)
+abbrev pub kind_tests : LineKind → Draft → (first : List ℕ) → List (List ℕ) → List (Bool × Fault)
 kind_tests Head draft first words = head_tests (guests_in draft) (clock_in draft) first words
 kind_tests (Step in_trace) draft first words = step_tests in_trace first words
 kind_tests Operation draft first words = operation_tests draft (first ∷ words)

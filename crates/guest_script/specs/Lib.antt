@@ -1,14 +1,9 @@
-pub mod Drafts
 pub mod FirstFault
 pub mod Forms
 pub mod Grammar
-pub mod OpenBlocks
 pub mod Pieces
-pub mod PlainLines
-pub mod PlainShapes
-pub mod Progress
 pub mod Reading
-pub mod Scanning
 pub mod ScriptLaws
 pub mod Values
 pub mod Words
+pub mod Inside

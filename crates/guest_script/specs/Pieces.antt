@@ -14,20 +14,20 @@ abbrev pub AreWhole : List ℕ → Type 0
 AreWhole bytes = (bytes ≡ []) ⊎ ((front : List ℕ) × (bytes ≡ front ++ 10 ∷ []))
 
 -- What the lines of a script's beginning say: nothing, where none has words; a board, and what the lines after its own say; or what is wrong.
-pub data Told : Type 0 where
-  Untold : Told
-  OnBoard : Config → Draft → Told
-  Wrong : ScriptFault → Told
+pub data Saying : Type 0 where
+  Untold : Saying
+  OnBoard : Config → Draft → Saying
+  Wrong : ScriptFault → Saying
 
 -- The beginning of a script, in whole lines: how many bytes, the number of the line after them, and what they say. Of more bytes than a script
 -- may have no more is known.
 pub record Part : Type 0 where
   pub size : ℕ
   pub next : ℕ
-  pub told : Told
+  pub told : Saying
 
 -- the script, where the lines from line n on follow
-abbrev pub told_after : Told → ℕ → List (List ℕ) → Result Written ScriptFault
+abbrev pub told_after : Saying → ℕ → List (List ℕ) → Result Written ScriptFault
 told_after Untold n texts = script_from n texts
 told_after (OnBoard config draft) n texts = with_config config (lines_from n draft texts)
 told_after (Wrong fault) n texts = Err fault

@@ -10,8 +10,8 @@ use Rattle.board_terms.specs.declared.op.Actor.{Actor}
 use Rattle.board_terms.specs.declared.op.Actor.TheVariants.{Hart, Clock}
 use Rattle.board_terms.specs.declared.op.Op.{Op}
 use Rattle.board_terms.specs.declared.op.Op.TheVariants.{Advance}
-use Rattle.guest_script.specs.declared.kind.Kind.{Kind}
-use Rattle.guest_script.specs.declared.kind.Kind.TheVariants.{Head, Step, Operation}
+use Rattle.guest_script.specs.declared.line_kind.LineKind.{LineKind}
+use Rattle.guest_script.specs.declared.line_kind.LineKind.TheVariants.{Head, Step, Operation}
 use Rattle.script_lines.specs.declared.said.Said.{Said}
 use Rattle.script_lines.specs.declared.said.Said.TheVariants.{Ret, Done}
 use Rattle.script_lines.specs.declared.script.Line.{Line}
@@ -154,7 +154,7 @@ abbrev pub is_clock_head : List ℕ → Bool
 is_clock_head word = bytes_eq word (codes "clock")
 
 -- what a line is by its first word, and whether it has an arrow
-abbrev pub kind_of : (first : List ℕ) → List (List ℕ) → Kind
+abbrev pub kind_of : (first : List ℕ) → List (List ℕ) → LineKind
 kind_of first words =
     if is_at first || is_clock_head first then Head else if begins_actor_line first then Step
     (has_arrow words) else Operation
@@ -212,7 +212,7 @@ abbrev pub with_step : (in_trace : Bool) → Draft → Line → Draft
 with_step false draft line = Stepped (stepped_in draft ++ line ∷ [])
 with_step true draft line = Traced (traced_in draft ++ line ∷ [])
 
-abbrev pub next_of : Kind → (n : ℕ) → Draft → (first : List ℕ) → List (List ℕ) → Draft
+abbrev pub next_of : LineKind → (n : ℕ) → Draft → (first : List ℕ) → List (List ℕ) → Draft
 next_of Head n draft first words = Blocked (opened (guests_in draft) (clock_in draft) (opened_by first words))
 next_of (Step in_trace) n draft first words = with_step in_trace draft (line_in n in_trace first words)
 next_of Operation n draft first words = with_operation draft (first ∷ words)

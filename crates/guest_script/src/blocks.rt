@@ -1,18 +1,19 @@
 //! The blocks of a program, while its lines are read.
-ghost use Rattle.std.specs.Prelude.{◌≡◌, ◌⊎◌, ◌∷◌, ◌<◌, ℕ, true, false, List, [], map, None, Some, is_some, OnErr, IfErr, IfOk, MatchResult, vec_len, vec_capacity};
+ghost use Rattle.std.specs.Prelude.{◌≡◌, ◌⊎◌, ◌∷◌, ◌+◌, ◌<◌, ◌≤◌, ℕ, true, false, List, [], length, map, Option, None, Some, is_some, OnErr, IfErr, IfOk, MatchResult, vec_len, vec_capacity};
 ghost use Rattle.std.specs.BTreeSet.{contains};
 ghost use Rattle.std.specs.Option.{option_map};
 ghost use Rattle.std.specs.Ordering.{nat_cmp};
 ghost use Rattle.guest_script.specs.declared.fault.Fault.TheVariants.{NoMemory, SecondBlock};
-ghost use Rattle.guest_script.specs.OpenBlocks.{open_of};
+ghost use Rattle.guest_script.specs.Inside.OpenBlocks.{blocks_in, open_of};
 ghost use Rattle.guest_script.specs.FirstFault.{in_block_tests};
-ghost use Rattle.guest_script.specs.Grammar.{Blocks, clock_of, clock_with, guest, guest_at, guests_of, guests_with, content, content_of, Blocked, has_block, OfClock, opened};
-ghost use Rattle.guest_script.specs.Reading.{GivesOrWants, tested};
+ghost use Rattle.guest_script.specs.Grammar.{Blocks, Guest, clock_of, clock_with, guest, guest_at, guests_of, guests_with, content, content_of, Blocked, has_block, OfClock, opened};
+ghost use Rattle.guest_script.specs.Reading.{GivesOrWants, GoesOn, tested};
 ghost use Rattle.guest_script.specs.Values.{in_block, words_in};
 
 use crate::fault::Fault;
+use crate::plain::read_plain_ops;
 use crate::step::{guest_op, one_number};
-use script_lines::{Block, Body};
+use script_lines::{Block, Body, MOST_LINES};
 use std::alloc::{AllocError, Global};
 use std::collections::BTreeSet;
 use std::marker::Model;
@@ -28,6 +29,25 @@ pub enum OpenBlock {
 }
 
 impl OpenBlock {
+    /// Reads the operations of a guest's block that the bytes begin with, as long as they stand in the form in which they are
+    /// printed, and answers the next line's number, and the bytes from it on.
+    fn read_plain<'a>(&mut self, n: u64, bytes: &'a [u8]) -> Result<(u64, &'a [u8]), AllocError>
+        requires number { n + length bytes.now < MOST_LINES }
+        ensures read { IfOk result (λ found. (before : List Guest) (clock : Option (List ℕ))
+            → GoesOn n (Blocked (blocks_in before clock (open_of self.old))) bytes.now found.0
+            (Blocked (blocks_in before clock (open_of self.new))) found.1.now) }
+        ensures addresses { (before : List Guest) (addr : ℕ)
+            → has_block (guests_with (open_of self.new) before) addr
+            ≡ has_block (guests_with (open_of self.old) before) addr }
+        ensures within { IfOk result (λ found. found.0 + length found.1.now ≤ n + length bytes.now) }
+        ensures shorter { IfOk result (λ found. length found.1.now ≤ length bytes.now) }
+    {
+        match self {
+            OpenBlock::Guest(block) => read_plain_ops(&mut block.ops, n, bytes),
+            OpenBlock::Clock(_) => Ok((n, bytes)),
+        }
+    }
+
     /// Reads an operation of the block.
     fn line(&mut self, first: &[u8], rest: &[u8]) -> Result<(), Fault>
         ensures read { GivesOrWants (λ _. open_of self.new) result
@@ -148,6 +168,18 @@ impl BlocksDraft {
             OpenBlock::Guest(_) => self.clock.is_some(),
             OpenBlock::Clock(_) => true,
         }
+    }
+
+    /// Reads the operations of an open guest's block that the bytes begin with, as long as they stand in the form in which
+    /// they are printed, and answers the next line's number, and the bytes from it on.
+    pub fn read_plain<'a>(&mut self, n: u64, bytes: &'a [u8]) -> Result<(u64, &'a [u8]), AllocError>
+        requires number { n + length bytes.now < MOST_LINES }
+        ensures read { IfOk result
+            (λ found. GoesOn n (Blocked self.old) bytes.now found.0 (Blocked self.new) found.1.now) }
+        ensures within { IfOk result (λ found. found.0 + length found.1.now ≤ n + length bytes.now) }
+        ensures shorter { IfOk result (λ found. length found.1.now ≤ length bytes.now) }
+    {
+        self.current.read_plain(n, bytes)
     }
 
     /// Reads an operation of the open block.

@@ -3,17 +3,17 @@ ghost use Rattle.std.specs.Prelude.{◌≡◌, ◌⊎◌, ◌∷◌, [], ◌++�
 ghost use Rattle.std.specs.Str.Lines.{lines};
 ghost use Rattle.script_lines.specs.Packing.{StepFits};
 ghost use Rattle.guest_script.specs.declared.fault.Fault.TheVariants.{NoMemory, SecondBlock};
-ghost use Rattle.guest_script.specs.declared.kind.Kind.TheVariants.{Head, Operation, Step};
-ghost use Rattle.guest_script.specs.Drafts.{draft_of};
+ghost use Rattle.guest_script.specs.declared.line_kind.LineKind.TheVariants.{Head, Operation, Step};
+ghost use Rattle.guest_script.specs.Inside.Drafts.{draft_of};
 ghost use Rattle.guest_script.specs.FirstFault.{byte_test, kind_tests, line_tests, may_follow, no_memory};
 ghost use Rattle.guest_script.specs.Grammar.{Blocked, content, content_of, guest_at, has_block, OfClock, opened};
-ghost use Rattle.guest_script.specs.PlainLines.{BeginsLine};
+ghost use Rattle.guest_script.specs.Inside.PlainLines.{BeginsLine};
 ghost use Rattle.guest_script.specs.Reading.{GivesOrLacks, GivesOrWants, GoesOn, line_from, lines_from, tested};
 ghost use Rattle.guest_script.specs.Values.{clock_in, guests_in, lines_in, next_in, next_of, words_in, with_step};
 
 use crate::blocks::BlocksDraft;
 use crate::fault::{Fault, NO_MEMORY, ScriptFault};
-use crate::kind::Kind;
+use crate::line_kind::LineKind;
 use crate::plain::read_plain_lines;
 use crate::step::{one_number, step_line};
 use crate::text::{is_clean, next_line};
@@ -79,8 +79,8 @@ impl BodyDraft {
         Ok((next + 1, after))
     }
 
-    /// Reads the lines of a schedule or a trace from number `n` on, as long as they stand in the form in which steps are
-    /// printed, and answers the next line's number, and the bytes from it on.
+    /// Reads the lines of a schedule, of a trace or of a guest's block from number `n` on, as long as they stand in the form in
+    /// which steps are printed, and answers the next line's number, and the bytes from it on.
     fn read_printed<'a>(
         &mut self,
         expected: usize,
@@ -104,7 +104,8 @@ impl BodyDraft {
                 steps.expect(expected);
                 read_plain_lines(steps, n, true, bytes)
             }
-            _ => Ok((n, bytes)),
+            BodyDraft::Blocks(blocks) => blocks.read_plain(n, bytes),
+            BodyDraft::Nothing => Ok((n, bytes)),
         }
     }
 
@@ -133,30 +134,30 @@ impl BodyDraft {
             (tested (line_tests (draft_of self.old) (first.now ∷ words_in rest.now))
             (next_in n (draft_of self.old) (first.now ∷ words_in rest.now))) }
     {
-        let kind = Kind::of(first, rest);
+        let kind = LineKind::of(first, rest);
         if !self.may_follow(kind) {
             return Err(Fault::OtherKind);
         }
         match kind {
-            Kind::Head => self.head(alloc, first, rest),
-            Kind::Step { in_trace } => {
+            LineKind::Head => self.head(alloc, first, rest),
+            LineKind::Step { in_trace } => {
                 let line = step_line(n, in_trace, first, rest)?;
                 self.step(alloc, in_trace, &line)?;
                 Ok(())
             }
-            Kind::Operation => self.operation(first, rest),
+            LineKind::Operation => self.operation(first, rest),
         }
     }
 
     /// Whether a line of this kind may follow.
-    fn may_follow(&self, kind: Kind) -> bool
+    fn may_follow(&self, kind: LineKind) -> bool
         ensures { result ≡ may_follow (draft_of self.now) kind }
     {
         match self {
-            BodyDraft::Nothing => !matches!(kind, Kind::Operation),
-            BodyDraft::Blocks(_) => !matches!(kind, Kind::Step { .. }),
-            BodyDraft::Steps(_) => matches!(kind, Kind::Step { in_trace: false }),
-            BodyDraft::Trace(_) => matches!(kind, Kind::Step { in_trace: true }),
+            BodyDraft::Nothing => !matches!(kind, LineKind::Operation),
+            BodyDraft::Blocks(_) => !matches!(kind, LineKind::Step { .. }),
+            BodyDraft::Steps(_) => matches!(kind, LineKind::Step { in_trace: false }),
+            BodyDraft::Trace(_) => matches!(kind, LineKind::Step { in_trace: true }),
         }
     }
 

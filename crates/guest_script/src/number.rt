@@ -3,7 +3,7 @@ ghost use Rattle.std.specs.Prelude.{◌≡◌, ◌≤◌, neg_ℤ, pos, IfSome};
 ghost use Rattle.std.specs.Char.{digit_value};
 ghost use Rattle.guest_script.specs.Words.{last_below};
 ghost use Rattle.guest_script.specs.Values.{number_in, signed_in};
-ghost use Rattle.guest_script.specs.Scanning.{decimal_in, digit_after, numeral_of, spelled_of};
+ghost use Rattle.guest_script.specs.Inside.Scanning.{decimal_in, digit_after, numeral_of, spelled_of};
 
 /// How far a signed number may be below 0.
 pub const LAST_BELOW: u64 = 1 << 63;
@@ -39,7 +39,7 @@ pub fn number(word: &[u8], limit: u64) -> Option<u64>
 }
 
 /// The number that a word spells, if there is one below 2^64.
-#[tactic(auto, unfolding(crate::specs::Scanning::spelled_of))]
+#[tactic(auto, unfolding(crate::specs::Inside::Scanning::spelled_of))]
 fn spelled(word: &[u8]) -> Option<u64>
     ensures { result ≡ spelled_of word.now }
 {
@@ -50,7 +50,7 @@ fn spelled(word: &[u8]) -> Option<u64>
 }
 
 /// The signed number that a word spells, if there is one.
-#[tactic(auto, unfolding(crate::specs::Values::signed_in, crate::specs::Scanning::decimal_in))]
+#[tactic(auto, unfolding(crate::specs::Values::signed_in, crate::specs::Inside::Scanning::decimal_in))]
 pub fn signed_number(word: &[u8]) -> Option<i64>
     ensures { result ≡ signed_in word.now }
 {
@@ -98,7 +98,7 @@ fn numeral(digits: &[u8], radix: u32) -> Option<u64>
 
 /// The number whose digits are those of `n` and one more.
 #[inline(always)]
-#[tactic(auto, unfolding(crate::specs::Scanning::digit_after))]
+#[tactic(auto, unfolding(crate::specs::Inside::Scanning::digit_after))]
 pub fn push_digit(n: u64, digit: u8, radix: u32) -> Option<u64>
     requires low { 2 ≤ radix }
     requires high { radix ≤ 36 }

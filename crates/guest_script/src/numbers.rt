@@ -3,7 +3,7 @@ ghost use Rattle.std.specs.Prelude.{◌≡◌, ◌≤◌, ◌&&◌, ◌||◌, is
 ghost use Rattle.guest_script.specs.Forms.{argument_at, number_at, number_or};
 ghost use Rattle.guest_script.specs.FirstFault.{arguments_tests, is_dash};
 ghost use Rattle.guest_script.specs.Reading.{Gives, tested};
-ghost use Rattle.guest_script.specs.Scanning.{words_until};
+ghost use Rattle.guest_script.specs.Inside.Scanning.{words_until};
 ghost use Rattle.guest_script.specs.Values.{arguments_in, words_in};
 
 use crate::fault::Fault;

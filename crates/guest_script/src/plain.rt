@@ -1,11 +1,13 @@
 //! Lines that stand in the form in which steps are printed, each read in one pass.
-ghost use Rattle.std.specs.Prelude.{◌≡◌, ◌+◌, ◌≤◌, ◌<◌, ◌++◌, ◌^◌, ◌∷◌, [], ℕ, List, None, Some, codes, IfOk, IfSome, MatchOption, length};
+ghost use Rattle.std.specs.Prelude.{◌≡◌, ◌+◌, ◌≤◌, ◌<◌, ◌++◌, ◌^◌, ◌∷◌, [], ℕ, List, Option, None, Some, codes, IfOk, IfSome, MatchOption, length};
+ghost use Rattle.board_terms.specs.declared.op.Op.{Op};
 ghost use Rattle.board_terms.specs.declared.op.Op.TheVariants.{Sfence};
 ghost use Rattle.script_lines.specs.declared.script.Line.{Line};
 ghost use Rattle.guest_script.specs.Words.{last_number};
-ghost use Rattle.guest_script.specs.Drafts.{steps_of};
+ghost use Rattle.guest_script.specs.Grammar.{Guest};
+ghost use Rattle.guest_script.specs.Inside.Drafts.{in_guest, steps_of};
 ghost use Rattle.guest_script.specs.Reading.{GoesOn};
-ghost use Rattle.guest_script.specs.PlainLines.{BeginsActor, BeginsArgument, BeginsDigits, BeginsLine, BeginsName, BeginsNumber, BeginsNumbers, BeginsOp, BeginsSaid, BeginsSaidName, BeginsSigned, BeginsWord};
+ghost use Rattle.guest_script.specs.Inside.PlainLines.{BeginsActor, BeginsArgument, BeginsDigits, BeginsGuest, BeginsLine, BeginsName, BeginsNamed, BeginsNumber, BeginsNumbers, BeginsOp, BeginsSaid, BeginsSaidName, BeginsSigned, BeginsWord};
 ghost use Rattle.script_lines.specs.KeptLines.{plain_line};
 ghost use Rattle.script_lines.specs.Packing.{FitsKept, op_made};
 
@@ -16,7 +18,7 @@ use crate::places::Places;
 use crate::plain_shapes::{plain_said_shape, plain_shape};
 use crate::said_name::SaidName;
 use arrayvec::ArrayVec;
-use board_terms::Actor;
+use board_terms::{Actor, Op};
 use script_lines::{Lines, MOST_LINES, OpShape, Plain, Said};
 use std::alloc::AllocError;
 
@@ -134,6 +136,96 @@ fn told(actor: Actor, op: OpShape, said: Said) -> Plain
     }
 }
 
+/// Puts the operations that the bytes are behind those of a guest's block, as long as they stand in the form in which they are
+/// printed, and answers the next line's number, and the bytes from it on.
+///
+/// # Errors
+///
+/// Memory was refused.
+pub fn read_plain_ops<'a>(
+    ops: &mut Vec<Op>,
+    first: u64,
+    bytes: &'a [u8],
+) -> Result<(u64, &'a [u8]), AllocError>
+    requires number { first + length bytes.now < MOST_LINES }
+    ensures read { IfOk result (λ found. (before : List Guest) (clock : Option (List ℕ)) (addr : ℕ)
+        → GoesOn first (in_guest before clock addr ops.old.items) bytes.now found.0
+        (in_guest before clock addr ops.new.items) found.1.now) }
+    ensures within { IfOk result (λ found. found.0 + length found.1.now ≤ first + length bytes.now) }
+    ensures shorter { IfOk result (λ found. length found.1.now ≤ length bytes.now) }
+{
+    let mut number = first;
+    let mut rest = bytes;
+    while let Some(after) = read_plain_op(ops, rest)? {
+        rest = after;
+        number += 1;
+    }
+    Ok((number, rest))
+}
+
+/// Puts the operation that the bytes begin with behind those of a guest's block, if it stands in the form in which it is
+/// printed, and answers the bytes after its line. Else nothing is read.
+///
+/// # Errors
+///
+/// Memory was refused.
+#[inline(always)]
+fn read_plain_op<'a>(ops: &mut Vec<Op>, bytes: &'a [u8]) -> Result<Option<&'a [u8]>, AllocError>
+    ensures { IfOk result (λ found. MatchOption found (ops.new.items ≡ ops.old.items)
+        (λ after. (op : Op) × BeginsGuest bytes.now op after.now × (ops.new.items ≡ ops.old.items ++ op ∷ [])
+        × (length after.now < length bytes.now))) }
+{
+    let mut numbers = ArrayVec::new();
+    match plain_guest(bytes, &mut numbers) {
+        Some((op, after)) => {
+            ops.push(op.op(&numbers))?;
+            Ok(Some(after))
+        }
+        None => Ok(None),
+    }
+}
+
+/// A guest's operation, which the bytes begin with, and the bytes after its line, if it stands in the form in which it is
+/// printed. Its numbers are gathered.
+#[inline(always)]
+#[tactic(auto, using(crate::proofs::PlainParts::guest_begins))]
+fn plain_guest<'a>(
+    bytes: &'a [u8],
+    numbers: &mut ArrayVec<u64, MOST_ARGUMENTS>,
+) -> Option<(OpShape, &'a [u8])>
+    requires { numbers.old.items ≡ [] }
+    ensures op { IfSome result (λ found. BeginsGuest bytes.now (op_made found.0 numbers.new.items) found.1.now) }
+    ensures shorter { IfSome result (λ found. length found.1.now < length bytes.now) }
+{
+    let name = guest_by_letters(bytes)?;
+    if !name.is_guest() {
+        return None;
+    }
+    let (op, rest) = plain_named(name, bytes, numbers)?;
+    let after = after(rest, b"\n")?;
+    Some((op, after))
+}
+
+/// The one name of a guest's operation that may stand there, told by its letters.
+#[inline(always)]
+fn guest_by_letters(bytes: &[u8]) -> Option<OpName> {
+    match bytes {
+        [b'e', ..] => Some(OpName::Ecall),
+        [b'l', ..] => Some(OpName::Load),
+        [b'w', ..] => Some(OpName::Wfi),
+        [b'c', ..] => Some(OpName::Clearssip),
+        [b'f', b'e', b't', ..] => Some(OpName::Fetch),
+        [b'f', ..] => Some(OpName::Fencei),
+        [b's', b'i', b'p', ..] => Some(OpName::Sip),
+        [b's', b'i', ..] => Some(OpName::Sie),
+        [b's', b't', ..] => Some(OpName::Store),
+        [b's', b'a', ..] => Some(OpName::Satp),
+        [b's', b'f', ..] => Some(OpName::Sfence),
+        [b's', ..] => Some(OpName::Sstatus),
+        _ => None,
+    }
+}
+
 /// The actor that the bytes begin with, and what stands behind it.
 #[inline(always)]
 fn plain_actor(bytes: &[u8]) -> Option<(Actor, &[u8])>
@@ -154,8 +246,7 @@ fn plain_actor(bytes: &[u8]) -> Option<(Actor, &[u8])>
     }
 }
 
-/// A blank, an operation's name, and its numbers, of which none has a limit of its own; of a fence those that are there. The
-/// one name that may stand there is told by its letters; a wrong guess costs no more than its time.
+/// A blank, an operation's name, and its numbers, of which none has a limit of its own; of a fence those that are there.
 #[inline(always)]
 fn plain_op<'a>(
     bytes: &'a [u8],
@@ -166,22 +257,40 @@ fn plain_op<'a>(
     ensures shorter { IfSome result (λ found. length found.1.now ≤ length bytes.now) }
 {
     match bytes {
-        [_, b'e', ..] => plain_named(OpName::Ecall, bytes, numbers),
-        [_, b'l', ..] => plain_named(OpName::Load, bytes, numbers),
-        [_, b't', ..] => plain_named(OpName::Tick, bytes, numbers),
-        [_, b'a', ..] => plain_named(OpName::Advance, bytes, numbers),
-        [_, b'p', ..] => plain_named(OpName::Poll, bytes, numbers),
-        [_, b'w', ..] => plain_named(OpName::Wfi, bytes, numbers),
-        [_, b'c', ..] => plain_named(OpName::Clearssip, bytes, numbers),
-        [_, b'f', b'e', b't', ..] => plain_named(OpName::Fetch, bytes, numbers),
-        [_, b'f', ..] => plain_named(OpName::Fencei, bytes, numbers),
-        [_, b's', b'i', b'p', ..] => plain_named(OpName::Sip, bytes, numbers),
-        [_, b's', b'i', ..] => plain_named(OpName::Sie, bytes, numbers),
-        [_, b's', b't', ..] => plain_named(OpName::Store, bytes, numbers),
-        [_, b's', b'a', ..] => plain_named(OpName::Satp, bytes, numbers),
-        [_, b's', b'f', ..] => plain_named(OpName::Sfence, bytes, numbers),
-        [_, b's', b'e', ..] => plain_named(OpName::Serve, bytes, numbers),
-        [_, b's', ..] => plain_named(OpName::Sstatus, bytes, numbers),
+        [b' ', named @ ..] => plain_by_letters(named, numbers),
+        _ => None,
+    }
+}
+
+/// An operation's name and its numbers. The one name that may stand there is told by its letters; a wrong guess costs no more
+/// than its time.
+#[inline(always)]
+fn plain_by_letters<'a>(
+    bytes: &'a [u8],
+    numbers: &mut ArrayVec<u64, MOST_ARGUMENTS>,
+) -> Option<(OpShape, &'a [u8])>
+    requires { numbers.old.items ≡ [] }
+    ensures op { IfSome result
+        (λ found. BeginsOp (32 ∷ bytes.now) (op_made found.0 numbers.new.items) found.1.now) }
+    ensures shorter { IfSome result (λ found. length found.1.now ≤ length bytes.now) }
+{
+    match bytes {
+        [b'e', ..] => plain_named(OpName::Ecall, bytes, numbers),
+        [b'l', ..] => plain_named(OpName::Load, bytes, numbers),
+        [b't', ..] => plain_named(OpName::Tick, bytes, numbers),
+        [b'a', ..] => plain_named(OpName::Advance, bytes, numbers),
+        [b'p', ..] => plain_named(OpName::Poll, bytes, numbers),
+        [b'w', ..] => plain_named(OpName::Wfi, bytes, numbers),
+        [b'c', ..] => plain_named(OpName::Clearssip, bytes, numbers),
+        [b'f', b'e', b't', ..] => plain_named(OpName::Fetch, bytes, numbers),
+        [b'f', ..] => plain_named(OpName::Fencei, bytes, numbers),
+        [b's', b'i', b'p', ..] => plain_named(OpName::Sip, bytes, numbers),
+        [b's', b'i', ..] => plain_named(OpName::Sie, bytes, numbers),
+        [b's', b't', ..] => plain_named(OpName::Store, bytes, numbers),
+        [b's', b'a', ..] => plain_named(OpName::Satp, bytes, numbers),
+        [b's', b'f', ..] => plain_named(OpName::Sfence, bytes, numbers),
+        [b's', b'e', ..] => plain_named(OpName::Serve, bytes, numbers),
+        [b's', ..] => plain_named(OpName::Sstatus, bytes, numbers),
         _ => None,
     }
 }
@@ -194,7 +303,10 @@ fn plain_named<'a>(
     numbers: &mut ArrayVec<u64, MOST_ARGUMENTS>,
 ) -> Option<(OpShape, &'a [u8])>
     requires { numbers.old.items ≡ [] }
-    ensures op { IfSome result (λ found. BeginsOp bytes.now (op_made found.0 numbers.new.items) found.1.now) }
+    ensures named { IfSome result
+        (λ found. BeginsNamed name bytes.now (op_made found.0 numbers.new.items) found.1.now) }
+    ensures op { IfSome result
+        (λ found. BeginsOp (32 ∷ bytes.now) (op_made found.0 numbers.new.items) found.1.now) }
     ensures shorter { IfSome result (λ found. length found.1.now ≤ length bytes.now) }
 {
     let rest = after_name(name, bytes)?;
@@ -214,9 +326,12 @@ fn plain_fence<'a>(
     numbers: &mut ArrayVec<u64, MOST_ARGUMENTS>,
 ) -> Option<(OpShape, &'a [u8])>
     requires { numbers.old.items ≡ [] }
+    ensures named { IfSome result
+        (λ found. (before : List ℕ) → BeginsName before OpName.Sfence bytes.now
+        → BeginsNamed OpName.Sfence before (op_made found.0 numbers.new.items) found.1.now) }
     ensures op { IfSome result
         (λ found. (before : List ℕ) → BeginsName before OpName.Sfence bytes.now
-        → BeginsOp before (op_made found.0 numbers.new.items) found.1.now) }
+        → BeginsOp (32 ∷ before) (op_made found.0 numbers.new.items) found.1.now) }
     ensures shorter { IfSome result (λ found. length found.1.now ≤ length bytes.now) }
 {
     let (va, rest) = plain_argument(bytes)?;
@@ -297,29 +412,29 @@ fn plain_places<'a>(
     Some(rest)
 }
 
-/// What follows a blank and a name.
+/// What follows a name.
 #[inline(always)]
 fn after_name(name: OpName, bytes: &[u8]) -> Option<&[u8]>
     ensures name { IfSome result (λ rest. BeginsName bytes.now name rest.now) }
     ensures shorter { IfSome result (λ rest. length rest.now ≤ length bytes.now) }
 {
     match name {
-        OpName::Ecall => after(bytes, b" ecall"),
-        OpName::Load => after(bytes, b" load"),
-        OpName::Store => after(bytes, b" store"),
-        OpName::Fetch => after(bytes, b" fetch"),
-        OpName::Satp => after(bytes, b" satp"),
-        OpName::Sie => after(bytes, b" sie"),
-        OpName::Sstatus => after(bytes, b" sstatus"),
-        OpName::Sip => after(bytes, b" sip"),
-        OpName::Clearssip => after(bytes, b" clearssip"),
-        OpName::Sfence => after(bytes, b" sfence"),
-        OpName::Fencei => after(bytes, b" fencei"),
-        OpName::Wfi => after(bytes, b" wfi"),
-        OpName::Poll => after(bytes, b" poll"),
-        OpName::Serve => after(bytes, b" serve"),
-        OpName::Advance => after(bytes, b" advance"),
-        OpName::Tick => after(bytes, b" tick"),
+        OpName::Ecall => after(bytes, b"ecall"),
+        OpName::Load => after(bytes, b"load"),
+        OpName::Store => after(bytes, b"store"),
+        OpName::Fetch => after(bytes, b"fetch"),
+        OpName::Satp => after(bytes, b"satp"),
+        OpName::Sie => after(bytes, b"sie"),
+        OpName::Sstatus => after(bytes, b"sstatus"),
+        OpName::Sip => after(bytes, b"sip"),
+        OpName::Clearssip => after(bytes, b"clearssip"),
+        OpName::Sfence => after(bytes, b"sfence"),
+        OpName::Fencei => after(bytes, b"fencei"),
+        OpName::Wfi => after(bytes, b"wfi"),
+        OpName::Poll => after(bytes, b"poll"),
+        OpName::Serve => after(bytes, b"serve"),
+        OpName::Advance => after(bytes, b"advance"),
+        OpName::Tick => after(bytes, b"tick"),
     }
 }
 

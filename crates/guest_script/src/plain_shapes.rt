@@ -1,6 +1,6 @@
 //! The shapes that names are kept as, with a number in each place.
 ghost use Rattle.std.specs.Prelude.{◌≡◌};
-ghost use Rattle.guest_script.specs.PlainShapes.{plain_said_shape, plain_shape};
+ghost use Rattle.guest_script.specs.Inside.PlainShapes.{plain_said_shape, plain_shape};
 
 use crate::op_name::OpName;
 use crate::said_name::SaidName;

@@ -1,9 +1,9 @@
 //! How far a reader is: before the board line, or at a line after it.
 ghost use Rattle.std.specs.Prelude.{◌≡◌, ◌+◌, ◌<◌, ◌≤◌, ◌++◌, ◌∷◌, [], List, Ok, IfOk, OnOk, ℕ, length};
 ghost use Rattle.std.specs.Str.Lines.{lines};
-ghost use Rattle.guest_script.specs.Drafts.{draft_of};
+ghost use Rattle.guest_script.specs.Inside.Drafts.{draft_of};
 ghost use Rattle.guest_script.specs.Grammar.{written};
-ghost use Rattle.guest_script.specs.Progress.{lines_of_stage, lines_so_far, script_after, stage_after};
+ghost use Rattle.guest_script.specs.Inside.Progress.{lines_of_stage, lines_so_far, script_after, stage_after};
 ghost use Rattle.guest_script.specs.Reading.{GivesOrLacks, script_from, with_config};
 
 use crate::board_line::board_words;

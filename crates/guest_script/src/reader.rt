@@ -2,7 +2,7 @@
 ghost use Rattle.std.specs.Prelude.{◌≡◌, ◌+◌, ◌≤◌, ◌++◌, [], ℕ, List, IfOk, length};
 ghost use Rattle.guest_script.specs.Grammar.{most_bytes};
 ghost use Rattle.guest_script.specs.Pieces.{AreWhole, HasRead, IsAnswered, Part};
-ghost use Rattle.guest_script.specs.Progress.{grown, lines_so_far, part_of};
+ghost use Rattle.guest_script.specs.Inside.Progress.{grown, lines_so_far, part_of};
 
 use crate::fault::{Fault, NO_MEMORY, ScriptFault};
 use crate::progress::{Progress, Stage};

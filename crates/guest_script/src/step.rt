@@ -6,7 +6,7 @@ ghost use Rattle.script_lines.specs.declared.said.Said.TheVariants.{Done};
 ghost use Rattle.guest_script.specs.Forms.{form_of, guest_form_of, said_form_of};
 ghost use Rattle.guest_script.specs.FirstFault.{acting_tests, actor_test, doing_tests, form_tests, named_tests, number_tests, ret_tests, said_tests, step_tests};
 ghost use Rattle.guest_script.specs.Reading.{IsFormAt, op_spelling, tested};
-ghost use Rattle.guest_script.specs.Scanning.{words_until};
+ghost use Rattle.guest_script.specs.Inside.Scanning.{words_until};
 ghost use Rattle.guest_script.specs.Values.{actor_in, after_arrow, before_arrow, first_number, line_in, made_by, named_in, op_in, ret_in, said_in, step_in, words_in};
 
 use crate::fault::Fault;

@@ -2,7 +2,7 @@
 ghost use Rattle.std.specs.Prelude.{◌≡◌, ◌∷◌, [], ◌<◌, ◌≤◌, IsFalse, MatchOption, IfSome, length};
 ghost use Rattle.guest_script.specs.Words.{is_blank};
 ghost use Rattle.guest_script.specs.Values.{after_arrow, has_arrow, is_arrow, words_in};
-ghost use Rattle.guest_script.specs.Scanning.{begins_blank, is_word_end, word_length, words_until};
+ghost use Rattle.guest_script.specs.Inside.Scanning.{begins_blank, is_word_end, word_length, words_until};
 
 /// The first word of a text, and what follows it.
 #[tactic(auto, using(crate::proofs::WordsIn::word_length_le, crate::proofs::WordsIn::words_in_word, crate::proofs::WordsIn::words_in_none))]

@@ -12,12 +12,12 @@ use Rattle.sv39.specs.Satp.{asid_of, is_valid, translates}
 use Rattle.tlb_model.specs.declared.entry.Address.{Address}
 use Rattle.tlb_model.specs.declared.entry.Entry.{Entry}
 use Rattle.tlb_model.specs.declared.word.FetchWord.{FetchWord}
-use Rattle.hart_access.specs.declared.operation.Access.{Access}
-use Rattle.hart_access.specs.declared.operation.Access.TheVariants.{Load, Store, Fetch}
+use Rattle.hart_access.specs.declared.accesses.Access.{Access}
+use Rattle.hart_access.specs.declared.accesses.Access.TheVariants.{Load, Store, Fetch}
 use Rattle.hart_access.specs.declared.way.Way.{Way}
 use Rattle.hart_access.specs.declared.way.Way.TheVariants.{Plain, Hit, Fill, Fault}
 use Rattle.hart_access.specs.Accesses.{fetched_from, filling, place, used, way_of, word_filling, word_filling_by}
-use Rattle.hart_access.specs.Operations.{kind_of}
+use Rattle.hart_access.specs.AccessKinds.{kind_of}
 use Rattle.hart_access.specs.Translations.{Fetches, Fills, Hits, IsTranslated, hit_at}
 use Rattle.hart_access.specs.Ways.{fill_by, in_memory, phys_at, phys_by, phys_in, place_by, translated, used_by, way_by}
 

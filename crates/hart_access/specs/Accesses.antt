@@ -6,10 +6,10 @@ use Rattle.sv39.specs.Memory.{written}
 use Rattle.tlb_model.specs.declared.entry.Address.{Address}
 use Rattle.tlb_model.specs.declared.entry.Entry.{Entry}
 use Rattle.tlb_model.specs.declared.word.FetchWord.{FetchWord}
-use Rattle.hart_access.specs.declared.operation.Access.{Access}
-use Rattle.hart_access.specs.declared.operation.Access.TheVariants.{Load, Store, Fetch}
+use Rattle.hart_access.specs.declared.accesses.Access.{Access}
+use Rattle.hart_access.specs.declared.accesses.Access.TheVariants.{Load, Store, Fetch}
 use Rattle.hart_access.specs.declared.way.Way.{Way}
-use Rattle.hart_access.specs.Operations.{kind_of}
+use Rattle.hart_access.specs.AccessKinds.{kind_of}
 use Rattle.hart_access.specs.Ways.{fill_by, place_by, used_by, way}
 
 -- A fetch reads the word that was fetched before, where the cache has it, and else the memory's (Zifencei).

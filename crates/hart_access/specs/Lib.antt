@@ -1,4 +1,4 @@
-pub mod Operations
+pub mod AccessKinds
 pub mod Ways
 pub mod Accesses
 pub mod Translations

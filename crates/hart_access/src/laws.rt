@@ -3,7 +3,7 @@ ghost use Rattle.std.specs.Prelude.{◌≡◌, ◌↔◌, ◌⊎◌, ℕ, Option
 ghost use Rattle.tlb_model.specs.declared.entry.Address.{Address};
 ghost use Rattle.tlb_model.specs.declared.entry.Entry.{Entry};
 ghost use Rattle.tlb_model.specs.declared.word.FetchWord.{FetchWord};
-ghost use Rattle.hart_access.specs.declared.operation.Access.{Access};
+ghost use Rattle.hart_access.specs.declared.accesses.Access.{Access};
 ghost use Rattle.hart_access.specs.Accesses.{filling, place, used, word_filling};
 ghost use Rattle.hart_access.specs.Translations.{Fetches, Fills, Hits};
 ghost use Rattle.hart_access.specs.Ways.{phys_at};

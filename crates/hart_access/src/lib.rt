@@ -2,12 +2,12 @@
 //! the word that it reads or writes (Privileged 4.1.11, 4.2.1, 4.4, 4.5; Zifencei).
 #![tactic(auto)]
 
+mod accesses;
 mod laws;
-mod operation;
 mod perform;
 mod way;
 
+pub use accesses::{Access, Accessed};
 pub use laws::{entry_is_filled, entry_is_used, place_is_of_the_entry, word_is_filled};
-pub use operation::{Access, Accessed};
 pub use perform::access;
 pub use way::Way;

@@ -6,7 +6,7 @@ ghost use Rattle.tlb_model.specs.Entries.{matches};
 ghost use Rattle.tlb_model.specs.Words.{is_at};
 ghost use Rattle.hart_access.specs.Accesses.{answer, filling, read_at, stored, stored_at, used, word_filling, word_filling_at};
 
-use crate::operation::{Access, Accessed};
+use crate::accesses::{Access, Accessed};
 use crate::way::Way;
 use sv39::{Ram, Satp};
 use tlb_model::{FetchWord, ICache, Tlb};

@@ -12,9 +12,9 @@ use Rattle.board_core.specs.Course.{is_hart}
 use Rattle.board_core.specs.History.{Event}
 use Rattle.board_lock.specs.Events.{events_from, events_of, is_same}
 use Rattle.guest_script.specs.Grammar.{Guest}
-use Rattle.hart_threads.specs.Guests.{AreLeft, IsLeft, Turn, Still, block_of, done, done_after, entry_after, last_entry, turn_by}
+use Rattle.hart_threads.specs.Guests.{AreLeft, IsLeft, Meaning, Still, block_of, done, done_after, entry_after, last_entry, meaning_by}
 use Rattle.hart_threads.specs.Shares.{EachOf, many_of}
-use Rattle.hart_threads.specs.Works.{IsLeftTo}
+use Rattle.hart_threads.specs.Inside.Works.{IsLeftTo}
 
 abbrev one : Actor → Event → ℕ
 one a e = if is_same a e.actor then 1 else 0
@@ -48,14 +48,14 @@ each-still P a [] past none each = each
 each-still P a (e ∷ since) past none each =
     ((λ is. absurd (let t = sym is ∙ not-own a e (many_of a since) none in cc)), each-still P a since past (let t = none in omega arith) each)
 
-still : (h : ℕ) (a : Actor) (t : Turn) → is_same (Hart h) a ≡ false → (if is_hart h a then t else Still) ≡ Still
+still : (h : ℕ) (a : Actor) (t : Meaning) → is_same (Hart h) a ≡ false → (if is_hart h a then t else Still) ≡ Still
 still h (Hart n) t other = rw other refl
 still h Clock t other = refl
 
 left-one : (blocks : List Guest) (left : Option (List Op)) (h : ℕ) (e : Event) (past : List Event) → is_same (Hart h) e.actor ≡ false
     → IsLeft blocks left past h → IsLeft blocks left (e ∷ past) h
 left-one blocks left h e past other is =
-    subst (λ (t : Turn). AreLeft left (done_after t (done past h)) (block_of blocks (entry_after t (last_entry past h)))) (sym (still h e.actor (turn_by e.op e.reply) other)) is
+    subst (λ (t : Meaning). AreLeft left (done_after t (done past h)) (block_of blocks (entry_after t (last_entry past h)))) (sym (still h e.actor (meaning_by e.op e.reply) other)) is
 
 -- a guest's block is as far, where its hart did nothing since
 pub left-still : (blocks : List Guest) (left : Option (List Op)) (a : Actor) (since past : List Event) → many_of a since ≡ 0

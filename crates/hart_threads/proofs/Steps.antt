@@ -21,7 +21,7 @@ use Rattle.hart_threads.specs.Choices.{next_choice}
 use Rattle.hart_threads.specs.Guests.{next_of}
 use Rattle.hart_threads.specs.Met.{met_by_refusal}
 use Rattle.hart_threads.specs.Shares.{Refuses, gate_number}
-use Rattle.hart_threads.specs.Works.{At, Goes, HasTurn, HasWorked, IsAtWork, IsGoing, IsLeftTo, Stops, Task, WorkedAt}
+use Rattle.hart_threads.specs.Inside.Works.{At, Goes, HasTurn, HasWorked, IsAtWork, IsGoing, IsLeftTo, Stops, Task, WorkedAt}
 use Rattle.hart_threads.proofs.Counting.{earlier-of}
 use Rattle.hart_threads.proofs.Working.{event, going-later, none-by, refused-at, saw-then, stops-later, turn-by, work-later, work-more}
 

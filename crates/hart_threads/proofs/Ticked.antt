@@ -9,7 +9,7 @@ use Rattle.board_core.specs.History.{Event}
 use Rattle.board_lock.specs.Events.{ops_of}
 use Rattle.board_lock.specs.Seats.{Sitting, new_seats, seats_of, sitting}
 use Rattle.hart_threads.specs.Programs.{AreFirst}
-use Rattle.hart_threads.specs.Works.{IsFresh}
+use Rattle.hart_threads.specs.Inside.Works.{IsFresh}
 
 -- the seats of a new board
 harts-fresh : (c : Config) (from many : ℕ) → from + many ≤ c.harts → All (IsFresh c) (map (λ h. sitting (Hart h) 0 [] []) (range_with_len from many))

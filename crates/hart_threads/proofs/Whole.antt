@@ -14,7 +14,7 @@ use Rattle.hart_threads.specs.declared.met.Met.{Met}
 use Rattle.hart_threads.specs.declared.met.Met.TheVariants.{Nothing, FullHistory, ClosedGate}
 use Rattle.hart_threads.specs.Met.{met_by_all, met_by_both}
 use Rattle.hart_threads.specs.Shares.{AreThreads, ChoosesNone, Earlier, EachOf, HasNoMore, HasStopped, IsDue, Refuses, gate_number, many_of}
-use Rattle.hart_threads.specs.Works.{At, HasWorked, SeesNoMore, Stops, Task, WorkedAt}
+use Rattle.hart_threads.specs.Inside.Works.{At, HasWorked, SeesNoMore, Stops, Task, WorkedAt}
 use Rattle.hart_threads.proofs.Counting.{earlier-of, length-events}
 use Rattle.hart_threads.proofs.Working.{each-later, same-then}
 

@@ -23,7 +23,7 @@ use Rattle.hart_threads.specs.declared.met.Met.TheVariants.{Nothing, FullHistory
 use Rattle.hart_threads.specs.Choices.{choice_of}
 use Rattle.hart_threads.specs.Guests.{AreLeft, IsLeft, next_of}
 use Rattle.hart_threads.specs.Shares.{ChoosesNone, EachOf, IsDue, IsNext, IsTurn, Refuses, gate_number, many_of}
-use Rattle.hart_threads.specs.Works.{At, Goes, HasMet, HasTurn, IsAtWork, IsGoing, IsLeftTo, SeesNoMore, Stops, Task}
+use Rattle.hart_threads.specs.Inside.Works.{At, Goes, HasMet, HasTurn, IsAtWork, IsGoing, IsLeftTo, SeesNoMore, Stops, Task}
 use Rattle.hart_threads.proofs.Counting.{each-still, earlier-of, left-still, length-events, no-more, none-since, own-one-more}
 use Rattle.hart_threads.proofs.Following.{longer}
 

@@ -19,19 +19,19 @@ is_guest (Tick n) = false
 is_guest op = true
 
 -- what an event means for the guest of a hart: it is entered, it does an operation, or neither
-pub data Turn : Type 0 where
-  Enters : (addr : ℕ) → Turn
-  Does : Op → Turn
-  Still : Turn
+pub data Meaning : Type 0 where
+  Enters : (addr : ℕ) → Meaning
+  Does : Op → Meaning
+  Still : Meaning
 
-abbrev pub turn_by : Op → Reply → Turn
-turn_by op (Entry addr hart opaque) = Enters addr
-turn_by op reply = if is_guest op then Does op else Still
+abbrev pub meaning_by : Op → Reply → Meaning
+meaning_by op (Entry addr hart opaque) = Enters addr
+meaning_by op reply = if is_guest op then Does op else Still
 
-abbrev pub turn_of : ℕ → Event → Turn
-turn_of h e = if is_hart h e.actor then turn_by e.op e.reply else Still
+abbrev pub meaning_of : ℕ → Event → Meaning
+meaning_of h e = if is_hart h e.actor then meaning_by e.op e.reply else Still
 
-abbrev pub entry_after : Turn → Option ℕ → Option ℕ
+abbrev pub entry_after : Meaning → Option ℕ → Option ℕ
 entry_after (Enters addr) before = Some addr
 entry_after (Does op) before = before
 entry_after Still before = before
@@ -39,9 +39,9 @@ entry_after Still before = before
 -- Where hart h was entered last, if it was.
 abbrev pub last_entry : List Event → ℕ → Option ℕ
 last_entry [] h = None
-last_entry (e ∷ past) h = entry_after (turn_of h e) (last_entry past h)
+last_entry (e ∷ past) h = entry_after (meaning_of h e) (last_entry past h)
 
-abbrev pub done_after : Turn → List Op → List Op
+abbrev pub done_after : Meaning → List Op → List Op
 done_after (Enters addr) before = []
 done_after (Does op) before = before ++ op ∷ []
 done_after Still before = before
@@ -49,7 +49,7 @@ done_after Still before = before
 -- The operations of the guest of hart h since its last entry, in order.
 abbrev pub done : List Event → ℕ → List Op
 done [] h = []
-done (e ∷ past) h = done_after (turn_of h e) (done past h)
+done (e ∷ past) h = done_after (meaning_of h e) (done past h)
 
 -- the operations of the block at an address; none where no block is
 abbrev pub block_at : List Guest → ℕ → List Op

@@ -3,6 +3,6 @@ pub mod Guests
 pub mod Choices
 pub mod Met
 pub mod Shares
-pub mod Works
 pub mod Ends
 pub mod Faults
+pub mod Inside

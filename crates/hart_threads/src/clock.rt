@@ -4,7 +4,7 @@ ghost use Rattle.board_terms.specs.declared.op.Actor.TheVariants.{Clock};
 ghost use Rattle.board_lock.specs.Events.{IsActor};
 ghost use Rattle.board_lock.specs.Seats.{sitting};
 ghost use Rattle.hart_threads.specs.Programs.{AreFirst};
-ghost use Rattle.hart_threads.specs.Works.{IsGate, WorkedAt, task};
+ghost use Rattle.hart_threads.specs.Inside.Works.{IsGate, WorkedAt, task};
 
 use crate::gate::Gate;
 use crate::met::Met;

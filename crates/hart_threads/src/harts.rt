@@ -6,7 +6,7 @@ ghost use Rattle.board_lock.specs.Seats.{sitting};
 ghost use Rattle.board_lock.specs.Views.{IsView};
 ghost use Rattle.hart_threads.specs.Choices.{awaited, next_choice};
 ghost use Rattle.hart_threads.specs.Guests.{left_of, next_of};
-ghost use Rattle.hart_threads.specs.Works.{Goes, HasTurn, IsGate, WorkedAt, task};
+ghost use Rattle.hart_threads.specs.Inside.Works.{Goes, HasTurn, IsGate, WorkedAt, task};
 ghost use Rattle.hart_threads.specs.declared.met.Met.TheVariants.{Nothing};
 
 use crate::choosing::choice;

@@ -12,12 +12,12 @@ ghost use Rattle.hart_threads.specs.Ends.{IsEnd};
 ghost use Rattle.hart_threads.specs.Met.{met_by_all};
 ghost use Rattle.hart_threads.specs.Programs.{AreFirst, IsProgram, blocks_of, ticks_of};
 ghost use Rattle.hart_threads.specs.Shares.{AreThreads, IsRun};
-ghost use Rattle.hart_threads.specs.Works.{IsGate};
+ghost use Rattle.hart_threads.specs.Inside.Works.{IsGate};
 ghost use Rattle.hart_threads.specs.declared.ends.RunFault.TheVariants.{BadConfig};
 
 use crate::blocks::{Program, program_in};
 use crate::ends::{RunEnd, RunFault};
-use crate::finding::end_of;
+use crate::found_end::end_of;
 use crate::gate::Gate;
 use crate::met::Met;
 use crate::plans::Plan;

@@ -1,6 +1,6 @@
 //! Threads that are started, and waited for.
 ghost use Rattle.std.specs.Prelude.{◌≡◌, All, IfOk, IsErrOf, map};
-ghost use Rattle.hart_threads.specs.Works.{IsFresh, IsGate, WorkedAt, task};
+ghost use Rattle.hart_threads.specs.Inside.Works.{IsFresh, IsGate, WorkedAt, task};
 ghost use Rattle.hart_threads.specs.declared.ends.RunFault.TheVariants.{BadConfig};
 
 use crate::clock::tick;

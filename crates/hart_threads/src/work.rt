@@ -4,7 +4,7 @@ ghost use Rattle.board_terms.specs.declared.op.Actor.TheVariants.{Clock};
 ghost use Rattle.guest_script.specs.Grammar.{guest};
 ghost use Rattle.hart_threads.specs.Programs.{AreFirst};
 ghost use Rattle.hart_threads.specs.Shares.{gate_number};
-ghost use Rattle.hart_threads.specs.Works.{IsGate};
+ghost use Rattle.hart_threads.specs.Inside.Works.{IsGate};
 
 use crate::blocks::Program;
 use crate::gate::Gate;

@@ -6,7 +6,7 @@ use Rattle.std.proofs.lemmas.Bool.Decides.{eqb_tells, leb_tells}
 use Rattle.std.proofs.lemmas.List.{get_or-map, get_or-replicate, get_or-set_other, get_or-set_same, get_or_past, length-map, length-replicate, length-set, map-set}
 use Rattle.hart_mask.specs.Ids.{with_id, without_id}
 use Rattle.hart_mask.proofs.Sets.{ids_where-none, with_id-by, without_id-by}
-use Rattle.hsm.specs.declared.hart.Kept.{Kept}
+use Rattle.hsm.specs.declared.hart.EntryPoint.{EntryPoint}
 use Rattle.hsm.specs.declared.phase.Phase.{Phase}
 use Rattle.hsm.specs.declared.phase.Phase.TheVariants.{Stopped}
 use Rattle.hsm.specs.Harts.{Hart, resting, starting}
@@ -72,7 +72,7 @@ module _ (phases : List Phase) (h : ℕ) (phase : Phase) (ids : List ℕ) (kept 
         ∙ sym (ap interruptible_ids (map-set hart_of phases h phase));
   }
 
-module _ (harts boot_hart : ℕ) (boot : Kept) where
+module _ (harts boot_hart : ℕ) (boot : EntryPoint) where
   hart_at_opening-not : (h : ℕ) → is_interruptible (hart_at_opening boot_hart boot h).state ≡ false
   hart_at_opening-not h = elim (eqb_tells h boot_hart) [
     | inl same ↦ ap (λ b. is_interruptible (if b then starting boot else resting).state) same.0

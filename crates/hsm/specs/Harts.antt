@@ -2,12 +2,12 @@
 use Rattle.std.specs.Prelude.{Option, Some, None}
 use Rattle.hsm.specs.declared.hart.HartState.{HartState}
 use Rattle.hsm.specs.declared.hart.HartState.TheVariants.{Started, Stopped, StartPending, StopPending, Suspended, SuspendPending, ResumePending}
-use Rattle.hsm.specs.declared.hart.Kept.{Kept}
+use Rattle.hsm.specs.declared.hart.EntryPoint.{EntryPoint}
 
 -- its state, and what its pending start, or the suspend that it is in, keeps
 pub record Hart : Type 0 where
   pub state : HartState
-  pub kept : Option Kept
+  pub kept : Option EntryPoint
 
 -- a hart that runs its guest
 abbrev pub running : Hart
@@ -18,7 +18,7 @@ abbrev pub resting : Hart
 resting = record { state = Stopped; kept = None }
 
 -- a hart whose start is pending
-abbrev pub starting : Kept → Hart
+abbrev pub starting : EntryPoint → Hart
 starting kept = record { state = StartPending; kept = Some kept }
 
 -- a hart whose stop is pending
@@ -26,13 +26,13 @@ abbrev pub stopping : Hart
 stopping = record { state = StopPending; kept = None }
 
 -- a hart whose suspend is pending
-abbrev pub suspending : Option Kept → Hart
+abbrev pub suspending : Option EntryPoint → Hart
 suspending kept = record { state = SuspendPending; kept = kept }
 
 -- a hart that is suspended
-abbrev pub sleeping : Option Kept → Hart
+abbrev pub sleeping : Option EntryPoint → Hart
 sleeping kept = record { state = Suspended; kept = kept }
 
 -- a hart whose resume is pending
-abbrev pub resuming : Option Kept → Hart
+abbrev pub resuming : Option EntryPoint → Hart
 resuming kept = record { state = ResumePending; kept = kept }

@@ -5,13 +5,13 @@ use Rattle.sbi_abi.specs.declared.suspend.SuspendKind.{SuspendKind}
 use Rattle.sbi_abi.specs.declared.suspend.SuspendKind.TheVariants.{Retentive, NonRetentive}
 use Rattle.hsm.specs.declared.hart.HartState.{HartState}
 use Rattle.hsm.specs.declared.hart.HartState.TheVariants.{Started, Stopped, StartPending, StopPending, Suspended, SuspendPending, ResumePending}
-use Rattle.hsm.specs.declared.hart.Kept.{Kept}
+use Rattle.hsm.specs.declared.hart.EntryPoint.{EntryPoint}
 use Rattle.hsm.specs.declared.hart.Moved.{Moved}
 use Rattle.hsm.specs.declared.hart.Moved.TheVariants.{Entered, Resumed, Returned, To}
 use Rattle.hsm.specs.Harts.{Hart, running, resting, starting, stopping, suspending, sleeping, resuming}
 
 -- A STOPPED hart can be started; one in any other state is already available (SBI 9.1; for all but STARTED: profile).
-abbrev pub started_from : Kept → HartState → Option Hart
+abbrev pub started_from : EntryPoint → HartState → Option Hart
 started_from kept Stopped = Some (starting kept)
 started_from kept Started = None
 started_from kept StartPending = None
@@ -21,7 +21,7 @@ started_from kept SuspendPending = None
 started_from kept ResumePending = None
 
 -- A start of another hart: from STOPPED to START_PENDING (SBI 9.1).
-abbrev pub started : Kept → Hart → Option Hart
+abbrev pub started : EntryPoint → Hart → Option Hart
 started kept hart = started_from kept hart.state
 
 -- A hart's stop of itself: from STARTED to STOP_PENDING (SBI 9.2).
@@ -29,12 +29,12 @@ abbrev pub stopped : Hart
 stopped = stopping
 
 -- A non-retentive suspend keeps where the hart goes on, and a retentive one keeps nothing (SBI 9.4).
-abbrev pub kept_by : SuspendKind → Kept → Option Kept
+abbrev pub kept_by : SuspendKind → EntryPoint → Option EntryPoint
 kept_by Retentive kept = None
 kept_by NonRetentive kept = Some kept
 
 -- A hart's suspend of itself: from STARTED to SUSPEND_PENDING (SBI 9.4).
-abbrev pub suspended : SuspendKind → Kept → Hart
+abbrev pub suspended : SuspendKind → EntryPoint → Hart
 suspended kind kept = suspending (kept_by kind kept)
 
 -- what a step makes of a hart, and what it tells
@@ -43,18 +43,18 @@ pub record Step : Type 0 where
   pub moved : Moved
 
 -- A suspended hart resumes where it has wake, an enabled interrupt that is pending, and else sleeps on (SBI 9.4).
-abbrev pub woken : Bool → Option Kept → Option Step
+abbrev pub woken : Bool → Option EntryPoint → Option Step
 woken true kept = Some (record { hart = resuming kept; moved = To ResumePending })
 woken false kept = None
 
 -- A resume from a non-retentive suspend begins where the suspend said, and one from a retentive suspend returns to
 -- the call (SBI 9.4).
-abbrev pub resumed : Option Kept → Moved
+abbrev pub resumed : Option EntryPoint → Moved
 resumed (Some kept) = Resumed kept
 resumed None = Returned
 
 -- What is pending goes on; a hart that is STARTED or STOPPED has nothing to go on to (profile).
-abbrev pub advanced_from : Bool → HartState → Option Kept → Option Step
+abbrev pub advanced_from : Bool → HartState → Option EntryPoint → Option Step
 advanced_from wake StartPending kept = option_map (λ k. record { hart = running; moved = Entered k }) kept
 advanced_from wake StopPending kept = Some (record { hart = resting; moved = To Stopped })
 advanced_from wake SuspendPending kept = Some (record { hart = sleeping kept; moved = To Suspended })
@@ -78,14 +78,14 @@ changed harts h (Some hart) = slice_set harts h hart
 changed harts h None = harts
 
 -- a hart at the opening
-abbrev pub hart_at_opening : ℕ → Kept → ℕ → Hart
+abbrev pub hart_at_opening : ℕ → EntryPoint → ℕ → Hart
 hart_at_opening boot_hart boot h = if h == boot_hart then starting boot else resting
 
 -- At the opening the boot hart's start is pending, and the others are STOPPED (profile).
-abbrev pub opening : ℕ → ℕ → Kept → List Hart
+abbrev pub opening : ℕ → ℕ → EntryPoint → List Hart
 opening harts boot_hart boot = map (hart_at_opening boot_hart boot) (range_with_len 0 harts)
 
 -- A reset makes every hart STOPPED; then the boot hart's start is pending, if it is to begin anew (profile).
-abbrev pub reset_to : (harts boot_hart : ℕ) → (boot : Option Kept) → List Hart
+abbrev pub reset_to : (harts boot_hart : ℕ) → (boot : Option EntryPoint) → List Hart
 reset_to harts boot_hart None = replicate harts resting
 reset_to harts boot_hart (Some boot) = slice_set (replicate harts resting) boot_hart (starting boot)

@@ -79,7 +79,7 @@ impl HartState {
 
 /// What a start keeps until the hart begins, and a non-retentive suspend until it resumes (SBI 9.1, 9.4).
 #[derive(Clone, Copy, Debug, PartialEq, Eq)]
-pub struct Kept {
+pub struct EntryPoint {
     /// Where the hart begins.
     pub addr: u64,
     /// What it is handed over in a1.
@@ -90,9 +90,9 @@ pub struct Kept {
 #[derive(Clone, Copy, Debug, PartialEq, Eq)]
 pub enum Moved {
     /// The hart is STARTED, and begins as its start asked.
-    Entered(Kept),
+    Entered(EntryPoint),
     /// The hart is STARTED, and begins as its non-retentive suspend asked.
-    Resumed(Kept),
+    Resumed(EntryPoint),
     /// The hart is STARTED, and returns from the call of its retentive suspend.
     Returned,
     /// The hart is in this state now.

@@ -6,7 +6,7 @@ ghost use Rattle.hsm.specs.States.{goes_on, is_in_suspend, is_start_pending};
 ghost use Rattle.hsm.specs.Interruptible.{interruptible_ids};
 ghost use Rattle.hsm.specs.Inside.Phases.{hart_of};
 
-use crate::hart::{AlreadyAvailable, HartState, Kept, Moved};
+use crate::hart::{AlreadyAvailable, EntryPoint, HartState, Moved};
 use crate::phase::{Phase, kept_by};
 use hart_mask::HartSet;
 use sbi_abi::SuspendKind;
@@ -36,7 +36,12 @@ impl Model for Hsm {
 
 impl Hsm {
     /// The boot hart's start is pending, and the others are STOPPED. It fails where memory runs out.
-    pub fn new(alloc: Global, harts: u64, boot_hart: u64, boot: Kept) -> Result<Hsm, AllocError>
+    pub fn new(
+        alloc: Global,
+        harts: u64,
+        boot_hart: u64,
+        boot: EntryPoint,
+    ) -> Result<Hsm, AllocError>
         requires limit { harts ≤ 128 }
         requires boot_hart { boot_hart < harts }
         ensures { IfOk result (λ hsm. hsm ≡ opening harts boot_hart boot) }
@@ -76,7 +81,7 @@ impl Hsm {
     {
         match self.phases[t as usize] {
             Phase::Stopped => {
-                self.put(t, Phase::StartPending(Kept { addr, opaque }));
+                self.put(t, Phase::StartPending(EntryPoint { addr, opaque }));
                 Ok(())
             }
             _ => Err(AlreadyAvailable),
@@ -99,7 +104,7 @@ impl Hsm {
         requires running { (hart_at self.old h).state ≡ HartState.Started }
         ensures { self.new ≡ slice_set self.old h (suspended kind (record { addr = addr; opaque = opaque })) }
     {
-        let kept = kept_by(kind, Kept { addr, opaque });
+        let kept = kept_by(kind, EntryPoint { addr, opaque });
         self.put(h, Phase::SuspendPending(kept));
     }
 
@@ -119,7 +124,7 @@ impl Hsm {
     }
 
     /// Every hart becomes STOPPED. Then the boot hart's start is pending, if it is to begin anew (SBI 10; profile).
-    pub fn reset(&mut self, boot_hart: u64, boot: Option<Kept>)
+    pub fn reset(&mut self, boot_hart: u64, boot: Option<EntryPoint>)
         requires { boot_hart < length self.old }
         ensures { self.new ≡ reset_to (length self.old) boot_hart boot }
     {
@@ -152,7 +157,7 @@ impl Hsm {
     }
 
     /// What hart `t` begins with, while its start is pending, or goes on with, while it is in a non-retentive suspend.
-    pub fn kept(&self, t: u64) -> Option<Kept>
+    pub fn kept(&self, t: u64) -> Option<EntryPoint>
         requires { t < length self.now }
         ensures kept { result ≡ (hart_at self.now t).kept }
         ensures pending { is_in_suspend (hart_at self.now t).state ≡ false
@@ -188,7 +193,7 @@ impl Hsm {
 }
 
 /// What is kept of hart `h` at the opening.
-fn opening_phase(boot_hart: u64, boot: Kept, h: u64) -> Phase
+fn opening_phase(boot_hart: u64, boot: EntryPoint, h: u64) -> Phase
     ensures { hart_of result ≡ hart_at_opening boot_hart boot h }
 {
     if h == boot_hart {

@@ -5,5 +5,5 @@ mod hart;
 mod harts;
 mod phase;
 
-pub use hart::{AlreadyAvailable, HartState, Kept, Moved};
+pub use hart::{AlreadyAvailable, EntryPoint, HartState, Moved};
 pub use harts::Hsm;

@@ -4,7 +4,7 @@ ghost use Rattle.std.specs.Prelude.{◌≡◌, option_map};
 ghost use Rattle.hsm.specs.Inside.Phases.{hart_of};
 ghost use Rattle.hsm.specs.Transitions.{advanced, kept_by};
 
-use crate::hart::{HartState, Kept, Moved};
+use crate::hart::{EntryPoint, HartState, Moved};
 use sbi_abi::SuspendKind;
 
 /// What is kept of one hart.
@@ -12,11 +12,11 @@ use sbi_abi::SuspendKind;
 pub enum Phase {
     Started,
     Stopped,
-    StartPending(Kept),
+    StartPending(EntryPoint),
     StopPending,
-    SuspendPending(Option<Kept>),
-    Suspended(Option<Kept>),
-    ResumePending(Option<Kept>),
+    SuspendPending(Option<EntryPoint>),
+    Suspended(Option<EntryPoint>),
+    ResumePending(Option<EntryPoint>),
 }
 
 impl Phase {
@@ -36,7 +36,7 @@ impl Phase {
     }
 
     /// What its pending start, or its suspend, keeps.
-    pub fn kept(self) -> Option<Kept>
+    pub fn kept(self) -> Option<EntryPoint>
         ensures { result ≡ (hart_of self).kept }
     {
         match self {
@@ -71,7 +71,7 @@ impl Phase {
 }
 
 /// What a suspend of this kind keeps of where the hart is to go on.
-pub fn kept_by(kind: SuspendKind, kept: Kept) -> Option<Kept>
+pub fn kept_by(kind: SuspendKind, kept: EntryPoint) -> Option<EntryPoint>
     ensures { result ≡ kept_by kind kept }
 {
     match kind {

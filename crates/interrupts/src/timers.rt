@@ -60,7 +60,7 @@ impl Timers {
         Ok(Timers {
             time: 0,
             deadlines,
-            ahead: Ahead::new(),
+            ahead: Ahead::new(alloc)?,
             due: HartSet::new(),
         })
     }
@@ -76,7 +76,7 @@ impl Timers {
         Ok(Timers {
             time: self.time,
             deadlines,
-            ahead: self.ahead.copied(),
+            ahead: self.ahead.try_copy(alloc)?,
             due: self.due,
         })
     }

@@ -6,7 +6,7 @@ use Rattle.sbi_abi.specs.declared.reset.Reset.{Reset}
 use Rattle.sbi_abi.specs.ResetTypes.{reset_kind_number}
 use Rattle.hsm.specs.declared.hart.HartState.{HartState}
 use Rattle.hsm.specs.declared.hart.HartState.TheVariants.{Started, Stopped, StartPending, StopPending, Suspended, SuspendPending, ResumePending}
-use Rattle.hsm.specs.declared.hart.Kept.{Kept}
+use Rattle.hsm.specs.declared.hart.EntryPoint.{EntryPoint}
 use Rattle.sv39.specs.Pages.{level_number}
 use Rattle.fence_queue.specs.declared.request.Request.{Request}
 use Rattle.tlb_model.specs.declared.cache.Numbered.{Numbered}
@@ -131,10 +131,10 @@ hart_cells o past h =
     ∷ []
 
 -- what the firmware keeps for a hart's entry
-unfoldable pub entry_cells : ℕ → Kept → List (List ℕ)
+unfoldable pub entry_cells : ℕ → EntryPoint → List (List ℕ)
 entry_cells h start = codes "#" ∷ codes "entry" ∷ right 3 (decimal h) ∷ hex16 start.addr ∷ hex16 start.opaque ∷ []
 
-abbrev pub entry_line : ℕ → Option Kept → List ℕ
+abbrev pub entry_line : ℕ → Option EntryPoint → List ℕ
 entry_line h (Some start) = line_of (entry_cells h start)
 entry_line h None = []
 

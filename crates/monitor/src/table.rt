@@ -8,7 +8,7 @@ ghost use Rattle.printed_lines.specs.Sinks.{Puts};
 ghost use Rattle.monitor.specs.Table.{asid_words, deadline_cell, details, entries, entry_cells, entry_line, fence_cells, fence_line, flush_words, hart_cells, head_cells, letter, outstanding_cell, power_word, range_words, reset_words, rights, row, state_name, table, time_cells, tlb_cells, tlb_line, totals_cells, word_cells, word_line, words};
 ghost use Rattle.printed_lines.specs.Words.{line_of};
 
-use board_core::{Board, Entry, FetchWord, HartState, Kept, Reset, Totals};
+use board_core::{Board, Entry, EntryPoint, FetchWord, HartState, Reset, Totals};
 use fence_queue::Request;
 use hart_mask::HartSet;
 use printed_lines::{Failed, LineText, Sink, bit};
@@ -103,7 +103,7 @@ fn print_fences<W: Sink>(board: &Board, h: u64, sink: &mut W) -> Result<(), Fail
 }
 
 /// Prints what a hart keeps for its entry, if it keeps something.
-fn print_entry<W: Sink>(h: u64, kept: Option<Kept>, sink: &mut W) -> Result<(), Failed>
+fn print_entry<W: Sink>(h: u64, kept: Option<EntryPoint>, sink: &mut W) -> Result<(), Failed>
     requires { W.failures sink.old < 2 ^ 63 }
     ensures { Puts W.written W.failures sink.old sink.new result (entry_line h kept) }
 {
@@ -272,7 +272,7 @@ fn deadline_onto(line: &mut LineText, deadline: Option<u64>)
 
 /// The line of what a hart keeps for its entry.
 #[tactic(auto, unfolding(crate::specs::Table::entry_cells))]
-fn entry_line(h: u64, start: &Kept) -> LineText
+fn entry_line(h: u64, start: &EntryPoint) -> LineText
     ensures text { result ≡ with_words [] (entry_cells h start.now) }
     ensures some { 0 < length result }
     ensures room { length result < line_room }

@@ -11,6 +11,6 @@ mod stuck;
 pub use counts::{Counts, named};
 pub use oddities::{put_comments, put_oddities};
 pub use plain::human;
-pub use records::{Told, event_line, record, step_line};
+pub use records::{RecordParts, event_line, record, step_line};
 pub use report::Report;
 pub use stuck::put_stuck;

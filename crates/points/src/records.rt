@@ -74,7 +74,7 @@ pub fn event_line(alloc: Global, event: &Event) -> Result<Vec<u8>, AllocError> {
 
 /// A record: the board after it, the events before each cut of its history, and all events.
 #[derive(Clone, Copy)]
-pub struct Told<'a> {
+pub struct RecordParts<'a> {
     /// The board.
     pub board: &'a Board,
     /// The events before each cut, since the one before.
@@ -83,10 +83,10 @@ pub struct Told<'a> {
     pub events: &'a [Event],
 }
 
-impl<'a> Told<'a> {
+impl<'a> RecordParts<'a> {
     /// The record of a board whose history was never cut.
-    pub fn of(board: &'a Board) -> Told<'a> {
-        Told {
+    pub fn of(board: &'a Board) -> RecordParts<'a> {
+        RecordParts {
             board,
             segments: &[],
             events: board.history(),
@@ -106,7 +106,7 @@ pub fn step_line(
 }
 
 /// A record as a trace: the line of its board, its events and cuts, and the board's table behind.
-pub fn record(alloc: Global, told: Told<'_>) -> Result<Vec<u8>, AllocError> {
+pub fn record(alloc: Global, told: RecordParts<'_>) -> Result<Vec<u8>, AllocError> {
     let mut head = Text::new(alloc);
     let put = print_head(told.board.config(), &mut head);
     let mut bytes = head.taken(put)?;

@@ -9,7 +9,7 @@ use Rattle.std.proofs.lemmas.List.FromFn.{get_or-map-range_with_len, length-map-
 use Rattle.hart_mask.specs.Ids.{has, ids_where}
 use Rattle.fence_queue.specs.declared.request.Request.{Request}
 use Rattle.fence_queue.specs.Queues.{has_from, pushed, queue_at}
-use Rattle.rfence.specs.Marks.{CanAsk, requested}
+use Rattle.rfence.specs.Inside.Marks.{CanAsk, requested}
 use Rattle.rfence.proofs.Tables.{tabulate-agree}
 
 -- ---- the ids of a set are distinct

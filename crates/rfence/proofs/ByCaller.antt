@@ -6,8 +6,8 @@ use Rattle.std.proofs.lemmas.List.{get_or-map, get_or-set_other, get_or-set_same
 use Rattle.fence_queue.specs.declared.request.Request.{Request}
 use Rattle.fence_queue.specs.Positions.{one_later, position_of}
 use Rattle.fence_queue.specs.Queues.{IsQueue, drained, has_from, is_from, popped, pushed, queue_at}
-use Rattle.rfence.specs.Marks.{CanAsk, requested}
-use Rattle.rfence.specs.ByCaller.{IsOut, queue_by, queues_by, request_by}
+use Rattle.rfence.specs.Inside.Marks.{CanAsk, requested}
+use Rattle.rfence.specs.Inside.ByCaller.{IsOut, queue_by, queues_by, request_by}
 
 module _ {F : Type 0} (fences : List F) (idle : F) where
   pub length-by : (callers : List (List (Request (Unit {0})))) → length (queues_by fences idle callers) ≡ length callers

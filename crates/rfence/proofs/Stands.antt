@@ -18,7 +18,7 @@ use Rattle.rfence.specs.Opening.{Asked, IsOf, Opening, kept, place_after}
 use Rattle.rfence.specs.Turns.{Turn, Ask, Own, Serve, Poll, Stop, Reset, Quiet}
 use Rattle.rfence.specs.Waiting.{added, waiting}
 use Rattle.rfence.specs.Calls.{is_outstanding, open_call}
-use Rattle.rfence.specs.Marks.{CanAsk, forgotten, forgotten_at, requested}
+use Rattle.rfence.specs.Inside.Marks.{CanAsk, forgotten, forgotten_at, requested}
 use Rattle.rfence.specs.Right.{IsRight}
 use Rattle.rfence.specs.State.{AlmostStandsFor, StandsFor, State, call_at, call_of, in_call, queue_of, total_applied, total_asked}
 use Rattle.rfence.specs.Applied.{effect}

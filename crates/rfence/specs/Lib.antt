@@ -5,10 +5,8 @@ pub mod Applied
 pub mod Calls
 pub mod Effects
 pub mod Right
-pub mod Marks
-pub mod ByCaller
-pub mod HartCaches
 pub mod State
 pub mod Laws
 pub mod Need
 pub mod Cuts
+pub mod Inside

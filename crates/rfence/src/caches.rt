@@ -21,7 +21,7 @@ pub trait Fenced<F> {
 
 /// A hart's two caches: a fence of translations drops those that it covers, and a FENCE.I all fetched words.
 impl Fenced<Flush> for Caches {
-    ghost use Rattle.rfence.specs.HartCaches.{dropped_of, emptied_of};
+    ghost use Rattle.rfence.specs.Inside.HartCaches.{dropped_of, emptied_of};
 
     ghost dropped = { dropped_of };
 

@@ -1,6 +1,6 @@
 //! The open fence calls of harts.
 ghost use Rattle.std.specs.Prelude.{◌≡◌, ◌<◌, ◌≤◌, IfOk, length, map, replicate, None};
-ghost use Rattle.rfence.specs.Marks.{CanAsk, forgotten, forgotten_at, requested};
+ghost use Rattle.rfence.specs.Inside.Marks.{CanAsk, forgotten, forgotten_at, requested};
 
 use crate::awaited::Awaited;
 use fence_queue::{Queues, Request};

@@ -3,8 +3,8 @@ ghost use Rattle.std.specs.Prelude.{◌≡◌, ◌<◌, ◌≤◌, ◌==◌, fal
 ghost use Rattle.std.specs.Iterator.{YieldsFirst, item_count};
 ghost use Rattle.fence_queue.specs.Positions.{position_of};
 ghost use Rattle.fence_queue.specs.Queues.{IsQueue, drained, has_from, is_from, popped, queue_at};
-ghost use Rattle.rfence.specs.Marks.{CanAsk, requested};
-ghost use Rattle.rfence.specs.ByCaller.{IsOut, request_by};
+ghost use Rattle.rfence.specs.Inside.Marks.{CanAsk, requested};
+ghost use Rattle.rfence.specs.Inside.ByCaller.{IsOut, request_by};
 
 use crate::calls::ask_each;
 use fence_queue::{Queues, Request};
@@ -24,7 +24,7 @@ pub struct Pending<F> {
 impl<F> Model for Pending<F> {
     ghost use Rattle.std.specs.Prelude.{◌≡◌, List, length};
     ghost use Rattle.fence_queue.specs.declared.request.Request.{Request};
-    ghost use Rattle.rfence.specs.ByCaller.{queues_by};
+    ghost use Rattle.rfence.specs.Inside.ByCaller.{queues_by};
 
     ghost Value = { List (List (Request F)) };
 
@@ -162,7 +162,7 @@ pub struct Waiting<'a, F> {
 impl<'a, F> Model for Waiting<'a, F> {
     ghost use Rattle.std.specs.Prelude.{List};
     ghost use Rattle.fence_queue.specs.declared.request.Request.{Request};
-    ghost use Rattle.rfence.specs.ByCaller.{queue_by};
+    ghost use Rattle.rfence.specs.Inside.ByCaller.{queue_by};
 
     ghost Value = { List (Request F) };
 

@@ -13,7 +13,7 @@ use guest_script::{Body, Fault, Lines, ScriptFault, parse};
 use hart_access::{Access, Accessed, Way};
 use hart_mask::{HartSet, InvalidParam};
 use hart_threads::{End, Met, Open, RunFault};
-use hsm::{AlreadyAvailable, HartState, Hsm, Kept, Moved};
+use hsm::{AlreadyAvailable, EntryPoint, HartState, Hsm, Moved};
 use interrupts::{Ipis, TimeFull, Timers};
 use monitor::Failed;
 use sbi_abi::call::HsmCall;
@@ -74,7 +74,7 @@ const FENCE: Fence = Fence {
     range: Some(RANGE),
 };
 
-const KEPT: Kept = Kept {
+const KEPT: EntryPoint = EntryPoint {
     addr: 0x8000_0002,
     opaque: 9,
 };

@@ -9,7 +9,7 @@ use Rattle.std.proofs.lemmas.Nat.{mod_below}
 use Rattle.sbi_abi.specs.declared.reset.Reset.{Reset}
 use Rattle.hsm.specs.declared.hart.HartState.{HartState}
 use Rattle.hsm.specs.declared.hart.HartState.TheVariants.{Started, Stopped, StartPending, StopPending, Suspended, SuspendPending, ResumePending}
-use Rattle.hsm.specs.declared.hart.Kept.{Kept}
+use Rattle.hsm.specs.declared.hart.EntryPoint.{EntryPoint}
 use Rattle.fence_queue.specs.declared.request.Request.{Request}
 use Rattle.tlb_model.specs.declared.entry.Entry.{Entry}
 use Rattle.tlb_model.specs.declared.fence.Flush.{Flush}
@@ -249,7 +249,7 @@ row_passes o past h =
     ) in
     pass_line (drop 1 (hart_cells o past h)) shown
 
-entry_passes : (h : ℕ) (start : Option Kept) → Passes (entry_line h start)
+entry_passes : (h : ℕ) (start : Option EntryPoint) → Passes (entry_line h start)
 unfolding entry_cells
 entry_passes h (Some start) =
     let shown : AreShown (drop 1 (entry_cells h start)) = (written_shown (codes "entry") refl, (number_shown 3 h, (hex_shown 16 start.addr, (hex_shown 16 start.opaque, tt)))) in

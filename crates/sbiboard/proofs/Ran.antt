@@ -17,7 +17,7 @@ use Rattle.hart_threads.specs.Programs.{AreFirst, blocks_of, ticks_of}
 use Rattle.hart_threads.specs.Shares.{IsRun}
 use Rattle.sbiboard.specs.declared.outcome.Outcome.TheVariants.{Good}
 use Rattle.sbiboard.specs.Check.{agrees_text, EndsCheck}
-use Rattle.sbiboard.specs.Fitting.{EventFits}
+use Rattle.sbiboard.specs.Inside.Fitting.{EventFits}
 use Rattle.sbiboard.specs.Running.{Writes}
 use Rattle.sbiboard.specs.Threaded.{EndsRun, Tasks, outcome_of, programmed, run_text}
 use Rattle.sbiboard.proofs.ReadLines.{config_read}

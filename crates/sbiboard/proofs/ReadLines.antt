@@ -16,8 +16,8 @@ use Rattle.guest_script.specs.Grammar.{AreLines, AreScript, Content, content_of,
 use Rattle.guest_script.specs.Words.{AreNumbers, last_number}
 use Rattle.sbiboard.specs.declared.running.Job.{Job}
 use Rattle.sbiboard.specs.declared.running.Job.TheVariants.{Check, Replay}
-use Rattle.sbiboard.specs.Fitting.{ActorsFit, AllFit, AreRead}
-use Rattle.sbiboard.specs.Jobs.{lines_for}
+use Rattle.sbiboard.specs.Inside.Fitting.{ActorsFit, AllFit, AreRead}
+use Rattle.sbiboard.specs.Inside.Jobs.{lines_for}
 use Rattle.sbiboard.specs.PrintedScripts.{ActorFits, FitsActor, FitsAnswer, FitsConfig, OpFits}
 use Rattle.sbiboard.specs.Running.{after_line, answer_of}
 use Rattle.guest_script.proofs.PlainWords.{append_all}

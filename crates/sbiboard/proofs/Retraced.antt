@@ -8,7 +8,7 @@ use Rattle.guest_script.specs.Grammar.{most_bytes}
 use Rattle.printed_lines.specs.Words.{board_words, line_of}
 use Rattle.sbiboard.specs.declared.outcome.Outcome.TheVariants.{Good, HistoryFull}
 use Rattle.sbiboard.specs.Check.{AllAgree, agrees_text, EndsCheck, traced}
-use Rattle.sbiboard.specs.Fitting.{ActorsFit, AllFit, AreRead}
+use Rattle.sbiboard.specs.Inside.Fitting.{ActorsFit, AllFit, AreRead}
 use Rattle.sbiboard.specs.PrintedScripts.{Answered, FitsAnswered, printed, trace_lines, trace_of, words_of}
 use Rattle.sbiboard.specs.Replay.{IsPrinted, IsReplay, lines_text, Replays, table_of, text_of}
 use Rattle.sbiboard.specs.Running.{after_line, answer_of, course_after, new_course}

@@ -1,5 +1,5 @@
 -- What a run writes is a trace with which the board agrees.
-use Rattle.std.proofs.Common.{◌≡◌, ℕ, zero, suc, ◌+◌, ◌<◌, ◌≤◌, Bool, true, false, List, [], ◌∷◌, ◌++◌, length, map, drop, get_or, codes, reverse, Option, Some, None, Result, Ok, Err, subst, refl, sym, ap, ◌∙◌, inl, arith}
+use Rattle.std.proofs.Common.{◌≡◌, ℕ, suc, ◌+◌, ◌<◌, ◌≤◌, Bool, true, false, List, [], ◌∷◌, ◌++◌, length, map, drop, get_or, reverse, Some, Result, Ok, subst, refl, sym, ap, ◌∙◌, inl, arith}
 use Rattle.std.specs.List.{AllByRecursion, flat_map}
 use Rattle.std.specs.Prelude.{nat_le}
 use Rattle.std.proofs.lemmas.Bool.{leb-false}
@@ -21,12 +21,11 @@ use Rattle.board_core.specs.Resets.{is_off}
 use Rattle.script_lines.specs.Agreeing.{said_of}
 use Rattle.guest_script.specs.Grammar.{most_bytes}
 use Rattle.hart_threads.specs.declared.ends.End.{End}
-use Rattle.hart_threads.specs.declared.ends.End.TheVariants as ends
 use Rattle.monitor.specs.Table.{table}
 use Rattle.printed_lines.specs.Words.{board_words, event_words, line_of}
 use Rattle.sbiboard.specs.declared.outcome.Outcome.TheVariants.{Good}
 use Rattle.sbiboard.specs.Check.{AllAgree, EndsCheck, agrees_text}
-use Rattle.sbiboard.specs.Fitting.{EventFits}
+use Rattle.sbiboard.specs.Inside.Fitting.{EventFits}
 use Rattle.sbiboard.specs.PrintedScripts.{Answered, AreComments, FitsActor, FitsAnswered, FitsConfig, printed, trace_lines, trace_of, words_of}
 use Rattle.sbiboard.specs.Threaded.{end_line, events_text, run_text}
 use Rattle.sbiboard.proofs.Comments.{end_passes, table_passes}

@@ -1,5 +1,5 @@
 -- What a run's keeper appends to a record, and how a run is told whose record was kept in part (profile).
-use Rattle.std.specs.Prelude.{◌≡◌, ℕ, List, [], ◌∷◌, ◌++◌, Option, Result, Ok, Err}
+use Rattle.std.specs.Prelude.{ℕ, List, [], ◌∷◌, ◌++◌, Option, Result, Ok, Err}
 use Rattle.std.specs.Io.KnownBytes.{Appends}
 use Rattle.printed_lines.specs.Words.{event_words, line_of}
 use Rattle.sbiboard.specs.declared.keeping.KeepFault.{KeepFault}

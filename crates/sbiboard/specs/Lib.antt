@@ -1,9 +1,5 @@
 pub mod Check
 pub mod CommandLine
-pub mod Devices
-pub mod Done
-pub mod Fitting
-pub mod Jobs
 pub mod Keeping
 pub mod Outcomes
 pub mod PrintedScripts
@@ -11,3 +7,5 @@ pub mod Replay
 pub mod Running
 pub mod Sources
 pub mod Threaded
+pub mod Devices
+pub mod Inside

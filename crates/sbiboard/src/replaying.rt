@@ -1,9 +1,9 @@
 //! A schedule, replayed on a new board.
 ghost use Rattle.std.specs.Prelude.{◌≡◌, ◌^◌, ◌<◌, ℕ, true, IfOk, IfSome, List, MatchOption, MatchResult, None, Some, take};
 ghost use Rattle.std.specs.Io.KnownBytes.{Appends};
-ghost use Rattle.sbiboard.specs.Fitting.{AllFit, AreRead};
+ghost use Rattle.sbiboard.specs.Inside.Fitting.{AllFit, AreRead};
 ghost use Rattle.sbiboard.specs.Replay.{AreDone, EndsReplay, IsPrinted, Replays, is_history_full};
-ghost use Rattle.sbiboard.specs.Done.{IsDone, IsLeft};
+ghost use Rattle.sbiboard.specs.Inside.Done.{IsDone, IsLeft};
 ghost use Rattle.sbiboard.specs.Running.{CountsEnd, EndsFlushed, EndsRead, Writes, course_after, new_course};
 ghost use Rattle.sbiboard.specs.Sources.{ReadsUpTo, read_limit};
 

@@ -2,8 +2,8 @@
 
 ghost use Rattle.std.specs.Prelude.{◌≡◌, ◌^◌, ◌<◌, ℕ, IfOk, IfSome, List, None, OnErr, OnOk, take};
 ghost use Rattle.guest_script.specs.Grammar.{Reads, content, written};
-ghost use Rattle.sbiboard.specs.Fitting.{AreRead};
-ghost use Rattle.sbiboard.specs.Jobs.{Does, lines_for};
+ghost use Rattle.sbiboard.specs.Inside.Fitting.{AreRead};
+ghost use Rattle.sbiboard.specs.Inside.Jobs.{Does, lines_for};
 ghost use Rattle.sbiboard.specs.Running.{CountsEnd, EndsAs, EndsFlushed, EndsRead, Writes, answer_to, course_with, ended_as, new_course, unread_as};
 ghost use Rattle.sbiboard.specs.Sources.{ReadsUpTo, read_limit};
 

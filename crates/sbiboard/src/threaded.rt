@@ -4,7 +4,7 @@ ghost use Rattle.std.specs.List.{AllByRecursion};
 ghost use Rattle.board_terms.specs.Limits.{IsGood};
 ghost use Rattle.guest_script.specs.Grammar.{Reads, content, written};
 ghost use Rattle.printed_lines.specs.Sinks.{Puts};
-ghost use Rattle.sbiboard.specs.Fitting.{EventFits};
+ghost use Rattle.sbiboard.specs.Inside.Fitting.{EventFits};
 ghost use Rattle.sbiboard.specs.Keeping.{told_as};
 ghost use Rattle.sbiboard.specs.Running.{CountsEnd, EndsFlushed, EndsRead, Writes};
 ghost use Rattle.sbiboard.specs.Sources.{ReadsUpTo, read_limit};

@@ -4,7 +4,7 @@ use crate::stop::Stop;
 use board_core::{Board, Event};
 use conditions::Rule;
 use hart_threads::End;
-use points::{Report, Told, event_line, put_stuck, record};
+use points::{RecordParts, Report, event_line, put_stuck, record};
 use script_text::Case;
 use std::alloc::{AllocError, Global};
 use std::fmt::Write;
@@ -21,7 +21,7 @@ pub(crate) fn put_record<R: AllocGlobal + Files>(
     options: &Options<'_>,
     case: &Case<'_>,
     label: &str,
-    told: Told<'_>,
+    told: RecordParts<'_>,
     place: Option<usize>,
     report: &mut Report,
 ) -> Result<(), Stop> {
@@ -53,7 +53,15 @@ pub(crate) fn put_ended<R: AllocGlobal + Files>(
     report: &mut Report,
 ) -> Result<(), Stop> {
     let place = failing_step(rule, board.history());
-    put_record(rt, options, case, label, Told::of(board), place, report)?;
+    put_record(
+        rt,
+        options,
+        case,
+        label,
+        RecordParts::of(board),
+        place,
+        report,
+    )?;
     if end == End::Stuck {
         put_stuck(case, board, report)?;
     }

@@ -7,7 +7,7 @@ use crate::stop::Stop;
 use board_core::{Refusal, Reply};
 use conditions::{Condition, Rule};
 use guest_script::{KeptLine, Lines};
-use points::{Report, Told, step_line};
+use points::{RecordParts, Report, step_line};
 use script_text::{Case, Walk};
 use std::alloc::{AllocError, Global};
 use std::fmt::Write;
@@ -133,7 +133,7 @@ pub(crate) fn judge_record<R: AllocGlobal + Files>(
     report: &mut Report,
 ) -> Result<(), Stop> {
     let events = course.events(rt.alloc())?;
-    let told = Told {
+    let told = RecordParts {
         board: &course.board,
         segments: &course.segments,
         events: &events,
@@ -150,7 +150,7 @@ fn tell<R: AllocGlobal + Files>(
     options: &Options<'_>,
     case: &Case<'_>,
     condition: &Condition,
-    told: Told<'_>,
+    told: RecordParts<'_>,
     report: &mut Report,
 ) -> Result<(), Stop> {
     let events = told.events;

@@ -9,7 +9,7 @@ use Rattle.board_terms.specs.declared.op.Actor.{Actor}
 use Rattle.board_terms.specs.declared.op.Actor.TheVariants.{Hart, Clock}
 use Rattle.board_terms.specs.declared.op.Op.{Op}
 use Rattle.board_terms.specs.declared.op.Op.TheVariants as ops
-use Rattle.script_lines.specs.declared.kept.Kept.{Kept}
+use Rattle.script_lines.specs.declared.line_shape.LineShape.{LineShape}
 use Rattle.script_lines.specs.declared.op_shape.OpShape.{OpShape}
 use Rattle.script_lines.specs.declared.op_shape.OpShape.TheVariants.{Ecall}
 use Rattle.script_lines.specs.declared.op_shape.OpShape.TheVariants as op_shapes
@@ -27,15 +27,15 @@ part_more numbers more from count fits =
     ap (take count) (drop-append-le from numbers more (omega arith))
     ∙ take-append-le count (drop from numbers) more (omega (arith, length-drop from numbers))
 
-line_more : (numbers more : List ℕ) (kept : Kept) → IsWithin (length numbers) kept → line_of (numbers ++ more) kept ≡ line_of numbers kept
+line_more : (numbers more : List ℕ) (kept : LineShape) → IsWithin (length numbers) kept → line_of (numbers ++ more) kept ≡ line_of numbers kept
 line_more numbers more kept within =
     rw (part_more numbers more kept.from kept.op_count (omega arith), part_more numbers more (kept.from + kept.op_count) (said_count kept.said) (omega arith)) refl
 
-pub lines_more : (numbers more : List ℕ) (kept : List Kept) → AreWithin (length numbers) kept → lines_of (numbers ++ more) kept ≡ lines_of numbers kept
+pub lines_more : (numbers more : List ℕ) (kept : List LineShape) → AreWithin (length numbers) kept → lines_of (numbers ++ more) kept ≡ lines_of numbers kept
 lines_more numbers more [] within = refl
 lines_more numbers more (first ∷ kept) within = rw (line_more numbers more first within.0, lines_more numbers more kept within.1) refl
 
-pub within_more : (n m : ℕ) (kept : List Kept) → n ≤ m → AreWithin n kept → AreWithin m kept
+pub within_more : (n m : ℕ) (kept : List LineShape) → n ≤ m → AreWithin n kept → AreWithin m kept
 within_more n m [] le within = tt
 within_more n m (first ∷ kept) le within = (omega (arith, within.0), within_more n m kept le within.1)
 
@@ -80,7 +80,7 @@ length_said (Some says.Done) = refl
 length_said (Some (says.Refused n)) = refl
 
 -- what is kept of a line behind so many numbers, by its operation's shape and numbers
-abbrev pub kept_as : (from : ℕ) → Line → OpShape → List ℕ → Kept
+abbrev pub kept_as : (from : ℕ) → Line → OpShape → List ℕ → LineShape
 kept_as from line shape ns = record { number = line.number; from = from; actor = step_number line.step; op = shape; op_count = length ns; said = said_shape_of line.said }
 
 module _ (numbers : List ℕ) (line : Line) (shape : OpShape) (ns : List ℕ) where
@@ -98,14 +98,14 @@ module _ (numbers : List ℕ) (line : Line) (shape : OpShape) (ns : List ℕ) wh
         said,
       ) refl
 
-  lines_pushed : (kept : List Kept) → AreWithin (length numbers) kept → step_made (step_number line.step) shape ns ≡ line.step
+  lines_pushed : (kept : List LineShape) → AreWithin (length numbers) kept → step_made (step_number line.step) shape ns ≡ line.step
       → said_made (said_shape_of line.said) (said_numbers line.said) ≡ line.said
       → lines_of (numbers ++ (ns ++ said_numbers line.said)) (kept ++ kept_as (length numbers) line shape ns ∷ []) ≡ lines_of numbers kept ++ line ∷ []
   lines_pushed kept within step said =
       map-append (line_of (numbers ++ (ns ++ said_numbers line.said))) kept (kept_as (length numbers) line shape ns ∷ [])
       ∙ rw (lines_more numbers (ns ++ said_numbers line.said) kept within, line_kept step said) refl
 
-pub within_both : (n : ℕ) (kept more : List Kept) → AreWithin n kept → AreWithin n more → AreWithin n (kept ++ more)
+pub within_both : (n : ℕ) (kept more : List LineShape) → AreWithin n kept → AreWithin n more → AreWithin n (kept ++ more)
 within_both n [] more within later = later
 within_both n (first ∷ kept) more within later = (within.0, within_both n kept more within.1 later)
 
@@ -146,7 +146,7 @@ call_made regs six =
     ap (λ (xs : List ℕ). ops.Ecall (record { eid = regs.eid; fid = regs.fid; a = xs })) a
 
 -- a line that is put behind others
-pub record IsPut (old new : List ℕ) (line : Line) (kept : Kept) : Type 0 where
+pub record IsPut (old new : List ℕ) (line : Line) (kept : LineShape) : Type 0 where
   pub shape : OpShape
   pub ns : List ℕ
   pub numbers : new ≡ old ++ (ns ++ said_numbers line.said)
@@ -169,7 +169,7 @@ put_from old middle new line shape ns said actor from count first second is_said
       said = rw is_said at said_is;
     }
 
-module _ {old new : List ℕ} {line : Line} {first : Kept} (put : IsPut old new line first) (kept : List Kept) (within : AreWithin (length old) kept) where
+module _ {old new : List ℕ} {line : Line} {first : LineShape} (put : IsPut old new line first) (kept : List LineShape) (within : AreWithin (length old) kept) where
   pub put_lines : lines_of new (kept ++ first ∷ []) ≡ lines_of old kept ++ line ∷ []
   put_lines = rw (put.numbers, put.is) (lines_pushed old line put.shape put.ns kept within put.step put.said)
 

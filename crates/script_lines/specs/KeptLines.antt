@@ -1,7 +1,7 @@
 -- Lines as they are kept.
 use Rattle.std.specs.Prelude.{◌≡◌, ℕ, ◌+◌, ◌<◌, ◌≤◌, List, [], ◌∷◌, take, drop, length, map, Some, is_some}
 use Rattle.std.specs.List.{AllByRecursion}
-use Rattle.script_lines.specs.declared.kept.Kept.{Kept}
+use Rattle.script_lines.specs.declared.line_shape.LineShape.{LineShape}
 use Rattle.script_lines.specs.declared.lines.TheConstants.{MOST_LINES}
 use Rattle.script_lines.specs.declared.plain.Plain.{Plain}
 use Rattle.script_lines.specs.declared.script.Line.{Line}
@@ -12,21 +12,21 @@ abbrev pub part : List ℕ → (from count : ℕ) → List ℕ
 part numbers from count = take count (drop from numbers)
 
 -- the line that is kept so
-abbrev pub line_of : (numbers : List ℕ) → Kept → Line
+abbrev pub line_of : (numbers : List ℕ) → LineShape → Line
 line_of numbers kept = record {
   number = kept.number;
   step = step_made kept.actor kept.op (part numbers kept.from kept.op_count);
   said = said_made kept.said (part numbers (kept.from + kept.op_count) (said_count kept.said));
 }
 
-abbrev pub lines_of : (numbers : List ℕ) → List Kept → List Line
+abbrev pub lines_of : (numbers : List ℕ) → List LineShape → List Line
 lines_of numbers kept = map (line_of numbers) kept
 
 -- a line's numbers stand among so many
-abbrev pub IsWithin : (count : ℕ) → Kept → Type 0
+abbrev pub IsWithin : (count : ℕ) → LineShape → Type 0
 IsWithin count kept = kept.from + (kept.op_count + said_count kept.said) ≤ count
 
-abbrev pub AreWithin : (count : ℕ) → List Kept → Type 0
+abbrev pub AreWithin : (count : ℕ) → List LineShape → Type 0
 AreWithin count kept = AllByRecursion (IsWithin count) kept
 
 -- the line that parts make

@@ -3,7 +3,7 @@ ghost use Rattle.std.specs.Prelude.{◌≡◌, ◌↔◌, true, IfSome, None, le
 ghost use Rattle.script_lines.specs.declared.script.Line.{Line};
 ghost use Rattle.script_lines.specs.KeptLines.{IsWithin, line_of};
 
-use crate::kept::{CUT, Kept, actor};
+use crate::line_shape::{CUT, LineShape, actor};
 use crate::said::Said;
 use crate::script::Line;
 use board_terms::{Actor, Op};
@@ -12,7 +12,7 @@ use std::marker::Model;
 /// A line of a schedule or of a trace, where it is kept: each of its parts is made when it is asked for.
 #[derive(Drop)]
 pub struct KeptLine<'a> {
-    pub(crate) kept: &'a Kept,
+    pub(crate) kept: &'a LineShape,
     pub(crate) numbers: &'a [u64],
 }
 

@@ -1,8 +1,8 @@
 //! The values of scripts, and the lines of schedules and traces as they are kept (profile).
 #![tactic(auto)]
 
-mod kept;
 mod kept_line;
+mod line_shape;
 mod lines;
 mod op_shape;
 mod plain;

@@ -6,8 +6,8 @@ ghost use Rattle.script_lines.specs.declared.lines.LineFault.TheVariants.{BadLin
 ghost use Rattle.script_lines.specs.KeptLines.{AreWithin, CanFollow, IsLike, lines_of, plain_line};
 ghost use Rattle.script_lines.specs.Packing.{FitsKept, StepFits};
 
-use crate::kept::{Kept, actor_number, step_number};
 use crate::kept_line::KeptLine;
+use crate::line_shape::{LineShape, actor_number, step_number};
 use crate::op_shape::{OP_NUMBERS, put_all, put_step};
 use crate::plain::Plain;
 use crate::said_shape::{SAID_NUMBERS, SaidShape};
@@ -61,7 +61,7 @@ fn fits(step: Option<(Actor, Op)>) -> bool
 /// The lines of a schedule or a trace. A line takes 12 bytes, and 8 for each of its numbers.
 #[derive(Debug, Drop)]
 pub struct Lines {
-    kept: Vec<Kept>,
+    kept: Vec<LineShape>,
     numbers: Vec<u64>,
 }
 
@@ -154,7 +154,7 @@ impl Lines {
         let op = put_step(line.step, &mut self.numbers);
         let middle = self.numbers.len();
         let said = SaidShape::put(line.said, &mut self.numbers);
-        self.kept.push_reserved(Kept {
+        self.kept.push_reserved(LineShape {
             number: line.number as u32,
             from: from as u32,
             actor: step_number(line.step),
@@ -189,7 +189,7 @@ impl Lines {
         let count = plain.op.kept_count(numbers);
         put_all(&numbers[..count], &mut self.numbers);
         let said = SaidShape::put(plain.said, &mut self.numbers);
-        self.kept.push_reserved(Kept {
+        self.kept.push_reserved(LineShape {
             number: number as u32,
             from: from as u32,
             actor: actor_number(plain.actor),
@@ -244,7 +244,7 @@ impl Lines {
 /// The lines that are still to come, in their order.
 #[derive(Drop)]
 pub struct LinesIter<'a> {
-    left: &'a [Kept],
+    left: &'a [LineShape],
     numbers: &'a [u64],
 }
 

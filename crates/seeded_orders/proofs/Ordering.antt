@@ -14,7 +14,6 @@ use Rattle.board_core.specs.Replies.{answer, recorded}
 use Rattle.guest_script.specs.Grammar.{Content, guest}
 use Rattle.hart_threads.specs.declared.blocks.Program.{Program}
 use Rattle.hart_threads.specs.declared.ends.End.{End}
-use Rattle.hart_threads.specs.declared.met.Met.{Met}
 use Rattle.hart_threads.specs.declared.met.Met.TheVariants.{Nothing}
 use Rattle.hart_threads.specs.Ends.{IsEnd, IsEndBy}
 use Rattle.hart_threads.specs.Programs.{blocks_of, ticks_of}

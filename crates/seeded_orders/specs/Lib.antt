@@ -1,5 +1,5 @@
 pub mod Steps
 pub mod Ranks
 pub mod Orders
-pub mod Places
 pub mod Choices
+pub mod Inside

@@ -7,7 +7,7 @@ ghost use Rattle.guest_script.specs.Grammar.{content};
 ghost use Rattle.hart_threads.specs.Programs.{IsProgram};
 ghost use Rattle.hart_threads.specs.declared.ends.RunFault.TheVariants.{BadConfig};
 ghost use Rattle.seeded_orders.specs.Orders.{IsTried, met_before, ordered, past_with};
-ghost use Rattle.seeded_orders.specs.Places.{AreAt};
+ghost use Rattle.seeded_orders.specs.Inside.Places.{AreAt};
 ghost use Rattle.seeded_orders.specs.Steps.{steps, task_in, task_of};
 
 use crate::pickers::Picker;

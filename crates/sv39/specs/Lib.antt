@@ -3,8 +3,8 @@ pub mod Pages
 pub mod Paging
 pub mod Leaves
 pub mod Memory
-pub mod Packing
 pub mod Satp
 pub mod Entries
 pub mod Maps
 pub mod Nonzero
+pub mod Inside

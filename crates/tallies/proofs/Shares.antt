@@ -1,5 +1,5 @@
 -- Shares of orders, put together.
-use Rattle.std.proofs.Common.{◌≡◌, ℕ, zero, suc, ◌+◌, ◌-◌, ◌*◌, ◌<◌, ◌≤◌, List, [], ◌∷◌, subst, length, get_or, arith}
+use Rattle.std.proofs.Common.{◌≡◌, ℕ, suc, ◌+◌, ◌-◌, ◌*◌, ◌<◌, ◌≤◌, List, [], ◌∷◌, subst, length, get_or, arith}
 use Rattle.std.specs.Prelude.{min, Result, IfOk}
 use Rattle.board_terms.specs.declared.config.Config.{Config}
 use Rattle.conditions.specs.declared.reading.Condition.{Condition}
@@ -7,7 +7,7 @@ use Rattle.guest_script.specs.Grammar.{Content}
 use Rattle.hart_threads.specs.declared.ends.RunFault.{RunFault}
 use Rattle.tallies.specs.declared.findings.Findings.{Findings}
 use Rattle.tallies.specs.Findings.{AreFoundOf}
-use Rattle.tallies.specs.Shares.{AreShares}
+use Rattle.tallies.specs.Inside.Shares.{AreShares}
 
 shares-given : (c : Config) (content : Content) (conditions : List Condition) (seed : ℕ) (edges : ℕ → ℕ) (i : ℕ) (xs : List (Result Findings RunFault))
     → ((k : ℕ) (d : Result Findings RunFault) → k < length xs → IfOk (get_or xs k d) (AreFoundOf c content conditions seed (edges (i + k)) (edges (i + k + 1))))

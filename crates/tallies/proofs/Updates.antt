@@ -1,5 +1,5 @@
 -- What is told of the items of a list that are written over one by one.
-use Rattle.std.proofs.Common.{◌≡◌, ◌≢◌, ◌⊎◌, ℕ, zero, suc, ◌+◌, ◌<◌, ◌≤◌, List, [], ◌∷◌, refl, ap, subst, sym, ◌∙◌, inl, inr, length, get_or, set, arith}
+use Rattle.std.proofs.Common.{◌≡◌, ◌≢◌, ◌⊎◌, ℕ, zero, suc, ◌+◌, ◌<◌, ◌≤◌, List, [], ◌∷◌, refl, ap, subst, sym, inl, inr, length, get_or, set, arith}
 use Rattle.std.specs.Prelude.{Some, Result, Ok, Err, OnOk, slice_get}
 use Rattle.std.proofs.lemmas.Option.{slice_get-get_or}
 use Rattle.conditions.specs.declared.reading.Condition.{Condition}

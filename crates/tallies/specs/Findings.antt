@@ -1,7 +1,6 @@
 -- What was found of orders of a program (profile).
-use Rattle.std.specs.Prelude.{◌≡◌, ◌≢◌, ℕ, ◌+◌, List, [], ◌∷◌, length, reverse, slice_get, Option, Some, None}
+use Rattle.std.specs.Prelude.{◌≡◌, ◌≢◌, ℕ, ◌+◌, List, [], ◌∷◌, length, reverse, slice_get, Some, None}
 use Rattle.board_terms.specs.declared.config.Config.{Config}
-use Rattle.board_core.specs.History.{Event}
 use Rattle.conditions.specs.declared.reading.Condition.{Condition}
 use Rattle.conditions.specs.declared.rules.Ending.{Ending}
 use Rattle.conditions.specs.declared.rules.Ending.TheVariants as endings

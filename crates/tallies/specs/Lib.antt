@@ -1,3 +1,3 @@
 pub mod Records
 pub mod Findings
-pub mod Shares
+pub mod Inside

@@ -1,12 +1,10 @@
 -- What is asked of many records (profile).
 use Rattle.std.specs.Prelude.{◌≡◌, ◌≢◌, ◌⊎◌, ℕ, suc, ◌-◌, ◌^◌, min, List, [], ◌∷◌, Option, Some, None}
 use Rattle.board_core.specs.History.{Event}
-use Rattle.conditions.specs.declared.patterns.Pattern.{Pattern}
 use Rattle.conditions.specs.declared.rules.Ending.{Ending}
 use Rattle.conditions.specs.declared.rules.Ending.TheVariants as endings
 use Rattle.conditions.specs.declared.rules.Rule.{Rule}
 use Rattle.conditions.specs.declared.rules.Rule.TheVariants.{Never, NeverAfter, OfSome, Each, End, Before}
-use Rattle.conditions.specs.Patterns.{FitsStep}
 use Rattle.conditions.specs.Rules.{Holds}
 use Rattle.hart_threads.specs.declared.ends.End.{End as HowEnded}
 use Rattle.hart_threads.specs.declared.ends.End.TheVariants as ends

@@ -3,7 +3,7 @@ ghost use Rattle.std.specs.Prelude.{◌≡◌, ◌≤◌, ◌<◌, ◌+◌, ◌*
 ghost use Rattle.guest_script.specs.Grammar.{content};
 ghost use Rattle.hart_threads.specs.Programs.{IsProgram};
 ghost use Rattle.tallies.specs.Findings.{AreFound, AreFoundOf};
-ghost use Rattle.tallies.specs.Shares.{AreShares, edge};
+ghost use Rattle.tallies.specs.Inside.Shares.{AreShares, edge};
 
 use crate::findings::Findings;
 use crate::orders::try_orders;

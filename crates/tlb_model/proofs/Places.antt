@@ -14,7 +14,7 @@ use Rattle.std.proofs.lemmas.Nat.{and_le_l, div-add-mod', div-mul-add, leading_t
 use Rattle.std.proofs.lemmas.Nat.Bits.{bit_at-lt, bit_at-trailing_zeros, bit_at-zero, bit_at_above, bit_at_cat_high, bit_at_cat_low, bit_at_clear_other, bit_at_clear_same}
 use Rattle.tlb_model.specs.declared.cache.Numbered.{Numbered}
 use Rattle.tlb_model.specs.Contents.{Contents, filled, is_young}
-use Rattle.tlb_model.specs.Places.{kept, marked, marked_at, seen}
+use Rattle.tlb_model.specs.Inside.Places.{kept, marked, marked_at, seen}
 
 -- a set bit of a word is one of its bits
 bit-below : (a k i : ℕ) → a < 2 ^ k → bit_at a i ≡ 1 → i < k

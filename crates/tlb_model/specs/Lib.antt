@@ -2,5 +2,5 @@ pub mod Fences
 pub mod Entries
 pub mod Words
 pub mod Contents
-pub mod Places
 pub mod Acts
+pub mod Inside

@@ -2,7 +2,7 @@
 ghost use Rattle.std.specs.Prelude.{◌≡◌, ◌-◌, ◌/◌, ◌%◌, ◌<◌, ◌≤◌, ◌^◌, ℕ, Bool, find, length, reverse};
 ghost use Rattle.std.specs.Int.{bit_at};
 ghost use Rattle.tlb_model.specs.Contents.{cleared, empty, fenced, filled, hit};
-ghost use Rattle.tlb_model.specs.Places.{marked};
+ghost use Rattle.tlb_model.specs.Inside.Places.{marked};
 
 use crate::fence::Flush;
 use crate::live::Live;
@@ -55,7 +55,7 @@ pub struct Cache<E> {
 impl<E> Model for Cache<E> {
     ghost use Rattle.std.specs.Prelude.{◌≡◌, length, min};
     ghost use Rattle.tlb_model.specs.Contents.{Contents};
-    ghost use Rattle.tlb_model.specs.Places.{seen};
+    ghost use Rattle.tlb_model.specs.Inside.Places.{seen};
 
     ghost Value = { Contents E };
 

@@ -1,7 +1,7 @@
 //! What of a cache is live, in order.
 ghost use Rattle.std.specs.Prelude.{◌≡◌, length, min, reverse};
 ghost use Rattle.std.specs.Iterator.{YieldsFirst, item_count};
-ghost use Rattle.tlb_model.specs.Places.{seen};
+ghost use Rattle.tlb_model.specs.Inside.Places.{seen};
 
 use crate::cache::Numbered;
 use std::iter::ExactSizeIterator;
@@ -21,7 +21,7 @@ pub struct Live<'a, E> {
 impl<'a, E> Model for Live<'a, E> {
     ghost use Rattle.std.specs.Prelude.{◌≡◌, ◌≤◌, List, length, min, reverse};
     ghost use Rattle.tlb_model.specs.declared.cache.Numbered.{Numbered};
-    ghost use Rattle.tlb_model.specs.Places.{seen};
+    ghost use Rattle.tlb_model.specs.Inside.Places.{seen};
 
     ghost Value = { List (Numbered E) };
 

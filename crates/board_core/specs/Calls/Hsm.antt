@@ -9,7 +9,7 @@ use Rattle.sbi_abi.specs.declared.suspend.SuspendKind.TheVariants.{Retentive, No
 use Rattle.sbi_abi.specs.Errors.{is_success}
 use Rattle.hsm.specs.declared.hart.HartState.{HartState}
 use Rattle.hsm.specs.declared.hart.HartState.TheVariants as states
-use Rattle.hsm.specs.declared.hart.Kept.{Kept}
+use Rattle.hsm.specs.declared.hart.EntryPoint.{EntryPoint}
 use Rattle.hsm.specs.States.{is_stopped, state_number}
 use Rattle.rfence.specs.Turns.{Turn, Stop, Quiet}
 use Rattle.tlb_model.specs.declared.fence.Flush.{Flush}
@@ -71,7 +71,7 @@ started_by_hsm call reply = None
 
 -- A suspend that doesn't return is non-retentive, and says where the hart begins anew; one that waits is retentive, and
 -- the hart returns from its call (SBI 9.4).
-abbrev pub resume_by_hsm : HsmCall → Reply → Option (Write (Option Kept))
+abbrev pub resume_by_hsm : HsmCall → Reply → Option (Write (Option EntryPoint))
 resume_by_hsm (HartSuspend kind addr opaque) Gone = Some (Here (Some (record { addr = addr; opaque = opaque })))
 resume_by_hsm (HartSuspend kind addr opaque) Waiting = Some (Here None)
 resume_by_hsm call reply = None

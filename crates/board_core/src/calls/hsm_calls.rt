@@ -12,7 +12,7 @@ ghost use Rattle.board_terms.specs.declared.op.Op.TheVariants.{Ecall};
 ghost use Rattle.board_terms.specs.Limits.{IsGood};
 ghost use Rattle.board_core.specs.Opening.{Opening, on};
 ghost use Rattle.board_core.specs.Replies.{call_reply};
-ghost use Rattle.board_core.specs.Stands.{HasRoom, IsSized, IsStanding, StandsFor};
+ghost use Rattle.board_core.specs.Inside.Stands.{HasRoom, IsSized, IsStanding, StandsFor};
 
 use super::{failure, success};
 use crate::machine::Machine;

@@ -9,7 +9,7 @@ ghost use Rattle.board_terms.specs.declared.op.Op.TheVariants.{Ecall};
 ghost use Rattle.board_core.specs.Calls.Ipi.{ipi_reply};
 ghost use Rattle.board_core.specs.Returns.{as_reply};
 ghost use Rattle.board_core.specs.Opening.{Opening, on};
-ghost use Rattle.board_core.specs.Stands.{IsSized, StandsFor};
+ghost use Rattle.board_core.specs.Inside.Stands.{IsSized, StandsFor};
 
 use super::{failure, success};
 use crate::machine::Machine;

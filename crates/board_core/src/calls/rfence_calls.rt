@@ -13,7 +13,7 @@ ghost use Rattle.board_core.specs.History.{Event, by_hart};
 ghost use Rattle.board_terms.specs.declared.op.Op.TheVariants.{Ecall};
 ghost use Rattle.board_terms.specs.Limits.{IsGood};
 ghost use Rattle.board_core.specs.Opening.{Opening, on, place_after};
-ghost use Rattle.board_core.specs.Stands.{IsSized, IsStanding, StandsFor};
+ghost use Rattle.board_core.specs.Inside.Stands.{IsSized, IsStanding, StandsFor};
 
 use super::failure;
 use crate::machine::Machine;

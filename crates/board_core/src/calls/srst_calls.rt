@@ -11,13 +11,13 @@ ghost use Rattle.board_core.specs.Opening.{Opening, on};
 ghost use Rattle.board_core.specs.Calls.Srst.{srst_reply};
 ghost use Rattle.board_core.specs.Returns.{as_reply};
 ghost use Rattle.board_core.specs.Resets.{begins_anew, is_cold, is_shutdown};
-ghost use Rattle.board_core.specs.Stands.{IsSized, IsStanding, StandsFor};
+ghost use Rattle.board_core.specs.Inside.Stands.{IsSized, IsStanding, StandsFor};
 
 use super::failure;
 use crate::counts::Counts;
 use crate::machine::Machine;
 use board_terms::{Config, Reply};
-use hsm::Kept;
+use hsm::EntryPoint;
 use sbi_abi::call::SrstCall;
 use sbi_abi::{Reset, ResetKind};
 
@@ -65,11 +65,11 @@ fn is_cold(kind: ResetKind) -> bool
 }
 
 /// What the boot hart begins with, if it does.
-fn boot(config: &Config, begins: bool) -> Option<Kept>
+fn boot(config: &Config, begins: bool) -> Option<EntryPoint>
     ensures { result ≡ (if begins then Some
         (record { addr = config.now.boot_addr; opaque = config.now.boot_opaque }) else None) }
 {
-    begins.then_some(Kept {
+    begins.then_some(EntryPoint {
         addr: config.boot_addr,
         opaque: config.boot_opaque,
     })

@@ -9,7 +9,7 @@ ghost use Rattle.board_terms.specs.declared.op.Op.TheVariants.{Ecall};
 ghost use Rattle.board_core.specs.Calls.Time.{time_reply};
 ghost use Rattle.board_core.specs.Returns.{as_reply};
 ghost use Rattle.board_core.specs.Opening.{Opening};
-ghost use Rattle.board_core.specs.Stands.{StandsFor};
+ghost use Rattle.board_core.specs.Inside.Stands.{StandsFor};
 
 use super::success;
 use crate::machine::Machine;

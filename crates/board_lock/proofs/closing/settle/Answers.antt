@@ -3,9 +3,9 @@ use Rattle.std.specs.Vec.Iter.{into_iter_items}
 use mathlib.Core.List.{IsPrefix}
 use Rattle.board_core.specs.History.{Event}
 use Rattle.board_lock.specs.Events.{events_in, events_of, ops_of}
-use Rattle.board_lock.specs.Kept.{count_of}
+use Rattle.board_lock.specs.Inside.Kept.{count_of}
 use Rattle.board_lock.specs.Seats.{Sitting, sitting}
-use Rattle.board_lock.specs.Settling.{IsSettling, Knows, Looked, Within, counts}
+use Rattle.board_lock.specs.Inside.Settling.{IsSettling, Knows, Looked, Within, counts}
 use Rattle.board_lock.proofs.Ops.{ops-same}
 use Rattle.board_lock.proofs.Sums.{closes, equal-at, known-at, looked-at, saw-within, settling-more}
 use Rattle.board_lock.proofs.closing.settle.Goals as goal

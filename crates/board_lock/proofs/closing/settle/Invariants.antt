@@ -1,6 +1,6 @@
 use Rattle.std.proofs.Common.{◌≡◌, ◌++◌, length}
 use Rattle.std.specs.Vec.Iter.{into_iter_items, into_iter_len}
-use Rattle.board_lock.specs.Settling.{IsSettling}
+use Rattle.board_lock.specs.Inside.Settling.{IsSettling}
 use Rattle.board_lock.proofs.closing.settle.Given as goal
 
 abbrev pub invariant-loop-seat : goal.invariant-loop-seat

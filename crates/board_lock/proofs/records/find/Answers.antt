@@ -1,6 +1,6 @@
 use Rattle.std.proofs.Common.{◌≡◌, ℕ, ◌+◌, ◌-◌, ◌++◌, length, get_or, ap, sym, ◌∙◌, arith}
 use mathlib.Core.List.{IsPrefix}
-use Rattle.board_lock.specs.Kept.{count_of}
+use Rattle.board_lock.specs.Inside.Kept.{count_of}
 use Rattle.board_lock.specs.Receipts.{Told}
 use Rattle.board_lock.proofs.Places.{member, within}
 use Rattle.board_lock.proofs.records.find.Goals as goal

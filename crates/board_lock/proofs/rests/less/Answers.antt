@@ -1,7 +1,7 @@
 use Rattle.std.proofs.Common.{◌≡◌, [], List, ℕ, ap, subst, sym, ◌∙◌, rules}
 use Rattle.hart_mask.specs.Ids.{IsIdSet}
 use Rattle.hart_mask.proofs.Sets.{IsIdSet-ids_where}
-use Rattle.board_lock.specs.Rests.{less}
+use Rattle.board_lock.specs.Inside.Rests.{less}
 use Rattle.board_lock.proofs.Sifting.{less-none, less-one}
 use Rattle.board_lock.proofs.rests.less.Goals as goal
 

@@ -1,6 +1,6 @@
 use Rattle.std.proofs.Common.{◌≡◌, length}
 use Rattle.hart_mask.specs.Ids.{IsIdSet}
-use Rattle.board_lock.specs.Rests.{less}
+use Rattle.board_lock.specs.Inside.Rests.{less}
 use Rattle.board_lock.proofs.rests.less.Given as goal
 
 abbrev pub invariant-loop-h : goal.invariant-loop-h

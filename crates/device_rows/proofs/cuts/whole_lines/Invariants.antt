@@ -1,4 +1,4 @@
-use Rattle.std.proofs.Common.{ℕ, length}
+use Rattle.std.proofs.Common.{length}
 use Rattle.device_rows.proofs.cuts.whole_lines.Given as goal
 
 abbrev pub decreases-loop-front : goal.decreases-loop-front

@@ -1,5 +1,5 @@
 use Rattle.std.proofs.Common.{◌≡◌, drop}
-use Rattle.guest_script.specs.Scanning.{digits_after}
+use Rattle.guest_script.specs.Inside.Scanning.{digits_after}
 use Rattle.guest_script.proofs.number.numeral.Given as goal
 
 abbrev pub invariant-loop-digit : goal.invariant-loop-digit

@@ -1,5 +1,5 @@
 use Rattle.std.proofs.Common.{length, ◌≤◌}
-use Rattle.guest_script.specs.PlainLines.{BeginsNumbers}
+use Rattle.guest_script.specs.Inside.PlainLines.{BeginsNumbers}
 use Rattle.guest_script.proofs.plain.plain_numbers.Given as goal
 
 abbrev pub invariant-loop-rest : goal.invariant-loop-rest

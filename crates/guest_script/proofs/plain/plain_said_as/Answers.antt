@@ -1,8 +1,8 @@
-use Rattle.std.proofs.Common.{inr, sym, ◌∙◌}
+use Rattle.std.proofs.Common.{◌∷◌, ◌++◌, inr, refl, sym, ◌∙◌}
 use Rattle.script_lines.specs.declared.said.Said.TheVariants.{Done}
 use Rattle.guest_script.specs.Forms.{said_form_of}
 use Rattle.guest_script.specs.Reading.{said_spelling}
-use Rattle.guest_script.proofs.PlainParts.{named_begins}
+use Rattle.guest_script.proofs.PlainParts.{behind_blank, named_begins}
 use Rattle.guest_script.proofs.PlainShapes.{said_makes}
 use Rattle.guest_script.proofs.plain.plain_said_as.Goals as goal
 
@@ -11,8 +11,9 @@ returns-clause-said c =
     let name = c.args.name in
     let ns = c.plain_places.new.numbers.items in
     let made = sym (rw (c.plain_said_shape.ensures, c.deref.ensures.0) at c.said.ensures) ∙ c.in_ok-said.was in
+    let begun = said_spelling name ++ c.in_ok-rest.rest.now in
     let named =
-    named_begins said_form_of Done c.args.bytes.now
-    (said_spelling name) c.in_ok-rest.rest.now c.places.result ns c.in_ok-rest-2.rest.now c.in_ok-said.said c.in_ok-rest.ensures.name c.places.ensures.form
+    named_begins said_form_of Done begun
+    (said_spelling name) c.in_ok-rest.rest.now c.places.result ns c.in_ok-rest-2.rest.now c.in_ok-said.said refl c.places.ensures.form
     c.in_ok-rest-2.ensures.any c.in_ok-rest-2.ensures.numbers c.in_ok-rest-2.ensures.least c.in_ok-rest-2.ensures.most (said_makes name ns c.in_ok-said.said made) in
-    (named.0, named.1, inr named.2)
+    (said_spelling name ∷ named.0, c.in_ok-rest.ensures.name ∙ behind_blank begun (said_spelling name) named.0 c.in_ok-rest-2.rest.now named.1, inr named.2)

@@ -1,5 +1,5 @@
 use Rattle.std.proofs.Common.{◌+◌, ◌≤◌, length}
-use Rattle.guest_script.specs.Drafts.{steps_of}
+use Rattle.guest_script.specs.Inside.Drafts.{steps_of}
 use Rattle.guest_script.specs.Reading.{GoesOn}
 use Rattle.guest_script.proofs.plain.read_plain_lines.Given as goal
 

@@ -1,5 +1,5 @@
 use Rattle.std.proofs.Common.{◌≡◌, ◌+◌, drop}
-use Rattle.guest_script.specs.Scanning.{word_length}
+use Rattle.guest_script.specs.Inside.Scanning.{word_length}
 use Rattle.guest_script.proofs.words.word_len.Given as goal
 
 abbrev pub invariant-loop-i : goal.invariant-loop-i

@@ -1,4 +1,4 @@
-use Rattle.hart_threads.specs.Works.{Task, task}
+use Rattle.hart_threads.specs.Inside.Works.{Task, task}
 use Rattle.hart_threads.proofs.Steps.{worked-later}
 use Rattle.hart_threads.proofs.clock.tick.Goals as goal
 

@@ -1,7 +1,7 @@
 use Rattle.std.proofs.Common.{◌+◌, ap, sym, subst, ◌∙◌}
 use Rattle.board_lock.specs.Seats.{Sitting}
 use Rattle.hart_threads.specs.declared.met.Met.{Met}
-use Rattle.hart_threads.specs.Works.{Task, WorkedAt, task}
+use Rattle.hart_threads.specs.Inside.Works.{Task, WorkedAt, task}
 use Rattle.hart_threads.proofs.Steps.{clock-done, clock-refused}
 use Rattle.hart_threads.proofs.Ticking.{first-of, next-tick, one-more}
 use Rattle.hart_threads.proofs.clock.tick_all.Goals as goal

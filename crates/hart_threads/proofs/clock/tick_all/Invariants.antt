@@ -1,7 +1,7 @@
 use Rattle.std.specs.Prelude.{◌≡◌, map, reverse, take}
 use Rattle.board_terms.specs.declared.op.Actor.TheVariants.{Clock}
 use Rattle.board_terms.specs.declared.op.Op.TheVariants.{Tick}
-use Rattle.hart_threads.specs.Works.{IsAtWork, task}
+use Rattle.hart_threads.specs.Inside.Works.{IsAtWork, task}
 use Rattle.hart_threads.proofs.clock.tick_all.Given as goal
 
 abbrev pub invariant-loop-n : goal.invariant-loop-n

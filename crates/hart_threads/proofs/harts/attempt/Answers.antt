@@ -6,7 +6,7 @@ use Rattle.guest_script.specs.Grammar.{Guest}
 use Rattle.hart_threads.specs.declared.met.Met.{Met}
 use Rattle.hart_threads.specs.Guests.{IsLeft, left_of}
 use Rattle.hart_threads.specs.Met.{met_by_refusal}
-use Rattle.hart_threads.specs.Works.{Goes, Task, task}
+use Rattle.hart_threads.specs.Inside.Works.{Goes, Task, task}
 use Rattle.hart_threads.proofs.Steps.{looked, refused-going}
 use Rattle.hart_threads.proofs.Working.{Tells, done-going}
 use Rattle.hart_threads.proofs.harts.attempt.Goals as goal

@@ -4,7 +4,7 @@ use Rattle.board_lock.specs.Seats.{Sitting}
 use Rattle.hart_threads.specs.declared.met.Met.{Met}
 use Rattle.hart_threads.specs.declared.met.Met.TheVariants.{Nothing}
 use Rattle.hart_threads.specs.Guests.{left_of}
-use Rattle.hart_threads.specs.Works.{Goes, Task, WorkedAt, task}
+use Rattle.hart_threads.specs.Inside.Works.{Goes, Task, WorkedAt, task}
 use Rattle.hart_threads.proofs.Steps.{fresh-going, looked, met-nothing, rested, view-turn}
 use Rattle.hart_threads.proofs.harts.follow.Goals as goal
 use Rattle.hart_threads.proofs.harts.follow.Goals.{in-None, in-Some+in_default+in_default-rest_for}

@@ -1,5 +1,5 @@
 use Rattle.std.proofs.Common.{◌≡◌, length}
-use Rattle.rfence.specs.Marks.{CanAsk, requested}
+use Rattle.rfence.specs.Inside.Marks.{CanAsk, requested}
 use Rattle.rfence.proofs.calls.ask_each.Given as goal
 
 abbrev pub invariant-loop-t : goal.invariant-loop-t

@@ -1,5 +1,5 @@
 use Rattle.std.proofs.Common.{ap, arith, length}
-use Rattle.rfence.specs.Marks.{forgotten}
+use Rattle.rfence.specs.Inside.Marks.{forgotten}
 use Rattle.rfence.proofs.Changes.{mapped-more}
 use Rattle.rfence.proofs.calls.forget_all.Goals as goal
 

@@ -1,5 +1,5 @@
 use Rattle.std.proofs.Common.{◌≡◌, ◌++◌, drop, map, take}
-use Rattle.rfence.specs.Marks.{forgotten}
+use Rattle.rfence.specs.Inside.Marks.{forgotten}
 use Rattle.rfence.proofs.calls.forget_all.Given as goal
 
 abbrev pub invariant-loop-call : goal.invariant-loop-call

@@ -1,5 +1,5 @@
 use Rattle.std.proofs.Common.{◌∙◌, refl, subst}
-use Rattle.sbiboard.specs.Fitting.{AllFit}
+use Rattle.sbiboard.specs.Inside.Fitting.{AllFit}
 use Rattle.sbiboard.specs.Running.{answer_to}
 use Rattle.sbiboard.proofs.ReadLines.{all_fit-more}
 use Rattle.sbiboard.proofs.Replayed.{has_done-more, has_done-none, replaying-more, replaying-none, stopped_at_cut}

@@ -1,5 +1,5 @@
 use Rattle.std.proofs.Common.{◌≡◌}
-use Rattle.sbiboard.specs.Fitting.{AllFit}
+use Rattle.sbiboard.specs.Inside.Fitting.{AllFit}
 use Rattle.sbiboard.proofs.Replayed.{HasDone, Replaying}
 use Rattle.sbiboard.proofs.replaying.print_lines.Given as goal
 

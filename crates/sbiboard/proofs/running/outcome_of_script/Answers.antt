@@ -1,6 +1,6 @@
 use Rattle.std.proofs.Common.{Err, sym, ap}
 use Rattle.guest_script.specs.Grammar.{written}
-use Rattle.sbiboard.specs.Jobs.{Does, lines_for}
+use Rattle.sbiboard.specs.Inside.Jobs.{Does, lines_for}
 use Rattle.sbiboard.specs.declared.outcome.Outcome.TheVariants.{BadBoard}
 use Rattle.sbiboard.proofs.Stopped.{bad_board, writes_stopped}
 use Rattle.sbiboard.proofs.ReadLines.{are_read}

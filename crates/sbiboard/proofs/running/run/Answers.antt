@@ -1,4 +1,4 @@
-use Rattle.sbiboard.specs.Jobs.{Does, lines_for}
+use Rattle.sbiboard.specs.Inside.Jobs.{Does, lines_for}
 use Rattle.sbiboard.proofs.Stopped.{known_fault}
 use Rattle.sbiboard.proofs.running.run.Goals as goal
 

@@ -1,6 +1,6 @@
 use Rattle.std.proofs.Common.{◌≡◌, ◌-◌}
 use Rattle.seeded_orders.specs.Orders.{ordered}
-use Rattle.seeded_orders.specs.Places.{AreAt}
+use Rattle.seeded_orders.specs.Inside.Places.{AreAt}
 use Rattle.seeded_orders.specs.Steps.{task_in}
 use Rattle.seeded_orders.proofs.orders.follow.Given as goal
 

@@ -7,7 +7,7 @@ use Rattle.hart_threads.specs.declared.ends.End.{End}
 use Rattle.hart_threads.specs.declared.met.Met.{Met}
 use Rattle.hart_threads.specs.Ends.{IsEnd, IsEndBy}
 use Rattle.seeded_orders.specs.Orders.{met_before, ordered, picker_of}
-use Rattle.seeded_orders.specs.Places.{AreAt}
+use Rattle.seeded_orders.specs.Inside.Places.{AreAt}
 use Rattle.seeded_orders.specs.Steps.{steps, task_in, Task}
 use Rattle.seeded_orders.proofs.Ordering.{if-both, order-is-tried}
 use Rattle.seeded_orders.proofs.orders.follow_anew.Goals as goal

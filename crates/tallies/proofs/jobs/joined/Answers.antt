@@ -5,7 +5,7 @@ use Rattle.guest_script.specs.Grammar.{content, Content}
 use Rattle.hart_threads.specs.declared.ends.RunFault.{RunFault}
 use Rattle.tallies.specs.declared.findings.Findings.{Findings}
 use Rattle.tallies.specs.Findings.{AreFoundOf}
-use Rattle.tallies.specs.Shares.{AreShares, edge}
+use Rattle.tallies.specs.Inside.Shares.{AreShares, edge}
 use Rattle.tallies.proofs.Finding.{found-both}
 use Rattle.tallies.proofs.jobs.joined.Goals as goal
 

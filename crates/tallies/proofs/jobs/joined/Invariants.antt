@@ -2,7 +2,7 @@ use Rattle.std.proofs.Common.{◌≡◌, ℕ, ◌+◌, length}
 use Rattle.std.specs.Vec.Iter.{into_iter_items, into_iter_len}
 use Rattle.guest_script.specs.Grammar.{content}
 use Rattle.tallies.specs.Findings.{AreFoundOf}
-use Rattle.tallies.specs.Shares.{AreShares, edge}
+use Rattle.tallies.specs.Inside.Shares.{AreShares, edge}
 use Rattle.tallies.proofs.jobs.joined.Given as goal
 
 abbrev pub invariant-loop-tried : goal.invariant-loop-tried

@@ -1,7 +1,7 @@
-use Rattle.std.proofs.Common.{◌≡◌, ◌<◌, ◌*◌, ◌-◌, ◌/◌, ◌+◌, ℕ, List, length, subst, sym, ◌∙◌}
+use Rattle.std.proofs.Common.{◌≡◌, ◌<◌, ◌*◌, ◌-◌, ◌/◌, ◌+◌, ℕ, length, subst, sym}
 use Rattle.std.proofs.Math.Nat.{lt-mul-div-succ}
 use Rattle.guest_script.specs.Grammar.{content}
-use Rattle.tallies.specs.Shares.{edge}
+use Rattle.tallies.specs.Inside.Shares.{edge}
 use Rattle.tallies.proofs.Shares.{shares-all}
 use Rattle.tallies.proofs.jobs.try_in_jobs.Goals as goal
 

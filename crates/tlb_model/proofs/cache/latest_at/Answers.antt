@@ -2,7 +2,7 @@ use Rattle.std.proofs.Common.{◌≡◌, ◌-◌, ◌%◌, ◌*◌, ◌^◌, ◌
 use Rattle.std.specs.Int.Count.{count_leading_zeros}
 use Rattle.std.proofs.lemmas.Nat.Bits.{bit_at-zero}
 use Rattle.std.proofs.lemmas.Option.{slice_get-get_or}
-use Rattle.tlb_model.specs.Places.{marked}
+use Rattle.tlb_model.specs.Inside.Places.{marked}
 use Rattle.tlb_model.proofs.Places.{last-bit, marked-last, marked-none}
 use Rattle.tlb_model.proofs.cache.latest_at.Goals as goal
 

@@ -1,5 +1,5 @@
 use Rattle.std.proofs.Common.{◌≡◌, ◌^◌, ◌<◌, find, length}
-use Rattle.tlb_model.specs.Places.{marked}
+use Rattle.tlb_model.specs.Inside.Places.{marked}
 use Rattle.tlb_model.proofs.cache.latest_at.Given as goal
 
 abbrev pub invariant-loop-left : goal.invariant-loop-left

@@ -2,7 +2,7 @@ use Rattle.std.proofs.Common.{◌≡◌, [], refl, ap, sym, ◌∙◌, subst}
 use Rattle.std.specs.Prelude.{Some}
 use Rattle.board_core.specs.Cuts.{opened_by}
 use Rattle.board_core.specs.Opening.{Opening}
-use Rattle.board_core.specs.Stands.{IsKept, StandsFor}
+use Rattle.board_core.specs.Inside.Stands.{IsKept, StandsFor}
 use Rattle.board_core.proofs.board.Board.at.Goals as goal
 
 pub invariant_of-result : goal.invariant_of-result

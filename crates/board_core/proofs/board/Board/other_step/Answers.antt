@@ -4,7 +4,7 @@ use Rattle.board_core.specs.Accesses.{used_by_access}
 use Rattle.board_terms.specs.declared.op.Actor.TheVariants.{Hart}
 use Rattle.board_core.specs.History.{Event, by_hart}
 use Rattle.board_core.specs.Course.{Course}
-use Rattle.board_core.specs.Keeping.{IsShort}
+use Rattle.board_core.specs.Inside.Keeping.{IsShort}
 use Rattle.board_core.specs.Refusals.{IsAccepted, first_that_holds, is_full, refusals_in, situation}
 use Rattle.board_core.specs.Replies.{answer, stepped}
 use Rattle.board_core.specs.Resets.{is_off}

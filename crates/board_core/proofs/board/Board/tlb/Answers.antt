@@ -2,7 +2,7 @@ use Rattle.std.proofs.Common.{ap, ◌∙◌, arith}
 use Rattle.std.proofs.lemmas.List.{get_or_default}
 use Rattle.tlb_model.specs.declared.caches.Caches.{Caches}
 use Rattle.board_core.specs.Course.{Course}
-use Rattle.board_core.specs.Stands.{no_caches}
+use Rattle.board_core.specs.Inside.Stands.{no_caches}
 use Rattle.board_core.proofs.Reading.{caches-read, length-caches}
 use Rattle.board_core.proofs.board.Board.tlb.Goals as goal
 

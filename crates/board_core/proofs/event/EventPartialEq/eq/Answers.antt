@@ -1,5 +1,5 @@
 use Rattle.std.proofs.Common.{◌∙◌, sym, ap}
-use Rattle.board_core.specs.Keeping.{first_of, what_of, head_of, opaque_of}
+use Rattle.board_core.specs.Inside.Keeping.{first_of, what_of, head_of, opaque_of}
 use Rattle.board_core.specs.History.{Event}
 use Rattle.board_core.proofs.event.EventPartialEq.eq.Goals as goal
 

@@ -1,9 +1,9 @@
 use Rattle.std.proofs.Common.{◌∷◌, sym, ◌∙◌, arith, subst}
 use Rattle.board_terms.specs.declared.op.Actor.TheVariants.{Hart}
 use Rattle.board_core.specs.History.{Event}
-use Rattle.board_core.specs.Keeping.{IsShort}
+use Rattle.board_core.specs.Inside.Keeping.{IsShort}
 use Rattle.board_core.specs.Opening.{on}
-use Rattle.board_core.specs.Stands.{StandsFor}
+use Rattle.board_core.specs.Inside.Stands.{StandsFor}
 use Rattle.board_core.proofs.Room.{replies_are_short}
 use Rattle.board_core.proofs.Steps.{recorded_as}
 use Rattle.board_core.proofs.machine.Machine.hart_event.Goals as goal

@@ -1,6 +1,6 @@
 use Rattle.std.proofs.Common.{sym, ◌∙◌, refl, ap}
 use Rattle.std.proofs.lemmas.Bool.{lt-leb}
-use Rattle.hsm.specs.declared.hart.Kept.{Kept}
+use Rattle.hsm.specs.declared.hart.EntryPoint.{EntryPoint}
 use Rattle.hsm.specs.Harts.{Hart}
 use Rattle.hsm.specs.States.{is_stopped}
 use Rattle.hsm.specs.Transitions.{changed, hart_at, started_from}
@@ -30,7 +30,7 @@ returns-then-not-is_start_address-clause-after c = λ x o past regs is stands.
 pub returns-in-Ok-clause-answered : goal.returns-in-Ok-clause-answered
 returns-in-Ok-clause-answered c = λ x o past stands.
     let m = c.args.self.now in
-    let start : Kept = record { addr = c.args.addr; opaque = c.args.opaque } in
+    let start : EntryPoint = record { addr = c.args.addr; opaque = c.args.opaque } in
     let is = ap (λ (hart : Hart). hart.state) (hart_at-stand (on c.args.config.now o) past m.hsm stands.harts c.args.t c.if-t-config.false) in
     let stopped = sym is ∙ started_stopped start (hart_at m.hsm c.args.t).state c.in-Ok.ensures.answer in
     rw (lt-leb c.args.config.now.harts c.args.t c.if-t-config.false, ← c.if-not-is_start_address.ensures, stopped) c.success.ensures
@@ -39,7 +39,7 @@ pub returns-in-Ok-clause-after : goal.returns-in-Ok-clause-after
 returns-in-Ok-clause-after c = λ x o past regs is stands.
     let opening = on c.args.config.now o in
     let m = c.args.self.now in
-    let start : Kept = record { addr = c.args.addr; opaque = c.args.opaque } in
+    let start : EntryPoint = record { addr = c.args.addr; opaque = c.args.opaque } in
     let call = Hsm (HartStart c.args.t c.args.addr c.args.opaque) in
     let event = by_hart x (Ecall regs) (Ret (success 0)) in
     let d = deed_of_call opening past x call (Ret (success 0)) in
@@ -55,7 +55,7 @@ returns-in-Ok-clause-after c = λ x o past regs is stands.
 pub returns-in-Err-clause-answered : goal.returns-in-Err-clause-answered
 returns-in-Err-clause-answered c = λ x o past stands.
     let m = c.args.self.now in
-    let start : Kept = record { addr = c.args.addr; opaque = c.args.opaque } in
+    let start : EntryPoint = record { addr = c.args.addr; opaque = c.args.opaque } in
     let is = ap (λ (hart : Hart). hart.state) (hart_at-stand (on c.args.config.now o) past m.hsm stands.harts c.args.t c.if-t-config.false) in
     let other = unstarted_not_stopped start (hart_at m.hsm c.args.t).state c.in-Err.ensures.answer in
     let not_stopped = sym (ap is_stopped is) ∙ other in
@@ -65,7 +65,7 @@ pub returns-in-Err-clause-after : goal.returns-in-Err-clause-after
 returns-in-Err-clause-after c = λ x o past regs is stands.
     let opening = on c.args.config.now o in
     let m = c.args.self.now in
-    let start : Kept = record { addr = c.args.addr; opaque = c.args.opaque } in
+    let start : EntryPoint = record { addr = c.args.addr; opaque = c.args.opaque } in
     let call = Hsm (HartStart c.args.t c.args.addr c.args.opaque) in
     let reply = Ret (failure AlreadyAvailable) in
     let same = c.start.ensures.after ∙ ap (changed m.hsm c.args.t) (unstarted_same start (hart_at m.hsm c.args.t).state c.in-Err.ensures.answer) in

@@ -6,7 +6,7 @@ use Rattle.tlb_model.specs.Entries.{covers_entry}
 use Rattle.tlb_model.specs.Fences.{fence_of_address}
 use Rattle.tlb_model.specs.Words.{covers_word}
 use Rattle.board_terms.specs.Limits.{spaces_of}
-use Rattle.board_core.specs.Stands.{caches_at, satp_at, situation_in}
+use Rattle.board_core.specs.Inside.Stands.{caches_at, satp_at, situation_in}
 use Rattle.std.specs.Vec.{with_items}
 use Rattle.rfence.specs.Turns as fence_turns
 use Rattle.board_core.specs.Fences.{turns}

@@ -2,7 +2,7 @@ use Rattle.std.proofs.Common.{◌≡◌, ◌∙◌, arith, ap, refl, subst}
 use Rattle.std.specs.Prelude.{Ok}
 use Rattle.sbi_abi.specs.declared.answer.SbiError.TheVariants.{InvalidParam}
 use Rattle.sbi_abi.specs.declared.call.Call.TheVariants.{Rfence}
-use Rattle.rfence.specs.HartCaches.{dropped_of, emptied_of}
+use Rattle.rfence.specs.Inside.HartCaches.{dropped_of, emptied_of}
 use Rattle.rfence.specs.Right.{IsRightTurn}
 use Rattle.rfence.specs.State.{AreAffected, IsTakenAt}
 use Rattle.rfence.specs.Turns.{Ask}

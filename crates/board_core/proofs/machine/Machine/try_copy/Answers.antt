@@ -1,7 +1,7 @@
 use Rattle.std.proofs.Common.{ap, sym, subst, ◌∙◌}
 use Rattle.sv39.specs.Memory.{pages_of, word_in}
 use Rattle.rfence.specs.Cuts as fence_cuts
-use Rattle.board_core.specs.Stands.{FencesStand, HartsStand, InterruptsStand}
+use Rattle.board_core.specs.Inside.Stands.{FencesStand, HartsStand, InterruptsStand}
 use Rattle.board_core.proofs.machine.Machine.try_copy.Goals as goal
 
 -- a copy stands for what the machine stands for

@@ -4,7 +4,7 @@ use Rattle.board_terms.specs.declared.op.Actor.{Actor}
 use Rattle.board_terms.specs.declared.op.Actor.TheVariants.{Hart}
 use Rattle.board_core.specs.Opening.{Opening}
 use Rattle.board_core.specs.Refusals.{IsAccepted, situation}
-use Rattle.board_core.specs.Stands.{StandsFor}
+use Rattle.board_core.specs.Inside.Stands.{StandsFor}
 use Rattle.board_core.specs.Taking.{event_with, refusal_at, reply_at}
 use Rattle.board_core.proofs.Rows.{unrefused}
 use Rattle.board_core.proofs.Situations.{situation-read}

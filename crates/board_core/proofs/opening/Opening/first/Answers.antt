@@ -1,6 +1,6 @@
 use Rattle.std.proofs.Common.{[], subst, sym}
 use Rattle.board_core.specs.Opening.{Opening}
-use Rattle.board_core.specs.Stands.{IsKept, StandsFor}
+use Rattle.board_core.specs.Inside.Stands.{IsKept, StandsFor}
 use Rattle.board_core.proofs.Firsts.{first-in, first-kept}
 use Rattle.board_core.proofs.opening.Opening.first.Goals as goal
 

@@ -1,7 +1,7 @@
 use Rattle.std.proofs.Common.{[], ◌∷◌, subst, ap, sym, ◌∙◌}
 use Rattle.board_core.specs.Cuts.{opening_in, opening_of}
 use Rattle.board_core.specs.Opening.{Opening}
-use Rattle.board_core.specs.Stands.{IsKept, StandsFor}
+use Rattle.board_core.specs.Inside.Stands.{IsKept, StandsFor}
 use Rattle.board_core.proofs.Leaving.{left-by, stepped-to}
 use Rattle.board_core.proofs.opening.Opening.taken.Goals as goal
 

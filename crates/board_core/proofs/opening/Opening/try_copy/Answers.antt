@@ -1,7 +1,7 @@
 use Rattle.std.proofs.Common.{[], sym, ◌∙◌, subst}
 use Rattle.board_core.specs.Cuts.{opening_in}
 use Rattle.board_core.specs.Opening.{Opening}
-use Rattle.board_core.specs.Stands.{IsKept, StandsFor}
+use Rattle.board_core.specs.Inside.Stands.{IsKept, StandsFor}
 use Rattle.board_core.proofs.opening.Opening.try_copy.Goals as goal
 
 pub invariant_of-result : goal.invariant_of-result

@@ -7,9 +7,9 @@ use Rattle.board_terms.specs.declared.op.Op.{Op}
 use Rattle.board_core.specs.History.{Event}
 use Rattle.board_core.specs.Opening.{Opening}
 use Rattle.board_lock.specs.Events.{events_in, events_of, ops_of}
-use Rattle.board_lock.specs.Kept.{IsTold, count_of, number_of}
+use Rattle.board_lock.specs.Inside.Kept.{IsTold, count_of, number_of}
 use Rattle.board_lock.specs.Receipts.{told}
-use Rattle.board_lock.specs.Rests.{Held}
+use Rattle.board_lock.specs.Inside.Rests.{Held}
 use Rattle.board_lock.specs.Seats.{Sitting}
 use Rattle.board_lock.proofs.Actors.{number-within, same-itself}
 use Rattle.board_lock.proofs.Ops.{ops-more, ops-same}

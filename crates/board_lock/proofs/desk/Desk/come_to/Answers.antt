@@ -1,5 +1,5 @@
 use Rattle.std.proofs.Common.{◌≡◌, ℕ, [], List, subst, sym, ◌∙◌, rules}
-use Rattle.board_lock.specs.Waking.{comes_to}
+use Rattle.board_lock.specs.Inside.Waking.{comes_to}
 use Rattle.board_lock.proofs.Sifting.{Sifts, below-rest, has-first, sifts-all, sifts-in, sifts-none, sifts-out}
 use Rattle.board_lock.proofs.desk.Desk.come_to.Goals as goal
 

@@ -1,6 +1,6 @@
 use Rattle.std.proofs.Common.{◌≡◌, ℕ, ◌<◌, true, length}
 use Rattle.hart_mask.specs.Ids.{has}
-use Rattle.board_lock.specs.Waking.{comes_to}
+use Rattle.board_lock.specs.Inside.Waking.{comes_to}
 use Rattle.board_lock.proofs.Sifting.{Sifts}
 use Rattle.board_lock.proofs.desk.Desk.come_to.Given as goal
 

@@ -1,7 +1,7 @@
 use Rattle.std.proofs.Common.{◌≡◌, ap, sym, subst, ◌∙◌}
 use Rattle.board_terms.specs.declared.config.Config.{Config}
 use Rattle.board_core.specs.Opening.{Opening}
-use Rattle.board_lock.specs.Rests.{IsRests}
+use Rattle.board_lock.specs.Inside.Rests.{IsRests}
 use Rattle.board_lock.proofs.Resting.{desk-rests, one-rests}
 use Rattle.board_lock.proofs.desk.Desk.stay.Goals as goal
 

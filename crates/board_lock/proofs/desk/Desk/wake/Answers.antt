@@ -3,8 +3,8 @@ use Rattle.std.specs.Prelude.{◌&&◌, ◌||◌}
 use Rattle.hart_mask.specs.Ids.{has, ids_where, intersection_of, union_of}
 use Rattle.hart_mask.proofs.Sets.{passes-ids_where}
 use Rattle.board_terms.specs.declared.config.Config.{Config}
-use Rattle.board_lock.specs.Rests.{Held, IsRests, awake, held}
-use Rattle.board_lock.specs.Waking.{comes_to, concerned, woken}
+use Rattle.board_lock.specs.Inside.Rests.{Held, IsRests, awake, held}
+use Rattle.board_lock.specs.Inside.Waking.{comes_to, concerned, woken}
 use Rattle.board_lock.specs.declared.rests.Rests.{Rests}
 use Rattle.board_lock.specs.declared.rests.Woken.{Woken}
 use Rattle.board_lock.proofs.Resting.{and-left, desk-rests, fewer-rest, none-wakes, still-none}

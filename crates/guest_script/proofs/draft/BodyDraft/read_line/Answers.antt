@@ -1,4 +1,4 @@
-use Rattle.guest_script.specs.Drafts.{draft_of}
+use Rattle.guest_script.specs.Inside.Drafts.{draft_of}
 use Rattle.guest_script.proofs.Drafted.{line_gave, line_lacks}
 use Rattle.guest_script.proofs.draft.BodyDraft.read_line.Goals as goal
 

@@ -1,6 +1,6 @@
 use Rattle.std.proofs.Common.{◌∙◌, arith}
 use Rattle.std.proofs.lemmas.Result.{err_from_is_err_and}
-use Rattle.guest_script.specs.Drafts.{draft_of}
+use Rattle.guest_script.specs.Inside.Drafts.{draft_of}
 use Rattle.guest_script.proofs.Drafted.{lines_grow}
 use Rattle.guest_script.proofs.LinesFrom.{bad_behind, bad_line, goes_on}
 use Rattle.guest_script.proofs.draft.BodyDraft.read_some.Goals as goal

@@ -1,6 +1,6 @@
 use Rattle.std.proofs.Common.{◌≡◌, ◌+◌, ◌≤◌, ◌++◌, List, ℕ, length}
 use Rattle.std.specs.Str.Lines.{lines}
-use Rattle.guest_script.specs.Progress.{lines_so_far, script_after}
+use Rattle.guest_script.specs.Inside.Progress.{lines_so_far, script_after}
 use Rattle.guest_script.proofs.progress.Progress.read_lines.Given as goal
 
 abbrev pub invariant-loop-rest : goal.invariant-loop-rest

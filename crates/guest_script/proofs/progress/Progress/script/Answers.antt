@@ -1,6 +1,6 @@
 use Rattle.std.proofs.Common.{Result, sym, ap, subst, inr}
 use Rattle.guest_script.specs.declared.fault.ScriptFault.{ScriptFault}
-use Rattle.guest_script.specs.Drafts.{draft_of}
+use Rattle.guest_script.specs.Inside.Drafts.{draft_of}
 use Rattle.guest_script.specs.Grammar.{Written, written}
 use Rattle.guest_script.specs.Reading.{GivesOrLacks, with_config}
 use Rattle.guest_script.proofs.LinesFrom.{lines_from_none, no_board_line}

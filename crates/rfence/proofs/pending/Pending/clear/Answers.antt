@@ -1,5 +1,5 @@
 use Rattle.std.proofs.Common.{[], length, replicate, sym, ap, ◌∙◌}
-use Rattle.rfence.specs.ByCaller.{queues_by}
+use Rattle.rfence.specs.Inside.ByCaller.{queues_by}
 use Rattle.rfence.proofs.ByCaller.{emptied-by, length-by}
 use Rattle.rfence.proofs.pending.Pending.clear.Goals as goal
 

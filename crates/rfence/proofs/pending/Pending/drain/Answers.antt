@@ -1,6 +1,6 @@
 use Rattle.std.proofs.Common.{ap, ◌∙◌}
 use Rattle.fence_queue.specs.Queues.{drained}
-use Rattle.rfence.specs.ByCaller.{queues_by}
+use Rattle.rfence.specs.Inside.ByCaller.{queues_by}
 use Rattle.rfence.proofs.ByCaller.{drained-by}
 use Rattle.rfence.proofs.pending.Pending.drain.Goals as goal
 

@@ -1,6 +1,6 @@
 use Rattle.std.proofs.Common.{length, ap, ◌∙◌, arith}
 use Rattle.fence_queue.specs.Queues.{popped}
-use Rattle.rfence.specs.ByCaller.{queues_by}
+use Rattle.rfence.specs.Inside.ByCaller.{queues_by}
 use Rattle.rfence.proofs.ByCaller.{length-by, popped-by}
 use Rattle.rfence.proofs.pending.Pending.pop.Goals as goal
 

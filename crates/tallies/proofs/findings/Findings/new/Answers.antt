@@ -3,7 +3,6 @@ use Rattle.std.specs.Prelude.{None, Some}
 use Rattle.std.proofs.lemmas.List.{get_or-replicate, length-replicate}
 use Rattle.std.proofs.lemmas.Option.{get_or_from_slice_get, slice_get_within}
 use Rattle.tallies.specs.declared.findings.Judged.{Judged}
-use Rattle.tallies.specs.declared.tally.Tally.{Tally}
 use Rattle.tallies.specs.Records.{IsSo, Tells}
 use Rattle.tallies.proofs.findings.Findings.new.Goals as goal
 

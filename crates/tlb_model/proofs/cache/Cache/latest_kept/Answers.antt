@@ -2,7 +2,7 @@ use Rattle.std.proofs.Common.{◌≡◌, ℕ, ◌<◌, ◌-◌, ◌*◌, ◌%◌
 use Rattle.std.specs.Option.{option_or}
 use Rattle.std.proofs.Math.Nat.{mod-eq_of_lt}
 use Rattle.std.proofs.Math.Pow.{pow-lt}
-use Rattle.tlb_model.specs.Places.{marked}
+use Rattle.tlb_model.specs.Inside.Places.{marked}
 use Rattle.tlb_model.proofs.Places.{hit-marked}
 use Rattle.tlb_model.proofs.cache.Cache.latest_kept.Goals as goal
 

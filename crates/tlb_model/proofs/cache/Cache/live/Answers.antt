@@ -1,6 +1,6 @@
 use Rattle.std.proofs.Common.{arith}
 use Rattle.std.proofs.lemmas.List.{length-reverse}
-use Rattle.tlb_model.specs.Places.{seen}
+use Rattle.tlb_model.specs.Inside.Places.{seen}
 use Rattle.tlb_model.proofs.Places.{length-seen}
 use Rattle.tlb_model.proofs.cache.Cache.live.Goals as goal
 

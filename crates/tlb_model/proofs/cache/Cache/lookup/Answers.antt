@@ -2,7 +2,7 @@ use Rattle.std.proofs.Common.{◌≡◌, ◌%◌, Some, None, drop, take, ap, sy
 use Rattle.std.specs.Prelude.{find, option_map, reverse}
 use Rattle.std.specs.Option.{option_or}
 use Rattle.tlb_model.specs.declared.cache.Numbered.{Numbered}
-use Rattle.tlb_model.specs.Places.{seen}
+use Rattle.tlb_model.specs.Inside.Places.{seen}
 use Rattle.tlb_model.proofs.Places.{hit-halves}
 use Rattle.tlb_model.proofs.cache.Cache.lookup.Goals as goal
 

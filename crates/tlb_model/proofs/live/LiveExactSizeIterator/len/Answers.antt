@@ -1,5 +1,5 @@
 use Rattle.std.proofs.Common.{◌≡◌, ◌+◌, ◌-◌, length, suc, add-one, ap, sym, ◌∙◌, arith}
-use Rattle.tlb_model.specs.Places.{seen}
+use Rattle.tlb_model.specs.Inside.Places.{seen}
 use Rattle.tlb_model.proofs.Places.{count-more, length-seen, live-past}
 use Rattle.tlb_model.proofs.live.LiveExactSizeIterator.len.Goals as goal
 use Rattle.tlb_model.proofs.live.LiveExactSizeIterator.len.Goals.{then-self-place-eq0, else-self-place-eq0}

@@ -1,6 +1,6 @@
 use Rattle.std.proofs.Common.{◌≡◌, ◌+◌, ◌-◌, ◌<◌, ◌%◌, get_or, length, reverse, suc, ap, sym, ◌∙◌, refl, arith, rules}
 use Rattle.std.proofs.lemmas.Option.{slice_get-get_or}
-use Rattle.tlb_model.specs.Places.{seen}
+use Rattle.tlb_model.specs.Inside.Places.{seen}
 use Rattle.tlb_model.proofs.Places.{live-first, live-past}
 use Rattle.tlb_model.proofs.live.LiveIterator.next.Goals as goal
 

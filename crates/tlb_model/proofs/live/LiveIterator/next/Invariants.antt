@@ -1,5 +1,5 @@
 use Rattle.std.proofs.Common.{◌≡◌, ◌≤◌, length, min, reverse}
-use Rattle.tlb_model.specs.Places.{seen}
+use Rattle.tlb_model.specs.Inside.Places.{seen}
 use Rattle.tlb_model.proofs.live.LiveIterator.next.Given as goal
 
 abbrev pub invariant-loop-age : goal.invariant-loop-age

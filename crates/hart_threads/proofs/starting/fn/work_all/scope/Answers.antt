@@ -1,6 +1,6 @@
 use Rattle.std.proofs.Common.{◌≡◌, List, [], ◌∷◌, ◌∙◌, sym, ap, map, append-nil, length, refl, arith}
 use Rattle.std.specs.Vec.Iter.{into_iter_items}
-use Rattle.hart_threads.specs.Works.{WorkedAt, task}
+use Rattle.hart_threads.specs.Inside.Works.{WorkedAt, task}
 use Rattle.hart_threads.proofs.Kept.{kept_all, kept_each}
 use Rattle.hart_threads.proofs.starting.fn.work_all.scope.Goals as goal
 

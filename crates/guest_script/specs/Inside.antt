@@ -1,0 +1,7 @@
+-- Private: what no clause of a public call names.
+pub mod Drafts
+pub mod OpenBlocks
+pub mod PlainLines
+pub mod PlainShapes
+pub mod Progress
+pub mod Scanning
