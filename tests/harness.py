@@ -26,10 +26,11 @@ TOO_LONG = 16_777_217
 
 TASKS = ("run", "replay", "check")
 
-# How many times a program is run whose threads may go in many orders, and the seconds that only a hang takes.
+# How many times a program is run whose threads may go in many orders.
 RUNS_OF_EACH = 500
 
-HANG = 20
+# The seconds that only a hang takes; a slower build of the program is given more.
+HANG = int(os.environ.get("HANG_SECONDS", "20"))
 
 
 class Wrong(Exception):

@@ -48,6 +48,7 @@ impl<'a> KeptLine<'a> {
     }
 
     /// What it does, where the line isn't `cut`.
+    #[inline(always)]
     pub fn op(&self) -> Op
         ensures { IfSome self.now.step (λ step. result ≡ step.1) }
     {

@@ -107,6 +107,7 @@ impl OpShape {
     }
 
     /// The operation of this shape, with its numbers.
+    #[inline(always)]
     pub fn op(self, numbers: &[u64]) -> Op
         ensures { result ≡ op_made self numbers.now }
     {
