@@ -222,23 +222,28 @@ def ends_are_asked_of_all_orders(room):
 
 
 def failing_orders_are_traces(room):
-    """The record of a failing order is a trace that agrees, and whose steps are replayed."""
+    """The record of a failing order is a trace that agrees, and whose steps are replayed: also of one that is longer than the
+    script's LIMIT."""
     from harness import PROGRAM, ran
 
-    status, lines = explored(room, f"#! end quiet\n{WAKE}")
-    name = next(re.match(r'  record: "(.*)"', it)[1] for it in lines if it.startswith("  record: "))
-    path = os.path.join(room, name)
-    found = ran(["check", path], program=PROGRAM)
-    with open(path, encoding="utf-8") as file:
-        record = file.read()
-    steps = record.count(" -> ")
-    if found.returncode or found.stdout != b"agrees %d\n" % steps:
-        raise Wrong(f"{found}, of {steps} steps")
-    with open(os.path.join(room, "a.sched"), "w", encoding="utf-8") as file:
-        file.writelines(line.partition(" -> ")[0] + "\n" for line in record.splitlines())
-    replayed = ran(["replay", file.name], program=PROGRAM)
-    if replayed.stdout.decode() != record:
-        raise Wrong(f"the record is {record!r}, and a replay prints {replayed}")
+    for limit in (None, 2):
+        text = WAKE if limit is None else re.sub(r"^(board \S+ \S+) \S+", rf"\1 {limit}", WAKE)
+        status, lines = explored(room, f"#! end quiet\n{text}")
+        name = next(re.match(r'  record: "(.*)"', it)[1] for it in lines if it.startswith("  record: "))
+        path = os.path.join(room, name)
+        found = ran(["check", path], program=PROGRAM)
+        with open(path, encoding="utf-8") as file:
+            record = file.read()
+        steps = record.count(" -> ")
+        if found.returncode or found.stdout != b"agrees %d\n" % steps:
+            raise Wrong(f"{found}, of {steps} steps")
+        if f"  steps: {steps}" not in lines or (f"  limit: {steps}" in lines) != (limit is not None):
+            raise Wrong(f"{lines}, of {steps} steps with a limit of {limit}")
+        with open(os.path.join(room, "a.sched"), "w", encoding="utf-8") as file:
+            file.writelines(line.partition(" -> ")[0] + "\n" for line in record.splitlines())
+        replayed = ran(["replay", file.name], program=PROGRAM)
+        if replayed.stdout.decode() != record:
+            raise Wrong(f"the record is {record!r}, and a replay prints {replayed}")
 
 
 def bounds_are_told(room):
