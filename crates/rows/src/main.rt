@@ -106,11 +106,21 @@ fn check_row<R: AllocGlobal>(rt: &R, text: &str) -> Result<()> {
         let (state, cases) = cases.split_once('\n').context("no cases")?;
         return check_cases(rt.alloc(), lines, state, cases);
     }
-    if let Some((schedule, end)) = body.split_once("\nprints ") {
-        let (status, printed) = end.split_once('\n').context("no text")?;
-        let status = status.parse::<u8>()?;
-        return check_text(rt.alloc(), schedule, status, printed);
+    match body.split_once("\nprints ") {
+        Some((schedule, end)) => check_prints(rt, schedule, end),
+        None => check_ends(rt, body),
     }
+}
+
+/// Checks a schedule that must print all of a text, before which its status stands.
+fn check_prints<R: AllocGlobal>(rt: &R, schedule: &str, end: &str) -> Result<()> {
+    let (status, printed) = end.split_once('\n').context("no text")?;
+    let status = status.parse::<u8>()?;
+    check_text(rt.alloc(), schedule, status, printed)
+}
+
+/// Checks a schedule with its replies, and its end if it has one.
+fn check_ends<R: AllocGlobal>(rt: &R, body: &str) -> Result<()> {
     let (lines, end) = body.split_once("\nends ").unwrap_or((body, "0\n"));
     let (status, shown) = end.split_once('\n').context("no status")?;
     let status = status.parse::<u8>()?;

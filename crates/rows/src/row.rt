@@ -69,19 +69,24 @@ pub fn check_text(alloc: Global, schedule: &str, status: u8, wanted: &str) -> Re
 /// Replays each case by itself after the lines, and compares its reply and the state of hart 1 after it.
 pub fn check_cases(alloc: Global, lines: &str, state: &str, cases: &str) -> Result<()> {
     for case in cases.lines() {
-        let lines = format!(in alloc; "{lines}\n{case}")?;
-        let row = Row {
-            lines: &lines,
-            status: 0,
-            shown: "",
-        };
-        let printed = check(alloc, row)?;
-        let wanted = case
-            .split_once('#')
-            .map_or(state, |(_, after)| after.trim());
-        let shown = state_shown(&printed, "1").context("no row of hart 1")?;
-        ensure!(shown == wanted, "{case}: {shown}");
+        check_case(alloc, lines, state, case)?;
     }
+    Ok(())
+}
+
+fn check_case(alloc: Global, lines: &str, state: &str, case: &str) -> Result<()> {
+    let lines = format!(in alloc; "{lines}\n{case}")?;
+    let row = Row {
+        lines: &lines,
+        status: 0,
+        shown: "",
+    };
+    let printed = check(alloc, row)?;
+    let wanted = case
+        .split_once('#')
+        .map_or(state, |(_, after)| after.trim());
+    let shown = state_shown(&printed, "1").context("no row of hart 1")?;
+    ensure!(shown == wanted, "{case}: {shown}");
     Ok(())
 }
 
@@ -91,19 +96,31 @@ pub fn check_outcomes(alloc: Global, lines: &str, cases: &str) -> Result<()> {
     for case in cases.split('\n').filter(|case| !case.is_empty()) {
         let (wanted, text) = case.split_once(" | ").context("no text")?;
         let script = script(alloc, lines, text)?;
-        let (outcome, printed) = replayed(alloc, script.as_bytes())?;
-        let said = format!(in alloc; "{outcome}")?;
-        ensure!(said.as_str() == wanted, "{case}: {said}");
-        ensure!(
-            printed.is_empty() != (outcome == Outcome::Good),
-            "{case}: printed"
-        );
+        let outcome = check_outcome(alloc, &script, wanted, case)?;
         if matches!(outcome, Outcome::Script { .. }) {
-            let (checked, printed) = checked(alloc, script.as_bytes())?;
-            ensure!(checked == outcome, "{case}: checked as {checked}");
-            ensure!(printed.is_empty(), "{case}: its check printed");
+            check_fault(alloc, &script, outcome, case)?;
         }
     }
+    Ok(())
+}
+
+/// The outcome of a script's replay, which is the one that is wanted.
+fn check_outcome(alloc: Global, script: &str, wanted: &str, case: &str) -> Result<Outcome> {
+    let (outcome, printed) = replayed(alloc, script.as_bytes())?;
+    let said = format!(in alloc; "{outcome}")?;
+    ensure!(said.as_str() == wanted, "{case}: {said}");
+    ensure!(
+        printed.is_empty() != (outcome == Outcome::Good),
+        "{case}: printed"
+    );
+    Ok(outcome)
+}
+
+/// The check of a script that has a fault ends with the fault, and prints nothing.
+fn check_fault(alloc: Global, script: &str, fault: Outcome, case: &str) -> Result<()> {
+    let (outcome, printed) = checked(alloc, script.as_bytes())?;
+    ensure!(outcome == fault, "{case}: checked as {outcome}");
+    ensure!(printed.is_empty(), "{case}: its check printed");
     Ok(())
 }
 
@@ -113,22 +130,30 @@ pub fn check_traces(alloc: Global, lines: &str, cases: &str) -> Result<()> {
     for case in cases.split('\n').filter(|case| !case.is_empty()) {
         let (wanted, text) = case.split_once(" | ").context("no text")?;
         let script = script(alloc, lines, text)?;
-        let (outcome, printed) = checked(alloc, script.as_bytes())?;
-        let said = match outcome {
-            Outcome::Good | Outcome::Differs => String::from_utf8(printed).ok().context("no text")?,
-            _ => {
-                ensure!(printed.is_empty(), "{case}: printed");
-                format!(in alloc; "{outcome}\n")?
-            }
-        };
-        ensure!(said.strip_suffix('\n') == Some(wanted), "{case}: {said}");
-        let is_differing = wanted.starts_with("differs at line ");
-        ensure!(
-            is_differing == (outcome == Outcome::Differs),
-            "{case}: {outcome}"
-        );
+        check_trace(alloc, &script, wanted, case)?;
     }
     Ok(())
+}
+
+fn check_trace(alloc: Global, script: &str, wanted: &str, case: &str) -> Result<()> {
+    let (outcome, printed) = checked(alloc, script.as_bytes())?;
+    let said = said_of(alloc, outcome, printed, case)?;
+    ensure!(said.strip_suffix('\n') == Some(wanted), "{case}: {said}");
+    let is_differing = wanted.starts_with("differs at line ");
+    ensure!(
+        is_differing == (outcome == Outcome::Differs),
+        "{case}: {outcome}"
+    );
+    Ok(())
+}
+
+/// What the check of a trace printed, or its outcome where it has printed nothing, and must not.
+fn said_of(alloc: Global, outcome: Outcome, printed: Vec<u8>, case: &str) -> Result<String> {
+    if matches!(outcome, Outcome::Good | Outcome::Differs) {
+        return String::from_utf8(printed).ok().context("no text");
+    }
+    ensure!(printed.is_empty(), "{case}: printed");
+    Ok(format!(in alloc; "{outcome}\n")?)
 }
 
 /// The lines and the text of a case after them, in which `\n` is a line feed.
