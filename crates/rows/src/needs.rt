@@ -1,9 +1,11 @@
 //! How many serves fence calls need: by steps on a board of three harts, and where all harts fence each other.
+ghost use Rattle.std.specs.Prelude.{◌<◌};
 
 use anyhow::Result;
 use board_core::{Actor, Board, Config, Op, Phase, USUAL_ASID_LEN, USUAL_WIDTH};
 use sbi_abi::Regs;
 use std::alloc::Global;
+use std::io;
 
 const RFENCE: u64 = 0x5246_4e43;
 
@@ -46,22 +48,33 @@ fn started(alloc: Global, harts: u64) -> Result<Board> {
 }
 
 /// Makes a step, and prints whether it was accepted, which harts are inside a fence call now, and what their calls need.
-fn show_step<R: Print>(rt: &R, board: &mut Board, h: u64, name: &str, op: Op) -> Result<()> {
+fn show_step<R: Print>(rt: &R, board: &mut Board, h: u64, name: &str, op: Op) -> io::Result<()> {
     let accepted = board.step(Actor::Hart(h), op).is_ok();
     print!(rt; "{h} {name}: {accepted}")?;
-    let harts = board.config().harts;
-    for caller in 0..harts {
-        if board.phase(caller) == Phase::Inside {
-            print!(rt; " {caller} is inside")?;
-        }
-        for t in 0..harts {
-            let need = board.need(caller, t);
-            if need > 0 {
-                print!(rt; " ({caller} {t} {need})")?;
-            }
-        }
+    for caller in 0..board.config().harts {
+        show_call(rt, board, caller)?;
     }
-    println!(rt; "")?;
+    println!(rt; "")
+}
+
+/// Prints whether hart `caller` is inside a fence call, and what its call needs of each hart.
+fn show_call<R: Print>(rt: &R, board: &Board, caller: u64) -> io::Result<()>
+    requires { caller < board.now.opening.config.harts }
+{
+    if board.phase(caller) == Phase::Inside {
+        print!(rt; " {caller} is inside")?;
+    }
+    for t in 0..board.config().harts {
+        show_need(rt, board, caller, t)?;
+    }
+    Ok(())
+}
+
+fn show_need<R: Print>(rt: &R, board: &Board, caller: u64, t: u64) -> io::Result<()> {
+    let need = board.need(caller, t);
+    if need > 0 {
+        print!(rt; " ({caller} {t} {need})")?;
+    }
     Ok(())
 }
 
@@ -80,7 +93,8 @@ fn show_three<R: AllocGlobal + Print>(rt: &R, name: &str, instead: Op) -> Result
     show_step(rt, &mut board, 2, "polls", Op::Poll)?;
     show_step(rt, &mut board, 1, "serves", Op::Serve)?;
     show_step(rt, &mut board, 2, "polls", Op::Poll)?;
-    show_step(rt, &mut board, 2, "fences all", fence(0, u64::MAX))
+    show_step(rt, &mut board, 2, "fences all", fence(0, u64::MAX))?;
+    Ok(())
 }
 
 /// Lets hart `t` serve as often as the call of hart `caller` needs of it: whether the call could be polled before a serve.
