@@ -1,11 +1,13 @@
 //! Printed lines that no schedule gives.
+ghost use Rattle.std.specs.Prelude.{◌≡◌, ◌<◌, ◌^◌, OnOk};
 
 use crate::row::ROOM;
 use anyhow::{Context, Result};
 use board_core::{Actor, Board, Config, Op, Refusal, Reply, USUAL_ASID_LEN, USUAL_WIDTH};
-use monitor::{print_event, print_head, print_line, print_reply};
+use monitor::{Failed, Sink, print_event, print_head, print_line, print_reply};
 use sbi_abi::{Regs, Sbiret};
 use sbiboard::Device;
+use std::alloc::Global;
 
 const CONFIG: Config = Config {
     harts: 1,
@@ -30,11 +32,30 @@ fn ret(error: i64, value: u64) -> Reply {
 pub fn show_lines<R: AllocGlobal + Print>(rt: &R) -> Result<()> {
     let mut out = Device::new(Vec::with_capacity(rt.alloc(), ROOM)?);
     print_head(&CONFIG, &mut out)?;
-    let mut board = Board::new(rt.alloc(), &CONFIG)?;
+    put_event(rt.alloc(), &mut out)?;
+    put_replies(&mut out)?;
+    let text = String::from_utf8(out.into_inner()).ok().context("no text")?;
+    println!(rt; "{text}")?;
+    Ok(())
+}
+
+/// Prints an event of a board.
+fn put_event<W: Sink>(alloc: Global, out: &mut W) -> Result<()>
+    requires { W.failures out.old < 2 ^ 63 }
+    ensures { OnOk result (W.failures out.new ≡ W.failures out.old) }
+{
+    let mut board = Board::new(alloc, &CONFIG)?;
     board.step(Actor::Hart(0), Op::Advance)?;
     board.step(Actor::Hart(0), ecall(0x10, [0; 6]))?;
     let event = board.history().last().context("no event")?;
-    print_event(event, &mut out)?;
+    print_event(event, out)?;
+    Ok(())
+}
+
+/// Prints lines with the largest numbers, and a cut's.
+fn put_replies<W: Sink>(out: &mut W) -> Result<(), Failed>
+    requires { W.failures out.old < 2 ^ 63 }
+{
     let most = u64::MAX;
     let long = ecall(0xabcdef, [most, 1, 0x10, 0x9f, 0, 0xfedc_ba98_7654_3210]);
     let entry = Reply::Entry {
@@ -43,14 +64,11 @@ pub fn show_lines<R: AllocGlobal + Print>(rt: &R) -> Result<()> {
         opaque: most,
     };
     let ticks = Some((Actor::Clock, Op::Advance));
-    print_line(ticks, Err(Refusal::WrongPhase), &mut out)?;
+    print_line(ticks, Err(Refusal::WrongPhase), out)?;
     let calls = Some((Actor::Hart(most), long));
-    print_line(calls, Ok(ret(i64::MIN, most)), &mut out)?;
+    print_line(calls, Ok(ret(i64::MIN, most)), out)?;
     let enters = Some((Actor::Hart(127), Op::Advance));
-    print_line(enters, Ok(entry), &mut out)?;
-    print_line(None, Ok(Reply::Done), &mut out)?;
-    print_reply(Ok(ret(-2, 0)), &mut out)?;
-    let text = String::from_utf8(out.into_inner()).ok().context("no text")?;
-    println!(rt; "{text}")?;
-    Ok(())
+    print_line(enters, Ok(entry), out)?;
+    print_line(None, Ok(Reply::Done), out)?;
+    print_reply(Ok(ret(-2, 0)), out)
 }
