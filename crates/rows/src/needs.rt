@@ -82,19 +82,39 @@ fn show_need<R: Print>(rt: &R, board: &Board, caller: u64, t: u64) -> io::Result
 /// its first serve.
 fn show_three<R: AllocGlobal + Print>(rt: &R, name: &str, instead: Op) -> Result<()> {
     let mut board = started(rt.alloc(), 3)?;
-    show_step(rt, &mut board, 0, "fences 1", fence(0b010, 0))?;
-    show_step(rt, &mut board, 2, "fences 1", fence(0b010, 0))?;
+    let asked = fence(0b010, 0);
+    show_steps(
+        rt,
+        &mut board,
+        &[(0, "fences 1", asked), (2, "fences 1", asked)],
+    )?;
+    show_absent(rt, &board)?;
+    let then = [
+        (1, name, instead),
+        (0, "polls", Op::Poll),
+        (2, "polls", Op::Poll),
+        (1, "serves", Op::Serve),
+        (2, "polls", Op::Poll),
+        (2, "fences all", fence(0, u64::MAX)),
+    ];
+    show_steps(rt, &mut board, &then)?;
+    Ok(())
+}
+
+/// Makes steps, each by its hart, and shows them.
+fn show_steps<R: Print>(rt: &R, board: &mut Board, steps: &[(u64, &str, Op)]) -> io::Result<()> {
+    for (h, name, op) in steps {
+        show_step(rt, board, *h, name, *op)?;
+    }
+    Ok(())
+}
+
+/// What is needed by harts that aren't there, and of such.
+fn show_absent<R: Print>(rt: &R, board: &Board) -> io::Result<()> {
     for (caller, t) in [(0, 3), (3, 1), (0, u64::MAX), (u64::MAX, 1)] {
         print!(rt; "{} ", board.need(caller, t))?;
     }
-    println!(rt; "where no hart is")?;
-    show_step(rt, &mut board, 1, name, instead)?;
-    show_step(rt, &mut board, 0, "polls", Op::Poll)?;
-    show_step(rt, &mut board, 2, "polls", Op::Poll)?;
-    show_step(rt, &mut board, 1, "serves", Op::Serve)?;
-    show_step(rt, &mut board, 2, "polls", Op::Poll)?;
-    show_step(rt, &mut board, 2, "fences all", fence(0, u64::MAX))?;
-    Ok(())
+    println!(rt; "where no hart is")
 }
 
 /// Lets hart `t` serve as often as the call of hart `caller` needs of it: whether the call could be polled before a serve.
