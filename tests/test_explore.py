@@ -247,10 +247,13 @@ def failing_orders_are_traces(room):
 
 
 def bounds_are_told(room):
-    """With too few states not all orders are seen, which is no success; a schedule has no orders."""
+    """With too few states, or no time, not all orders are seen, which is no success; a schedule has no orders."""
     status, lines = explored(room, LOADS_AND_STORES, "--states", "5")
     if status != 8 or not any(it.startswith("# not all orders were seen: ") for it in lines) or lines[-1] != "# cut short: not all orders were seen":
         raise Wrong(f"status {status}, {lines}")
+    status, lines = explored(room, LOADS_AND_STORES, "--seconds", "0")
+    if status != 8 or "# not all orders were seen: 1 states, 0 steps" not in lines or any(it.startswith("# orders: ") for it in lines):
+        raise Wrong(f"no time: status {status}, {lines}")
     status, lines = explored(room, LOADS_AND_STORES)
     if status != 0 or lines[-3:] != ["1..1", "# 1 points, 0 failed", "# 1 files"]:
         raise Wrong(f"status {status}, {lines}")
