@@ -3,12 +3,24 @@
 `judged(text)` answers the first fault of a script, or its kind. It is written for reading: a script is cut into lines,
 a line into words, and the tests of a line stand in the order in which its first fault is looked for.
 """
+import os
+import re
 
 MOST_BYTES = 16_777_216
 MOST = (1 << 64) - 1
 LAST_HART = 127
 # ASIDLEN and WIDTH where a board line leaves them out.
 USUAL_SPACES = (16, 39)
+
+
+def widths():
+    """What that page says that a WIDTH may be."""
+    with open(os.path.join(os.path.dirname(os.path.realpath(__file__)), "../docs/FORMATS.md"), encoding="utf-8") as page:
+        row = re.search(r"^\| WIDTH \|.*\|([^|]*)\|$", page.read(), re.MULTILINE)
+    return {int(it) for it in re.findall(r"\d+", row[1])}
+
+
+WIDTHS = widths()
 
 # How many words may follow an operation, at least and at most.
 COUNTS = {
@@ -63,7 +75,7 @@ class Script:
     def is_good_board(self):
         harts, pages, limit, boot_hart, boot_addr, _, asid_len, width = self.board
         sizes = 1 <= harts <= 128 and 1 <= pages <= 256 and 1 <= limit <= 1_000_000
-        return sizes and asid_len <= 16 and width in (39, 48) and boot_hart < harts and boot_addr % 2 == 0 and 0 <= boot_addr - 0x80000000 < 4096 * pages
+        return sizes and asid_len <= 16 and width in WIDTHS and boot_hart < harts and boot_addr % 2 == 0 and 0 <= boot_addr - 0x80000000 < 4096 * pages
 
 
 def lines_of(text):

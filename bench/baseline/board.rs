@@ -1,7 +1,7 @@
 //! The board: a step changes it, and adds an event to its history or is refused.
 
 use crate::fences::{Fence, Fences};
-use crate::memory::{self, Access, Caches, Entry, RAM, Ram, is_valid};
+use crate::memory::{self, Access, Caches, Entry, RAM, Ram, WIDTHS, has_mode, is_valid};
 use crate::script::{CLOCK, CUT, Line, Name};
 
 const LAST_TIME: u64 = u64::MAX - 1;
@@ -136,7 +136,7 @@ impl Board {
         let is_sized = (1..=128).contains(&harts)
             && (1..=256).contains(&pages)
             && (1..=1_000_000).contains(&limit);
-        let has_spaces = asid_len <= 16 && (width == 39 || width == 48);
+        let has_spaces = asid_len <= 16 && WIDTHS.contains(&width);
         if !is_sized || !has_spaces || boot_hart >= harts || !is_start_address(pages, boot_addr) {
             return None;
         }
@@ -319,7 +319,7 @@ impl Board {
             }
             Name::Satp => match numbers[0] >> 60 {
                 0 => self.harts[h].satp = 0,
-                mode if mode == 8 || mode == 9 && self.width == 48 => {
+                mode if has_mode(mode, self.width) => {
                     self.harts[h].satp = numbers[0] & !(u64::from(!self.asids) << 44);
                 }
                 _ => {}

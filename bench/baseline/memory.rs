@@ -204,6 +204,14 @@ fn fence_covers(range: Option<(u64, u64)>, asid: Option<u16>, entry: &Entry) -> 
         })
 }
 
+/// The widths that a board may have.
+pub const WIDTHS: [u64; 2] = [39, 48];
+
+/// Whether a board of that width has the paging mode of that number.
+pub fn has_mode(mode: u64, width: u32) -> bool {
+    mode == 8 || mode == 9 && width == 48
+}
+
 /// The bits of a virtual address, by satp.
 fn width_of(satp: u64) -> u32 {
     if satp >> 60 == 9 { 48 } else { 39 }
