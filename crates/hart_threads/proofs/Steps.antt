@@ -1,24 +1,27 @@
 -- What seats' threads know after each of their steps.
-use Rattle.std.proofs.Common.{◌≡◌, ◌≢◌, ℕ, ◌+◌, true, false, List, [], length, refl, sym, ap, subst, ◌∙◌, inl, inr, arith}
-use Rattle.std.specs.Prelude.{reverse, slice_get, Option, Some, None}
+use Rattle.std.proofs.Common.{◌≡◌, ◌≢◌, ℕ, ◌+◌, Bool, true, false, cond, ◌&&◌, List, [], ◌∷◌, length, refl, sym, ap, subst, ◌∙◌, inl, inr, arith}
+use Rattle.std.specs.Prelude.{nat_lt, reverse, slice_get, Option, Some, None, is_some}
 use mathlib.Core.List.{IsPrefix, IsSuffix}
 use Rattle.board_terms.specs.declared.op.Actor.{Actor}
 use Rattle.board_terms.specs.declared.op.Actor.TheVariants.{Hart, Clock}
 use Rattle.board_terms.specs.declared.op.Op.{Op}
-use Rattle.board_terms.specs.declared.op.Op.TheVariants.{Tick}
+use Rattle.board_terms.specs.declared.op.Op.TheVariants.{Advance, Poll, Serve, Tick}
 use Rattle.board_terms.specs.declared.reply.Refusal.{Refusal}
 use Rattle.board_terms.specs.declared.reply.Refusal.TheVariants as refusals
 use Rattle.board_terms.specs.declared.reply.Refusal.TheVariants.{Off, WrongPhase, HistoryFull, TimeFull}
 use Rattle.board_terms.specs.declared.reply.Reply.{Reply}
+use Rattle.hsm.specs.States.{goes_on, is_interruptible, is_started}
 use Rattle.board_core.specs.History.{Event}
+use Rattle.board_core.specs.Refusals.{first_that_holds}
+use Rattle.board_lock.specs.declared.views.HartNow.{HartNow}
 use Rattle.board_lock.specs.declared.views.HartView.{HartView}
 use Rattle.board_lock.specs.Events.{IsActor}
 use Rattle.board_lock.specs.Seats.{Sitting, seeing, sitting}
 use Rattle.board_lock.specs.Views.{IsDone, IsRefused, IsView}
 use Rattle.hart_threads.specs.declared.met.Met.{Met}
 use Rattle.hart_threads.specs.declared.met.Met.TheVariants.{Nothing, FullHistory, ClosedGate}
-use Rattle.hart_threads.specs.Choices.{next_choice}
-use Rattle.hart_threads.specs.Guests.{next_of}
+use Rattle.hart_threads.specs.Choices.{choice_of, chosen, first_choice, is_going, next_choice, waits_for_none}
+use Rattle.hart_threads.specs.Guests.{is_guest, next_of}
 use Rattle.hart_threads.specs.Met.{met_by_refusal}
 use Rattle.hart_threads.specs.Shares.{Refuses, gate_number}
 use Rattle.hart_threads.specs.Inside.Works.{At, Goes, HasTurn, HasWorked, IsAtWork, IsGoing, IsLeftTo, Stops, Task, WorkedAt}
@@ -60,6 +63,30 @@ pub met-nothing : (v : HartView) (met : Met) (guest : Option Op) (op : Op) → n
 met-nothing v Nothing guest op is = refl
 met-nothing v FullHistory guest op is = absurd (let e = is in cc)
 met-nothing v ClosedGate guest op is = absurd (let e = is in cc)
+
+-- the operation of a guest that it chose is its guest's next
+first-next : (now : HartNow) (guest : Option Op) (op : Op) → first_choice now guest ≡ Some op → is_guest op ≡ true → guest ≡ Some op
+first-next now guest op is own =
+    by_rows (nat_lt 0 now.waiting && is_interruptible now.state) (waits_for_none now.outstanding) (is_some now.outstanding) (goes_on now.wake now.state) (is_started now.state && is_going guest now.wake) is
+  where
+    by_rows : (serves polls rests advances goes : Bool)
+        → chosen (first_that_holds ((serves, Some Serve) ∷ (polls, Some Poll) ∷ (rests, None) ∷ (advances, Some Advance) ∷ (goes, guest) ∷ [])) ≡ Some op → guest ≡ Some op
+    by_rows true polls rests advances goes is = absurd (let e : Serve ≡ op = cc in let no = rw (← e) at own in cc)
+    by_rows false true rests advances goes is = absurd (let e : Poll ≡ op = cc in let no = rw (← e) at own in cc)
+    by_rows false false true advances goes is = absurd (let e = is in cc)
+    by_rows false false false true goes is = absurd (let e : Advance ≡ op = cc in let no = rw (← e) at own in cc)
+    by_rows false false false false true is = is
+    by_rows false false false false false is = absurd (let e = is in cc)
+
+pub own-next : (v : HartView) (met : Met) (guest : Option Op) (op : Op) → next_choice v met guest ≡ Some op → is_guest op ≡ true → guest ≡ Some op
+own-next v Nothing guest op is own = by_power v.is_off v.hart is
+  where
+    by_power : (off : Bool) (now : Option HartNow) → cond off None (choice_of now guest) ≡ Some op → guest ≡ Some op
+    by_power true now is = absurd (let e = is in cc)
+    by_power false None is = absurd (let e = is in cc)
+    by_power false (Some now) is = first-next now guest op is own
+own-next v FullHistory guest op is own = absurd (let e = is in cc)
+own-next v ClosedGate guest op is own = absurd (let e = is in cc)
 
 -- what it chose by its view is its turn
 pub view-turn : (t : Task) (s : Sitting) (v : HartView) (met : Met) (left : Option (List Op)) (op : Op) → IsView t.opening s v → Goes t s left met

@@ -64,7 +64,7 @@ fn see<'a>(guests: &mut [Guest<'a>], program: &Program<'a>, event: &Event)
     if let Actor::Hart(h) = event.actor()
         && (h as usize) < guests.len()
     {
-        guests[h as usize].sees(program, event.op(), event.reply());
+        guests[h as usize].sees(program, &event.op(), event.reply(), false);
     }
 }
 

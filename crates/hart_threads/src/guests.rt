@@ -25,10 +25,10 @@ impl<'a> Guest<'a> {
     }
 
     /// The next operation of its block, if there is one.
-    pub(crate) fn next(&self) -> Option<Op>
-        ensures { result ≡ next_of (left_of self.now) }
+    pub(crate) fn next(&self) -> Option<&'a Op>
+        ensures { option_map (λ op. op.now) result ≡ next_of (left_of self.now) }
     {
-        self.left?.first().copied()
+        self.left?.first()
     }
 
     /// Whether it did its whole block.
@@ -38,29 +38,32 @@ impl<'a> Guest<'a> {
         matches!(self.left, Some([]))
     }
 
-    /// An operation of its hart was accepted.
-    pub(crate) fn sees(&mut self, program: &Program<'a>, op: Op, reply: Reply)
-        ensures { (past : List Event) (h : ℕ) (e : Event) → e.actor ≡ Hart h → e.op ≡ op → e.reply ≡ reply
+    /// An operation of its hart was accepted. Where it is known to be the next of its block, or no guest's, the two aren't
+    /// compared.
+    pub(crate) fn sees(&mut self, program: &Program<'a>, op: &Op, reply: Reply, is_next: bool)
+        requires next { is_next ≡ true → is_guest op.now ≡ true → next_of (left_of self.old) ≡ Some op.now }
+        ensures { (past : List Event) (h : ℕ) (e : Event) → e.actor ≡ Hart h → e.op ≡ op.now → e.reply ≡ reply
             → IsLeft (map guest program.now.blocks.now) (left_of self.old) past h
             → IsLeft (map guest program.now.blocks.now) (left_of self.new) (e ∷ past) h }
     {
         if let Reply::Entry { addr, .. } = reply {
             self.left = Some(program.block_at(addr));
-        } else if is_guest(op) {
-            self.left = self.without(op);
+        } else if is_guest(*op) {
+            self.left = self.without(op, is_next);
         }
     }
 
     /// What is left after an operation of the guest.
     #[tactic(auto, using(crate::proofs::Following::left_next, crate::proofs::Following::left_other, crate::proofs::Following::left_over, crate::proofs::Following::left_never))]
-    fn without(&self, op: Op) -> Option<&'a [Op]>
+    fn without(&self, op: &Op, is_next: bool) -> Option<&'a [Op]>
+        requires { is_next ≡ true → next_of (left_of self.now) ≡ Some op.now }
         ensures { (done whole : List _) → AreLeft (left_of self.now) done whole
-            → AreLeft (option_map (λ ops. ops.now) result) (done ++ op ∷ []) whole }
+            → AreLeft (option_map (λ ops. ops.now) result) (done ++ op.now ∷ []) whole }
     {
         let Some((next, rest)) = self.left?.split_first() else {
             return None;
         };
-        if !is_same(next, &op) {
+        if !is_next && !is_same(next, op) {
             return None;
         }
         Some(rest)

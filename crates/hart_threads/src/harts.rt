@@ -1,11 +1,12 @@
 //! A hart's thread: its firmware's work, and its guest's.
-ghost use Rattle.std.specs.Prelude.{◌≡◌, ◌≢◌, [], reverse};
+ghost use Rattle.std.specs.Prelude.{◌≡◌, ◌≢◌, true, [], Some, reverse};
+ghost use Rattle.std.specs.Option.{option_map};
 ghost use Rattle.board_terms.specs.declared.op.Actor.TheVariants.{Clock};
 ghost use Rattle.board_lock.specs.Events.{IsActor};
 ghost use Rattle.board_lock.specs.Seats.{sitting};
 ghost use Rattle.board_lock.specs.Views.{IsView};
 ghost use Rattle.hart_threads.specs.Choices.{awaited, next_choice};
-ghost use Rattle.hart_threads.specs.Guests.{left_of, next_of};
+ghost use Rattle.hart_threads.specs.Guests.{is_guest, left_of, next_of};
 ghost use Rattle.hart_threads.specs.Inside.Works.{Goes, HasTurn, IsGate, WorkedAt, task};
 ghost use Rattle.hart_threads.specs.declared.met.Met.TheVariants.{Nothing};
 
@@ -53,8 +54,8 @@ pub(crate) fn follow<K: Plan, G: Gate, R: Wait>(
 }
 
 /// What a hart's thread does by what it sees, if there is something: nothing without power, nor after it met something.
-fn next(view: &HartView, met: Met, guest: &Guest<'_>) -> Option<Op>
-    ensures { result ≡ next_choice view.now met (next_of (left_of guest.now)) }
+fn next<'a>(view: &HartView, met: Met, guest: &Guest<'a>) -> Option<&'a Op>
+    ensures { option_map (λ op. op.now) result ≡ next_choice view.now met (next_of (left_of guest.now)) }
 {
     match met {
         Met::FullHistory | Met::ClosedGate => None,
@@ -87,13 +88,14 @@ fn attempt<'a, K: Plan, G: Gate, R: Wait>(
     seat: &mut Seat<K>,
     guest: &mut Guest<'a>,
     view: &mut HartView,
-    op: Op,
+    op: &'a Op,
 ) -> Met
     requires gate { IsGate (G.lets work.now.gate.now) K.lets }
     requires going { Goes (task K.lets K.opening K.blocks K.ticks) seat.old (left_of guest.old) Nothing }
     requires turn { HasTurn (task K.lets K.opening K.blocks K.ticks) seat.old.actor seat.old.count
-        (reverse seat.old.saw) op }
+        (reverse seat.old.saw) op.now }
     requires view { IsView K.opening seat.old view.old }
+    requires next { is_guest op.now ≡ true → next_of (left_of guest.old) ≡ Some op.now }
     ensures actor { seat.new.actor ≡ seat.old.actor }
     ensures going { Goes (task K.lets K.opening K.blocks K.ticks) seat.new (left_of guest.new) result }
     ensures view { IsView K.opening seat.new view.new }
@@ -101,10 +103,10 @@ fn attempt<'a, K: Plan, G: Gate, R: Wait>(
     if !work.is_let(seat) {
         return Met::ClosedGate;
     }
-    match work.board.call_and_view(rt, seat, op) {
+    match work.board.call_and_view(rt, seat, *op) {
         Ok((receipt, now)) => {
             work.tell(&receipt);
-            guest.sees(work.program, op, receipt.reply());
+            guest.sees(work.program, op, receipt.reply(), true);
             *view = now;
             Met::Nothing
         }

@@ -5,19 +5,22 @@ use Rattle.hart_threads.specs.declared.met.Met.{Met}
 use Rattle.hart_threads.specs.declared.met.Met.TheVariants.{Nothing}
 use Rattle.hart_threads.specs.Guests.{left_of}
 use Rattle.hart_threads.specs.Inside.Works.{Goes, Task, WorkedAt, task}
-use Rattle.hart_threads.proofs.Steps.{fresh-going, looked, met-nothing, rested, view-turn}
+use Rattle.hart_threads.proofs.Steps.{fresh-going, looked, met-nothing, own-next, rested, view-turn}
 use Rattle.hart_threads.proofs.harts.follow.Goals as goal
 use Rattle.hart_threads.proofs.harts.follow.Goals.{in-None, in-Some+in_default+in_default-rest_for}
 
 pub attempt-met-requires-clause-going : goal.attempt-met-requires-clause-going
 attempt-met-requires-clause-going g c =
     let t : Task = task g.K.Plan.lets g.K.Room.opening g.K.Plan.blocks g.K.Plan.ticks in
-    subst (λ (m : Met). Goes t c.loop.seat (left_of c.loop.guest) m) (met-nothing c.loop.view c.loop.met _ c.in-Some-next.op (sym c.next-in-loop.ensures ∙ c.in-Some-next.is)) c.loop.invariant.1
+    subst (λ (m : Met). Goes t c.loop.seat (left_of c.loop.guest) m) (met-nothing c.loop.view c.loop.met _ c.in-Some-next.op.now (sym (rw c.in-Some-next.is at c.next-in-loop.ensures))) c.loop.invariant.1
 
 pub attempt-met-requires-clause-turn : goal.attempt-met-requires-clause-turn
 attempt-met-requires-clause-turn g c =
     let t : Task = task g.K.Plan.lets g.K.Room.opening g.K.Plan.blocks g.K.Plan.ticks in
-    view-turn t c.loop.seat c.loop.view c.loop.met (left_of c.loop.guest) c.in-Some-next.op c.loop.invariant.2 c.loop.invariant.1 (sym c.next-in-loop.ensures ∙ c.in-Some-next.is)
+    view-turn t c.loop.seat c.loop.view c.loop.met (left_of c.loop.guest) c.in-Some-next.op.now c.loop.invariant.2 c.loop.invariant.1 (sym (rw c.in-Some-next.is at c.next-in-loop.ensures))
+
+pub attempt-met-requires-clause-next : goal.attempt-met-requires-clause-next
+attempt-met-requires-clause-next g c = own-next c.loop.view c.loop.met _ c.in-Some-next.op.now (sym (rw c.in-Some-next.is at c.next-in-loop.ensures))
 
 pub loop-init : goal.loop-init
 loop-init g c =
@@ -47,5 +50,5 @@ returns-clause-worked g c =
           subst (λ (s : Sitting). WorkedAt t s c.loop.met) (sym w.seat-is)
           (rested t seat w.rest_for.new.seat c.loop.view c.loop.met (left_of c.loop.guest) (λ clock. c.requires.hart (sym actor ∙ clock))
           (subst (IsActor g.K.Room.opening.config) (sym actor) c.requires.acting)
-          c.loop.invariant.2 c.loop.invariant.1 (sym w.next-in-loop.ensures ∙ w.in_default.is) w.rest_for.ensures.seat w.rest_for.ensures.later)
+          c.loop.invariant.2 c.loop.invariant.1 (sym (rw w.in_default.is at w.next-in-loop.ensures)) w.rest_for.ensures.seat w.rest_for.ensures.later)
     ]
