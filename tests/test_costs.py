@@ -180,7 +180,7 @@ LOADS = [(f"0 load {0x80000008 + 4096 * it:#x}", "value 0x0") for it in range(16
 # The most instructions for each thing that a step goes over: an entry of a cache that is looked at, a hart that a fence asks
 # (which serves it), a fence that waits where its hart stops (which is asked, and returned from), a hart at a stop and at a
 # reset, and a word of the RAM at a cold reboot.
-EACH_ENTRY, EACH_ASKED, EACH_WAITING, EACH_AT_A_STOP, EACH_AT_A_RESET, EACH_WORD = 25, 600, 1_200, 20, 120, 16
+EACH_ENTRY, EACH_ASKED, EACH_WAITING, EACH_AT_A_STOP, EACH_AT_A_RESET, EACH_WORD = 25, 340, 800, 20, 60, 16
 
 
 def must_cost(what, cost, least, most):
