@@ -29,6 +29,12 @@ where
 {
     let words = env::args(rt)?.collect::<Vec<String>>(rt.alloc())?;
     let task = command(rt.alloc(), words.as_slice())?;
+    let script = script_of(rt, task)?;
+    done(rt, task, script)
+}
+
+/// Opens the script of a task, whose record must not be kept in the script's place.
+fn script_of<R: Files>(rt: &R, task: Task<'_>) -> Result<R::File, Stop> {
     let (Task::Run { file, .. } | Task::Replay(file) | Task::Check(file)) = task;
     let script = fs::open(rt, file)?;
     if let Task::Run {
@@ -39,6 +45,18 @@ where
     {
         return Err(Stop::System(io::Error::from(ErrorKind::InvalidInput)));
     }
+    Ok(script)
+}
+
+/// Does a task on its script and standard output.
+fn done<R: AllocGlobal + Files + Print + Threads + Wait + Sync>(
+    rt: &R,
+    task: Task<'_>,
+    script: R::File,
+) -> Result<Outcome, Stop>
+where
+    R::File: Send,
+{
     let expected = length_of(&script);
     let mut reader = Device::expecting(script, expected);
     let output = BufWriter::with_capacity(rt.alloc(), BUFFER, io::writer(rt))?;
