@@ -8,7 +8,8 @@ use crate::record::tells;
 use crate::seen::{Seen, Why};
 use crate::working::Work;
 use board_core::{Board, Config};
-use board_lock::{NewRoom, Past, Receipt, Room, Seat, SharedBoard};
+use board_lock::{NewRoom, Past, Receipt, Record, Room, Seat, SharedBoard};
+use std::alloc::Global;
 use std::marker::Brand;
 use std::sync::Wait;
 use std::thread::Threads;
@@ -72,7 +73,7 @@ fn in_room<K: Room + Send + Sync, R: AllocGlobal + Threads + Wait + Sync>(
     }
 }
 
-/// All harts work, the lock is closed, and its record split. On a new board the harts are started first.
+/// All harts work, the lock is closed, and its record split.
 fn part<K: Room + Send + Sync, R: AllocGlobal + Threads + Wait + Sync>(
     rt: &R,
     shared: SharedBoard<K>,
@@ -85,20 +86,55 @@ fn part<K: Room + Send + Sync, R: AllocGlobal + Threads + Wait + Sync>(
 {
     let mut seats = seats;
     let mut receipts = Vec::new(rt.alloc());
+    work(rt, &shared, &mut seats, &mut receipts, is_new, todo)?;
+    let (record, _) = closed(shared, seats, 0)?;
+    split(rt.alloc(), record, &receipts)
+}
+
+/// All harts work, which on a new board are started first.
+fn work<K: Room + Send + Sync, R: AllocGlobal + Threads + Wait + Sync>(
+    rt: &R,
+    shared: &SharedBoard<K>,
+    seats: &mut Vec<Seat<K>>,
+    receipts: &mut Vec<Receipt<K>>,
+    is_new: bool,
+    todo: Parts,
+) -> Result<(), Why> {
     let work = Work::Read {
         harts: todo.harts,
         calls: todo.calls,
     };
-    if is_new {
-        storm(rt, &shared, &mut seats, &mut receipts, work)?;
-    } else {
-        at_once(rt, &shared, &mut seats, &mut receipts, work)?;
+    if !is_new {
+        return at_once(rt, shared, seats, receipts, work);
     }
-    let (record, _) = closed(shared, seats, 0)?;
-    match record.split(rt.alloc()) {
-        Ok((past, board)) => Ok((board, looks(&past, &receipts)?)),
+    storm(rt, shared, seats, receipts, work)?;
+    Ok(())
+}
+
+/// Splits the record of a part: the board after it, and how many receipts were looked up.
+fn split<K: Room>(
+    alloc: Global,
+    record: Record<K>,
+    receipts: &[Receipt<K>],
+) -> Result<(Board, usize), Why>
+    ensures { IfOk result (λ r. r.0.past ≡ []) }
+{
+    match record.split(alloc) {
+        Ok((past, board)) => looked(&past, board, receipts),
         Err((_, fault)) => Err(Why::Board(fault)),
     }
+}
+
+/// The board after a part whose receipts are looked up.
+fn looked<K: Room>(
+    past: &Past<K>,
+    board: Board,
+    receipts: &[Receipt<K>],
+) -> Result<(Board, usize), Why>
+    ensures { IfOk result (λ r. r.0.past ≡ board.past) }
+{
+    let found = looks(past, receipts)?;
+    Ok((board, found))
 }
 
 /// Looks each receipt up in its part: how many there were.

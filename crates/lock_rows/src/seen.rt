@@ -77,6 +77,13 @@ impl Noted {
             _ => false,
         }
     }
+
+    fn is_split(&self) -> bool {
+        match self {
+            Noted::Split => true,
+            _ => false,
+        }
+    }
 }
 
 impl Seen {
@@ -90,16 +97,28 @@ impl Seen {
         noted: &Noted,
         back: [usize; 3],
     ) -> Result<Seen, Why> {
-        let events = record.events().len();
         if !noted.is_timed() {
             check(rt.alloc(), config, &record, receipts)?;
         }
+        if noted.is_split() {
+            return splitting::seen(rt, record, receipts);
+        }
+        Seen::of_whole(&record, receipts, noted, back)
+    }
+
+    /// The same of a record that isn't split.
+    fn of_whole<K: Room>(
+        record: &Record<K>,
+        receipts: &[Receipt<K>],
+        noted: &Noted,
+        back: [usize; 3],
+    ) -> Result<Seen, Why> {
+        let events = record.events().len();
         match noted {
-            Noted::Single(views, refusal) => single::seen(&record, receipts, views, *refusal),
-            Noted::Split => splitting::seen(rt, record, receipts),
+            Noted::Single(views, refusal) => single::seen(record, receipts, views, *refusal),
             Noted::Closes => Ok(Seen::Closes(back[0], back[1], back[2])),
             Noted::Rests(told) => Ok(Seen::Rests(told[0], told[1], told[2], events)),
-            Noted::Receipts => Ok(Seen::of_many(&record, receipts.len())),
+            Noted::Split | Noted::Receipts => Ok(Seen::of_many(record, receipts.len())),
             Noted::Nanoseconds(nanoseconds) => Ok(Seen::Repeats {
                 events,
                 nanoseconds: *nanoseconds,

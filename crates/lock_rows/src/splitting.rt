@@ -5,7 +5,7 @@ ghost use Rattle.std.specs.Prelude.{◌≡◌, []};
 use crate::closing::closed;
 use crate::seen::{Found, Left, Seen, Told, Why};
 use board_core::{Board, Op};
-use board_lock::{NewRoom, Past, Receipt, Record, Room, SharedBoard};
+use board_lock::{NewRoom, Past, Receipt, Record, Room, Seat, SharedBoard};
 use std::marker::Brand;
 use std::sync::Wait;
 
@@ -16,14 +16,24 @@ pub fn seen<K: Room, R: AllocGlobal + Wait>(
     receipts: &[Receipt<K>],
 ) -> Result<Seen, Why> {
     match record.split(rt.alloc()) {
-        Ok((past, board)) => {
-            let found = found(&past, receipts)?;
-            let left = Left::of(&board);
-            let (seats, told) = again(rt, board)?;
-            Ok(Seen::Split(found, left, seats, told))
-        }
+        Ok((past, board)) => of_parts(rt, &past, board, receipts),
         Err((_, fault)) => Err(Why::Board(fault)),
     }
+}
+
+/// The same of the two parts of a record.
+fn of_parts<K: Room, R: AllocGlobal + Wait>(
+    rt: &R,
+    past: &Past<K>,
+    board: Board,
+    receipts: &[Receipt<K>],
+) -> Result<Seen, Why>
+    requires { board.past ≡ [] }
+{
+    let found = found(past, receipts)?;
+    let left = Left::of(&board);
+    let (seats, told) = again(rt, board)?;
+    Ok(Seen::Split(found, left, seats, told))
 }
 
 /// What the past finds by the last receipt.
@@ -52,18 +62,45 @@ fn in_room<K: Room, R: AllocGlobal + Wait>(
     requires ledger { (room.ledger ≡ K.name) × (room.parts ≡ K.parts) × (K.all ≡ K.parts) }
 {
     match SharedBoard::<K>::adopt(rt.alloc(), room, board) {
-        Ok((shared, mut seats)) => {
-            let many = seats.len();
-            let Some(hart) = seats.first_mut() else {
-                return Err(Why::Seats);
-            };
-            let receipt = shared.call(rt, hart, Op::ReadSip)?;
-            let (record, _) = closed(shared, seats, 0)?;
-            if record.look(&receipt).reply() != receipt.reply() {
-                return Err(Why::Receipt);
-            }
-            Ok((many, Told::of(&receipt)))
-        }
+        Ok((shared, seats)) => called(rt, shared, seats),
         Err((_, fault)) => Err(Why::Board(fault)),
+    }
+}
+
+/// A call by the first seat, whose receipt is looked up: how many seats there are, and what it is told.
+fn called<K: Room, R: Wait>(
+    rt: &R,
+    shared: SharedBoard<K>,
+    seats: Vec<Seat<K>>,
+) -> Result<(usize, Told), Why>
+    requires { K.all ≡ K.parts }
+{
+    let mut seats = seats;
+    let many = seats.len();
+    let receipt = call_first(rt, &shared, &mut seats)?;
+    let (record, _) = closed(shared, seats, 0)?;
+    looked_up(&record, &receipt, many)
+}
+
+fn looked_up<K: Room>(
+    record: &Record<K>,
+    receipt: &Receipt<K>,
+    many: usize,
+) -> Result<(usize, Told), Why> {
+    if record.look(receipt).reply() == receipt.reply() {
+        Ok((many, Told::of(receipt)))
+    } else {
+        Err(Why::Receipt)
+    }
+}
+
+fn call_first<K: Room, R: Wait>(
+    rt: &R,
+    shared: &SharedBoard<K>,
+    seats: &mut [Seat<K>],
+) -> Result<Receipt<K>, Why> {
+    match seats.first_mut() {
+        Some(hart) => Ok(shared.call(rt, hart, Op::ReadSip)?),
+        None => Err(Why::Seats),
     }
 }
