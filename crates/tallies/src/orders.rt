@@ -1,15 +1,17 @@
 //! Orders of a seed, tried one after the other.
-ghost use Rattle.std.specs.Prelude.{◌≤◌, IfOk};
-ghost use Rattle.guest_script.specs.Grammar.{content};
+ghost use Rattle.std.specs.Prelude.{◌≡◌, ◌≤◌, IfOk};
+ghost use Rattle.guest_script.specs.Grammar.{Content, content};
 ghost use Rattle.hart_threads.specs.Programs.{IsProgram};
+ghost use Rattle.seeded_orders.specs.Steps.{task_in, task_of};
 ghost use Rattle.tallies.specs.Findings.{AreFoundOf};
 
 use crate::findings::Findings;
+use board_core::Board;
 use conditions::Condition;
 use guest_script::Script;
-use hart_threads::{RunFault, new_board, program_in};
+use hart_threads::{Program, RunFault, new_board, program_in};
 use seeded_orders::try_order_on;
-use std::alloc::Global;
+use std::alloc::{AllocError, Global};
 
 /// Tries the orders of a program that a seed picks, from one number up to another, and judges each record.
 ///
@@ -29,11 +31,45 @@ pub fn try_orders(
     ensures { IfOk result (AreFoundOf script.now.config (content script.now.body) conditions.now seed from to) }
 {
     let mut board = new_board(alloc, &script.config)?;
+    Ok(tried_on(alloc, script, &mut board, conditions, seed, from, to)?)
+}
+
+/// The same on this board, which begins anew in each order.
+fn tried_on(
+    alloc: Global,
+    script: &Script,
+    board: &mut Board,
+    conditions: &[Condition],
+    seed: u64,
+    from: u64,
+    to: u64,
+) -> Result<Findings, AllocError>
+    requires program { IsProgram (content script.now.body) }
+    requires up { from ≤ to }
+    ensures { IfOk result (AreFoundOf board.old.opening.config (content script.now.body) conditions.now seed from to) }
+{
     let program = program_in(alloc, &script.body)?;
+    each_tried(alloc, &program, board, conditions, seed, from, to)
+}
+
+/// The same of this program.
+fn each_tried(
+    alloc: Global,
+    program: &Program<'_>,
+    board: &mut Board,
+    conditions: &[Condition],
+    seed: u64,
+    from: u64,
+    to: u64,
+) -> Result<Findings, AllocError>
+    requires { from ≤ to }
+    ensures { (body : Content) → task_in program.now ≡ task_of body
+        → IfOk result (AreFoundOf board.old.opening.config body conditions.now seed from to) }
+{
     let mut found = Findings::new(alloc, conditions.len())?;
     for order in from..to {
-        let end = try_order_on(alloc, &program, &mut board, seed, order)?;
-        found.see(alloc, conditions, order, &board, end)?;
+        let end = try_order_on(alloc, program, board, seed, order)?;
+        found.see(alloc, conditions, order, board, end)?;
     }
     Ok(found)
 }
