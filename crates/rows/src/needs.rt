@@ -39,12 +39,17 @@ fn started(alloc: Global, harts: u64) -> Result<Board> {
         width: USUAL_WIDTH,
     };
     let mut board = Board::new(alloc, &config)?;
+    start_all(&mut board, harts)?;
+    Ok(board)
+}
+
+fn start_all(board: &mut Board, harts: u64) -> Result<()> {
     board.step(Actor::Hart(0), Op::Advance)?;
     for h in 1..harts {
         board.step(Actor::Hart(0), ecall(HSM, 0, h, START, 0))?;
         board.step(Actor::Hart(h), Op::Advance)?;
     }
-    Ok(board)
+    Ok(())
 }
 
 /// Makes a step, and prints whether it was accepted, which harts are inside a fence call now, and what their calls need.
@@ -82,13 +87,15 @@ fn show_need<R: Print>(rt: &R, board: &Board, caller: u64, t: u64) -> io::Result
 /// its first serve.
 fn show_three<R: AllocGlobal + Print>(rt: &R, name: &str, instead: Op) -> Result<()> {
     let mut board = started(rt.alloc(), 3)?;
+    show_three_on(rt, &mut board, name, instead)?;
+    Ok(())
+}
+
+/// The same on this board.
+fn show_three_on<R: Print>(rt: &R, board: &mut Board, name: &str, instead: Op) -> io::Result<()> {
     let asked = fence(0b010, 0);
-    show_steps(
-        rt,
-        &mut board,
-        &[(0, "fences 1", asked), (2, "fences 1", asked)],
-    )?;
-    show_absent(rt, &board)?;
+    show_steps(rt, board, &[(0, "fences 1", asked), (2, "fences 1", asked)])?;
+    show_absent(rt, board)?;
     let then = [
         (1, name, instead),
         (0, "polls", Op::Poll),
@@ -97,8 +104,7 @@ fn show_three<R: AllocGlobal + Print>(rt: &R, name: &str, instead: Op) -> Result
         (2, "polls", Op::Poll),
         (2, "fences all", fence(0, u64::MAX)),
     ];
-    show_steps(rt, &mut board, &then)?;
-    Ok(())
+    show_steps(rt, board, &then)
 }
 
 /// Makes steps, each by its hart, and shows them.
@@ -131,6 +137,11 @@ fn serve_all(board: &mut Board, caller: u64, t: u64) -> Result<bool> {
 /// polled after the serves that it needs, and not before.
 fn show_crossfire<R: AllocGlobal + Print>(rt: &R, harts: u64) -> Result<()> {
     let mut board = started(rt.alloc(), harts)?;
+    show_crossfire_on(rt, &mut board, harts)
+}
+
+/// The same on this board.
+fn show_crossfire_on<R: Print>(rt: &R, board: &mut Board, harts: u64) -> Result<()> {
     for h in 0..harts {
         board.step(Actor::Hart(h), fence(0, u64::MAX))?;
     }
@@ -139,7 +150,7 @@ fn show_crossfire<R: AllocGlobal + Print>(rt: &R, harts: u64) -> Result<()> {
     let before = board.history().len();
     let mut early = false;
     for t in 0..last {
-        early |= serve_all(&mut board, last, t)?;
+        early |= serve_all(board, last, t)?;
     }
     let serves = board.history().len().saturating_sub(before);
     let polled = board.step(Actor::Hart(last), Op::Poll).is_ok();

@@ -55,17 +55,14 @@ fn try_runs<R: AllocGlobal + Clock + Eprint + Files + Sync + Threads + Wait>(
 ) -> Result<Findings, Stop>
     requires { IsProgram (content script.now.body) }
 {
-    let alloc = rt.alloc();
-    let mut found = Findings::new(alloc, case.conditions.len())?;
+    let mut found = Findings::new(rt.alloc(), case.conditions.len())?;
     let mut pace = Pace::begin(rt)?;
     for number in 0..options.runs {
         if options.limit.is_over(rt)? {
             report.cut_short();
             break;
         }
-        let ended = run(rt, script, &Open)?;
-        found.see(alloc, case.conditions, number, &ended.board, ended.end)?;
-        put_failures(rt, options, case, number, &ended, &found, details)?;
+        try_run(rt, options, case, script, number, &mut found, details)?;
         pace.see(rt)?;
         if options.screen.is_watched {
             pace.tell(rt, "runs", number.saturating_add(1), options.runs);
@@ -75,6 +72,23 @@ fn try_runs<R: AllocGlobal + Clock + Eprint + Files + Sync + Threads + Wait>(
         pace.end(rt);
     }
     Ok(found)
+}
+
+/// Runs a program once, and judges its record.
+fn try_run<R: AllocGlobal + Clock + Files + Sync + Threads + Wait>(
+    rt: &R,
+    options: &Options<'_>,
+    case: &Case<'_>,
+    script: &Script,
+    number: u64,
+    found: &mut Findings,
+    details: &mut [Report],
+) -> Result<(), Stop>
+    requires { IsProgram (content script.now.body) }
+{
+    let ended = run(rt, script, &Open)?;
+    found.see(rt.alloc(), case.conditions, number, &ended.board, ended.end)?;
+    put_failures(rt, options, case, number, &ended, found, details)
 }
 
 /// Puts the record of a run where it is the first that fails, of each condition.
