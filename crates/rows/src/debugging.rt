@@ -303,6 +303,10 @@ pub fn show_private_lines<R: AllocGlobal + Print>(rt: &R) -> Result<()> {
 /// Shows two events of a board.
 pub fn show_private_events<R: AllocGlobal + Print>(rt: &R) -> Result<()> {
     let mut board = Board::new(rt.alloc(), &CONFIG)?;
+    show_events_of(rt, &mut board)
+}
+
+fn show_events_of<R: AllocGlobal + Print>(rt: &R, board: &mut Board) -> Result<()> {
     board.step(Actor::Clock, Op::Tick(1))?;
     board.step(Actor::Clock, Op::Tick(2))?;
     let first = board.history().first().context("no event")?;

@@ -31,11 +31,19 @@ fn ret(error: i64, value: u64) -> Reply {
 /// Prints each form of a line, at both ends of its numbers.
 pub fn show_lines<R: AllocGlobal + Print>(rt: &R) -> Result<()> {
     let mut out = Device::new(Vec::with_capacity(rt.alloc(), ROOM)?);
-    print_head(&CONFIG, &mut out)?;
-    put_event(rt.alloc(), &mut out)?;
-    put_replies(&mut out)?;
+    put_lines(rt.alloc(), &mut out)?;
     let text = String::from_utf8(out.into_inner()).ok().context("no text")?;
     println!(rt; "{text}")?;
+    Ok(())
+}
+
+/// Prints the board line, an event and replies.
+fn put_lines<W: Sink>(alloc: Global, out: &mut W) -> Result<()>
+    requires { W.failures out.old < 2 ^ 63 }
+{
+    print_head(&CONFIG, out)?;
+    put_event(alloc, out)?;
+    put_replies(out)?;
     Ok(())
 }
 
@@ -45,6 +53,14 @@ fn put_event<W: Sink>(alloc: Global, out: &mut W) -> Result<()>
     ensures { OnOk result (W.failures out.new ≡ W.failures out.old) }
 {
     let mut board = Board::new(alloc, &CONFIG)?;
+    put_event_of(&mut board, out)
+}
+
+/// Prints an event of this board.
+fn put_event_of<W: Sink>(board: &mut Board, out: &mut W) -> Result<()>
+    requires { W.failures out.old < 2 ^ 63 }
+    ensures { OnOk result (W.failures out.new ≡ W.failures out.old) }
+{
     board.step(Actor::Hart(0), Op::Advance)?;
     board.step(Actor::Hart(0), ecall(0x10, [0; 6]))?;
     let event = board.history().last().context("no event")?;

@@ -1,4 +1,5 @@
 //! Runs of a program on threads, judged.
+ghost use Rattle.std.specs.Prelude.{◌≡◌, length};
 ghost use Rattle.guest_script.specs.Grammar.{content};
 ghost use Rattle.hart_threads.specs.Programs.{IsProgram};
 
@@ -84,7 +85,9 @@ fn try_run<R: AllocGlobal + Clock + Files + Sync + Threads + Wait>(
     found: &mut Findings,
     details: &mut [Report],
 ) -> Result<(), Stop>
-    requires { IsProgram (content script.now.body) }
+    requires program { IsProgram (content script.now.body) }
+    requires many { length found.old.judged.items ≡ length case.now.conditions.now }
+    ensures { length found.new.judged.items ≡ length case.now.conditions.now }
 {
     let ended = run(rt, script, &Open)?;
     found.see(rt.alloc(), case.conditions, number, &ended.board, ended.end)?;
