@@ -50,9 +50,9 @@ const SPACES: Spaces = Spaces {
 
 const LEAF: Leaf = Leaf {
     page: 0x1000,
+    pa: 0x8000_0000,
     level: Level::Mega,
     global: true,
-    pa: 0x8000_0000,
     r: true,
     w: false,
     x: true,

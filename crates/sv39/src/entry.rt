@@ -122,9 +122,9 @@ impl TableEntry {
     {
         Leaf {
             page: va - va % level.size(),
+            pa: self.address(),
             level,
             global: self.is_global() || global,
-            pa: self.address(),
             r: self.has(R),
             w: self.has(W),
             x: self.has(X),

@@ -74,12 +74,12 @@ impl Level {
 pub struct Leaf {
     /// The page's first virtual address.
     pub page: u64,
+    /// The physical address of the page's first byte.
+    pub pa: u64,
     /// The level at which the leaf stands, which gives the page's size.
     pub level: Level,
     /// Whether the mapping is global, by the leaf's G or that of a pointer above it.
     pub global: bool,
-    /// The physical address of the page's first byte.
-    pub pa: u64,
     /// R: the page may be read.
     pub r: bool,
     /// W: the page may be written.

@@ -30,9 +30,9 @@ impl Default for Entry {
         Entry {
             leaf: Leaf {
                 page: 0,
+                pa: 0,
                 level: Level::Kilo,
                 global: false,
-                pa: 0,
                 r: false,
                 w: false,
                 x: false,
