@@ -181,7 +181,7 @@ def conditions_are_asked_of_all_orders(room):
         wanted = f"{'' if holds else 'not '}ok 1 - a.program: line 1: {asked}: {said}"
         if lines[1] != wanted or status != (0 if holds else 1):
             raise Wrong(f"{asked}: status {status}, {lines[1]!r}, not {wanted!r}")
-        steps = next((int(it.split()[1]) for it in lines if it.startswith("  steps: ") and it != "  steps: |"), None)
+        steps = next((int(it.split()[1]) for it in lines if it.startswith("  length: ")), None)
         if steps != fewest:
             raise Wrong(f"{asked}: an order of {steps} steps, not {fewest}: {lines}")
 
@@ -237,7 +237,7 @@ def failing_orders_are_traces(room):
         steps = record.count(" -> ")
         if found.returncode or found.stdout != b"agrees %d\n" % steps:
             raise Wrong(f"{found}, of {steps} steps")
-        if f"  steps: {steps}" not in lines or (f"  limit: {steps}" in lines) != (limit is not None):
+        if f"  length: {steps}" not in lines or (f"  limit: {steps}" in lines) != (limit is not None):
             raise Wrong(f"{lines}, of {steps} steps with a limit of {limit}")
         with open(os.path.join(room, "a.sched"), "w", encoding="utf-8") as file:
             file.writelines(line.partition(" -> ")[0] + "\n" for line in record.splitlines())

@@ -115,6 +115,8 @@ UNTESTED = (
     (HEAD + "0 sip ->\n", ":2:9: a word is missing (fault 5)"), (HEAD + "0 sip -> value\n", ":2:15: a word is missing (fault 5)"),
     (HEAD + "0 advance -> entry 1 2\n", ":2:23: a word is missing (fault 5)"), (HEAD + "0 advance -> entry 1 0 3 4\n", ":2:26: a word too many: '4' (fault 5)"),
     (HEAD + "0 sip -> done -> done\n", ":2:15: a word too many: '->' (fault 5)"), (HEAD + "at 1 2\n", ":2:6: a word too many: '2' (fault 5)"),
+    (HEAD + "cut 1\n", ":2:5: a word too many: '1' (fault 5)"), (HEAD + "cut ->\n", ":2:7: a word is missing (fault 5)"),
+    (HEAD + "cut -> done 1\n", ":2:13: a word too many: '1' (fault 5)"), (HEAD + "0 -> done\n", ":2:3: a word is missing before '->' (fault 5)"),
     (HEAD + "sip\n", ":2:1: a line of another kind: 'sip' (fault 6)"), (HEAD + "at 16\nat 0x10\n", ":3:4: a second block of '0x10' (fault 7)"),
     (HEAD + "clock\nclock\n", ":3:1: a second block of 'clock' (fault 7)"), ("bord 1\n", ":1:1: no board line, but 'bord' (fault 2)"),
     ("\ufeff" + HEAD, ":1:1: a byte order mark (fault 1)"), (HEAD + "0 sip # \u00e9\n", ":2:9: a byte that is neither printable ASCII nor a tab (fault 1)"),
@@ -204,6 +206,21 @@ def bad_files_are_told(room):
         must(f"{text!r}: {lines}", status == 1 and lines[1:3] == [f"not ok 1 - a.sched{why}", "ok 2 - race.program (3 orders)"])
     status, lines = told_of(room, "none", "folder")
     must(f"{lines}", status == 1 and lines[1:3] == ["not ok 1 - none: no such file", "not ok 2 - folder: is a directory"])
+
+
+def returns_change_nothing(room):
+    """With a carriage return before each line feed the same is told, of conditions, faults, blocks and what is odd alike."""
+    asked = "#! end quiet\n#! never 1 load -> value 0x9\n \n"
+    odd = RACE.replace("at 0x80001000\n", "at 0x80001000\necall 0x48534d 0 9 0x80001000\nwfi\n")
+    texts = [asked + RACE, asked + SUSPENDED, asked + odd, odd, asked + odd + "#! behind 0 sip\n", "#! nevr\n" + RACE, RACE + "#! end\n", RACE + "#! each 0 sip\n"]
+    texts += [text for text, _ in UNTESTED]
+    for name in sorted(os.listdir(os.path.join(ROOT, "examples/orders"))):
+        with open(os.path.join(ROOT, "examples/orders", name), encoding="utf-8") as file:
+            texts.append(file.read().partition("\n")[2] if name == "forgotten-hart.program" else file.read())
+    for text in texts:
+        for words in (["--times", "20"], []):
+            whole = told(room, text, *words)
+            must(f"{text!r}: {whole}", told(room, text.replace("\n", "\r\n"), *words) == whole)
 
 
 def closed_files_are_told(room):
@@ -421,6 +438,13 @@ def tap_is_written_too(room):
         must(f"{lines}", status == 1 and file.read().splitlines() == lines)
     status, lines = told(room, RACE, "--seconds", "1", "--times", "1000000000")
     must(f"{lines}", status == 0 and lines[-1] == "# cut short: not all orders were tried")
+    # (it takes the place of no file that is tested, under whatever name)
+    os.link(os.path.join(room, "race.program"), os.path.join(room, "linked"))
+    for path in ("race.program", "./race.program", "linked"):
+        found = subprocess.run(["sbiboard", "--tap", path, "race.program"], executable=TESTER, cwd=room, capture_output=True, text=True, timeout=HANG)
+        must(f"{found}", found.returncode == 7 and found.stderr.startswith(f"sbiboard: {path}: ") and found.stdout == "")
+        with open(os.path.join(room, "race.program"), encoding="utf-8") as file:
+            must(path, file.read() == RACE)
     for path in ("nowhere/points.tap", "/dev/full"):
         found = subprocess.run(["sbiboard", "--tap", path, "race.program"], executable=TESTER, cwd=room, capture_output=True, timeout=HANG)
         must(f"{found}", found.returncode == 7 and found.stderr.startswith(f"sbiboard: {path}: ".encode()))
@@ -557,6 +581,7 @@ TESTS = [
     ("conditions are judged", conditions_are_judged), ("points are told", points_are_told), ("bad conditions are told", bad_conditions_are_told),
     ("names are escaped", names_are_escaped),
     ("files that can't be tested are told", bad_files_are_told), ("files that may not be read are told", closed_files_are_told),
+    ("carriage returns change nothing", returns_change_nothing),
     ("want of memory of a test", want_of_memory_is_told), ("many differences of a trace are told soon", many_differences_are_told_soon), ("all orders of small programs are met", orders_are_all_met),
     ("a seed is one order", a_seed_is_one_order), ("failing orders are counted", failures_are_counted),
     ("orders of a program of 10,000 blocks", many_blocks_are_found),

@@ -45,7 +45,7 @@ use tlb_model::{Entry, FetchWord, Flush, Live};
 /// counts have room for as many more as it may hold.
 pub(crate) const LAST_CUT: u64 = (1 << 56) - 1_000_000;
 
-/// The counts of the board's table: starts and entries since the last reset, fences since the opening.
+/// The counts of the board's table: starts and entries since the last reset, fences since the first opening.
 #[derive(Clone, Copy, Debug, PartialEq, Eq)]
 pub struct Totals {
     /// Starts of harts, the boot start among them.
@@ -528,7 +528,7 @@ impl Board {
         self.machine.interrupts.timers.deadline(h)
     }
 
-    /// The time, in ticks since the opening: at most 2^64-2 (profile).
+    /// The time, in ticks since the first opening: at most 2^64-2 (profile).
     pub fn time(&self) -> u64
         ensures time { result ≡ time self.now.opening self.now.past }
         ensures within { result ≤ last_time }

@@ -451,7 +451,7 @@ impl Opening {
         self.machine.interrupts.timers.deadline(h)
     }
 
-    /// The time, in ticks since the opening: at most 2^64-2 (profile).
+    /// The time, in ticks since the first opening: at most 2^64-2 (profile).
     pub fn time(&self) -> u64
         ensures time { result ≡ time self.now [] }
         ensures within { result ≤ last_time }

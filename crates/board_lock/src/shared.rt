@@ -25,6 +25,10 @@ use board_core::{Actor, Board, BuildFault, Config, HartSet, Op, Refusal};
 use std::alloc::{AllocError, Global};
 use std::marker::PhantomData;
 use std::sync::{Condvar, Mutex, MutexGuard, Wait};
+use std::thread::yield_now;
+
+/// How often a thread looks for what it waits for, and lets others go first, before it sleeps.
+const LOOKS: u32 = 4;
 
 /// A board behind one lock.
 #[derive(Drop)]
@@ -223,7 +227,8 @@ impl<K: Room> SharedBoard<K> {
     }
 
     /// Waits until what it waits for has come to the seat's hart, and shows what that may do next; None where every seat rests,
-    /// or the end was called for. The lock is given back while it waits, and only events that may concern the hart wake it.
+    /// or the end was called for. The lock is given back while it waits, and only events that may concern the hart wake it. Most
+    /// often it comes sooner than a thread falls asleep and is woken: so a few times it is looked for before the thread sleeps.
     pub fn rest_for<R: Wait>(&self, rt: &R, seat: &mut Seat<K>, awaits: Awaits) -> Option<HartView>
         ensures view { IfSome result (λ v. IsView K.opening seat.new v) }
         ensures come { IfSome result (λ v. has_come_to awaits v.hart ≡ true) }
@@ -231,6 +236,7 @@ impl<K: Room> SharedBoard<K> {
         ensures later { IsPrefix seat.old.saw seat.new.saw }
     {
         let mut desk = self.desk.lock(rt);
+        let mut looks = LOOKS;
         for _ in rt.forever() {
             let (pause, view) = desk.rest_for(seat, awaits);
             match pause {
@@ -240,6 +246,12 @@ impl<K: Room> SharedBoard<K> {
                     drop(desk);
                     self.ring_all();
                     return None;
+                }
+                Pause::Waits if looks > 0 => {
+                    looks -= 1;
+                    drop(desk);
+                    yield_now();
+                    desk = self.desk.lock(rt);
                 }
                 Pause::Waits => desk = self.bell(seat.actor()).wait(rt, desk),
             }

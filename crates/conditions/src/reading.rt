@@ -6,7 +6,7 @@ use crate::items::{Item, signed_item};
 use crate::names::Name;
 use crate::patterns::Pattern;
 use crate::rules::{Ending, Rule};
-use guest_script::{next_word, signed_number, unsigned_number};
+use guest_script::{next_word, signed_number, unsigned_number, without_return};
 use std::alloc::Global;
 
 /// The largest number of a hart.
@@ -28,7 +28,8 @@ pub struct Condition {
 /// The first of them that can't be read, or want of memory.
 pub fn conditions(alloc: Global, text: &[u8]) -> Result<Vec<Condition>, Fault> {
     let mut found = Vec::new(alloc);
-    for (i, line) in text.split(|b| *b == b'\n').enumerate() {
+    for (i, bytes) in text.split(|b| *b == b'\n').enumerate() {
+        let line = without_return(bytes);
         if i == 0 && line.starts_with(b"#!/") {
             continue;
         }

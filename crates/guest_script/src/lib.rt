@@ -27,4 +27,5 @@ pub use number::{number as unsigned_number, signed_number};
 pub use parsing::parse;
 pub use reader::Reader;
 pub use script_lines::{Block, Body, KeptLine, Line, LineFault, Lines, LinesIter, Said, Script};
+pub use text::without_return;
 pub use words::next_word;

@@ -24,7 +24,7 @@ fn line_end(bytes: &[u8]) -> Option<usize>
 }
 
 /// A line without the carriage return at its end.
-fn without_return(text: &[u8]) -> &[u8]
+pub fn without_return(text: &[u8]) -> &[u8]
     ensures { result.now ≡ strip_carriage_return text.now }
 {
     match text {

@@ -1,6 +1,6 @@
 //! What is odd about a program, as comments.
 use crate::report::Report;
-use guest_script::next_word;
+use guest_script::{next_word, without_return};
 use script_text::{Case, number_in, said};
 use std::alloc::{AllocError, Global};
 use std::collections::BTreeSet;
@@ -19,7 +19,8 @@ pub fn put_oddities(
     let mut blocks = BTreeSet::new(alloc);
     let mut at = None;
     for (i, text) in case.text.split(|b| *b == b'\n').enumerate() {
-        at = put_line(i as u64 + 1, text, at, visits, &mut blocks, report)?;
+        let line = i as u64 + 1;
+        at = put_line(line, without_return(text), at, visits, &mut blocks, report)?;
     }
     for addr in visits.entered.iter() {
         if !blocks.contains(addr) {

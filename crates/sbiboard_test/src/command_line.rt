@@ -196,7 +196,8 @@ fn described<'a>(alloc: Global) -> Result<Command<'a>, AllocError> {
             "Look at orders of programs, replay schedules and compare traces, and judge their conditions",
         )
         .after_help(AFTER);
-    with_files(alloc, with_ways(alloc, with_orders(alloc, command)?)?)
+    let about = "Programs, schedules and traces, with their conditions";
+    with_files(alloc, with_ways(alloc, with_orders(alloc, command)?)?, about)
 }
 
 /// The same, where all orders are looked at.
@@ -214,7 +215,7 @@ fn described_exploring<'a>(alloc: Global) -> Result<Command<'a>, AllocError> {
     let command = command.arg(no_outcomes)?;
     let about = "Look at orders for so many seconds at most";
     let command = command.arg(number(alloc, SECONDS, "N", about))?;
-    with_files(alloc, command)
+    with_files(alloc, command, "Programs, with their conditions")
 }
 
 /// The same, with what says which orders are tried.
@@ -247,12 +248,16 @@ fn with_ways<'a>(alloc: Global, command: Command<'a>) -> Result<Command<'a>, All
 }
 
 /// The same, with the files that are read and written.
-fn with_files<'a>(alloc: Global, command: Command<'a>) -> Result<Command<'a>, AllocError> {
+fn with_files<'a>(
+    alloc: Global,
+    command: Command<'a>,
+    about: &'a str,
+) -> Result<Command<'a>, AllocError> {
     let failed = Arg::new(alloc, FAILED)
         .long(FAILED)
         .value_name("DIR")
         .default_value(".")
-        .help("Where the first failing record of each condition is written");
+        .help("Where records are written: of each condition that fails, of each `some` that is met");
     let command = command.arg(failed)?;
     let tap = Arg::new(alloc, TAP)
         .long(TAP)
@@ -262,7 +267,7 @@ fn with_files<'a>(alloc: Global, command: Command<'a>) -> Result<Command<'a>, Al
     let file = Arg::new(alloc, FILE)
         .required(true)
         .action(ArgAction::Append)
-        .help("Programs, schedules and traces, with their conditions");
+        .help(about);
     command.arg(file)
 }
 

@@ -29,7 +29,8 @@ use command_line::{Options, options_of};
 use points::{Report, human};
 use screen::Screen;
 use std::alloc::{AllocError, Global};
-use std::io::{self, IsTerminal, Write};
+use std::io::{self, ErrorKind, IsTerminal, Write};
+use std::os::unix::fs::MetadataExt;
 use std::process::ExitCode;
 use std::rt::{Clock, Env, Files};
 use std::sync::Wait;
@@ -78,7 +79,7 @@ fn test_all<R: AllocGlobal + Clock + Eprint + Files + Print + Sync + Threads + W
     options: &Options<'_>,
 ) -> Result<Held, Stop> {
     let mut tap = match options.tap {
-        Some(path) => match fs::create(rt, path) {
+        Some(path) => match created(rt, path, &options.files) {
             Ok(file) => Some(file),
             Err(error) => return Err(unwritten(rt.alloc(), path, error)?),
         },
@@ -105,6 +106,24 @@ fn test_all<R: AllocGlobal + Clock + Eprint + Files + Print + Sync + Threads + W
     } else {
         Held::All
     })
+}
+
+/// Makes the file of the points, which must not take the place of a file that is tested.
+fn created<R: Files>(rt: &R, path: &str, files: &[&str]) -> Result<R::File, io::Error> {
+    for file in files {
+        if are_one(rt, path, file) {
+            return Err(io::Error::from(ErrorKind::AlreadyExists));
+        }
+    }
+    fs::create(rt, path)
+}
+
+/// Whether both paths are of one file that is there.
+fn are_one<R: Files>(rt: &R, path: &str, other: &str) -> bool {
+    match (fs::metadata(rt, path), fs::metadata(rt, other)) {
+        (Ok(one), Ok(another)) => one.dev() == another.dev() && one.ino() == another.ino(),
+        _ => false,
+    }
 }
 
 /// Prints what isn't told yet, and writes it into the file that was asked for.

@@ -1,6 +1,6 @@
 //! A script's text beside what was read of it.
 use conditions::Condition;
-use guest_script::{next_word, unsigned_number};
+use guest_script::{next_word, unsigned_number, without_return};
 use std::str;
 
 /// A file under test.
@@ -40,7 +40,7 @@ impl<'a> Case<'a> {
         let mut is_inside = false;
         let mut left = before;
         for (i, text) in self.text.split(|b| *b == b'\n').enumerate() {
-            let Some((word, after)) = next_word(text) else {
+            let Some((word, after)) = next_word(without_return(text)) else {
                 continue;
             };
             match word {
@@ -61,7 +61,7 @@ impl<'a> Case<'a> {
     fn line(&self, line: u64) -> &'a str {
         for (i, found) in self.text.split(|b| *b == b'\n').enumerate() {
             if i as u64 + 1 == line {
-                return str::from_utf8(found).unwrap_or("");
+                return str::from_utf8(without_return(found)).unwrap_or("");
             }
         }
         ""

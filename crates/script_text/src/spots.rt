@@ -1,7 +1,9 @@
 //! Where a word stands in a text.
 ghost use Rattle.std.specs.Prelude.{◌<◌, OnSome, length};
 
-use guest_script::{Fault, ScriptFault, next_word, signed_number, unsigned_number};
+use guest_script::{
+    Fault, ScriptFault, next_word, signed_number, unsigned_number, without_return,
+};
 
 /// The largest number of a hart.
 const LAST_HART: u64 = 127;
@@ -66,7 +68,7 @@ pub fn spot_of(text: &[u8], found: ScriptFault) -> Option<Spot<'_>> {
     if found.fault == Fault::BadByte {
         return bad_byte(line);
     }
-    let mut words = Words::new(line);
+    let mut words = Words::new(without_return(line));
     let first = words.next()?;
     match found.fault {
         Fault::UnknownWord => Some(unknown_word(first, words)),
@@ -212,9 +214,11 @@ fn miscounted<'a>(first: Spot<'a>, mut words: Words<'a>) -> Spot<'a> {
         first
     };
     let Some((least, most)) = line_words(op.word) else {
-        return op;
+        return op.is("a word is missing before");
     };
-    match counted(&mut words, least, most, is_step) {
+    // (a cut has a reply, and no actor)
+    let has_reply = is_step || op.word == b"cut".as_slice();
+    match counted(&mut words, least, most, has_reply) {
         Err(spot) => spot,
         Ok(true) => miscounted_reply(words),
         Ok(false) => words.end(),
@@ -226,7 +230,7 @@ fn line_words(word: &[u8]) -> Option<(u64, u64)> {
     match word {
         b"board" => Some((7, 9)),
         b"at" => Some((2, 2)),
-        b"clock" => Some((1, 1)),
+        b"clock" | b"cut" => Some((1, 1)),
         _ => op_words(word),
     }
 }
