@@ -12,7 +12,8 @@ LINES, WORDS = 150, 1_200
 
 # A file or a folder that is named in a page, by its path from the top.
 NAMED = re.compile(r"`((?:\./)?(?:docs|examples|tests|tools|bench|crates)/[\w./*-]+)")
-TOOLCHAIN = re.compile(r"rattle-kit-\w+ logic \w+")
+# The names of kits of the toolchain, and of their logic, as pages name them.
+KIT, LOGIC = re.compile(r"rattle-kit-\w+"), re.compile(r"`(?:rattle-kit-\w+ )?(logic [0-9a-f]+)`")
 
 
 def pages():
@@ -47,13 +48,15 @@ def short(room):
 
 
 def toolchain(room):
+    """Who names kits of the toolchain names the one that is here, and its logic alone."""
     if shutil.which("rt") is None:
         raise Passed("the toolchain's rt is not on the path")
     found = subprocess.run(["rt", "version"], stdin=subprocess.DEVNULL, capture_output=True, text=True, timeout=60).stdout.strip()
+    kit, _, logic = found.partition(" ")
     for page, text in pages():
-        for line in TOOLCHAIN.findall(text):
-            if line != found:
-                raise Wrong(f"{page} names the toolchain {line}, and rt version prints {found}")
+        kits = KIT.findall(text)
+        if kits and (kit not in kits or {*LOGIC.findall(text)} != {logic}):
+            raise Wrong(f"{page} names the toolchains {kits}, {LOGIC.findall(text)}, and rt version prints {found}")
 
 
 def definitions(room):
