@@ -197,7 +197,11 @@ fn described<'a>(alloc: Global) -> Result<Command<'a>, AllocError> {
         )
         .after_help(AFTER);
     let about = "Programs, schedules and traces, with their conditions";
-    with_files(alloc, with_ways(alloc, with_orders(alloc, command)?)?, about)
+    with_files(
+        alloc,
+        with_ways(alloc, with_orders(alloc, command)?)?,
+        about,
+    )
 }
 
 /// The same, where all orders are looked at.
@@ -257,7 +261,9 @@ fn with_files<'a>(
         .long(FAILED)
         .value_name("DIR")
         .default_value(".")
-        .help("Where records are written: of each condition that fails, of each `some` that is met");
+        .help(
+            "Where records are written: of each condition that fails, of each `some` that is met",
+        );
     let command = command.arg(failed)?;
     let tap = Arg::new(alloc, TAP)
         .long(TAP)

@@ -1,9 +1,7 @@
 //! Where a word stands in a text.
 ghost use Rattle.std.specs.Prelude.{◌<◌, OnSome, length};
 
-use guest_script::{
-    Fault, ScriptFault, next_word, signed_number, unsigned_number, without_return,
-};
+use guest_script::{Fault, ScriptFault, next_word, signed_number, unsigned_number, without_return};
 
 /// The largest number of a hart.
 const LAST_HART: u64 = 127;
