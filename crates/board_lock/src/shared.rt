@@ -28,7 +28,7 @@ use std::sync::{Condvar, Mutex, MutexGuard, Wait};
 use std::thread::yield_now;
 
 /// How often a thread looks for what it waits for, and lets others go first, before it sleeps.
-const LOOKS: u32 = 4;
+const LOOKS: u32 = 6;
 
 /// A board behind one lock.
 #[derive(Drop)]
