@@ -14,7 +14,7 @@ import programs  # noqa: E402
 from test_explore import ASKED, COUNTED, MESSAGE_PASSING, REBOOTS, STORE_BUFFERING, ends_told, explored  # noqa: E402
 from test_orders import FENCE, LOADS_AND_STORES, RACE, ROWS, SUSPENDED, TESTER, WAKE, at_a_terminal, must, told, told_of  # noqa: E402
 
-with open(os.path.join(ROOT, "crates/sbiboard_test/src/all_orders.rt"), encoding="utf-8") as file:
+with open(os.path.join(ROOT, "crates/all_orders/src/few_states.rt"), encoding="utf-8") as file:
     SOURCE = file.read()
 
 # How many states are few, and how many pages of RAM they have together at most.

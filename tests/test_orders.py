@@ -186,10 +186,11 @@ def names_are_escaped(room):
 
 
 def bad_conditions_are_told(room):
-    """A condition that can't be read is a point that fails, with its line and its column."""
+    """A condition that can't be read is a point that fails, with its line, its column and the word there."""
     for line, column, why in FAULTS:
         status, lines = told(room, RACE + line + "\n")
-        must(f"{line}: {lines}", status == 1 and lines[1] == f"not ok 1 - race.program:8:{column}: {why}")
+        word = "".join(f": '{it}'" for it in line[column - 1 :].partition("#")[0].split()[:1])
+        must(f"{line}: {lines}", status == 1 and lines[1] == f"not ok 1 - race.program:8:{column}: {why}{word}")
     # (on the first line it makes a script that can be executed, and says nothing)
     status, lines = told(room, f"#!/usr/bin/env -S sbiboard test\n{RACE}", "--times", "3")
     must(f"{lines}", status == 0 and lines[1] == "ok 1 - race.program (3 orders)")
@@ -431,6 +432,26 @@ def statuses_are_told(room):
     must(f"{found}", found.returncode == 7 and found.stderr.startswith(b"sbiboard: "))
 
 
+def records_that_are_not_written_are_told(room):
+    """Where a record can't be written, its point says so, all points are told all the same, those of later files too, and the status is 7."""
+    told(room, "#! end off\n#! some 0 sip\nboard 1 1 9 0 0x80000000 0\nat 0x80000000\nsip\n", name="a.program")
+    told(room, f"#! never 0 advance\n{HEAD}0 advance\n", name="b.sched")
+    for name, words in (("sbiboard", ["--times", "5"]), ("sbiboard", ["--times", "5", "--threads"]), ("sbiboard", []), ("sbiboard explore", [])):
+        files = ["a.program", "b.sched"] if name == "sbiboard" else ["a.program"]
+        whole, found = [
+            subprocess.run([name, *words, "--failed", folder, *files], executable=TESTER, cwd=room, capture_output=True, text=True, timeout=HANG)
+            for folder in (".", "nowhere")
+        ]
+        must(f"{words}: {whole}", whole.returncode == 1 and not whole.stderr and "unwritten" not in whole.stdout)
+        lines = found.stdout.splitlines()
+        kept = [it for it in lines if not it.startswith('  unwritten: "No such file or directory')]
+        records = [at for at, it in enumerate(lines) if it.startswith('  record: "nowhere/')]
+        must(f"{words}: {found}", kept == whole.stdout.replace('  record: "./', '  record: "nowhere/').splitlines())
+        must(f"{words}: {found}", records and all(lines[at + 1] not in kept for at in records) and len(lines) == len(kept) + len(records))
+        first = lines[records[0]].split('"')[1]
+        must(f"{words}: {found}", found.returncode == 7 and found.stderr.startswith(f"sbiboard: {first}: ") and found.stderr.count("\n") == 1)
+
+
 def tap_is_written_too(room):
     """--tap writes the same points into a file, and --seconds ends by itself and says so."""
     status, lines = told(room, f"#! end off\n{RACE}", "--tap", "points.tap", "--times", "20")
@@ -589,6 +610,7 @@ TESTS = [
     ("all differences of a trace are told", all_differences_are_told), ("schedules are replayed and judged", schedules_are_replayed),
     ("stale accesses are told", stale_accesses_are_told),
     ("statuses of tests", statuses_are_told), ("points are written into a file too", tap_is_written_too),
+    ("records that can't be written are told", records_that_are_not_written_are_told),
     ("any number of jobs tells the same", jobs_tell_the_same), ("odd programs are told", odd_programs_are_told),
     ("runs on threads are judged too", threads_are_judged_too), ("a terminal is told plainly", a_terminal_is_told_plainly),
     ("points are read by others", points_are_read_by_others), ("the tour on finding orders", tour_is_as_written),

@@ -12,5 +12,5 @@ pub use counts::{Counts, named};
 pub use oddities::{put_comments, put_oddities};
 pub use plain::human;
 pub use records::{RecordParts, event_line, record, step_line};
-pub use report::Report;
+pub use report::{Report, Unwritten};
 pub use stuck::put_stuck;

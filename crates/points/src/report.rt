@@ -2,7 +2,17 @@
 use crate::counts::{Counts, Whole};
 use std::alloc::{AllocError, Global};
 use std::fmt::Write;
+use std::io;
 use tallies::Ends;
+
+/// A file that could not be written.
+#[derive(Debug, Drop)]
+pub struct Unwritten {
+    /// Its name.
+    pub path: String,
+    /// Why.
+    pub error: io::Error,
+}
 
 /// What is told of all files: points of the Test Anything Protocol, version 14.
 #[derive(Drop)]
@@ -16,6 +26,8 @@ pub struct Report {
     ends: Ends,
     whole: Whole,
     is_cut: bool,
+    /// The first record that could not be written.
+    unwritten: Option<Unwritten>,
 }
 
 impl Report {
@@ -37,6 +49,7 @@ impl Report {
             ends: Ends::new(),
             whole: Whole::new(),
             is_cut: false,
+            unwritten: None,
         }
     }
 
@@ -181,6 +194,25 @@ impl Report {
             "1..{}\n# {} points, {} failed\n",
             self.points, self.points, self.failed
         )
+    }
+
+    /// A record could not be written: its point says so, and why.
+    pub fn put_unwritten(&mut self, path: String, error: io::Error) -> Result<(), AllocError> {
+        write!(self.text, "  unwritten: \"{error}\"\n")?;
+        self.see_unwritten(Some(Unwritten { path, error }));
+        Ok(())
+    }
+
+    /// Takes over from a part of the report which record could not be written.
+    pub fn see_unwritten(&mut self, found: Option<Unwritten>) {
+        if self.unwritten.is_none() {
+            self.unwritten = found;
+        }
+    }
+
+    /// Hands out which record could not be written, the first of them.
+    pub fn take_unwritten(&mut self) -> Option<Unwritten> {
+        self.unwritten.take()
     }
 
     /// Whether no point failed.

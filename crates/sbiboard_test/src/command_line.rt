@@ -1,15 +1,14 @@
 //! What the command lines of `test` and `explore` ask for.
 ghost use Rattle.std.specs.Prelude.{◌<◌};
 
-use crate::limit::Limit;
-use crate::screen::Screen;
-use crate::stop::Stop;
+use crate::early::Early;
 use clap::parser::ValueSource;
 use clap::{Arg, ArgAction, ArgMatches, Command, value_parser};
 use std::alloc::{AllocError, Global};
 use std::ops::Range;
 use std::rt::Clock;
 use std::thread::{self, Threads};
+use test_terms::{Limit, Options, Screen};
 
 const TIMES: &str = "times";
 
@@ -55,45 +54,6 @@ A state takes some 2 KB for three harts, of whose RAM most words are 0.
 
 Exit status: 0 all hold, 1 some don't, 2 usage, 6 no memory, 7 input or output failed, 8 not all orders were seen.";
 
-/// What is asked for.
-#[derive(Debug, Drop)]
-pub(crate) struct Options<'a> {
-    times: u64,
-    order: Option<u64>,
-    /// The seed of the orders.
-    pub(crate) seed: u64,
-    /// How many orders are tried at a time.
-    pub(crate) jobs: u64,
-    /// How many runs on threads are tried of each program.
-    pub(crate) runs: u64,
-    /// Whether all orders of a program with few states are looked at, and none of a seed is tried.
-    pub(crate) are_few_seen: bool,
-    /// What stands where the program prints.
-    pub(crate) screen: Screen,
-    /// Where all orders are looked at, how many states may be found.
-    pub(crate) states: Option<usize>,
-    /// Whether what loads gave last is told, too.
-    pub(crate) outcomes: bool,
-    /// The folder that failing records are written into.
-    pub(crate) failed: &'a str,
-    /// How long orders are tried, of all programs together.
-    pub(crate) limit: Limit,
-    /// The file that the points are written into, too, if one is named.
-    pub(crate) tap: Option<&'a str>,
-    /// The files.
-    pub(crate) files: Vec<&'a str>,
-}
-
-impl Options<'_> {
-    /// The numbers of the orders that are tried of each program: the one that is asked for, or the first ones.
-    pub(crate) fn orders(&self) -> Range<u64> {
-        match self.order {
-            Some(order) => order..order.saturating_add(1),
-            None => 0..self.times,
-        }
-    }
-}
-
 /// What the words of a command line ask for, the program's own name first.
 ///
 /// # Errors
@@ -103,7 +63,7 @@ pub(crate) fn options_of<'a, R: AllocGlobal + Clock + Threads>(
     rt: &R,
     words: &'a [String],
     screen: Screen,
-) -> Result<Options<'a>, Stop> {
+) -> Result<Options<'a>, Early> {
     if words.first().is_some_and(|name| name.as_str() == EXPLORE) {
         return explore_options(rt, words, screen);
     }
@@ -111,8 +71,10 @@ pub(crate) fn options_of<'a, R: AllocGlobal + Clock + Threads>(
     let matches = described(alloc)?.try_get_matches_from(words)?;
     let times = matches.get_one(TIMES).unwrap_or(0);
     Ok(Options {
-        times,
-        order: matches.get_one(ORDER),
+        orders: match matches.get_one(ORDER) {
+            Some(order) => one_order(order),
+            None => 0..times,
+        },
         seed: matches.get_one(SEED).unwrap_or(0),
         jobs: jobs_of(rt, matches.get_one(JOBS)),
         runs: if matches.get_flag(THREADS) { times } else { 0 },
@@ -125,6 +87,11 @@ pub(crate) fn options_of<'a, R: AllocGlobal + Clock + Threads>(
         tap: matches.get_str(TAP),
         files: files_of(alloc, &matches)?,
     })
+}
+
+/// The numbers of one order alone.
+fn one_order(order: u64) -> Range<u64> {
+    order..order.saturating_add(1)
 }
 
 /// Whether they ask for orders of a seed, or for runs on threads.
@@ -145,13 +112,12 @@ fn explore_options<'a, R: AllocGlobal + Clock>(
     rt: &R,
     words: &'a [String],
     screen: Screen,
-) -> Result<Options<'a>, Stop> {
+) -> Result<Options<'a>, Early> {
     let alloc = rt.alloc();
     let matches = described_exploring(alloc)?.try_get_matches_from(words)?;
     let states: u64 = matches.get_one(STATES).unwrap_or(0);
     Ok(Options {
-        times: 0,
-        order: None,
+        orders: 0..0,
         seed: 0,
         jobs: 1,
         runs: 0,

@@ -1,7 +1,7 @@
 //! A file, read with its conditions, or why it can't be.
 use conditions::{Condition, Wrong, conditions};
 use guest_script::{Fault, Script, parse};
-use script_text::{bad_board, faulty};
+use script_text::{bad_board, bad_condition, faulty};
 use std::alloc::{AllocError, Global};
 use std::fs;
 use std::io::{self, ErrorKind, Read};
@@ -62,7 +62,8 @@ pub(crate) fn load<R: AllocGlobal + Files>(rt: &R, file: &str) -> Result<Loaded,
     }
     let conditions = match conditions(alloc, &text) {
         Ok(conditions) => conditions,
-        Err(found) => return Err(bad_condition(alloc, found)?),
+        Err(found) if found.wrong == Wrong::NoMemory => return Err(Unloaded::NoMemory),
+        Err(found) => return Err(Unloaded::File(bad_condition(alloc, &text, found)?)),
     };
     Ok(Loaded {
         text,
@@ -77,19 +78,6 @@ fn unreadable(alloc: Global, kind: ErrorKind) -> Result<Unloaded, AllocError> {
     }
     let why = unread(kind);
     Ok(Unloaded::File(format!(in alloc; ": {why}")?))
-}
-
-/// Says where a condition can't be read, and why.
-fn bad_condition(alloc: Global, found: conditions::Fault) -> Result<Unloaded, AllocError> {
-    let conditions::Fault {
-        line,
-        column,
-        wrong,
-    } = found;
-    if wrong == Wrong::NoMemory {
-        return Ok(Unloaded::NoMemory);
-    }
-    Ok(Unloaded::File(format!(in alloc; ":{line}:{column}: {wrong}")?))
 }
 
 /// Reads a file, as far as a script may go.

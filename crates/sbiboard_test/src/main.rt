@@ -3,31 +3,17 @@
 //! Protocol.
 #![tactic(auto)]
 
-mod all_orders;
 mod command_line;
 mod course;
-mod detail;
-mod exploring;
-mod graph;
-mod limit;
+mod early;
 mod loading;
-mod looking;
-mod meeting;
-mod orders;
-mod outcomes;
-mod pace;
-mod readings;
-mod screen;
 mod stale;
 mod steps;
-mod stop;
 mod testing;
-mod threaded;
-mod visiting;
 
-use command_line::{Options, options_of};
-use points::{Report, human};
-use screen::Screen;
+use command_line::options_of;
+use early::{Early, told};
+use points::{Report, Unwritten, human};
 use std::alloc::{AllocError, Global};
 use std::io::{self, ErrorKind, IsTerminal, Write};
 use std::os::unix::fs::MetadataExt;
@@ -36,7 +22,7 @@ use std::rt::{Clock, Env, Files};
 use std::sync::Wait;
 use std::thread::Threads;
 use std::{env, fs};
-use stop::{Stop, stopped};
+use test_terms::{Options, Screen, Stop};
 use testing::test_file;
 
 fn main(rt: HostRuntime) -> ExitCode {
@@ -48,7 +34,7 @@ fn main(rt: HostRuntime) -> ExitCode {
         Ok(Held::All) => 0,
         Ok(Held::NotAll) => 1,
         Ok(Held::Unseen) => 8,
-        Err(stop) => stopped(&rt, &stop),
+        Err(early) => told(&rt, &early),
     })
 }
 
@@ -67,10 +53,15 @@ enum Held {
 fn run<R: AllocGlobal + Clock + Env + Eprint + Files + Print + Sync + Threads + Wait>(
     rt: &R,
     screen: Screen,
-) -> Result<Held, Stop> {
-    let words = env::args(rt)?.collect::<Vec<String>>(rt.alloc())?;
+) -> Result<Held, Early> {
+    let words = words_of(rt)?;
     let options = options_of(rt, words.as_slice(), screen)?;
-    test_all(rt, &options)
+    Ok(test_all(rt, &options)?)
+}
+
+/// The words of the command line.
+fn words_of<R: AllocGlobal + Env>(rt: &R) -> Result<Vec<String>, Stop> {
+    Ok(env::args(rt)?.collect::<Vec<String>>(rt.alloc())?)
 }
 
 /// Tests each file, and tells its points as soon as they are known; then the plan and the summary.
@@ -86,18 +77,36 @@ fn test_all<R: AllocGlobal + Clock + Eprint + Files + Print + Sync + Threads + W
         None => None,
     };
     let mut report = Report::new(rt.alloc())?;
+    test_each(rt, options, &mut tap, &mut report)?;
+    if options.screen.is_read {
+        let millis = options.limit.millis(rt)?;
+        println!(rt; "time: {}.{} s", millis / 1_000, millis % 1_000 / 100)?;
+    }
+    verdict(options, &mut report)
+}
+
+/// Tests each file, tells its points, and then the plan and the summary.
+fn test_each<R: AllocGlobal + Clock + Eprint + Files + Print + Sync + Threads + Wait>(
+    rt: &R,
+    options: &Options<'_>,
+    tap: &mut Option<R::File>,
+    report: &mut Report,
+) -> Result<(), Stop> {
     for file in &options.files {
-        test_file(rt, options, file, &mut report)?;
-        tell(rt, options, &mut tap, &mut report)?;
+        test_file(rt, options, file, report)?;
+        tell(rt, options, tap, report)?;
     }
     match options.states {
         Some(_) => report.end_exploring()?,
         None => report.end()?,
     }
-    tell(rt, options, &mut tap, &mut report)?;
-    if options.screen.is_read {
-        let millis = options.limit.millis(rt)?;
-        println!(rt; "time: {}.{} s", millis / 1_000, millis % 1_000 / 100)?;
+    tell(rt, options, tap, report)
+}
+
+/// What was found of all points, or that a record could not be written.
+fn verdict(options: &Options<'_>, report: &mut Report) -> Result<Held, Stop> {
+    if let Some(unwritten) = report.take_unwritten() {
+        return Err(Stop::Unwritten(unwritten));
     }
     Ok(if !report.all_hold() {
         Held::NotAll
@@ -151,5 +160,6 @@ fn tell<R: AllocGlobal + Files + Print>(
 
 /// A file of this name could not be written.
 fn unwritten(alloc: Global, path: &str, error: io::Error) -> Result<Stop, AllocError> {
-    Ok(Stop::Unwritten(String::from_str(alloc, path)?, error))
+    let path = String::from_str(alloc, path)?;
+    Ok(Stop::Unwritten(Unwritten { path, error }))
 }

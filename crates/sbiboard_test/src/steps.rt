@@ -1,9 +1,6 @@
 //! Schedules that are replayed, and traces that are compared.
-use crate::command_line::Options;
 use crate::course::Course;
-use crate::detail::put_record;
 use crate::stale::{Expected, Stale};
-use crate::stop::Stop;
 use board_core::{Refusal, Reply};
 use conditions::{Condition, Rule};
 use guest_script::{KeptLine, Lines};
@@ -14,6 +11,7 @@ use std::fmt::Write;
 use std::rt::Files;
 use std::str;
 use tallies::{failing_step, is_met, meets};
+use test_terms::{Options, Stop, put_record};
 
 /// Makes each step of a schedule, whatever is refused. Without conditions that is the point.
 pub(crate) fn replay(

@@ -3,15 +3,10 @@ ghost use Rattle.std.specs.Prelude.{◌≡◌, true};
 ghost use Rattle.guest_script.specs.Grammar.{content};
 ghost use Rattle.hart_threads.specs.Programs.{IsProgram};
 
-use crate::all_orders::test_all_orders;
-use crate::command_line::Options;
 use crate::course::Course;
-use crate::exploring::explore_program;
 use crate::loading::{Unloaded, load};
-use crate::orders::test_orders;
 use crate::steps::{compare, judge_record, replay};
-use crate::stop::Stop;
-use crate::threaded::test_runs;
+use all_orders::{explore_program, test_all_orders};
 use guest_script::{Body, Script};
 use hart_threads::new_board;
 use points::{Report, put_comments};
@@ -19,6 +14,8 @@ use script_text::Case;
 use std::rt::{Clock, Files};
 use std::sync::Wait;
 use std::thread::Threads;
+use test_terms::{Options, Stop};
+use tried_orders::{test_orders, test_runs};
 
 /// Tests a file, and tells its points. One that can't be read, or has a fault, is a point that fails.
 pub(crate) fn test_file<R: AllocGlobal + Clock + Eprint + Files + Sync + Threads + Wait>(

@@ -7,4 +7,4 @@ mod untested;
 
 pub use case::{Case, Walk, number_in, said};
 pub use spots::{Spot, spot_of};
-pub use untested::{bad_board, faulty};
+pub use untested::{bad_board, bad_condition, faulty};

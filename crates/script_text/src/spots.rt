@@ -78,6 +78,21 @@ pub fn spot_of(text: &[u8], found: ScriptFault) -> Option<Spot<'_>> {
     }
 }
 
+/// The word that begins at a column of a line; nothing where none does.
+pub(crate) fn word_at(text: &[u8], line: u64, column: u64) -> &[u8] {
+    let Some(line) = line_of(text, line) else {
+        return b"";
+    };
+    let before = column.saturating_sub(1) as usize;
+    let Some(from) = without_return(line).get(before..) else {
+        return b"";
+    };
+    match next_word(from) {
+        Some((word, _)) => word,
+        None => b"",
+    }
+}
+
 /// The text of a line, from 1.
 fn line_of(text: &[u8], line: u64) -> Option<&[u8]> {
     for (i, found) in text.split(|b| *b == b'\n').enumerate() {

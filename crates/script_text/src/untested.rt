@@ -1,6 +1,7 @@
 //! What is wrong with a text, in words.
-use crate::spots::{Spot, spot_of};
+use crate::spots::{Spot, spot_of, word_at};
 use board_core::{Config, USUAL_ASID_LEN, USUAL_WIDTH};
+use conditions::Fault;
 use guest_script::ScriptFault;
 use std::alloc::{AllocError, Global};
 use std::str;
@@ -18,6 +19,19 @@ pub fn faulty(alloc: Global, text: &[u8], found: ScriptFault) -> Result<String, 
     match str::from_utf8(word) {
         Ok("") | Err(_) => format!(in alloc; ":{line}:{column}: {what} (fault {number})"),
         Ok(word) => format!(in alloc; ":{line}:{column}: {what} '{word}' (fault {number})"),
+    }
+}
+
+/// Says where a condition can't be read, by the line, the column and the word, and why.
+pub fn bad_condition(alloc: Global, text: &[u8], found: Fault) -> Result<String, AllocError> {
+    let Fault {
+        line,
+        column,
+        wrong,
+    } = found;
+    match str::from_utf8(word_at(text, line, column)) {
+        Ok("") | Err(_) => format!(in alloc; ":{line}:{column}: {wrong}"),
+        Ok(word) => format!(in alloc; ":{line}:{column}: {wrong}: '{word}'"),
     }
 }
 

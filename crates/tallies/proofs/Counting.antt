@@ -1,5 +1,5 @@
 -- Tallies, record by record.
-use Rattle.std.proofs.Common.{◌≡◌, ℕ, suc, ◌+◌, ◌-◌, ◌^◌, ◌<◌, List, [], ◌∷◌, ◌++◌, refl, sym, ap, ◌∙◌, subst, inl, inr, ◌⊎◌, arith}
+use Rattle.std.proofs.Common.{◌≡◌, ℕ, suc, ◌+◌, ◌-◌, ◌^◌, ◌<◌, List, [], ◌∷◌, ◌++◌, refl, sym, ap, ◌∙◌, subst, inl, inr, ◌⊎◌, length, arith}
 use Rattle.std.specs.Prelude.{Bool, true, false, min, Option, Some, None, is_some, not, ◌↔◌}
 use Rattle.conditions.specs.declared.patterns.Pattern.{Pattern}
 use Rattle.conditions.specs.declared.rules.Rule.{Rule}
@@ -176,6 +176,25 @@ some-tells P tried t tells =
       (λ some. some-counted P (λ x. ¬ P x) tried f.0 f.1 (up-some t.holding f.0 f.2 some)),
       (λ some. down-some t.holding f.0 f.2 (some-there P (λ x. ¬ P x) tried f.0 (λ x yes no. no yes) f.1 some)),
     )
+
+-- each is such, or it isn't
+count-all : {X : Type 0} (P : X → Type 0) (xs : List X) (n m : ℕ) → IsCount P (λ x. ¬ P x) xs n → IsCount (λ x. ¬ P x) P xs m → n + m ≡ length xs
+unfolding IsCount
+count-all P [] n m such other = omega arith
+count-all P (x ∷ xs) n m (inl one) (inl none) = absurd (none.0 one.0)
+count-all P (x ∷ xs) n m (inl one) (inr more) = let up = one.1.1 in let all = count-all P xs one.1.0 m one.1.2 more.1 in omega arith
+count-all P (x ∷ xs) n m (inr more) (inl one) = let up = one.1.1 in let all = count-all P xs n one.1.0 more.1 one.1.2 in omega arith
+count-all P (x ∷ xs) n m (inr none) (inr one) = absurd (none.0 one.0)
+
+all-up : (a b n m k l : ℕ) → n ≡ min a (2 ^ 64 - 1) → m ≡ min b (2 ^ 64 - 1) → k ≡ min (n + m) (2 ^ 64 - 1) → a + b ≡ l → k ≡ min l (2 ^ 64 - 1)
+all-up a b n m k l one other is all = grind arith
+
+pub all-told : (P : Tried → Type 0) (tried : List Tried) (t : Tally) (k : ℕ) → Tells P tried t → k ≡ min (t.holding + t.failing) (2 ^ 64 - 1)
+    → k ≡ min (length tried) (2 ^ 64 - 1)
+all-told P tried t k tells is =
+    let such : IsCounted P (λ x. ¬ P x) tried t.holding = tells.holding in
+    let other : IsCounted (λ x. ¬ P x) P tried t.failing = tells.failing in
+    all-up such.0 other.0 t.holding t.failing k (length tried) such.2 other.2 is (count-all P tried such.0 other.0 such.1 other.1)
 
 -- ---- the program's own steps
 

@@ -1,9 +1,11 @@
 //! Orders that are tried on several processors.
-ghost use Rattle.std.specs.Prelude.{◌≡◌, ◌≤◌, ◌<◌, ◌+◌, ◌*◌, ◌-◌, ◌^◌, ℕ, [], length, slice_index_or, IfOk};
+ghost use Rattle.std.specs.Prelude.{◌≡◌, ◌≤◌, ◌<◌, ◌+◌, ◌*◌, ◌-◌, ◌^◌, ℕ, [], length, slice_index_or, IfOk, IsErrOf};
+ghost use Rattle.board_terms.specs.Limits.{IsGood};
 ghost use Rattle.guest_script.specs.Grammar.{content};
 ghost use Rattle.hart_threads.specs.Programs.{IsProgram};
+ghost use Rattle.hart_threads.specs.declared.ends.RunFault.TheVariants.{BadConfig};
 ghost use Rattle.tallies.specs.Findings.{AreFound, AreFoundOf};
-ghost use Rattle.tallies.specs.Inside.Shares.{AreShares, edge};
+ghost use Rattle.tallies.specs.Inside.Shares.{AreShares, IsShare, edge};
 
 use crate::findings::Findings;
 use crate::orders::try_orders;
@@ -32,7 +34,8 @@ pub fn try_in_jobs<R: Threads + Sync>(
     requires program { IsProgram (content script.now.body) }
     requires up { from ≤ to }
     requires some { 0 < jobs }
-    ensures { IfOk result (AreFoundOf script.now.config (content script.now.body) conditions.now seed from to) }
+    ensures bad { IsErrOf result BadConfig → ¬ IsGood script.now.config }
+    ensures found { IfOk result (AreFoundOf script.now.config (content script.now.body) conditions.now seed from to) }
 {
     if jobs == 1 {
         return try_orders(alloc, script, conditions, seed, from, to);
@@ -58,9 +61,8 @@ fn try_shares<R: Threads + Sync>(
     requires program { IsProgram (content script.now.body) }
     requires up { from ≤ to }
     ensures many { IfOk result (λ v. length v.items ≡ jobs) }
-    ensures each { IfOk result (λ v. (i : ℕ) (d : _) → i < jobs → IfOk (slice_index_or v.items i d)
-        (AreFoundOf script.now.config (content script.now.body) conditions.now seed (edge from to share i)
-        (edge from to share (i + 1)))) }
+    ensures each { IfOk result (λ v. (i : ℕ) (d : _) → i < jobs → IsShare script.now.config (content script.now.body)
+        conditions.now seed (edge from to share) i (slice_index_or v.items i d)) }
 {
     thread::map_indices(
         rt,
@@ -84,8 +86,7 @@ fn try_share(
     requires program { IsProgram (content script.now.body) }
     requires up { from ≤ to }
     requires few { i < 2 ^ 64 - 1 }
-    ensures { IfOk result (AreFoundOf script.now.config (content script.now.body) conditions.now seed
-        (edge from to share i) (edge from to share (i + 1))) }
+    ensures { IsShare script.now.config (content script.now.body) conditions.now seed (edge from to share) i result }
 {
     let low = edge(from, to, share, i);
     let high = edge(from, to, share, i + 1);
@@ -116,7 +117,8 @@ fn joined(
     requires whole { to - from < length all.items * share }
     requires shares { AreShares script.now.config (content script.now.body) conditions.now seed
         (edge from to share) 0 all.items }
-    ensures { IfOk result (AreFoundOf script.now.config (content script.now.body) conditions.now seed from to) }
+    ensures bad { IsErrOf result BadConfig → ¬ IsGood script.now.config }
+    ensures found { IfOk result (AreFoundOf script.now.config (content script.now.body) conditions.now seed from to) }
 {
     for tried in all {
         let more = tried?;

@@ -1,6 +1,8 @@
 //! Orders of a seed, tried one after the other.
-ghost use Rattle.std.specs.Prelude.{◌≡◌, ◌≤◌, IfOk};
+ghost use Rattle.std.specs.Prelude.{◌≡◌, ◌≤◌, ◌↔◌, IfOk, IsErrOf};
+ghost use Rattle.board_terms.specs.Limits.{IsGood};
 ghost use Rattle.guest_script.specs.Grammar.{Content, content};
+ghost use Rattle.hart_threads.specs.declared.ends.RunFault.TheVariants.{BadConfig};
 ghost use Rattle.hart_threads.specs.Programs.{IsProgram};
 ghost use Rattle.seeded_orders.specs.Steps.{task_in, task_of};
 ghost use Rattle.tallies.specs.Findings.{AreFoundOf};
@@ -28,7 +30,8 @@ pub fn try_orders(
 ) -> Result<Findings, RunFault>
     requires program { IsProgram (content script.now.body) }
     requires up { from ≤ to }
-    ensures { IfOk result (AreFoundOf script.now.config (content script.now.body) conditions.now seed from to) }
+    ensures bad { IsErrOf result BadConfig ↔ ¬ IsGood script.now.config }
+    ensures found { IfOk result (AreFoundOf script.now.config (content script.now.body) conditions.now seed from to) }
 {
     let mut board = new_board(alloc, &script.config)?;
     Ok(tried_on(alloc, script, &mut board, conditions, seed, from, to)?)

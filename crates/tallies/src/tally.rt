@@ -1,5 +1,5 @@
 //! What was found of one condition.
-ghost use Rattle.std.specs.Prelude.{◌≡◌, ◌↔◌, ◌∷◌, ◌++◌, List, Option, Some, true, []};
+ghost use Rattle.std.specs.Prelude.{◌≡◌, ◌↔◌, ◌∷◌, ◌++◌, ◌-◌, ◌^◌, List, Option, Some, length, min, true, []};
 ghost use Rattle.conditions.specs.declared.rules.Rule.{Rule as Asked};
 ghost use Rattle.tallies.specs.Records.{AllMeet, EachIs, IsSo, SomeIs, Tells, Tried};
 
@@ -57,8 +57,11 @@ impl Tally {
         }
     }
 
-    /// How many records were tried.
-    pub fn tried(&self) -> u64 {
+    /// How many records were tried, counted up to 2^64-1.
+    pub fn tried(&self) -> u64
+        ensures { (asked : Option Asked) (tried : List Tried) → Tells (IsSo asked) tried self.now
+            → result ≡ min (length tried) (2 ^ 64 - 1) }
+    {
         self.holding.saturating_add(self.failing)
     }
 

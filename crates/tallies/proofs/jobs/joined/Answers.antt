@@ -19,7 +19,7 @@ loop-tried-preserved c =
     let short = ap (λ (xs : List (Result Findings RunFault)). length xs) steps in
     let shares = subst (λ xs. AreShares c.args.script.now.config body c.args.conditions.now c.args.seed edges i xs) steps at.invariant.1.2 in
     let Q : Result Findings RunFault → Type 0 = λ r. IfOk r (AreFoundOf c.args.script.now.config body c.args.conditions.now c.args.seed (edges i) (edges (i + 1))) in
-    let here = subst Q c.in_ok-more.was shares.0 in (
+    let here = subst Q c.in_ok-more.was shares.0.found in (
       (let was = at.invariant.0 in let gone = c.in-Some.ensures.steps.1 in omega arith),
       (
         i + 1,

@@ -1,8 +1,7 @@
 use Rattle.std.proofs.Common.{◌≡◌, ℕ, ◌∙◌, subst, arith}
 use Rattle.board_terms.specs.declared.config.Config.{Config}
-use Rattle.guest_script.specs.Grammar.{Content}
 use Rattle.seeded_orders.specs.Orders.{IsTried}
-use Rattle.seeded_orders.specs.Steps.{task_in, task_of, Task}
+use Rattle.seeded_orders.specs.Steps.{task_in, Task}
 use Rattle.tallies.specs.Findings.{AreFoundOf}
 use Rattle.tallies.proofs.Finding.{found-next}
 use Rattle.tallies.proofs.orders.each_tried.Goals as goal
