@@ -450,6 +450,11 @@ def records_that_are_not_written_are_told(room):
         must(f"{words}: {found}", records and all(lines[at + 1] not in kept for at in records) and len(lines) == len(kept) + len(records))
         first = lines[records[0]].split('"')[1]
         must(f"{words}: {found}", found.returncode == 7 and found.stderr.startswith(f"sbiboard: {first}: ") and found.stderr.count("\n") == 1)
+    # (that of a run alone: a folder has its name)
+    os.mkdir(os.path.join(room, "c.program.threads-0.failed"))
+    os.link(os.path.join(room, "a.program"), os.path.join(room, "c.program"))
+    found = subprocess.run(["sbiboard", "--times", "5", "--threads", "c.program"], executable=TESTER, cwd=room, capture_output=True, text=True, timeout=HANG)
+    must(f"{found}", found.returncode == 7 and found.stderr.startswith("sbiboard: ./c.program.threads-0.failed: ") and found.stdout.count("  unwritten: ") == 1)
 
 
 def tap_is_written_too(room):
