@@ -1,5 +1,5 @@
 -- What a call answers: an error, or a value, where it returns (SBI 3).
-use Rattle.std.specs.Prelude.{ℕ, pos, Bool, List, [], ◌∷◌, if◌then◌else◌, Option, Some, None}
+use Rattle.std.specs.Prelude.{ℕ, pos, Option, Some, None}
 use Rattle.sbi_abi.specs.declared.answer.Sbiret.{Sbiret}
 use Rattle.sbi_abi.specs.declared.answer.SbiError.{SbiError}
 use Rattle.sbi_abi.specs.Errors.{error_number}

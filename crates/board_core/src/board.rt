@@ -5,7 +5,7 @@ ghost use Rattle.interrupts.specs.Timing.{last_time};
 ghost use Rattle.sv39.specs.Maps.{maps};
 ghost use Rattle.board_terms.specs.declared.config.BuildFault.TheVariants.{BadConfig, CutFull, NoMemory};
 ghost use Rattle.board_core.specs.Cuts.{IsOpened, IsUnseen, first_of, last_cut, opening_of};
-ghost use Rattle.board_core.specs.History.{Event, access_of, by_hart};
+ghost use Rattle.board_core.specs.History.{Event, access_of, access_op, by_hart, using};
 ghost use Rattle.board_core.specs.Inside.Keeping.{IsShort};
 ghost use Rattle.board_terms.specs.declared.op.Actor.TheVariants.{Hart, Clock};
 ghost use Rattle.board_core.specs.Csrs.{sie, sstatus_sie};
@@ -29,6 +29,7 @@ use crate::event::{Event, access_of};
 use crate::machine::Machine;
 use crate::opening::Opening;
 use crate::phase::Phase;
+use crate::recording::{record, record_access};
 use board_terms::{Actor, BuildFault, Config, Op, Refusal, Reply};
 use hart_access::Access;
 use hart_mask::HartSet;
@@ -272,8 +273,7 @@ impl Board {
     {
         let place = self.place();
         let (reply, used) = self.machine.access(place, h, va, what);
-        self.events
-            .push_reserved(Event::new(Actor::Hart(h), op, reply, used));
+        record_access(&mut self.events, h, va, what, reply, used);
         reply
     }
 
@@ -581,25 +581,3 @@ pub fn errors_change_nothing()
     ensures { (o : Opening) (event : Event) (past : List Event) →
         IsLegal o (event ∷ past) → is_error event.reply ≡ true → LooksSame o past (event ∷ past) }
 {}
-
-/// Puts an operation of hart `h` that is no access at the end of the history, where there is room.
-#[inline(always)]
-fn record(events: &mut Vec<Event>, h: u64, op: Op, reply: Reply)
-    requires room { vec_len events.old < vec_capacity events.old }
-    requires other { access_of op ≡ None }
-    requires short { IsShort (Hart h) op reply }
-    ensures items { events.new.items ≡ events.old.items ++ by_hart h op reply ∷ [] }
-    ensures capacity { vec_capacity events.new ≡ vec_capacity events.old }
-{
-    // (the commonest by themselves, so that each writes only what it has)
-    let actor = Actor::Hart(h);
-    match op {
-        Op::Ecall(regs) => events.push_reserved(Event::new(actor, Op::Ecall(regs), reply, None)),
-        Op::ReadSip => events.push_reserved(Event::new(actor, Op::ReadSip, reply, None)),
-        Op::ClearSsip => events.push_reserved(Event::new(actor, Op::ClearSsip, reply, None)),
-        Op::Poll => events.push_reserved(Event::new(actor, Op::Poll, reply, None)),
-        Op::Serve => events.push_reserved(Event::new(actor, Op::Serve, reply, None)),
-        Op::Advance => events.push_reserved(Event::new(actor, Op::Advance, reply, None)),
-        _ => events.push_reserved(Event::new(actor, op, reply, None)),
-    }
-}

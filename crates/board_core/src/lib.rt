@@ -16,6 +16,7 @@ mod memory;
 mod opening;
 mod packed;
 mod phase;
+mod recording;
 mod taking;
 
 pub use board::{Board, Segment, Totals, errors_change_nothing, starts_are_entered};

@@ -1,8 +1,8 @@
 //! A new board for a run.
-ghost use Rattle.std.specs.Prelude.{◌≡◌, ◌↔◌, [], IfOk, IsErrOf};
+ghost use Rattle.std.specs.Prelude.{◌≡◌, ◌↔◌, ◌⊎◌, [], IfErr, IfOk, IsErrOf};
 ghost use Rattle.board_terms.specs.Limits.{IsGood};
 ghost use Rattle.board_core.specs.Opening.{opening_at};
-ghost use Rattle.hart_threads.specs.declared.ends.RunFault.TheVariants.{BadConfig};
+ghost use Rattle.hart_threads.specs.declared.ends.RunFault.TheVariants.{BadConfig, NoMemory};
 
 use crate::ends::RunFault;
 use board_core::{Board, BuildFault, Config};
@@ -15,6 +15,7 @@ use std::alloc::Global;
 /// The numbers are outside the board's limits, or memory was refused.
 pub fn new_board(alloc: Global, config: &Config) -> Result<Board, RunFault>
     ensures bad { IsErrOf result BadConfig ↔ ¬ IsGood config.now }
+    ensures fault { IfErr result (λ fault. (fault ≡ BadConfig) ⊎ (fault ≡ NoMemory)) }
     ensures made { IfOk result (λ b. b ≡ record { opening = opening_at config.now; past = [] }) }
 {
     match Board::new(alloc, config) {

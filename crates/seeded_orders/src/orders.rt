@@ -1,11 +1,11 @@
 //! The order that a seed and a number give, and its record.
-ghost use Rattle.std.specs.Prelude.{◌≡◌, ◌↔◌, IfOk, IsErrOf, OnOk};
+ghost use Rattle.std.specs.Prelude.{◌≡◌, ◌↔◌, ◌⊎◌, IfErr, IfOk, IsErrOf, OnOk};
 ghost use Rattle.board_terms.specs.Limits.{IsGood};
 ghost use Rattle.board_core.specs.Opening.{opening_at};
 ghost use Rattle.board_core.specs.Replies.{IsLegal};
 ghost use Rattle.guest_script.specs.Grammar.{content};
 ghost use Rattle.hart_threads.specs.Programs.{IsProgram};
-ghost use Rattle.hart_threads.specs.declared.ends.RunFault.TheVariants.{BadConfig};
+ghost use Rattle.hart_threads.specs.declared.ends.RunFault.TheVariants.{BadConfig, NoMemory};
 ghost use Rattle.seeded_orders.specs.Orders.{IsTried, met_before, ordered, past_with};
 ghost use Rattle.seeded_orders.specs.Inside.Places.{AreAt};
 ghost use Rattle.seeded_orders.specs.Steps.{steps, task_in, task_of};
@@ -27,6 +27,7 @@ use std::alloc::{AllocError, Global};
 pub fn try_order(alloc: Global, script: &Script, seed: u64, order: u64) -> Result<RunEnd, RunFault>
     requires { IsProgram (content script.now.body) }
     ensures bad { IsErrOf result BadConfig ↔ ¬ IsGood script.now.config }
+    ensures fault { IfErr result (λ fault. (fault ≡ BadConfig) ⊎ (fault ≡ NoMemory)) }
     ensures opening { IfOk result (λ run. run.board.opening ≡ opening_at script.now.config) }
     ensures legal { IfOk result (λ run. IsLegal run.board.opening run.board.past) }
     ensures tried { IfOk result

@@ -1,9 +1,9 @@
 //! Orders that are tried on several processors.
-ghost use Rattle.std.specs.Prelude.{◌≡◌, ◌≤◌, ◌<◌, ◌+◌, ◌*◌, ◌-◌, ◌^◌, ℕ, [], length, slice_index_or, IfOk, IsErrOf};
+ghost use Rattle.std.specs.Prelude.{◌≡◌, ◌≤◌, ◌<◌, ◌+◌, ◌*◌, ◌-◌, ◌^◌, ℕ, [], length, slice_index_or, ◌⊎◌, IfErr, IfOk, IsErrOf};
 ghost use Rattle.board_terms.specs.Limits.{IsGood};
 ghost use Rattle.guest_script.specs.Grammar.{content};
 ghost use Rattle.hart_threads.specs.Programs.{IsProgram};
-ghost use Rattle.hart_threads.specs.declared.ends.RunFault.TheVariants.{BadConfig};
+ghost use Rattle.hart_threads.specs.declared.ends.RunFault.TheVariants.{BadConfig, NoMemory};
 ghost use Rattle.tallies.specs.Findings.{AreFound, AreFoundOf};
 ghost use Rattle.tallies.specs.Inside.Shares.{AreShares, IsShare, edge};
 
@@ -35,6 +35,7 @@ pub fn try_in_jobs<R: Threads + Sync>(
     requires up { from ≤ to }
     requires some { 0 < jobs }
     ensures bad { IsErrOf result BadConfig → ¬ IsGood script.now.config }
+    ensures fault { IfErr result (λ fault. (fault ≡ BadConfig) ⊎ (fault ≡ NoMemory)) }
     ensures found { IfOk result (AreFoundOf script.now.config (content script.now.body) conditions.now seed from to) }
 {
     if jobs == 1 {
@@ -118,6 +119,7 @@ fn joined(
     requires shares { AreShares script.now.config (content script.now.body) conditions.now seed
         (edge from to share) 0 all.items }
     ensures bad { IsErrOf result BadConfig → ¬ IsGood script.now.config }
+    ensures fault { IfErr result (λ fault. (fault ≡ BadConfig) ⊎ (fault ≡ NoMemory)) }
     ensures found { IfOk result (AreFoundOf script.now.config (content script.now.body) conditions.now seed from to) }
 {
     for tried in all {

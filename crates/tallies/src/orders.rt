@@ -1,8 +1,8 @@
 //! Orders of a seed, tried one after the other.
-ghost use Rattle.std.specs.Prelude.{◌≡◌, ◌≤◌, ◌↔◌, IfOk, IsErrOf};
+ghost use Rattle.std.specs.Prelude.{◌≡◌, ◌≤◌, ◌↔◌, ◌⊎◌, IfErr, IfOk, IsErrOf};
 ghost use Rattle.board_terms.specs.Limits.{IsGood};
 ghost use Rattle.guest_script.specs.Grammar.{Content, content};
-ghost use Rattle.hart_threads.specs.declared.ends.RunFault.TheVariants.{BadConfig};
+ghost use Rattle.hart_threads.specs.declared.ends.RunFault.TheVariants.{BadConfig, NoMemory};
 ghost use Rattle.hart_threads.specs.Programs.{IsProgram};
 ghost use Rattle.seeded_orders.specs.Steps.{task_in, task_of};
 ghost use Rattle.tallies.specs.Findings.{AreFoundOf};
@@ -31,6 +31,7 @@ pub fn try_orders(
     requires program { IsProgram (content script.now.body) }
     requires up { from ≤ to }
     ensures bad { IsErrOf result BadConfig ↔ ¬ IsGood script.now.config }
+    ensures fault { IfErr result (λ fault. (fault ≡ BadConfig) ⊎ (fault ≡ NoMemory)) }
     ensures found { IfOk result (AreFoundOf script.now.config (content script.now.body) conditions.now seed from to) }
 {
     let mut board = new_board(alloc, &script.config)?;
