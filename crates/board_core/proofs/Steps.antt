@@ -73,6 +73,12 @@ access_is (Store at value) va what is = ap (λ (reach : Reach). access_op reach.
 access_is (Fetch at) va what is = ap (λ (reach : Reach). access_op reach.va reach.access) (same_Some _ _ is)
 access_is op va what is = absurd cc
 
+-- an access is the one of its operation
+pub access_again : (va : ℕ) (what : Access) → access_of (access_op va what) ≡ Some (record { va = va; access = what })
+access_again va accesses.Load = refl
+access_again va (accesses.Store value) = refl
+access_again va accesses.Fetch = refl
+
 pub access_replied : (o : Opening) (past : List Event) (h va : ℕ) (what : Access) → access_reply o past h va what ≡ reply o past h (access_op va what)
 access_replied o past h va accesses.Load = refl
 access_replied o past h va (accesses.Store value) = refl

@@ -1,12 +1,11 @@
 //! The board: its opening, its kept history, one atomic step, and the look-ups.
-ghost use Rattle.std.specs.Prelude.{◌≡◌, ◌⊎◌, ◌<◌, ◌≤◌, ◌↔◌, ◌++◌, List, [], ◌∷◌, vec_capacity, vec_len, true, false, IfErr, IfOk, IsErrOf, None, Ok, OnErr, OnOk, Some, length, reverse};
+ghost use Rattle.std.specs.Prelude.{◌≡◌, ◌⊎◌, ◌<◌, ◌≤◌, ◌↔◌, List, [], ◌∷◌, true, false, IfErr, IfOk, IsErrOf, None, Ok, OnErr, OnOk, Some, length, reverse};
 ghost use Rattle.hsm.specs.declared.hart.HartState.{HartState};
 ghost use Rattle.interrupts.specs.Timing.{last_time};
 ghost use Rattle.sv39.specs.Maps.{maps};
 ghost use Rattle.board_terms.specs.declared.config.BuildFault.TheVariants.{BadConfig, CutFull, NoMemory};
 ghost use Rattle.board_core.specs.Cuts.{IsOpened, IsUnseen, first_of, last_cut, opening_of};
-ghost use Rattle.board_core.specs.History.{Event, access_of, access_op, by_hart, using};
-ghost use Rattle.board_core.specs.Inside.Keeping.{IsShort};
+ghost use Rattle.board_core.specs.History.{Event, access_of, access_op};
 ghost use Rattle.board_terms.specs.declared.op.Actor.TheVariants.{Hart, Clock};
 ghost use Rattle.board_core.specs.Csrs.{sie, sstatus_sie};
 ghost use Rattle.board_core.specs.ErrorLaw.{LooksSame, is_error};
@@ -254,22 +253,21 @@ impl Board {
             return Err(Refusal::HistoryFull);
         }
         Ok(match access_of(op) {
-            Some((va, what)) => self.access_step(h, op, va, what),
+            Some((va, what)) => self.access_step(h, va, what),
             None => self.other_step(h, op),
         })
     }
 
     /// Carries out an access of hart `h` that isn't refused, and records it: the reply.
     #[inline(always)]
-    fn access_step(&mut self, h: u64, op: Op, va: u64, what: Access) -> Reply
+    fn access_step(&mut self, h: u64, va: u64, what: Access) -> Reply
         requires on { is_off self.old.opening self.old.past ≡ false }
         requires in_range { h < self.old.opening.config.harts }
         requires unrefused { first_that_holds
-            (refusals_in (situation self.old.opening self.old.past h) op (is_full self.old.opening self.old.past))
+            (refusals_in (situation self.old.opening self.old.past h) (access_op va what) (is_full self.old.opening self.old.past))
             ≡ None }
-        requires same { access_of op ≡ Some (record { va = va; access = what }) }
-        ensures answer { Ok result ≡ answer self.old.opening self.old.past (Hart h) op }
-        ensures after { self.new ≡ stepped self.old (Hart h) op }
+        ensures answer { Ok result ≡ answer self.old.opening self.old.past (Hart h) (access_op va what) }
+        ensures after { self.new ≡ stepped self.old (Hart h) (access_op va what) }
     {
         let place = self.place();
         let (reply, used) = self.machine.access(place, h, va, what);

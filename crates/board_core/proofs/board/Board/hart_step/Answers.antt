@@ -1,14 +1,16 @@
 use Rattle.std.proofs.Common.{◌≡◌, ◌<◌, false, ap, sym, true, ◌∙◌, arith, reverse, refl}
 use Rattle.board_terms.specs.declared.op.Actor.TheVariants.{Hart}
 use Rattle.board_terms.specs.declared.reply.Refusal.TheVariants.{HistoryFull}
+use Rattle.std.specs.Prelude.{Some, option_map}
 use Rattle.board_core.specs.Course.{Course}
+use Rattle.board_core.specs.History.{Reach, access_of}
 use Rattle.board_core.specs.Refusals.{first_that_holds, is_full, refusals_in, situation}
 use Rattle.board_core.specs.Replies.{answer}
 use Rattle.board_core.specs.Resets.{is_off}
 use Rattle.board_core.specs.Cuts.{opened_by}
 use Rattle.board_core.proofs.Rows.{refused_by_room, refused_with_room}
 use Rattle.board_core.proofs.Situations.{situation-read, sized, unrefused-read}
-use Rattle.board_core.proofs.Steps.{hart_refused}
+use Rattle.board_core.proofs.Steps.{access_is, hart_refused}
 use Rattle.board_core.proofs.board.Board.hart_step.Goals as goal
 
 pub refusal-requires-clause-in_range : goal.refusal-requires-clause-in_range
@@ -58,8 +60,11 @@ returns-then-is_full-clause-after c =
 pub access_step-requires-clause-unrefused : goal.access_step-requires-clause-unrefused
 access_step-requires-clause-unrefused c =
     let inside : c.args.h < c.self.inside.config.harts = omega (arith, ap (λ (b : Course). b.opening.config.harts) c.self.view_is) in
-    unrefused-read _ _ _ c.self.view_is c.self.invariant.0.good.at_most_128_harts c.self.invariant.1 c.args.h inside c.args.op (sym c.refusal.ensures ∙ c.in_default.is)
-    (sym c.is_full.ensures ∙ c.if-is_full.false)
+    let same : access_of c.args.op ≡ Some (record { va = c.in-Some-access_of.va; access = c.in-Some-access_of.what }) =
+    sym c.access_of.ensures ∙ ap (option_map (λ at. (let reach : Reach = record { va = at.0; access = at.1 } in reach))) c.in-Some-access_of.is in
+    rw (← access_is c.args.op c.in-Some-access_of.va c.in-Some-access_of.what same)
+    (unrefused-read _ _ _ c.self.view_is c.self.invariant.0.good.at_most_128_harts c.self.invariant.1 c.args.h inside c.args.op (sym c.refusal.ensures ∙ c.in_default.is)
+    (sym c.is_full.ensures ∙ c.if-is_full.false))
 
 pub other_step-requires-clause-unrefused : goal.other_step-requires-clause-unrefused
 other_step-requires-clause-unrefused c =
