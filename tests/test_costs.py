@@ -280,7 +280,7 @@ def entries_among_blocks(room):
 
 # The most bytes of a board's allocations for each event of its limit, page, hart, and pair of harts, and of all else that
 # a run of the program takes: its buffers and its command line.
-EACH_EVENT, EACH_PAGE, EACH_HART, EACH_PAIR, ELSE = 80, 4_096, 1_536, 8, 160_000
+EACH_EVENT, EACH_PAGE, EACH_HART, EACH_PAIR, ELSE = 72, 4_096, 1_408, 8, 160_000
 
 
 def memory_of_boards(room):

@@ -115,7 +115,7 @@ def little_room_for_threads(room):
 
 
 def steps_take_none(room):
-    """The room for the history, at most 80 bytes an event, is the last allocation: no step of those after it takes any, or lacks it."""
+    """The room for the history, at most 72 bytes an event, is the last allocation: no step of those after it takes any, or lacks it."""
     made, limit = shim(room), 5_003
     for steps in (10, 1_000):
         schedule = every(steps, limit)
@@ -125,7 +125,7 @@ def steps_take_none(room):
             must_be(found, 0, None, b"")
             if sizes[-1] % limit or not sizes[-1]:
                 raise Wrong(f"{task}: the last of {len(sizes)} allocations, of {sizes[-1]} bytes, isn't the room for {limit} events")
-            if sizes[-1] // limit > 80:
+            if sizes[-1] // limit > 72:
                 raise Wrong(f"an event takes {sizes[-1] // limit} bytes")
             without, _ = allocating(made, room, [task, script(room, text)], FROM=str(len(sizes) + 1))
             must_be(without, 0, found.stdout, b"")

@@ -9,14 +9,13 @@ use Rattle.sv39.specs.Maps.{maps}
 use Rattle.sv39.specs.Memory.{written}
 use Rattle.sv39.specs.Satp.{asid_of, is_valid, translates}
 use Rattle.tlb_model.specs.declared.entry.Address.{Address}
-use Rattle.tlb_model.specs.declared.entry.Entry.{Entry}
 use Rattle.tlb_model.specs.declared.word.FetchWord.{FetchWord}
 use Rattle.tlb_model.specs.declared.fence.Flush.{Flush}
 use Rattle.rfence.specs.Applied.{Nothing, effect}
 use Rattle.tlb_model.specs.Acts as acts
 use Rattle.tlb_model.specs.Acts.{Act, acted}
 use Rattle.tlb_model.specs.Contents.{Contents, filled_if}
-use Rattle.tlb_model.specs.Entries.{covers_entry}
+use Rattle.tlb_model.specs.Entries.{Entry, covers_entry}
 use Rattle.tlb_model.specs.Words.{covers_word}
 use Rattle.hart_access.specs.declared.accesses.Access.{Access}
 use Rattle.hart_access.specs.declared.accesses.Access.TheVariants.{Load, Store, Fetch}

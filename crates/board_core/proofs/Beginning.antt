@@ -17,12 +17,11 @@ use Rattle.std.proofs.lemmas.List.Elements.{All-nil, All-same}
 use Rattle.rfence.specs.declared.opened.FenceCall.{FenceCall}
 use Rattle.rfence.specs.Opening.{Asked}
 use Rattle.tlb_model.specs.declared.cache.Numbered.{Numbered}
-use Rattle.tlb_model.specs.declared.entry.Entry.{Entry}
 use Rattle.tlb_model.specs.declared.fence.Flush.{Flush}
 use Rattle.tlb_model.specs.declared.word.FetchWord.{FetchWord}
 use Rattle.tlb_model.specs.declared.caches.Caches.{Caches}
 use Rattle.tlb_model.specs.Acts.{cache_after}
-use Rattle.tlb_model.specs.Entries.{covers_entry}
+use Rattle.tlb_model.specs.Entries.{Entry, covers_entry}
 use Rattle.tlb_model.specs.Words.{covers_word}
 use Rattle.board_terms.specs.declared.config.Config.{Config}
 use Rattle.board_terms.specs.Limits.{IsGood}

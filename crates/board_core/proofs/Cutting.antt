@@ -27,11 +27,10 @@ use Rattle.rfence.proofs.Seams.{called-after, kept-is, opens-right, stands-after
 use Rattle.rfence.proofs.Tables.{tabulate-agree}
 use Rattle.tlb_model.specs.Acts.{cache_after}
 use Rattle.tlb_model.specs.declared.fence.Flush.{Flush}
-use Rattle.tlb_model.specs.Entries.{covers_entry}
+use Rattle.tlb_model.specs.Entries.{Entry, covers_entry}
 use Rattle.tlb_model.specs.Words.{covers_word}
 use Rattle.tlb_model.proofs.Living.{goes_on, live-early}
 use Rattle.tlb_model.specs.declared.cache.Numbered.{Numbered}
-use Rattle.tlb_model.specs.declared.entry.Entry.{Entry}
 use Rattle.tlb_model.specs.declared.word.FetchWord.{FetchWord}
 use Rattle.tlb_model.specs.declared.caches.Caches.{Caches}
 use Rattle.board_core.specs.declared.machine.Machine.{Machine}

@@ -37,7 +37,7 @@ use Rattle.board_terms.specs.declared.reply.Reply.TheVariants.{Ret, Done}
 use Rattle.board_core.specs.Course.{harts_of}
 use Rattle.sv39.specs.declared.cause.Cause.{Cause}
 use Rattle.tlb_model.specs.declared.caches.Caches.{Caches}
-use Rattle.tlb_model.specs.declared.entry.Entry.{Entry}
+use Rattle.tlb_model.specs.Entries.{Entry}
 use Rattle.hart_access.specs.declared.accesses.Access.{Access}
 use Rattle.hart_access.specs.declared.accesses.Access.TheVariants as accesses
 use Rattle.hart_access.specs.Accesses as whole

@@ -11,7 +11,7 @@ use Rattle.sbi_abi.specs.Calls.{call_of}
 use Rattle.hsm.specs.declared.hart.HartState.TheVariants as states
 use Rattle.hsm.specs.declared.hart.EntryPoint.{EntryPoint}
 use Rattle.hsm.specs.States.{is_start_pending}
-use Rattle.tlb_model.specs.declared.entry.Entry.{Entry as CacheEntry}
+use Rattle.tlb_model.specs.Entries.{Entry as CacheEntry}
 use Rattle.tlb_model.specs.declared.word.FetchWord.{FetchWord}
 use Rattle.rfence.specs.Applied.{effect}
 use Rattle.rfence.specs.Turns.{Turn, Quiet}

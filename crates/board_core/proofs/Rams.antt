@@ -10,7 +10,7 @@ use Rattle.sv39.specs.declared.cause.Kind.TheVariants as kinds
 use Rattle.sv39.specs.declared.ram.TheConstants.{PAGE_WORDS, RAM_START}
 use Rattle.sv39.specs.Memory.{IsRam, pages_of, word_in, written, zero_memory}
 use Rattle.sv39.proofs.Words.{nat_tests, stands, word_at, word_in-cleared, word_in-set}
-use Rattle.tlb_model.specs.declared.entry.Entry.{Entry}
+use Rattle.tlb_model.specs.Entries.{Entry}
 use Rattle.hart_access.specs.declared.accesses.Access.TheVariants as accesses
 use Rattle.hart_access.specs.Accesses as whole
 use Rattle.hart_access.specs.Ways.{in_memory, phys_at, phys_by}

@@ -25,7 +25,7 @@ use Rattle.board_terms.specs.declared.op.Op.{Op}
 use Rattle.board_terms.specs.declared.op.Op.TheVariants.{Ecall, Load, Store, Fetch, WriteSatp, WriteSie, WriteSstatusSie, ReadSip, ClearSsip, Wfi, Sfence, FenceI, Poll, Serve, Advance, Tick}
 use Rattle.board_terms.specs.declared.reply.Reply.{Reply}
 use Rattle.board_terms.specs.declared.reply.Reply.TheVariants.{Ret, Entry}
-use Rattle.tlb_model.specs.declared.entry.Entry.{Entry as CacheEntry}
+use Rattle.tlb_model.specs.Entries.{Entry as CacheEntry}
 use Rattle.board_core.specs.Csrs.{sstatus_sie}
 use Rattle.board_terms.specs.Limits.{is_start_address}
 use Rattle.board_core.specs.Refusals.{first_that_holds, is_full, situation}

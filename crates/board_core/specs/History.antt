@@ -1,6 +1,6 @@
 -- What a board records of an accepted step.
 use Rattle.std.specs.Prelude.{ℕ, Option, Some, None}
-use Rattle.tlb_model.specs.declared.entry.Entry.{Entry}
+use Rattle.tlb_model.specs.Entries.{Entry}
 use Rattle.hart_access.specs.declared.accesses.Access.{Access}
 use Rattle.hart_access.specs.declared.accesses.Access.TheVariants as accesses
 use Rattle.board_terms.specs.declared.op.Actor.{Actor}

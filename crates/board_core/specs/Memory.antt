@@ -6,12 +6,11 @@ use Rattle.sv39.specs.Memory.{word_in, written, zero_memory}
 use Rattle.sv39.specs.Satp.{asid_of, satp_of_write}
 use Rattle.tlb_model.specs.declared.caches.Caches.{Caches}
 use Rattle.tlb_model.specs.declared.entry.Address.{Address}
-use Rattle.tlb_model.specs.declared.entry.Entry.{Entry}
 use Rattle.tlb_model.specs.declared.fence.Flush.{Flush}
 use Rattle.tlb_model.specs.declared.word.FetchWord.{FetchWord}
 use Rattle.tlb_model.specs.Acts as acts
 use Rattle.tlb_model.specs.Acts.{Act, cache_after, last_live}
-use Rattle.tlb_model.specs.Entries.{covers_entry, matches}
+use Rattle.tlb_model.specs.Entries.{Entry, covers_entry, matches}
 use Rattle.tlb_model.specs.Words.{covers_word, is_at}
 use Rattle.hart_access.specs.Accesses.{fetched_from}
 use Rattle.hart_access.specs.Ways.{phys_at}

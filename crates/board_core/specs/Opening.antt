@@ -10,7 +10,7 @@ use Rattle.interrupts.specs.Timing.{Timing, opening_timing}
 use Rattle.sv39.specs.Memory.{zero_words}
 use Rattle.tlb_model.specs.declared.cache.Numbered.{Numbered}
 use Rattle.tlb_model.specs.declared.caches.Caches.{Caches}
-use Rattle.tlb_model.specs.declared.entry.Entry.{Entry}
+use Rattle.tlb_model.specs.Entries.{Entry}
 use Rattle.tlb_model.specs.declared.fence.Flush.{Flush}
 use Rattle.tlb_model.specs.declared.word.FetchWord.{FetchWord}
 use Rattle.tlb_model.specs.Contents.{Contents, empty}

@@ -3,7 +3,7 @@ ghost use Rattle.std.specs.Prelude.{◌≡◌, None, option_map};
 ghost use Rattle.board_core.specs.History.{access_of, entry_of};
 ghost use Rattle.board_core.specs.Inside.Keeping.{IsShort};
 
-use crate::keeping::{By, Head, Said, What};
+use crate::keeping::{Head, Said, What, by_of};
 use board_terms::{Actor, Op, Reply};
 use hart_access::Access;
 use std::marker::Model;
@@ -12,31 +12,27 @@ use tlb_model::Entry;
 /// An accepted step: who made it, what it did, what was answered, and the TLB entry that an access used.
 #[derive(Clone, Copy, Debug, PartialEq, Eq)]
 pub struct Event {
-    first: u64,
     what: What,
 }
 
 impl Model for Event {
     ghost use Rattle.board_core.specs.History.{Event as Seen};
-    ghost use Rattle.board_core.specs.Inside.Keeping.{IsKeptWell, actor_in, first_of, head_of, op_in, opaque_of, reply_in, used_in, what_of};
+    ghost use Rattle.board_core.specs.Inside.Keeping.{IsKeptWell, actor_in, op_in, reply_in, used_in, what_of_event};
 
     ghost Value = { Seen };
 
     ghost view = { λ e. record {
       actor = actor_in e.what;
       op = op_in e.what;
-      reply = reply_in e.what e.first;
+      reply = reply_in e.what;
       translation = used_in e.what;
     } };
 
-    ghost invariant = { λ e. IsKeptWell e.what e.first };
+    ghost invariant = { λ e. IsKeptWell e.what };
 
-    ghost inverse = { λ e. record {
-      what = what_of (head_of e.actor e.reply) e.op e.translation (opaque_of e.reply);
-      first = first_of e.reply;
-    } };
+    ghost inverse = { λ e. record { what = what_of_event e.actor e.op e.reply e.translation } };
 
-    ghost inverse_ok = { λ e well i. record { what = well.what_again i; first = well.first_again i } };
+    ghost inverse_ok = { λ e well i. record { what = well i } };
 }
 
 impl Event {
@@ -52,10 +48,9 @@ impl Event {
         } }
     {
         let (said, first, opaque) = Said::of(reply);
-        let by = By::of(actor);
+        let by = by_of(actor);
         Event {
-            first,
-            what: What::of(Head { by, said }, op, used, opaque),
+            what: What::of(Head { by, said }, op, used, first, opaque),
         }
     }
 
@@ -63,7 +58,7 @@ impl Event {
     pub fn actor(&self) -> Actor
         ensures { result ≡ self.now.actor }
     {
-        self.what.head().by.actor()
+        self.what.head().actor()
     }
 
     /// What it did.
@@ -77,7 +72,9 @@ impl Event {
     pub fn reply(&self) -> Reply
         ensures { result ≡ self.now.reply }
     {
-        self.what.head().reply(self.first, self.what.opaque())
+        self.what
+            .head()
+            .reply(self.what.first(), self.what.opaque())
     }
 
     /// The TLB entry that an access by Sv39 used, found or filled (profile); None of every other step.

@@ -1,7 +1,7 @@
 //! How an event keeps who made it, what was answered and what was done, in less room than the three have side by side.
 
 ghost use Rattle.std.specs.Prelude.{◌≡◌};
-ghost use Rattle.board_core.specs.Inside.Keeping.{IsByte, IsByteError, actor_of, by_of, first_of, head_in, hart_in, op_in, opaque_in, opaque_of, reply_of, said_of, used_in, what_of};
+ghost use Rattle.board_core.specs.Inside.Keeping.{FitsBeside, IsByte, IsByteError, actor_of, by_of, first_in, first_of, head_in, op_in, opaque_in, opaque_of, reply_of, said_of, used_in, what_of};
 
 use board_terms::{Actor, Op, Reply};
 use hsm::HartState;
@@ -9,12 +9,8 @@ use sbi_abi::{Regs, Sbiret};
 use sv39::Cause;
 use tlb_model::Entry;
 
-/// Who made a step: an actor in two bytes.
-#[derive(Clone, Copy, Debug, PartialEq, Eq)]
-pub enum By {
-    Hart(u8),
-    Clock,
-}
+/// The clock, among the numbers of harts.
+const CLOCK: u8 = 255;
 
 /// A reply without its numbers of 64 bits: an error has one byte.
 #[derive(Clone, Copy, Debug, PartialEq, Eq)]
@@ -30,66 +26,45 @@ pub enum Said {
     Done,
 }
 
-/// Who made a step and what was answered, without the numbers of 64 bits.
+/// Who made a step, an actor in a byte, and what was answered, without the numbers of 64 bits.
 #[derive(Clone, Copy, Debug, PartialEq, Eq)]
 pub struct Head {
-    pub by: By,
+    pub by: u8,
     pub said: Said,
 }
 
-/// What a step did. An access's entry, a call's eight registers and the opaque value of an advance that enters never occur
-/// together, and the head takes room beside the tag that would lie empty: both keep events small.
+/// What a step did, and the first number of its answer. An access's entry, a call's eight registers and the opaque value of
+/// an advance that enters never occur together, and the head takes room beside the tag that would lie empty, as a call's
+/// value does: all three keep events small.
 #[derive(Clone, Copy, Debug, PartialEq, Eq)]
 pub enum What {
-    Ecall(Head, Regs),
-    Load(Head, u64, Option<Entry>),
+    Ecall(Head, u32, Regs),
+    Load(Head, u64, u64, Option<Entry>),
     Store(Head, u64, u64, Option<Entry>),
-    Fetch(Head, u64, Option<Entry>),
+    Fetch(Head, u64, u64, Option<Entry>),
     WriteSatp(Head, u64),
     WriteSie(Head, u64),
     WriteSstatusSie(Head, bool),
-    ReadSip(Head),
+    ReadSip(Head, u64),
     ClearSsip(Head),
     Wfi(Head),
     Sfence(Head, Option<u64>, Option<u64>),
     FenceI(Head),
     Poll(Head),
     Serve(Head),
-    Advance(Head, u64),
+    Advance(Head, u64, u64),
     Tick(Head, u64),
 }
 
-impl By {
-    /// An actor, a hart of which has a number below 256.
-    #[inline(always)]
-    pub fn of(actor: Actor) -> By
-        requires { IsByte actor }
-        ensures { result ≡ by_of actor }
-    {
-        match actor {
-            Actor::Hart(h) => By::Hart(h as u8),
-            Actor::Clock => By::Clock,
-        }
-    }
-
-    /// The actor.
-    pub fn actor(self) -> Actor
-        ensures { result ≡ actor_of self }
-    {
-        match self {
-            By::Hart(h) => Actor::Hart(u64::from(h)),
-            By::Clock => Actor::Clock,
-        }
-    }
-
-    /// The hart's number, and 0 of the clock.
-    fn hart(self) -> u64
-        ensures { result ≡ hart_in self }
-    {
-        match self {
-            By::Hart(h) => u64::from(h),
-            By::Clock => 0,
-        }
+/// An actor in a byte, a hart of which has a number below 255.
+#[inline(always)]
+pub fn by_of(actor: Actor) -> u8
+    requires { IsByte actor }
+    ensures { result ≡ by_of actor }
+{
+    match actor {
+        Actor::Hart(h) => h as u8,
+        Actor::Clock => CLOCK,
     }
 }
 
@@ -117,9 +92,20 @@ impl Said {
 }
 
 impl Head {
+    /// Who made the step.
+    pub fn actor(self) -> Actor
+        ensures { result ≡ actor_of self.by }
+    {
+        if self.by < CLOCK {
+            Actor::Hart(u64::from(self.by))
+        } else {
+            Actor::Clock
+        }
+    }
+
     /// The reply with these numbers.
     pub fn reply(self, first: u64, opaque: u64) -> Reply
-        ensures { result ≡ reply_of self.said (hart_in self.by) first opaque }
+        ensures { result ≡ reply_of self.said self.by first opaque }
     {
         match self.said {
             Said::Ret(error) => Reply::Ret(Sbiret {
@@ -130,7 +116,7 @@ impl Head {
             Said::Gone => Reply::Gone,
             Said::Entry => Reply::Entry {
                 addr: first,
-                hart: self.by.hart(),
+                hart: u64::from(self.by),
                 opaque,
             },
             Said::Value => Reply::Value(first),
@@ -143,27 +129,29 @@ impl Head {
 }
 
 impl What {
-    /// An operation, with its entry if it is an access, and with the opaque value of an entry if it is an advance.
+    /// An operation, with its entry if it is an access, the first number of its answer where there is one, and the opaque
+    /// value of an entry if it is an advance.
     #[inline(always)]
-    pub fn of(head: Head, op: Op, used: Option<Entry>, opaque: u64) -> What
-        ensures { result ≡ what_of head op used opaque }
+    pub fn of(head: Head, op: Op, used: Option<Entry>, first: u64, opaque: u64) -> What
+        requires { FitsBeside op first }
+        ensures { result ≡ what_of head op used first opaque }
     {
         match op {
-            Op::Ecall(regs) => What::Ecall(head, regs),
-            Op::Load(va) => What::Load(head, va, used),
+            Op::Ecall(regs) => What::Ecall(head, first as u32, regs),
+            Op::Load(va) => What::Load(head, va, first, used),
             Op::Store(va, value) => What::Store(head, va, value, used),
-            Op::Fetch(va) => What::Fetch(head, va, used),
+            Op::Fetch(va) => What::Fetch(head, va, first, used),
             Op::WriteSatp(value) => What::WriteSatp(head, value),
             Op::WriteSie(value) => What::WriteSie(head, value),
             Op::WriteSstatusSie(value) => What::WriteSstatusSie(head, value),
-            Op::ReadSip => What::ReadSip(head),
+            Op::ReadSip => What::ReadSip(head, first),
             Op::ClearSsip => What::ClearSsip(head),
             Op::Wfi => What::Wfi(head),
             Op::Sfence(va, asid) => What::Sfence(head, va, asid),
             Op::FenceI => What::FenceI(head),
             Op::Poll => What::Poll(head),
             Op::Serve => What::Serve(head),
-            Op::Advance => What::Advance(head, opaque),
+            Op::Advance => What::Advance(head, first, opaque),
             Op::Tick(n) => What::Tick(head, n),
         }
     }
@@ -173,14 +161,14 @@ impl What {
         ensures { result ≡ head_in self.now }
     {
         match self {
-            What::Ecall(head, _) => *head,
+            What::Ecall(head, ..) => *head,
             What::Load(head, ..) | What::Store(head, ..) | What::Fetch(head, ..) => *head,
             What::WriteSatp(head, _) | What::WriteSie(head, _) => *head,
             What::WriteSstatusSie(head, _) => *head,
-            What::ReadSip(head) | What::ClearSsip(head) | What::Wfi(head) => *head,
+            What::ReadSip(head, _) | What::ClearSsip(head) | What::Wfi(head) => *head,
             What::Sfence(head, ..) | What::FenceI(head) => *head,
             What::Poll(head) | What::Serve(head) => *head,
-            What::Advance(head, _) | What::Tick(head, _) => *head,
+            What::Advance(head, ..) | What::Tick(head, _) => *head,
         }
     }
 
@@ -189,14 +177,14 @@ impl What {
         ensures { result ≡ op_in self.now }
     {
         match *self {
-            What::Ecall(_, regs) => Op::Ecall(regs),
-            What::Load(_, va, _) => Op::Load(va),
+            What::Ecall(_, _, regs) => Op::Ecall(regs),
+            What::Load(_, va, ..) => Op::Load(va),
             What::Store(_, va, value, _) => Op::Store(va, value),
-            What::Fetch(_, va, _) => Op::Fetch(va),
+            What::Fetch(_, va, ..) => Op::Fetch(va),
             What::WriteSatp(_, value) => Op::WriteSatp(value),
             What::WriteSie(_, value) => Op::WriteSie(value),
             What::WriteSstatusSie(_, value) => Op::WriteSstatusSie(value),
-            What::ReadSip(_) => Op::ReadSip,
+            What::ReadSip(..) => Op::ReadSip,
             What::ClearSsip(_) => Op::ClearSsip,
             What::Wfi(_) => Op::Wfi,
             What::Sfence(_, va, asid) => Op::Sfence(va, asid),
@@ -213,8 +201,20 @@ impl What {
         ensures { result ≡ used_in self.now }
     {
         match *self {
-            What::Load(_, _, used) | What::Store(_, _, _, used) | What::Fetch(_, _, used) => used,
+            What::Load(.., used) | What::Store(.., used) | What::Fetch(.., used) => used,
             _ => None,
+        }
+    }
+
+    /// The first number of the answer.
+    pub fn first(&self) -> u64
+        ensures { result ≡ first_in self.now }
+    {
+        match *self {
+            What::Ecall(_, first, _) => u64::from(first),
+            What::Load(_, _, first, _) | What::Fetch(_, _, first, _) => first,
+            What::ReadSip(_, first) | What::Advance(_, first, _) => first,
+            _ => 0,
         }
     }
 
@@ -223,7 +223,7 @@ impl What {
         ensures { result ≡ opaque_in self.now }
     {
         match *self {
-            What::Advance(_, opaque) => opaque,
+            What::Advance(.., opaque) => opaque,
             _ => 0,
         }
     }

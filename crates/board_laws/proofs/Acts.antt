@@ -5,7 +5,7 @@ use Rattle.std.proofs.lemmas.Bool.{eq-eqb, eqb-true}
 use Rattle.rfence.specs.Turns.{Own}
 use Rattle.rfence.specs.Applied.{Effect, Nothing, Drops, Empties, effect}
 use Rattle.rfence.specs.Laws as turns_laws
-use Rattle.tlb_model.specs.declared.entry.Entry.{Entry}
+use Rattle.tlb_model.specs.Entries.{Entry}
 use Rattle.tlb_model.specs.declared.fence.Flush.{Flush}
 use Rattle.tlb_model.specs.declared.word.FetchWord.{FetchWord}
 use Rattle.tlb_model.specs.Acts.{Fill}

@@ -14,7 +14,7 @@ use Rattle.sv39.specs.declared.page.Level.TheVariants.{Giga}
 use Rattle.sv39.specs.Maps.{maps}
 use Rattle.sv39.specs.Memory.{is_in_ram, word_in, zero_memory}
 use Rattle.sv39.specs.Paging.{is_valid_by}
-use Rattle.tlb_model.specs.declared.entry.Entry.{Entry as CacheEntry}
+use Rattle.tlb_model.specs.Entries.{Entry as CacheEntry}
 use Rattle.tlb_model.specs.declared.fence.Fence.{Fence}
 use Rattle.tlb_model.specs.declared.fence.Flush.{Flush}
 use Rattle.tlb_model.specs.declared.fence.Flush.TheVariants.{Entries}

@@ -7,13 +7,12 @@ use Rattle.std.proofs.lemmas.List.Elements.{All-contains, All-head, All-tail}
 use Rattle.sv39.specs.Maps.{maps}
 use Rattle.sv39.specs.Pages.{size}
 use Rattle.sv39.specs.Satp.{asid_of}
-use Rattle.tlb_model.specs.declared.entry.Entry.{Entry}
 use Rattle.tlb_model.specs.declared.fence.Fence.{Fence}
 use Rattle.tlb_model.specs.declared.fence.Flush.{Flush}
 use Rattle.tlb_model.specs.declared.fence.Flush.TheVariants.{Words, Entries}
 use Rattle.tlb_model.specs.declared.word.FetchWord.{FetchWord}
 use Rattle.tlb_model.specs.declared.cache.Numbered.{Numbered}
-use Rattle.tlb_model.specs.Entries.{covers_entry, matches}
+use Rattle.tlb_model.specs.Entries.{Entry, covers_entry, matches}
 use Rattle.tlb_model.specs.Words.{covers_word, is_at}
 use Rattle.hart_access.specs.declared.accesses.Access.TheVariants as accesses
 use Rattle.hart_access.specs.Accesses as whole

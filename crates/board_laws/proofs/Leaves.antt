@@ -10,11 +10,10 @@ use Rattle.sv39.specs.Maps.{maps}
 use Rattle.sv39.specs.Pages.{page_of, size}
 use Rattle.sv39.specs.Satp.{asid_of}
 use Rattle.sv39.proofs.PageLaw.{leaf_page, one_leaf_for_a_page}
-use Rattle.tlb_model.specs.declared.entry.Entry.{Entry}
 use Rattle.tlb_model.specs.declared.fence.Fence.{Fence}
 use Rattle.tlb_model.specs.declared.fence.Flush.TheVariants.{Entries}
 use Rattle.tlb_model.specs.declared.fence.Range.{Range}
-use Rattle.tlb_model.specs.Entries.{covers_entry, has_address, is_in_space, matches, reaches}
+use Rattle.tlb_model.specs.Entries.{Entry, covers_entry, has_address, is_in_space, matches, reaches}
 use Rattle.board_laws.specs.Fresh.{is_of_page, is_of_space}
 
 pub page-bounds : (level : Level) (va : ℕ) → (page_of level va ≤ va) × (va < page_of level va + size level)

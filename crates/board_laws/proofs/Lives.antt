@@ -5,11 +5,10 @@ use Rattle.std.specs.List.{Contains}
 use Rattle.std.proofs.lemmas.List.Elements.{All-weaker}
 use Rattle.sv39.specs.declared.cause.Cause.{Cause}
 use Rattle.tlb_model.specs.declared.entry.Address.{Address}
-use Rattle.tlb_model.specs.declared.entry.Entry.{Entry}
 use Rattle.tlb_model.specs.declared.word.FetchWord.{FetchWord}
 use Rattle.tlb_model.specs.Acts.{Fill, WasFilled}
 use Rattle.tlb_model.specs.declared.cache.Numbered.{Numbered}
-use Rattle.tlb_model.specs.Entries.{covers_entry}
+use Rattle.tlb_model.specs.Entries.{Entry, covers_entry}
 use Rattle.tlb_model.specs.Words.{covers_word}
 use Rattle.tlb_model.proofs.Living.{live_was_filled}
 use Rattle.hart_access.specs.declared.accesses.Access.{Access}

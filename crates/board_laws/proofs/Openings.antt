@@ -11,7 +11,7 @@ use Rattle.sv39.specs.Pages.{page_of}
 use Rattle.sv39.proofs.PageLaw.{leaf_page}
 use Rattle.tlb_model.specs.declared.cache.Numbered.{Numbered}
 use Rattle.tlb_model.specs.declared.caches.Caches.{Caches}
-use Rattle.tlb_model.specs.declared.entry.Entry.{Entry}
+use Rattle.tlb_model.specs.Entries.{Entry}
 use Rattle.hart_access.specs.AccessKinds.{kind_of}
 use Rattle.rfence.proofs.Seams.{all-same}
 use Rattle.board_core.specs.Cuts.{IsOpened, OpensAfter, opening_of}

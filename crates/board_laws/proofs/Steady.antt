@@ -11,7 +11,7 @@ use Rattle.sv39.specs.Maps.{maps}
 use Rattle.sv39.specs.Satp.{asid_of}
 use Rattle.sv39.proofs.PageLaw.{one_leaf_for_a_page}
 use Rattle.tlb_model.specs.declared.entry.Address.{Address}
-use Rattle.tlb_model.specs.declared.entry.Entry.{Entry}
+use Rattle.tlb_model.specs.Entries.{Entry}
 use Rattle.tlb_model.specs.declared.fence.Fence.{Fence}
 use Rattle.hart_access.specs.declared.accesses.Access.{Access}
 use Rattle.hart_access.specs.declared.accesses.Access.TheVariants.{Load, Store, Fetch}

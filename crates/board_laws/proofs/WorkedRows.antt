@@ -1,7 +1,7 @@
 -- Worked rows, computed from the definitions: what lives before a fence and after it.
 use Rattle.std.proofs.Common.{◌≡◌, ℕ, suc, ◌+◌, ◌*◌, ◌^◌, List, [], ◌∷◌, ◌++◌, length, true, false, pos, refl, sym, ap, ◌∙◌, arith, ◌<◌, ◌≤◌, inl, inr, Err, length-append}
 use Rattle.std.specs.Prelude.{Some, None, map, take}
-use Rattle.tlb_model.specs.declared.entry.Entry.{Entry as CacheEntry}
+use Rattle.tlb_model.specs.Entries.{Entry as CacheEntry}
 use Rattle.tlb_model.specs.declared.fence.Flush.TheVariants.{Entries}
 use Rattle.sv39.specs.declared.page.Level.TheVariants.{Giga}
 use Rattle.sv39.specs.declared.cause.Cause.TheVariants.{LoadPageFault}

@@ -5,7 +5,7 @@ use Rattle.sv39.specs.declared.page.Level.TheVariants.{Kilo}
 use Rattle.sv39.specs.Maps.{maps}
 use Rattle.sv39.specs.Pages.{page_of, size}
 use Rattle.sv39.specs.Satp.{asid_of}
-use Rattle.tlb_model.specs.declared.entry.Entry.{Entry}
+use Rattle.tlb_model.specs.Entries.{Entry}
 use Rattle.tlb_model.specs.declared.fence.Fence.{Fence}
 use Rattle.tlb_model.specs.declared.fence.Flush.TheVariants.{Words, Entries}
 use Rattle.tlb_model.specs.declared.fence.Range.{Range}

@@ -1,12 +1,11 @@
 -- What lives in a hart's caches, and where it comes from.
 use Rattle.std.specs.Prelude.{◌≡◌, ℕ, ◌≤◌, false, List, [], ◌∷◌, ◌++◌, ◌⊎◌}
 use Rattle.std.specs.List.{All, Contains}
-use Rattle.tlb_model.specs.declared.entry.Entry.{Entry}
 use Rattle.tlb_model.specs.declared.fence.Flush.{Flush}
 use Rattle.tlb_model.specs.declared.word.FetchWord.{FetchWord}
 use Rattle.tlb_model.specs.Acts.{Act, Fill, Drop, Clear, Nothing}
 use Rattle.tlb_model.specs.declared.cache.Numbered.{Numbered}
-use Rattle.tlb_model.specs.Entries.{covers_entry}
+use Rattle.tlb_model.specs.Entries.{Entry, covers_entry}
 use Rattle.tlb_model.specs.Words.{covers_word}
 use Rattle.hart_access.specs.Translations.{Fetches, Fills}
 use Rattle.board_core.specs.Opening.{Opening, place_after, tlb_at, words_at}

@@ -4,7 +4,7 @@ use Rattle.sv39.specs.declared.cause.Cause.{Cause}
 use Rattle.sv39.specs.declared.page.Leaf.{Leaf}
 use Rattle.sv39.specs.Maps.{maps}
 use Rattle.tlb_model.specs.declared.entry.Address.{Address}
-use Rattle.tlb_model.specs.declared.entry.Entry.{Entry}
+use Rattle.tlb_model.specs.Entries.{Entry}
 use Rattle.hart_access.specs.Accesses as whole
 use Rattle.hart_access.specs.AccessKinds.{kind_of}
 use Rattle.hart_access.specs.Ways.{phys_at, phys_in}

@@ -2,7 +2,7 @@
 ghost use Rattle.std.specs.Prelude.{◌≡◌, ℕ, List, Result, Some};
 ghost use Rattle.sv39.specs.declared.cause.Cause.{Cause};
 ghost use Rattle.sv39.specs.declared.page.Leaf.{Leaf};
-ghost use Rattle.tlb_model.specs.declared.entry.Entry.{Entry};
+ghost use Rattle.tlb_model.specs.Entries.{Entry};
 ghost use Rattle.tlb_model.specs.declared.fence.Fence.{Fence};
 ghost use Rattle.hart_access.specs.Translations.{IsTranslated};
 ghost use Rattle.hart_access.specs.Ways.{phys_at};

@@ -10,7 +10,7 @@ use Rattle.sv39.specs.Leaves.{allows}
 use Rattle.sv39.specs.Maps.{maps}
 use Rattle.sv39.specs.Satp.{asid_of, is_valid, translates}
 use Rattle.tlb_model.specs.declared.entry.Address.{Address}
-use Rattle.tlb_model.specs.declared.entry.Entry.{Entry}
+use Rattle.tlb_model.specs.Entries.{Entry}
 use Rattle.tlb_model.specs.declared.word.FetchWord.{FetchWord}
 use Rattle.hart_access.specs.declared.accesses.Access.{Access}
 use Rattle.hart_access.specs.declared.accesses.Access.TheVariants.{Load, Store, Fetch}

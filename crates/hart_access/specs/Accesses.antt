@@ -4,7 +4,7 @@ use Rattle.std.specs.Prelude.{ℕ, Option, Some, None, unwrap_or, Result, Ok, Er
 use Rattle.sv39.specs.declared.cause.Cause.{Cause}
 use Rattle.sv39.specs.Memory.{written}
 use Rattle.tlb_model.specs.declared.entry.Address.{Address}
-use Rattle.tlb_model.specs.declared.entry.Entry.{Entry}
+use Rattle.tlb_model.specs.Entries.{Entry}
 use Rattle.tlb_model.specs.declared.word.FetchWord.{FetchWord}
 use Rattle.hart_access.specs.declared.accesses.Access.{Access}
 use Rattle.hart_access.specs.declared.accesses.Access.TheVariants.{Load, Store, Fetch}

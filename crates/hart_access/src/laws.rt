@@ -1,7 +1,7 @@
 //! What the definitions of an access mean.
 ghost use Rattle.std.specs.Prelude.{◌≡◌, ◌↔◌, ◌⊎◌, ℕ, Option, Some, Ok};
 ghost use Rattle.tlb_model.specs.declared.entry.Address.{Address};
-ghost use Rattle.tlb_model.specs.declared.entry.Entry.{Entry};
+ghost use Rattle.tlb_model.specs.Entries.{Entry};
 ghost use Rattle.tlb_model.specs.declared.word.FetchWord.{FetchWord};
 ghost use Rattle.hart_access.specs.declared.accesses.Access.{Access};
 ghost use Rattle.hart_access.specs.Accesses.{filling, place, used, word_filling};

@@ -38,8 +38,8 @@ pub fn access(
 {
     let kind = access.kind();
     let way = Way::of(ram, satp, tlb, va, kind);
-    if let Way::Fill(entry) = way {
-        tlb.fill(date, entry);
+    if let Way::Fill(entry) = &way {
+        tlb.fill(date, *entry);
     }
     let result = match way.place(ram, va, kind) {
         Ok(pa) => Ok(carry_out(ram, words, pa, access, date)),

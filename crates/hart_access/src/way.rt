@@ -5,7 +5,7 @@ ghost use Rattle.tlb_model.specs.Contents.{hit};
 ghost use Rattle.tlb_model.specs.Entries.{matches};
 ghost use Rattle.hart_access.specs.Ways.{in_memory, place_by, translated, used_by, way};
 
-use sv39::{Cause, Kind, Leaf, Ram, Satp, walk};
+use sv39::{Cause, Kind, Ram, Satp, walk};
 use tlb_model::{Address, Entry, Tlb};
 
 /// How an access comes from its virtual address to the physical one.
@@ -41,7 +41,7 @@ impl Way {
             return Way::Hit(entry);
         }
         match walk(ram, satp, va, kind) {
-            Ok(leaf) => Way::Fill(Entry { leaf, asid }),
+            Ok(leaf) => Way::Fill(Entry::new(leaf, asid)),
             Err(cause) => Way::Fault(cause),
         }
     }
@@ -62,21 +62,21 @@ impl Way {
     {
         match self {
             Way::Plain => in_memory(ram, va, kind),
-            Way::Hit(entry) | Way::Fill(entry) => translate(entry.leaf, ram, va, kind),
+            Way::Hit(entry) | Way::Fill(entry) => translate(entry, ram, va, kind),
             Way::Fault(cause) => Err(cause),
         }
     }
 }
 
-/// The physical address that a leaf gives an address of its page, or why the access fails.
+/// The physical address that an entry gives an address of its page, or why the access fails.
 #[tactic(auto, using(crate::proofs::Past::no_word_past))]
-fn translate(leaf: Leaf, ram: &Ram, va: u64, kind: Kind) -> Result<u64, Cause>
-    ensures { result ≡ in_memory (word_in ram.now) kind (translated leaf va kind) }
+fn translate(entry: Entry, ram: &Ram, va: u64, kind: Kind) -> Result<u64, Cause>
+    ensures { result ≡ in_memory (word_in ram.now) kind (translated entry.leaf va kind) }
 {
-    if !leaf.allows(kind) {
+    if !entry.allows(kind) {
         return Err(kind.page_fault());
     }
-    match leaf.pa.checked_add(va.saturating_sub(leaf.page)) {
+    match entry.pa().checked_add(va.saturating_sub(entry.page())) {
         Some(pa) => in_memory(ram, pa, kind),
         None => Err(kind.access_fault()),
     }

@@ -10,7 +10,7 @@ use Rattle.hsm.specs.declared.hart.EntryPoint.{EntryPoint}
 use Rattle.sv39.specs.Pages.{level_number}
 use Rattle.fence_queue.specs.declared.request.Request.{Request}
 use Rattle.tlb_model.specs.declared.cache.Numbered.{Numbered}
-use Rattle.tlb_model.specs.declared.entry.Entry.{Entry}
+use Rattle.tlb_model.specs.Entries.{Entry}
 use Rattle.tlb_model.specs.declared.fence.Flush.{Flush}
 use Rattle.tlb_model.specs.declared.fence.Flush.TheVariants.{Words, Entries}
 use Rattle.tlb_model.specs.declared.fence.Range.{Range}

@@ -293,14 +293,14 @@ fn tlb_line(h: u64, entry: &Entry) -> LineText
     ensures some { 0 < length result }
     ensures room { length result < line_room }
 {
-    let leaf = &entry.leaf;
+    let leaf = entry.leaf();
     let mut line = LineText::new();
     line.word(b"#");
     line.word(b"tlb");
     line.right_decimal(3, h);
     line.hex_column(16, leaf.page);
     line.decimal(leaf.level.number());
-    line.hex_column(4, u64::from(entry.asid));
+    line.hex_column(4, u64::from(entry.asid()));
     line.word(&[letter(leaf.global, b'g')]);
     line.hex_column(16, leaf.pa);
     line.word(&rights(entry));
@@ -311,7 +311,7 @@ fn tlb_line(h: u64, entry: &Entry) -> LineText
 fn rights(entry: &Entry) -> [u8; 4]
     ensures { result ≡ rights entry.now }
 {
-    let leaf = &entry.leaf;
+    let leaf = entry.leaf();
     [
         letter(leaf.r, b'r'),
         letter(leaf.w, b'w'),

@@ -59,11 +59,6 @@ const LEAF: Leaf = Leaf {
     d: false,
 };
 
-const ENTRY: Entry = Entry {
-    leaf: LEAF,
-    asid: 5,
-};
-
 const RANGE: Range = Range {
     start: 0x2000,
     size: 1,
@@ -121,9 +116,10 @@ pub fn show_harts<R: Print>(rt: &R) -> io::Result<()> {
 
 /// Shows the types of memory, caches and fences.
 pub fn show_memory<R: Print>(rt: &R) -> io::Result<()> {
+    let entry = Entry::new(LEAF, 5);
     let accessed = Accessed {
         result: Ok(3),
-        used: Some(ENTRY),
+        used: Some(entry),
     };
     let request = Request {
         from: 3,
@@ -145,7 +141,7 @@ pub fn show_memory<R: Print>(rt: &R) -> io::Result<()> {
     println!(rt; "{LEAF:?}")?;
     println!(rt; "{SPACES:?}")?;
     println!(rt; "{address:?}")?;
-    println!(rt; "{ENTRY:?}")?;
+    println!(rt; "{entry:?}")?;
     println!(rt; "{word:?}")?;
     println!(rt; "{numbered:?}")?;
     println!(rt; "{RANGE:?}")?;
@@ -153,7 +149,7 @@ pub fn show_memory<R: Print>(rt: &R) -> io::Result<()> {
     println!(rt; "{:?}", Flush::Entries(FENCE))?;
     println!(rt; "{:?}", Access::Store(2))?;
     println!(rt; "{accessed:?}")?;
-    println!(rt; "{:?}", Way::Fill(ENTRY))?;
+    println!(rt; "{:?}", Way::Fill(entry))?;
     println!(rt; "{request:?}")
 }
 
@@ -288,7 +284,7 @@ pub fn show_private_memory<R: AllocGlobal + Print>(rt: &R) -> Result<()> {
 /// Shows caches, empty and not.
 pub fn show_private_caches<R: AllocGlobal + Print>(rt: &R) -> Result<()> {
     let mut filled = Caches::new();
-    filled.tlb.fill(0, ENTRY);
+    filled.tlb.fill(0, Entry::new(LEAF, 5));
     let empty = Caches::new();
     tell(rt, "Cache", &empty.tlb, &filled.tlb)?;
     tell(rt, "Caches", &empty, &filled)

@@ -39,16 +39,16 @@ impl Expected {
     /// What the access used that isn't there any more, once it was made.
     pub(crate) fn stale(&self, board: &Board, event: &Event) -> Option<Stale> {
         let used = event.translation();
-        if let Some(entry) = used
-            && self.is_other(&entry.leaf)
+        if let Some(entry) = &used
+            && self.is_other(&entry.leaf())
         {
             return Some(Stale::Translation);
         }
         let (Op::Fetch(va), Reply::Value(word)) = (event.op(), event.reply()) else {
             return None;
         };
-        let at = match used {
-            Some(entry) => entry.leaf.pa.wrapping_add(va.wrapping_sub(entry.leaf.page)),
+        let at = match &used {
+            Some(entry) => entry.pa().wrapping_add(va.wrapping_sub(entry.page())),
             None => va,
         };
         if board.word(at) == Some(word) {

@@ -7,11 +7,10 @@ use Rattle.sv39.specs.declared.paging.Paging.{Paging}
 use Rattle.sv39.specs.declared.paging.Paging.TheVariants.{Sv39, Sv48}
 use Rattle.sv39.specs.declared.paging.Spaces.{Spaces}
 use Rattle.sv39.specs.Paging.{is_valid_by}
-use Rattle.tlb_model.specs.declared.entry.Entry.{Entry}
 use Rattle.tlb_model.specs.declared.fence.Flush.TheVariants.{Words, Entries}
 use Rattle.tlb_model.specs.Acts.{Act, Fill, Drop, live}
 use Rattle.tlb_model.specs.Contents.{empty}
-use Rattle.tlb_model.specs.Entries.{covers_entry}
+use Rattle.tlb_model.specs.Entries.{Entry, covers_entry}
 use Rattle.tlb_model.specs.Fences.{fence_of_address, fence_of_range, is_wrong_range}
 
 abbrev mapped : (page : ℕ) → Level → (global : Bool) → (asid : ℕ) → Entry

@@ -3,11 +3,15 @@ use Rattle.std.specs.Prelude.{ℕ, ◌+◌, nat_le, nat_lt, Bool, true, false, n
 use Rattle.sv39.specs.declared.page.Leaf.{Leaf}
 use Rattle.sv39.specs.Pages.{size}
 use Rattle.tlb_model.specs.declared.entry.Address.{Address}
-use Rattle.tlb_model.specs.declared.entry.Entry.{Entry}
 use Rattle.tlb_model.specs.declared.fence.Flush.{Flush}
 use Rattle.tlb_model.specs.declared.fence.Flush.TheVariants.{Words, Entries}
 use Rattle.tlb_model.specs.declared.fence.Range.{Range}
 use Rattle.tlb_model.specs.Fences.{meets}
+
+-- An entry of a TLB: a leaf of the page tables, and the ASID of satp when it was found (Privileged 4.2.1).
+pub record Entry : Type 0 where
+  pub leaf : Leaf
+  pub asid : ℕ
 
 -- whether the leaf's page has the address
 abbrev pub has_address : Leaf → ℕ → Bool

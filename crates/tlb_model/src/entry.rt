@@ -1,10 +1,14 @@
 //! An entry of a TLB.
 ghost use Rattle.std.specs.Prelude.{◌≡◌};
+ghost use Rattle.sv39.specs.Leaves.{allows};
 ghost use Rattle.tlb_model.specs.Entries.{covers_entry, is_in_space, matches, reaches};
 
 use crate::cache::Cached;
 use crate::fence::{Flush, Range};
-use sv39::{Leaf, Level};
+use crate::rights::{allow, is_global, leaf_in, rights_of};
+use std::fmt;
+use std::marker::Model;
+use sv39::{Kind, Leaf, Level};
 
 /// A virtual address in an address space.
 #[derive(Clone, Copy, Debug, PartialEq, Eq)]
@@ -16,29 +20,62 @@ pub struct Address {
 }
 
 /// An entry of a TLB: a leaf of the page tables, and the address space for which it was found (Privileged 4.2.1).
-#[derive(Clone, Copy, Debug, PartialEq, Eq)]
+#[derive(Clone, Copy, PartialEq, Eq)]
 pub struct Entry {
-    /// The leaf.
-    pub leaf: Leaf,
-    /// The ASID of satp when the leaf was found.
-    pub asid: u16,
+    page: u64,
+    pa: u64,
+    asid: u16,
+    level: Level,
+    // (whether the page is global and what it allows: a look-up hands all of it on at once)
+    rights: u8,
+}
+
+impl Model for Entry {
+    ghost use Rattle.std.specs.Prelude.{◌≡◌};
+    ghost use Rattle.tlb_model.specs.Entries.{Entry as Seen};
+    ghost use Rattle.tlb_model.specs.Inside.KeptRights.{leaf_in, rights_of};
+
+    ghost Value = { Seen };
+
+    ghost view = { λ e. record { leaf = leaf_in e.page e.pa e.level e.rights; asid = e.asid } };
+
+    ghost invariant = { λ e. rights_of (leaf_in e.page e.pa e.level e.rights) ≡ e.rights };
+
+    ghost inverse = { λ e. record {
+      page = e.leaf.page;
+      pa = e.leaf.pa;
+      asid = e.asid;
+      level = e.leaf.level;
+      rights = rights_of e.leaf;
+    } };
+
+    ghost inverse_ok = { λ e well i. record {
+      page = e.page;
+      pa = e.pa;
+      asid = e.asid;
+      level = e.level;
+      rights = well i;
+    } };
+}
+
+impl fmt::Debug for Entry {
+    fn fmt<W: fmt::Write>(&self, f: &mut fmt::Formatter<W>) -> fmt::Result {
+        f.debug_struct("Entry")
+            .field("leaf", &self.leaf())
+            .field("asid", &self.asid)
+            .finish()
+    }
 }
 
 /// The entry that stands in a place which nothing was filled into yet.
 impl Default for Entry {
     fn default() -> Entry {
         Entry {
-            leaf: Leaf {
-                page: 0,
-                pa: 0,
-                level: Level::Kilo,
-                global: false,
-                r: false,
-                w: false,
-                x: false,
-                d: false,
-            },
+            page: 0,
+            pa: 0,
             asid: 0,
+            level: Level::Kilo,
+            rights: 0,
         }
     }
 }
@@ -51,9 +88,8 @@ impl Cached for Entry {
     ghost covers = { covers_entry };
 
     fn holds(&self, at: Address) -> bool {
-        let leaf = self.leaf;
-        let is_in_page = leaf.page <= at.va && at.va - leaf.page < leaf.level.size();
-        is_in_page && (leaf.global || self.asid == at.asid)
+        let is_in_page = self.page <= at.va && at.va - self.page < self.level.size();
+        is_in_page && (is_global(self.rights) || self.asid == at.asid)
     }
 
     fn is_covered_by(&self, flush: Flush) -> bool {
@@ -67,6 +103,54 @@ impl Cached for Entry {
 }
 
 impl Entry {
+    /// The entry of a leaf that was found for an address space.
+    pub fn new(leaf: Leaf, asid: u16) -> Entry
+        ensures { result ≡ record { leaf = leaf; asid = asid } }
+    {
+        Entry {
+            page: leaf.page,
+            pa: leaf.pa,
+            asid,
+            level: leaf.level,
+            rights: rights_of(leaf),
+        }
+    }
+
+    /// The leaf.
+    pub fn leaf(&self) -> Leaf
+        ensures { result ≡ self.now.leaf }
+    {
+        leaf_in(self.page, self.pa, self.level, self.rights)
+    }
+
+    /// The ASID of satp when the leaf was found.
+    pub fn asid(&self) -> u16
+        ensures { result ≡ self.now.asid }
+    {
+        self.asid
+    }
+
+    /// The leaf's page, by its first virtual address.
+    pub fn page(&self) -> u64
+        ensures { result ≡ self.now.leaf.page }
+    {
+        self.page
+    }
+
+    /// The physical address of the page's first byte.
+    pub fn pa(&self) -> u64
+        ensures { result ≡ self.now.leaf.pa }
+    {
+        self.pa
+    }
+
+    /// Whether the page may be accessed so.
+    pub fn allows(&self, kind: Kind) -> bool
+        ensures { result ≡ allows kind self.now.leaf }
+    {
+        allow(self.rights, kind)
+    }
+
     /// Whether a fence of this address space, or of all, is of the entry's: one of a single space spares what is
     /// global (Privileged 4.2.1).
     fn is_in_space(&self, asid: Option<u16>) -> bool
@@ -74,7 +158,7 @@ impl Entry {
     {
         match asid {
             None => true,
-            Some(asid) => !self.leaf.global && self.asid == asid,
+            Some(asid) => !is_global(self.rights) && self.asid == asid,
         }
     }
 
@@ -84,7 +168,7 @@ impl Entry {
     {
         match range {
             None => true,
-            Some(range) => range.meets(self.leaf.page, self.leaf.level.size()),
+            Some(range) => range.meets(self.page, self.level.size()),
         }
     }
 }

@@ -8,6 +8,7 @@ mod entry;
 mod fence;
 mod laws;
 mod live;
+mod rights;
 mod word;
 
 pub use cache::{Cache, Cached, Numbered};

@@ -11,11 +11,10 @@ use Rattle.rfence.specs.State.{State, call_at}
 use Rattle.sv39.specs.Memory.{pages_of, word_in}
 use Rattle.tlb_model.specs.declared.caches.Caches.{Caches}
 use Rattle.tlb_model.specs.declared.entry.Address.{Address}
-use Rattle.tlb_model.specs.declared.entry.Entry.{Entry}
 use Rattle.tlb_model.specs.declared.fence.Flush.{Flush}
 use Rattle.tlb_model.specs.declared.word.FetchWord.{FetchWord}
 use Rattle.tlb_model.specs.Contents.{hit}
-use Rattle.tlb_model.specs.Entries.{matches}
+use Rattle.tlb_model.specs.Entries.{Entry, matches}
 use Rattle.tlb_model.specs.Words.{is_at}
 use Rattle.board_terms.specs.declared.config.Config.{Config}
 use Rattle.board_core.specs.Opening.{IsOpening, Opening, on, place_after}

@@ -1,0 +1,77 @@
+//! What a leaf says of its page but for the addresses and the level, in a byte.
+ghost use Rattle.std.specs.Prelude.{◌≡◌, ◌≤◌, ◌<◌};
+ghost use Rattle.sv39.specs.Entries.{has_bit};
+ghost use Rattle.sv39.specs.Leaves.{allows};
+ghost use Rattle.tlb_model.specs.Inside.KeptRights.{bit, leaf_in, rights_of};
+
+use sv39::{Kind, Leaf, Level};
+
+// The bits of the byte.
+
+const GLOBAL: u64 = 0;
+
+const R: u64 = 1;
+
+const W: u64 = 2;
+
+const X: u64 = 3;
+
+const D: u64 = 4;
+
+/// What a leaf says of its page, a bit each.
+pub fn rights_of(leaf: Leaf) -> u8
+    ensures { result ≡ rights_of leaf }
+{
+    let data = bit(leaf.r) + 2 * (bit(leaf.w) + 2 * (bit(leaf.x) + 2 * bit(leaf.d)));
+    bit(leaf.global) + 2 * data
+}
+
+/// The leaf of a page with these rights.
+pub fn leaf_in(page: u64, pa: u64, level: Level, rights: u8) -> Leaf
+    ensures { result ≡ leaf_in page pa level rights }
+{
+    Leaf {
+        page,
+        pa,
+        level,
+        global: is_global(rights),
+        r: has(rights, R),
+        w: has(rights, W),
+        x: has(rights, X),
+        d: has(rights, D),
+    }
+}
+
+/// Whether the page is global.
+pub fn is_global(rights: u8) -> bool
+    ensures { result ≡ has_bit 0 rights }
+{
+    has(rights, GLOBAL)
+}
+
+/// Whether the page may be accessed so.
+pub fn allow(rights: u8, kind: Kind) -> bool
+    ensures { result ≡ allows kind (leaf_in 0 0 Level.Kilo rights) }
+{
+    match kind {
+        Kind::Fetch => has(rights, X),
+        Kind::Load => has(rights, R),
+        Kind::Store => has(rights, W) && has(rights, D),
+    }
+}
+
+/// Whether the bit is 1.
+fn has(rights: u8, bit: u64) -> bool
+    requires { bit < 8 }
+    ensures { result ≡ has_bit bit rights }
+{
+    rights >> bit & 1 == 1
+}
+
+/// 1 where it is so, and else 0.
+fn bit(is: bool) -> u8
+    ensures value { result ≡ bit is }
+    ensures bound { result ≤ 1 }
+{
+    u8::from(is)
+}
