@@ -6,6 +6,9 @@ from harness import ASKED, DIFFERS, FAILED_IO, NO_MEMORY, SHORT, TRACE, TWO_HART
 
 ERRORS = (errno.EIO, errno.EAGAIN, errno.ENOMEM, errno.EINTR)
 
+# A schedule whose printed text takes more than one write, of which all but the last are made while lines are still printed.
+BUFFER, LONG = 65_536, b"board 1 1 9000 0 0x80000000 0\n0 advance\n" + b"0 sip\n" * 8_000
+
 # The status that each of these errors ends with, by what was called, or None where it makes no difference: a call that
 # a signal interrupted is made again, but for a read.
 OF_OPEN, OF_READ, OF_WRITE, OF_PRINT = (7, 7, 6, None), (7, 7, 7, 7), (7, 7, 7, None), (7, 7, 6, None)
@@ -31,11 +34,12 @@ def each_error(made, words, call, most, statuses):
 def each_call_fails(room):
     """Each call that opens, reads or writes fails in turn: a failed read ends all, and a task makes no call but these."""
     made = shim(room)
-    for task, text in (("run", TWO_HARTS), ("replay", SHORT), ("check", TRACE), ("check", DIFFERS)):
+    short = (("run", TWO_HARTS), ("replay", SHORT), ("check", TRACE), ("check", DIFFERS))
+    for task, text, mosts in (*((*it, (0, 7)) for it in short), ("replay", LONG, (0,))):
         path = script(room, text + b"# \n" * 20)
         printed, size = len(ran([task, path]).stdout), os.path.getsize(path)
-        for most in (0, 7):
-            pieces = lambda size: -(-size // most) if most else 1
+        for most in mosts:
+            pieces = lambda size: -(-size // (most or BUFFER))
             calls = [OF_OPEN, *[OF_READ] * (pieces(size) + 1), *[OF_WRITE] * pieces(printed), (None,) * 4]
             for call, statuses in enumerate(calls, 1):
                 each_error(made, [task, path], call, most, statuses)
