@@ -5,7 +5,7 @@ ghost use Rattle.tlb_model.specs.Entries.{covers_entry, is_in_space, matches, re
 
 use crate::cache::Cached;
 use crate::fence::{Flush, Range};
-use crate::rights::{allow, is_global, leaf_in, rights_of};
+use crate::rights::{D, R, W, X, has, is_global, leaf_in, rights_of};
 use std::fmt;
 use std::marker::Model;
 use sv39::{Kind, Leaf, Level};
@@ -148,7 +148,11 @@ impl Entry {
     pub fn allows(&self, kind: Kind) -> bool
         ensures { result ≡ allows kind self.now.leaf }
     {
-        allow(self.rights, kind)
+        match kind {
+            Kind::Fetch => has(self.rights, X),
+            Kind::Load => has(self.rights, R),
+            Kind::Store => has(self.rights, W) && has(self.rights, D),
+        }
     }
 
     /// Whether a fence of this address space, or of all, is of the entry's: one of a single space spares what is

@@ -1,22 +1,21 @@
 //! What a leaf says of its page but for the addresses and the level, in a byte.
 ghost use Rattle.std.specs.Prelude.{◌≡◌, ◌≤◌, ◌<◌};
 ghost use Rattle.sv39.specs.Entries.{has_bit};
-ghost use Rattle.sv39.specs.Leaves.{allows};
 ghost use Rattle.tlb_model.specs.Inside.KeptRights.{bit, leaf_in, rights_of};
 
-use sv39::{Kind, Leaf, Level};
+use sv39::{Leaf, Level};
 
 // The bits of the byte.
 
 const GLOBAL: u64 = 0;
 
-const R: u64 = 1;
+pub const R: u64 = 1;
 
-const W: u64 = 2;
+pub const W: u64 = 2;
 
-const X: u64 = 3;
+pub const X: u64 = 3;
 
-const D: u64 = 4;
+pub const D: u64 = 4;
 
 /// What a leaf says of its page, a bit each.
 pub fn rights_of(leaf: Leaf) -> u8
@@ -49,19 +48,8 @@ pub fn is_global(rights: u8) -> bool
     has(rights, GLOBAL)
 }
 
-/// Whether the page may be accessed so.
-pub fn allow(rights: u8, kind: Kind) -> bool
-    ensures { result ≡ allows kind (leaf_in 0 0 Level.Kilo rights) }
-{
-    match kind {
-        Kind::Fetch => has(rights, X),
-        Kind::Load => has(rights, R),
-        Kind::Store => has(rights, W) && has(rights, D),
-    }
-}
-
 /// Whether the bit is 1.
-fn has(rights: u8, bit: u64) -> bool
+pub fn has(rights: u8, bit: u64) -> bool
     requires { bit < 8 }
     ensures { result ≡ has_bit bit rights }
 {
