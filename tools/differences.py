@@ -97,7 +97,7 @@ class Differences:
         """A return whose value isn't the board's where the standard leaves it open, or that wasn't seen."""
         numbers, call = self.lines[place].numbers, self.call_of(place)
         if numbers == UNSEEN:
-            state.put(Difference(call.number, f"{self.name(call)}: return", "", "not seen", WITHOUT_ANSWER, None))
+            state.put(Difference(call.number, f"{self.name(call)}: its return", "", "", WITHOUT_ANSWER, None))
         elif self.settled_answer(call.numbers, *numbers)[2] != numbers[1]:
             state.put(Difference(call.number, f"{self.name(call)}: a1", "0x0", f"{numbers[1]:#x}", verdict_of("values"), None))
 

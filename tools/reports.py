@@ -38,7 +38,7 @@ def page_of(rule):
 
 
 def of_difference(item):
-    text = f"{item.what}: here {item.here}, there {item.there}"
+    text = f"{item.what}: here {item.here}, there {item.there}" if item.here else item.what
     if item.follows:
         return Item(FOLLOWS, item.at, "", f"{text} (from line {item.follows})")
     verdict = item.verdict

@@ -200,6 +200,8 @@ def of_reset(board, fid, a, here, there):
     if here == GONE and there[0] == "ret":
         return "reasons" if reason >= 0xE0000000 and there[1] != FAILED else {FAILED: "unknown reasons", NOT_SUPPORTED: "resets"}.get(there[1])
     is_vendors = kind >= 0xF0000000
+    if here[:2] == ("ret", INVALID_PARAM) and kind <= 2 and there[:2] == ("ret", NOT_SUPPORTED):
+        return "resets"
     return "types of resets" if kind > 2 and here[0] == "ret" and (is_vendors or there != GONE) else None
 
 
