@@ -28,7 +28,7 @@ class Differences:
                 self.places[line.hart].append(place)
         # What the firmware says of itself: the version of the specification, and which extensions it has.
         told = {line.numbers[:3]: self.lines[line.reply].numbers for line in self.lines if line.kind == "call" and line.reply is not None}
-        said = [reply[1] for numbers, reply in told.items() if numbers[:2] == (BASE, 0) and reply[0] == 0]
+        said = [reply[1] for numbers, reply in told.items() if numbers[:2] == (BASE, 0) and reply[0] == 0 and reply[1] < 1 << 31]
         self.version = version or (version_of(said[0]) if said else (1, 0))
         self.offered = {numbers[2] for numbers, reply in told.items() if numbers[:2] == (BASE, 3) and reply[0] == 0 and reply[1]}
 
