@@ -30,10 +30,11 @@ class Line:
 
 class Record:
     """How many harts there are, their ids, the lines, and how the record ended (None where it doesn't say).
-    `is_guessed`: the ids aren't those from 0, and no list of them was given."""
+    `is_guessed`: the ids aren't those from 0, and no list of them was given. `conditions`: its lines that begin with `#!`."""
 
     def __init__(self, ids, lines, end, is_guessed):
         self.harts, self.ids, self.lines, self.end, self.is_guessed = len(ids), ids, lines, end, is_guessed
+        self.conditions = []
         self.place_of = {number: place for place, number in enumerate(ids)}
         self.has_times = any("time" in line.notes for line in lines)
         self.has_sie = any("sie" in line.notes for line in lines)
@@ -122,7 +123,15 @@ def read(data):
     if lines and lines[-1].kind == "end":
         end = lines.pop().numbers[0]
     join(lines)
-    return numbered(head, lines, end)
+    record = numbered(head, lines, end)
+    record.conditions = conditions(text)
+    return record
+
+
+def conditions(text):
+    """The lines that ask something of a trace."""
+    lines = [line.strip() for line in text.split("\n")]
+    return [line for line in lines if line.startswith("#!") and not line.startswith("#!/")]
 
 
 def numbered(head, lines, end):
