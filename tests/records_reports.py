@@ -2,7 +2,9 @@
 import os
 import random
 import subprocess
+from collections import Counter
 
+import random_records
 import records_recorder
 from board_model import ALL, BASE, GONE, HSM, IPI, RFENCE, SRST, TIME, WAITING, Board
 from harness import HERE, ROOT, Wrong, script, shown
@@ -236,6 +238,57 @@ def used(room):
         raise Wrong("the versions aren't those of --spec")
 
 
+# ---- random records
+
+SEEDS = range(5000, 5040)
+
+
+def mutants(lines, any_):
+    """The record with one line wrong, in each way that its lines allow."""
+    rets = [at for at, line in enumerate(lines) if line.split()[1] == "ret"]
+    entries = [at for at, line in enumerate(lines) if line.split()[1] == "entry"]
+    if rets:
+        at = any_.choice(rets)
+        hart, _, _, value, *notes = lines[at].split()
+        yield "an error of no list", replaced(lines, at, " ".join([hart, "ret", "-77", value, *notes]))
+    if entries:
+        at = any_.choice(entries)
+        hart, _, pc, a0, a1, *notes = lines[at].split()
+        yield "another a0", replaced(lines, at, " ".join([hart, "entry", pc, str(int(a0, 0) + 1), a1, *notes]))
+        yield "an entry twice", lines[: at + 1] + lines[at:]
+        if at:
+            yield "another a1", replaced(lines, at, " ".join([hart, "entry", pc, a0, str(int(a1, 0) ^ 1 << 63), *notes]))
+    last = {line.split()[0]: at for at, line in enumerate(lines)}
+    if ends := [at for at in last.values() if at in rets]:
+        at = any_.choice(ends)
+        yield "no last return, and the limit", lines[:at] + lines[at + 1 :] + ["m end limit"]
+
+
+def replaced(lines, at, line):
+    return lines[:at] + [line] + lines[at + 1 :]
+
+
+def one_wrong_line(room):
+    """A record of a right firmware has no fault but harts that have not entered yet; with one line wrong it is bad."""
+    tried = Counter()
+    for seed in SEEDS:
+        head, *lines = random_records.Maker(seed).lines
+        if not lines:
+            continue
+        report = reported("".join(line + "\n" for line in [head, *lines]))
+        must_add_up(f"seed {seed}", report)
+        if any(report.items[kind] for kind in FAULTS if kind != "enter"):
+            raise Wrong(f"seed {seed}: the report is {list(report.lines())}")
+        for what, mutant in mutants(lines, random.Random(seed)):
+            tried[what] += 1
+            report = reported("".join(line + "\n" for line in [head, *mutant]))
+            must_add_up(f"seed {seed}, {what}", report)
+            if not any(report.items[kind] for kind in FAULTS if kind != "enter"):
+                raise Wrong(f"seed {seed}, {what}: the report is {list(report.lines())}")
+    if len(tried) < 5 or min(tried.values()) < 10:
+        raise Wrong(f"too little was tried: {tried}")
+
+
 # ---- ids of harts, and addresses
 
 
@@ -296,6 +349,7 @@ TESTS = [
     ("report: what is told", told),
     ("report: each answer of each call", complete),
     ("report: each rule is met", used),
+    ("report: random records with one wrong line", one_wrong_line),
     ("ids of harts: hart lists", lists),
     ("ids of harts: without a list", guesses),
     ("addresses: more pages than the board has", many_pages),

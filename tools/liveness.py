@@ -45,24 +45,25 @@ def leaves(line):
 def faults(record):
     """All of them, by their lines."""
     lives = Lives(record)
-    found = [*lives.without_return(), *lives.without_entry(), *lives.entries_otherwise()]
+    found = [*lives.otherwise, *lives.without_return(), *lives.without_entry()]
     return sorted(found, key=lambda fault: fault.at)
 
 
 class Lives:
-    """A record's lines, with the places of resets (by a line of its own, or by a call that didn't return), of each hart's
-    entries, and of the starts of each hart that were accepted."""
+    """A record's lines, with each hart's entries, and the accepted starts of each. `resets`: the places at which the machine
+    is reset: by a line of its own; or by a call that doesn't return, at the first entry behind it that nobody asked for,
+    or at the record's end, but for its limit. `hanging`: such calls that reset nothing. `otherwise`: faults of entries."""
 
     def __init__(self, record):
         self.record, self.lines = record, record.lines
-        self.resets, self.entries, self.starts = [], {}, {}
+        self.entries, self.starts = {}, {}
         for place, line in enumerate(self.lines):
-            if line.kind == "reset" or line.kind == "call" and is_reset(line.numbers) and line.reply is None:
-                self.resets.append(place)
-            elif line.kind == "entry":
+            if line.kind == "entry":
                 self.entries.setdefault(line.hart, []).append(place)
             elif line.kind == "call" and line.numbers[:2] == (HSM, 0) and self.is_accepted(line):
                 self.starts.setdefault(self.target(line), []).append(place)
+        self.resets, self.hanging, self.otherwise = [], set(), []
+        self.look_at_entries()
 
     def target(self, line):
         place_of, number = self.record.place_of, line.numbers[2]
@@ -71,65 +72,29 @@ class Lives:
     def is_accepted(self, line):
         return line.reply is None or self.lines[line.reply].numbers == UNSEEN or self.lines[line.reply].numbers[0] == 0
 
-    def next_reset(self, place):
-        at = bisect_left(self.resets, place)
-        return self.resets[at] if at < len(self.resets) else None
+    # ---- entries, and the resets that they show
 
-    def has_entry(self, hart, place, end):
-        entries = self.entries.get(hart, [])
-        at = bisect_left(entries, place)
-        return at < len(entries) and entries[at] < end
-
-    def without_return(self):
+    def look_at_entries(self):
+        is_booting, begun, entered, last = True, 0, {}, {}
         for place, line in enumerate(self.lines):
-            if line.kind == "call" and line.reply is None:
-                yield from self.of_open_call(place, line)
-
-    def of_open_call(self, place, line):
-        reset, text = self.next_reset(place), shown(self.record, line)
-        goes_on = line.then is not None and (reset is None or line.then < reset)
-        if goes_on:
-            if not leaves(line):
-                yield Fault(RETURN, line.number, f"{text}: its hart goes on at line {self.lines[line.then].number}", section_of(line.numbers))
-        elif reset == place:
-            if self.record.end == "limit" and not any(entries[-1] > place for entries in self.entries.values()):
-                yield Fault(OPEN_AT_END, line.number, f"{text}: the machine is neither reset nor off at the record's limit", "")
-        elif not is_leaving(line.numbers):
-            yield self.of_hanging_call(line, reset, text)
-
-    def of_hanging_call(self, line, reset, text):
-        if reset is not None:
-            return Fault(OPEN_AT_END, line.number, f"{text}: open at the reset of line {self.lines[reset].number}", "")
-        if self.record.end == "limit":
-            return Fault(RETURN, line.number, f"{text}: not until the record's limit", section_of(line.numbers))
-        return Fault(OPEN_AT_END, line.number, f"{text}: open where the record ends, {self.lines[-1].number - line.number} lines later", "")
-
-    def without_entry(self):
-        for target, places in self.starts.items():
-            for place in places:
-                line, reset = self.lines[place], self.next_reset(place)
-                end = len(self.lines) if reset is None else reset
-                if target is None or line.reply is None or self.has_entry(target, place, end):
-                    continue
-                until = f"the reset of line {self.lines[end].number}" if reset is not None else "the record's limit" if self.record.end == "limit" else "the record's end"
-                yield Fault(ENTER, line.number, f"{shown(self.record, line)}: hart {self.record.ids[target]} never enters, until {until}", "9.1")
-
-    def entries_otherwise(self):
-        """Entries whose address or registers nobody asked for. What boots is asked for by nobody."""
-        at_resets, is_booting, begun, entered = set(self.resets), True, 0, {}
-        last = {}
-        for place, line in enumerate(self.lines):
-            is_booting |= place in at_resets
             if line.kind == "reset":
-                begun, entered = place, {}
-            if line.kind == "entry":
+                self.resets.append(place)
+                is_booting, begun, entered, self.hanging = True, place, {}, set()
+            elif line.kind == "call" and is_reset(line.numbers) and line.reply is None:
+                self.hanging.add(place)
+            elif line.kind == "entry":
                 wanted = self.wanted(line.hart, max(begun, entered.get(line.hart, 0)), place, last.get(line.hart))
                 is_asked = any((address & ~1, opaque) == (line.numbers[0], line.numbers[2]) for address, opaque in wanted)
-                yield from self.of_entry(line, wanted, is_asked or is_booting)
-                if not is_asked and is_booting:
-                    is_booting, begun, entered = False, place, {}
+                self.otherwise += self.of_entry(line, wanted, is_asked or is_booting or bool(self.hanging))
+                if not is_asked and self.hanging:
+                    self.resets.append(place)
+                if not is_asked and (self.hanging or is_booting):
+                    is_booting, begun, entered, self.hanging = False, place, {}, set()
                 entered[line.hart] = place
             last[line.hart] = line
+        if self.hanging and self.record.end != "limit":
+            self.resets.append(len(self.lines))
+            self.hanging = set()
 
     def wanted(self, hart, since, place, last):
         """The addresses and values for which a hart was asked to enter. last: its last line."""
@@ -146,3 +111,49 @@ class Lives:
         elif not is_right:
             of = " or ".join(f"to enter at {address:#x} with a1 = {opaque:#x}" for address, opaque in wanted) or "for nothing"
             yield Fault(OTHERWISE, line.number, f"hart {hart} enters at {pc:#x} with a1 = {a1:#x}, and was asked {of}", "9.1, 9.4")
+
+    # ---- what doesn't come
+
+    def next_reset(self, place):
+        """The next one's place, and its name; none behind the last."""
+        at = bisect_left(self.resets, place)
+        if at == len(self.resets):
+            return None, ""
+        reset = self.resets[at]
+        return reset, END if reset == len(self.lines) else f"the reset before line {self.lines[reset].number + (self.lines[reset].kind == 'reset')}"
+
+    def without_return(self):
+        for place, line in enumerate(self.lines):
+            if line.kind == "call" and line.reply is None:
+                yield from self.of_open_call(place, line)
+
+    def of_open_call(self, place, line):
+        (reset, name), text = self.next_reset(place), shown(self.record, line)
+        if line.then is not None and (reset is None or line.then < reset):
+            if not leaves(line):
+                yield Fault(RETURN, line.number, f"{text}: its hart goes on at line {self.lines[line.then].number}", section_of(line.numbers))
+        elif place in self.hanging:
+            yield Fault(OPEN_AT_END, line.number, f"{text}: the machine is neither reset nor off at the record's limit", "")
+        elif is_leaving(line.numbers):
+            return
+        elif reset is None and self.record.end == "limit":
+            yield Fault(RETURN, line.number, f"{text}: not until the record's limit", section_of(line.numbers))
+        else:
+            yield Fault(OPEN_AT_END, line.number, f"{text}: open at {name or END}, {self.lines[-1].number - line.number} lines before the last", "")
+
+    def without_entry(self):
+        for target, places in self.starts.items():
+            for place in places:
+                (reset, name), line = self.next_reset(place), self.lines[place]
+                end = len(self.lines) if reset is None else reset
+                if target is not None and line.reply is not None and not self.has_entry(target, place, end):
+                    until = name or (LIMIT if self.record.end == "limit" else END)
+                    yield Fault(ENTER, line.number, f"{shown(self.record, line)}: hart {self.record.ids[target]} never enters, until {until}", "9.1")
+
+    def has_entry(self, hart, place, end):
+        entries = self.entries.get(hart, [])
+        at = bisect_left(entries, place)
+        return at < len(entries) and entries[at] < end
+
+
+END, LIMIT = "the record's end", "the record's limit"
