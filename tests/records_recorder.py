@@ -2,9 +2,11 @@
 resets, refused starts, and each way in which a run ends."""
 import json
 import os
+import re
+import shutil
 import subprocess
 
-from harness import HERE, ROOT, Wrong, shown
+from harness import HERE, ROOT, Passed, Wrong, shown
 
 STAND_IN = os.path.join(HERE, "gdb-stand-in")
 ENTRY, VECTOR, HANDLER = 0x80200000, 0x80000400, 0x80300000
@@ -145,4 +147,34 @@ def refused(room):
         raise Wrong(f"of nothing: status {found.returncode}, and it said {shown(found.stderr)}")
 
 
-TESTS = [(f"recorder: {play.name}", of_play(play)) for play in PLAYS] + [("recorder: what is refused", refused)]
+def interrupts(room):
+    """A supervisor whose timer comes right behind returns, built and recorded here and now: no return is lost, and all agree."""
+    for name in ("qemu-system-riscv64", "gdb-multiarch", "riscv64-linux-gnu-gcc"):
+        if shutil.which(name) is None:
+            raise Passed(f"{name} is missing")
+    image, out = os.path.join(room, "image"), os.path.join(room, "out")
+    words = ["riscv64-linux-gnu-gcc", "-nostdlib", "-static", "-Wl,--build-id=none,--no-warn-rwx-segments", "-Wl,-T", os.path.join(ROOT, "examples/kernel/kernel.ld")]
+    ran([*words, "-o", image, os.path.join(HERE, "records-data/interrupts.S")], 0)
+    found = ran([os.path.join(ROOT, "tools/record"), "--harts", "1", "--seconds", "30", "--grace", "1", "--out", out, image], None)
+    if found.returncode == 3 and b"was over" in found.stderr:
+        raise Passed("QEMU is too slow here: the supervisor didn't end in 30 s")
+    if found.returncode:
+        raise Wrong(f"tools/record: status {found.returncode}, and it said {shown(found.stderr)}")
+    with open(out, encoding="ascii") as file:
+        text = file.read()
+    if not re.search(r"^0 ret 0 0x1000000\n0 call 0x54494d45 ", text, re.M) or "ret - -" in text:
+        raise Wrong("no interrupt came right behind a return, or an answer wasn't seen")
+    report = ran([os.path.join(ROOT, "tools/to-trace"), "--report", out], 0).stdout.decode()
+    calls = text.count(" call ")
+    if not report.startswith(f"calls {calls}, entries 1: {calls + 1} agree\n"):
+        raise Wrong(f"the report is {report}")
+
+
+def ran(words, status):
+    found = subprocess.run(words, stdin=subprocess.DEVNULL, stdout=subprocess.PIPE, stderr=subprocess.PIPE, timeout=120)
+    if status is not None and found.returncode != status:
+        raise Wrong(f"{os.path.basename(words[0])}: status {found.returncode}, not {status}; it said {shown(found.stderr)}")
+    return found
+
+
+TESTS = [(f"recorder: {play.name}", of_play(play)) for play in PLAYS] + [("recorder: what is refused", refused), ("a fresh record: interrupts", interrupts)]

@@ -19,7 +19,7 @@ from traces import followed
 DATA = os.path.join(HERE, "records-data")
 TO_TRACE = os.path.join(ROOT, "tools/to-trace")
 # The small stored records, and the statuses of their reports.
-STORED = [("wrong-answers", 5), ("hangs", 5), ("entries", 5), ("boot-hart", 0), ("newer", 0), ("far-pages", 0), ("interrupted", 0)]
+STORED = [("wrong-answers", 5), ("hangs", 5), ("entries", 5), ("boot-hart", 0), ("newer", 0), ("far-pages", 0), ("interrupted", 0), ("interrupts", 0)]
 
 # ---- wrong records: with each of these a firmware is at fault, and a kernel isn't
 
