@@ -115,4 +115,17 @@ def nothing(room):
         raise Wrong("a broken record passes")
 
 
+# ---- timelines
+
+
+def must_be_labelled(dom, timed):
+    """Of a page by steps and by time: calls have their names, from near and from far, and the axis is what it should be."""
+    by_steps, by_time = (re.search(rb'data-labels="([^"]*)"', it)[1].split() for it in (dom, timed))
+    times = [int(it[5:]) for it in by_time if it.startswith(b"time:")]
+    if {b"fence", b"ipi"} - set(by_steps) or any(it.startswith(b"time:") for it in by_steps):
+        raise Wrong(f"by steps the labels are {by_steps}")
+    if len(times) < 3 or times != sorted(times) or not {b"fence", b"start", b"ipi", b"serve"} & set(by_time):
+        raise Wrong(f"by time the labels are {by_time}")
+
+
 TESTS = [("figures: a small record", small), ("figures: stored records", anew), ("figures: of nothing", nothing)]
