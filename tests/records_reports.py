@@ -1,13 +1,14 @@
 """Tests of the report by the standard: its classes on small records, wrong records that must not pass, and the table of rules."""
 import os
 import random
+import re
 import subprocess
 from collections import Counter
 
 import random_records
 import records_recorder
 from board_model import ALL, BASE, GONE, HSM, IPI, RFENCE, SRST, TIME, WAITING, Board
-from harness import HERE, ROOT, Wrong, script, shown
+from harness import HERE, ROOT, Wrong, ran, script, shown
 from numbers_here import Numbers
 from records import read
 from reports import CLASSES, FAULTS, Report
@@ -18,6 +19,7 @@ from traces import followed
 
 DATA = os.path.join(HERE, "records-data")
 TO_TRACE = os.path.join(ROOT, "tools/to-trace")
+TESTER = os.path.join(ROOT, "crates/sbiboard_test/out/sbiboard_test")
 # The small stored records, and the statuses of their reports.
 STORED = [("wrong-answers", 5), ("hangs", 5), ("entries", 5), ("boot-hart", 0), ("newer", 0), ("far-pages", 0), ("interrupted", 0), ("interrupts", 0)]
 
@@ -59,6 +61,8 @@ WRONG = [
     ("an extension that is offered, and not there", BOOT + answered(BASE, 3, TIME, ret="0 1") + answered(TIME, 0, 5, ret="-2 0"), "breaks", 5),
     ("a later extension's positive error", TWO + answered(0x4442434E, 0, ret="5 0"), "breaks", 6),
     ("a later extension's error of a still later version", TWO + answered(0x4442434E, 0, ret="-14 0"), "breaks", 6),
+    ("an error of Base, by an id that is cut", TWO + answered(1 << 32 | BASE, 0, ret="-6 0"), "breaks", 6),
+    ("a state that isn't one, by an id that is cut", TWO + answered(1 << 63 | HSM, 2, 1, ret="0 7"), "breaks", 6),
     ("a valid list that is refused", TWO + answered(IPI, 0, 3, ret="-3 0"), "breaks", 6),
     ("a valid range that is refused", TWO + answered(RFENCE, 1, 1, 0, 0x1000, 0x1000, ret="-5 0"), UNEXPLAINED, 6),
     ("a hart that isn't there, started", TWO + answered(HSM, 0, 9, 0x80200100), "breaks", 6),
@@ -342,6 +346,37 @@ def interrupted(room):
         raise Wrong(f"the recorder has {lines}")
 
 
+CONDITIONS = [
+    # (what is asked, whether it holds, the line that the trace has)
+    ("never _ ecall RFENCE 0 0xf", True, "never _ ecall 0x52464e43 0 0xf"),
+    ("never _ ecall RFENCE 1 0x2 0", False, "never _ ecall 0x52464e43 1 0x2 0"),
+    ("some _ ecall HSM 3 0x80000000", True, "some _ ecall 0x48534d 3 0x80000000"),
+    ("some _ ecall SRST 0 1", False, "some _ ecall 0x53525354 0 1"),
+    ("each _ ecall TIME -> ret 0", True, "each _ ecall 0x54494d45 -> ret 0"),
+]
+
+
+def asked_of_records(room):
+    """Conditions stand in a file or in the record, with names of extensions, and `test` judges the trace by them."""
+    conditions, own = (os.path.join(room, name) for name in ("conditions", "own.record"))
+    with open(conditions, "w", encoding="ascii") as file:
+        file.write("# a file of conditions\n" + "".join(f"  #! {text}  # why\n" for text, _, _ in CONDITIONS[1:]))
+    with open(os.path.join(DATA, "kernel.record"), encoding="ascii") as kernel, open(own, "w", encoding="ascii") as file:
+        file.write(f"#! {CONDITIONS[0][0]}\n" + kernel.read())
+    found = subprocess.run([TO_TRACE, "--conditions", conditions, own], stdout=subprocess.PIPE, stderr=subprocess.PIPE)
+    if found.returncode:
+        raise Wrong(f"status {found.returncode}, and it said {shown(found.stderr)}")
+    trace = script(room, found.stdout)
+    judged = ran([trace], program=TESTER, cwd=room)
+    told = dict(reversed(it) for it in re.findall(r"^(ok|not ok) [0-9]+ - .*: line [0-9]+: (.*)$", judged.stdout.decode(), re.M))
+    if told != {text: "ok" if holds else "not ok" for _, holds, text in CONDITIONS} or judged.returncode != 1:
+        raise Wrong(f"status {judged.returncode}, and the points are {told}; it said {shown(judged.stderr)}")
+    found = subprocess.run([TO_TRACE, "--conditions", own + "x", own], stdout=subprocess.PIPE, stderr=subprocess.PIPE)
+    empty = subprocess.run([TO_TRACE, "--conditions", os.path.join(DATA, "hangs.record"), own], stdout=subprocess.PIPE, stderr=subprocess.PIPE)
+    if (found.returncode, empty.returncode) != (1, 1) or b"so nothing is asked" not in empty.stderr:
+        raise Wrong(f"a file without conditions passes: {shown(empty.stderr)}")
+
+
 INTERRUPTED = next(play for play in records_recorder.PLAYS if play.name == "a task that goes on on another hart, right behind a return there")
 
 TESTS = [
@@ -354,4 +389,5 @@ TESTS = [
     ("ids of harts: without a list", guesses),
     ("addresses: more pages than the board has", many_pages),
     ("interrupted returns: the stored record", interrupted),
+    ("conditions on records", asked_of_records),
 ]

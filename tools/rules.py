@@ -107,7 +107,9 @@ UNEXPLAINED_VERDICT = Verdict(UNEXPLAINED, "no rule explains it", "")
 def certain(board, op, numbers, here, there, version, is_offered):
     """The verdict on a recorded answer that holds whatever came before: that it breaks the standard, or None; and else the
     rule that excuses it. numbers: the call as it was recorded; op: on the board; here, there: the answers."""
-    verdict = by_itself(numbers, there, version, is_offered)
+    cut = tuple(number & LOW for number in numbers[:2]) + tuple(numbers[2:])
+    is_cut = numbers[:2] != cut[:2] and numbers[0] & LOW in EXTENSIONS and there[:2] != ("ret", NOT_SUPPORTED)
+    verdict = by_itself(cut if is_cut else numbers, there, version, is_offered)
     if verdict is None and here[0] != "refused":
         name = rule_of(board, op, here, there)
         if name and RULES[name].excuses(there):
