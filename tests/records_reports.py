@@ -4,6 +4,7 @@ import random
 import re
 import subprocess
 from collections import Counter
+from itertools import zip_longest
 
 import random_records
 import records_recorder
@@ -71,6 +72,7 @@ WRONG = [
     ("a started hart, started", TWO + answered(HSM, 0, 1, 0x80200100), "breaks", 6),
     ("a started hart that is invalid", TWO + answered(HSM, 0, 1, 0x80200100, ret="-3 0"), UNEXPLAINED, 6),
     ("a stopped hart that isn't available", TWO + answered(HSM, 0, 2, 0x80200100, ret="-6 0"), UNEXPLAINED, 6),
+    ("an error of the timer", TWO + answered(TIME, 0, 5, ret="-3 0"), UNEXPLAINED, 6),
     ("another state", TWO + answered(HSM, 2, 1, ret="0 1"), UNEXPLAINED, 6),
     ("a stop that succeeds and returns", TWO + answered(HSM, 1, hart=1), "breaks", 6),
     ("a non-retentive suspend that succeeds and returns", TWO + answered(HSM, 3, 1 << 31, 0x80200100, hart=1), "breaks", 6),
@@ -196,13 +198,23 @@ def answers_of(op):
 
 
 def complete(room):
-    """Of each call each answer has a verdict: an error that the standard's list or the function's section hasn't breaks the
-    standard, and nothing is excused but by a rule that names the answer."""
+    """Of each call each answer has a verdict, and the whole is the stored table: an error that the standard's list or the
+    function's section hasn't breaks the standard, and nothing is excused but by a rule that names the answer."""
+    lines = []
     for eid, arguments in ARGUMENTS.items():
         for fid, *numbers in arguments:
             op = ("ecall", eid, fid, *numbers, *[0] * (6 - len(numbers)))
+            answers = {}
             for there in answers_of(op):
-                must_have_verdict(op, there)
+                if verdict := must_have_verdict(op, there):
+                    why = f"{verdict.kind} {verdict.section}: {verdict.rule or verdict.sentence}" if verdict.section else verdict.kind
+                    answers.setdefault(why, []).append(f"{there[1]}/{there[2]}" if there[0] == "ret" and there[2] else str(there[1]) if there[0] == "ret" else there[0])
+            lines.append(f"{FUNCTIONS[op[1:3]].name} {' '.join(f'{number:#x}' for number in numbers)}".rstrip())
+            lines += [f"    {', '.join(found)}: {why}" for why, found in answers.items()]
+    with open(os.path.join(DATA, "verdicts"), encoding="ascii") as file:
+        for at, (line, stored) in enumerate(zip_longest(lines, file.read().splitlines()), 1):
+            if line != stored:
+                raise Wrong(f"line {at} of tests/records-data/verdicts is {stored!r}, and the verdict {line!r}")
 
 
 def must_have_verdict(op, there):
@@ -210,18 +222,19 @@ def must_have_verdict(op, there):
     board.step(0, ("advance",))
     here = board.step(0, op)
     if here == there:
-        return
+        return None
     function = FUNCTIONS[op[1:3]]
-    for is_offered in (False, True):
+    for is_offered in (True, False):
         verdict = certain(board, op, op[1:], here, there, (1, 0), is_offered) or by_this_state(board, op, here, there)
         if verdict.kind not in CLASSES or verdict.rule and not RULES[verdict.rule].excuses(there):
             raise Wrong(f"{op} -> {there}: {verdict.kind} by {verdict.rule}")
         error = there[1] if there[0] == "ret" else 0
-        is_named = error in (0, *function.errors) or error == -2 and not is_offered
+        is_named = error in (0, *function.errors) or error == -2 and not is_offered or not function.tells and -9 < error < 0
         if not is_named and verdict.kind != BREAKS:
             raise Wrong(f"{op} -> {there} is {verdict.kind}, and SBI {function.section} names no such error")
         if not verdict.section and verdict.kind != UNEXPLAINED:
             raise Wrong(f"{op} -> {there} has no section")
+    return verdict
 
 
 def used(room):

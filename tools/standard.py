@@ -20,10 +20,11 @@ LATER = {
 
 
 class Function:
-    """A function's section, and the errors that it may answer: those of its section, and of the section on hart lists."""
+    """A function's section, and the errors that it may answer: those of its section, and of the section on hart lists.
+    `tells`: whether the section tells errors at all."""
 
-    def __init__(self, name, section, *errors, returns=True):
-        self.name, self.section, self.errors, self.returns = name, section, errors, returns
+    def __init__(self, name, section, *errors, returns=True, tells=True):
+        self.name, self.section, self.errors, self.returns, self.tells = name, section, errors, returns, tells
 
 
 FUNCTIONS = {
@@ -34,7 +35,7 @@ FUNCTIONS = {
     (BASE, 4): Function("get_mvendorid", "4.5"),
     (BASE, 5): Function("get_marchid", "4.6"),
     (BASE, 6): Function("get_mimpid", "4.7"),
-    (TIME, 0): Function("set_timer", "6.1"),
+    (TIME, 0): Function("set_timer", "6.1", tells=False),
     (IPI, 0): Function("send_ipi", "7.1", INVALID_PARAM),
     (RFENCE, 0): Function("remote_fence_i", "8.1", INVALID_PARAM),
     (RFENCE, 1): Function("remote_sfence_vma", "8.2", INVALID_PARAM, INVALID_ADDRESS),
@@ -90,7 +91,7 @@ def by_itself(numbers, there, version, is_offered):
         return of_unknown(eid, error)
     if error == NOT_SUPPORTED and error not in function.errors:
         return breaks("an extension that is offered is there as a whole", "1") if is_offered else None
-    if error and error not in function.errors:
+    if error and error not in function.errors and function.tells:
         return breaks("an error is one of those that the function's section names", function.section)
     if error == 0 and not function.returns:
         return breaks("a call that succeeds doesn't return", function.section)
