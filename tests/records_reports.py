@@ -316,6 +316,9 @@ def lists(room):
         ids = sorted(any_.sample(range(any_.choice([4, 70, 130, 300])), any_.choice([1, 2, 3, 4])))
         text = f"record {len(ids)} {' '.join(map(str, ids))}\n{ids[0]} entry 0x80200000 {ids[0]} 0\n"
         numbers = Numbers(read(text.encode()), [], 256)
+        for place, number in enumerate(ids):
+            if (numbers.hart(number), numbers.hart(number | 3 << 40)) != (place, place | 3 << 40) or numbers.hart(301 + number) < len(ids):
+                raise Wrong(f"of the ids {ids} hart {number} is {numbers.hart(number)}, and its cut id {numbers.hart(number | 3 << 40):#x}")
         for _ in range(20):
             base = any_.choice([*ids, any_.randrange(300)])
             mask = sum(1 << number - base for number in ids if 0 <= number - base < 64 and any_.random() < 0.6)

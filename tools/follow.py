@@ -28,6 +28,8 @@ class Follower(Differences):
         self.ignored, self.numbers = frozenset(ignored), Numbers(record, maps, PAGES)
         self.passed_over = {}
         self.ipis = {h: self.ipis_to(h) for h in range(record.harts)}
+        # Of each hart the lines at which its SSIP is seen.
+        self.pending = {h: [place for place in self.places[h] if self.lines[place].notes.get("sip", 0) & SSI] for h in range(record.harts)}
 
     def ipis_to(self, h):
         return [
@@ -212,9 +214,9 @@ class Follower(Differences):
         line = self.lines[place]
         if line.notes.get("sip", SSI) & SSI or not state.board.harts[line.hart].ssip:
             return False
-        places = self.places[line.hart]
-        later = places[bisect_right(places, place) :]
-        seen = next((at for at in later if self.lines[at].notes.get("sip", 0) & SSI), None)
+        pending = self.pending[line.hart]
+        later = bisect_right(pending, place)
+        seen = pending[later] if later < len(pending) else None
         if seen is None:
             return True
         ipis = self.ipis[line.hart]
