@@ -14,7 +14,7 @@ use Rattle.board_core.specs.History.{Event}
 use Rattle.board_terms.specs.Limits.{IsGood}
 use Rattle.board_core.specs.Replies.{IsLegal}
 use Rattle.board_core.specs.Totals.{totals}
-use Rattle.board_laws.proofs.Right.{turns_are_right}
+use Rattle.board_core.proofs.Right.{turns_are_right}
 
 -- what waits is counted alike with and without places
 same-waiting : (o : Opening) (past : List Event) → (totals o past).waiting ≡ total_waiting o.fences o.config.harts (turns o past)

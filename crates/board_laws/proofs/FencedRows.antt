@@ -59,7 +59,7 @@ use Rattle.board_laws.proofs.Once.{asked_once, opened_once, stops_leave_nothing}
 use Rattle.board_laws.proofs.Parting.{cuts_are_never_seen}
 use Rattle.board_laws.proofs.Places.{at-with}
 use Rattle.board_laws.proofs.Reached.{fences_strike}
-use Rattle.board_laws.proofs.Right.{turns_are_right}
+use Rattle.board_core.proofs.Right.{turns_are_right}
 use Rattle.board_laws.proofs.Steady.{steady_tables_decide}
 
 abbrev did : ℕ → Op → Reply → Event

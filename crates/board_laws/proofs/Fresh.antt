@@ -34,7 +34,8 @@ use Rattle.board_laws.specs.Places.{past_at}
 use Rattle.board_laws.proofs.Gone.{struck-within}
 use Rattle.board_laws.proofs.Reached.{fenced_is_gone, fences_strike}
 use Rattle.board_laws.proofs.Leaves.{covers-matched, matched, same-leaf}
-use Rattle.board_laws.proofs.Openings.{IsPage, is-good, is-page, opened-pages}
+use Rattle.board_core.proofs.Beginning.{is-good}
+use Rattle.board_laws.proofs.Openings.{IsPage, is-page, opened-pages}
 use Rattle.board_laws.proofs.Lives.{Fetched, fetched, lives_from_its_date, used-reach}
 use Rattle.board_laws.proofs.Places.{accesses-later, length-past_at, legal-with, opening-of, past_at-again, within}
 

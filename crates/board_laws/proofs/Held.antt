@@ -14,7 +14,7 @@ use Rattle.board_core.specs.Replies.{IsLegal}
 use Rattle.board_core.proofs.Beginning.{opens}
 use Rattle.board_core.proofs.Cutting.{memory-cut, opens-cut}
 use Rattle.board_core.proofs.Rams.{ram-after}
-use Rattle.board_laws.proofs.Right.{turns_are_right}
+use Rattle.board_core.proofs.Right.{turns_are_right}
 
 -- ---- histories
 

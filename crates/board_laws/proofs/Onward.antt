@@ -60,7 +60,7 @@ use Rattle.board_core.proofs.Cutting.{caches_of-cut, deadlines-cut, hart-cut, ha
 use Rattle.board_core.proofs.InCalls.{taken}
 use Rattle.board_core.proofs.MemoryStanding.{length-tlb_acts, length-word_acts}
 use Rattle.board_core.proofs.Rows.{clock_ticks}
-use Rattle.board_laws.proofs.Right.{stopped-outside, turns_are_right}
+use Rattle.board_core.proofs.Right.{stopped-outside, turns_are_right}
 
 -- how many starts were entered, of before the cut and since
 counted : (start : Option Start) (reset : Option Reset) (before : List Start) (entered : ℕ) → (is_some start ≡ true → reset ≡ None)

@@ -23,7 +23,7 @@ use Rattle.board_laws.specs.Places.{past_at}
 use Rattle.board_laws.proofs.Acts.{length-seen, one_turn, own-strikes, seen-of, split-at, turn-strikes}
 use Rattle.board_laws.proofs.Gone.{struck_is_gone}
 use Rattle.board_laws.proofs.Places.{at-earlier, length-past_at, one-place, past_at-again, within}
-use Rattle.board_laws.proofs.Right.{turns_are_right}
+use Rattle.board_core.proofs.Right.{turns_are_right}
 
 -- a local fence strikes at its place
 itself-strikes : (o : Opening) (past : List Event) (t place : ℕ) (flush : Flush) → FencesItself o past t place flush → Struck o past t place flush

@@ -33,7 +33,7 @@ use Rattle.board_laws.proofs.Fresh.{after-fence, translations_are_fresh}
 use Rattle.board_laws.proofs.Leaves.{page-bounds}
 use Rattle.sv39.proofs.PageLaw.{leaf_page}
 use Rattle.board_laws.proofs.Lives.{answered-reach, used-reach}
-use Rattle.board_laws.proofs.Openings.{is-good}
+use Rattle.board_core.proofs.Beginning.{is-good}
 use Rattle.board_laws.proofs.Places.{legal-with}
 
 -- the physical address that the result of the page tables gives an address, or the fault

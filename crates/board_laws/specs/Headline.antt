@@ -9,7 +9,7 @@ use Rattle.board_core.specs.Replies.{IsLegal}
 use Rattle.board_core.specs.Starts.{StartsAreEntered}
 use Rattle.board_laws.specs.Fences.{AppliedOnce, OpenedOnce, Reached}
 use Rattle.board_laws.specs.Lives.{NoneLives}
-use Rattle.board_laws.specs.Need.{AreFew, CanEnd, GoesOn, HaveServed, ServeIsAccepted}
+use Rattle.board_core.specs.Serves.{AreFew, CanEnd, GoesOn, HaveServed, ServeIsAccepted}
 use Rattle.board_laws.specs.Places.{IsAt}
 
 pub record Headline (o : Opening) (past : List Event) : Type 0 where

@@ -5,6 +5,5 @@ pub mod Fresh
 pub mod Steady
 pub mod Again
 pub mod Resets
-pub mod Need
 pub mod Seams
 pub mod Headline

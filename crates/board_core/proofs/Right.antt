@@ -43,6 +43,7 @@ use Rattle.board_core.specs.Replies.{IsLegal, answer, call_reply, reply, unless}
 use Rattle.board_core.specs.Resets.{begins_anew}
 use Rattle.board_core.specs.States.{One, move_by, move_by_call, move_of, moved_to, state, state_at_boot, state_at_reset}
 use Rattle.board_core.proofs.InCalls.{taken}
+use Rattle.board_core.proofs.Interruptible as interruptible
 use Rattle.board_core.proofs.Opened.{rests-outside}
 
 -- ---- harts that aren't there
@@ -178,3 +179,8 @@ right-turn o past Clock op r good legal answered = tt
 pub turns_are_right : (o : Opening) (past : List Event) → IsGood o.config → IsLegal o past → IsRight o.fences o.config.harts (turns o past)
 turns_are_right o [] good legal = legal.fences
 turns_are_right o (event ∷ past) good legal = (right-turn o past event.actor event.op event.reply good legal.2 legal.0, turns_are_right o past good legal.2)
+
+-- a hart at which fences wait is in an interruptible state
+pub waits-interruptible : (o : Opening) (past : List Event) → IsGood o.config → IsLegal o past
+    → (h : ℕ) → 0 < length (queues.waiting o.fences (turns o past) h) → is_interruptible (state o past h) ≡ true
+waits-interruptible o past good legal = interruptible.waits-interruptible o past (turns_are_right o past good legal) legal
