@@ -56,7 +56,7 @@ use Rattle.board_laws.proofs.Fresh.{fetches_are_fresh, translations_are_fresh}
 use Rattle.board_laws.proofs.Gone.{struck_is_gone}
 use Rattle.board_laws.proofs.Lives.{lives_from_its_date}
 use Rattle.board_laws.proofs.Once.{asked_once, opened_once, stops_leave_nothing}
-use Rattle.board_laws.proofs.Parting.{cuts_are_never_seen}
+use Rattle.board_laws.proofs.Parting.{parted-are-seamless}
 use Rattle.board_laws.proofs.Places.{at-with}
 use Rattle.board_laws.proofs.Reached.{fences_strike}
 use Rattle.board_laws.proofs.Right.{turns_are_right}
@@ -356,7 +356,7 @@ abbrev after_cut : Opening
 after_cut = opening_of two (past_at two ranged 6)
 
 ranged-seamless : IsSeamless two since_cut (past_at two ranged 6)
-ranged-seamless = cuts_are_never_seen two since_cut (past_at two ranged 6) two-opened ranged-legal
+ranged-seamless = parted-are-seamless two since_cut (past_at two ranged 6) two-opened ranged-legal
 
 -- The call is open there, and its fence waits at hart 1 ..
 abbrev range_call : FenceCall Flush

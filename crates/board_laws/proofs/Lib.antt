@@ -17,6 +17,7 @@ pub mod Interruptible
 pub mod Needs
 pub mod Held
 pub mod Onward
+pub mod Limits
 pub mod Parting
 pub mod WorkedRows
 pub mod FencedRows

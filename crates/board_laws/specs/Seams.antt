@@ -1,5 +1,5 @@
 -- A cut changes no answer ever after.
-use Rattle.std.specs.Prelude.{◌≡◌, ℕ, ◌<◌, Bool, List, ◌++◌}
+use Rattle.std.specs.Prelude.{◌≡◌, ℕ, ◌<◌, ◌≤◌, Bool, List, [], ◌∷◌, ◌++◌, length}
 use Rattle.board_terms.specs.declared.op.Actor.{Actor}
 use Rattle.board_terms.specs.declared.op.Op.{Op}
 use Rattle.board_core.specs.Accesses as accesses
@@ -11,7 +11,7 @@ use Rattle.board_core.specs.History.{Event}
 use Rattle.board_core.specs.Interrupts as interrupts
 use Rattle.board_core.specs.Memory as memories
 use Rattle.board_core.specs.Need.{need}
-use Rattle.board_core.specs.Opening.{Opening}
+use Rattle.board_core.specs.Opening.{Opening, on}
 use Rattle.board_core.specs.Replies.{IsLegal, answer_when}
 use Rattle.board_core.specs.Resets.{last_reset}
 use Rattle.board_core.specs.Starts as starts
@@ -49,3 +49,32 @@ pub record IsSeamless (o : Opening) (newer older : List Event) : Type 0 where
   pub alike : AnswerAlike o.config.harts
       (record { opening = opening_of o older; past = newer }) (record { opening = o; past = newer ++ older })
   pub leaves : opening_of (opening_of o older) newer ≡ opening_of o (newer ++ older)
+
+-- ---- a history that was cut more than once
+
+-- The parts of such a history are in a list, newest first. Each begins with what those before it left.
+abbrev pub left_by : Opening → (parts : List (List Event)) → Opening
+left_by o [] = o
+left_by o (part ∷ parts) = opening_of (left_by o parts) part
+
+-- Each part is legal there, within the board's limit.
+abbrev pub AreLegal : Opening → (parts : List (List Event)) → Type 0
+AreLegal o [] = Unit {0}
+AreLegal o (part ∷ parts) = IsLegal (left_by o parts) part × AreLegal o parts
+
+-- all of their events
+abbrev pub joined : (parts : List (List Event)) → List Event
+joined [] = []
+joined (part ∷ parts) = part ++ joined parts
+
+-- the same board with another limit
+abbrev pub with_limit : ℕ → Opening → Opening
+with_limit limit o = on (record o.config { limit = limit }) o
+
+-- Newer events, on what the parts left, are as all events together, had there been no cut: these are a legal history under each
+-- limit that has room for them; everything is answered as on them; and they leave the same.
+pub record AreOne (o : Opening) (newer : List Event) (parts : List (List Event)) : Type 0 where
+  pub legal : (limit : ℕ) → length (newer ++ joined parts) ≤ limit → IsLegal (with_limit limit o) (newer ++ joined parts)
+  pub alike : AnswerAlike o.config.harts
+      (record { opening = left_by o parts; past = newer }) (record { opening = o; past = newer ++ joined parts })
+  pub leaves : opening_of (left_by o parts) newer ≡ opening_of o (newer ++ joined parts)
