@@ -19,6 +19,7 @@ pub mod Held
 pub mod Onward
 pub mod Limits
 pub mod Parting
+pub mod OpenCalls
 pub mod WorkedRows
 pub mod FencedRows
 pub mod NeedRows

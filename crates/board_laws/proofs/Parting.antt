@@ -193,7 +193,7 @@ module _ (o : Opening) (limit : ℕ) (q : Opening) (older : List Event) where
 cut : (o : Opening) (limit : ℕ) (q : Opening) (older newer : List Event) → Parted o limit q older newer → Parted o limit (opening_of q newer) (newer ++ older) []
 cut o limit q older newer p = record { part = held-cut q newer p.part; all = p.all; leaves = again q newer p.part ∙ p.leaves }
 
-begins : (o : Opening) (limit : ℕ) → IsHeld o [] → (parts : List (List Event)) → AreLegal o parts → length (joined parts) ≤ limit → Parted o limit (left_by o parts) (joined parts) []
+pub begins : (o : Opening) (limit : ℕ) → IsHeld o [] → (parts : List (List Event)) → AreLegal o parts → length (joined parts) ≤ limit → Parted o limit (left_by o parts) (joined parts) []
 begins o limit held [] legal few = record { part = held; all = held-within limit o held; leaves = refl }
 begins o limit held (part ∷ parts) legal few =
     let before = begins o limit held parts legal.1 (omega (arith, length-append part (joined parts))) in

@@ -42,7 +42,7 @@ itself-strikes o past t place flush x =
     }
 
 -- what strikes among the turns strikes at an event
-event-strikes : (o : Opening) (past : List Event) (t place : ℕ) (flush : Flush) → o.fences.first ≡ o.places → WasStruck o.fences (turns o past) t place flush → Struck o past t place flush
+pub event-strikes : (o : Opening) (past : List Event) (t place : ℕ) (flush : Flush) → o.fences.first ≡ o.places → WasStruck o.fences (turns o past) t place flush → Struck o past t place flush
 event-strikes o past t place flush places was =
     let found = seen-of (turns o) (one_turn o) past was.newer was.turn was.older was.made in
     let size = length-seen (turns o) (one_turn o) found.older in

@@ -1,11 +1,13 @@
 //! What lives in the caches of harts.
 ghost use Rattle.std.specs.Prelude.{ℕ, List};
 ghost use Rattle.tlb_model.specs.declared.fence.Flush.{Flush};
+ghost use Rattle.rfence.specs.declared.opened.FenceCall.{FenceCall};
+ghost use Rattle.board_core.specs.Cuts.{IsOpened};
 ghost use Rattle.board_core.specs.Opening.{Opening};
 ghost use Rattle.board_core.specs.History.{Event};
 ghost use Rattle.board_terms.specs.Limits.{IsGood};
 ghost use Rattle.board_core.specs.Replies.{IsLegal};
-ghost use Rattle.board_laws.specs.Fences.{Reached};
+ghost use Rattle.board_laws.specs.Fences.{OpenedReached, Reached};
 ghost use Rattle.board_laws.specs.Lives.{LivesFromItsDate, NoneLives, Struck};
 
 /// In every legal history an entry that lives in a TLB is the leaf that the page tables of its date gave an access of the
@@ -40,4 +42,15 @@ pub fn fenced_is_gone()
         → IsLegal o past
         → Reached o past t place flush
         → NoneLives o past t place flush }
+{}
+
+/// So it is with the fence of a call that was open where the history was cut, once the call is a success: nothing lives in the
+/// caches of a hart that it asked that the fence covers and that was filled before it was asked, be that before the cut or
+/// since (Privileged 4.2.1; SBI 8; Zifencei).
+pub fn opened_is_gone()
+    ensures { (o : Opening) (past : List Event) (c t : ℕ) (call : FenceCall Flush)
+        → IsOpened o
+        → IsLegal o past
+        → OpenedReached o past c t call
+        → NoneLives o past t call.place call.flush }
 {}
