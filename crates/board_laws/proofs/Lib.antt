@@ -22,4 +22,5 @@ pub mod Parting
 pub mod OpenCalls
 pub mod WorkedRows
 pub mod FencedRows
+pub mod CutRows
 pub mod NeedRows

@@ -7,7 +7,7 @@ use Rattle.board_core.specs.Opening.{IsOpening, Opening, on}
 use Rattle.board_core.specs.Replies.{IsLegal}
 use Rattle.board_core.proofs.Unseen.{unseen}
 use Rattle.board_terms.specs.declared.op.Op.{Op}
-use Rattle.board_laws.specs.Seams.{with_limit}
+use Rattle.board_laws.specs.Limits.{with_limit}
 use Rattle.board_laws.proofs.Onward.{onward, used-cut}
 
 pub own-limit : (o : Opening) → with_limit o.config.limit o ≡ o

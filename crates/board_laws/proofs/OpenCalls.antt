@@ -28,16 +28,17 @@ use Rattle.board_core.specs.History.{Event}
 use Rattle.board_core.specs.Memory.{caches_of}
 use Rattle.board_core.specs.Opening.{Opening, opening_at}
 use Rattle.board_core.specs.Replies.{IsLegal}
-use Rattle.board_laws.specs.Fences.{OpenedReached}
+use Rattle.board_laws.specs.Fences.{OpenedReached, Reached}
 use Rattle.board_laws.specs.Lives.{NoneLives, Struck, live_entries, live_words}
 use Rattle.board_laws.specs.Places.{past_at}
-use Rattle.board_laws.specs.Seams.{AreLegal, joined, left_by, with_limit}
+use Rattle.board_laws.specs.Limits.{with_limit}
+use Rattle.board_laws.specs.Seams.{AreLegal, joined, left_by}
 use Rattle.board_laws.proofs.Acts.{SplitAt, one_turn, split-at}
 use Rattle.board_laws.proofs.Gone.{struck_is_gone}
 use Rattle.board_laws.proofs.Parting.{Parted, alike, begins, onto}
 use Rattle.board_laws.proofs.Held.{held-opened}
 use Rattle.board_laws.proofs.Places.{one-place}
-use Rattle.board_laws.proofs.Reached.{event-strikes}
+use Rattle.board_laws.proofs.Reached.{event-strikes, reached-inside, reached-strikes}
 
 -- ---- the turn that asked
 
@@ -119,6 +120,24 @@ module _ (o : Opening) (limit : ℕ) (q : Opening) (older past : List Event) (st
       ∙ ap (λ (left : Opening). called_at left.fences c) start.leaves
       ∙ called-after o.fences o.config.harts (turns o older) start.all.right c
 
+  -- what was struck in all of them is gone
+  pub gone-in-part : (t place : ℕ) (flush : Flush) → t < o.config.harts → Struck o all t place flush → NoneLives q past t place flush
+  gone-in-part t place flush inside struck =
+      let gone = struck_is_gone o all t place flush struck in
+      let same = (alike o limit q older past p).caches t inside in
+      record {
+        entries = All-same (λ (x : Numbered Entry). x.date ≤ place → covers_entry flush x.item ≡ false) (live_entries q past t) (live_entries o all t)
+            (ap (λ (caches : Caches). caches.tlb.live) same) gone.entries;
+        words = All-same (λ (x : Numbered FetchWord). x.date ≤ place → covers_word flush x.item ≡ false) (live_words q past t) (live_words o all t)
+            (ap (λ (caches : Caches). caches.words.live) same) gone.words;
+      }
+
+  -- as is what a fence covers that has reached a hart, wherever it was asked
+  pub reached-is-gone : (t place : ℕ) (flush : Flush) → Reached o all t place flush → NoneLives q past t place flush
+  reached-is-gone t place flush reached =
+      gone-in-part t place flush (reached-inside o all t place flush p.all.right reached)
+      (reached-strikes o all t place flush (one-place (with_limit limit o) all p.all.legal) p.all.right reached)
+
   module _ (c t : ℕ) (call : FenceCall Flush) (r : OpenedReached q past c t call) (none : called_at o.fences c ≡ None) where
     was : WasAsked o.fences (turns o older) c call
     was = was-asked o.fences (turns o older) c call none (sym (call-is c) ∙ r.called)
@@ -170,15 +189,16 @@ module _ (o : Opening) (limit : ℕ) (q : Opening) (older past : List Event) (st
         asking.0.1 t named
 
     pub gone-since : NoneLives q past t call.place call.flush
-    gone-since =
-        let gone = struck_is_gone o all t call.place call.flush struck in
-        let same = (alike o limit q older past p).caches t inside in
-        record {
-          entries = All-same (λ (x : Numbered Entry). x.date ≤ call.place → covers_entry call.flush x.item ≡ false) (live_entries q past t) (live_entries o all t)
-              (ap (λ (caches : Caches). caches.tlb.live) same) gone.entries;
-          words = All-same (λ (x : Numbered FetchWord). x.date ≤ call.place → covers_word call.flush x.item ≡ false) (live_words q past t) (live_words o all t)
-              (ap (λ (caches : Caches). caches.words.live) same) gone.words;
-        }
+    gone-since = gone-in-part t call.place call.flush inside struck
+
+pub fences_outlast_cuts : (o : Opening) (newer : List Event) (parts : List (List Event)) (t place : ℕ) (flush : Flush) → IsOpened o → AreLegal o (newer ∷ parts)
+    → Reached o (newer ++ joined parts) t place flush → NoneLives (left_by o parts) newer t place flush
+fences_outlast_cuts o newer parts t place flush opened legal reached =
+    let q = left_by o parts in
+    let limit = length (newer ++ joined parts) in
+    let start = begins o limit (held-opened o opened) parts legal.1 (omega (arith, length-append newer (joined parts))) in
+    let p = onto o limit q (joined parts) start newer legal.0 (omega arith) in
+    reached-is-gone o limit q (joined parts) newer start p t place flush reached
 
 -- ---- what a board opens with was left by the parts of a history
 

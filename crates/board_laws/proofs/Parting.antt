@@ -28,7 +28,8 @@ use Rattle.board_core.specs.Totals.{totals}
 use Rattle.board_core.proofs.InCalls.{taken}
 use Rattle.board_core.proofs.Steps.{room-left}
 use Rattle.board_core.proofs.Unseen.{unseen}
-use Rattle.board_laws.specs.Seams.{AnswerAlike, AreLegal, AreOne, IsSeamless, joined, left_by, with_limit}
+use Rattle.board_laws.specs.Limits.{with_limit}
+use Rattle.board_laws.specs.Seams.{AnswerAlike, AreLegal, AreOne, IsSeamless, joined, left_by}
 use Rattle.board_laws.proofs.Held.{held-by, held-cut, held-more, held-opened}
 use Rattle.board_laws.proofs.Limits.{held-within, onward-within, unseen-within, used-within}
 use Rattle.board_laws.proofs.Onward.{again, onward, used-cut}

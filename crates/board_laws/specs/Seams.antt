@@ -11,12 +11,13 @@ use Rattle.board_core.specs.History.{Event}
 use Rattle.board_core.specs.Interrupts as interrupts
 use Rattle.board_core.specs.Memory as memories
 use Rattle.board_core.specs.Need.{need}
-use Rattle.board_core.specs.Opening.{Opening, on}
+use Rattle.board_core.specs.Opening.{Opening}
 use Rattle.board_core.specs.Replies.{IsLegal, answer_when}
 use Rattle.board_core.specs.Resets.{last_reset}
 use Rattle.board_core.specs.Starts as starts
 use Rattle.board_core.specs.States as states
 use Rattle.board_core.specs.Totals.{totals}
+use Rattle.board_laws.specs.Limits.{with_limit}
 
 -- Two courses of a board answer alike: each look-up of a hart that is there, the time, the last reset, the memory and the
 -- totals; and each step is answered the same, where the history is full or isn't, and uses the same entry.
@@ -66,10 +67,6 @@ AreLegal o (part ∷ parts) = IsLegal (left_by o parts) part × AreLegal o parts
 abbrev pub joined : (parts : List (List Event)) → List Event
 joined [] = []
 joined (part ∷ parts) = part ++ joined parts
-
--- the same board with another limit
-abbrev pub with_limit : ℕ → Opening → Opening
-with_limit limit o = on (record o.config { limit = limit }) o
 
 -- Newer events, on what the parts left, are as all events together, had there been no cut: these are a legal history under each
 -- limit that has room for them; everything is answered as on them; and they leave the same.
