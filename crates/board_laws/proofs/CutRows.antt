@@ -1,10 +1,8 @@
 -- Worked rows of histories that were cut, so that no law of cuts speaks of nothing.
-use Rattle.std.proofs.Common.{◌≡◌, ℕ, suc, List, [], ◌∷◌, ◌++◌, true, refl, sym, ap, ◌∙◌, arith, ◌<◌, Some, None, Ok, Err}
-use Rattle.std.specs.Prelude.{length}
-use Rattle.sbi_abi.specs.declared.call.Regs.{Regs}
+use Rattle.std.proofs.Common.{◌≡◌, ℕ, suc, List, [], ◌∷◌, ◌++◌, true, refl, sym, ap, ◌∙◌, arith, ◌<◌, Some, None, Err}
 use Rattle.sbi_abi.specs.Calls.{call_of}
 use Rattle.hart_mask.specs.HartList.{names_stray, targets_of}
-use Rattle.hart_mask.specs.Ids.{has, ids_where}
+use Rattle.hart_mask.specs.Ids.{ids_where}
 use Rattle.sv39.specs.Maps.{maps}
 use Rattle.sv39.specs.Memory.{is_in_ram, word_in, zero_memory}
 use Rattle.sv39.specs.Paging.{is_valid_by}
@@ -21,7 +19,7 @@ use Rattle.board_terms.specs.declared.reply.Reply.TheVariants.{Done, Entry, Serv
 use Rattle.board_terms.specs.Limits.{IsGood}
 use Rattle.board_core.specs.Cuts.{IsOpened, opening_of}
 use Rattle.board_core.specs.History.{Event}
-use Rattle.board_core.specs.Opening.{IsOpening, Opening, opening_at}
+use Rattle.board_core.specs.Opening.{Opening, opening_at}
 use Rattle.board_core.specs.Replies.{IsLegal, answer}
 use Rattle.board_core.specs.Resets.{reset_by}
 use Rattle.board_core.proofs.Beginning.{opens}

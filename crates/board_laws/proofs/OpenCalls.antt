@@ -1,5 +1,5 @@
 -- A fence call that was open where the history was cut strikes as it would have without the cut.
-use Rattle.std.proofs.Common.{◌≡◌, ℕ, zero, suc, Bool, true, false, List, [], ◌∷◌, ◌++◌, append_assoc, length, length-append, subst, refl, sym, ap, ◌∙◌, arith, Option, Some, None}
+use Rattle.std.proofs.Common.{◌≡◌, ℕ, zero, suc, Bool, true, false, List, [], ◌∷◌, ◌++◌, append_assoc, length, length-append, subst, refl, sym, ap, ◌∙◌, arith, Some, None}
 use Rattle.std.specs.Prelude.{◌==◌, ◌≤◌, ◌<◌, if◌then◌else◌}
 use Rattle.std.proofs.lemmas.Bool.{eqb-true}
 use Rattle.std.proofs.lemmas.List.Elements.{All-same}
@@ -25,7 +25,6 @@ use Rattle.board_terms.specs.Limits.{IsGood}
 use Rattle.board_core.specs.Cuts.{IsOpened, OpensAfter, opening_of}
 use Rattle.board_core.specs.Fences.{turn_of, turns}
 use Rattle.board_core.specs.History.{Event}
-use Rattle.board_core.specs.Memory.{caches_of}
 use Rattle.board_core.specs.Opening.{Opening, opening_at}
 use Rattle.board_core.specs.Replies.{IsLegal}
 use Rattle.board_laws.specs.Fences.{OpenedReached, Reached}

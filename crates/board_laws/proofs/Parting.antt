@@ -1,5 +1,5 @@
 -- Newer events, on what older ones leave, are as all events together.
-use Rattle.std.proofs.Common.{◌≡◌, ℕ, suc, ◌<◌, ◌≤◌, Bool, true, false, List, [], ◌∷◌, ◌++◌, length, length-append, subst, refl, sym, ap, ◌∙◌, arith, Ok, inl, inr}
+use Rattle.std.proofs.Common.{◌≡◌, ℕ, ◌<◌, ◌≤◌, Bool, true, false, List, [], ◌∷◌, ◌++◌, length, length-append, subst, refl, sym, ap, ◌∙◌, arith, Ok, inl, inr}
 use Rattle.std.specs.Prelude.{drop, nat_le, not}
 use Rattle.std.proofs.lemmas.Bool.{cases_Bool, ne_eqb}
 use Rattle.board_core.specs.Accesses.{used, used_by_actor}
