@@ -100,6 +100,11 @@ open-reached = record {
 open-gone : NoneLives after_cut since_cut 1 6 (Entries range_fence)
 open-gone = opened_is_gone after_cut since_cut 0 1 open_call after-opened (parted-are-seamless two since_cut until_cut two-opened cut-legal).legal open-reached
 
+-- what the hart fills later lives, although the fence covers it
+later-lives : live_entries two (loaded 1 ∷ since_cut ++ until_cut) 1 ≡ (let one : Numbered CacheEntry = record { date = 9; number = 1; item = mapped } in one) ∷ []
+unfolding maps is_valid_by word_in zero_memory is_in_ram call_of targets_of names_stray ids_where
+later-lives = refl
+
 -- ---- a history that was cut more often than its limit lets it be long
 
 abbrev tight : Opening

@@ -51,25 +51,25 @@ pub record IsSeamless (o : Opening) (newer older : List Event) : Type 0 where
       (record { opening = opening_of o older; past = newer }) (record { opening = o; past = newer ++ older })
   pub leaves : opening_of (opening_of o older) newer ≡ opening_of o (newer ++ older)
 
--- ---- a history that was cut more than once
+-- ---- a history that was cut, however often
 
--- The parts of such a history are in a list, newest first. Each begins with what those before it left.
+-- What the parts of the history leave, newest first: each begins with the opening that those before it left.
 abbrev pub left_by : Opening → (parts : List (List Event)) → Opening
 left_by o [] = o
 left_by o (part ∷ parts) = opening_of (left_by o parts) part
 
--- Each part is legal there, within the board's limit.
+-- Each part is legal on its opening, within the board's limit.
 abbrev pub AreLegal : Opening → (parts : List (List Event)) → Type 0
 AreLegal o [] = Unit {0}
 AreLegal o (part ∷ parts) = IsLegal (left_by o parts) part × AreLegal o parts
 
--- all of their events
+-- the events of all parts
 abbrev pub joined : (parts : List (List Event)) → List Event
 joined [] = []
 joined (part ∷ parts) = part ++ joined parts
 
--- Newer events, on what the parts left, are as all events together, had there been no cut: these are a legal history under each
--- limit that has room for them; everything is answered as on them; and they leave the same.
+-- The newest part answers as the whole history does, which was never cut, on the first opening; and both leave the same. The
+-- whole history is legal under each limit that has room for it.
 pub record AreOne (o : Opening) (newer : List Event) (parts : List (List Event)) : Type 0 where
   pub legal : (limit : ℕ) → length (newer ++ joined parts) ≤ limit → IsLegal (with_limit limit o) (newer ++ joined parts)
   pub alike : AnswerAlike o.config.harts

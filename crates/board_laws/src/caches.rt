@@ -44,9 +44,8 @@ pub fn fenced_is_gone()
         → NoneLives o past t place flush }
 {}
 
-/// So it is with the fence of a call that was open where the history was cut, once the call is a success: nothing lives in the
-/// caches of a hart that it asked that the fence covers and that was filled before it was asked, be that before the cut or
-/// since (Privileged 4.2.1; SBI 8; Zifencei).
+/// So it is with the fence of a call that was open when the history was cut, once the call was a success: at each hart that it
+/// asked nothing lives that the fence covers and that was filled before it was asked (Privileged 4.2.1; SBI 8; Zifencei).
 pub fn opened_is_gone()
     ensures { (o : Opening) (past : List Event) (c t : ℕ) (call : FenceCall Flush)
         → IsOpened o
@@ -55,9 +54,8 @@ pub fn opened_is_gone()
         → NoneLives o past t call.place call.flush }
 {}
 
-/// Cuts change nothing of it: whatever part of a history that was cut has the ask, and whichever has the poll, nothing that the
-/// fence covers and that was filled before it was asked lives in the hart's caches after the newest part (Privileged 4.2.1;
-/// SBI 8; Zifencei).
+/// So it is however often the history was cut: whichever part has the ask, and whichever has the poll, nothing lives after the
+/// newest part that the fence covers and that was filled before it was asked (Privileged 4.2.1; SBI 8; Zifencei).
 pub fn fences_outlast_cuts()
     ensures { (o : Opening) (newer : List Event) (parts : List (List Event)) (t place : ℕ) (flush : Flush)
         → IsOpened o
