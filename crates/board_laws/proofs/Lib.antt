@@ -14,7 +14,10 @@ pub mod Again
 pub mod AfterResets
 pub mod Held
 pub mod Onward
+pub mod Limits
 pub mod Parting
+pub mod OpenCalls
 pub mod WorkedRows
 pub mod FencedRows
+pub mod CutRows
 pub mod NeedRows

@@ -1,5 +1,6 @@
 pub mod Places
 pub mod Lives
+pub mod Limits
 pub mod Fences
 pub mod Fresh
 pub mod Steady
