@@ -148,6 +148,14 @@ module _ {F : Type 0} (o : Opening F) (n : ℕ) (turns : List (Turn F)) (right :
         applied = applied;
       }) stands.applied
 
+  -- ---- the place of the next turn is later than those that are kept
+
+  pub is-later : (fences : State F) → StandsFor o n turns fences → IsLater (place_after o turns) fences
+  is-later fences stands = record {
+    calls = λ c call is. open-below o n turns c call right (sym (ap (λ calls. get_or calls c None) stands.opened ∙ called-after c) ∙ is);
+    asked = omega (arith, stands.asked, few-asked o n turns right);
+  }
+
   -- ---- what is kept, as the opening of the turns from a later place on
 
   pub opens-at : (place : ℕ) (fences : State F) → StandsFor o n turns fences → IsLater place fences → IsOpening (opening_in place fences) n

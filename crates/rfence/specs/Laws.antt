@@ -10,7 +10,7 @@ use Rattle.rfence.specs.Waiting.{one_more, waiting}
 use Rattle.rfence.specs.Applied.{Applied, Effect, Nothing, Drops, Empties, applied, effect}
 use Rattle.rfence.specs.Calls.{is_at, is_outstanding, open_call, outstanding}
 use Rattle.rfence.specs.Right.{IsRight}
-use Rattle.rfence.specs.State.{IsTaken, State, total_applied, total_asked}
+use Rattle.rfence.specs.State.{IsLater, IsTaken, StandsFor, State, total_applied, total_asked}
 
 -- what waits at hart t: requests of distinct other harts, fewer than there are harts, each of its caller's open call
 pub record OfOpenCalls {F : Type 0} (o : Opening F) (n : ℕ) (turns : List (Turn F)) (t : ℕ) : Type 0 where
@@ -132,3 +132,9 @@ AppliedIsCounted F =
 abbrev pub OthersChangeNothing : Type 0 → Type 0
 OthersChangeNothing F =
     (fences : State F) → ((x : ℕ) (flush : F) → IsTaken fences (Own x flush) fences) × IsTaken fences Quiet fences
+
+-- The next turn comes at a later place than each call that is kept, as an ask asks for.
+abbrev pub TurnsComeLater : Type 0 → Type 0
+TurnsComeLater F =
+    (o : Opening F) (n : ℕ) (turns : List (Turn F)) (fences : State F)
+    → StandsFor o n turns fences → IsRight o n turns → IsLater (place_after o turns) fences

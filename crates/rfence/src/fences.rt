@@ -43,7 +43,7 @@ impl<F> Model for Fences<F> {
 
 impl<F: Copy> Fences<F> {
     /// Nothing waits, and no hart is in a call; `idle` is any fence, which stands where a hart has asked none. It fails
-    /// where memory runs out; no other call takes memory.
+    /// where memory runs out; no other call but `try_copy` takes memory.
     pub fn new(alloc: Global, harts: u64, idle: F) -> Result<Fences<F>, AllocError>
         requires { harts ≤ 128 }
         ensures { IfOk result (λ fences. StandsFor (nothing_before harts) harts [] fences) }
