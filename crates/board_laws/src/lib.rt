@@ -18,8 +18,8 @@ pub use caches::{
     struck_is_gone,
 };
 pub use fences::{
-    applied_once, asked_once, calls_are_made_started, fences_are_counted, opened_once,
-    stops_leave_nothing, turns_are_right,
+    applied_is_counted, applied_once, asked_once, calls_are_made_started, fences_are_counted,
+    opened_once, stops_leave_nothing, turns_are_right,
 };
 pub use headlines::headline;
 pub use need::{
