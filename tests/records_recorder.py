@@ -6,9 +6,10 @@ import re
 import shutil
 import subprocess
 
-from harness import HERE, ROOT, Passed, Wrong, shown
+from harness import HERE, ROOT, Skipped, Wrong, shown
 
 STAND_IN = os.path.join(HERE, "gdb-stand-in")
+FIRMWARE = "/usr/lib/riscv64-linux-gnu/opensbi/generic/fw_dynamic.bin"
 ENTRY, VECTOR, HANDLER = 0x80200000, 0x80000400, 0x80300000
 # Where all tasks of a kernel call from, and stacks of three of them.
 AT, TASK, IRQ, OTHER = 0x80201000, 0x80400000, 0x80410000, 0x80420000
@@ -152,15 +153,15 @@ def refused(room):
 
 def interrupts(room):
     """A supervisor whose timer comes right behind returns, built and recorded here and now: no return is lost, and all agree."""
-    for name in ("qemu-system-riscv64", "gdb-multiarch", "riscv64-linux-gnu-gcc"):
-        if shutil.which(name) is None:
-            raise Passed(f"{name} is missing")
+    for name in ("qemu-system-riscv64", "gdb-multiarch", "riscv64-linux-gnu-gcc", FIRMWARE):
+        if shutil.which(name) is None and not os.path.isfile(name):
+            raise Skipped(f"{name} is missing")
     image, out = os.path.join(room, "image"), os.path.join(room, "out")
     words = ["riscv64-linux-gnu-gcc", "-nostdlib", "-static", "-Wl,--build-id=none,--no-warn-rwx-segments", "-Wl,-T", os.path.join(ROOT, "examples/kernel/kernel.ld")]
     ran([*words, "-o", image, os.path.join(HERE, "records-data/interrupts.S")], 0)
     found = ran([os.path.join(ROOT, "tools/record"), "--harts", "1", "--seconds", "30", "--grace", "1", "--out", out, image], None)
     if found.returncode == 3 and b"was over" in found.stderr:
-        raise Passed("QEMU is too slow here: the supervisor didn't end in 30 s")
+        raise Skipped("QEMU is too slow here: the supervisor didn't end in 30 s")
     if found.returncode:
         raise Wrong(f"tools/record: status {found.returncode}, and it said {shown(found.stderr)}")
     with open(out, encoding="ascii") as file:
