@@ -92,7 +92,8 @@ def anew(room):
             calls = re.findall(r"^([0-9]+) call (\S+) (\S+) (\S+) (\S+) ", file.read(), re.M)
         printed = ran([path])[0]
         harts = sorted({int(hart) for hart, *_ in calls})
-        sums = [int(it) for it in re.search(r"^  all +(.*)$", printed, re.M)[1].split()]
+        last = re.search(r"^  all +(.*)$", printed, re.M)
+        sums = [int(it) for it in last[1].split()] if last else [0]
         if sums[-1] != len(calls) or any(sums[hart] != sum(int(of) == hart for of, *_ in calls) for hart in harts):
             raise Wrong(f"{name}: {len(calls)} calls, and the sums are {sums}")
         sent = 0
@@ -120,7 +121,10 @@ def nothing(room):
 
 def must_be_labelled(dom, timed):
     """Of a page by steps and by time: calls have their names, from near and from far, and the axis is what it should be."""
-    by_steps, by_time = (re.search(rb'data-labels="([^"]*)"', it)[1].split() for it in (dom, timed))
+    found = [re.search(rb'data-labels="([^"]*)"', it) for it in (dom, timed)]
+    if None in found:
+        raise Wrong("a page has no labels")
+    by_steps, by_time = (it[1].split() for it in found)
     times = [int(it[5:]) for it in by_time if it.startswith(b"time:")]
     if {b"fence", b"ipi"} - set(by_steps) or any(it.startswith(b"time:") for it in by_steps):
         raise Wrong(f"by steps the labels are {by_steps}")
