@@ -140,6 +140,7 @@ TOLD = [
     ("a call that is open where the machine is off", TWO + call(RFENCE, 0, 1, hart=1) + call(SRST, 0, 0) + "m end off\n", "unjudged", 6),
     ("a call that is open at a record's end that says nothing", TWO + TIMER, "unjudged", 6),
     ("a shutdown that doesn't come", TWO + call(SRST, 0, 0) + "m end limit\n", "unjudged", 6),
+    ("an address beyond the board's RAM that is refused", TWO + answered(HSM, 0, 2, 0x80a00000, ret="-5 0"), "unjudged", 6),
     ("an answer that wasn't seen", TWO + answered(HSM, 2, 1, ret="- -"), "unjudged", 6),
     ("a fence whose answer wasn't seen", TWO + answered(RFENCE, 0, 3, ret="- -"), "unjudged", 6),
     ("a reset that doesn't come", TWO + call(SRST, 0, 1) + answered(TIME, 0, 5, hart=1) + "m end limit\n", "unjudged", 6),

@@ -1,7 +1,7 @@
 """Differences between what was recorded and what the board answers: what is compared, and by which verdict they are told."""
 from bisect import bisect_right
 
-from board_model import BASE, HSM, IPI, LOW, SSI, STI, GONE, RFENCE, WAITING, spelled_answer
+from board_model import BASE, GONE, HSM, INVALID_ADDRESS, IPI, LOW, RFENCE, SSI, STI, WAITING, spelled_answer
 from liveness import shown as spelled_call
 from records import UNSEEN, is_reset, is_suspend
 from rules import TELLS, TOLD, UNEXPLAINED_VERDICT, by_this_state, certain, rule_of_entry, rule_of_wake, verdict_of
@@ -10,6 +10,7 @@ from states import Difference
 
 READ_SIE = SSI | STI
 SUSP = 0x53555350
+BEYOND = Verdict(UNJUDGED, "an address that isn't in this board's RAM was refused, and what the machine has there isn't recorded", "9.1, 9.4")
 WITHOUT_ANSWER = Verdict(UNJUDGED, "a call returned to an interrupt, and its answer wasn't seen", "3")
 
 
@@ -86,9 +87,12 @@ class Differences:
         if call.op[1:3] == (IPI, 0):
             state.missed |= {h: line.number for h in self.named(line.numbers[2:4])}
 
-    def tells(self, state, hart, call):
-        """What a kernel says that it saw."""
+    def agrees(self, state, hart, call, answer):
+        """What is told of an answer that is alike: an address that is refused here since it isn't in the board's RAM, whatever
+        the machine has there; and what a kernel says that it saw."""
         line = self.lines[call.place]
+        if answer == ("ret", INVALID_ADDRESS, 0) and call.op[1] == HSM and line.numbers[3] % 2 == 0:
+            state.put(Difference(line.number, f"{self.name(line)}: its address", "", "", BEYOND, None))
         fid, here, there = call.op[2:5]
         if call.op[1] == TELLS and fid < len(TOLD) and here != there:
             state.put(Difference(line.number, f"{self.id(hart)} tells", f"{here:#x}", f"{there:#x}", verdict_of(TOLD[fid]), None))

@@ -269,7 +269,7 @@ class Follower(Differences):
         if shown is not None and answer != shown:
             self.differs(state, hart, call, answer, shown)
         else:
-            self.tells(state, hart, call)
+            self.agrees(state, hart, call, answer)
         return answer
 
     def advance(self, state, hart, why=None):
