@@ -98,8 +98,11 @@ PLAYS = [
          [BOOT, call(0, TIME, 0, 5), "0 ret 0 0x0", "m end limit"], 3, ["the limit of 1 s was over"], words=("--seconds", "1")),
     Play("the limit, in a call that never returns", [enters(0), calls(0, TIME, 0, 5), {"waits": 60}], [BOOT, call(0, TIME, 0, 5), "m end limit"], 3,
          ["the limit of 1 s was over", "line 7: 0 ecall 0x54494d45 0x0 0x5 0x0 0x0 0x0 0x0 0x0: not until the record's limit"], words=("--seconds", "1", "--grace", "0.5")),
-    Play("the limit, in a call that returns a little later", [enters(0), calls(0, TIME, 0, 5), {"waits": 2}, is_back(0), calls(0, TIME, 0, 6), {"waits": 60}],
-         [BOOT, call(0, TIME, 0, 5), "0 ret 0 0x0", "m end limit"], 3, ["the limit of 1 s was over"], words=("--seconds", "1")),
+    Play("the limit, in a call that returns a little later", [enters(0), calls(0, TIME, 0, 5), {"waits": 4}, is_back(0), calls(0, TIME, 0, 6), {"waits": 60}],
+         [BOOT, call(0, TIME, 0, 5), "0 ret 0 0x0", "m end limit"], 3, ["the limit of 2 s was over"], words=("--seconds", "2")),
+    Play("the limit, in a call that returns after another hart's call began",
+         [*TWO, calls(1, *FENCE), {"waits": 4}, calls(0, TIME, 0, 6), is_back(1), {"waits": 60}],
+         [*TWO_LINES, call(1, *FENCE), "1 ret 0 0x0", "m end limit"], 3, ["the limit of 2 s was over"], words=("--seconds", "2")),
     Play("a hart that never enters", [enters(0), calls(0, HSM, 0, 1, HANDLER, 9), is_back(0), OFF],
          [BOOT, call(0, HSM, 0, 1, HANDLER, 9), "0 ret 0 0x0", "m end off"], 3, ["hart 1 never enters, until the record's end"]),
 ]  # fmt: skip
