@@ -173,6 +173,10 @@ def told(room):
         raise Wrong("an error of the version that has the extension is no fault")
     if not reported(BOOT + answered(HSM, 2, 0, ret="-9 0"), None, (), (2, 0)).is_bad:
         raise Wrong("an error that the function's section doesn't name passes by --spec 2.0")
+    path = script(room, (BOOT + answered(PMU, 0, ret="-9 0")).encode())
+    found = [subprocess.run([TO_TRACE, "--report", *words, path], stdout=subprocess.PIPE).returncode for words in ((), ("--spec", "2.0"))]
+    if found != [5, 0]:
+        raise Wrong(f"an error of 2.0 has the statuses {found} without and with --spec 2.0")
 
 
 # ---- the table of rules
