@@ -5,7 +5,7 @@ import re
 import shutil
 import subprocess
 
-from harness import ROOT, Passed, Wrong
+from harness import ROOT, Skipped, Wrong
 
 # Most lines and words of the README, which is read in a few minutes.
 LINES, WORDS = 150, 1_200
@@ -50,7 +50,7 @@ def short(room):
 def toolchain(room):
     """Who names kits of the toolchain names the one that is here, and its logic alone."""
     if shutil.which("rt") is None:
-        raise Passed("the toolchain's rt is not on the path")
+        raise Skipped("the toolchain's rt is not on the path")
     found = subprocess.run(["rt", "version"], stdin=subprocess.DEVNULL, capture_output=True, text=True, timeout=60).stdout.strip()
     kit, _, logic = found.partition(" ")
     for page, text in pages():
