@@ -29,6 +29,9 @@ TASKS = ("run", "replay", "check")
 # How many times a program is run whose threads may go in many orders.
 RUNS_OF_EACH = 500
 
+# How many random programs are judged.
+MANY = 600
+
 # The seconds that only a hang takes; a slower build of the program is given more.
 HANG = int(os.environ.get("HANG_SECONDS", "20"))
 
