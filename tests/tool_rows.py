@@ -166,7 +166,7 @@ board 4 4 100 1 0x80000000 0x7
 3 advance -> entry 0x80000020 3 0x0 # a \\ and a <\\/ here
 c tick 0x10 -> done # 16 ticks
 2 sip -> value 0x2 # it isn't so
-2 sie 2 -> done
+2 sie 2 -> done # <!--<script> begins what no page ends, and <\\! is no such thing
 2 ecall 0x48534d 3 0 -> waiting
 2 advance -> moved 4
 3 ecall 0x735049 0 0x4 0 -> ret -3 0x0
@@ -249,8 +249,9 @@ def pages_have_their_data(room):
         parts = Parts(page)
         scripts = dict(parts.all_of("script"))
         must(f"{name}: {parts.found}", [it[1] for it in parts.all_of("title") + parts.all_of("b")] == [name, name] and list(scripts) == ["data", "texts", None])
-        data, texts = json.loads(scripts["data"]), unescaped(scripts["texts"])
-        must_be(data, texts, wanted)
+        # (where both stand, a script goes on behind its end)
+        must(f"{name}: a comment's sign stands in a script", "<!--" not in scripts["texts"])
+        must_be(json.loads(scripts["data"]), unescaped(scripts["texts"]), wanted)
 
 
 def must_be(data, texts, wanted):
