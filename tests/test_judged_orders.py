@@ -38,6 +38,7 @@ def cases_from(seeds):
 def written(room, name, text):
     with open(os.path.join(room, name), "w", encoding="ascii") as file:
         file.write(text)
+    return os.path.join(room, name)
 
 
 def told(room, name, words):
@@ -107,13 +108,13 @@ def all_orders_of(cases):
         yield f"# all orders of {endless} programs: some without end"
 
 
-def orders_alone(room, cases, seed):
-    """The records of the first orders of a seed, each tried alone."""
+def orders_alone(room, cases, seed, times=TIMES):
+    """The records of so many orders of a seed, each tried alone."""
     names = [f"alone-{case.name}" for case in cases]
     for name, case in zip(names, cases):
         written(room, name, case.text + FAILS)
     found = [[] for _ in cases]
-    for order in range(TIMES):
+    for order in range(times):
         told(room, "sbiboard", ["--seed", str(seed), "--order", str(order), "--failed", room, *names])
         for case, name, orders in zip(cases, names, found):
             path = os.path.join(room, f"{name}.{seed}-{order}.failed")
@@ -125,7 +126,7 @@ def orders_alone(room, cases, seed):
 
 def tried(room, cases, orders, seed):
     """What `test` tells of these files by orders of a seed, whose records are known."""
-    words = ["--seed", str(seed), "--times", str(TIMES), "--failed", room]
+    words = ["--seed", str(seed), "--times", str(len(orders[0])), "--failed", room]
     status, lines = told(room, "sbiboard", [*words, *(case.name for case in cases)])
     lines.take("TAP version 14")
     points = failed = 0
@@ -136,23 +137,26 @@ def tried(room, cases, orders, seed):
     records = sum(len({tuple(order.record.lines) for order in of_it}) for of_it in orders)
     counts = ", ".join(f"{ends.count(end)} {end}" for end in ENDS)
     must_end(room, lines, status, points, failed, f"# {len(cases)} files, {len(ends)} orders, {records} different records", f"# ends: {counts}")
+    return lines.lines
 
 
 def run_on_threads(room, cases, orders):
     """The same of orders of seed 0, and of as many runs on threads, of which each failing one is followed and judged."""
-    status, lines = told(room, "sbiboard", ["--times", str(TIMES), "--threads", "--failed", room, *(case.name for case in cases)])
+    times = len(orders[0])
+    status, lines = told(room, "sbiboard", ["--times", str(times), "--threads", "--failed", room, *(case.name for case in cases)])
     lines.take("TAP version 14")
     points = failed = 0
     for case, of_it in zip(cases, orders):
         many, wrong = expected_points.take_tried(case, lines, points + 1, room, 0, of_it)
         points, failed = points + many, failed + wrong
-        many, wrong = expected_points.take_runs(case, lines, points + 1, room, TIMES)
+        many, wrong = expected_points.take_runs(case, lines, points + 1, room, times)
         points, failed = points + many, failed + wrong
-    both = 2 * TIMES * len(cases)
+    both = 2 * times * len(cases)
     counted = re.fullmatch(rf"# {len(cases)} files, {both} orders, \d+ different records;# ends: (\d+) off, (\d+) history-full, (\d+) quiet, (\d+) stuck", ";".join(lines.lines[-2:]))
     if counted is None or sum(map(int, counted.groups())) != both:
         raise Wrong(f"{lines.lines[-2:]}, of {both} orders and runs")
     must_end(room, lines, status, points, failed, *lines.lines[-2:])
+    return lines.lines
 
 
 def programs_are_judged(room):
