@@ -4,6 +4,7 @@ that refuses an allocation. A test is a function of a folder of its own; it rais
 import os
 import shutil
 import subprocess
+import sys
 from concurrent.futures import ThreadPoolExecutor
 
 HERE = os.path.dirname(os.path.realpath(__file__))
@@ -12,6 +13,8 @@ CRATE = os.path.join(ROOT, "crates/sbiboard_cli")
 PROGRAM = os.path.join(CRATE, "out/sbiboard_cli")
 DATA = os.path.join(HERE, "program-data")
 EXAMPLES = os.path.join(ROOT, "examples")
+# (the model of the board stands there)
+sys.path.append(os.path.join(ROOT, "tools"))
 SHIM = os.path.join(DATA, "refuse.c")
 FAILED_IO = b"sbiboard: input or output failed\n"
 NO_MEMORY = b"sbiboard: no memory\n"

@@ -4,15 +4,11 @@ orders of a program, whether they are so. It knows nothing of the program that i
 Words of a step are its actor ("c" is the clock), its operation, and its numbers; words of a reply are its name and its numbers.
 In a pattern None stands for `_`.
 """
-import os
 import re
-import sys
 from collections import namedtuple
 
-sys.path.append(os.path.join(os.path.dirname(os.path.realpath(__file__)), "..", "tools"))
-
-import board_model  # noqa: E402
-from board_model import spelled_answer, spelled_step  # noqa: E402
+import board_model
+from board_model import spelled_answer, spelled_step
 
 # What a condition asks: its line, its text, its first word (`after` is a `never` with an `after`), its patterns, and its ends.
 Condition = namedtuple("Condition", "line text word patterns ends")

@@ -321,12 +321,18 @@ def all_files_are_counted(room):
 
 def waiting_conditions_of_few_states(room):
     """All orders of a program of as many states as are few are looked at, whatever its conditions wait for; each of twelve is judged."""
-    asked = ("never 0 store after 1 load", "before 0 ecall, 1 load", "before 1 load, 0 ecall", "never 1 load after 0 ecall", "some 1 advance", "each 0 load -> value 0", "end quiet", "end off")
-    holds = (True, True, False, False, True, True, True, False)
+    # (what hart 1 loaded is no part of a state, and the first of these waits for it)
+    asked = {
+        "never 0 sip after 1 load -> value 1": True, "before 0 ecall, 1 load": True, "before 1 load, 0 ecall": False, "never 1 load after 0 ecall": False,
+        "some 1 advance": True, "never 0 sip": True, "end quiet": True, "end off": False, "some 1 load -> value 1": True, "some 1 load -> value 2": False,
+        "each 1 load -> value 0": False, "never c": True,
+    }  # fmt: skip
     for _, few, _ in EDGES:
-        status, lines = told(room, few + "".join(f"#! {it}\n" for it in asked))
+        head, start, body = few.partition("ecall 0x48534d 0 1 0x80000800\n")
+        text = head + start + body.replace("load 0x80000000", "store 0x80000000 1", 1) + "".join(f"#! {it}\n" for it in asked)
+        status, lines = told(room, text)
         points = [line.startswith("ok ") for line in lines if re.match("(not )?ok ", line)]
-        must(f"status {status}, {lines}", are_all(lines) and tuple(points) == holds and status == 1)
+        must(f"status {status}, {lines}", are_all(lines) and points == list(asked.values()) and status == 1)
 
 
 # More orders than 2^128 - 1 of two harts that each do 70 steps beside each other, and a load that tells nothing.
