@@ -9,7 +9,7 @@ PAGE = 4_096
 # Where a page table of the board below stands, and the pages that it maps in turn at 0x1000.
 TABLE, MAPPED = RAM, (RAM, RAM + 8)
 # How many operations each hart has at most, by how many harts begin.
-LENGTHS = {1: 12, 2: 6, 3: 4, 4: 2, 5: 2, 6: 1}
+LENGTHS = {1: 12, 2: 8, 3: 5, 4: 4, 5: 3, 6: 3}
 MOST_CONDITIONS = 12
 ENDS = ("off", "history-full", "quiet", "stuck")
 NAMES = {"step": tuple(COUNTS), "reply": tuple(it for it in REPLIES if it != "refused")}
@@ -65,7 +65,7 @@ class Maker:
         """The block of a hart's first entry; that of the first hart starts the others."""
         some = self.some
         starts = [self.call(HSM, 0, it, self.addresses[it], any_number(some)) for it in self.begins[1:]] if hart == self.boot else []
-        lines = self.operations(some.randint(0, max(self.lengths - len(starts), 1)))
+        lines = ["sie 0x22"] * (some.random() < 0.3) + self.operations(some.randint(0, max(self.lengths - len(starts), 1)))
         for it in starts:
             # (mostly early, so that harts run beside each other)
             lines.insert(min(some.randrange(len(lines) + 1), some.randrange(len(lines) + 1)), it)
@@ -76,7 +76,7 @@ class Maker:
         while len(lines) < many:
             if many >= 5 and some.random() < 0.5:
                 lines += self.remapping()
-            elif some.random() < 0.5:
+            elif some.random() < 0.35:
                 lines.append(self.access())
             else:
                 lines.append(self.operation())
@@ -136,24 +136,24 @@ class Maker:
             *["sip", "sip", "clearssip", "wfi"],
             *[self.written("sie", some.choice([0, 2, 0x20, 0x22, ALL]))] * 2,
             self.written("sstatus", some.randrange(2)), self.fence(), self.written("satp", self.satp(some.choice([TABLE, 0]))),
-            *[self.called()] * 6,
+            *[self.called()] * 12,
         ])  # fmt: skip
 
     def named(self):
         """A hart list: a mask and a base."""
         some = self.some
-        return some.choice([(0, ALL), (some.randrange(1 << self.harts), 0), (some.randrange(1 << self.harts), 0), (1, some.randrange(self.harts + 1)), (any_number(some), 1)])
+        return some.choice([(0, ALL), (0, ALL), (some.randrange(1 << self.harts), 0), (some.randrange(1 << self.harts), 0), (1, some.randrange(self.harts + 1)), (any_number(some), 1)])
 
     def called(self):
         some = self.some
         hart, addr = some.randrange(self.harts + 1), some.choice([*self.addresses, *self.addresses, 0x80000001, any_number(some)])
         calls = [
             (BASE, some.randrange(8), some.choice([BASE, HSM, any_number(some)])), (any_number(some), any_number(some), any_number(some)),
-            (HSM, 0, hart, addr, any_number(some)), (HSM, 2, hart), (HSM, 2, hart), (HSM, 1), (HSM, 3, 0), (HSM, 3, 0),
+            (HSM, 0, hart, addr, any_number(some)), *[(HSM, 2, hart)] * 2, *[(HSM, 1)] * 2, *[(HSM, 3, 0)] * 3,
             (HSM, 3, some.choice([1, 1 << 31, 1 << 31, (1 << 32) + (1 << 31)]), addr, any_number(some)),
             *[(IPI, 0, *self.named())] * 4, (TIME, 0, some.choice([0, 1, 3, ALL])),
-            *[(RFENCE, some.randrange(4), *self.named(), some.choice([0, 0x1000]), some.choice([0, 8, 0x1000, ALL]), some.choice([0, 1, 0x10001]))] * 3,
-            (SRST, 0, some.choice([0, 1, 2, 3, 1 << 32]), some.choice([0, 1, 2, 0xE0000000])),
+            *[(RFENCE, some.randrange(4), *self.named(), some.choice([0, 0x1000]), some.choice([0, 8, 0x1000, ALL]), some.choice([0, 1, 0x10001]))] * 7,
+            *[(SRST, 0, some.choice([0, 0, 1, 2, 3, 1 << 32]), some.choice([0, 0, 1, 2, 0xE0000000]))] * 2,
         ]  # fmt: skip
         return self.call(*some.choice(calls))
 

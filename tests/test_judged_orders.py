@@ -159,30 +159,36 @@ def run_on_threads(room, cases, orders):
     return lines.lines
 
 
+def judged_batch(room, seeds):
+    """Judges the programs of these seeds: how many have few enough states, of how many `test` tells all orders, and of how many the states are the model's."""
+    cases, some = cases_from(seeds), random.Random(str(seeds))
+    for case in cases:
+        written(room, case.name, case.text)
+    seed = some.choice([0, 1, 7, (1 << 64) - 1, some.getrandbits(64)])
+    orders = dict(zip(cases, orders_alone(room, cases, seed)))
+    few = same = 0
+    for group in in_groups(cases, some):
+        same += explored(room, group)
+        few += tested(room, group)
+        tried(room, group, [orders[case] for case in group], seed)
+    on_threads = cases[:THREADS]
+    run_on_threads(room, on_threads, orders_alone(room, on_threads, 0))
+    for name in os.listdir(room):
+        os.remove(os.path.join(room, name))
+    return len(cases), few, same
+
+
 def programs_are_judged(room):
     """
     Of random programs `explore` and `test` tell what the judge does: each verdict, each record, which is followed through the model
     and judged, each count, what is never met, and what is odd.
     """
-    judged = same = few = made = 0
+    made, judged, few, same = 0, 0, 0, 0
     while judged < harness.MANY:
-        cases = cases_from(range(made, made + BATCH))
+        counts = judged_batch(room, range(made, made + BATCH))
         made += BATCH
-        some = random.Random(made)
-        for case in cases:
-            written(room, case.name, case.text)
-        seed = some.choice([0, 1, 7, (1 << 64) - 1, some.getrandbits(64)])
-        orders = dict(zip(cases, orders_alone(room, cases, seed)))
-        for group in in_groups(cases, some):
-            same += explored(room, group)
-            few += tested(room, group)
-            tried(room, group, [orders[case] for case in group], seed)
-        some_cases = cases[:THREADS]
-        run_on_threads(room, some_cases, orders_alone(room, some_cases, 0))
-        judged += len(cases)
-        for name in os.listdir(room):
-            os.remove(os.path.join(room, name))
-    if same < judged // 4 or few < judged // 2 or judged < made // 2:
+        judged, few, same = judged + counts[0], few + counts[1], same + counts[2]
+    if judged < made // 2 or few < judged // 2 or same < judged // 4:
         raise Wrong(f"of {made} programs {judged} are judged, of {few} of them `test` tells all orders, and of {same} the states are those of the model")
 
 

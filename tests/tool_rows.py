@@ -265,6 +265,26 @@ def must_be(data, texts, wanted):
         must(f"hart {hart} is drawn as {shades}", shades == [it[hart] for it in wanted.shades] and lane[0][0] == 0)
 
 
+def options_of_timelines_are_taken(room):
+    """Each option of `timeline`: a page or a picture, addresses by --map, and what is refused with which status."""
+    name = 'a <b>"&.trace'
+    path = written(room, name, "board 1 1 9 0 0x80000000 0\n0 advance -> entry 0x80000000 0 0x0\n")
+    picture, _ = tool([TIMELINE, "--svg", path])
+    must(f"{picture}", picture.startswith("<svg ") and "<title>a &lt;b&gt;&quot;&amp;.trace</title>" in picture and picture.count(">hart 0</text>") == 1)
+    moved = written(room, "moved.record", "record 1\n0 entry 0x40000000 0 0\n")
+    for words, address in ((["--map", "0x40000000=0x80000010"], "0x80000010"), (["--map", "1073741824=2147483664"], "0x80000010")):
+        texts = unescaped(dict(Parts(tool([TIMELINE, *words, moved])[0]).all_of("script"))["texts"])
+        must(f"{words}: {texts}", [it.partition("   # ")[0] for it in texts] == [f"0 advance -> entry {address} 0 0x0"])
+    steps = lambda many: written(room, "steps.sched", "board 1 1 200 0 0x80000000 0\n0 advance\n" + "0 sip\n" * (many - 1))
+    must("120 steps", tool([TIMELINE, "--svg", steps(120)])[0].count("<text ") > 120)
+    _, said = tool([TIMELINE, "--svg", steps(121)], 1)
+    must(said, said.endswith(": 121 steps are too many for a picture: at most 120\n"))
+    must("a page of 121 steps", len(json.loads(dict(Parts(tool([TIMELINE, steps(121)])[0]).all_of("script"))["data"])["actors"]) == 121)
+    for words, status in (([], 2), (["--fly", path], 2), ([path, path], 2), ([os.path.join(room, "none")], 1), ([moved], 1)):
+        out, said = tool([TIMELINE, *words], status)
+        must(f"{words}: {out!r}, {said!r}", not out and said)
+
+
 def entries_are_marked(room):
     """A register that was another one at an entry is marked there, and told with both values."""
     for name, note, here, there in (("sie", "sie=2 sip=0 sstatus=0", "0x0", "0x2"), ("sip", "sie=0 sip=2 sstatus=0", "0x0", "0x2")):
@@ -323,6 +343,7 @@ def must_draw(drawn, wanted, data):
 TESTS = [
     ("options of to-trace", options_are_taken), ("calls that are passed over by each name", each_name_is_passed_over), ("addresses in either radix", addresses_are_read),
     ("bounds of records and traces", limits_are_kept), ("rules of hart lists", lists_have_their_rules), ("hart lists reach their harts", lists_reach_their_harts),
-    ("hart lists of interrupts that come again", lists_set_anew), ("clocks that begin anew", clocks_begin_anew), ("timelines: pages have their data", pages_have_their_data), ("timelines: differences at entries", entries_are_marked),
+    ("hart lists of interrupts that come again", lists_set_anew), ("clocks that begin anew", clocks_begin_anew), ("timelines: pages have their data", pages_have_their_data), ("timelines: options", options_of_timelines_are_taken),
+    ("timelines: differences at entries", entries_are_marked),
     ("timelines: pages are drawn", pages_are_drawn),
 ]  # fmt: skip
