@@ -5,6 +5,7 @@ can't be run.
 import os
 import shutil
 import subprocess
+import sys
 import tempfile
 from concurrent.futures import ThreadPoolExecutor
 
@@ -14,6 +15,8 @@ CRATE = os.path.join(ROOT, "crates/sbiboard_cli")
 PROGRAM = os.path.join(CRATE, "out/sbiboard_cli")
 DATA = os.path.join(HERE, "program-data")
 EXAMPLES = os.path.join(ROOT, "examples")
+# (the model of the board stands there)
+sys.path.append(os.path.join(ROOT, "tools"))
 SHIM = os.path.join(DATA, "refuse.c")
 FAILED_IO = b"sbiboard: input or output failed\n"
 NO_MEMORY = b"sbiboard: no memory\n"
@@ -30,6 +33,9 @@ TASKS = ("run", "replay", "check")
 
 # How many times a program is run whose threads may go in many orders.
 RUNS_OF_EACH = 500
+
+# How many random programs are judged.
+MANY = 600
 
 # The seconds that only a hang takes; a slower build of the program is given more.
 HANG = int(os.environ.get("HANG_SECONDS", "20"))
