@@ -16,7 +16,8 @@ NEEDING = [
     ("program", "points are read by others", "prove"),
     ("program", "pages name the toolchain", "rt"),
     ("records", "timelines in a browser", "chromium"),
-    ("records", "a fresh record", "qemu-system-riscv64"),
+    ("records", "timelines: pages are drawn", "node"),
+    ("records", "a fresh record: interrupts", "qemu-system-riscv64"),
     ("wrapper", "two crates at a time, by the toolchain", "toolchain"),
 ]
 

@@ -7,7 +7,7 @@ import shutil
 import subprocess
 
 import board_model
-from harness import EXAMPLES, ROOT, Passed, Wrong, checked, script, shown
+from harness import EXAMPLES, ROOT, Skipped, Wrong, checked, script, shown
 
 HERE = os.path.dirname(os.path.realpath(__file__))
 TO_TRACE, TIMELINE = os.path.join(ROOT, "tools/to-trace"), os.path.join(ROOT, "tools/timeline")
@@ -299,7 +299,7 @@ def entries_are_marked(room):
 def pages_are_drawn(room):
     """What a page draws: each hart's states in its own lane, in their colours and between their steps, and each step in the lane of its actor."""
     if shutil.which("node") is None:
-        raise Passed("node is missing")
+        raise Skipped("node is missing")
     for text in (PAGE_TRACE, traced(os.path.join(EXAMPLES, "forgotten-hart.sched"))):
         page, _ = tool([TIMELINE, written(room, "a.trace", text)])
         scripts = dict(Parts(page).all_of("script"))
