@@ -5,7 +5,7 @@ from collections import Counter
 
 import judge
 from all_orders import Program
-from board_model import STARTED, SUSPENDED, board_of, number, words_of
+from board_model import STARTED, SUSPENDED, number, words_of
 from harness import Wrong
 from judge import Followed, NoOrder, Verdicts, broken_at
 

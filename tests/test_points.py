@@ -1,6 +1,5 @@
 """What is told of each file by tables: each key below a point, each kind of line behind it, and counts of all sizes."""
 import os
-import random
 import re
 import subprocess
 
