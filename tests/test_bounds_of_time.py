@@ -7,7 +7,7 @@ import threading
 import time
 
 import programs
-from harness import HANG, Passed
+from harness import HANG, Skipped
 from test_explore import explored
 from test_few_states import beside
 from test_orders import LOADS_AND_STORES, RACE, TESTER, at_a_terminal, must, told
@@ -123,7 +123,7 @@ def seconds_of_runs_are_kept(room):
     found = subprocess.run(["sbiboard", "--times", "3000", "--threads", "--seconds", "2", "chain.program"], executable=TESTER, cwd=room, capture_output=True, text=True, timeout=200)
     lines = found.stdout.splitlines()
     if lines[2:5] != ["  ---", "  seed: 0", "  failing: 3000"]:
-        raise Passed("orders take all the time here")
+        raise Skipped("orders take all the time here")
     runs = next((int(it.split()[1]) for it in lines if it.startswith("  runs: ")), 0)
     must(f"{lines}", 0 < runs < 3000 and f"  failing: {runs}" in lines and "  run: 0" in lines)
     must(f"{lines}", f"# ends: 0 off, 0 history-full, {3000 + runs} quiet, 0 stuck" in lines and lines[-1] == "# cut short: not all orders were tried")
@@ -176,7 +176,7 @@ def progress_of_orders_is_told(room):
     for words, name in (([*ENDLESS, "--seconds", "4", "race.program"], "orders"), (["--times", "3000", "--threads", "--seconds", "5", "chain.program"], "runs")):
         _, out, said = watched(room, "sbiboard", words, False, True)
         if name == "runs" and " runs, " not in said:
-            raise Passed("orders take all the time here")
+            raise Skipped("orders take all the time here")
         must(f"{out}", out.startswith("TAP version 14\n"))
         lines = [re.fullmatch(rf"(\d+) of (\d+) (orders|runs), (\d+) a second, (\d+) s to go", it) for it in must_be_taken_back(said)]
         must(f"{said!r}", all(lines) and name in [it[3] for it in lines])
