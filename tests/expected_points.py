@@ -5,7 +5,7 @@ from collections import Counter
 
 import judge
 from all_orders import Program
-from board_model import STARTED, SUSPENDED, board_of, number, words_of
+from board_model import STARTED, SUSPENDED, number, words_of
 from harness import Wrong
 from judge import Followed, NoOrder, Verdicts, broken_at
 
@@ -261,7 +261,10 @@ def take_tried(case, told, point, folder, seed, orders):
                 take_first(case, told, folder, seed, it, failing[0], orders[failing[0]].record)
             told.take("  ...")
         if it is not None and not any(judge.is_met(it, order.record.steps) for order in orders):
-            told.take(f"# line {it.line}: never met: no step has this actor and operation")
+            line = f"# line {it.line}: never met: no step has this actor and operation"
+            # (of patterns that were met, each in another order, it may be said, too)
+            if told.next() == line or not judge.is_met(it, [step for order in orders for step in order.record.steps]):
+                told.take(line)
     told.take(*case.odd_lines([step for order in orders for step in order.odd]))
     return len(asked), failed
 

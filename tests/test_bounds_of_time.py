@@ -150,11 +150,14 @@ def watched(room, name, words, out_is_one, err_is_one, seconds=200):
         os.close(its)
     for it in readers:
         it.start()
-    status = child.wait(seconds)
-    for it in readers:
-        it.join()
-    for ours, _ in pairs:
-        os.close(ours)
+    try:
+        status = child.wait(seconds)
+    finally:
+        child.kill()
+        for it in readers:
+            it.join()
+        for ours, _ in pairs:
+            os.close(ours)
     return status, *(text.decode().replace("\r\n", "\n") for text in found)
 
 

@@ -14,6 +14,8 @@ from test_orders import TESTER
 
 # The most states of a program that is judged, with what its loads gave; and how many orders of a seed are tried of each.
 MOST, TIMES = 1_200, 6
+# The longest history of a program of which some order has no end.
+LONGEST = 1_000
 # How many programs are made before they are judged, in calls of one file to six; and how many of these run on threads, too.
 BATCH, FILES, THREADS = 48, 6, 4
 ENDS = ("off", "history-full", "quiet", "stuck")
@@ -29,6 +31,9 @@ def cases_from(seeds):
         try:
             orders = all_orders.Orders(made.text(), MOST, loads=True)
         except ValueError:
+            continue
+        # (an order without end goes on until the history is full)
+        if orders.ways() is None and made.limit > LONGEST:
             continue
         steps = {step[:3] for steps in orders.edges for step in steps}
         found.append(Case(f"{seed}.program", made.asking(steps), orders))

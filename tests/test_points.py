@@ -1,6 +1,5 @@
 """What is told of each file by tables: each key below a point, each kind of line behind it, and counts of all sizes."""
 import os
-import random
 import re
 import subprocess
 
@@ -373,11 +372,31 @@ def ends_beside_no_end(room):
         explored(room, [case])
 
 
+# Two harts whose stores leave one word or another one, whatever the load gives: an outcome of two states.
+TWO_ENDS = """\
+board 2 4 100 0 0x80000000 0x0
+at 0x80000000
+ecall 0x48534d 0 1 0x80001000
+store 0x80002000 1
+at 0x80001000
+store 0x80002000 2
+load {}
+"""
+
+
+def outcomes_are_counted(room):
+    """An outcome is told with how many states orders end at that have it, and how many orders do."""
+    for address, wanted in (("0x80002008", ["#   1:7=0x0 quiet: 2 states, 4 orders"]), ("0x80002000", ["#   1:7=0x1 quiet: 1 states, 1 orders", "#   1:7=0x2 quiet: 2 states, 3 orders"])):
+        written(room, "a.program", TWO_ENDS.format(address))
+        lines = subprocess.run(["sbiboard explore", "a.program"], executable=TESTER, cwd=room, capture_output=True, text=True, timeout=200).stdout.splitlines()
+        must(f"{lines}", sorted(it for it in lines if it.startswith("#   ")) == wanted and f"# outcomes: {len(wanted)}" in lines)
+
+
 TESTS = [
     ("keys have their values", keys_have_their_values), ("keys of runs on threads have their values", keys_of_runs_have_their_values),
     ("schedules and traces with cuts are judged", cut_records_are_told), ("every difference of a trace is told", every_difference_is_told),
     ("stale accesses are those of the model", stale_accesses_are_those_of_the_model), ("bounds of boards are told", bounds_of_boards_are_told),
     ("files of all lengths are tested", long_files_are_told), ("all files are counted", all_files_are_counted),
     ("conditions that wait of few states", waiting_conditions_of_few_states), ("more orders than are counted", more_orders_than_are_counted),
-    ("ends beside orders without end", ends_beside_no_end),
+    ("ends beside orders without end", ends_beside_no_end), ("states and orders of outcomes are counted", outcomes_are_counted),
 ]  # fmt: skip
