@@ -1,5 +1,5 @@
 -- Worked rows of what is easily forgotten: a stop, a former satp, pointers, fetched words, and calls that forget a hart.
-use Rattle.std.proofs.Common.{◌≡◌, ℕ, ◌+◌, ◌*◌, ◌^◌, ◌<◌, ◌≤◌, List, [], ◌∷◌, true, false, pos, refl, sym, ap, ◌∙◌, subst, arith, suc, Option, Some, None, Result, Ok, Err, inl, inr}
+use Rattle.std.proofs.Common.{◌≡◌, ℕ, ◌<◌, ◌≤◌, List, [], ◌∷◌, true, false, pos, refl, sym, ◌∙◌, subst, arith, Option, Some, None, Result, Ok, Err, inl, inr}
 use Rattle.std.specs.Prelude.{replicate}
 use Rattle.std.specs.List.{All}
 use Rattle.std.proofs.lemmas.Bool.{cases_lt}
@@ -9,7 +9,7 @@ use Rattle.sbi_abi.specs.declared.reset.Reset.{Reset}
 use Rattle.sbi_abi.specs.Calls.{call_of}
 use Rattle.hart_mask.specs.HartList.{names_stray, targets_of}
 use Rattle.hart_mask.specs.Ids.{ids_where}
-use Rattle.rfence.specs.Applied.{Empties, Nothing, effect}
+use Rattle.rfence.specs.Applied.{Empties, effect}
 use Rattle.sv39.specs.declared.cause.Cause.{Cause}
 use Rattle.sv39.specs.declared.cause.Cause.TheVariants.{LoadPageFault}
 use Rattle.sv39.specs.declared.cause.Kind.TheVariants as kinds
@@ -19,14 +19,11 @@ use Rattle.sv39.specs.Maps.{maps}
 use Rattle.sv39.specs.Memory.{is_in_ram, word_in, zero_memory}
 use Rattle.sv39.specs.Paging.{is_valid_by}
 use Rattle.tlb_model.specs.declared.fence.Fence.{Fence}
-use Rattle.tlb_model.specs.declared.fence.Flush.TheVariants.{Entries}
-use Rattle.tlb_model.specs.Entries.{Entry as CacheEntry}
 use Rattle.tlb_model.specs.Fences.{fence_of_range}
 use Rattle.hart_access.specs.declared.accesses.Access.TheVariants as accesses
-use Rattle.hart_access.specs.Ways.{translated}
 use Rattle.board_core.specs.Calls.Rfence.{flush_of_range}
 use Rattle.board_core.specs.Fences.{turn_of, turns}
-use Rattle.board_core.specs.History.{Event, Reach}
+use Rattle.board_core.specs.History.{Event}
 use Rattle.board_core.specs.Memory.{memory, satp}
 use Rattle.board_core.specs.Opening.{IsOpening, Opening, opening_at}
 use Rattle.board_core.specs.Replies.{IsLegal}
@@ -39,8 +36,6 @@ use Rattle.board_terms.specs.declared.op.Actor.TheVariants.{Hart}
 use Rattle.board_terms.specs.Limits.{IsGood, spaces_of}
 use Rattle.board_laws.specs.Places.{IsAt, past_at}
 use Rattle.board_laws.proofs.Again.{recorded_is_recomputed}
-use Rattle.board_laws.proofs.Places.{at-with}
-use Rattle.any_tlb.specs.Effects.{effect_at}
 use Rattle.any_tlb.specs.Fenced.{AfterFence, IsUnchanged, WasFenced}
 use Rattle.any_tlb.specs.Firm.{IsFirm}
 use Rattle.any_tlb.specs.Mixed.{Mixed, MixedWalk}
@@ -53,7 +48,7 @@ use Rattle.any_tlb.proofs.Fences.{fenced_is_steady}
 use Rattle.any_tlb.proofs.Staleness.{missed_is_stale}
 use Rattle.any_tlb.proofs.Watching.{watched_are_possible}
 use Rattle.any_tlb.proofs.WatchingWords.{watched_words_decide}
-use Rattle.any_tlb.proofs.WorkedRows.{alone, alone-opened, alone-opens, did, full, in_space, in_use, leaf, mapped, old, only, readable, unmapped, used}
+use Rattle.any_tlb.proofs.WorkedRows.{alone, alone-opened, did, full, in_space, in_use, mapped, only, readable, used}
 
 -- ---- a stop ends nothing, although this board empties its caches
 
