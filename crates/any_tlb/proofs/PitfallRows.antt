@@ -150,6 +150,56 @@ pub turned-not-firm : IsFirm alone (leaf_fence ∷ turned) 0 0xC0000000 kinds.Lo
 unfolding maps is_valid_by word_in zero_memory is_in_ram
 turned-not-firm firm = apart-leaves (firm (record { aligned = refl; mode = refl; valid = refl }) (Ok behind) (Mixed old-pointer))
 
+-- ---- an entry that wasn't valid becomes a pointer, and a fence of the leaf comes: steady, but not firm
+
+abbrev linked : List Event
+linked =
+    record { actor = Hart 0; op = Store 0x80001018 0x20000801; reply = Done; translation = Some mapped }
+    ∷ did 0 (WriteSatp in_space) Done
+    ∷ did 0 (Store 0x80002000 0x200000c7) Done
+    ∷ did 0 (Store 0x80001010 0x200000cf) Done
+    ∷ did 0 Advance (Entry 0x80000000 0 0)
+    ∷ []
+
+linked-fenced : (global : _) → WasFenced alone (leaf_fence ∷ linked) 0 0xC0000000 global 5 5
+unfolding is_valid_by
+linked-fenced global = record { event = leaf_fence; happened = record { since = omega arith; newer = []; made = refl }; fences = refl }
+
+abbrev SameLinked : (had place : ℕ) → Type 0
+SameLinked had place =
+    phys_of (maps (memory alone (past_at alone (leaf_fence ∷ linked) place)) (satp alone (past_at alone (leaf_fence ∷ linked) had) 0) 0xC0000000 kinds.Load) 0xC0000000
+    ≡ phys_of (maps (memory alone (leaf_fence ∷ linked)) (satp alone (leaf_fence ∷ linked) 0) 0xC0000000 kinds.Load) 0xC0000000
+
+linked-unchanged : IsUnchanged alone (leaf_fence ∷ linked) 0 6 6 0xC0000000 kinds.Load
+linked-unchanged = record {
+  in_space = λ had place from later upto translates same. only 5 SameLinked refl had place from later upto;
+  in_all = λ had place other leaf from later upto translates gives is. only 5 SameLinked refl had place from later upto;
+}
+
+pub linked-steady : IsSteady alone (leaf_fence ∷ linked) 0 0xC0000000 kinds.Load
+linked-steady =
+    fenced_is_steady alone (leaf_fence ∷ linked) 0 0xC0000000 6 6 kinds.Load alone-opened (AfterFence 5 refl (linked-fenced false)) (AfterFence 5 refl (linked-fenced true)) linked-unchanged
+
+-- the word that stood there before, which a walk may still see
+old-end : MixedWalk alone (leaf_fence ∷ linked) 0 0xC0000000 kinds.Load (Err LoadPageFault)
+unfolding maps is_valid_by word_in zero_memory is_in_ram
+old-end = record {
+  by_satp = in_space;
+  met = false;
+  sees = inl refl;
+  space = inr refl;
+  mode = refl;
+  valid = refl;
+  walk = inr (Some 0, refl, inr (inl (inr (inl refl, refl), refl), refl), refl, refl);
+}
+
+pub linked-not-firm : IsFirm alone (leaf_fence ∷ linked) 0 0xC0000000 kinds.Load → ⊥
+unfolding maps is_valid_by word_in zero_memory is_in_ram
+linked-not-firm firm = apart (firm (record { aligned = refl; mode = refl; valid = refl }) (Err LoadPageFault) (Mixed old-end))
+  where
+    apart : (let r : Result ℕ Cause = Err LoadPageFault in r) ≡ Ok 0x80000000 → ⊥
+    apart e = cc
+
 -- ---- a word that was fetched is changed: another one is possible until a FENCE.I
 
 abbrev rewritten : List Event

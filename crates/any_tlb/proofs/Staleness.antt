@@ -61,6 +61,10 @@ stale_is_unsteady o event past h reach legal own access x steady =
       | inr fills ↦ x.other (leaf-same (memory o past) (satp o past h) reach.va (kind_of reach.access) (kind_of reach.access) x.entry.leaf fills.mapped)
     ]
 
+-- what the page tables give after one past they give after another one that is the same
+same-maps : (o : Opening) (h va : ℕ) (kind : Kind) (leaf : Leaf) (a b : List Event) → a ≡ b → maps (memory o a) (satp o a h) va kind ≡ Ok leaf → maps (memory o b) (satp o b h) va kind ≡ Ok leaf
+same-maps o h va kind leaf a b same gives = subst (λ (past : List Event). maps (memory o past) (satp o past h) va kind ≡ Ok leaf) same gives
+
 pub asked_harts_miss_nothing : (o : Opening) (event : Event) (past : List Event) (h : ℕ) (reach : Reach) → IsOpened o → IsLegal o (event ∷ past) → event.actor ≡ Hart h
     → access_of event.op ≡ Some reach → (x : IsMissed o past h event reach) → Asks o past x.caller h x.place (Entries x.fence) → ⊥
 asked_harts_miss_nothing o event past h reach opened legal own access x asks =
@@ -79,6 +83,6 @@ asked_harts_miss_nothing o event past h reach opened legal own access x asks =
     }) x.uses in
     let after = given.after in
     let upto = given.upto in
-    let gives = subst (λ (past : List Event). maps (memory o past) (satp o past h) reach.va (kind_of given.there.access) ≡ Ok x.entry.leaf) (before-more o event past given.place upto) given.gives in
+    let gives = same-maps o h reach.va (kind_of given.there.access) x.entry.leaf (past_at o (event ∷ past) given.place) (past_at o past given.place) (before-more o event past given.place upto) given.gives in
     x.other_then given.place (omega arith) upto
     (leaf-same (memory o (past_at o past given.place)) (satp o (past_at o past given.place) h) reach.va (kind_of given.there.access) (kind_of reach.access) x.entry.leaf gives)
