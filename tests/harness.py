@@ -1,9 +1,12 @@
-"""What the tests of the program share: how it is run, what a run must be, scripts that many of them use, and the library
-that refuses an allocation. A test is a function of a folder of its own; it raises Wrong, or Passed where it can't be run.
+"""What the tests share: how the program is run, what a run must be, scripts that many of them use, the library that refuses
+an allocation, and how tests are counted. A test is a function of a folder of its own; it raises Wrong, or Skipped where it
+can't be run.
 """
 import os
 import shutil
 import subprocess
+import sys
+import tempfile
 from concurrent.futures import ThreadPoolExecutor
 
 HERE = os.path.dirname(os.path.realpath(__file__))
@@ -12,6 +15,8 @@ CRATE = os.path.join(ROOT, "crates/sbiboard_cli")
 PROGRAM = os.path.join(CRATE, "out/sbiboard_cli")
 DATA = os.path.join(HERE, "program-data")
 EXAMPLES = os.path.join(ROOT, "examples")
+# (the model of the board stands there)
+sys.path.append(os.path.join(ROOT, "tools"))
 SHIM = os.path.join(DATA, "refuse.c")
 FAILED_IO = b"sbiboard: input or output failed\n"
 NO_MEMORY = b"sbiboard: no memory\n"
@@ -29,6 +34,9 @@ TASKS = ("run", "replay", "check")
 # How many times a program is run whose threads may go in many orders.
 RUNS_OF_EACH = 500
 
+# How many random programs are judged.
+MANY = 600
+
 # The seconds that only a hang takes; a slower build of the program is given more.
 HANG = int(os.environ.get("HANG_SECONDS", "20"))
 
@@ -37,8 +45,40 @@ class Wrong(Exception):
     """What a test found that must not be."""
 
 
-class Passed(Exception):
-    """Why a test can't be run on this machine."""
+class Skipped(Exception):
+    """Why a test can't be run on this machine: most often the name of a tool that is missing."""
+
+
+# How a test can end, in the words of the last line.
+PASSED, FAILED, SKIPPED = "passed", "failed", "skipped"
+
+
+def ended(name, test, no_skips=False):
+    """Runs a test in a folder of its own, prints why it failed or was skipped, and returns how it ended."""
+    with tempfile.TemporaryDirectory(prefix="sbiboard-test-") as room:
+        try:
+            test(os.path.realpath(room))
+            return PASSED
+        except Skipped as why:
+            end = FAILED if no_skips else SKIPPED
+            print(f"{name}: {'FAILED: ' if no_skips else ''}skipped: {why}", flush=True)
+        except (Wrong, OSError, ValueError, subprocess.SubprocessError) as wrong:
+            end = FAILED
+            print(f"{name}: FAILED: {wrong}", flush=True)
+        return end
+
+
+def counted(ends):
+    """Prints the last line, which counts the tests by how they ended. Returns the status: 1 where any failed, or none passed."""
+    passed, failed, skipped = (ends.count(it) for it in (PASSED, FAILED, SKIPPED))
+    print(f"{passed} passed, {failed} failed, {skipped} skipped")
+    return 1 if failed or not passed else 0
+
+
+def not_built(program):
+    """Says that a program isn't there that tests need, and counts that as a failure."""
+    print(f"there is no built program, {os.path.relpath(program, ROOT)}: rt ci leaves it, or ./sbiboard")
+    return counted([FAILED])
 
 
 def ran(words, program=PROGRAM, **how):
@@ -290,7 +330,7 @@ def shim(room):
         if shutil.which(words[0]):
             subprocess.run([*words, "-shared", "-fPIC", "-O1", "-o", made, SHIM], check=True, timeout=60)
             return made
-    raise Passed("there is no C compiler")
+    raise Skipped("there is no C compiler")
 
 
 def allocating(made, room, words, refused=0, thread=0, pass_fds=(), program=PROGRAM, cwd=None, **told):
@@ -302,16 +342,17 @@ def allocating(made, room, words, refused=0, thread=0, pass_fds=(), program=PROG
         return found, [int(it) for it in sizes.read().split()]
 
 
-def calling(made, room, words, pass_fds=()):
+def calling(made, room, words, pass_fds=(), **how):
     """
     Runs the program, and returns the run, the sizes of its allocations, and for each kind of call of the system, by its
-    letter (o, r, w: open, read, write), what each of them answered: for reads and writes the bytes moved.
+    letter (o, r, w: open, read, write), what each of them answered: for reads and writes the bytes moved. For t and T, where
+    the start of a thread begins and ends, it is how many allocations there were.
     """
     with open(os.path.join(room, "calls"), "w+b") as calls:
-        found, sizes = allocating(made, room, words, pass_fds=[calls.fileno(), *pass_fds], CALLS=str(calls.fileno()))
+        found, sizes = allocating(made, room, words, pass_fds=[calls.fileno(), *pass_fds], CALLS=str(calls.fileno()), **how)
         calls.seek(0)
         made_calls = [it.split() for it in calls.read().decode().splitlines()]
-        return found, sizes, {kind: [int(moved) for it, moved in made_calls if it == kind] for kind in "orw"}
+        return found, sizes, {kind: [int(moved) for it, moved in made_calls if it == kind] for kind in "orwtT"}
 
 
 def piping(text, piece, run):

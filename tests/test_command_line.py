@@ -3,7 +3,7 @@ import os
 import shutil
 import subprocess
 
-from harness import FAILED_IO, Passed, ROOT, TASKS, Wrong, must_be, ran, shown, stored
+from harness import FAILED_IO, Skipped, ROOT, TASKS, Wrong, must_be, ran, shown, stored
 
 # Words, with what the fault of usage says; every one shows how the program is called.
 USAGE = [
@@ -145,7 +145,7 @@ def endings(room):
     """What is said of an outcome that no run of the program has yet, and of each other one."""
     rows = os.path.join(ROOT, "crates/rows/out/rows")
     if not os.access(rows, os.X_OK):
-        raise Passed("there is no built program of the rows: rt ci leaves it")
+        raise Skipped("there is no built program of the rows: rt ci leaves it")
     found = subprocess.run([rows], stdin=subprocess.DEVNULL, capture_output=True, timeout=60, cwd=room)
     must_be(found, 0, None, ENDINGS)
 

@@ -20,7 +20,7 @@ from harness import (
     TRACE,
     TWO_HARTS,
     WRONG_KIND,
-    Passed,
+    Skipped,
     Wrong,
     must_be,
     ran,
@@ -258,7 +258,7 @@ def traced(room, path):
             stdin=subprocess.DEVNULL,
         )
     except FileNotFoundError:
-        raise Passed("there is no strace") from None
+        raise Skipped("there is no strace") from None
     return [it for it in read(told).splitlines() if b" -> " in it]
 
 

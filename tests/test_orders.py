@@ -7,7 +7,7 @@ import subprocess
 import threading
 
 import programs
-from harness import HANG, NO_MEMORY, PROGRAM, ROOT, Passed, Wrong, allocating, ran, shim
+from harness import HANG, NO_MEMORY, PROGRAM, ROOT, Skipped, Wrong, allocating, ran, shim
 
 TESTER = os.path.join(ROOT, "crates/sbiboard_test/out/sbiboard_test")
 
@@ -559,7 +559,7 @@ def a_terminal_is_told_plainly(room):
 def points_are_read_by_others(room):
     """Perl's reader of points finds as many, and those that fail, by the command of the documents."""
     if shutil.which("prove") is None:
-        raise Passed("prove is missing")
+        raise Skipped("prove is missing")
     for condition, status in (("end quiet", 0), ("end off", 1)):
         told(room, f"#! {condition}\n#! some 1 load\n{RACE}", "--times", "20", "--tap", "points.tap")
         found = subprocess.run(["prove", "-e", "sed 1s/14/13/", "points.tap"], cwd=room, capture_output=True, text=True, timeout=HANG)

@@ -5,7 +5,7 @@ import re
 import shutil
 import subprocess
 
-from harness import ROOT, Passed, Wrong
+from harness import ROOT, Skipped, Wrong
 
 # Most lines and words of the README, which is read in a few minutes.
 LINES, WORDS = 150, 1_200
@@ -50,7 +50,7 @@ def short(room):
 def toolchain(room):
     """Who names kits of the toolchain names the one that is here, and its logic alone."""
     if shutil.which("rt") is None:
-        raise Passed("the toolchain's rt is not on the path")
+        raise Skipped("the toolchain's rt is not on the path")
     found = subprocess.run(["rt", "version"], stdin=subprocess.DEVNULL, capture_output=True, text=True, timeout=60).stdout.strip()
     kit, _, logic = found.partition(" ")
     for page, text in pages():
@@ -65,9 +65,40 @@ def definitions(room):
         raise Wrong(f"docs/DEFINITIONS.md doesn't name {found.stdout.strip() or found.stderr.strip()}")
 
 
+def definitions_named(text):
+    """The files of definitions that the table of what to read names, as `crate` (all), or `crate` (`File`, ..)."""
+    for crate, said in re.findall(r"`(\w+)` \(([^)]*)\)", text):
+        folder = os.path.join(ROOT, "crates", crate, "specs")
+        if said == "all":
+            found = (os.path.relpath(path, folder) for path in glob.glob(os.path.join(folder, "**/*.antt"), recursive=True))
+            yield from ((crate, name.removesuffix(".antt").split("/")[0]) for name in found if not re.match("Inside|Lib", name))
+        elif os.path.isdir(folder):
+            yield from ((crate, name) for name in re.findall(r"`(\w+)`", said))
+
+
+def reading(room):
+    """The page of proofs lists what must be read to trust each promise: these files, and no others."""
+    command = [os.path.join(ROOT, "tools/trusted-reading")]
+    text = subprocess.run(command, stdin=subprocess.DEVNULL, capture_output=True, text=True, timeout=60, check=True).stdout
+    wanted = {(crate, name.split("/")[0]) for crate, name in re.findall(r"^ +\d+ crates/(\w+)/specs/(\S+)\.antt$", text, re.M)}
+    promises, page = re.findall(r"^(\w+): ", text, re.M), dict(pages())["docs/PROVED.md"]
+    table = page[page.index("| promise | read | lines |") :].split("\n\n")[0]
+    found = set(definitions_named(table))
+    if not wanted or found != wanted:
+        raise Wrong(f"to be read, and not listed: {sorted(wanted - found)}; listed, and not to be read: {sorted(found - wanted)}")
+    if re.findall(r"^\| `(\w+)`: ", table, re.M) != promises:
+        raise Wrong(f"the page doesn't have a row for each of {promises}")
+    told = re.search(r"some ([\d,]+) files and ([\d,]+) lines", page)
+    sums = re.search(r"^(\d+) files, (\d+) lines$", text, re.M)
+    for said, counted in zip(told.groups(), sums.groups()):
+        if abs(int(said.replace(",", "")) - int(counted)) > int(counted) / 20:
+            raise Wrong(f"the page says {told.group()}, and they are {sums.group()}")
+
+
 TESTS = [
     ("pages name what is there", names),
     ("the page of definitions names those that public clauses name", definitions),
+    ("the page of proofs lists what must be read", reading),
     ("the README is short", short),
     ("pages name the toolchain", toolchain),
 ]

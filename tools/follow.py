@@ -3,11 +3,13 @@ wrote), orders calls that overlap so that the board answers what was recorded, a
 from bisect import bisect_right
 
 from board_model import (
-    ALL, BASE, GONE, HSM, IPI, LOW, RAM, RESUME_PENDING, RFENCE, SRST, SSI, START_PENDING, STARTED, STI, STOP_PENDING, SUSPEND_PENDING,
-    SUSPENDED, TIME, WAITING, Board, spelled_answer, spelled_step,
+    ALL, GONE, HSM, IPI, RESUME_PENDING, RFENCE, SRST, SSI, START_PENDING, STARTED, STI, STOP_PENDING, STOPPED, SUSPEND_PENDING, SUSPENDED, TIME,
+    WAITING, Board, spelled_answer,
 )  # fmt: skip
+from differences import READ_SIE, Differences, is_system_suspend
+from numbers_here import Numbers
 from records import Broken, is_reset, is_suspend
-from rules import TELLS, TOLD, ignored_as, rule_of, rule_of_entry, rule_of_wake
+from rules import UNEXPLAINED_VERDICT, ignored_as, verdict_of
 from states import Difference, Open, State
 
 # How many orders are tried at one place, and how many steps back and forth after a reply that no order at its place gives.
@@ -16,19 +18,18 @@ TRIES = 300
 KEPT_CHOICES = 200
 PAGES = 256
 MOST_EVENTS = 1_000_000
-READ_SIE = SSI | STI
 
 
-class Follower:
-    def __init__(self, record, shift=(0, 0), ignored=()):
-        """shift: (A, B): what a record has at A, this board has at B. ignored: names of what is passed over."""
-        self.record, self.lines, self.shift, self.ignored = record, record.lines, shift, frozenset(ignored)
+class Follower(Differences):
+    def __init__(self, record, maps=(), ignored=(), version=None):
+        """maps: pairs (A, B): what a record has at A, this board has at B. ignored: names of what is passed over. version:
+        of the specification by which answers are judged, where it isn't the firmware's own."""
+        super().__init__(record, version)
+        self.ignored, self.numbers = frozenset(ignored), Numbers(record, maps, PAGES)
         self.passed_over = {}
-        self.places = {h: [] for h in range(record.harts)}
-        for place, line in enumerate(self.lines):
-            if line.hart is not None:
-                self.places[line.hart].append(place)
         self.ipis = {h: self.ipis_to(h) for h in range(record.harts)}
+        # Of each hart the lines at which its SSIP is seen.
+        self.pending = {h: [place for place in self.places[h] if self.lines[place].notes.get("sip", 0) & SSI] for h in range(record.harts)}
 
     def ipis_to(self, h):
         return [
@@ -36,45 +37,13 @@ class Follower:
             if self.lines[place].kind == "call" and self.lines[place].numbers[:2] == (IPI, 0) and h in self.named(self.lines[place].numbers[2:4])
         ]  # fmt: skip
 
-    def named(self, pair):
-        """The harts of a list, those of strange bits left out."""
-        mask, base = pair
-        if base == ALL:
-            return range(self.record.harts)
-        return [base + i for i in range(64) if mask >> i & 1 and base + i < self.record.harts]
-
     # ---- numbers of the record on this board
 
-    def mapped(self, address):
-        a, b = self.shift
-        low = min(a, b)
-        return (address - a + b) & ALL if low <= address < low + (1 << 40) else address
-
     def op_of(self, state, line):
-        eid, fid, *a = line.numbers
-        if (eid, fid) in ((HSM, 0), (HSM, 3)):
-            a[1] = self.mapped(a[1])
-        if (eid, fid) == (TIME, 0) and a[0] != ALL:
-            a[0] = min(a[0] + state.offset, ALL)
-        return ("ecall", eid, fid, *a)
-
-    def shown(self, place):
-        """What a call answered, in the words of a board; None where the record doesn't tell."""
-        line = self.lines[place]
-        eid, fid = line.numbers[:2]
-        if line.reply is None:
-            if (eid, fid) in ((HSM, 1), (SRST, 0)):
-                return GONE
-            if is_suspend(line.numbers):
-                return GONE if line.numbers[2] & 1 << 31 else WAITING
-            return None
-        error, value = self.lines[line.reply].numbers
-        if error == 0 and (eid == RFENCE and fid <= 2 or is_suspend(line.numbers)):
-            return WAITING
-        return ("ret", error, value)
-
-    def name(self, op):
-        return spelled_step(0, op)[2:]
+        op = self.numbers.op(line.numbers)
+        if op[1:3] == [TIME, 0] and op[3] != ALL:
+            op[3] = min(op[3] + state.offset, ALL)
+        return tuple(op)
 
     # ---- the whole
 
@@ -83,11 +52,7 @@ class Follower:
         if not self.lines:
             raise Broken(1, "nothing was recorded")
         line = self.lines[0]
-        pc, _, opaque = line.numbers
-        state = State(Board(self.record.harts, PAGES, MOST_EVENTS, line.hart, self.mapped(pc), opaque))
-        if not (RAM <= self.mapped(pc) < RAM + 4096 * PAGES and self.mapped(pc) % 2 == 0):
-            raise Broken(line.number, f"hart {line.hart} enters at {pc:#x}, which isn't in the board's RAM from {RAM:#x}: see --map")
-        return state
+        return State(Board(self.record.harts, PAGES, MOST_EVENTS, line.hart, self.numbers.first(), line.numbers[2]))
 
     def follow(self):
         """Goes through the record, and returns the last state."""
@@ -158,6 +123,9 @@ class Follower:
                 self.passed_over[place] = name
                 yield state
                 return
+            if is_system_suspend(line.numbers) and self.resumes(line):
+                yield self.system_suspended(self.opened(self.prepared(state, line), place), line.hart)
+                return
             yield from self.ways_of_call(self.prepared(state, line), place)
         elif line.kind == "ret":
             if line.hart not in state.calls and self.is_passed_over(place):
@@ -168,6 +136,30 @@ class Follower:
             yield from self.reached(self.prepared(state, line), place, self.entered)
         else:
             yield self.was_reset(state.copy(), line)
+
+    def resumes(self, line):
+        return line.reply is None and line.then is not None and self.lines[line.then].kind == "entry"
+
+    def system_suspended(self, state, hart):
+        """This board has no suspend of the system: a non-retentive suspend stands in its place, and an IPI to wake it."""
+        it, call, line = state.board.harts[hart], state.calls[hart], self.lines[state.calls[hart].place]
+        was = it.sie, it.ssip
+        self.effect(state, hart)
+        why = f"put in: a hart's suspend for the system's of line {line.number}"
+        for op in (("sie", SSI), ("ecall", IPI, 0, 1, hart, 0, 0, 0, 0), ("ecall", HSM, 3, 1 << 31, self.numbers.address(call.op[4]), call.op[5], 0, 0, 0)):
+            state.do(hart, op, line.number, why)
+        state.asleep[hart] = was
+        return state
+
+    def awake(self, state, hart):
+        """What was put in for a suspend of the system is taken back."""
+        sie, ssip = state.asleep.pop(hart, (None, None))
+        if sie is None:
+            return
+        why = "put in: as before the suspend of the system"
+        state.do(hart, ("sie", sie), None, why)
+        if not ssip:
+            state.do(hart, ("clearssip",), None, why)
 
     def is_passed_over(self, place):
         places = self.places[self.lines[place].hart]
@@ -222,9 +214,9 @@ class Follower:
         line = self.lines[place]
         if line.notes.get("sip", SSI) & SSI or not state.board.harts[line.hart].ssip:
             return False
-        places = self.places[line.hart]
-        later = places[bisect_right(places, place) :]
-        seen = next((at for at in later if self.lines[at].notes.get("sip", 0) & SSI), None)
+        pending = self.pending[line.hart]
+        later = bisect_right(pending, place)
+        seen = pending[later] if later < len(pending) else None
         if seen is None:
             return True
         ipis = self.ipis[line.hart]
@@ -252,7 +244,7 @@ class Follower:
     def ipis_done(self, state, hart):
         """Each state in which an IPI to the hart that is still open is done."""
         for other, call in state.calls.items():
-            if call.answer is None and call.op[1:3] == (IPI, 0) and hart in self.named(call.op[3:5]):
+            if call.answer is None and call.op[1:3] == (IPI, 0) and hart in self.named(self.lines[call.place].numbers[2:4]):
                 moved = state.copy()
                 if self.effect(moved, other) == self.shown(call.place):
                     yield moved
@@ -268,7 +260,7 @@ class Follower:
         before = state.board
         if shown is not None and is_suspend(call.op[1:]):
             state.fenced -= {hart}
-        answer = state.do(hart, call.op, line.number, why, shown)
+        answer = state.do(hart, call.op, line.number, why, self.said(call.place))
         state.calls[hart] = Open(call.place, call.op, answer)
         if answer == WAITING and call.op[1] == RFENCE:
             state.fenced |= {t for t in before.harts[hart].outstanding or () if before.harts[t].state in (SUSPENDED, SUSPEND_PENDING)}
@@ -276,8 +268,8 @@ class Follower:
             state.forget()
         if shown is not None and answer != shown:
             self.differs(state, hart, call, answer, shown)
-        elif call.op[1] == TELLS and call.op[2] < len(TOLD) and call.op[3] != call.op[4]:
-            state.put(Difference(line.number, f"{hart} tells", f"{call.op[3]:#x}", f"{call.op[4]:#x}", TOLD[call.op[2]], None))
+        else:
+            self.agrees(state, hart, call, answer)
         return answer
 
     def advance(self, state, hart, why=None):
@@ -319,10 +311,14 @@ class Follower:
             return it.state == STARTED and it.outstanding is None and op[3] < len(board.harts) and board.harts[op[3]].state == shown[2]
         return board.copy().step(hart, op) == shown
 
-    def next_line(self, hart, place):
+    def next_place(self, hart, place):
         places = self.places[hart]
         at = bisect_right(places, place - 1)
-        return self.lines[places[at]] if at < len(places) else None
+        return places[at] if at < len(places) else None
+
+    def next_line(self, hart, place):
+        at = self.next_place(hart, place)
+        return None if at is None else self.lines[at]
 
     def moves(self, state, place):
         """What may have happened before the line: another call, or a step of a firmware."""
@@ -346,7 +342,7 @@ class Follower:
                 moved = state.copy()
                 answer = moved.do(hart, ("advance",), line.number, f"line {line.number}, seen before it")
                 moved.early[hart] = (answer, it.state == START_PENDING)
-                if answer == (self.entry_of(line) if line.kind == "entry" else ("ret", *line.numbers)):
+                if answer == (self.entry_of(line) if line.kind == "entry" else self.returns(self.next_place(hart, place)) or answer):
                     yield moved
             elif it.state == RESUME_PENDING and it.is_retentive and self.is_unseen(hart, place):
                 moved = state.copy()
@@ -366,7 +362,7 @@ class Follower:
 
     def entry_of(self, line):
         pc, a0, a1 = line.numbers
-        return ("entry", self.mapped(pc), a0, a1)
+        return ("entry", self.numbers.address(pc), self.numbers.hart(a0), a1)
 
     def returned(self, state, place):
         """The call of this line returns as it was recorded; else None."""
@@ -379,16 +375,17 @@ class Follower:
         call = state.calls[line.hart]
         if call.answer == WAITING:
             answer = self.polled(state, line) if call.op[1] == RFENCE else self.woken(state, line)
-            if answer != ("ret", *line.numbers):
+            if answer != (self.returns(place) or ("ret", 0, 0)):
                 return None
-        elif call.answer != self.shown(call.place):
+        elif call.answer != (self.shown(call.place) or call.answer):
             return None
+        self.values(state, place)
         del state.calls[line.hart]
         return state
 
     def effect_agrees(self, state, hart):
         shown = self.shown(state.calls[hart].place)
-        return state if self.effect(state, hart) == shown else None
+        return state if self.effect(state, hart) == (shown or state.calls[hart].answer) else None
 
     def polled(self, state, line):
         """The fence is applied where it waits, and the call returns."""
@@ -397,7 +394,10 @@ class Follower:
             while any(caller == hart for caller, _ in state.board.harts[target].waiting):
                 if state.do(target, ("serve",), line.number, f"put in: the fence has been applied, since line {line.number} returns") != ("served",):
                     return None
-        return state.do(hart, ("poll",), line.number, f"line {line.number}", ("ret", *line.numbers))
+        return state.do(hart, ("poll",), line.number, f"line {line.number}", self.returned_as(line))
+
+    def returned_as(self, line):
+        return None if line.numbers[0] is None else ("ret", *line.numbers)
 
     def has_no_time(self, state, hart):
         """Whether the hart's time may have come, of which the record tells nothing."""
@@ -425,6 +425,7 @@ class Follower:
                 answer = self.advance(state, hart)
             elif state.board.harts[hart].state == RESUME_PENDING:
                 answer = state.do(hart, ("advance",), line.number, f"line {line.number}")
+        self.awake(state, hart)
         return answer
 
     def entered(self, state, place, is_strict=True):
@@ -438,6 +439,8 @@ class Follower:
             answer = state.do(hart, ("advance",), line.number, f"line {line.number}")
         elif it.state in (SUSPEND_PENDING, SUSPENDED, RESUME_PENDING) and not it.is_retentive:
             answer, is_start = self.woken(state, line), False
+        elif it.state == STOPPED and state.is_fresh:
+            answer = self.booted(state, line)
         else:
             return None
         sip = line.notes.get("sip")
@@ -445,21 +448,24 @@ class Follower:
             return None
         state.calls.pop(hart, None)
         state.tainted.pop(hart, None)
+        state.is_fresh = False
         self.look_at_notes(state, line, is_start)
         return state
 
-    def look_at_notes(self, state, line, is_start):
-        """What the hart's registers had at its entry, beside what the board's have."""
-        board, hart = state.board, line.hart
-        here = {"sie": board.harts[hart].sie, "sip": board.sip(hart), "sstatus": board.harts[hart].sstatus}
-        for name, value in here.items():
-            there = line.notes.get(name)
-            if there is None:
-                continue
-            there &= READ_SIE if name != "sstatus" else 1
-            if there != value:
-                rule = rule_of_entry(name, is_start, value, there)
-                state.put(Difference(line.number, f"{hart} entry: {name}", f"{value:#x}", f"{there:#x}", rule, None))
+    def booted(self, state, line):
+        """After a reset the firmware has another hart boot: here the boot hart starts that one, and stops."""
+        pc, _, opaque = line.numbers
+        hart, boot = line.hart, state.board.config[3]
+        if state.board.harts[boot].state != START_PENDING:
+            return None
+        why = f"put in: hart {hart} boots at line {line.number}"
+        state.do(boot, ("advance",), line.number, why)
+        state.do(boot, ("ecall", HSM, 0, hart, self.numbers.address(pc), opaque, 0, 0, 0), line.number, why)
+        answer = state.do(hart, ("advance",), line.number, f"line {line.number}")
+        state.do(boot, ("ecall", HSM, 1, 0, 0, 0, 0, 0, 0), line.number, why)
+        state.do(boot, ("advance",), line.number, why)
+        state.put(Difference(line.number, f"{self.id(hart)} entry: after a reset", f"hart {self.id(boot)}", f"hart {self.id(hart)}", verdict_of("boot hart"), None))
+        return answer
 
     def was_reset(self, state, line):
         actor = next((h for h, it in enumerate(state.board.harts) if it.state == STARTED and it.outstanding is None), None)
@@ -496,19 +502,23 @@ class Follower:
         if it.state == SUSPEND_PENDING:
             self.advance(state, hart)
         said = self.entry_of(line)
+        state.is_fresh = False
         is_asleep = state.board.harts[hart].state == SUSPENDED
         while state.board.harts[hart].state == SUSPENDED and state.board.wakes(hart):
             self.advance(state, hart)
         early = state.early.pop(hart, None)
         answer = early[0] if early else state.do(hart, ("advance",), line.number, f"line {line.number}", said)
         if answer != said:
-            rule = rule_of_wake(state, hart) if is_asleep and answer[0] == "refused" else None
-            self.found(state, line, f"{hart} entry", answer, said, rule, {hart})
+            verdict = self.of_wake(state, hart, answer) if is_asleep else None
+            self.found(state, line, f"{self.id(hart)} entry", answer, said, verdict, {hart})
 
     def forced_return(self, state, line):
         hart = line.hart
         call = state.calls.get(hart)
         if call is None:
+            follows = self.origin(state, line, None)
+            verdict = None if follows else UNEXPLAINED_VERDICT
+            state.put(Difference(line.number, f"{self.id(hart)} returns", "no call is open", spelled_answer(self.returned_as(line) or ("ret", 0, 0)), verdict, follows))
             return
         if call.answer is None:
             self.effect(state, hart)
@@ -526,52 +536,12 @@ class Follower:
                 self.effect(state, other)
 
     def forced_wake(self, state, line):
-        hart, said = line.hart, ("ret", *line.numbers)
+        hart, said = line.hart, self.returned_as(line) or ("ret", 0, 0)
         self.catch_up(state, hart)
         if state.board.harts[hart].state == SUSPEND_PENDING:
             self.advance(state, hart)
         if state.board.harts[hart].state == SUSPENDED and state.board.wakes(hart):
             self.advance(state, hart)
         answer = state.do(hart, ("advance",), line.number, f"line {line.number}", said)
-        if answer != said:
-            rule = rule_of_wake(state, hart) if answer[0] == "refused" else None
-            self.found(state, line, f"{hart} resumes", answer, said, rule, {hart})
-
-    # ---- differences
-
-    def differs(self, state, hart, call, answer, shown):
-        rule = rule_of(state.board, hart, call.op, answer, shown)
-        line = self.lines[call.place]
-        self.found(state, line, f"{hart} {self.name(call.op)}", answer, shown, rule, self.touched(hart, call.op))
-        if call.op[1:3] == (IPI, 0):
-            state.missed |= {h: line.number for h in self.named(call.op[3:5])}
-
-    def touched(self, hart, op):
-        """The harts whose later answers may follow from this call's."""
-        eid, fid, a0, a1 = op[1:5]
-        if (eid, fid) == (HSM, 0):
-            return {a0, a0 & LOW}
-        if (eid, fid) in ((HSM, 1), (HSM, 3)):
-            return {hart}
-        return set(range(self.record.harts)) if is_reset(op[1:]) else set()
-
-    def asked(self, hart, op):
-        """The harts on whose states a call's answer hangs."""
-        eid, fid, a0 = op[1:4]
-        return [a0, hart] if (eid, fid) in ((HSM, 0), (HSM, 2)) else [hart]
-
-    def found(self, state, line, what, here, there, rule, touched):
-        follows = None
-        if rule is None:
-            op = state.calls[line.hart].op if line.hart in state.calls else ("ecall", BASE, 0, 0)
-            lines = [state.tainted[h] for h in self.asked(line.hart, op) if h in state.tainted]
-            if not lines and here == ("refused", 3) and line.hart in state.missed:
-                lines = [state.missed[line.hart]]
-            follows = lines[0] if lines else None
-        state.put(Difference(line.number, what, spelled_answer(here), spelled_answer(there), rule, follows))
-        if here[0] == there[0] == "ret" and here[1] and there[1]:
-            return
-        origin = follows or line.number
-        for h in touched:
-            if h < self.record.harts:
-                state.tainted.setdefault(h, origin)
+        if answer[:2] != said[:2]:
+            self.found(state, line, f"{self.id(hart)} resumes", answer, said, self.of_wake(state, hart, answer), {hart})

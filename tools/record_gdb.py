@@ -1,9 +1,13 @@
-"""What tools/record has gdb do: it stops the harts where calls begin, return, and where harts enter, and writes the lines."""
+"""What tools/record has gdb do: it stops the harts where calls begin, return, and where harts enter, and writes the lines.
+
+Each line is written at once. Where a call has returned and its answer isn't seen yet, `@N HART` keeps the place of the
+return of call N, and `@N HART ret A0 A1` is that return; the last line is `@end HOW`. tools/record puts them together.
+"""
 import os
 
 import gdb
 
-SRST, HSM, IPI = 0x53525354, 0x48534D, 0x735049
+SRST, HSM, SUSP = 0x53525354, 0x48534D, 0x53555350
 FROM_S_MODE = 9
 ENTRY = int(os.environ["RECORD_ENTRY"])
 HARTS = int(os.environ["RECORD_HARTS"])
@@ -22,6 +26,14 @@ def time_now():
     return int.from_bytes(bytes(gdb.selected_inferior().read_memory(MTIME, 8)), "little")
 
 
+class Call:
+    """A call that is open: its hart, its registers and number, and the address and stack pointer at which it goes on.
+    The stack pointer tells apart calls of several tasks that all call from one place."""
+
+    def __init__(self, hart, number, numbers, behind, stack):
+        self.hart, self.number, self.numbers, self.back = hart, number, numbers, (behind, stack)
+
+
 class Recorder:
     def __init__(self, sink):
         self.sink = sink
@@ -33,7 +45,8 @@ class Recorder:
 
     def fresh(self):
         """As after a reset: no call is open, and nobody is about to enter."""
-        self.open = {}
+        # Of each hart the call in which its firmware is. `late`, newest last: calls that have returned to an interrupt.
+        self.open, self.late = {}, []
         self.awaited = {hart: {} for hart in range(HARTS)}
         self.is_resetting = False
 
@@ -42,10 +55,13 @@ class Recorder:
             self.stops_at.add(address)
             gdb.execute(f"hbreak *{address:#x}", to_string=True)
 
+    def put(self, *words):
+        self.sink.write(" ".join(map(str, words)) + "\n")
+        self.sink.flush()
+
     def write(self, hart, *words):
         notes = [f"time={time_now():#x}", f"sie={register('sie'):#x}", f"sip={register('sip'):#x}", f"sstatus={register('sstatus') >> 1 & 1}"]
-        self.sink.write(" ".join([str(hart), *words, *notes]) + "\n")
-        self.sink.flush()
+        self.put(hart, *words, *notes)
 
     def stopped(self):
         hart, pc = gdb.selected_thread().num - 1, register("pc")
@@ -54,44 +70,73 @@ class Recorder:
                 self.called(hart)
         elif pc in self.awaited[hart] or pc == register("mepc") == ENTRY:
             self.entered(hart, pc)
-        elif hart in self.open and self.open[hart][0] == pc:
-            self.returned(hart)
+        else:
+            self.came_back(hart, (pc, register("sp")))
 
     def called(self, hart):
         numbers = [register(name) for name in CALL_REGISTERS]
         behind = register("mepc") + 4
         self.stop_at(behind)
+        self.was_interrupted(hart)
         self.calls += 1
-        self.open[hart] = (behind, numbers, self.calls)
+        self.open[hart] = Call(hart, self.calls, numbers, behind, register("sp"))
         self.write(hart, "call", *(f"{number:#x}" for number in numbers))
         eid, fid, a0, a1 = numbers[:4]
         if (eid, fid) == (HSM, 0) and a0 & 0xFFFFFFFF < HARTS:
             self.await_entry(a0 & 0xFFFFFFFF, a1)
-        elif (eid, fid) == (HSM, 3) and a0 & NON_RETENTIVE:
+        elif (eid, fid) == (HSM, 3) and a0 & NON_RETENTIVE or (eid, fid) == (SUSP, 0):
             self.await_entry(hart, a1)
         elif (eid, fid) == (SRST, 0):
             self.is_resetting = True
+
+    def was_interrupted(self, hart):
+        """The hart does something else: its call has returned, and an interrupt was taken before the next instruction."""
+        call = self.open.pop(hart, None)
+        if call is not None:
+            self.put(f"@{call.number}", hart)
+            self.late.append(call)
 
     def await_entry(self, hart, address):
         self.stop_at(address & ~1)
         self.awaited[hart].setdefault(address & ~1, self.calls)
 
-    def returned(self, hart):
+    def came_back(self, hart, back):
+        """The hart is behind an ECALL: its own call has returned, or a late one goes on, perhaps on another hart."""
+        call = self.open.get(hart)
+        if call is not None and call.back == back:
+            return self.returned(self.open.pop(hart))
+        mine = [late for late in self.late if late.back == back and late.hart == hart]
+        of_others = [late for late in self.late if late.back == back]
+        if mine or of_others:
+            self.was_interrupted(hart)
+            late = (mine or of_others)[-1]
+            self.late.remove(late)
+            return self.returned(late, is_late=True)
+        if call is not None and call.back[0] == back[0]:
+            # (a firmware that doesn't keep the stack pointer)
+            self.returned(self.open.pop(hart))
+
+    def returned(self, call, is_late=False):
         error, value = register("a0"), register("a1")
-        self.write(hart, "ret", str(error - (1 << 64) if error >> 63 else error), f"{value:#x}")
-        _, (eid, fid, *_), number = self.open.pop(hart)
+        words = ("ret", error - (1 << 64) if error >> 63 else error, f"{value:#x}")
+        if is_late:
+            # (what its registers had when it returned is not known any more)
+            self.put(f"@{call.number}", call.hart, *words)
+        else:
+            self.write(call.hart, *words)
+        eid, fid = call.numbers[:2]
         if (eid, fid) == (SRST, 0):
             self.is_resetting = False
         if error:
             # (what this call alone had been waited for doesn't come)
             for awaited in self.awaited.values():
-                for address in [address for address, call in awaited.items() if call == number]:
+                for address in [address for address, number in awaited.items() if number == call.number]:
                     del awaited[address]
 
     def entered(self, hart, pc):
         if pc not in self.awaited[hart]:
             if self.has_begun and not self.is_resetting:
-                self.sink.write("m reset\n")
+                self.put("m reset")
             self.has_begun = True
             self.fresh()
         self.awaited[hart] = {}
@@ -102,6 +147,19 @@ class Recorder:
         self.write(hart, "entry", f"{pc:#x}", f"{register('a0'):#x}", f"{register('a1'):#x}")
 
 
+def watch(recorder):
+    """Lets the machine run from stop to stop, and says how it ended."""
+    while True:
+        try:
+            gdb.execute("continue", to_string=True)
+            if gdb.selected_inferior().pid == 0:
+                return "off"
+            recorder.stopped()
+        except gdb.error as error:
+            print(error)
+            return "closed"
+
+
 def main():
     for line in ("set pagination off", "set confirm off", "set architecture riscv:rv64", "set print thread-events off"):
         gdb.execute(line, to_string=True)
@@ -110,15 +168,7 @@ def main():
     with open(os.environ["RECORD_LINES"], "w", encoding="ascii") as sink:
         recorder = Recorder(sink)
         recorder.stop_at(ENTRY)
-        while True:
-            try:
-                gdb.execute("continue", to_string=True)
-            except gdb.error as error:
-                print(error)
-                return
-            if gdb.selected_inferior().pid == 0:
-                return
-            recorder.stopped()
+        recorder.put("@end", watch(recorder))
 
 
 main()

@@ -1,41 +1,79 @@
-"""Which rule of this board a difference from a recorded answer is. Each sentence stands in docs/FIRMWARE.md, in the first
-column of a table of the section named (tests/records looks)."""
+"""Which rule of this board a difference from a recorded answer is, its class, the section of SBI 1.0.0, and the answers that
+it excuses. Each sentence stands in docs/FIRMWARE.md, in the first column of a table of the section named (tests/records looks)."""
 from board_model import (
-    ALREADY_AVAILABLE, BASE, EXTENSIONS, FAILED, GONE, HSM, INVALID_ADDRESS, INVALID_PARAM, IPI, LOW, NOT_SUPPORTED, RFENCE, SRST, SSI, SUSPENDED,
-    WAITING, suspend_error,
+    ALREADY_AVAILABLE, BASE, EXTENSIONS, FAILED, GONE, HSM, INVALID_ADDRESS, INVALID_PARAM, IPI, LOW, NOT_SUPPORTED, RFENCE, SRST, SSI, STARTED,
+    SUSPENDED, WAITING, suspend_error,
 )  # fmt: skip
+from standard import BREAKS, LATER, LEGACY, OPEN, OWN, PMU, UNEXPLAINED, UNJUDGED, Verdict, by_arguments, by_itself, by_state
 
-PMU, DEBUG_CONSOLE = 0x504D55, 0x4442434E
-LEGACY = range(9)
+DEBUG_CONSOLE = 0x4442434E
 
+
+class Rule:
+    """A rule's sentence and its page's section, its class, the standard's section, and what it excuses: errors by their
+    numbers (0: success, of whatever value), "gone" (no return), "value" (a success of another value), "any"; registers at
+    an entry and what a kernel tells are values of their own."""
+
+    def __init__(self, sentence, page, kind, section, *answers):
+        self.sentence, self.page, self.kind, self.section, self.answers = sentence, page, kind, section, answers
+
+    def __iter__(self):
+        return iter((self.sentence, self.page))
+
+    def excuses(self, there):
+        if "any" in self.answers or there == GONE:
+            return "any" in self.answers or "gone" in self.answers
+        error = 0 if there == WAITING else there[1]
+        return error in self.answers or error == 0 and "value" in self.answers
+
+
+CALLS, LISTS, FENCES, HARTS = "Calls", "Hart lists", "Remote fences", "Starts, stops and suspends"
+TIMES, RESETS, MEMORY, BOARD = "Time and interrupts", "System resets", "Memory, translation and caches", "The board"
 RULES = {
-    "extensions": ("the legacy extensions, PMU, the debug console and all later ones are unknown: -2, and 0 from the probe", "Calls"),
-    "implementation": ("implementation 0x5A5A5A, version 1", "Calls"),
-    "machine": ("mvendorid, marchid and mimpid are 0", "Calls"),
-    "whole ids": ("a7 and a6 are compared as whole 64-bit numbers", "Calls"),
-    "hypervisor": ("the hypervisor's fences answer -2", "Calls"),
-    "strange bits": ("a bit that names no hart refuses the whole list, and nobody is reached", "Hart lists"),
-    "strange base": ("a base that is no hart's is refused with mask 0 too", "Hart lists"),
-    "whole hart ids": ("a hart id is all 64 bits", "Hart lists"),
-    "ranges": ("start + size above 2^64 is INVALID_ADDRESS, and no other range is", "Remote fences"),
-    "fences don't wake": ("a fence waits at a suspended hart and doesn't wake it", "Remote fences"),
-    "already available": ("in each state but STOPPED a start answers ALREADY_AVAILABLE, -6", "Starts, stops and suspends"),
-    "addresses": ("an address of a start or a resume is even, and in RAM", "Starts, stops and suspends"),
-    "open stops": ("hart_stop fails, -1, while sstatus.SIE is 1", "Starts, stops and suspends"),
-    "types of suspends": ("of a suspend's type the low 32 bits are read; a platform's type is -2, a reserved one -3", "Starts, stops and suspends"),
-    "resume addresses": ("the resume address is looked at for type 0x80000000 alone", "Starts, stops and suspends"),
-    "resumes keep": ("a non-retentive resume keeps sie, SSIP and the deadline", "Starts, stops and suspends"),
-    "wake": ("SSIP with SSIE, or STIP with STIE, wakes a suspended hart", "Starts, stops and suspends"),
-    "starts clear": ("an entry by start clears sie and SSIP", "Time and interrupts"),
-    "deadlines": ("a stop, and an entry by start, forget the deadline", "Time and interrupts"),
-    "types of resets": ("a reserved type or reason is INVALID_PARAM, -3; a vendor's type is NOT_SUPPORTED, -2", "System resets"),
-    "reasons": ("the reasons of the implementation and of the vendor are accepted", "System resets"),
-    "kept": ("a translation or a fetched word is kept until a fence covers it, or sixteen fills came", "Memory, translation and caches"),
-    "own rights": ("an entry of the TLB decides by its own rights", "Memory, translation and caches"),
-    "accessed, dirty": ("A and D are never set by the hardware: 0 is a page fault", "Memory, translation and caches"),
-    "aligned": ("an access has 8 bytes and is aligned to 8; misalignment is looked at first", "Memory, translation and caches"),
-    "user pages": ("a page with U is a page fault, and so is an entry with one of bits 63 to 54", "Memory, translation and caches"),
-}
+    "extensions": Rule("the legacy extensions, PMU, the debug console and all later ones are unknown: -2, and 0 from the probe", CALLS, OWN, "4.4", "value"),
+    "their calls": Rule("a call of an extension that is left out answers -2, and does nothing", CALLS, UNJUDGED, "3", "any"),
+    "optional": Rule("TIME, IPI, RFENCE, HSM and SRST are offered", CALLS, OPEN, "4.4", "value", NOT_SUPPORTED),
+    "version": Rule("the version is 1.0", CALLS, OPEN, "4.1", "value"),
+    "implementation": Rule("implementation 0x5A5A5A, version 1", CALLS, OPEN, "4.2, 4.3", "value"),
+    "machine": Rule("mvendorid, marchid and mimpid are 0", CALLS, OPEN, "4.5 to 4.7", "value"),
+    "whole ids": Rule("a7 and a6 are compared as whole 64-bit numbers", CALLS, OPEN, "3", 0, *range(-8, 0)),
+    "values": Rule("a1 is 0 behind an error, and where a function has no value", CALLS, OPEN, "3", "any"),
+    "hypervisor": Rule("the hypervisor's fences answer -2", CALLS, OPEN, "8.4 to 8.7", 0, INVALID_PARAM, INVALID_ADDRESS),
+    "unknown reasons": Rule("no start, suspend or reset fails for an unknown reason", CALLS, OPEN, "9.1, 9.4, 10.1", FAILED),
+    "strange bits": Rule("a bit that names no hart refuses the whole list, and nobody is reached", LISTS, OPEN, "3", 0),
+    "strange base": Rule("a base that is no hart's is refused with mask 0 too", LISTS, OPEN, "3", 0),
+    "whole hart ids": Rule("a hart id is all 64 bits", LISTS, BREAKS, "9.1, 9.3", 0, INVALID_ADDRESS, ALREADY_AVAILABLE),
+    "ranges": Rule("start + size above 2^64 is INVALID_ADDRESS, and no other range is", FENCES, OPEN, "8.2, 8.3", 0),
+    "fences don't wake": Rule("a fence waits at a suspended hart and doesn't wake it", FENCES, OPEN, "9.4", 0),
+    "already available": Rule("in each state but STOPPED a start answers ALREADY_AVAILABLE, -6", HARTS, OPEN, "9.1", INVALID_PARAM),
+    "addresses": Rule("an address of a start or a resume is even, and in RAM", HARTS, OWN, "9.1, 9.4", 0, FAILED, "gone"),
+    "open stops": Rule("hart_stop fails, -1, while sstatus.SIE is 1", HARTS, OPEN, "9.2", "gone"),
+    "stops fail": Rule("hart_stop fails for no other reason", HARTS, OPEN, "9.2", FAILED),
+    "types of suspends": Rule(
+        "of a suspend's type the low 32 bits are read; a platform's type is -2, a reserved one -3", HARTS, OPEN, "9.4",
+        0, FAILED, NOT_SUPPORTED, INVALID_PARAM, "gone",
+    ),  # fmt: skip
+    "suspends": Rule("both default suspends are implemented", HARTS, OPEN, "9.4", NOT_SUPPORTED),
+    "resume addresses": Rule("the resume address is looked at for type 0x80000000 alone", HARTS, OPEN, "9.4", INVALID_ADDRESS),
+    "resumes keep": Rule("a non-retentive resume keeps sie, SSIP and the deadline", HARTS, OPEN, "9.4", "any"),
+    "wake": Rule("SSIP with SSIE, or STIP with STIE, wakes a suspended hart", HARTS, OPEN, "9.4", 0),
+    "starts clear": Rule("an entry by start clears sie and SSIP", TIMES, OPEN, "9.1", "any"),
+    "deadlines": Rule("a stop, and an entry by start, forget the deadline", TIMES, OPEN, "9.1", "any"),
+    "types of resets": Rule(
+        "a reserved type or reason is INVALID_PARAM, -3; a vendor's type is NOT_SUPPORTED, -2", RESETS, OPEN, "10.1",
+        INVALID_PARAM, NOT_SUPPORTED, FAILED, "gone",
+    ),  # fmt: skip
+    "resets": Rule("a shutdown, a cold and a warm reboot are implemented", RESETS, OPEN, "10.1", NOT_SUPPORTED),
+    "reasons": Rule("the reasons of the implementation and of the vendor are accepted", RESETS, OPEN, "10.1", INVALID_PARAM, NOT_SUPPORTED),
+    "kept": Rule("a translation or a fetched word is kept until a fence covers it, or sixteen fills came", MEMORY, OPEN, "Priv 4.2.1", "any"),
+    "own rights": Rule("an entry of the TLB decides by its own rights", MEMORY, OPEN, "Priv 4.2.1", "any"),
+    "accessed, dirty": Rule("A and D are never set by the hardware: 0 is a page fault", MEMORY, OPEN, "Priv 4.3.1", "any"),
+    "aligned": Rule("an access has 8 bytes and is aligned to 8; misalignment is looked at first", MEMORY, OWN, "Priv 3.7", "any"),
+    "user pages": Rule("a page with U is a page fault, and so is an entry with one of bits 63 to 54", MEMORY, OWN, "Priv 4.3.1", "any"),
+    "boot hart": Rule(
+        "at the opening, and after a reboot, the firmware starts one hart, the boot hart, and the others are STOPPED", BOARD, OWN, "10.1", "any",
+    ),  # fmt: skip
+}  # fmt: skip
 
 # A kernel tells what an access saw by calls of this extension, which nobody has: the FID is the rule's place here, a0 what
 # the rule gives, a1 what was seen.
@@ -58,58 +96,115 @@ def ignored_as(numbers):
     return extension_name(a0 if eid == BASE and fid == 3 else eid)
 
 
-def rule_of(board, hart, op, here, there):
+def verdict_of(name):
+    rule = RULES[name]
+    return Verdict(rule.kind, rule.sentence, rule.section, name)
+
+
+UNEXPLAINED_VERDICT = Verdict(UNEXPLAINED, "no rule explains it", "")
+
+
+def certain(board, op, numbers, here, there, version, is_offered):
+    """The verdict on a recorded answer that holds whatever came before: that it breaks the standard, or None; and else the
+    rule that excuses it. numbers: the call as it was recorded; op: on the board; here, there: the answers."""
+    cut = tuple(number & LOW for number in numbers[:2]) + tuple(numbers[2:])
+    is_cut = numbers[:2] != cut[:2] and numbers[0] & LOW in EXTENSIONS and there[:2] != ("ret", NOT_SUPPORTED)
+    verdict = by_itself(cut if is_cut else numbers, there, version, is_offered)
+    if verdict is None and here[0] != "refused":
+        name = rule_of(board, op, here, there)
+        if name and RULES[name].excuses(there):
+            return verdict_of(name)
+    return verdict or by_arguments(len(board.harts), op, here, there)
+
+
+def by_this_state(board, op, here, there):
+    """The verdict where nothing went otherwise before."""
+    return by_state(board, op, here, there) or UNEXPLAINED_VERDICT
+
+
+def rule_of(board, op, here, there):
     """board: after the call; here: its answer; there: the recorded one, in its words."""
-    if here[0] == "refused":
-        return None
     eid, fid, *a = op[1:]
-    by_extension = {BASE: of_base, RFENCE: of_fence, HSM: of_hart, SRST: of_reset}
     if eid not in EXTENSIONS:
-        return "extensions" if eid & ~LOW == 0 else "whole ids"
+        return of_other_extension(eid)
+    if eid != BASE and there[:2] == ("ret", NOT_SUPPORTED) and here[:2] == ("ret", 0) and eid not in (HSM, SRST):
+        return "optional"
     if here == ("ret", INVALID_PARAM, 0) and (eid == IPI or eid == RFENCE):
         return of_list(board, a[0], a[1])
-    return by_extension.get(eid, lambda *rest: None)(board, hart, fid, a, here, there)
+    return {BASE: of_base, RFENCE: of_fence, HSM: of_hart, SRST: of_reset}.get(eid, lambda *rest: None)(board, fid, a, here, there)
 
 
-def of_base(board, hart, fid, a, here, there):
+def of_other_extension(eid):
+    if eid & LOW in EXTENSIONS and eid & ~LOW:
+        return "whole ids"
+    return "their calls" if eid in LEGACY or eid == PMU or eid in LATER else None
+
+
+def of_base(board, fid, a, here, there):
     if fid == 3:
-        return "extensions" if a[0] not in EXTENSIONS else None
-    return {1: "implementation", 2: "implementation", 4: "machine", 5: "machine", 6: "machine"}.get(fid)
+        return "optional" if a[0] in EXTENSIONS and a[0] != BASE else None if a[0] == BASE else "extensions"
+    return {0: "version", 1: "implementation", 2: "implementation", 4: "machine", 5: "machine", 6: "machine"}.get(fid)
 
 
 def of_list(board, mask, base):
     return "strange base" if base >= len(board.harts) and mask == 0 else "strange bits"
 
 
-def of_fence(board, hart, fid, a, here, there):
+def of_fence(board, fid, a, here, there):
     if 3 <= fid <= 6:
         return "hypervisor"
+    if there[:2] == ("ret", NOT_SUPPORTED) and here == WAITING:
+        return "optional"
     return "ranges" if here == ("ret", INVALID_ADDRESS, 0) and there == WAITING else None
 
 
-def of_hart(board, hart, fid, a, here, there):
+def of_hart(board, fid, a, here, there):
+    return {0: of_start, 1: of_stop, 2: of_status, 3: of_suspend}.get(fid, lambda *rest: None)(board, a, here, there)
+
+
+def of_start(board, a, here, there):
     error = here[1] if here[0] == "ret" else 0
-    harts = len(board.harts)
-    if fid in (0, 2) and error == INVALID_PARAM and a[0] & LOW < harts <= a[0]:
+    if error == INVALID_PARAM and a[0] & LOW < len(board.harts) <= a[0]:
         return "whole hart ids"
-    if fid == 0 and error == INVALID_ADDRESS:
+    if error == INVALID_ADDRESS:
         return "addresses"
-    if fid == 0 and error == ALREADY_AVAILABLE and there == ("ret", INVALID_PARAM, 0):
+    if error == ALREADY_AVAILABLE and there[:2] == ("ret", INVALID_PARAM) and board.harts[a[0]].state != STARTED:
         return "already available"
-    if fid == 1 and error == FAILED and there == GONE:
+    return {FAILED: "unknown reasons", NOT_SUPPORTED: "optional"}.get(there[1] if there[0] == "ret" else 0)
+
+
+def of_stop(board, a, here, there):
+    if here == ("ret", FAILED, 0) and there == GONE:
         return "open stops"
-    if fid == 3 and error == INVALID_ADDRESS:
+    return {FAILED: "stops fail", NOT_SUPPORTED: "optional"}.get(there[1] if there[0] == "ret" else 0)
+
+
+def of_status(board, a, here, there):
+    if here == ("ret", INVALID_PARAM, 0) and a[0] & LOW < len(board.harts) <= a[0]:
+        return "whole hart ids"
+    return "optional" if there[:2] == ("ret", NOT_SUPPORTED) else None
+
+
+def of_suspend(board, a, here, there):
+    error, said = (answer[1] if answer[0] == "ret" else 0 for answer in (here, there))
+    if error == INVALID_ADDRESS:
         return "addresses"
-    if fid == 3 and error and there[:2] == ("ret", INVALID_ADDRESS) and a[0] & 1 << 31:
+    if error and said == INVALID_ADDRESS and a[0] & 1 << 31:
         return "resume addresses"
-    return "types of suspends" if fid == 3 and suspend_error(a[0] & LOW) == error != 0 else None
+    if suspend_error(a[0] & LOW) == error != 0:
+        # (of a reserved type no success is excused)
+        return "types of suspends" if error == NOT_SUPPORTED or said else None
+    return {FAILED: "unknown reasons", NOT_SUPPORTED: "suspends"}.get(said)
 
 
-def of_reset(board, hart, fid, a, here, there):
+def of_reset(board, fid, a, here, there):
     kind, reason = a[0] & LOW, a[1] & LOW
-    if here == GONE and reason >= 0xE0000000:
-        return "reasons"
-    return "types of resets" if kind > 2 and here[:2] in (("ret", NOT_SUPPORTED), ("ret", INVALID_PARAM)) else None
+    if here == GONE and there[0] == "ret":
+        return "reasons" if reason >= 0xE0000000 and there[1] != FAILED else {FAILED: "unknown reasons", NOT_SUPPORTED: "resets"}.get(there[1])
+    is_vendors = kind >= 0xF0000000
+    if here[:2] == ("ret", INVALID_PARAM) and kind <= 2 and there[:2] == ("ret", NOT_SUPPORTED):
+        return "resets"
+    return "types of resets" if kind > 2 and here[0] == "ret" and (is_vendors or there != GONE) else None
 
 
 def rule_of_entry(name, is_start, here, there):

@@ -14,10 +14,15 @@ class Step:
 
 
 class Difference:
-    """A place where the board does otherwise: the rule that says why, or the line from which it follows, or neither."""
+    """A place where the board does otherwise: the verdict on it, or the line from which it follows."""
 
-    def __init__(self, at, what, here, there, rule, follows):
-        self.at, self.what, self.here, self.there, self.rule, self.follows = at, what, here, there, rule, follows
+    def __init__(self, at, what, here, there, verdict, follows):
+        self.at, self.what, self.here, self.there, self.verdict, self.follows = at, what, here, there, verdict, follows
+
+    @property
+    def rule(self):
+        """The name of the rule of the board, or None."""
+        return self.verdict.rule if self.verdict else None
 
 
 class Open:
@@ -35,20 +40,21 @@ class State:
         # `tainted`: harts whose life went on otherwise; `missed`: harts that an IPI reached there alone; each with the line.
         self.calls, self.early, self.tainted, self.missed = {}, {}, {}, {}
         self.offset, self.has_ticked = 0, False
-        # Which suspended harts were asked for a fence while they slept.
-        self.fenced = frozenset()
+        # Which suspended harts were asked for a fence while they slept; of those that a suspend of the system put to sleep,
+        # their sie and SSIP; and whether nobody has entered since the last reset.
+        self.fenced, self.asleep, self.is_fresh = frozenset(), {}, False
 
     def copy(self):
         other = State.__new__(State)
         other.__dict__.update(self.__dict__)
         other.board = self.board.copy()
         other.calls, other.early = dict(self.calls), dict(self.early)
-        other.tainted, other.missed = dict(self.tainted), dict(self.missed)
+        other.tainted, other.missed, other.asleep = dict(self.tainted), dict(self.missed), dict(self.asleep)
         return other
 
     def forget(self):
         """As after a reset."""
-        self.calls, self.early, self.tainted, self.missed, self.fenced = {}, {}, {}, {}, frozenset()
+        self.calls, self.early, self.tainted, self.missed, self.fenced, self.asleep, self.is_fresh = {}, {}, {}, {}, frozenset(), {}, True
 
     def key(self):
         harts = tuple((x.state, x.kept, x.ssip, x.sie, x.deadline, x.outstanding) for x in self.board.harts)

@@ -1,8 +1,10 @@
 /* Loaded before the program's libraries: writes the size of each allocation, a line each, to the descriptor
    SIZES, and refuses the one whose number, from 1, is REFUSED, all from the one on whose number is FROM, and the thread
-   whose number is THREAD. Of the calls that
+   whose number is THREAD. If WITHIN is given, these are the ones alone that come after the program wrote that line, and
+   before it writes again. Of the calls that
    open, read and write, the one whose number is FAILED fails with the error ERROR, and none moves more than MOST bytes,
-   if that is given. Each of these calls is told to the descriptor CALLS, if that is given: a letter, and the bytes moved.
+   if that is given. Each of these calls is told to the descriptor CALLS, if that is given: a letter, and the bytes moved;
+   and each thread, where its start begins and ends: t and T, and how many allocations there were.
    LENGTH is what every file's length is said to be, if that is given; where it is "none", the length can't be asked. */
 typedef __SIZE_TYPE__ size_t;
 
@@ -10,6 +12,8 @@ typedef __SIZE_TYPE__ size_t;
 int *__errno_location(void);
 char *getenv(const char *name);
 int atoi(const char *text);
+size_t strlen(const char *text);
+int memcmp(const void *one, const void *other, size_t size);
 unsigned long long strtoull(const char *text, char **end, int base);
 int snprintf(char *to, size_t room, const char *form, ...);
 long __write(int to, const void *from, size_t size);
@@ -31,10 +35,30 @@ static int number_in(const char *name)
     return value ? atoi(value) : 0;
 }
 
+/* whether the line WITHIN is still to come, was written last, or was written before another one */
+static enum { TO_COME, IS_LAST, IS_OVER } line_is;
+
+static int allocations;
+
+static void look_for_line(const char *text, size_t size)
+{
+    const char *line = getenv("WITHIN");
+    if (line_is == IS_LAST)
+        line_is = IS_OVER;
+    else if (line && line_is == TO_COME && size == strlen(line) + 1 && text[size - 1] == '\n' && !memcmp(text, line, size - 1))
+        line_is = IS_LAST;
+}
+
+static int is_passed_over(void)
+{
+    return line_is != IS_LAST && getenv("WITHIN");
+}
+
 static int is_refused(size_t size)
 {
-    static int allocations;
     char line[32];
+    if (is_passed_over())
+        return 0;
     int length = snprintf(line, sizeof line, "%zu\n", size);
     if (__write(number_in("SIZES"), line, length) != length)
         abort();
@@ -71,18 +95,6 @@ int posix_memalign(void **made, size_t alignment, size_t size)
     return *made ? 0 : NO_MEMORY;
 }
 
-typedef int create_thread(unsigned long *, const void *, void *(*)(void *), void *);
-
-int pthread_create(unsigned long *made, const void *with, void *(*run)(void *), void *argument)
-{
-    static int threads;
-    /* (RTLD_NEXT) */
-    create_thread *create = (create_thread *)dlsym((void *)-1, "pthread_create");
-    if (!create || __sync_add_and_fetch(&threads, 1) == number_in("THREAD"))
-        return NO_THREAD;
-    return create(made, with, run, argument);
-}
-
 static int fails(void)
 {
     static int calls;
@@ -100,6 +112,25 @@ static long told(char call, long answer)
         if (__write(number_in("CALLS"), line, length) != length)
             abort();
     }
+    return answer;
+}
+
+typedef int create_thread(unsigned long *, const void *, void *(*)(void *), void *);
+
+int pthread_create(unsigned long *made, const void *with, void *(*run)(void *), void *argument)
+{
+    static int threads;
+    /* (RTLD_NEXT) */
+    create_thread *create = (create_thread *)dlsym((void *)-1, "pthread_create");
+    if (!create)
+        return NO_THREAD;
+    if (is_passed_over())
+        return create(made, with, run, argument);
+    if (__sync_add_and_fetch(&threads, 1) == number_in("THREAD"))
+        return NO_THREAD;
+    told('t', allocations);
+    int answer = create(made, with, run, argument);
+    told('T', allocations);
     return answer;
 }
 
@@ -121,6 +152,7 @@ long read(int from, void *to, size_t size)
 
 long write(int to, const void *from, size_t size)
 {
+    look_for_line(from, size);
     return fails() ? -1 : told('w', __write(to, from, moved(size)));
 }
 

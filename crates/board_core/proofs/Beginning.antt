@@ -1,5 +1,5 @@
 -- What the definitions say of a board's first opening.
-use Rattle.std.proofs.Common.{◌≡◌, List, length, ◌≢◌, ℕ, ◌+◌, ◌<◌, ◌≤◌, suc, zero, Bool, true, false, [], ◌∷◌, refl, sym, ap, ◌∙◌, arith, inl, inr}
+use Rattle.std.proofs.Common.{◌≡◌, List, length, subst, ◌≢◌, ℕ, ◌+◌, ◌<◌, ◌≤◌, suc, zero, Bool, true, false, [], ◌∷◌, refl, sym, ap, ◌∙◌, arith, inl, inr}
 use Rattle.std.specs.Prelude.{Option, Some, None, find, is_some, unwrap_or, ◌==◌, if◌then◌else◌}
 use Rattle.std.specs.List.{cons_option, filter_map, range_with_len}
 use Rattle.std.proofs.lemmas.Bool.{cases_lt}
@@ -27,7 +27,8 @@ use Rattle.board_terms.specs.declared.config.Config.{Config}
 use Rattle.board_terms.specs.Limits.{IsGood}
 use Rattle.board_core.specs.Interrupts.{deadline}
 use Rattle.board_core.specs.Memory.{caches_of, memory, satp}
-use Rattle.board_core.specs.Opening.{IsOpening, no_caches, opening_at, tlb_at, words_at}
+use Rattle.board_core.specs.Cuts.{IsOpened, OpensAfter}
+use Rattle.board_core.specs.Opening.{IsOpening, Opening, no_caches, opening_at, tlb_at, words_at}
 use Rattle.board_core.specs.Starts.{Start, boot_start, hart_of, is_of, kept_in, last_start, start_in, starts_opened}
 use Rattle.board_core.proofs.Opened.{found-inside}
 use Rattle.board_core.proofs.Tables.{eqb-other, eqb-same}
@@ -130,3 +131,11 @@ module _ (c : Config) (good : IsGood c) where
 
   pub memory-opened : memory (opening_at c) [] ≡ zero_memory c.pages
   memory-opened = word_in-zeros c.pages good.at_most_256_pages
+
+good-after : (cuts : ℕ) (o : Opening) → OpensAfter cuts o → IsGood o.config
+good-after zero o opens = opens.0
+good-after (suc cuts) o opens = subst (λ (p : Opening). IsGood p.config) (sym opens.4) (good-after cuts opens.0 opens.2)
+
+-- the numbers of a board are good
+pub is-good : (o : Opening) → IsOpened o → IsGood o.config
+is-good o opened = good-after opened.cuts o opened.opens

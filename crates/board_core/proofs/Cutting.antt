@@ -57,7 +57,7 @@ use Rattle.board_core.proofs.Standing.{length-turns}
 -- what a board knows of its course
 pub held-by : (o : Opening) (past : List Event) (m : Machine) → IsKept o past → IsRam m.memory.ram → StandsFor o past m → IsHeld o past
 held-by o past m kept ram stands = record {
-  good = kept.good;
+  boot_hart_is_there = kept.good.boot_hart_is_there;
   legal = kept.legal;
   right = stands.fences.right;
   ram = m.memory.ram;
@@ -264,7 +264,7 @@ module _ (o : Opening) (past : List Event) (held : IsHeld o past) where
   starts-cut =
       let same = starts-agree (λ h. start_in h (hart_at (opening_of o past).harts h).state (hart_at (opening_of o past).harts h).kept) (pending o past) 0 o.config.harts
       (λ h above below. pending-cut h (omega arith)) in
-      omega (arith, same, starts-counted o past held.good.boot_hart_is_there held.legal)
+      omega (arith, same, starts-counted o past held.boot_hart_is_there held.legal)
 
   -- ---- the machine
 

@@ -231,6 +231,9 @@ module _ (o : Opening) (past : List Event) where
         fetched = λ h. ap (λ (caches : Caches). caches.words.live) (caches-same o past event still none h refl refl);
         waiting = waits;
         outstanding = λ h. rw turned refl;
+        asked = λ h. rw turned refl;
+        call = λ h. rw turned refl;
+        need = λ h t. rw turned refl;
         last_reset = ap (λ reset. newer_or reset (last_reset o past)) (ap (λ (d : Deed). d.reset) none);
         time = later;
         totals = λ i. record {

@@ -11,7 +11,7 @@ use Rattle.board_terms.specs.declared.reply.Reply.TheVariants as replies
 use Rattle.board_core.specs.declared.keeping.Head.{Head}
 use Rattle.board_core.specs.declared.keeping.What.{What}
 use Rattle.board_core.specs.History.{access_of, entry_of}
-use Rattle.board_core.specs.Inside.Keeping.{FitsBeside, IsByte, IsKeptWell, IsOwnEntry, IsShort, actor_in, actor_of, by_of, first_in, first_of, head_in, head_of, op_in, opaque_in, opaque_of, reply_in, reply_of, said_of, used_in, what_of, what_of_event}
+use Rattle.board_core.specs.Inside.Keeping.{FitsBeside, IsByte, IsKeptWell, IsShort, actor_in, actor_of, by_of, first_in, first_of, head_in, head_of, op_in, opaque_in, opaque_of, reply_in, reply_of, said_of, used_in, what_of, what_of_event}
 
 actor_again : (a : Actor) → IsByte a → actor_of (by_of a) ≡ a
 actor_again (Hart h) short = rw (lt-ltb h 255 short) refl

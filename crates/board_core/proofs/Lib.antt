@@ -27,3 +27,6 @@ pub mod Leaving
 pub mod Unseen
 pub mod Firsts
 pub mod Whole
+pub mod AtResets
+pub mod Right
+pub mod Needs

@@ -1,5 +1,5 @@
 -- What a machine that stands for a past says of whether an operation happens, and what it has room for.
-use Rattle.std.proofs.Common.{◌≡◌, ℕ, ◌<◌, ◌≤◌, true, false, List, [], ◌∷◌, length, map, refl, sym, ap, ◌∙◌, arith}
+use Rattle.std.proofs.Common.{◌≡◌, ℕ, ◌<◌, ◌≤◌, true, false, List, [], ◌∷◌, length, map, subst, refl, sym, ap, ◌∙◌, arith}
 use Rattle.std.specs.Prelude.{Option, Some, None, is_none, is_some}
 use Rattle.fence_queue.specs.Queues.{queue_at}
 use Rattle.rfence.specs.Calls as calls
@@ -11,11 +11,12 @@ use Rattle.rfence.specs.Waiting as queues
 use Rattle.rfence.specs.declared.opened.FenceCall.{FenceCall}
 use Rattle.rfence.specs.Opening as opened
 use Rattle.rfence.proofs.Counts.{few-asked, outstanding-set}
+use Rattle.rfence.proofs.Seams.{is-later}
 use Rattle.rfence.proofs.Totals.{few-applied}
 use Rattle.rfence.proofs.Stands.{call_at-stands, length-calls, length-queues, queue_at-stands}
 use Rattle.tlb_model.specs.declared.fence.Flush.{Flush}
 use Rattle.board_terms.specs.declared.config.Config.{Config}
-use Rattle.board_core.specs.Opening.{IsOpening, Opening, on}
+use Rattle.board_core.specs.Opening.{IsOpening, Opening, on, place_after}
 use Rattle.board_core.specs.declared.machine.Machine.{Machine}
 use Rattle.board_core.specs.Fences.{outstanding, turns, waiting}
 use Rattle.board_core.specs.History.{Event}
@@ -23,7 +24,7 @@ use Rattle.board_core.specs.Course.{Course}
 use Rattle.board_terms.specs.declared.op.Op.{Op}
 use Rattle.board_terms.specs.Limits.{IsGood}
 use Rattle.board_core.specs.Refusals.{first_that_holds, is_empty, is_full, refusals_in, situation, waits_for_some}
-use Rattle.board_core.specs.Inside.Stands.{CanFill, FencesStand, HasRoom, IsKept, IsSized, IsStanding, StandsFor, situation_in}
+use Rattle.board_core.specs.Inside.Stands.{CanFill, FencesStand, HasRoom, IsKept, IsSized, IsStanding, IsStandingAt, StandsFor, situation_in}
 use Rattle.board_core.proofs.HartsStanding.{hart_at-stand, length-harts}
 use Rattle.board_core.specs.Replies.{IsLegal}
 use Rattle.board_core.proofs.Standing.{length-turns}
@@ -144,6 +145,14 @@ module _ (c : Config) (m : Machine) (good : IsGood c) (standing : IsStanding c m
         applied = let is = stand.stands.applied in let below = few-applied opening.fences c.harts (turns opening standing.past) stand.right in omega arith;
       }
 
+  pub fences-later : (place : ℕ) → place ≡ place_after standing.o standing.past → fences.IsLater place m.fences
+  fences-later place at =
+      let stand = standing.stands.fences in
+      let long = length-turns opening standing.past in
+      let first = stand.places in
+      let here : opened.place_after opening.fences (turns opening standing.past) ≡ place = omega (arith, long, first, at) in
+      subst (λ (p : ℕ). fences.IsLater p m.fences) here (is-later opening.fences c.harts (turns opening standing.past) stand.right m.fences stand.stands)
+
 -- a board whose history isn't full stands so
 pub standing-kept : (o : Opening) (past : List Event) (m : Machine) → IsKept o past → is_full o past ≡ false → StandsFor o past m → IsStanding o.config m
 standing-kept o past m kept room stands =
@@ -151,3 +160,14 @@ standing-kept o past m kept room stands =
     let small = kept.good.at_most_a_million_events in
     let early = kept.early in
     record { o = o; past = past; opens = legal-opens o past kept.legal; stands = stands; few = omega arith }
+
+pub standing-at : (o : Opening) (past : List Event) (m : Machine) (place : ℕ) → place ≡ place_after o past → IsKept o past → is_full o past ≡ false → StandsFor o past m
+    → IsStandingAt o.config place m
+standing-at o past m place at kept room stands =
+    let less = room-left o past room kept.within in
+    let small = kept.good.at_most_a_million_events in
+    let early = kept.early in
+    record {
+      standing = record { o = o; past = past; opens = legal-opens o past kept.legal; stands = stands; few = omega arith };
+      at = at;
+    }

@@ -51,7 +51,7 @@ use Rattle.board_core.specs.Starts.{Start, all_pending, boot_start, entered_befo
 use Rattle.board_core.specs.States.{state}
 use Rattle.board_core.specs.Suspends.{resume_point}
 use Rattle.board_core.specs.Totals.{totals}
-use Rattle.board_core.proofs.Cutting.{caches_of-cut, deadlines-cut, hart-cut, harts-cut, memory-cut, opens-cut, satps-cut, starts-agree, starts-cut}
+use Rattle.board_core.proofs.Cutting.{caches_of-cut, deadlines-cut, hart-cut, harts-cut, memory-cut, opened, opens-cut, satps-cut, starts-agree, starts-cut}
 use Rattle.board_core.proofs.Opened.{found-inside}
 
 module _ (o : Opening) (past : List Event) (held : IsHeld o past) where
@@ -59,7 +59,7 @@ module _ (o : Opening) (past : List Event) (held : IsHeld o past) where
   cut = opening_of o past
 
   few : (h : ℕ) → h < o.config.harts → h < 128
-  few h inside = let most = held.good.at_most_128_harts in omega arith
+  few h inside = let most = (opened o past held).fences.limit in omega arith
 
   state-cut : (h : ℕ) → h < o.config.harts → state cut [] h ≡ state o past h
   state-cut h inside = ap (λ (hart : Hart). hart.state) (hart-cut o past held h inside)

@@ -106,10 +106,10 @@ IsOpenedBy c places (Some o) = (o.config ≡ c) × (o.places ≡ places)
 abbrev pub last_cut : ℕ
 last_cut = 2 ^ 56 - 1000000
 
--- What a board knows of its course: the board is good, its history is legal, each turn of it could be made, and its memory is
--- that of a RAM.
+-- What a board knows of its course, whatever its limit is: the boot hart is there, the history is legal, each turn of it could
+-- be made, and the memory is that of a RAM.
 pub record IsHeld (o : Opening) (past : List Event) : Type 0 where
-  pub good : IsGood o.config
+  pub boot_hart_is_there : o.config.boot_hart < o.config.harts
   pub legal : IsLegal o past
   pub right : IsRight o.fences o.config.harts (turns o past)
   pub ram : List ℕ

@@ -1,6 +1,8 @@
 -- A call that answers an error changes nothing but the history (profile).
 use Rattle.std.specs.Prelude.{◌≡◌, ℕ, List, Bool, false, not}
 use Rattle.sbi_abi.specs.Errors.{is_success}
+use Rattle.rfence.specs.Calls as calls
+use Rattle.rfence.specs.Waiting as queues
 use Rattle.board_core.specs.Opening.{Opening}
 use Rattle.board_core.specs.History.{Event}
 use Rattle.board_terms.specs.declared.reply.Reply.{Reply}
@@ -9,6 +11,7 @@ use Rattle.board_core.specs.Csrs as csrs
 use Rattle.board_core.specs.Fences as fences
 use Rattle.board_core.specs.Interrupts as interrupts
 use Rattle.board_core.specs.Memory as memory
+use Rattle.board_core.specs.Need.{need}
 use Rattle.board_core.specs.Resets as resets
 use Rattle.board_core.specs.Starts as starts
 use Rattle.board_core.specs.States as states
@@ -35,6 +38,10 @@ pub record LooksSame (o : Opening) (past later : List Event) : Type 0 where
   pub fetched : (h : ℕ) → (memory.caches_of o later h).words.live ≡ (memory.caches_of o past h).words.live
   pub waiting : (h : ℕ) → fences.waiting o later h ≡ fences.waiting o past h
   pub outstanding : (h : ℕ) → fences.outstanding o later h ≡ fences.outstanding o past h
+  -- what waits, and which call is open, with the places at which they were asked
+  pub asked : (h : ℕ) → queues.waiting o.fences (fences.turns o later) h ≡ queues.waiting o.fences (fences.turns o past) h
+  pub call : (h : ℕ) → calls.open_call o.fences (fences.turns o later) h ≡ calls.open_call o.fences (fences.turns o past) h
+  pub need : (h t : ℕ) → need o later h t ≡ need o past h t
   pub last_reset : resets.last_reset o later ≡ resets.last_reset o past
   pub time : interrupts.time o later ≡ interrupts.time o past
   pub totals : counts.totals o later ≡ counts.totals o past

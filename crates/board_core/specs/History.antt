@@ -9,7 +9,7 @@ use Rattle.board_terms.specs.declared.op.Op.{Op}
 use Rattle.board_terms.specs.declared.op.Op.TheVariants.{Load, Store, Fetch}
 use Rattle.board_terms.specs.declared.reply.Reply.{Reply}
 
--- who, what, what was answered, and for an access by Sv39 the TLB entry that it used, found or filled
+-- who, what, what was answered, and for a translated access the TLB entry that it used, found or filled
 pub record Event : Type 0 where
   pub actor : Actor
   pub op : Op

@@ -17,6 +17,7 @@ pub mod Starts
 pub mod Replies
 pub mod Refusals
 pub mod Need
+pub mod Serves
 pub mod Totals
 pub mod ErrorLaw
 pub mod Cuts

@@ -1,5 +1,5 @@
 //! The board: its opening, its kept history, one atomic step, and the look-ups.
-ghost use Rattle.std.specs.Prelude.{◌≡◌, ◌⊎◌, ◌<◌, ◌≤◌, ◌↔◌, List, [], ◌∷◌, true, false, IfErr, IfOk, IsErrOf, None, Ok, OnErr, OnOk, Some, length, reverse};
+ghost use Rattle.std.specs.Prelude.{◌≡◌, ◌⊎◌, ◌-◌, ◌*◌, ◌<◌, ◌≤◌, ◌↔◌, List, [], ◌∷◌, ◌++◌, true, false, IfErr, IfOk, IsErrOf, None, Ok, OnErr, OnOk, Some, length, reverse};
 ghost use Rattle.hsm.specs.declared.hart.HartState.{HartState};
 ghost use Rattle.interrupts.specs.Timing.{last_time};
 ghost use Rattle.sv39.specs.Maps.{maps};
@@ -14,7 +14,8 @@ ghost use Rattle.board_terms.specs.Limits.{IsGood};
 ghost use Rattle.board_core.specs.Opening.{Opening, opening_at, place_after};
 ghost use Rattle.board_core.specs.Memory.{caches_of, memory, satp};
 ghost use Rattle.board_core.specs.Fences.{outstanding, phase, waiting};
-ghost use Rattle.board_core.specs.Need.{need};
+ghost use Rattle.board_core.specs.Need.{need, total_need};
+ghost use Rattle.board_core.specs.Serves.{CanEnd, GoesOn, HaveServed, IsLeft, KeepsNeeds};
 ghost use Rattle.board_core.specs.Refusals.{first_that_holds, is_full, refusals_in, situation};
 ghost use Rattle.board_core.specs.Resets.{is_off, last_reset};
 ghost use Rattle.board_core.specs.States.{state};
@@ -227,7 +228,10 @@ impl Board {
     pub fn step(&mut self, actor: Actor, op: Op) -> Result<Reply, Refusal>
         ensures answer { result ≡ answer self.old.opening self.old.past actor op }
         ensures after { self.new ≡ stepped self.old actor op }
+        ensures needs { KeepsNeeds self.old self.new actor op result }
     {
+        // (what calls need rests on the board's invariant)
+        let _invariant = &self.config;
         if self.is_off() {
             return Err(Refusal::Off);
         }
@@ -494,12 +498,22 @@ impl Board {
 
     /// How many serves by hart `t` the fence call of hart `caller` still needs, until it waits for `t` no more (profile). It
     /// is 0 outside of a fence call, where the call doesn't wait for `t`, and where there is no such hart; and it is always
-    /// less than the number of harts.
+    /// less than the number of harts. In each history that goes on from here without a reset and without a poll by `caller`,
+    /// `t`'s serves are what is left of it, and once each hart has served as often as was needed of it, or has stopped, the
+    /// call can end.
     pub fn need(&self, caller: u64, t: u64) -> u64
         ensures need { result ≡ need self.now.opening self.now.past caller t }
         ensures limit { result < self.now.opening.config.harts }
+        ensures total { total_need self.now.opening self.now.past caller
+            ≤ (self.now.opening.config.harts - 1) * (self.now.opening.config.harts - 1) }
         ensures no_caller { self.now.opening.config.harts ≤ caller → result ≡ 0 }
         ensures no_target { self.now.opening.config.harts ≤ t → result ≡ 0 }
+        ensures left { (newer : List Event) → GoesOn self.now.opening newer self.now.past caller
+            → IsLeft self.now.opening newer self.now.past caller t }
+        ensures ends { (newer : List Event) → GoesOn self.now.opening newer self.now.past caller
+            → length (newer ++ self.now.past) < self.now.opening.config.limit
+            → HaveServed self.now.opening newer self.now.past caller
+            → CanEnd self.now.opening (newer ++ self.now.past) caller }
     {
         self.machine.fences.need(caller, t)
     }

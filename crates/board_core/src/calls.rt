@@ -11,7 +11,7 @@ ghost use Rattle.board_terms.specs.declared.reply.Reply.TheVariants.{Ret};
 ghost use Rattle.board_terms.specs.Limits.{IsGood};
 ghost use Rattle.board_core.specs.Opening.{Opening, on, place_after};
 ghost use Rattle.board_core.specs.Replies.{call_reply, failure, success};
-ghost use Rattle.board_core.specs.Inside.Stands.{IsSized, IsStanding, StandsFor};
+ghost use Rattle.board_core.specs.Inside.Stands.{IsSized, IsStandingAt, StandsFor};
 ghost use Rattle.rfence.specs.State.{call_at};
 
 mod base_calls;
@@ -33,7 +33,7 @@ impl Machine {
         requires good { IsGood config.now }
         requires sized { IsSized config.now self.old }
         requires in_range { h < config.now.harts }
-        requires standing { IsStanding config.now self.old }
+        requires standing { IsStandingAt config.now place self.old }
         requires started { (hart_at self.old.hsm h).state ≡ states.Started }
         requires outside { call_at self.old.fences h ≡ None }
         ensures answered { (o : Opening) (past : List Event) → StandsFor (on config.now o) past self.old

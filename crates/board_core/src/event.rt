@@ -77,7 +77,7 @@ impl Event {
             .reply(self.what.first(), self.what.opaque())
     }
 
-    /// The TLB entry that an access by Sv39 used, found or filled (profile); None of every other step.
+    /// The TLB entry that a translated access used, found or filled (profile); None of every other step.
     pub fn translation(&self) -> Option<Entry>
         ensures { result ≡ self.now.translation }
     {

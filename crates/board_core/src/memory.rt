@@ -53,7 +53,8 @@ impl Memory {
         satps.extend_from_slice(&self.satps)?;
         let mut caches = Vec::with_capacity(alloc, self.caches.len())?;
         for h in 0..self.caches.len() {
-            caches.push_reserved(self.caches[h].copy());
+            let copy = self.caches[h].try_copy()?;
+            caches.push_reserved(copy);
         }
         Ok(Memory { ram, satps, caches })
     }

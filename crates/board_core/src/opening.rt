@@ -480,7 +480,7 @@ impl Opening {
         requires { h < self.now.config.harts }
         ensures { result ≡ (caches_of self.now [] h).tlb.next }
     {
-        self.machine.memory.caches[h as usize].tlb.next_number()
+        self.machine.memory.caches[h as usize].tlb.fills()
     }
 
     /// The number of the next fill of the instruction cache of hart `h`: how many words were filled in it.
@@ -488,7 +488,7 @@ impl Opening {
         requires { h < self.now.config.harts }
         ensures { result ≡ (caches_of self.now [] h).words.next }
     {
-        self.machine.memory.caches[h as usize].words.next_number()
+        self.machine.memory.caches[h as usize].words.fills()
     }
 
     /// The fence call that hart `h` is in, if it is in one: where it was made, among all events, whom it asked, and what is

@@ -10,7 +10,7 @@ ghost use Rattle.board_terms.specs.Limits.{IsGood};
 ghost use Rattle.board_core.specs.Opening.{Opening, on, place_after};
 ghost use Rattle.board_core.specs.Refusals.{IsAccepted};
 ghost use Rattle.board_core.specs.Replies.{reply};
-ghost use Rattle.board_core.specs.Inside.Stands.{IsSized, IsStanding, StandsFor, situation_in};
+ghost use Rattle.board_core.specs.Inside.Stands.{IsSized, IsStandingAt, StandsFor, situation_in};
 
 use crate::event::{Event, access_of};
 use crate::machine::Machine;
@@ -23,7 +23,7 @@ impl Machine {
         requires good { IsGood config.now }
         requires sized { IsSized config.now self.old }
         requires in_range { h < config.now.harts }
-        requires standing { IsStanding config.now self.old }
+        requires standing { IsStandingAt config.now place self.old }
         requires accepted { IsAccepted op (situation_in self.old h) }
         ensures event { (o : Opening) (past : List Event) → StandsFor (on config.now o) past self.old →
             result ≡ using h op (reply (on config.now o) past h op) (used (on config.now o) past h op) }
@@ -40,7 +40,7 @@ impl Machine {
         requires good { IsGood config.now }
         requires sized { IsSized config.now self.old }
         requires in_range { h < config.now.harts }
-        requires standing { IsStanding config.now self.old }
+        requires standing { IsStandingAt config.now place self.old }
         requires accepted { IsAccepted op (situation_in self.old h) }
         ensures replied { (o : Opening) (past : List Event) → StandsFor (on config.now o) past self.old →
             result.0 ≡ reply (on config.now o) past h op }

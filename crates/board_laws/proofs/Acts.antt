@@ -142,9 +142,10 @@ fence-turn o older t (Sfence va asid) reply flush e = cc
 fence-turn o older t FenceI reply flush e = cc
 fence-turn o older t op reply flush e = cc
 
+pub own-turn : (o : Opening) (t : ℕ) (event : Event) (older : List Event) (flush : Flush) → event.actor ≡ Hart t → own_fence o.config event.op ≡ Some flush
+    → turn_of o older event.actor event.op event.reply ≡ Own t flush
+own-turn o t event older flush own fences = ap (λ actor. turn_of o older actor event.op event.reply) own ∙ fence-turn o older t event.op event.reply flush fences
+
 pub own-strikes : (o : Opening) (t : ℕ) (event : Event) (older : List Event) (flush : Flush) → event.actor ≡ Hart t → own_fence o.config event.op ≡ Some flush
     → turns_laws.Strikes flush (effect o.fences (turns o older) (turn_of o older event.actor event.op event.reply) t)
-own-strikes o t event older flush own fences =
-    let turn_is : turn_of o older event.actor event.op event.reply ≡ Own t flush =
-    ap (λ actor. turn_of o older actor event.op event.reply) own ∙ fence-turn o older t event.op event.reply flush fences in
-    rw (turn_is, eq-eqb t t refl) refl
+own-strikes o t event older flush own fences = rw (own-turn o t event older flush own fences, eq-eqb t t refl) refl

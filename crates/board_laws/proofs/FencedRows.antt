@@ -56,27 +56,27 @@ use Rattle.board_laws.proofs.Fresh.{fetches_are_fresh, translations_are_fresh}
 use Rattle.board_laws.proofs.Gone.{struck_is_gone}
 use Rattle.board_laws.proofs.Lives.{lives_from_its_date}
 use Rattle.board_laws.proofs.Once.{asked_once, opened_once, stops_leave_nothing}
-use Rattle.board_laws.proofs.Parting.{cuts_are_never_seen}
+use Rattle.board_laws.proofs.Parting.{parted-are-seamless}
 use Rattle.board_laws.proofs.Places.{at-with}
 use Rattle.board_laws.proofs.Reached.{fences_strike}
-use Rattle.board_laws.proofs.Right.{turns_are_right}
+use Rattle.board_core.proofs.Right.{turns_are_right}
 use Rattle.board_laws.proofs.Steady.{steady_tables_decide}
 
-abbrev did : ℕ → Op → Reply → Event
+abbrev pub did : ℕ → Op → Reply → Event
 did h op reply = record { actor = Hart h; op = op; reply = reply; translation = None }
 
 -- a gigapage of address space 5, which maps the RAM to itself
 abbrev leaf : Leaf
 leaf = record { page = 0x80000000; level = Giga; global = false; pa = 0x80000000; r = true; w = true; x = true; d = true }
 
-abbrev mapped : CacheEntry
+abbrev pub mapped : CacheEntry
 mapped = record { leaf = leaf; asid = 5 }
 
-abbrev in_space : ℕ
+abbrev pub in_space : ℕ
 in_space = 8 * 2 ^ 60 + 5 * 2 ^ 44 + 0x80001
 
 -- hart h loads through it
-abbrev loaded : ℕ → Event
+abbrev pub loaded : ℕ → Event
 loaded h = record { actor = Hart h; op = Load 0x80002000; reply = Value 0; translation = Some mapped }
 
 abbrev reach : Reach
@@ -149,7 +149,7 @@ abbrev asid-fenced : FencedAccess alone (fenced_by of_asid) 0 3 4 (fence_of_addr
 asid-fenced = fenced-access of_asid (fence_of_address (spaces_of alone.config) None (Some 5)) refl refl refl
 
 asid-fresh : GivenAfter alone (fenced_by of_asid) 0 3 4 0x80002000 leaf
-asid-fresh = translations_are_fresh alone (fenced_by of_asid) 0 3 4 (fence_of_address (spaces_of alone.config) None (Some 5)) reach mapped alone-opened asid-legal asid-fenced refl
+asid-fresh = translations_are_fresh alone (fenced_by of_asid) 1000 0 3 4 (fence_of_address (spaces_of alone.config) None (Some 5)) reach mapped alone-opened asid-legal asid-fenced refl
 
 -- .. and by one of an address.
 abbrev of_address : Op
@@ -168,7 +168,7 @@ address-fenced = fenced-access of_address (fence_of_address (spaces_of alone.con
 
 address-fresh : GivenAfter alone (fenced_by of_address) 0 3 4 0x80002000 leaf
 address-fresh =
-    translations_are_fresh alone (fenced_by of_address) 0 3 4 (fence_of_address (spaces_of alone.config) (Some 0x80002000) None) reach mapped alone-opened address-legal address-fenced refl
+    translations_are_fresh alone (fenced_by of_address) 1000 0 3 4 (fence_of_address (spaces_of alone.config) (Some 0x80002000) None) reach mapped alone-opened address-legal address-fenced refl
 
 -- From the fence on satp and the page tables say one thing of the load, which decides it.
 only-four : (P : ℕ → Type 0) → P 4 → (m : ℕ) → 3 < m → m ≤ 4 → P m
@@ -188,7 +188,7 @@ is-translated = record { aligned = refl; mode = refl; valid = refl }
 
 leaf-decides : IsDecidedBy alone (past_at alone (fenced_by of_asid) 4) 0 (loaded 0) reach (Ok leaf)
 leaf-decides =
-    steady_tables_decide alone (fenced_by of_asid) 0 3 4 (fence_of_address (spaces_of alone.config) None (Some 5)) reach (Ok leaf) alone-opened asid-legal asid-fenced is-translated leaf-steady
+    steady_tables_decide alone (fenced_by of_asid) 1000 0 3 4 (fence_of_address (spaces_of alone.config) None (Some 5)) reach (Ok leaf) alone-opened asid-legal asid-fenced is-translated leaf-steady
 
 -- ---- a hart stores what it fetches
 
@@ -216,17 +216,17 @@ fetch-fenced = record {
 }
 
 fetch-fresh : StoodAfter alone refetched 3 4 (phys_at None 0x80003000) 7
-fetch-fresh = fetches_are_fresh alone refetched 0 3 4 0x80003000 7 is-good refetched-legal fetch-fenced
+fetch-fresh = fetches_are_fresh alone refetched 0 3 4 0x80003000 7 is-good.boot_hart_is_there refetched-legal fetch-fenced
 
 refetched-lives : LivesFromItsDate alone refetched 0
 refetched-lives = lives_from_its_date alone refetched 0 refetched-legal
 
 -- ---- a hart asks another one for a fence of a range and an address space
 
-abbrev two : Opening
+abbrev pub two : Opening
 two = opening_at (record { harts = 2; pages = 16; limit = 1000; boot_hart = 0; boot_addr = 0x80000000; boot_opaque = 0; asid_len = 16; width = 39 })
 
-two-good : IsGood two.config
+pub two-good : IsGood two.config
 two-good = record {
   some_harts = omega arith;
   at_most_128_harts = omega arith;
@@ -240,19 +240,19 @@ two-good = record {
   width_of_a_mode = refl;
 }
 
-two-opens : IsOpening two
+pub two-opens : IsOpening two
 two-opens = opens two.config two-good
 
-two-opened : IsOpened two
+pub two-opened : IsOpened two
 two-opened = record { cuts = 0; opens = (two-good, refl) }
 
-abbrev range_regs : Regs
+abbrev pub range_regs : Regs
 range_regs = record { eid = 0x52464e43; fid = 2; a = 2 ∷ 0 ∷ 0x80002000 ∷ 0x1000 ∷ 5 ∷ 0 ∷ [] }
 
-abbrev range_fence : Fence
+abbrev pub range_fence : Fence
 range_fence = fence_of_range (spaces_of two.config) 0x80002000 0x1000 (Some 5)
 
-abbrev success : Reply
+abbrev pub success : Reply
 success = Ret (record { error = pos 0; value = 0 })
 
 abbrev ranged : List Event
@@ -287,7 +287,7 @@ range-asks = record {
   asked = refl;
 }
 
-abbrev first_reset : List Event → Option Reset
+abbrev pub first_reset : List Event → Option Reset
 first_reset [] = None
 first_reset (event ∷ past) = reset_by event.op event.reply
 
@@ -324,7 +324,7 @@ range-fenced = record {
 }
 
 range-fresh : GivenAfter two ranged 1 5 8 0x80002000 leaf
-range-fresh = translations_are_fresh two ranged 1 5 8 range_fence reach mapped two-opened ranged-legal range-fenced refl
+range-fresh = translations_are_fresh two ranged 1000 1 5 8 range_fence reach mapped two-opened ranged-legal range-fenced refl
 
 abbrev until_load : List Event
 until_load = past_at two ranged 8
@@ -333,7 +333,7 @@ until_load-legal : IsLegal two until_load
 until_load-legal = ranged-legal.2
 
 range-struck : Struck two until_load 1 5 (Entries range_fence)
-range-struck = fences_strike two until_load 1 5 (Entries range_fence) two-good until_load-legal range-reached
+range-struck = fences_strike two until_load 1 5 (Entries range_fence) two-good.boot_hart_is_there until_load-legal range-reached
 
 range-gone : NoneLives two until_load 1 5 (Entries range_fence)
 range-gone = struck_is_gone two until_load 1 5 (Entries range_fence) range-struck
@@ -356,7 +356,7 @@ abbrev after_cut : Opening
 after_cut = opening_of two (past_at two ranged 6)
 
 ranged-seamless : IsSeamless two since_cut (past_at two ranged 6)
-ranged-seamless = cuts_are_never_seen two since_cut (past_at two ranged 6) two-opened ranged-legal
+ranged-seamless = parted-are-seamless two since_cut (past_at two ranged 6) two-opened ranged-legal
 
 -- The call is open there, and its fence waits at hart 1 ..
 abbrev range_call : FenceCall Flush

@@ -25,16 +25,17 @@ use Rattle.board_core.specs.Opening.{IsOpening, Opening, place_after, tlb_at, wo
 use Rattle.board_core.specs.Accesses.{cached, hit}
 use Rattle.board_core.specs.History.{Event, Reach}
 use Rattle.board_core.specs.Memory.{memory, satp}
-use Rattle.board_terms.specs.Limits.{IsGood}
 use Rattle.board_core.specs.Replies.{IsLegal}
 use Rattle.board_laws.specs.Fresh.{FencedAccess, FencedFetch, GivenAfter, StoodAfter}
 use Rattle.board_laws.specs.Fences.{ByCall, Itself, Reached}
+use Rattle.board_laws.specs.Limits.{with_limit}
 use Rattle.board_laws.specs.Lives.{EntryWasFilled, WordWasFilled, live_entries, live_words}
 use Rattle.board_laws.specs.Places.{past_at}
 use Rattle.board_laws.proofs.Gone.{struck-within}
 use Rattle.board_laws.proofs.Reached.{fenced_is_gone, fences_strike}
 use Rattle.board_laws.proofs.Leaves.{covers-matched, matched, same-leaf}
-use Rattle.board_laws.proofs.Openings.{IsPage, is-good, is-page, opened-pages}
+use Rattle.board_core.proofs.Beginning.{is-good}
+use Rattle.board_laws.proofs.Openings.{IsPage, is-page, opened-pages}
 use Rattle.board_laws.proofs.Lives.{Fetched, fetched, lives_from_its_date, used-reach}
 use Rattle.board_laws.proofs.Places.{accesses-later, length-past_at, legal-with, opening-of, past_at-again, within}
 
@@ -59,7 +60,10 @@ asked-since : (o : Opening) (past : List Event) (t a : ℕ) (flush : Flush) → 
 asked-since o past t a flush (Itself x) = x.happened.since
 asked-since o past t a flush (ByCall x asks succeeded) = asks.happened.since
 
-module _ (o : Opening) (past : List Event) (t a p : ℕ) (opened : IsOpened o) (legal : IsLegal o past) where
+module _ (o : Opening) (past : List Event) (limit t a p : ℕ) (opened : IsOpened (with_limit limit o)) (legal : IsLegal o past) where
+  boot : o.config.boot_hart < o.config.harts
+  boot = (is-good (with_limit limit o) opened).boot_hart_is_there
+
   -- an entry that was filled at a date after the fence was given there
   given-at : (fence : Fence) (reach : Reach) (entry : Entry) (x : FencedAccess o past t a p fence reach) (y : Numbered Entry)
       → EntryWasFilled o (past_at o past p) t y → y.item ≡ entry → a < y.date → entry.leaf.page ≤ reach.va → reach.va < entry.leaf.page + size entry.leaf.level
@@ -90,11 +94,11 @@ module _ (o : Opening) (past : List Event) (t a p : ℕ) (opened : IsOpened o) (
       let older = past_at o past p in
       let older_legal = (legal-with o past p x.event legal x.happened).2 in
       let alive = lives_from_its_date o older t older_legal in
-      let gone = fenced_is_gone o older t a (Entries fence) (is-good o opened) older_legal x.reached in
+      let gone = fenced_is_gone o older t a (Entries fence) boot older_legal x.reached in
       let here = found (λ (y : Numbered Entry). EntryWasFilled o older t y ⊎ Contains (tlb_at o t).live y) (λ (y : Numbered Entry). y.date ≤ a → covers_entry (Entries fence) y.item ≡ false)
       (λ y. matches (record { va = reach.va; asid = asid_of (satp o older t) }) y.item) (λ y. y.item) entry (live_entries o older t) alive.entries gone.entries hits.hit in
       let match = matched entry reach.va (asid_of (satp o older t)) (subst (λ (e : Entry). matches (record { va = reach.va; asid = asid_of (satp o older t) }) e ≡ true) here.gives here.passes) in
-      let page = subst (λ (e : Entry). IsPage e.leaf) here.gives (is-page o older t (opened-pages o opened t) here.x here.first_holds) in
+      let page = subst (λ (e : Entry). IsPage e.leaf) here.gives (is-page o older t (opened-pages (with_limit limit o) opened t) here.x here.first_holds) in
       let covered = covers-matched fence entry reach.va (satp o older t) page.va match page.page x.page (x.space entry translation) in
       let later : a < here.x.date = elim (cases_lt a here.x.date) [
         | inl is ↦ is
@@ -118,7 +122,7 @@ module _ (o : Opening) (past : List Event) (t a p : ℕ) (opened : IsOpened o) (
       let inside : p < place_after o past = within o past p x.event x.happened in
       let size = length-past_at o past p x.happened.since (omega arith) in
       let older_legal = (legal-with o past p x.event legal x.happened).2 in
-      let later = struck-within o (past_at o past p) t a (Entries fence) (fences_strike o (past_at o past p) t a (Entries fence) (is-good o opened) older_legal x.reached) in
+      let later = struck-within o (past_at o past p) t a (Entries fence) (fences_strike o (past_at o past p) t a (Entries fence) boot older_legal x.reached) in
       record {
         place = p;
         after = omega arith;
@@ -129,28 +133,28 @@ module _ (o : Opening) (past : List Event) (t a p : ℕ) (opened : IsOpened o) (
       }
 
 -- the fence was asked before the access
-pub after-fence : (o : Opening) (past : List Event) (t a p : ℕ) (fence : Fence) (reach : Reach) → IsGood o.config → IsLegal o past → FencedAccess o past t a p fence reach → a < p
-after-fence o past t a p fence reach good legal x =
+pub after-fence : (o : Opening) (past : List Event) (t a p : ℕ) (fence : Fence) (reach : Reach) → o.config.boot_hart < o.config.harts → IsLegal o past → FencedAccess o past t a p fence reach → a < p
+after-fence o past t a p fence reach boot legal x =
     let older_legal = (legal-with o past p x.event legal x.happened).2 in
     let inside = within o past p x.event x.happened in
     let size = length-past_at o past p x.happened.since (omega arith) in
-    let later = struck-within o (past_at o past p) t a (Entries fence) (fences_strike o (past_at o past p) t a (Entries fence) good older_legal x.reached) in
+    let later = struck-within o (past_at o past p) t a (Entries fence) (fences_strike o (past_at o past p) t a (Entries fence) boot older_legal x.reached) in
     omega arith
 
-pub translations_are_fresh : (o : Opening) (past : List Event) (t a p : ℕ) (fence : Fence) (reach : Reach) (entry : Entry)
-    → IsOpened o → IsLegal o past → (x : FencedAccess o past t a p fence reach) → x.event.translation ≡ Some entry → GivenAfter o past t a p reach.va entry.leaf
-translations_are_fresh o past t a p fence reach entry opened legal x translation =
+pub translations_are_fresh : (o : Opening) (past : List Event) (limit t a p : ℕ) (fence : Fence) (reach : Reach) (entry : Entry)
+    → IsOpened (with_limit limit o) → IsLegal o past → (x : FencedAccess o past t a p fence reach) → x.event.translation ≡ Some entry → GivenAfter o past t a p reach.va entry.leaf
+translations_are_fresh o past limit t a p fence reach entry opened legal x translation =
     let older = past_at o past p in
     let with_event = legal-with o past p x.event legal x.happened in
     let used_entry = sym (used-reach o older t x.event.actor x.event.op reach x.by_hart x.access) ∙ sym with_event.1 ∙ translation in
     elim ((is_used (memory o older) (satp o older t) (hit o older t) reach.va reach.access entry).0 used_entry) [
-      | inl hits ↦ given-hit o past t a p opened legal fence reach entry x translation hits
-      | inr fills ↦ given-filled o past t a p opened legal fence reach entry x fills
+      | inl hits ↦ given-hit o past limit t a p opened legal fence reach entry x translation hits
+      | inr fills ↦ given-filled o past limit t a p opened legal fence reach entry x fills
     ]
 
 -- ---- fetched words
 
-module _ (o : Opening) (past : List Event) (t a p va value : ℕ) (good : IsGood o.config) (legal : IsLegal o past) (x : FencedFetch o past t a p va value) where
+module _ (o : Opening) (past : List Event) (t a p va value : ℕ) (boot : o.config.boot_hart < o.config.harts) (legal : IsLegal o past) (x : FencedFetch o past t a p va value) where
   -- a cached word that was filled after the fence stood in the memory at its date
   stood-at : (pa : ℕ) (word : FetchWord) (y : Numbered FetchWord) → WordWasFilled o (past_at o past p) t y → y.item ≡ word → a < y.date → y.item.pa ≡ pa → StoodAfter o past a p pa word.word
   stood-at pa word y was gives later at_pa =
@@ -173,7 +177,7 @@ module _ (o : Opening) (past : List Event) (t a p va value : ℕ) (good : IsGood
       let older = past_at o past p in
       let older_legal = (legal-with o past p x.event legal x.happened).2 in
       let alive = lives_from_its_date o older t older_legal in
-      let gone = fenced_is_gone o older t a Words good older_legal x.reached in
+      let gone = fenced_is_gone o older t a Words boot older_legal x.reached in
       let here = found (λ (y : Numbered FetchWord). WordWasFilled o older t y ⊎ Contains (words_at o t).live y) (λ (y : Numbered FetchWord). y.date ≤ a → covers_word Words y.item ≡ false)
       (λ y. is_at pa y.item) (λ y. y.item) word (live_words o older t) alive.words gone.words hit_word in
       let later : a < here.x.date = elim (cases_lt a here.x.date) [
@@ -199,7 +203,7 @@ module _ (o : Opening) (past : List Event) (t a p va value : ℕ) (good : IsGood
       let inside : p < place_after o past = within o past p x.event x.happened in
       let size = length-past_at o past p x.happened.since (omega arith) in
       let older_legal = (legal-with o past p x.event legal x.happened).2 in
-      let later = struck-within o older t a Words (fences_strike o older t a Words good older_legal x.reached) in
+      let later = struck-within o older t a Words (fences_strike o older t a Words boot older_legal x.reached) in
       let fills = (word_filled (memory o older) (satp o older t) (hit o older t) (cached o older t) va accesses.Fetch (record { pa = pa; word = unwrap_or (memory o older pa) 0 })).0
       (ap (λ place. whole.word_filling_by (memory o older) (cached o older t) place accesses.Fetch) got.place
       ∙ ap (λ found. whole.fetched_from found pa (unwrap_or (memory o older pa) 0)) missed) in
@@ -211,9 +215,9 @@ module _ (o : Opening) (past : List Event) (t a p va value : ℕ) (good : IsGood
         stood = fills.word ∙ ap (λ n. let v : Option ℕ = Some n in v) read;
       }
 
-pub fetches_are_fresh : (o : Opening) (past : List Event) (t a p va value : ℕ) → IsGood o.config → IsLegal o past → (x : FencedFetch o past t a p va value)
+pub fetches_are_fresh : (o : Opening) (past : List Event) (t a p va value : ℕ) → o.config.boot_hart < o.config.harts → IsLegal o past → (x : FencedFetch o past t a p va value)
     → StoodAfter o past a p (phys_at x.event.translation va) value
-fetches_are_fresh o past t a p va value good legal x =
+fetches_are_fresh o past t a p va value boot legal x =
     let older = past_at o past p in
     let with_event = legal-with o past p x.event legal x.happened in
     let got = fetched o older t va value x.event.actor x.event.op x.event.reply x.event.translation x.by_hart x.fetch x.answer with_event.0 with_event.1 in
@@ -221,7 +225,7 @@ fetches_are_fresh o past t a p va value good legal x =
   where
     by_cached : (found : Option FetchWord) → cached o (past_at o past p) t (phys_at x.event.translation va) ≡ found
         → Fetched o (past_at o past p) t va value x.event.translation → StoodAfter o past a p (phys_at x.event.translation va) value
-    by_cached None missed got = stands-now o past t a p va value good legal x got missed
+    by_cached None missed got = stands-now o past t a p va value boot legal x got missed
     by_cached (Some word) hit_word got =
         let read : word.word ≡ value = ap (λ found. whole.fetched_or found (unwrap_or (memory o (past_at o past p) (phys_at x.event.translation va)) 0)) (sym hit_word) ∙ got.read in
-        subst (StoodAfter o past a p (phys_at x.event.translation va)) read (stood-cached o past t a p va value good legal x (phys_at x.event.translation va) word hit_word)
+        subst (StoodAfter o past a p (phys_at x.event.translation va)) read (stood-cached o past t a p va value boot legal x (phys_at x.event.translation va) word hit_word)

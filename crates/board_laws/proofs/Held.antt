@@ -1,4 +1,4 @@
--- What holds of each legal history of a board: its numbers are good, its turns are right, and its memory is that of a RAM.
+-- What holds of each legal history of a board: its boot hart is there, its turns are right, and its memory is that of a RAM.
 use Rattle.std.proofs.Common.{◌≡◌, ℕ, zero, suc, ◌*◌, List, [], ◌∷◌, length, subst, refl, sym, ap, ◌∙◌, arith}
 use Rattle.std.proofs.lemmas.List.{length-replicate}
 use Rattle.sv39.specs.declared.ram.TheConstants.{PAGE_WORDS}
@@ -14,7 +14,7 @@ use Rattle.board_core.specs.Replies.{IsLegal}
 use Rattle.board_core.proofs.Beginning.{opens}
 use Rattle.board_core.proofs.Cutting.{memory-cut, opens-cut}
 use Rattle.board_core.proofs.Rams.{ram-after}
-use Rattle.board_laws.proofs.Right.{turns_are_right}
+use Rattle.board_core.proofs.Right.{right-turns}
 
 -- ---- histories
 
@@ -22,9 +22,9 @@ pub held-more : (o : Opening) (past : List Event) (event : Event) → IsHeld o p
 held-more o past event held legal =
     let has = ram-after o past (record { ram = held.ram; is_ram = held.is_ram; size = held.pages; words = held.words }) event.actor event.op event.reply event.translation legal.0 legal.1 in
     record {
-      good = held.good;
+      boot_hart_is_there = held.boot_hart_is_there;
       legal = legal;
-      right = turns_are_right o (event ∷ past) held.good legal;
+      right = right-turns o (event ∷ past) held.boot_hart_is_there legal;
       ram = has.ram;
       is_ram = has.is_ram;
       pages = has.size;
@@ -35,9 +35,9 @@ held-all : (o : Opening) → IsHeld o [] → (past : List Event) → IsLegal o p
 held-all o held [] legal = held
 held-all o held (event ∷ past) legal = held-more o past event (held-all o held past legal.2) legal
 
-held-cut : (o : Opening) (past : List Event) → IsHeld o past → IsHeld (opening_of o past) []
+pub held-cut : (o : Opening) (past : List Event) → IsHeld o past → IsHeld (opening_of o past) []
 held-cut o past held = record {
-  good = held.good;
+  boot_hart_is_there = held.boot_hart_is_there;
   legal = opens-cut o past held;
   right = opens-right o.fences o.config.harts (turns o past) held.right;
   ram = held.ram;
@@ -52,7 +52,7 @@ held-new c good =
     let long : length (zero_words c.pages) ≡ PAGE_WORDS * c.pages = length-replicate (PAGE_WORDS * c.pages) 0 in
     let size : pages_of (zero_words c.pages) ≡ c.pages = omega (arith, long) in
     record {
-      good = good;
+      boot_hart_is_there = good.boot_hart_is_there;
       legal = opens c good;
       right = (opens c good).fences;
       ram = zero_words c.pages;
@@ -66,6 +66,9 @@ held-after zero o opened = subst (λ (p : Opening). IsHeld p []) (sym opened.1) 
 held-after (suc cuts) o opened =
     subst (λ (p : Opening). IsHeld p []) (sym opened.4) (held-cut opened.0 opened.1 (held-all opened.0 (held-after cuts opened.0 opened.2) opened.1 opened.3))
 
+pub held-opened : (o : Opening) → IsOpened o → IsHeld o []
+held-opened o opened = held-after opened.cuts o opened.opens
+
 -- so it is with each legal history of a board
 pub held-by : (o : Opening) (past : List Event) → IsOpened o → IsLegal o past → IsHeld o past
-held-by o past opened legal = held-all o (held-after opened.cuts o opened.opens) past legal
+held-by o past opened legal = held-all o (held-opened o opened) past legal

@@ -4,7 +4,6 @@ pub mod Leaves
 pub mod Lives
 pub mod Openings
 pub mod Gone
-pub mod Right
 pub mod InCalls
 pub mod Reached
 pub mod Once
@@ -13,11 +12,12 @@ pub mod Fresh
 pub mod Steady
 pub mod Again
 pub mod AfterResets
-pub mod Interruptible
-pub mod Needs
 pub mod Held
 pub mod Onward
+pub mod Limits
 pub mod Parting
+pub mod OpenCalls
 pub mod WorkedRows
 pub mod FencedRows
+pub mod CutRows
 pub mod NeedRows

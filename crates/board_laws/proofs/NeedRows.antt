@@ -18,10 +18,10 @@ use Rattle.board_core.specs.History.{Event}
 use Rattle.board_terms.specs.Limits.{IsGood}
 use Rattle.board_core.specs.Need.{need, total_need}
 use Rattle.board_core.specs.Replies.{IsLegal}
-use Rattle.board_laws.specs.Need.{AreFew, CanEnd, GoesOn, HaveServed, IsLeft, ServeIsAccepted, serves_in, stops}
+use Rattle.board_core.specs.Serves.{AreFew, CanEnd, GoesOn, HaveServed, IsLeft, ServeIsAccepted, serves_in, stops}
 use Rattle.board_core.proofs.Beginning.{opens}
 use Rattle.board_laws.proofs.Again.{recorded_is_recomputed}
-use Rattle.board_laws.proofs.Needs.{are-few, can-end, is-left, needed-accepted, none-raises-needs, serve-lowers-needs}
+use Rattle.board_core.proofs.Needs.{are-few, can-end, is-left, needed-accepted, none-raises-needs, serve-lowers-needs}
 
 abbrev three : Opening
 three = opening_at (record { harts = 3; pages = 1; limit = 1000; boot_hart = 0; boot_addr = 0x80000000; boot_opaque = 0; asid_len = 16; width = 39 })

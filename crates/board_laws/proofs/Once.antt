@@ -23,7 +23,7 @@ use Rattle.board_laws.proofs.AfterResets.{none-lives}
 use Rattle.board_laws.proofs.Acts.{length-seen, one_turn, split-at}
 use Rattle.board_laws.proofs.Places.{length-past_at, one-place, within}
 use Rattle.board_laws.proofs.Reached.{ask-turn}
-use Rattle.board_laws.proofs.Right.{turns_are_right}
+use Rattle.board_core.proofs.Right.{turns_are_right}
 
 pub applied_once : (o : Opening) (past : List Event) (t place : ℕ) (event : Event) → IsGood o.config → IsLegal o past → IsAt o past place event → AppliedOnce o past t place event
 applied_once o past t place event good legal at =

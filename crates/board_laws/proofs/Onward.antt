@@ -60,7 +60,7 @@ use Rattle.board_core.proofs.Cutting.{caches_of-cut, deadlines-cut, hart-cut, ha
 use Rattle.board_core.proofs.InCalls.{taken}
 use Rattle.board_core.proofs.MemoryStanding.{length-tlb_acts, length-word_acts}
 use Rattle.board_core.proofs.Rows.{clock_ticks}
-use Rattle.board_laws.proofs.Right.{stopped-outside, turns_are_right}
+use Rattle.board_core.proofs.Right.{right-turns, stopped-outside}
 
 -- how many starts were entered, of before the cut and since
 counted : (start : Option Start) (reset : Option Reset) (before : List Start) (entered : ℕ) → (is_some start ≡ true → reset ≡ None)
@@ -139,7 +139,7 @@ module _ (o : Opening) (past : List Event) (held : IsHeld o past) where
   state-cut : (t : ℕ) → state cut [] t ≡ state o past t
   state-cut t = elim (cases_lt t o.config.harts) [
     | inl near ↦ ap (λ (hart : HartSeen). hart.state) (hart-cut o past held t near)
-    | inr far ↦ ap (λ (hart : HartSeen). hart.state) (hart-past o past held t far) ∙ sym (stopped-outside o past t held.good held.legal far)
+    | inr far ↦ ap (λ (hart : HartSeen). hart.state) (hart-past o past held t far) ∙ sym (stopped-outside o past t held.boot_hart_is_there held.legal far)
   ]
 
   starting-cut : (actor : Actor) → is_starting cut [] actor ≡ is_starting o past actor
@@ -361,7 +361,7 @@ module _ (o : Opening) (past : List Event) (held : IsHeld o past) where
     fences-onward : fence_cuts.opening_after cut.fences o.config.harts (turns cut (event ∷ [])) ≡ fence_cuts.opening_after o.fences o.config.harts (turns o (event ∷ past))
     fences-onward =
         let turn = turn_of o past event.actor event.op event.reply in
-        let seam = seamless o.fences o.config.harts (turns o past) (turn ∷ []) (turns_are_right o (event ∷ past) held.good legal) in
+        let seam = seamless o.fences o.config.harts (turns o past) (turn ∷ []) (right-turns o (event ∷ past) held.boot_hart_is_there legal) in
         let place : fences.place_after cut.fences (turn ∷ []) ≡ fences.place_after o.fences (turns o (event ∷ past)) = omega arith in
         ap (λ turn. fence_cuts.opening_after cut.fences o.config.harts (turn ∷ [])) (turn-cut event.actor event.op event.reply)
         ∙ (λ i. record {

@@ -16,21 +16,12 @@ use Rattle.hart_access.specs.AccessKinds.{kind_of}
 use Rattle.rfence.proofs.Seams.{all-same}
 use Rattle.board_core.specs.Cuts.{IsOpened, OpensAfter, opening_of}
 use Rattle.board_core.specs.History.{Event}
-use Rattle.board_terms.specs.Limits.{IsGood}
 use Rattle.board_core.specs.Memory.{caches_of, memory, satp}
 use Rattle.board_core.specs.Opening.{Opening, no_caches, tlb_at}
 use Rattle.board_core.specs.Replies.{IsLegal}
 use Rattle.board_laws.specs.Lives.{EntryWasFilled, live_entries}
 use Rattle.board_laws.specs.Places.{past_at}
 use Rattle.board_laws.proofs.Lives.{lives_from_its_date}
-
-good-after : (cuts : ℕ) (o : Opening) → OpensAfter cuts o → IsGood o.config
-good-after zero o opens = opens.0
-good-after (suc cuts) o opens = subst (λ (p : Opening). IsGood p.config) (sym opens.4) (good-after cuts opens.0 opens.2)
-
--- the numbers of a board are good
-pub is-good : (o : Opening) → IsOpened o → IsGood o.config
-is-good o opened = good-after opened.cuts o opened.opens
 
 -- ---- the pages of what lives
 

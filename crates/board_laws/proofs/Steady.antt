@@ -27,13 +27,14 @@ use Rattle.board_core.specs.Memory.{memory, satp}
 use Rattle.board_core.specs.Cuts.{IsOpened}
 use Rattle.board_core.specs.Replies.{IsLegal}
 use Rattle.board_laws.specs.Fresh.{FencedAccess}
+use Rattle.board_laws.specs.Limits.{with_limit}
 use Rattle.board_laws.specs.Places.{past_at}
 use Rattle.board_laws.specs.Steady.{IsDecidedBy, IsSteady, no_tlb}
 use Rattle.board_laws.proofs.Fresh.{after-fence, translations_are_fresh}
 use Rattle.board_laws.proofs.Leaves.{page-bounds}
 use Rattle.sv39.proofs.PageLaw.{leaf_page}
 use Rattle.board_laws.proofs.Lives.{answered-reach, used-reach}
-use Rattle.board_laws.proofs.Openings.{is-good}
+use Rattle.board_core.proofs.Beginning.{is-good}
 use Rattle.board_laws.proofs.Places.{legal-with}
 
 -- the physical address that the result of the page tables gives an address, or the fault
@@ -95,10 +96,10 @@ failed Load cause = refl
 failed (Store value) cause = refl
 failed Fetch cause = refl
 
-pub steady_tables_decide : (o : Opening) (past : List Event) (t a p : ℕ) (fence : Fence) (reach : Reach) (result : Result Leaf Cause)
-    → IsOpened o → IsLegal o past → (x : FencedAccess o past t a p fence reach) → IsTranslated (satp o (past_at o past p) t) reach.va → IsSteady o past t a p reach result
+pub steady_tables_decide : (o : Opening) (past : List Event) (limit t a p : ℕ) (fence : Fence) (reach : Reach) (result : Result Leaf Cause)
+    → IsOpened (with_limit limit o) → IsLegal o past → (x : FencedAccess o past t a p fence reach) → IsTranslated (satp o (past_at o past p) t) reach.va → IsSteady o past t a p reach result
     → IsDecidedBy o (past_at o past p) t x.event reach result
-steady_tables_decide o past t a p fence reach result opened legal x is_translated steady =
+steady_tables_decide o past limit t a p fence reach result opened legal x is_translated steady =
     let older = past_at o past p in
     let kind = kind_of reach.access in
     let found = hit_at (satp o older t) (hit o older t) reach.va in
@@ -107,7 +108,7 @@ steady_tables_decide o past t a p fence reach result opened legal x is_translate
     let way_is = translated-way (memory o older) (satp o older t) (hit o older t) reach.va kind is_translated in
     let entry_used : x.event.translation ≡ used_by (way_by found (asid_of (satp o older t)) walked) =
     with_event.1 ∙ used-reach o older t x.event.actor x.event.op reach x.by_hart x.access ∙ ap used_by way_is in
-    let walked_is : walked ≡ result = steady.one_result p (after-fence o past t a p fence reach (is-good o opened) legal x) (omega arith) in
+    let walked_is : walked ≡ result = steady.one_result p (after-fence o past t a p fence reach ((is-good (with_limit limit o) opened).boot_hart_is_there) legal x) (omega arith) in
     let decides = λ (entry : Entry) (used_entry : used_by (way_by found (asid_of (satp o older t)) walked) ≡ Some entry). decided entry (entry_used ∙ used_entry) in
     let place_is = ap (λ w. in_memory (memory o older) kind (phys_by w reach.va kind)) way_is
     ∙ ap (in_memory (memory o older) kind) (way-decided found (asid_of (satp o older t)) reach.va kind walked result walked_is decides) in
@@ -126,7 +127,7 @@ steady_tables_decide o past t a p fence reach result opened legal x is_translate
     -- each entry that the access may use is the result's leaf, or doesn't allow the access
     decided : (entry : Entry) → x.event.translation ≡ Some entry → result ≡ by_right (kind_of reach.access) entry.leaf
     decided entry translation =
-        let given = translations_are_fresh o past t a p fence reach entry opened legal x translation in
+        let given = translations_are_fresh o past limit t a p fence reach entry opened legal x translation in
         let before = past_at o past given.place in
         let kind = kind_of given.there.access in
         let page = leaf_page (memory o before) (satp o before t) reach.va kind entry.leaf given.gives in

@@ -71,6 +71,12 @@ pub data Reached (o : Opening) (past : List Event) (t place : ℕ) (flush : Flus
   Itself : FencesItself o past t place flush → Reached o past t place flush
   ByCall : (x : ℕ) → Asks o past x t place flush → Succeeded o past x place → Reached o past t place flush
 
+-- So has the fence of a call that hart c was in at the opening: the call had asked hart t before, and was a success since.
+pub record OpenedReached (o : Opening) (past : List Event) (c t : ℕ) (call : FenceCall Flush) : Type 0 where
+  pub called : called_at o.fences c ≡ Some call
+  pub asked : has call.asked t ≡ true
+  pub succeeded : Succeeded o past c call.place
+
 -- A fence that the event of a place asks of hart t was applied there once, or waits there once; one that it doesn't ask
 -- neither was applied there nor waits there.
 abbrev pub AppliedOnce : Opening → List Event → (t place : ℕ) → Event → Type 0

@@ -7,9 +7,9 @@ use Rattle.board_core.specs.History.{Event}
 use Rattle.board_core.specs.Need.{need}
 use Rattle.board_core.specs.Replies.{IsLegal}
 use Rattle.board_core.specs.Starts.{StartsAreEntered}
-use Rattle.board_laws.specs.Fences.{AppliedOnce, OpenedOnce, Reached}
+use Rattle.board_laws.specs.Fences.{AppliedOnce, OpenedOnce, OpenedReached, Reached}
 use Rattle.board_laws.specs.Lives.{NoneLives}
-use Rattle.board_laws.specs.Need.{AreFew, CanEnd, GoesOn, HaveServed, ServeIsAccepted}
+use Rattle.board_core.specs.Serves.{AreFew, CanEnd, GoesOn, HaveServed, ServeIsAccepted}
 use Rattle.board_laws.specs.Places.{IsAt}
 
 pub record Headline (o : Opening) (past : List Event) : Type 0 where
@@ -26,6 +26,10 @@ pub record Headline (o : Opening) (past : List Event) : Type 0 where
   -- No hart that a successful fence asked has anything in its caches that the fence covers and that was filled before
   -- it was asked (SBI 8; Privileged 4.2.1; Zifencei).
   pub fenced_is_gone : (t place : ℕ) (flush : Flush) → Reached o past t place flush → NoneLives o past t place flush
+  -- So it is with the fence of a call that was open at the opening, and was a success since (SBI 8; Privileged 4.2.1;
+  -- Zifencei).
+  pub opened_is_gone : (c t : ℕ) (call : FenceCall Flush) → OpenedReached o past c t call
+      → NoneLives o past t call.place call.flush
   -- A fence call on a board of N harts needs at most N - 1 serves of each hart, and (N - 1) * (N - 1) of all; a serve that
   -- it needs is refused for a full history alone; and once these are made, its poll is answered with success (SBI 8;
   -- profile).

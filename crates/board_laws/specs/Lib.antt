@@ -1,10 +1,10 @@
 pub mod Places
 pub mod Lives
+pub mod Limits
 pub mod Fences
 pub mod Fresh
 pub mod Steady
 pub mod Again
 pub mod Resets
-pub mod Need
 pub mod Seams
 pub mod Headline

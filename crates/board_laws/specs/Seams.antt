@@ -1,5 +1,5 @@
 -- A cut changes no answer ever after.
-use Rattle.std.specs.Prelude.{◌≡◌, ℕ, ◌<◌, Bool, List, ◌++◌}
+use Rattle.std.specs.Prelude.{◌≡◌, ℕ, ◌<◌, ◌≤◌, Bool, List, [], ◌∷◌, ◌++◌, length}
 use Rattle.board_terms.specs.declared.op.Actor.{Actor}
 use Rattle.board_terms.specs.declared.op.Op.{Op}
 use Rattle.board_core.specs.Accesses as accesses
@@ -17,6 +17,7 @@ use Rattle.board_core.specs.Resets.{last_reset}
 use Rattle.board_core.specs.Starts as starts
 use Rattle.board_core.specs.States as states
 use Rattle.board_core.specs.Totals.{totals}
+use Rattle.board_laws.specs.Limits.{with_limit}
 
 -- Two courses of a board answer alike: each look-up of a hart that is there, the time, the last reset, the memory and the
 -- totals; and each step is answered the same, where the history is full or isn't, and uses the same entry.
@@ -49,3 +50,28 @@ pub record IsSeamless (o : Opening) (newer older : List Event) : Type 0 where
   pub alike : AnswerAlike o.config.harts
       (record { opening = opening_of o older; past = newer }) (record { opening = o; past = newer ++ older })
   pub leaves : opening_of (opening_of o older) newer ≡ opening_of o (newer ++ older)
+
+-- ---- a history that was cut, however often
+
+-- What the parts of the history leave, newest first: each begins with the opening that those before it left.
+abbrev pub left_by : Opening → (parts : List (List Event)) → Opening
+left_by o [] = o
+left_by o (part ∷ parts) = opening_of (left_by o parts) part
+
+-- Each part is legal on its opening, within the board's limit.
+abbrev pub AreLegal : Opening → (parts : List (List Event)) → Type 0
+AreLegal o [] = Unit {0}
+AreLegal o (part ∷ parts) = IsLegal (left_by o parts) part × AreLegal o parts
+
+-- the events of all parts
+abbrev pub joined : (parts : List (List Event)) → List Event
+joined [] = []
+joined (part ∷ parts) = part ++ joined parts
+
+-- The newest part answers as the whole history does, which was never cut, on the first opening; and both leave the same. The
+-- whole history is legal under each limit that has room for it.
+pub record AreOne (o : Opening) (newer : List Event) (parts : List (List Event)) : Type 0 where
+  pub legal : (limit : ℕ) → length (newer ++ joined parts) ≤ limit → IsLegal (with_limit limit o) (newer ++ joined parts)
+  pub alike : AnswerAlike o.config.harts
+      (record { opening = left_by o parts; past = newer }) (record { opening = o; past = newer ++ joined parts })
+  pub leaves : opening_of (left_by o parts) newer ≡ opening_of o (newer ++ joined parts)

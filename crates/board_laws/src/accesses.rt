@@ -1,5 +1,5 @@
 //! What accesses are answered after fences.
-ghost use Rattle.std.specs.Prelude.{◌≡◌, ℕ, List, Result, Some};
+ghost use Rattle.std.specs.Prelude.{◌≡◌, ℕ, ◌<◌, List, Result, Some};
 ghost use Rattle.sv39.specs.declared.cause.Cause.{Cause};
 ghost use Rattle.sv39.specs.declared.page.Leaf.{Leaf};
 ghost use Rattle.tlb_model.specs.Entries.{Entry};
@@ -10,17 +10,18 @@ ghost use Rattle.board_core.specs.Cuts.{IsOpened};
 ghost use Rattle.board_core.specs.Opening.{Opening};
 ghost use Rattle.board_core.specs.History.{Event, Reach};
 ghost use Rattle.board_core.specs.Memory.{satp};
-ghost use Rattle.board_terms.specs.Limits.{IsGood};
 ghost use Rattle.board_core.specs.Replies.{IsLegal};
 ghost use Rattle.board_laws.specs.Fresh.{FencedAccess, FencedFetch, GivenAfter, StoodAfter};
+ghost use Rattle.board_laws.specs.Limits.{with_limit};
 ghost use Rattle.board_laws.specs.Places.{past_at};
 ghost use Rattle.board_laws.specs.Steady.{IsDecidedBy, IsSteady};
 
 /// A translation that an access uses after a fence of it is one that the page tables gave after the fence was asked, and
-/// not later than the access: on what a board opens with, also where its history was cut (Privileged 4.2.1; SBI 8).
+/// not later than the access: on what a board opens with, also where its history was cut, and whatever its limit is, so also of
+/// a whole history that was cut (Privileged 4.2.1; SBI 8).
 pub fn translations_are_fresh()
-    ensures { (o : Opening) (past : List Event) (t a p : ℕ) (fence : Fence) (reach : Reach) (entry : Entry)
-        → IsOpened o
+    ensures { (o : Opening) (past : List Event) (limit t a p : ℕ) (fence : Fence) (reach : Reach) (entry : Entry)
+        → IsOpened (with_limit limit o)
         → IsLegal o past
         → (x : FencedAccess o past t a p fence reach)
         → x.event.translation ≡ Some entry
@@ -31,17 +32,17 @@ pub fn translations_are_fresh()
 /// the fetch (Zifencei; SBI 8).
 pub fn fetches_are_fresh()
     ensures { (o : Opening) (past : List Event) (t a p va value : ℕ)
-        → IsGood o.config
+        → o.config.boot_hart < o.config.harts
         → IsLegal o past
         → (x : FencedFetch o past t a p va value)
         → StoodAfter o past a p (phys_at x.event.translation va) value }
 {}
 
 /// After a fence, where satp stays as it is and the page tables say one thing of an access, that decides the access, as on
-/// a board without TLBs: on what a board opens with, also where its history was cut (Privileged 4.2.1; SBI 8).
+/// a board without TLBs: on what a board opens with, as above (Privileged 4.2.1; SBI 8).
 pub fn steady_tables_decide()
-    ensures { (o : Opening) (past : List Event) (t a p : ℕ) (fence : Fence) (reach : Reach) (result : Result Leaf Cause)
-        → IsOpened o
+    ensures { (o : Opening) (past : List Event) (limit t a p : ℕ) (fence : Fence) (reach : Reach) (result : Result Leaf Cause)
+        → IsOpened (with_limit limit o)
         → IsLegal o past
         → (x : FencedAccess o past t a p fence reach)
         → IsTranslated (satp o (past_at o past p) t) reach.va

@@ -1,12 +1,14 @@
 //! What lives in the caches of harts.
-ghost use Rattle.std.specs.Prelude.{ℕ, List};
+ghost use Rattle.std.specs.Prelude.{ℕ, ◌<◌, List, ◌∷◌, ◌++◌};
 ghost use Rattle.tlb_model.specs.declared.fence.Flush.{Flush};
+ghost use Rattle.rfence.specs.declared.opened.FenceCall.{FenceCall};
+ghost use Rattle.board_core.specs.Cuts.{IsOpened};
 ghost use Rattle.board_core.specs.Opening.{Opening};
 ghost use Rattle.board_core.specs.History.{Event};
-ghost use Rattle.board_terms.specs.Limits.{IsGood};
 ghost use Rattle.board_core.specs.Replies.{IsLegal};
-ghost use Rattle.board_laws.specs.Fences.{Reached};
+ghost use Rattle.board_laws.specs.Fences.{OpenedReached, Reached};
 ghost use Rattle.board_laws.specs.Lives.{LivesFromItsDate, NoneLives, Struck};
+ghost use Rattle.board_laws.specs.Seams.{AreLegal, joined, left_by};
 
 /// In every legal history an entry that lives in a TLB is the leaf that the page tables of its date gave an access of the
 /// hart, by the satp of its date; and a word that lives in an instruction cache is the memory's word of its date
@@ -26,7 +28,7 @@ pub fn struck_is_gone()
 /// A fence that has reached a hart was applied to its caches, or they were emptied, when it was asked or later.
 pub fn fences_strike()
     ensures { (o : Opening) (past : List Event) (t place : ℕ) (flush : Flush)
-        → IsGood o.config
+        → o.config.boot_hart < o.config.harts
         → IsLegal o past
         → Reached o past t place flush
         → Struck o past t place flush }
@@ -36,8 +38,28 @@ pub fn fences_strike()
 /// it was asked (Privileged 4.2.1; SBI 8; Zifencei).
 pub fn fenced_is_gone()
     ensures { (o : Opening) (past : List Event) (t place : ℕ) (flush : Flush)
-        → IsGood o.config
+        → o.config.boot_hart < o.config.harts
         → IsLegal o past
         → Reached o past t place flush
         → NoneLives o past t place flush }
+{}
+
+/// So it is with the fence of a call that was open when the history was cut, once the call was a success: at each hart that it
+/// asked nothing lives that the fence covers and that was filled before it was asked (Privileged 4.2.1; SBI 8; Zifencei).
+pub fn opened_is_gone()
+    ensures { (o : Opening) (past : List Event) (c t : ℕ) (call : FenceCall Flush)
+        → IsOpened o
+        → IsLegal o past
+        → OpenedReached o past c t call
+        → NoneLives o past t call.place call.flush }
+{}
+
+/// So it is however often the history was cut: whichever part has the ask, and whichever has the poll, nothing lives after the
+/// newest part that the fence covers and that was filled before it was asked (Privileged 4.2.1; SBI 8; Zifencei).
+pub fn fences_outlast_cuts()
+    ensures { (o : Opening) (newer : List Event) (parts : List (List Event)) (t place : ℕ) (flush : Flush)
+        → IsOpened o
+        → AreLegal o (newer ∷ parts)
+        → Reached o (newer ++ joined parts) t place flush
+        → NoneLives (left_by o parts) newer t place flush }
 {}

@@ -2,7 +2,7 @@
 ghost use Rattle.std.specs.Prelude.{◌≡◌, ℕ, ◌+◌, List, ◌∷◌};
 ghost use Rattle.tlb_model.specs.declared.fence.Flush.{Flush};
 ghost use Rattle.rfence.specs.declared.opened.FenceCall.{FenceCall};
-ghost use Rattle.rfence.specs.Laws.{times_met};
+ghost use Rattle.rfence.specs.Laws.{times_met, total_remote};
 ghost use Rattle.rfence.specs.Right.{IsRight};
 ghost use Rattle.board_core.specs.Opening.{Opening};
 ghost use Rattle.board_core.specs.Fences.{turns};
@@ -57,6 +57,15 @@ pub fn fences_are_counted()
         → IsGood o.config
         → IsLegal o past
         → (totals o past).asked ≡ (totals o past).applied + (totals o past).waiting }
+{}
+
+/// In every legal history of a good board: the total of applied fences is the opening's, and the number of remote fences
+/// that were applied since, at all harts together; local fences don't count (profile).
+pub fn applied_is_counted()
+    ensures { (o : Opening) (past : List Event)
+        → IsGood o.config
+        → IsLegal o past
+        → (totals o past).applied ≡ o.fences.applied + total_remote o.fences o.config.harts (turns o past) }
 {}
 
 /// After a hart's stop nothing lives in its caches, and no fence waits there (profile).

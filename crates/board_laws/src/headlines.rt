@@ -1,7 +1,7 @@
 //! What holds of every board.
 ghost use Rattle.board_laws.specs.Headline.{Headline};
 
-use crate::caches::fenced_is_gone;
+use crate::caches::{fenced_is_gone, opened_is_gone};
 use crate::fences::{applied_once, opened_once};
 use crate::need::{needed_serves_are_accepted, needs_are_few, served_calls_can_end};
 use board_core::{Board, starts_are_entered};
@@ -18,6 +18,7 @@ pub fn headline(board: &Board)
     applied_once();
     opened_once();
     fenced_is_gone();
+    opened_is_gone();
     needs_are_few();
     needed_serves_are_accepted();
     served_calls_can_end();

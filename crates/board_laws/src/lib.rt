@@ -13,10 +13,13 @@ mod resets;
 mod seams;
 
 pub use accesses::{fetches_are_fresh, steady_tables_decide, translations_are_fresh};
-pub use caches::{fenced_is_gone, fences_strike, lives_from_its_date, struck_is_gone};
+pub use caches::{
+    fenced_is_gone, fences_outlast_cuts, fences_strike, lives_from_its_date, opened_is_gone,
+    struck_is_gone,
+};
 pub use fences::{
-    applied_once, asked_once, calls_are_made_started, fences_are_counted, opened_once,
-    stops_leave_nothing, turns_are_right,
+    applied_is_counted, applied_once, asked_once, calls_are_made_started, fences_are_counted,
+    opened_once, stops_leave_nothing, turns_are_right,
 };
 pub use headlines::headline;
 pub use need::{

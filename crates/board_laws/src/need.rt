@@ -7,7 +7,7 @@ ghost use Rattle.board_core.specs.History.{Event};
 ghost use Rattle.board_terms.specs.Limits.{IsGood};
 ghost use Rattle.board_core.specs.Need.{need};
 ghost use Rattle.board_core.specs.Replies.{IsLegal};
-ghost use Rattle.board_laws.specs.Need.{AreFew, CanEnd, GoesOn, HaveServed, IsLeft, ServeIsAccepted, serves};
+ghost use Rattle.board_core.specs.Serves.{AreFew, CanEnd, GoesOn, HaveServed, IsLeft, ServeIsAccepted, serves};
 
 /// In every legal history on what a board opens with, also where its history was cut: while a fence call needs serves of a
 /// hart, a serve by that hart is accepted, and refused for a full history alone (profile).

@@ -1,6 +1,7 @@
 //! What a record leaves behind where it is split: receipts stand in it on.
 ghost use Rattle.std.specs.Prelude.{◌≡◌, ℕ, ◌+◌, ◌≤◌, Some, slice_get, length};
 ghost use Rattle.board_terms.specs.Limits.{IsGood};
+ghost use Rattle.board_core.specs.Cuts.{IsOpened};
 ghost use Rattle.board_core.specs.Replies.{IsLegal};
 ghost use Rattle.board_lock.specs.Events.{IsPlaced, events_in, placed_of};
 
@@ -40,11 +41,12 @@ impl<K: Room> Past<K> {
         &self.segment.opening
     }
 
-    /// The accepted events, oldest first. They are a legal history of what the board began with, so all that `board_laws` says
-    /// of those holds of it.
+    /// The accepted events, oldest first: a legal history, within the limit, on an opening that a board comes to, so each law of
+    /// `board_laws` can be used of them.
     pub fn events(&self) -> &[Event]
         ensures events { result.now ≡ events_in self.now }
         ensures good { IsGood self.now.opening.config }
+        ensures opened { IsOpened self.now.opening }
         ensures legal { IsLegal self.now.opening self.now.past }
         ensures within { length result.now ≤ self.now.opening.config.limit }
     {

@@ -1,6 +1,6 @@
 //! The one record of a closed board, in which receipts are looked up.
 ghost use Rattle.std.specs.Prelude.{◌≡◌, ℕ, ◌+◌, ◌<◌, ◌≤◌, List, [], IfOk, IfErr, IsErr, OnOk, Some, slice_get, length};
-ghost use Rattle.board_core.specs.Cuts.{IsUnseen, last_cut, opening_of};
+ghost use Rattle.board_core.specs.Cuts.{IsOpened, IsUnseen, last_cut, opening_of};
 ghost use Rattle.board_terms.specs.declared.op.Actor.{Actor};
 ghost use Rattle.board_core.specs.History.{Event};
 ghost use Rattle.board_terms.specs.Limits.{IsGood};
@@ -38,11 +38,12 @@ impl<K: Room> Model for Record<K> {
 }
 
 impl<K: Room> Record<K> {
-    /// The accepted events, oldest first. They are a legal history of what the board began with, so all that `board_laws` says
-    /// of those holds of it.
+    /// The accepted events, oldest first: a legal history, within the limit, on an opening that a board comes to, so each law of
+    /// `board_laws` can be used of them.
     pub fn events(&self) -> &[Event]
         ensures events { result.now ≡ events_in self.now }
         ensures good { IsGood self.now.opening.config }
+        ensures opened { IsOpened self.now.opening }
         ensures legal { IsLegal self.now.opening self.now.past }
         ensures within { length result.now ≤ self.now.opening.config.limit }
     {

@@ -23,9 +23,11 @@ use crate::seats::Seat;
 use crate::views::HartView;
 use board_core::{Actor, Board, BuildFault, Config, HartSet, Op, Refusal};
 use std::alloc::{AllocError, Global};
+use std::fmt::{self, Write};
 use std::marker::PhantomData;
 use std::sync::{Condvar, Mutex, MutexGuard, Wait};
 use std::thread::yield_now;
+use thiserror::Error;
 
 /// How often a thread looks for what it waits for, and lets others go first, before it sleeps.
 const LOOKS: u32 = 6;
@@ -44,12 +46,19 @@ pub struct SharedBoard<K: Room> {
 }
 
 /// The seats weren't one for each actor. The board and the seats are back.
-#[derive(Drop)]
+#[derive(Drop, Error)]
+#[error("the seats aren't one for each actor")]
 pub struct NotAll<K: Room> {
     /// The board.
     pub board: SharedBoard<K>,
     /// The seats.
     pub seats: Vec<Seat<K>>,
+}
+
+impl<K: Room> fmt::Debug for NotAll<K> {
+    fn fmt<W: Write>(&self, f: &mut fmt::Formatter<W>) -> fmt::Result {
+        f.write_str("NotAll")
+    }
 }
 
 impl<K: Room> SharedBoard<K> {

@@ -32,7 +32,7 @@ impl<F> Model for Queues<F> {
 }
 
 impl<F: Copy> Queues<F> {
-    /// Nothing waits at any hart. It fails where memory runs out; no other call takes memory.
+    /// Nothing waits at any hart. It fails where memory runs out; no other call but `try_copy` takes memory.
     pub fn new(alloc: Global, harts: u64) -> Result<Queues<F>, AllocError>
         requires { harts ≤ 128 }
         ensures { IfOk result (λ queues. queues ≡ replicate harts []) }

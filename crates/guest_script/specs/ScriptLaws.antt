@@ -9,7 +9,7 @@ use Rattle.guest_script.specs.Words.{IsLine}
 use Rattle.guest_script.specs.Grammar.{AreLines, Draft, IsBoard, Nothing, Reads, Written, most_bytes}
 use Rattle.guest_script.specs.FirstFault.{first_fault}
 
--- Bytes are one schedule at most, and they are one exactly where there is no first fault.
+-- Bytes are one script at most, and they are one exactly where there is no first fault.
 pub record HasOneReading (bytes : List ℕ) : Type 0 where
   pub at_most_one : (s t : Written) → Reads bytes s → Reads bytes t → s ≡ t
   pub script_or_fault : ((s : Written) × Reads bytes s) ↔ (first_fault bytes ≡ None)

@@ -4,7 +4,7 @@ ghost use Rattle.guest_script.specs.declared.fault.ScriptFault.{ScriptFault};
 ghost use Rattle.guest_script.specs.FirstFault.{first_fault};
 ghost use Rattle.guest_script.specs.ScriptLaws.{HasOneReading, IsPlaced};
 
-/// Bytes are one schedule at most, and they are one exactly where there is no first fault.
+/// Bytes are one script at most, and they are one exactly where there is no first fault.
 pub fn one_reading()
     ensures { (bytes : List ℕ) → HasOneReading bytes }
 {}

@@ -1,18 +1,18 @@
 //! Deadlines that aren't due yet, in order.
 
-ghost use Rattle.std.specs.Prelude.{◌≡◌, ◌+◌, ◌<◌, ◌≤◌, drop, length, [], ◌==◌, IfOk, MatchOption, vec_capacity};
+ghost use Rattle.std.specs.Prelude.{◌≡◌, ◌+◌, ◌<◌, ◌≤◌, drop, length, [], ◌==◌, MatchOption};
 ghost use Rattle.std.specs.List.{insert, position};
 ghost use Rattle.interrupts.specs.declared.ahead.Member.{Member};
 ghost use Rattle.interrupts.specs.Inside.Ahead.{AreLater, IsFirst, IsInserted, IsPlaceOf, member_of, without_hart};
 
-use std::alloc::{AllocError, Global};
+use arrayvec::ArrayVec;
 use std::marker::Model;
 
 /// How many deadlines there is room for: one of each hart, of as many as a board has at most.
 const ROOM: usize = 128;
 
 /// A deadline in ticks, and the hart whose it is.
-#[derive(Clone, Copy, Debug, Drop)]
+#[derive(Clone, Copy, Debug, Default, Drop)]
 pub struct Member {
     deadline: u64,
     hart: u64,
@@ -22,12 +22,12 @@ pub struct Member {
 /// room once the places are all used.
 #[derive(Debug, Drop)]
 pub struct Ahead {
-    members: Vec<Member>,
+    members: ArrayVec<Member, ROOM>,
     start: usize,
 }
 
 impl Model for Ahead {
-    ghost use Rattle.std.specs.Prelude.{◌≤◌, List, drop, length, vec_capacity};
+    ghost use Rattle.std.specs.Prelude.{◌≤◌, List, drop, length};
     ghost use Rattle.std.specs.List.Sorted.{IsNonDecreasingBy};
     ghost use Rattle.interrupts.specs.declared.ahead.Member.{Member};
 
@@ -36,29 +36,32 @@ impl Model for Ahead {
     ghost view = { λ a. drop a.start a.members.items };
 
     ghost invariant = { λ a. (a.start ≤ length a.members.items)
-        × IsNonDecreasingBy (λ (m : Member). m.deadline) (drop a.start a.members.items)
-        × (128 ≤ vec_capacity a.members) };
+        × IsNonDecreasingBy (λ (m : Member). m.deadline) (drop a.start a.members.items) };
 }
 
 impl Ahead {
-    /// No deadline. It fails where memory runs out.
-    pub fn new(alloc: Global) -> Result<Ahead, AllocError>
-        ensures { IfOk result (λ ahead. ahead ≡ []) }
+    /// No deadline.
+    pub fn new() -> Ahead
+        ensures { result ≡ [] }
     {
-        let members = Vec::with_capacity(alloc, ROOM)?;
-        Ok(Ahead { members, start: 0 })
+        Ahead {
+            members: ArrayVec::new(),
+            start: 0,
+        }
     }
 
-    /// The same deadlines. It fails where memory runs out.
-    pub fn try_copy(&self, alloc: Global) -> Result<Ahead, AllocError>
-        ensures { IfOk result (λ copy. copy ≡ self.now) }
+    /// The same deadlines.
+    pub fn copy(&self) -> Ahead
+        ensures { result ≡ self.now }
     {
-        let mut members = Vec::with_capacity(alloc, ROOM)?;
-        members.extend_from_slice(&self.members)?;
-        Ok(Ahead {
+        let mut members = ArrayVec::new();
+        let Ok(()) = members.try_extend_from_slice(&self.members) else {
+            unreachable!()
+        };
+        Ahead {
             members,
             start: self.start,
-        })
+        }
     }
 
     /// One deadline more.
@@ -102,16 +105,14 @@ impl Ahead {
 }
 
 /// Makes room for a member, where there is none, in the places of those that were taken from the front.
-fn with_room(members: &mut Vec<Member>, start: usize) -> usize
+fn with_room(members: &mut ArrayVec<Member, ROOM>, start: usize) -> usize
     requires within { start ≤ length members.old.items }
     requires some_left { length members.old.items < 128 + start }
-    requires most { 128 ≤ vec_capacity members.old }
     ensures same { drop result members.new.items ≡ drop start members.old.items }
     ensures within { result ≤ length members.new.items }
     ensures room { length members.new.items < 128 }
-    ensures most { 128 ≤ vec_capacity members.new }
 {
-    if members.len() < ROOM {
+    if !members.is_full() {
         return start;
     }
     let left = members.len() - start;
@@ -133,20 +134,16 @@ fn place_of(members: &[Member], start: usize, deadline: u64) -> usize
 }
 
 /// Puts a member at a place, behind all of them without a move. There is room for it.
-fn put(members: &mut Vec<Member>, place: usize, member: Member)
+fn put(members: &mut ArrayVec<Member, ROOM>, place: usize, member: Member)
     requires within { place ≤ length members.old.items }
     requires room { length members.old.items < 128 }
-    requires most { 128 ≤ vec_capacity members.old }
-    ensures items { members.new.items ≡ insert members.old.items place member }
-    ensures most { 128 ≤ vec_capacity members.new }
+    ensures { members.new.items ≡ insert members.old.items place member }
 {
     if place == members.len() {
-        members.push_reserved(member);
+        members.push(member);
         return;
     }
-    let Ok(()) = members.insert(place, member) else {
-        unreachable!()
-    };
+    members.insert(place, member);
 }
 
 /// The first place of a hart.

@@ -1,9 +1,10 @@
 //! Which harts have a software interrupt pending.
 
-ghost use Rattle.std.specs.Prelude.{◌≡◌, ◌<◌, []};
+ghost use Rattle.std.specs.Prelude.{◌≡◌, ◌<◌, [], Ok};
 ghost use Rattle.hart_mask.specs.Ids.{IsIdSet, has, union_of, without_id};
 
 use hart_mask::HartSet;
+use std::alloc::AllocError;
 use std::marker::Model;
 
 /// The harts with SSIP = 1: at each a supervisor software interrupt is pending (Privileged 4.1.3, SBI 7).
@@ -30,6 +31,13 @@ impl Ipis {
         Ipis {
             harts: HartSet::new(),
         }
+    }
+
+    /// The same bits. It takes no memory.
+    pub fn try_copy(&self) -> Result<Ipis, AllocError>
+        ensures { result ≡ Ok self.now }
+    {
+        Ok(*self)
     }
 
     /// SSIP becomes 1 at each target, and stays what it is at the other harts (SBI 7.1).

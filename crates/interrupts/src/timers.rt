@@ -49,18 +49,20 @@ impl Model for Timers {
 }
 
 impl Timers {
-    /// The time is 0, and no hart has a deadline. It fails where memory runs out, and above 128 harts (profile).
+    /// The time is 0, and no hart has a deadline.
+    ///
+    /// # Errors
+    ///
+    /// Out of memory.
     pub fn new(alloc: Global, harts: u64) -> Result<Timers, AllocError>
+        requires { harts ≤ 128 }
         ensures { IfOk result (λ timers. timers ≡ opening_timing harts) }
     {
-        if harts > 128 {
-            return Err(AllocError);
-        }
         let deadlines = no_deadlines(alloc, harts)?;
         Ok(Timers {
             time: 0,
             deadlines,
-            ahead: Ahead::new(alloc)?,
+            ahead: Ahead::new(),
             due: HartSet::new(),
         })
     }
@@ -76,7 +78,7 @@ impl Timers {
         Ok(Timers {
             time: self.time,
             deadlines,
-            ahead: self.ahead.try_copy(alloc)?,
+            ahead: self.ahead.copy(),
             due: self.due,
         })
     }

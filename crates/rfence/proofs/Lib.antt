@@ -11,6 +11,7 @@ pub mod Once
 pub mod Success
 pub mod Counts
 pub mod Totals
+pub mod Remote
 pub mod Needs
 pub mod Bounds
 pub mod Seams

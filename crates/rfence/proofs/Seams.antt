@@ -1,5 +1,5 @@
 -- What a cut of the history leaves, and that it changes nothing.
-use Rattle.std.proofs.Common.{◌≡◌, ℕ, ◌+◌, ◌≤◌, List, [], ◌∷◌, ◌++◌, length, get_or, map, replicate, refl, sym, ap, ◌∙◌, arith, inl, inr}
+use Rattle.std.proofs.Common.{◌≡◌, ℕ, ◌+◌, ◌≤◌, List, [], ◌∷◌, ◌++◌, length, get_or, map, replicate, subst, refl, sym, ap, ◌∙◌, arith, inl, inr}
 use Rattle.std.specs.Prelude.{sum_by, Option, Some, None}
 use Rattle.std.specs.List.{range_with_len}
 use Rattle.std.proofs.lemmas.Bool.{cases_lt}
@@ -15,7 +15,7 @@ use Rattle.rfence.specs.Turns.{Turn, Ask, Own, Serve, Poll, Stop, Reset, Quiet}
 use Rattle.rfence.specs.Waiting.{waiting}
 use Rattle.rfence.specs.Calls.{is_outstanding, open_by, open_call}
 use Rattle.rfence.specs.Right.{IsRight, IsRightTurn}
-use Rattle.rfence.specs.State.{StandsFor, State, applied_in, asked_by, in_call, queue_of, total_applied, total_asked}
+use Rattle.rfence.specs.State.{IsLater, StandsFor, State, applied_in, asked_by, in_call, queue_of, total_applied, total_asked}
 use Rattle.rfence.specs.Cuts.{IsSeamless, opening_after, opening_in, place_of, placed}
 use Rattle.rfence.proofs.Tables.{tabulate-agree, tabulate-map, tabulate-replicate}
 use Rattle.rfence.proofs.Waits.{waited, waiting-more}
@@ -147,6 +147,36 @@ module _ {F : Type 0} (o : Opening F) (n : ℕ) (turns : List (Turn F)) (right :
         asked = total_asked o turns;
         applied = applied;
       }) stands.applied
+
+  -- ---- the place of the next turn is later than those that are kept
+
+  pub is-later : (fences : State F) → StandsFor o n turns fences → IsLater (place_after o turns) fences
+  is-later fences stands = record {
+    calls = λ c call is. open-below o n turns c call right (sym (ap (λ calls. get_or calls c None) stands.opened ∙ called-after c) ∙ is);
+    asked = omega (arith, stands.asked, few-asked o n turns right);
+  }
+
+  -- ---- what is kept, as the opening of the turns from a later place on
+
+  pub opens-at : (place : ℕ) (fences : State F) → StandsFor o n turns fences → IsLater place fences → IsOpening (opening_in place fences) n
+  opens-at place fences stands later =
+      let is = subst (λ kept. IsOpening kept n) (sym (kept-is fences stands)) opens-right in
+      record {
+        limit = is.limit;
+        opens = is.opens;
+        queue = is.queue;
+        within = is.within;
+        callers = is.callers;
+        before = later.calls;
+        apart = is.apart;
+        agree = is.agree;
+        few = later.asked;
+      }
+
+  pub stands-at : (place : ℕ) (fences : State F) → StandsFor o n turns fences → StandsFor (opening_in place fences) n [] fences
+  stands-at place fences stands =
+      let is = subst (λ kept. StandsFor kept n [] fences) (sym (kept-is fences stands)) (stands-after fences stands) in
+      record { limit = is.limit; queues = is.queues; calls = is.calls; opened = is.opened; asked = is.asked; applied = is.applied }
 
 module _ {F : Type 0} (o : Opening F) (n : ℕ) (older : List (Turn F)) where
   -- ---- newer turns, on what older ones left

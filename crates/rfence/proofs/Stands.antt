@@ -20,7 +20,7 @@ use Rattle.rfence.specs.Waiting.{added, waiting}
 use Rattle.rfence.specs.Calls.{is_outstanding, open_call}
 use Rattle.rfence.specs.Inside.Marks.{CanAsk, forgotten, forgotten_at, requested}
 use Rattle.rfence.specs.Right.{IsRight}
-use Rattle.rfence.specs.State.{AlmostStandsFor, StandsFor, State, call_at, call_of, in_call, queue_of, total_applied, total_asked}
+use Rattle.rfence.specs.State.{StandsFor, State, call_at, call_of, in_call, queue_of, total_applied, total_asked}
 use Rattle.rfence.specs.Applied.{effect}
 use Rattle.rfence.specs.Effects.{affected, caches_after, changed_at}
 use Rattle.rfence.proofs.Changes.{changed-all, changed-none, changed-one}
@@ -47,9 +47,6 @@ one_or_none false = omega arith
 -- what stands for the turns is seen so
 pub stands-seen : {F : Type 0} (o : Opening F) (n : ℕ) (turns : List (Turn F)) (inside now : State F) → inside ≡ now → StandsFor o n turns now → StandsFor o n turns inside
 stands-seen o n turns inside now view stands = subst (StandsFor o n turns) (sym view) stands
-
-pub almost-seen : {F : Type 0} (o : Opening F) (n : ℕ) (turns : List (Turn F)) (inside now : State F) → inside ≡ now → AlmostStandsFor o n turns now → AlmostStandsFor o n turns inside
-almost-seen o n turns inside now view stands = subst (AlmostStandsFor o n turns) (sym view) stands
 
 front-of : {A : Type 0} (xs : List A) → 0 < length xs → (first : A) × (rest : List A) × (xs ≡ first ∷ rest)
 front-of [] some = absurd (omega arith)

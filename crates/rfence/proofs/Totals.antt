@@ -34,7 +34,7 @@ sum-agree f g a (suc n) same =
     omega (arith, here, rest)
 
 -- the functions agree but at one hart
-sum-but-one : (f g : ℕ → ℕ) (a n x : ℕ) → a ≤ x → x < a + n → ((t : ℕ) → (t ≡ x → ⊥) → f t ≡ g t) → sum_from f a n + g x ≡ sum_from g a n + f x
+pub sum-but-one : (f g : ℕ → ℕ) (a n x : ℕ) → a ≤ x → x < a + n → ((t : ℕ) → (t ≡ x → ⊥) → f t ≡ g t) → sum_from f a n + g x ≡ sum_from g a n + f x
 sum-but-one f g a zero x low high same = absurd (omega arith)
 sum-but-one f g a (suc n) x low high same = elim (cases_eq a x) [
   | inl here ↦
@@ -56,7 +56,7 @@ pub sum-none : (a n : ℕ) → sum_from (λ t. 0) a n ≡ 0
 sum-none a zero = refl
 sum-none a (suc n) = omega (arith, sum-none (a + 1) n)
 
-abbrev one_if : Bool → ℕ
+abbrev pub one_if : Bool → ℕ
 one_if b = if b then 1 else 0
 
 -- how many pass is a sum
@@ -92,7 +92,7 @@ module _ {F : Type 0} (o : Opening F) where
   abbrev waits_after : List (Turn F) → Turn F → ℕ → ℕ
   waits_after turns turn t = length (waited (waiting o turns t) (place_after o turns) turn t)
 
-  queues-sum : (turns : List (Turn F)) (a n : ℕ) → sum_by length (map (queue_of o turns) (range_with_len a n)) ≡ sum_from (waits turns) a n
+  pub queues-sum : (turns : List (Turn F)) (a n : ℕ) → sum_by length (map (queue_of o turns) (range_with_len a n)) ≡ sum_from (waits turns) a n
   queues-sum turns a zero = refl
   queues-sum turns a (suc n) =
       let first = sum_by-cons length (queue_of o turns a) (map (queue_of o turns) (range_with_len (a + 1) n)) in

@@ -1,6 +1,6 @@
 -- What holds of all right turns.
-use Rattle.std.specs.Prelude.{◌≡◌, ℕ, ◌+◌, ◌*◌, ◌<◌, ◌≤◌, ◌==◌, ◌&&◌, not, Bool, true, List, [], ◌∷◌, ◌++◌, length, map, sum_by, if◌then◌else◌, Some}
-use Rattle.std.specs.List.{All, list_any, range_with_len}
+use Rattle.std.specs.Prelude.{◌≡◌, ℕ, ◌+◌, ◌*◌, ◌<◌, ◌≤◌, ◌==◌, ◌&&◌, not, Bool, true, false, List, [], ◌∷◌, ◌++◌, length, map, sum_by, if◌then◌else◌, Some}
+use Rattle.std.specs.List.{All, count_by, list_any, range_with_len}
 use Rattle.hart_mask.specs.Ids.{has, ids_where}
 use Rattle.fence_queue.specs.Queues.{IsQueue}
 use Rattle.rfence.specs.declared.opened.FenceCall.{FenceCall}
@@ -10,7 +10,7 @@ use Rattle.rfence.specs.Waiting.{one_more, waiting}
 use Rattle.rfence.specs.Applied.{Applied, Effect, Nothing, Drops, Empties, applied, effect}
 use Rattle.rfence.specs.Calls.{is_at, is_outstanding, open_call, outstanding}
 use Rattle.rfence.specs.Right.{IsRight}
-use Rattle.rfence.specs.State.{IsTaken, State, total_applied, total_asked}
+use Rattle.rfence.specs.State.{IsLater, IsTaken, StandsFor, State, total_applied, total_asked}
 
 -- what waits at hart t: requests of distinct other harts, fewer than there are harts, each of its caller's open call
 pub record OfOpenCalls {F : Type 0} (o : Opening F) (n : ℕ) (turns : List (Turn F)) (t : ℕ) : Type 0 where
@@ -102,7 +102,39 @@ CountsAgree F =
     (o : Opening F) (n : ℕ) (turns : List (Turn F))
     → IsRight o n turns → total_asked o turns ≡ total_applied o n turns + total_waiting o n turns
 
+module _ {F : Type 0} where
+  -- whether a hart fences itself alone
+  abbrev pub is_own : Turn F → Bool
+  is_own (Own x flush) = true
+  is_own turn = false
+
+  -- Whether the turn of this place is a fence of a hart by itself alone. A place before the opening has no such turn.
+  abbrev pub is_local : Opening F → List (Turn F) → (place : ℕ) → Bool
+  is_local o [] place = false
+  is_local o (turn ∷ turns) place = if place == place_after o turns then is_own turn else is_local o turns place
+
+  -- whether a fence that was applied is a call's
+  abbrev pub is_remote : Opening F → List (Turn F) → Applied F → Bool
+  is_remote o turns fence = not (is_local o turns fence.place)
+
+  -- How many fences of calls were applied since the opening, at all of n harts together.
+  abbrev pub total_remote : Opening F → ℕ → List (Turn F) → ℕ
+  total_remote o n turns = sum_by (λ t. count_by (is_remote o turns) (applied o turns t)) (range_with_len 0 n)
+
+-- The count of applied fences is the opening's, and one for each fence of a call in a hart's list of applied fences. A
+-- fence of a hart by itself alone is in that list, too, and doesn't count.
+abbrev pub AppliedIsCounted : Type 0 → Type 0
+AppliedIsCounted F =
+    (o : Opening F) (n : ℕ) (turns : List (Turn F))
+    → IsRight o n turns → total_applied o n turns ≡ o.applied + total_remote o n turns
+
 -- A fence of a hart by itself alone, and what has to do with no fence, leave what is kept as it is.
 abbrev pub OthersChangeNothing : Type 0 → Type 0
 OthersChangeNothing F =
     (fences : State F) → ((x : ℕ) (flush : F) → IsTaken fences (Own x flush) fences) × IsTaken fences Quiet fences
+
+-- The next turn comes at a later place than each call that is kept, as an ask asks for.
+abbrev pub TurnsComeLater : Type 0 → Type 0
+TurnsComeLater F =
+    (o : Opening F) (n : ℕ) (turns : List (Turn F)) (fences : State F)
+    → StandsFor o n turns fences → IsRight o n turns → IsLater (place_after o turns) fences

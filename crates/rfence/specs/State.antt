@@ -1,5 +1,5 @@
 -- What is kept of the fences of a board, and the turns that it stands for.
-use Rattle.std.specs.Prelude.{◌≡◌, ℕ, ◌+◌, ◌^◌, ◌<◌, ◌≤◌, List, [], ◌∷◌, length, map, sum_by, slice_index_or, if◌then◌else◌, Option, Some, None}
+use Rattle.std.specs.Prelude.{◌≡◌, ℕ, ◌+◌, ◌*◌, ◌^◌, ◌<◌, ◌≤◌, List, [], ◌∷◌, length, map, sum_by, slice_index_or, if◌then◌else◌, Option, Some, None}
 use Rattle.std.specs.List.{range_with_len}
 use Rattle.hart_mask.specs.Ids.{ids_where}
 use Rattle.fence_queue.specs.declared.request.Request.{Request}
@@ -65,18 +65,12 @@ module _ {F : Type 0} where
     pub asked : fences.asked ≡ total_asked o turns
     pub applied : fences.applied ≡ total_applied o n turns
 
-  -- The same but for the calls themselves, whose places nothing else here tells.
-  pub record AlmostStandsFor (o : Opening F) (n : ℕ) (turns : List (Turn F)) (fences : State F) : Type 0 where
-    pub opened : List (Option (FenceCall F))
-    pub stands : StandsFor o n turns (record fences { opened = opened })
-    pub count : length fences.opened ≡ n
-
-  -- There are turns that it stands for, but for the calls themselves, after which this turn can be made.
+  -- There are turns that it stands for, after which this turn can be made.
   pub record Takes (fences : State F) (turn : Turn F) : Type 0 where
     pub o : Opening F
     pub n : ℕ
     pub turns : List (Turn F)
-    pub stands : AlmostStandsFor o n turns fences
+    pub stands : StandsFor o n turns fences
     pub right : IsRight o n (turn ∷ turns)
 
   -- The turn is made: whatever opening and turns it stood for, it now stands for them and this turn.
@@ -92,6 +86,20 @@ module _ {F : Type 0} where
       → StandsFor o n turns before → IsRight o n (turn ∷ turns) → place ≡ place_after o turns
       → StandsFor o n (turn ∷ turns) now
 
+  -- There are turns that it stands for, as many as this place says, after which this turn can be made.
+  pub record TakesAt (place : ℕ) (fences : State F) (turn : Turn F) : Type 0 where
+    pub o : Opening F
+    pub n : ℕ
+    pub turns : List (Turn F)
+    pub at : place ≡ place_after o turns
+    pub stands : StandsFor o n turns fences
+    pub right : IsRight o n (turn ∷ turns)
+
+  -- The place is later than that of each call that is kept, and so late that as many fences can have been asked before.
+  pub record IsLater (place : ℕ) (fences : State F) : Type 0 where
+    pub calls : (c : ℕ) (call : FenceCall F) → slice_index_or fences.opened c None ≡ Some call → call.place < place
+    pub asked : fences.asked ≤ 128 * place
+
   -- What a turn leaves of the harts' caches, by the opening and the turns that it stood for.
   abbrev pub AreAffected : {C : Type 0} → (dropped : F → C → C) → (emptied : C → C) → State F → Turn F → List C
       → List C → Type 0
@@ -99,12 +107,12 @@ module _ {F : Type 0} where
       (o : Opening F) (n : ℕ) (turns : List (Turn F))
       → StandsFor o n turns before → IsRight o n (turn ∷ turns) → now ≡ caches_after dropped emptied o turns turn caches
 
-  -- There are right turns that it stands for, but for the places of calls.
+  -- There are right turns that it stands for.
   pub record HasTurns (fences : State F) : Type 0 where
     pub o : Opening F
     pub n : ℕ
     pub turns : List (Turn F)
-    pub stands : AlmostStandsFor o n turns fences
+    pub stands : StandsFor o n turns fences
     pub right : IsRight o n turns
 
   -- the counts can grow

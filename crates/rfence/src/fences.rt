@@ -6,7 +6,7 @@ ghost use Rattle.fence_queue.specs.Queues.{IsQueue, is_from, queue_at};
 ghost use Rattle.rfence.specs.Need.{IsNeed};
 ghost use Rattle.rfence.specs.Turns.{Ask, Serve, Poll, Stop, Reset};
 ghost use Rattle.rfence.specs.Opening.{nothing_before};
-ghost use Rattle.rfence.specs.State.{AreAffected, HasRoom, IsTaken, IsTakenAt, StandsFor, call_at, opened_at};
+ghost use Rattle.rfence.specs.State.{AreAffected, HasRoom, IsLater, IsTaken, IsTakenAt, StandsFor, TakesAt, call_at, opened_at};
 
 use crate::awaited::Awaited;
 use crate::caches::{Fenced, apply_at, apply_where, clear_all, clear_at};
@@ -43,7 +43,7 @@ impl<F> Model for Fences<F> {
 
 impl<F: Copy> Fences<F> {
     /// Nothing waits, and no hart is in a call; `idle` is any fence, which stands where a hart has asked none. It fails
-    /// where memory runs out; no other call takes memory.
+    /// where memory runs out; no other call but `try_copy` takes memory.
     pub fn new(alloc: Global, harts: u64, idle: F) -> Result<Fences<F>, AllocError>
         requires { harts ≤ 128 }
         ensures { IfOk result (λ fences. StandsFor (nothing_before harts) harts [] fences) }
@@ -79,7 +79,8 @@ impl<F: Copy> Fences<F> {
     }
 
     /// Hart `c`, which is outside of a call, asks a fence of these harts by the event of this place (SBI 8): at itself, if it
-    /// is one of them, it is applied at once, and at each other one it waits (profile). The hart is now inside its call.
+    /// is one of them, it is applied at once, and at each other one it waits (profile). The hart is now inside its call. The
+    /// place is later than those of the calls that are open.
     pub fn ask<C: Fenced<F>>(
         &mut self,
         caches: &mut [C],
@@ -91,8 +92,10 @@ impl<F: Copy> Fences<F> {
         requires caller { c < length self.old.calls }
         requires targets { (t : ℕ) → has asked t ≡ true → t < length self.old.calls }
         requires outside { call_at self.old c ≡ None }
+        requires place { IsLater place self.old }
         requires room { HasRoom self.old }
         requires caches { length caches.old ≡ length self.old.calls }
+        ensures made { TakesAt place self.old (Ask c (has asked) flush) }
         ensures taken { IsTakenAt place self.old (Ask c (has asked) flush) self.new }
         ensures affected { AreAffected C.dropped C.emptied self.old (Ask c (has asked) flush) caches.old caches.new }
     {

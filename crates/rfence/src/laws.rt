@@ -1,5 +1,5 @@
 //! Laws of right turns of fences.
-ghost use Rattle.rfence.specs.Laws.{AppliedOnce, BoardsAreSmall, CountsAgree, OpenedOnce, OthersChangeNothing, SuccessStrikes, WaitsAreOfOpenCalls};
+ghost use Rattle.rfence.specs.Laws.{AppliedIsCounted, AppliedOnce, BoardsAreSmall, CountsAgree, OpenedOnce, OthersChangeNothing, SuccessStrikes, TurnsComeLater, WaitsAreOfOpenCalls};
 
 /// The fences that wait at a hart are of distinct other harts of the board, each inside the call by which it asked;
 /// so fewer wait at a hart than there are harts (profile).
@@ -36,7 +36,18 @@ pub fn counts_agree<F>()
     ensures { CountsAgree F }
 {}
 
+/// Of right turns: the count of applied fences is the opening's, and the number of fences of calls that were applied since,
+/// at all harts together; those of a hart by itself alone don't count (profile).
+pub fn applied_is_counted<F>()
+    ensures { AppliedIsCounted F }
+{}
+
 /// A fence of a hart by itself alone, and what has to do with no fence, leave what is kept as it is.
 pub fn others_change_nothing<F>()
     ensures { OthersChangeNothing F }
+{}
+
+/// The next turn comes at a later place than each call that is kept, so a fence can be asked by it (profile).
+pub fn turns_come_later<F>()
+    ensures { TurnsComeLater F }
 {}

@@ -15,8 +15,8 @@ pub use caches::Fenced;
 pub use cuts::{begins_right, cuts_are_seamless, kept_is_the_opening, stands_after_a_cut};
 pub use fences::Fences;
 pub use laws::{
-    applied_once, boards_are_small, counts_agree, opened_once, others_change_nothing,
-    success_strikes, waits_are_of_open_calls,
+    applied_is_counted, applied_once, boards_are_small, counts_agree, opened_once,
+    others_change_nothing, success_strikes, turns_come_later, waits_are_of_open_calls,
 };
 pub use need::{
     needs_are_bounded, needs_are_left, none_raises_needs, served_calls_can_end, serves_lower_needs,

@@ -35,7 +35,7 @@ impl<F> Model for Pending<F> {
 
 impl<F: Copy> Pending<F> {
     /// Nothing waits at any hart, and `idle` stands where a hart asked nothing. It fails where memory runs out; no other
-    /// call takes memory.
+    /// call but `try_copy` takes memory.
     pub fn new(alloc: Global, harts: u64, idle: F) -> Result<Pending<F>, AllocError>
         requires { harts ≤ 128 }
         ensures { IfOk result (λ pending. pending ≡ replicate harts []) }

@@ -1,5 +1,5 @@
 //! One cache of a hart: fills in their order, of which the latest are kept.
-ghost use Rattle.std.specs.Prelude.{◌≡◌, ◌-◌, ◌/◌, ◌%◌, ◌<◌, ◌≤◌, ◌^◌, ℕ, Bool, find, length, reverse};
+ghost use Rattle.std.specs.Prelude.{◌≡◌, ◌-◌, ◌/◌, ◌%◌, ◌<◌, ◌≤◌, ◌^◌, ℕ, Bool, Ok, find, length, reverse};
 ghost use Rattle.std.specs.Int.{bit_at};
 ghost use Rattle.tlb_model.specs.Contents.{cleared, empty, fenced, filled, hit};
 ghost use Rattle.tlb_model.specs.Inside.Places.{marked};
@@ -7,6 +7,7 @@ ghost use Rattle.tlb_model.specs.Inside.Places.{marked};
 use crate::fence::Flush;
 use crate::live::Live;
 use arrayvec::ArrayVec;
+use std::alloc::AllocError;
 use std::marker::Model;
 
 /// What a cache keeps.
@@ -145,27 +146,27 @@ impl<E: Cached> Cache<E> {
     }
 
     /// The number of its next fill: how many fills were made of it.
-    pub fn next_number(&self) -> u64
+    pub fn fills(&self) -> u64
         ensures { result ≡ self.now.next }
     {
         self.next
     }
 
-    /// A cache that is equal to this one.
+    /// A cache that is equal to this one. It takes no memory.
     #[inline(always)]
-    pub fn copy(&self) -> Cache<E>
-        ensures { result ≡ self.now }
+    pub fn try_copy(&self) -> Result<Cache<E>, AllocError>
+        ensures { result ≡ Ok self.now }
     {
         let mut places = ArrayVec::new();
         let Ok(()) = places.try_extend_from_slice(&self.places) else {
             unreachable!()
         };
-        Cache {
+        Ok(Cache {
             next: self.next,
             dropped: self.dropped,
             places,
             dates: self.dates,
-        }
+        })
     }
 
     /// What is live, in the order of filling.

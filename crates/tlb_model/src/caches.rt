@@ -1,5 +1,5 @@
 //! The two caches of a hart.
-ghost use Rattle.std.specs.Prelude.{◌≡◌};
+ghost use Rattle.std.specs.Prelude.{◌≡◌, Ok};
 ghost use Rattle.tlb_model.specs.Contents.{cleared, empty, fenced};
 ghost use Rattle.tlb_model.specs.Entries.{covers_entry};
 ghost use Rattle.tlb_model.specs.Words.{covers_word};
@@ -8,6 +8,7 @@ use crate::cache::Cache;
 use crate::entry::Entry;
 use crate::fence::Flush;
 use crate::word::FetchWord;
+use std::alloc::AllocError;
 
 /// The cache of a hart's translations (Privileged 4.2.1).
 pub type Tlb = Cache<Entry>;
@@ -46,15 +47,15 @@ impl Caches {
         }
     }
 
-    /// Caches that are equal to these.
+    /// Caches that are equal to these. It takes no memory.
     #[inline(always)]
-    pub fn copy(&self) -> Caches
-        ensures { result ≡ self.now }
+    pub fn try_copy(&self) -> Result<Caches, AllocError>
+        ensures { result ≡ Ok self.now }
     {
-        Caches {
-            tlb: self.tlb.copy(),
-            words: self.words.copy(),
-        }
+        Ok(Caches {
+            tlb: self.tlb.try_copy()?,
+            words: self.words.try_copy()?,
+        })
     }
 
     /// Drops everything in both, as a stop of the hart or a reset does (profile).

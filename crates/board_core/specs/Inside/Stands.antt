@@ -130,6 +130,11 @@ pub record IsStanding (c : Config) (m : Machine) : Type 0 where
   pub stands : StandsFor (on c o) past m
   pub few : place_after o past < 2 ^ 56
 
+-- The same, and as many events were accepted as this place says.
+pub record IsStandingAt (c : Config) (place : ℕ) (m : Machine) : Type 0 where
+  pub standing : IsStanding c m
+  pub at : place ≡ place_after standing.o standing.past
+
 -- the caches of hart h can be filled once more
 pub record CanFill (memory : Memory) (h : ℕ) : Type 0 where
   pub satps : h < length memory.satps.items

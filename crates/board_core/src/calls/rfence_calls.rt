@@ -13,7 +13,7 @@ ghost use Rattle.board_core.specs.History.{Event, by_hart};
 ghost use Rattle.board_terms.specs.declared.op.Op.TheVariants.{Ecall};
 ghost use Rattle.board_terms.specs.Limits.{IsGood};
 ghost use Rattle.board_core.specs.Opening.{Opening, on, place_after};
-ghost use Rattle.board_core.specs.Inside.Stands.{IsSized, IsStanding, StandsFor};
+ghost use Rattle.board_core.specs.Inside.Stands.{IsSized, IsStandingAt, StandsFor};
 
 use super::failure;
 use crate::machine::Machine;
@@ -31,7 +31,7 @@ impl Machine {
         requires good { IsGood config.now }
         requires sized { IsSized config.now self.old }
         requires in_range { h < config.now.harts }
-        requires standing { IsStanding config.now self.old }
+        requires standing { IsStandingAt config.now place self.old }
         requires outside { call_at self.old.fences h ≡ None }
         ensures answered { result ≡ as_reply (rfence_reply config.now call) }
         ensures after { (o : Opening) (past : List Event) (regs : Regs) → place ≡ place_after o past
@@ -83,7 +83,7 @@ impl Machine {
         requires good { IsGood config.now }
         requires sized { IsSized config.now self.old }
         requires in_range { h < config.now.harts }
-        requires standing { IsStanding config.now self.old }
+        requires standing { IsStandingAt config.now place self.old }
         requires outside { call_at self.old.fences h ≡ None }
         ensures answered { result
             ≡ as_reply (fence_reply config.now (record { mask = mask; base = base; flush = flush })) }

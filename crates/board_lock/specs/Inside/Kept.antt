@@ -9,6 +9,7 @@ use Rattle.board_terms.specs.declared.config.Config.{Config}
 use Rattle.board_terms.specs.declared.op.Actor.{Actor}
 use Rattle.board_terms.specs.declared.op.Actor.TheVariants.{Hart, Clock}
 use Rattle.board_core.specs.Course.{Course}
+use Rattle.board_core.specs.Cuts.{IsOpened}
 use Rattle.board_core.specs.History.{Event}
 use Rattle.board_terms.specs.Limits.{IsGood}
 use Rattle.board_core.specs.Opening.{Opening}
@@ -99,12 +100,13 @@ pub record IsRecord (opening : Opening) (room : ℕ) (board : Course) (log : Who
   pub opened : board.opening ≡ opening
   pub kept : IsKeptLog room log (events_in board)
 
--- What a record left: it began as the room says, its events are a legal history of a good board within the limit, and the log
--- is those.
+-- What a record left: it began as the room says, with an opening that a board comes to; its events are a legal history within
+-- the limit, and the log is those.
 pub record IsPast (opening : Opening) (room : ℕ) (began : Opening) (events : List Event) (log : Whole Event)
     : Type 0 where
   pub opened : began ≡ opening
   pub good : IsGood began.config
+  pub comes : IsOpened began
   pub legal : IsLegal began (reverse events)
   pub within : length events ≤ began.config.limit
   pub kept : IsKeptLog room log events

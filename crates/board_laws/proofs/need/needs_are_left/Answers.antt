@@ -1,4 +1,4 @@
-use Rattle.board_laws.proofs.Needs.{is-left}
+use Rattle.board_core.proofs.Needs.{is-left}
 use Rattle.board_laws.proofs.need.needs_are_left.Goals as goal
 
 pub returns : goal.returns

@@ -1,4 +1,4 @@
-use Rattle.board_laws.proofs.Needs.{can-end}
+use Rattle.board_core.proofs.Needs.{can-end}
 use Rattle.board_laws.proofs.need.served_calls_can_end.Goals as goal
 
 pub returns : goal.returns

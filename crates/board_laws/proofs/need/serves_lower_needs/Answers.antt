@@ -1,4 +1,4 @@
-use Rattle.board_laws.proofs.Needs.{serve-lowers-needs}
+use Rattle.board_core.proofs.Needs.{serve-lowers-needs}
 use Rattle.board_laws.proofs.need.serves_lower_needs.Goals as goal
 
 pub returns : goal.returns

@@ -1,5 +1,8 @@
-use Rattle.board_laws.proofs.Parting.{cuts_are_never_seen}
+use Rattle.board_laws.proofs.Parting.{joined-are-one, parted-are-seamless}
 use Rattle.board_laws.proofs.seams.cuts_are_never_seen.Goals as goal
 
-pub returns : goal.returns
-returns c = cuts_are_never_seen
+pub returns-clause-joined : goal.returns-clause-joined
+returns-clause-joined c = joined-are-one
+
+pub returns-clause-parted : goal.returns-clause-parted
+returns-clause-parted c = parted-are-seamless

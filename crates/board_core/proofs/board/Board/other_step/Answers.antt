@@ -12,7 +12,7 @@ use Rattle.board_core.specs.Opening.{place_after}
 use Rattle.board_core.specs.Cuts.{opened_by}
 use Rattle.board_core.proofs.Room.{replies_are_short}
 use Rattle.board_core.proofs.Rows.{unrefused}
-use Rattle.board_core.proofs.Situations.{situation-read, sized, standing-kept}
+use Rattle.board_core.proofs.Situations.{situation-read, sized, standing-at}
 use Rattle.board_core.proofs.Steps.{hart_answered, kept-more, past-more, room-left, stepped-more}
 use Rattle.board_core.proofs.board.Board.other_step.Goals as goal
 
@@ -25,7 +25,8 @@ perform-reply-requires-clause-standing c =
     let past = reverse c.self.inside.events.items in
     let none = ap (λ (b : Course). first_that_holds (refusals_in (situation b.opening b.past c.args.h) c.args.op (is_full b.opening b.past))) c.self.view_is ∙ c.requires.unrefused in
     let room = (unrefused c.args.op (situation opening past c.args.h) (is_full opening past) none).1 in
-    standing-kept opening past c.self.inside.machine c.self.invariant.0 room c.self.invariant.1
+    let at = c.place-place.ensures ∙ sym (ap (λ (b : Course). place_after b.opening b.past) c.self.view_is) in
+    standing-at opening past c.self.inside.machine c.place-place.result at c.self.invariant.0 room c.self.invariant.1
 
 pub perform-reply-requires-clause-accepted : goal.perform-reply-requires-clause-accepted
 perform-reply-requires-clause-accepted c =

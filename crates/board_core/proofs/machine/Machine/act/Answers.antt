@@ -6,7 +6,7 @@ use Rattle.board_core.proofs.Steps.{access_is}
 use Rattle.board_core.proofs.machine.Machine.act.Goals as goal
 
 pub access-requires : goal.access-requires
-access-requires c = fills-room c.args.config.now c.args.self.now c.requires.good c.requires.standing c.args.h c.requires.in_range
+access-requires c = fills-room c.args.config.now c.args.self.now c.requires.good c.requires.standing.standing c.args.h c.requires.in_range
 
 pub returns-in-Some-clause-after : goal.returns-in-Some-clause-after
 returns-in-Some-clause-after c = λ o past here stands.

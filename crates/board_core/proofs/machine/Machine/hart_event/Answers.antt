@@ -10,7 +10,7 @@ use Rattle.board_core.proofs.machine.Machine.hart_event.Goals as goal
 
 pub new-requires : goal.new-requires
 new-requires c =
-    let standing = c.requires.standing in
+    let standing = c.requires.standing.standing in
     let o = on c.args.config.now standing.o in
     subst (IsShort (Hart c.args.h) c.args.op) (sym (c.act-reply.ensures.replied standing.o standing.past standing.stands))
     (replies_are_short o standing.past c.args.h c.args.op (omega (arith, c.requires.in_range, c.requires.good.at_most_128_harts)))

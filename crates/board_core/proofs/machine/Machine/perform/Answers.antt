@@ -107,7 +107,7 @@ serve-requires-clause-waits c =
     some-wait (queue_at c.args.self.now.fences.queues c.args.h) ready.to_do
 
 pub serve-requires-clause-room : goal.serve-requires-clause-room
-serve-requires-clause-room c = fences-room c.args.config.now c.args.self.now c.requires.good c.requires.standing
+serve-requires-clause-room c = fences-room c.args.config.now c.args.self.now c.requires.good c.requires.standing.standing
 
 pub returns-in-Serve-clause-after : goal.returns-in-Serve-clause-after
 returns-in-Serve-clause-after c = λ o past at stands.
@@ -138,7 +138,7 @@ pub advance-requires-clause-accepted : goal.advance-requires-clause-accepted
 advance-requires-clause-accepted c = accepted_goes_on (situation_in c.args.self.now c.args.h) (rw c.in-Advance.is at c.requires.accepted)
 
 pub advance-requires-clause-room : goal.advance-requires-clause-room
-advance-requires-clause-room c = counts-room c.args.config.now c.args.self.now c.requires.good c.requires.standing
+advance-requires-clause-room c = counts-room c.args.config.now c.args.self.now c.requires.good c.requires.standing.standing
 
 pub returns-in-WriteSie-clause-after : goal.returns-in-WriteSie-clause-after
 returns-in-WriteSie-clause-after c = λ o past at stands.

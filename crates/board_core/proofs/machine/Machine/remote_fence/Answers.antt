@@ -14,7 +14,7 @@ use Rattle.board_core.specs.History.{by_hart}
 use Rattle.board_core.specs.Replies.{failure}
 use Rattle.board_core.specs.Opening.{on}
 use Rattle.board_core.proofs.Events.{deed, deed_of_turn, does_call, does_no_remote, does_remote, still}
-use Rattle.board_core.proofs.Situations.{fences-room, outside-read}
+use Rattle.board_core.proofs.Situations.{fences-later, fences-room, outside-read}
 use Rattle.board_core.proofs.MemoryStanding.{caches-turned, memory-caches}
 use Rattle.board_core.proofs.Reading.{length-caches}
 use Rattle.board_core.proofs.Standing.{fences-asked, stands-fences, stands-quiet}
@@ -45,7 +45,7 @@ returns-in-Err-flush-clause-after c = λ o past regs call at remote is stands.
 pub ask-requires-clause-targets : goal.ask-requires-clause-targets
 ask-requires-clause-targets c = λ t asked.
     let m = c.args.self.now in
-    let standing = c.requires.standing in
+    let standing = c.requires.standing.standing in
     let opening = on c.args.config.now standing.o in
     let most = c.requires.good.at_most_128_harts in
     let below = reached-below opening standing.past m.hsm most standing.stands.harts c.args.mask c.args.base c.in-Ok.harts c.interruptible.result c.intersection-asked.result
@@ -53,7 +53,11 @@ ask-requires-clause-targets c = λ t asked.
     omega (arith, below, c.requires.sized.calls)
 
 pub ask-requires-clause-room : goal.ask-requires-clause-room
-ask-requires-clause-room c = fences-room c.args.config.now c.args.self.now c.requires.good c.requires.standing
+ask-requires-clause-room c = fences-room c.args.config.now c.args.self.now c.requires.good c.requires.standing.standing
+
+pub ask-requires-clause-place : goal.ask-requires-clause-place
+ask-requires-clause-place c =
+    fences-later c.args.config.now c.args.self.now c.requires.good c.requires.standing.standing c.args.place c.requires.standing.at
 
 pub returns-in-Ok-flush-clause-after : goal.returns-in-Ok-flush-clause-after
 returns-in-Ok-flush-clause-after c = λ o past regs call at remote is stands.

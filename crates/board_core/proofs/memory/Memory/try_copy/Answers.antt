@@ -14,10 +14,11 @@ loop-h-preserved c =
     let items = c.args.self.now.caches.items in
     let h = c.loop-h.h in
     let caches = c.index.result.now in
+    let copied : c.in_ok-copy.copy ≡ caches = let is = c.in_ok-copy.ensures in cc in
     let below : h < length items = omega (arith, c.loop-h-test.true, c.len-h-end.ensures) in
     let here : caches ≡ get_or items h caches = c.index.ensures in record {
       same = c.push_reserved.ensures.items
-          ∙ ap (λ copy. c.loop-h.caches.items ++ copy ∷ []) (c.copy.ensures ∙ here)
+          ∙ ap (λ copy. c.loop-h.caches.items ++ copy ∷ []) (copied ∙ here)
           ∙ ap (λ before. before ++ get_or items h caches ∷ []) c.loop-h.invariant.same
           ∙ sym (take-suc items h caches below)
           ∙ ap (λ n. take n items) (sym (add-one h));

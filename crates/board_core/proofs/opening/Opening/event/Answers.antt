@@ -4,10 +4,10 @@ use Rattle.board_terms.specs.declared.op.Actor.{Actor}
 use Rattle.board_terms.specs.declared.op.Actor.TheVariants.{Hart}
 use Rattle.board_core.specs.Opening.{Opening}
 use Rattle.board_core.specs.Refusals.{IsAccepted, situation}
-use Rattle.board_core.specs.Inside.Stands.{StandsFor}
+use Rattle.board_core.specs.Inside.Stands.{IsStanding, StandsFor}
 use Rattle.board_core.specs.Taking.{event_with, refusal_at, reply_at}
 use Rattle.board_core.proofs.Rows.{unrefused}
-use Rattle.board_core.proofs.Situations.{situation-read}
+use Rattle.board_core.proofs.Situations.{legal-opens, situation-read}
 use Rattle.board_core.proofs.Leaving.{hart-unrefused}
 use Rattle.board_core.proofs.opening.Opening.event.Goals as goal
 
@@ -21,6 +21,16 @@ hart_event-requires-clause-accepted c =
     let same_config = ap (λ (o : Opening). o.config.harts) c.self.view_is in
     subst (IsAccepted op) (sym (situation-read o [] c.args.machine.now (omega arith) c.requires.stands h free.inside))
     (unrefused op (situation o [] h) false free.none).0
+
+pub hart_event-requires-clause-standing : goal.hart_event-requires-clause-standing
+hart_event-requires-clause-standing c =
+    let o = opening_in c.self.inside.config c.self.inside.places c.self.inside.machine in
+    let kept = c.self.invariant.0 in
+    let early = kept.early in
+    let stands = subst (λ (o : Opening). StandsFor o [] c.args.machine.now) (sym c.self.view_is) c.requires.stands in
+    let standing : IsStanding c.self.inside.config c.args.machine.now =
+    record { o = o; past = []; opens = legal-opens o [] kept.legal; stands = stands; few = omega arith } in
+    record { standing = standing; at = omega arith }
 
 pub returns-in-Hart-default-clause-event : goal.returns-in-Hart-default-clause-event
 returns-in-Hart-default-clause-event c =

@@ -15,8 +15,8 @@ invariant_of-self c =
     let at : IsPlaceOf c.args.deadline room.result members place = rw (← c.as_slice.ensures.value) c.place_of-place.ensures in
     let up : IsNonDecreasingBy (λ (m : Member). m.deadline) (drop room.result members) = rw room.ensures.same c.self.invariant.1 in
     let kept = IsNonDecreasingBy-placed members c.args.deadline c.args.hart room.result place up room.ensures.within at in
-    let same = ap (drop room.result) c.put.ensures.items ∙ drop-insert members room.result place (member_of c.args.deadline c.args.hart) room.ensures.within at.from in
-    (omega (arith, ap length c.put.ensures.items, length-insert members place (member_of c.args.deadline c.args.hart) at.within, room.ensures.within), rw same kept, c.put.ensures.most)
+    let same = ap (drop room.result) c.put.ensures ∙ drop-insert members room.result place (member_of c.args.deadline c.args.hart) room.ensures.within at.from in
+    (omega (arith, ap length c.put.ensures, length-insert members place (member_of c.args.deadline c.args.hart) at.within, room.ensures.within), rw same kept)
 
 pub returns : goal.returns
 returns c =
@@ -24,7 +24,7 @@ returns c =
     let members = room.new.members.items in
     let place = c.place_of-place.result in
     let at : IsPlaceOf c.args.deadline room.result members place = rw (← c.as_slice.ensures.value) c.place_of-place.ensures in
-    let same = ap (drop room.result) c.put.ensures.items ∙ drop-insert members room.result place (member_of c.args.deadline c.args.hart) room.ensures.within at.from in
+    let same = ap (drop room.result) c.put.ensures ∙ drop-insert members room.result place (member_of c.args.deadline c.args.hart) room.ensures.within at.from in
     let long = length-drop room.result members in
     let from = at.from in
     let to = at.within in

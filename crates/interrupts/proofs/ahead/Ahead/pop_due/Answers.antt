@@ -18,4 +18,4 @@ invariant_of-self c =
     let look = c.in_ok-first.ensures.lookup in
     let inside : c.self.inside.start < length c.self.inside.members.items = rw (← c.as_slice.ensures.value) look.3.0 in
     let up = IsNonDecreasingBy-drop (λ (m : Member). m.deadline) 1 _ c.self.invariant.1 in
-    (omega (arith, inside), rw (← drop-drop 1 c.self.inside.start c.self.inside.members.items) up, c.self.invariant.2)
+    (omega (arith, inside), rw (← drop-drop 1 c.self.inside.start c.self.inside.members.items) up)

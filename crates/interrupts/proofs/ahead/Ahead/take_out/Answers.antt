@@ -29,7 +29,6 @@ invariant_of-self c =
     let up = IsNonDecreasingBy-remove (λ (m : Member). m.deadline) (drop start members) c.in-Some.place is.0 c.self.invariant.1 in (
       omega (arith, long, left, is.0, c.self.invariant.0),
       rw (c.remove.ensures.items, drop-remove members start c.in-Some.place c.self.invariant.0) up,
-      omega (arith, c.remove.ensures.capacity, c.self.invariant.2),
     )
 
 pub returns-in-Some : goal.returns-in-Some

@@ -1,70 +1,68 @@
-use Rattle.std.proofs.Common.{◌∷◌, ◌+◌, ◌<◌, set, refl, ap, ◌∙◌, arith}
-use Rattle.std.specs.Prelude.{if◌then◌else◌, Some}
-use Rattle.std.proofs.lemmas.List.{length-set}
+use Rattle.std.proofs.Common.{◌∷◌, ◌+◌, ◌<◌, ap, ◌∙◌, arith}
+use Rattle.std.specs.Prelude.{if◌then◌else◌}
 use Rattle.fence_queue.specs.Queues.{has_from}
 use Rattle.hart_mask.specs.Ids.{has}
-use Rattle.rfence.specs.Opening.{place_after}
 use Rattle.rfence.specs.Turns.{Ask}
 use Rattle.rfence.specs.Effects.{changed_at}
-use Rattle.rfence.proofs.Stands.{affected-ask, almost-seen, can-ask-others, length-calls, length-ids, length-queues, none-of, one_or_none, queue_at-stands, stands-seen, taken-ask}
+use Rattle.rfence.proofs.Stands.{affected-ask, can-ask-others, length-calls, length-opened, length-ids, length-queues, none-of, one_or_none, queue_at-stands, stands-seen, taken-ask}
 use Rattle.rfence.proofs.Takes.{has-turns, takes-ask}
 use Rattle.rfence.proofs.fences.Fences.ask.Goals as goal
 
 pub apply_where-requires : goal.apply_where-requires
 apply_where-requires g c =
-    let takes = takes-ask c.args.self.now (has-turns _ _ c.self.view_is c.self.invariant) c.args.c c.args.asked c.args.flush c.requires.caller c.requires.targets c.requires.outside in
+    let takes = takes-ask c.args.self.now (has-turns _ _ c.self.view_is c.self.invariant) c.args.place c.requires.place c.args.c c.args.asked c.args.flush c.requires.caller c.requires.targets c.requires.outside in
     let inside = takes.right.0.0 in
-    omega (arith, length-calls takes.o takes.n takes.turns _ takes.stands.stands, c.requires.caches)
+    omega (arith, length-calls takes.o takes.n takes.turns _ takes.stands, c.requires.caches)
 
 pub contains-own-requires : goal.contains-own-requires
 contains-own-requires g c =
-    let takes = takes-ask c.args.self.now (has-turns _ _ c.self.view_is c.self.invariant) c.args.c c.args.asked c.args.flush c.requires.caller c.requires.targets c.requires.outside in
+    let takes = takes-ask c.args.self.now (has-turns _ _ c.self.view_is c.self.invariant) c.args.place c.requires.place c.args.c c.args.asked c.args.flush c.requires.caller c.requires.targets c.requires.outside in
     let inside = takes.right.0.0 in
-    let limit = takes.stands.stands.limit in
+    let limit = takes.stands.limit in
     omega arith
 
 pub remove-requires : goal.remove-requires
 remove-requires g c =
-    let takes = takes-ask c.args.self.now (has-turns _ _ c.self.view_is c.self.invariant) c.args.c c.args.asked c.args.flush c.requires.caller c.requires.targets c.requires.outside in
+    let takes = takes-ask c.args.self.now (has-turns _ _ c.self.view_is c.self.invariant) c.args.place c.requires.place c.args.c c.args.asked c.args.flush c.requires.caller c.requires.targets c.requires.outside in
     let inside = takes.right.0.0 in
-    let limit = takes.stands.stands.limit in
+    let limit = takes.stands.limit in
     omega arith
 
 pub ask-requires-clause-caller : goal.ask-requires-clause-caller
 ask-requires-clause-caller g c =
-    let takes = takes-ask c.args.self.now (has-turns _ _ c.self.view_is c.self.invariant) c.args.c c.args.asked c.args.flush c.requires.caller c.requires.targets c.requires.outside in
-    let stands = (almost-seen takes.o takes.n takes.turns _ _ c.self.view_is takes.stands).stands in
+    let takes = takes-ask c.args.self.now (has-turns _ _ c.self.view_is c.self.invariant) c.args.place c.requires.place c.args.c c.args.asked c.args.flush c.requires.caller c.requires.targets c.requires.outside in
+    let stands = stands-seen takes.o takes.n takes.turns _ _ c.self.view_is takes.stands in
     let inside = takes.right.0.0 in
     omega (arith, length-queues takes.o takes.n takes.turns _ stands)
 
 -- outside of its call a hart waits for none
 pub ask-requires-clause-out : goal.ask-requires-clause-out
 ask-requires-clause-out g c = λ t inside.
-    let takes = takes-ask c.args.self.now (has-turns _ _ c.self.view_is c.self.invariant) c.args.c c.args.asked c.args.flush c.requires.caller c.requires.targets c.requires.outside in
-    let stands = (almost-seen takes.o takes.n takes.turns _ _ c.self.view_is takes.stands).stands in
+    let takes = takes-ask c.args.self.now (has-turns _ _ c.self.view_is c.self.invariant) c.args.place c.requires.place c.args.c c.args.asked c.args.flush c.requires.caller c.requires.targets c.requires.outside in
+    let stands = stands-seen takes.o takes.n takes.turns _ _ c.self.view_is takes.stands in
     let below : t < takes.n = omega (arith, inside, length-queues takes.o takes.n takes.turns _ stands) in
     ap (has_from c.args.c) (queue_at-stands takes.o takes.n takes.turns _ stands t below)
     ∙ none-of takes.o takes.n takes.turns _ stands c.args.c c.args.asked c.args.flush c.contains-own.ensures.whole takes.right t
 
 pub ask-requires-clause-can : goal.ask-requires-clause-can
 ask-requires-clause-can g c =
-    let takes = takes-ask c.args.self.now (has-turns _ _ c.self.view_is c.self.invariant) c.args.c c.args.asked c.args.flush c.requires.caller c.requires.targets c.requires.outside in
-    let stands = (almost-seen takes.o takes.n takes.turns _ _ c.self.view_is takes.stands).stands in
+    let takes = takes-ask c.args.self.now (has-turns _ _ c.self.view_is c.self.invariant) c.args.place c.requires.place c.args.c c.args.asked c.args.flush c.requires.caller c.requires.targets c.requires.outside in
+    let stands = stands-seen takes.o takes.n takes.turns _ _ c.self.view_is takes.stands in
     can-ask-others takes.o takes.n takes.turns _ stands c.args.c c.args.asked c.args.flush c.contains-own.ensures.whole takes.right _ c.remove.ensures
 
 pub index_mut-requires : goal.index_mut-requires
 index_mut-requires g c =
-    let takes = takes-ask c.args.self.now (has-turns _ _ c.self.view_is c.self.invariant) c.args.c c.args.asked c.args.flush c.requires.caller c.requires.targets c.requires.outside in
-    let stands = (almost-seen takes.o takes.n takes.turns _ _ c.self.view_is takes.stands).stands in
+    let takes = takes-ask c.args.self.now (has-turns _ _ c.self.view_is c.self.invariant) c.args.place c.requires.place c.args.c c.args.asked c.args.flush c.requires.caller c.requires.targets c.requires.outside in
+    let stands = stands-seen takes.o takes.n takes.turns _ _ c.self.view_is takes.stands in
     let inside = takes.right.0.0 in
     omega (arith, length-calls takes.o takes.n takes.turns _ stands, c.self.inside.calls.ok.0)
 
 pub index_mut-requires-2 : goal.index_mut-requires-2
 index_mut-requires-2 g c =
-    let takes = takes-ask c.args.self.now (has-turns _ _ c.self.view_is c.self.invariant) c.args.c c.args.asked c.args.flush c.requires.caller c.requires.targets c.requires.outside in
-    let almost = almost-seen takes.o takes.n takes.turns _ _ c.self.view_is takes.stands in
+    let takes = takes-ask c.args.self.now (has-turns _ _ c.self.view_is c.self.invariant) c.args.place c.requires.place c.args.c c.args.asked c.args.flush c.requires.caller c.requires.targets c.requires.outside in
+    let stands = stands-seen takes.o takes.n takes.turns _ _ c.self.view_is takes.stands in
     let inside = takes.right.0.0 in
-    omega (arith, almost.count, c.self.inside.opened.ok.0)
+    omega (arith, length-opened takes.o takes.n takes.turns _ stands, c.self.inside.opened.ok.0)
 
 pub returns-clause-taken : goal.returns-clause-taken
 returns-clause-taken g c = λ o n turns stands right at.
@@ -91,19 +89,18 @@ overflow_add-self-2 g c =
 -- the turns that it stood for and this one
 pub invariant_of-self : goal.invariant_of-self
 invariant_of-self g c =
-    let takes = takes-ask c.args.self.now (has-turns _ _ c.self.view_is c.self.invariant) c.args.c c.args.asked c.args.flush c.requires.caller c.requires.targets c.requires.outside in
-    let almost = almost-seen takes.o takes.n takes.turns _ _ c.self.view_is takes.stands in
+    let takes = takes-ask c.args.self.now (has-turns _ _ c.self.view_is c.self.invariant) c.args.place c.requires.place c.args.c c.args.asked c.args.flush c.requires.caller c.requires.targets c.requires.outside in
+    let stands = stands-seen takes.o takes.n takes.turns _ _ c.self.view_is takes.stands in
     record {
       o = takes.o;
       n = takes.n;
       turns = Ask c.args.c (has c.args.asked) c.args.flush ∷ takes.turns;
-      stands = record {
-        opened = set almost.opened c.args.c (Some (record { place = place_after takes.o takes.turns; asked = c.args.asked; flush = c.args.flush }));
-        stands = rw c.new.ensures (taken-ask takes.o takes.n takes.turns _ almost.stands c.args.c c.args.asked c.args.flush c.contains-own.ensures.whole takes.right
-            _ _ _ _ _ refl c.remove.ensures c.ask.ensures
-            (ap (λ m. c.self.inside.asked + m) c.len.ensures)
-            (ap (λ m. c.self.inside.applied + m) (c.one_if.ensures ∙ ap (λ b. if b then 1 else 0) c.contains-own.ensures.answer)));
-        count = length-set c.self.inside.opened.items c.args.c _ ∙ almost.count;
-      };
+      stands = rw c.new.ensures (taken-ask takes.o takes.n takes.turns _ stands c.args.c c.args.asked c.args.flush c.contains-own.ensures.whole takes.right
+          _ _ _ _ _ takes.at c.remove.ensures c.ask.ensures
+          (ap (λ m. c.self.inside.asked + m) c.len.ensures)
+          (ap (λ m. c.self.inside.applied + m) (c.one_if.ensures ∙ ap (λ b. if b then 1 else 0) c.contains-own.ensures.answer)));
       right = takes.right;
     }
+
+pub returns-clause-made : goal.returns-clause-made
+returns-clause-made g c = takes-ask c.args.self.now (has-turns _ _ c.self.view_is c.self.invariant) c.args.place c.requires.place c.args.c c.args.asked c.args.flush c.requires.caller c.requires.targets c.requires.outside

@@ -1,8 +1,7 @@
-use Rattle.std.proofs.Common.{◌∷◌, length, replicate, refl, ap, ◌∙◌, arith}
+use Rattle.std.proofs.Common.{◌∷◌, replicate, ap, ◌∙◌, arith}
 use Rattle.std.specs.Prelude.{None}
-use Rattle.std.proofs.lemmas.List.{length-replicate}
 use Rattle.rfence.specs.Turns.{Reset}
-use Rattle.rfence.proofs.Stands.{affected-reset, almost-seen, length-opened, stands-seen, taken-reset, total-small}
+use Rattle.rfence.proofs.Stands.{affected-reset, length-opened, stands-seen, taken-reset, total-small}
 use Rattle.rfence.proofs.Takes.{has-turns, takes-reset}
 use Rattle.rfence.proofs.fences.Fences.reset.Goals as goal
 
@@ -10,7 +9,7 @@ pub overflow_add-self : goal.overflow_add-self
 overflow_add-self g c =
     let room = c.requires.applied in
     let takes = takes-reset c.args.self.now (has-turns _ _ c.self.view_is c.self.invariant) in
-    let stands = (almost-seen takes.o takes.n takes.turns _ _ c.self.view_is takes.stands).stands in
+    let stands = stands-seen takes.o takes.n takes.turns _ _ c.self.view_is takes.stands in
     let small = total-small takes.o takes.n takes.turns _ stands takes.right.1 in
     omega (arith, small, c.total.ensures, ap (λ f. f.applied) c.self.view_is)
 
@@ -28,15 +27,12 @@ returns-clause-affected g c = λ o n turns stands right.
 pub invariant_of-self : goal.invariant_of-self
 invariant_of-self g c =
     let takes = takes-reset c.args.self.now (has-turns _ _ c.self.view_is c.self.invariant) in
-    let almost = almost-seen takes.o takes.n takes.turns _ _ c.self.view_is takes.stands in
+    let stands = stands-seen takes.o takes.n takes.turns _ _ c.self.view_is takes.stands in
     record {
       o = takes.o;
       n = takes.n;
       turns = Reset ∷ takes.turns;
-      stands = record {
-        opened = replicate takes.n None;
-        stands = taken-reset takes.o takes.n takes.turns _ almost.stands _ _ _ _ c.clear.ensures c.close_all.ensures refl c.total.ensures;
-        count = ap length c.close_all-2.ensures ∙ length-replicate (length c.self.inside.opened.items) None ∙ almost.count;
-      };
+      stands = taken-reset takes.o takes.n takes.turns _ stands _ _ _ _ c.clear.ensures c.close_all.ensures
+          (c.close_all-2.ensures ∙ ap (λ m. replicate m None) (length-opened takes.o takes.n takes.turns _ stands)) c.total.ensures;
       right = takes.right;
     }

@@ -1,35 +1,35 @@
 use Rattle.std.proofs.Common.{◌∷◌, sym, ap, ◌∙◌, arith}
 use Rattle.rfence.specs.Turns.{Serve}
-use Rattle.rfence.proofs.Stands.{affected-serve, almost-seen, length-calls, length-queues, request-below, serve-request, stands-seen, taken-serve}
+use Rattle.rfence.proofs.Stands.{affected-serve, length-calls, length-queues, request-below, serve-request, stands-seen, taken-serve}
 use Rattle.rfence.proofs.Takes.{has-turns, takes-serve}
 use Rattle.rfence.proofs.fences.Fences.serve.Goals as goal
 
 pub pop-requires : goal.pop-requires
 pop-requires g c =
     let takes = takes-serve c.args.self.now (has-turns _ _ c.self.view_is c.self.invariant) c.args.t c.requires.in_range c.requires.waits in
-    let stands = (almost-seen takes.o takes.n takes.turns _ _ c.self.view_is takes.stands).stands in
+    let stands = stands-seen takes.o takes.n takes.turns _ _ c.self.view_is takes.stands in
     let inside = takes.right.0.0 in
     omega (arith, length-queues takes.o takes.n takes.turns _ stands)
 
 pub unreachable-requires : goal.unreachable-requires
 unreachable-requires g c =
     let takes = takes-serve c.args.self.now (has-turns _ _ c.self.view_is c.self.invariant) c.args.t c.requires.in_range c.requires.waits in
-    let stands = (almost-seen takes.o takes.n takes.turns _ _ c.self.view_is takes.stands).stands in
+    let stands = stands-seen takes.o takes.n takes.turns _ _ c.self.view_is takes.stands in
     c.in_default.not-Some _ (c.pop.ensures.answer ∙ serve-request takes.o takes.n takes.turns _ stands c.args.t takes.right)
 
 pub apply_at-requires : goal.apply_at-requires
 apply_at-requires g c =
     let takes = takes-serve c.args.self.now (has-turns _ _ c.self.view_is c.self.invariant) c.args.t c.requires.in_range c.requires.waits in
     let inside = takes.right.0.0 in
-    omega (arith, length-calls takes.o takes.n takes.turns _ takes.stands.stands, c.requires.caches)
+    omega (arith, length-calls takes.o takes.n takes.turns _ takes.stands, c.requires.caches)
 
 pub forget-requires : goal.forget-requires
 forget-requires g c =
     let takes = takes-serve c.args.self.now (has-turns _ _ c.self.view_is c.self.invariant) c.args.t c.requires.in_range c.requires.waits in
-    let stands = (almost-seen takes.o takes.n takes.turns _ _ c.self.view_is takes.stands).stands in
+    let stands = stands-seen takes.o takes.n takes.turns _ _ c.self.view_is takes.stands in
     let below = request-below takes.o takes.n takes.turns _ stands c.args.t takes.right c.in-Some.request (sym c.in-Some.is ∙ c.pop.ensures.answer) in
     let inside = takes.right.0.0 in
-    let limit = takes.stands.stands.limit in
+    let limit = takes.stands.limit in
     record { in_range = omega (arith, below, length-calls takes.o takes.n takes.turns _ stands); id = omega arith }
 
 pub overflow_add-self : goal.overflow_add-self
@@ -50,16 +50,12 @@ returns-clause-affected g c = λ o n turns stands right.
 pub invariant_of-self : goal.invariant_of-self
 invariant_of-self g c =
     let takes = takes-serve c.args.self.now (has-turns _ _ c.self.view_is c.self.invariant) c.args.t c.requires.in_range c.requires.waits in
-    let almost = almost-seen takes.o takes.n takes.turns _ _ c.self.view_is takes.stands in
+    let stands = stands-seen takes.o takes.n takes.turns _ _ c.self.view_is takes.stands in
     record {
       o = takes.o;
       n = takes.n;
       turns = Serve c.args.t ∷ takes.turns;
-      stands = record {
-        opened = almost.opened;
-        stands = taken-serve takes.o takes.n takes.turns _ almost.stands c.args.t takes.right c.in-Some.request _ _
-            (sym c.in-Some.is ∙ c.pop.ensures.answer) c.pop.ensures.after c.forget.ensures;
-        count = almost.count;
-      };
+      stands = taken-serve takes.o takes.n takes.turns _ stands c.args.t takes.right c.in-Some.request _ _
+          (sym c.in-Some.is ∙ c.pop.ensures.answer) c.pop.ensures.after c.forget.ensures;
       right = takes.right;
     }

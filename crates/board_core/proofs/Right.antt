@@ -43,6 +43,7 @@ use Rattle.board_core.specs.Replies.{IsLegal, answer, call_reply, reply, unless}
 use Rattle.board_core.specs.Resets.{begins_anew}
 use Rattle.board_core.specs.States.{One, move_by, move_by_call, move_of, moved_to, state, state_at_boot, state_at_reset}
 use Rattle.board_core.proofs.InCalls.{taken}
+use Rattle.board_core.proofs.Interruptible as interruptible
 use Rattle.board_core.proofs.Opened.{rests-outside}
 
 -- ---- harts that aren't there
@@ -68,19 +69,18 @@ one-stays : (c : Config) (t h : ℕ) (s : HartState) → c.harts ≤ t → h < c
 one-stays c t h s outside inside = rw (ne_eqb t h (λ same. absurd (omega arith))) refl
 
 -- it isn't the boot hart, and so it is STOPPED at the opening, and after a reset
-opening-stops : (c : Config) (t : ℕ) → IsGood c → c.harts ≤ t → state_at_boot c t ≡ states.Stopped
-opening-stops c t good outside =
-    let boot = good.boot_hart_is_there in
+opening-stops : (c : Config) (t : ℕ) → c.boot_hart < c.harts → c.harts ≤ t → state_at_boot c t ≡ states.Stopped
+opening-stops c t boot outside =
     rw (ne_eqb t c.boot_hart (λ same. absurd (omega arith))) refl
 
-reset-stops : (c : Config) (t : ℕ) (reset : Reset) → IsGood c → c.harts ≤ t → state_at_reset c reset t ≡ states.Stopped
-reset-stops c t reset good outside = by_kind (begins_anew reset.kind)
+reset-stops : (c : Config) (t : ℕ) (reset : Reset) → c.boot_hart < c.harts → c.harts ≤ t → state_at_reset c reset t ≡ states.Stopped
+reset-stops c t reset boot outside = by_kind (begins_anew reset.kind)
   where
     by_kind : (anew : Bool) → (if anew then state_at_boot c t else states.Stopped) ≡ states.Stopped
-    by_kind true = opening-stops c t good outside
+    by_kind true = opening-stops c t boot outside
     by_kind false = refl
 
-module _ (o : Opening) (past : List Event) (t : ℕ) (good : IsGood o.config) (outside : o.config.harts ≤ t) where
+module _ (o : Opening) (past : List Event) (t : ℕ) (boot : o.config.boot_hart < o.config.harts) (outside : o.config.harts ≤ t) where
   -- so it stays STOPPED by a call
   call-stays : (x : ℕ) (call : Call) (r : Reply) → x < o.config.harts → call_reply o past x call ≡ r → moved_to (move_by_call o.config x call r) t states.Stopped ≡ states.Stopped
   call-stays x (Hsm (HartStart h addr opaque)) (replies.Ret answered) inside replied = by_success (is_success answered) refl
@@ -91,7 +91,7 @@ module _ (o : Opening) (past : List Event) (t : ℕ) (good : IsGood o.config) (o
   call-stays x (Hsm HartStop) replies.Gone inside replied = one-stays o.config t x states.StopPending outside inside
   call-stays x (Hsm (HartSuspend kind addr opaque)) replies.Gone inside replied = one-stays o.config t x states.SuspendPending outside inside
   call-stays x (Hsm (HartSuspend kind addr opaque)) replies.Waiting inside replied = one-stays o.config t x states.SuspendPending outside inside
-  call-stays x (Srst (SystemReset (Ok reset))) replies.Gone inside replied = reset-stops o.config t reset good outside
+  call-stays x (Srst (SystemReset (Ok reset))) replies.Gone inside replied = reset-stops o.config t reset boot outside
   call-stays x call r inside replied = refl
 
   -- and by any operation
@@ -107,20 +107,20 @@ module _ (o : Opening) (past : List Event) (t : ℕ) (good : IsGood o.config) (o
   stays Clock op r answered = refl
 
 -- no event moves a hart that isn't there, so it is STOPPED as it was at the opening
-pub stopped-outside : (o : Opening) (past : List Event) (t : ℕ) → IsGood o.config → IsLegal o past → o.config.harts ≤ t → state o past t ≡ states.Stopped
-stopped-outside o [] t good legal outside = ap (λ (hart : HartSeen). hart.state) (rests-outside o legal t outside)
-stopped-outside o (event ∷ past) t good legal outside =
-    ap (moved_to (move_of o.config event.actor event.op event.reply) t) (stopped-outside o past t good legal.2 outside)
-    ∙ stays o past t good outside event.actor event.op event.reply legal.0
+pub stopped-outside : (o : Opening) (past : List Event) (t : ℕ) → o.config.boot_hart < o.config.harts → IsLegal o past → o.config.harts ≤ t → state o past t ≡ states.Stopped
+stopped-outside o [] t boot legal outside = ap (λ (hart : HartSeen). hart.state) (rests-outside o legal t outside)
+stopped-outside o (event ∷ past) t boot legal outside =
+    ap (moved_to (move_of o.config event.actor event.op event.reply) t) (stopped-outside o past t boot legal.2 outside)
+    ∙ stays o past t boot outside event.actor event.op event.reply legal.0
 
 -- ---- each turn
 
-asked-inside : (o : Opening) (past : List Event) (mask base t : ℕ) → IsGood o.config → IsLegal o past → is_asked_by o past mask base t ≡ true → t < o.config.harts
-asked-inside o past mask base t good legal asked = elim (cases_lt t o.config.harts) [
+asked-inside : (o : Opening) (past : List Event) (mask base t : ℕ) → o.config.boot_hart < o.config.harts → IsLegal o past → is_asked_by o past mask base t ≡ true → t < o.config.harts
+asked-inside o past mask base t boot legal asked = elim (cases_lt t o.config.harts) [
   | inl inside ↦ inside
   | inr outside ↦
       let parts = and_parts (is_target (targets_of mask base o.config.harts) t) (is_interruptible (state o past t)) asked in
-      let wrong : false ≡ true = sym (ap is_interruptible (stopped-outside o past t good legal outside)) ∙ parts.1 in
+      let wrong : false ≡ true = sym (ap is_interruptible (stopped-outside o past t boot legal outside)) ∙ parts.1 in
       absurd (cc)
 ]
 
@@ -137,12 +137,12 @@ some-waits : {A B : Type 0} (f : A → B) (xs : List A) → is_empty (map f xs) 
 some-waits f [] e = cc
 some-waits f (x ∷ xs) e = omega arith
 
-module _ (o : Opening) (past : List Event) (x : ℕ) (good : IsGood o.config) (legal : IsLegal o past) (inside : x < o.config.harts) where
+module _ (o : Opening) (past : List Event) (x : ℕ) (boot : o.config.boot_hart < o.config.harts) (legal : IsLegal o past) (inside : x < o.config.harts) where
   right-remote : (remote : Option Remote) (r : Reply) → calls.open_call o.fences (turns o past) x ≡ None → IsRightTurn o.fences o.config.harts (turns o past) (turn_by_remote o past x remote r)
   right-remote (Some remote) replies.Waiting none = by_flush remote.flush
     where
       by_flush : (flush : Result Flush SbiError) → IsRightTurn o.fences o.config.harts (turns o past) (turn_by_flush o past x remote.mask remote.base flush)
-      by_flush (Ok flush) = (inside, λ t asked. asked-inside o past remote.mask remote.base t good legal asked, none)
+      by_flush (Ok flush) = (inside, λ t asked. asked-inside o past remote.mask remote.base t boot legal asked, none)
       by_flush (Err error) = tt
   right-remote remote r none = tt
 
@@ -168,13 +168,22 @@ module _ (o : Opening) (past : List Event) (x : ℕ) (good : IsGood o.config) (l
       (inside, call.0, call.1)
   right-op op r in_phase to_do = tt
 
-right-turn : (o : Opening) (past : List Event) (actor : Actor) (op : Op) (r : Reply) → IsGood o.config → IsLegal o past → answer o past actor op ≡ Ok r
+right-turn : (o : Opening) (past : List Event) (actor : Actor) (op : Op) (r : Reply) → o.config.boot_hart < o.config.harts → IsLegal o past → answer o past actor op ≡ Ok r
     → IsRightTurn o.fences o.config.harts (turns o past) (turn_of o past actor op r)
-right-turn o past (Hart x) op r good legal answered =
+right-turn o past (Hart x) op r boot legal answered =
     let is = taken o past x op r answered in
-    right-op o past x good legal is.inside op r is.in_phase is.to_do
-right-turn o past Clock op r good legal answered = tt
+    right-op o past x boot legal is.inside op r is.in_phase is.to_do
+right-turn o past Clock op r boot legal answered = tt
+
+-- so they are whatever the limit is
+pub right-turns : (o : Opening) (past : List Event) → o.config.boot_hart < o.config.harts → IsLegal o past → IsRight o.fences o.config.harts (turns o past)
+right-turns o [] boot legal = legal.fences
+right-turns o (event ∷ past) boot legal = (right-turn o past event.actor event.op event.reply boot legal.2 legal.0, right-turns o past boot legal.2)
 
 pub turns_are_right : (o : Opening) (past : List Event) → IsGood o.config → IsLegal o past → IsRight o.fences o.config.harts (turns o past)
-turns_are_right o [] good legal = legal.fences
-turns_are_right o (event ∷ past) good legal = (right-turn o past event.actor event.op event.reply good legal.2 legal.0, turns_are_right o past good legal.2)
+turns_are_right o past good legal = right-turns o past good.boot_hart_is_there legal
+
+-- a hart at which fences wait is in an interruptible state
+pub waits-interruptible : (o : Opening) (past : List Event) → IsGood o.config → IsLegal o past
+    → (h : ℕ) → 0 < length (queues.waiting o.fences (turns o past) h) → is_interruptible (state o past h) ≡ true
+waits-interruptible o past good legal = interruptible.waits-interruptible o past (turns_are_right o past good legal) legal

@@ -1,5 +1,5 @@
 -- What fence calls need of harts, event by event (profile; that a call waits for each hart that it asked: SBI 8).
-use Rattle.std.specs.Prelude.{◌≡◌, ℕ, ◌-◌, ◌*◌, ◌≤◌, ◌<◌, Bool, true, false, List, [], ◌∷◌, ◌++◌, ◌&&◌, ◌||◌, ◌⊎◌, if◌then◌else◌, Some, is_some, Ok, Err}
+use Rattle.std.specs.Prelude.{◌≡◌, ℕ, ◌-◌, ◌*◌, ◌≤◌, ◌<◌, Bool, true, false, List, [], ◌∷◌, ◌++◌, ◌&&◌, ◌||◌, ◌⊎◌, if◌then◌else◌, suc, Some, is_ok, is_some, Result, Ok, Err}
 use Rattle.std.specs.List.{list_any}
 use Rattle.sbi_abi.specs.declared.call.Call.{Call}
 use Rattle.sbi_abi.specs.declared.call.Call.TheVariants.{Hsm}
@@ -7,13 +7,15 @@ use Rattle.sbi_abi.specs.declared.call.hsm.HsmCall.TheVariants.{HartStop}
 use Rattle.sbi_abi.specs.Calls.{call_of}
 use Rattle.rfence.specs.Waiting.{one_more}
 use Rattle.board_core.specs.Opening.{Opening}
+use Rattle.board_terms.specs.declared.op.Actor.{Actor}
 use Rattle.board_terms.specs.declared.op.Actor.TheVariants.{Hart}
 use Rattle.board_terms.specs.declared.op.Op.{Op}
 use Rattle.board_terms.specs.declared.op.Op.TheVariants as ops
+use Rattle.board_terms.specs.declared.reply.Refusal.{Refusal}
 use Rattle.board_terms.specs.declared.reply.Refusal.TheVariants.{HistoryFull}
 use Rattle.board_terms.specs.declared.reply.Reply.{Reply}
 use Rattle.board_terms.specs.declared.reply.Reply.TheVariants.{Gone, Ret, Served}
-use Rattle.board_core.specs.Course.{is_hart}
+use Rattle.board_core.specs.Course.{Course, is_hart}
 use Rattle.board_core.specs.Fences.{outstanding}
 use Rattle.board_core.specs.History.{Event}
 use Rattle.board_core.specs.Need.{need, total_need}
@@ -85,3 +87,14 @@ HaveServed o newer past h = (t : ℕ) → t < o.config.harts
 pub record CanEnd (o : Opening) (past : List Event) (h : ℕ) : Type 0 where
   pub waits_for_none : outstanding o past h ≡ Some []
   pub poll : answer o past (Hart h) ops.Poll ≡ Ok (Ret (success 0))
+
+-- What a step makes of what open fence calls need. While a call needs serves of hart t, a serve by t is refused for a full
+-- history alone; an accepted serve by t lowers what each call needs of t by exactly one; and no step raises what a call that is
+-- open needs.
+pub record KeepsNeeds (before now : Course) (actor : Actor) (op : Op) (result : Result Reply Refusal) : Type 0 where
+  pub served : (h t : ℕ) → actor ≡ Hart t → op ≡ ops.Serve → 0 < need before.opening before.past h t
+      → result ≡ (if is_full before.opening before.past then Err HistoryFull else Ok Served)
+  pub lowered : (h t : ℕ) → actor ≡ Hart t → op ≡ ops.Serve → is_ok result ≡ true → 0 < need before.opening before.past h t
+      → suc (need now.opening now.past h t) ≡ need before.opening before.past h t
+  pub unraised : (h t : ℕ) → is_some (outstanding before.opening before.past h) ≡ true
+      → need now.opening now.past h t ≤ need before.opening before.past h t

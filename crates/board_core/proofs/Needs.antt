@@ -30,22 +30,23 @@ use Rattle.board_terms.specs.declared.op.Actor.{Actor}
 use Rattle.board_terms.specs.declared.op.Actor.TheVariants.{Hart, Clock}
 use Rattle.board_terms.specs.declared.op.Op.{Op}
 use Rattle.board_terms.specs.declared.op.Op.TheVariants as ops
+use Rattle.board_terms.specs.declared.reply.Refusal.{Refusal}
 use Rattle.board_terms.specs.declared.reply.Refusal.TheVariants as refusals
 use Rattle.board_terms.specs.declared.reply.Reply.{Reply}
 use Rattle.board_terms.specs.declared.reply.Reply.TheVariants as replies
-use Rattle.board_core.specs.Course.{is_hart}
+use Rattle.board_core.specs.Course.{Course, is_hart}
 use Rattle.board_core.specs.Fences.{Remote, outstanding, remote_of, turn_by_call, turn_by_flush, turn_by_remote, turn_of, turns}
 use Rattle.board_core.specs.History.{Event}
 use Rattle.board_terms.specs.Limits.{IsGood}
 use Rattle.board_core.specs.Need.{need}
 use Rattle.board_core.specs.Refusals.{is_empty, is_full}
-use Rattle.board_core.specs.Replies.{IsLegal, answer, refused_or}
+use Rattle.board_core.specs.Replies.{IsLegal, answer, recorded, refused_or, stepped}
 use Rattle.board_core.specs.Resets.{is_off, is_shutdown, last_reset, newer_or, reset_by, reset_by_call}
-use Rattle.board_laws.specs.Need.{AreFew, CanEnd, GoesOn, HaveServed, IsLeft, ServeIsAccepted, ends_call, is_poll, is_serve, is_stop, is_stop_call, serves, serves_in, stops}
-use Rattle.board_laws.proofs.AfterResets.{off-refuses, resets_are_fresh}
-use Rattle.board_laws.proofs.Openings.{is-good}
-use Rattle.board_laws.proofs.Interruptible.{waits-interruptible}
-use Rattle.board_laws.proofs.Right.{turns_are_right}
+use Rattle.board_core.specs.Accesses.{used_by_actor}
+use Rattle.board_core.specs.Serves.{KeepsNeeds, AreFew, CanEnd, GoesOn, HaveServed, IsLeft, ServeIsAccepted, ends_call, is_poll, is_serve, is_stop, is_stop_call, serves, serves_in, stops}
+use Rattle.board_core.proofs.AtResets.{is-reset, off-refuses, reset-ends}
+use Rattle.board_core.proofs.Beginning.{is-good}
+use Rattle.board_core.proofs.Right.{turns_are_right, waits-interruptible}
 
 -- ---- each event and its turn
 
@@ -159,8 +160,8 @@ inside-on o (event ∷ past) h p on legal opened = by_reset (reset_by event.op e
     by_reset : (reset : Option Reset) → reset_by event.op event.reply ≡ reset → is_shutdown (newer_or (reset_by event.op event.reply) (last_reset o past)) ≡ false
     by_reset None is = rw is (accepted-on o past event.actor event.op event.reply legal.0)
     by_reset (Some reset) is =
-        let fresh = resets_are_fresh o event past reset legal is in
-        let closed = no-call (calls.open_call o.fences (turns o (event ∷ past)) h) (calls.outstanding o.fences o.config.harts (turns o (event ∷ past)) h) (fresh.outstanding h) in
+        let ends = reset-ends o event past reset (is-reset o past event reset legal.0 is) in
+        let closed = no-call (calls.open_call o.fences (turns o (event ∷ past)) h) (calls.outstanding o.fences o.config.harts (turns o (event ∷ past)) h) (ends h) in
         absurd (let wrong = sym opened ∙ closed in cc)
 
 -- it was: a new board's power is on, and what was open when the history was cut had been opened with the power on
@@ -303,3 +304,35 @@ can-end o newer past h opened on below served =
           | inl most ↦ omega (arith, most)
           | inr wrong ↦ cc
         ]
+
+-- ---- a step of a board
+
+-- a serve by hart t is one of its events
+is-serve-of : (t : ℕ) (event : Event) → event.actor ≡ Hart t → event.op ≡ ops.Serve → serves t event ≡ true
+is-serve-of t event by op = rw (by, op, eq-eqb t t refl) refl
+
+module _ (o : Opening) (past : List Event) (opened : IsOpened o) (legal : IsLegal o past) (actor : Actor) (op : Op) where
+  by-answer : (r : Result Reply Refusal) → answer o past actor op ≡ r → KeepsNeeds (record { opening = o; past = past }) (recorded (record { opening = o; past = past }) actor op r) actor op r
+  by-answer (Err refusal) is = record {
+    served = λ h t by what some. sym is ∙ rw (by, what) (needed-accepted o past h t opened legal some);
+    lowered = λ h t by what ok some. absurd cc;
+    unraised = λ h t inside. omega arith;
+  }
+  by-answer (Ok reply) is =
+      let good = is-good o opened in
+      let event : Event = record { actor = actor; op = op; reply = reply; translation = used_by_actor o past actor op } in
+      let longer : IsLegal o (event ∷ past) = (is, refl, legal) in
+      record {
+        served = λ h t by what some. sym is ∙ rw (by, what) (needed-accepted o past h t opened legal some);
+        lowered = λ h t by what ok some. serve-lowers-needs o event past h t good longer (is-serve-of t event by what) some;
+        unraised = λ h t inside. none-raises-needs o event past h t good longer inside;
+      }
+
+  pub keeps-needs : KeepsNeeds (record { opening = o; past = past }) (stepped (record { opening = o; past = past }) actor op) actor op (answer o past actor op)
+  keeps-needs = by-answer (answer o past actor op) refl
+
+pub step-needs : (b : Course) → IsOpened b.opening → IsLegal b.opening b.past → (actor : Actor) (op : Op) (r : Result Reply Refusal) (now : Course)
+    → r ≡ answer b.opening b.past actor op → now ≡ stepped b actor op → KeepsNeeds b now actor op r
+step-needs b opened legal actor op r now is after =
+    subst (λ n. KeepsNeeds b n actor op r) (sym after)
+    (subst (λ a. KeepsNeeds b (stepped b actor op) actor op a) (sym is) (keeps-needs b.opening b.past opened legal actor op))

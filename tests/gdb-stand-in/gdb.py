@@ -1,0 +1,71 @@
+"""A stand-in for gdb's Python module: it plays the stops of a file, as a machine would make them, and stops only at addresses
+where a breakpoint is. tests/records_recorder.py has the plays."""
+import json
+import os
+import re
+import time
+
+with open(os.environ["STAND_IN_PLAY"], encoding="ascii") as file:
+    PLAY = json.load(file)
+BREAKPOINTS = set()
+NOW = {"hart": 0, "time": 0}
+
+
+class error(RuntimeError):
+    """As gdb's own."""
+
+
+class Inferior:
+    def __init__(self, pid):
+        self.pid = pid
+
+    def read_memory(self, address, count):
+        return memoryview(NOW["time"].to_bytes(count, "little"))
+
+
+class Thread:
+    def __init__(self, num):
+        self.num = num
+
+
+def go_on():
+    while PLAY:
+        stop = PLAY.pop(0)
+        if "waits" in stop:
+            time.sleep(stop["waits"])
+        elif "ends" in stop:
+            NOW.clear()
+            NOW["ends"] = stop["ends"]
+            if stop["ends"] == "exits":
+                # (QEMU ends, and tells gdb nothing)
+                with open(os.environ["STAND_IN_PLAY"] + ".off", "w"):
+                    raise error("Remote connection closed")
+            if stop["ends"] != "off":
+                raise error(stop["ends"])
+            return
+        elif stop["pc"] in BREAKPOINTS:
+            time_now = NOW["time"] + 1
+            NOW.clear()
+            NOW.update(stop, time=time_now)
+            return
+    raise error("the play is over, and nothing said how the machine ended")
+
+
+def execute(command, to_string=False):
+    if command == "continue":
+        go_on()
+    elif found := re.fullmatch(r"hbreak \*(0x[0-9a-f]+)", command):
+        BREAKPOINTS.add(int(found[1], 16))
+    return ""
+
+
+def parse_and_eval(expression):
+    return NOW.get(expression.partition("$")[2], 0)
+
+
+def selected_inferior():
+    return Inferior(0 if "ends" in NOW else 1)
+
+
+def selected_thread():
+    return Thread(NOW["hart"] + 1)

@@ -1,0 +1,233 @@
+"""Judges by docs/FORMATS.md alone, in plain Python: reads what a text asks by its conditions, and says of a record, and of all
+orders of a program, whether they are so. It knows nothing of the program that is tested.
+
+Words of a step are its actor ("c" is the clock), its operation, and its numbers; words of a reply are its name and its numbers.
+In a pattern None stands for `_`.
+"""
+import re
+from collections import namedtuple
+
+import board_model
+from board_model import spelled_answer, spelled_step
+
+# What a condition asks: its line, its text, its first word (`after` is a `never` with an `after`), its patterns, and its ends.
+Condition = namedtuple("Condition", "line text word patterns ends")
+Pattern = namedtuple("Pattern", "step reply")
+
+# What a condition has seen so far of a record. BROKEN is where no record goes on that is as it asks, MET what `some` wants.
+NOTHING, OTHER, SETTLED, BROKEN, MET = "nothing", "the other pattern", "settled", "broken", "met"
+
+FORBIDS = ("never", "after", "each", "before")
+
+
+# ---- reading
+
+
+def value(word):
+    """What a word of a pattern stands for: None for any, a number, or the word itself."""
+    if word == "_":
+        return None
+    if re.fullmatch("0x[0-9a-fA-F]+", word):
+        return int(word, 16)
+    return int(word) if re.fullmatch("-?[0-9]+", word) else word
+
+
+def pattern(words):
+    at = words.index("->") if "->" in words else len(words)
+    return Pattern(tuple(map(value, words[:at])), tuple(map(value, words[at + 1 :])))
+
+
+def condition(line, text):
+    """The condition that a text is, which has no fault."""
+    word, *words = text.split()
+    if word == "end":
+        return Condition(line, text, word, (), frozenset(words))
+    if word == "before":
+        first, _, second = text.partition(" ")[2].partition(",")
+        return Condition(line, text, word, (pattern(first.split()), pattern(second.split())), None)
+    if word == "never" and "after" in words:
+        at = words.index("after")
+        return Condition(line, text, "after", (pattern(words[:at]), pattern(words[at + 1 :])), None)
+    return Condition(line, text, word, (pattern(words),), None)
+
+
+def conditions(text):
+    """The conditions of a script's text."""
+    found = []
+    for line, words in enumerate(text.split("\n"), 1):
+        words = words.strip(" \t\r")
+        if words.startswith("#!") and not (line == 1 and words.startswith("#!/")):
+            found.append(condition(line, words[2:].partition("#")[0].strip(" \t")))
+    return found
+
+
+# ---- steps
+
+
+def step_words(actor, op):
+    """All words of a step: arguments of a call that aren't written are 0."""
+    name, *numbers = op
+    if name == "ecall":
+        numbers += [0] * (8 - len(numbers))
+    return ("c" if actor is None else actor, name, *("-" if it is None else it for it in numbers))
+
+
+def are_fitting(wanted, words):
+    return len(wanted) <= len(words) and all(it in (None, word) for it, word in zip(wanted, words))
+
+
+def fits(pattern, actor, op):
+    """Whether the actor and the operation of a step are those of a pattern."""
+    return are_fitting(pattern.step, step_words(actor, op))
+
+
+def matches(pattern, actor, op, answer):
+    return fits(pattern, actor, op) and are_fitting(pattern.reply, answer)
+
+
+# ---- conditions, step by step
+
+
+def seen_after(asked, seen, step):
+    """What a condition has seen after a step (actor, operation and answer) more."""
+    first = asked.patterns[0] if asked.patterns else None
+    if asked.word == "never":
+        return BROKEN if matches(first, *step) else seen
+    if asked.word == "some":
+        return MET if matches(first, *step) else seen
+    if asked.word == "each":
+        return BROKEN if fits(first, *step[:2]) and not matches(first, *step) else seen
+    if asked.word == "after":
+        if seen == OTHER and matches(first, *step):
+            return BROKEN
+        return OTHER if matches(asked.patterns[1], *step) else seen
+    return seen_of_before(asked, seen, step) if asked.word == "before" else seen
+
+
+def seen_of_before(asked, seen, step):
+    """The first step of the one pattern must stand before the first of the other, where both stand."""
+    is_first, is_second = (matches(it, *step) for it in asked.patterns)
+    if seen == NOTHING and is_second:
+        return BROKEN if is_first else OTHER
+    if seen == OTHER and is_first:
+        return BROKEN
+    return SETTLED if seen == NOTHING and is_first else seen
+
+
+def broken_at(asked, steps):
+    """The place of the step at which a record is settled: it breaks the condition, or is what `some` wants. None: there is none."""
+    seen = NOTHING
+    for place, step in enumerate(steps):
+        seen = seen_after(asked, seen, step)
+        if seen in (BROKEN, MET):
+            return place
+    return None
+
+
+def holds(asked, steps, end):
+    """Whether a record with this end is as a condition asks; the end of one that a limit cut off is open."""
+    if asked.word == "end":
+        return end == "history-full" or end in asked.ends
+    return (broken_at(asked, steps) is None) == (asked.word in FORBIDS)
+
+
+def is_met(asked, steps):
+    """Whether each pattern's actor and operation are those of some of these steps."""
+    return all(any(fits(pattern, *step[:2]) for step in steps) for pattern in asked.patterns)
+
+
+# ---- all orders
+
+
+class Verdicts:
+    """What holds in all orders, which are those of `all_orders.Orders`."""
+
+    def __init__(self, orders):
+        self.orders = orders
+        self.steps = {step[:3] for steps in orders.edges for step in steps}
+        self.depths = self.depths_of()
+
+    def depths_of(self):
+        """The fewest steps to each state."""
+        depths, ready = {0: 0}, [0]
+        for place in ready:
+            for *_, to in self.orders.edges[place]:
+                if to not in depths:
+                    depths[to] = depths[place] + 1
+                    ready.append(to)
+        return depths
+
+    def fewest(self, asked):
+        """The fewest steps of an order that breaks a condition, or that `some` wants; None: no order does. Without a condition of
+        one that ends stuck."""
+        if asked is None or asked.word == "end":
+            is_bad = lambda end: end == "stuck" if asked is None else end not in asked.ends
+            return min((self.depths[place] for place, (_, end) in self.orders.over.items() if is_bad(end)), default=None)
+        return self.fewest_watched(asked)
+
+    def fewest_watched(self, asked):
+        changes = {}
+        depths, ready = {(0, NOTHING): 0}, [(0, NOTHING)]
+        for place, seen in ready:
+            for *step, to in self.orders.edges[place]:
+                key = seen, *step
+                if key not in changes:
+                    changes[key] = seen_after(asked, seen, step)
+                now = changes[key]
+                if now in (BROKEN, MET):
+                    return depths[place, seen] + 1
+                if (to, now) not in depths:
+                    depths[to, now] = depths[place, seen] + 1
+                    ready.append((to, now))
+        return None
+
+    def is_met(self, asked):
+        return is_met(asked, self.steps)
+
+
+# ---- records
+
+
+class NoOrder(Exception):
+    """Why a record is none of a program."""
+
+
+class Followed:
+    """A record, followed through its program: its steps, how it ended, and where each hart is at its end."""
+
+    def __init__(self, program, text, limit=None):
+        """`text`: the board's line, and a line for each step, and others that are comments. Without a limit it may end anywhere."""
+        self.lines = [line for line in text.split("\n")[1:] if " -> " in line]
+        self.steps, self.point = [], program.start()
+        # Of each hart the line of the operation that its guest did last since its entry.
+        self.last = [None] * len(self.point.board.harts)
+        for line in self.lines:
+            self.take(program, line)
+        self.end = self.end_by(program, limit)
+
+    def take(self, program, line):
+        actor = line.split(" ", 1)[0]
+        hart = None if actor == "c" else int(actor)
+        for *step, after in program.steps_of(self.point, hart):
+            if f"{spelled_step(*step[:2])} -> {spelled_answer(step[2])}" == line:
+                self.see(step)
+                self.point = after
+                return
+        raise NoOrder(f"no step of the program is {line!r}, behind {self.lines[: len(self.steps)]}")
+
+    def see(self, step):
+        self.steps.append(tuple(step))
+        hart, op, answer = step
+        if hart is not None and answer[0] == "entry":
+            self.last[hart] = None
+        elif hart is not None and op[0] in board_model.GUEST:
+            self.last[hart] = self.point.left[hart][0]
+
+    def end_by(self, program, limit):
+        if next(program.steps(self.point), None) is None:
+            return program.end(self.point)
+        if limit is None:
+            return None
+        if len(self.steps) < limit:
+            raise NoOrder(f"it ends where a step can be taken: {self.lines}")
+        return "history-full"

@@ -1,0 +1,70 @@
+"""Each number of the board's line counts in all orders, and in orders of a seed: programs that show it, beside the model."""
+import all_orders
+from judge import Verdicts, condition
+from test_explore import explored
+from test_orders import must, told
+
+# A page table that is its own lower ones maps page 0x1000 to the RAM's first page and then to its second one, whose word is 0,
+# with another address space that is the same one where few bits are kept.
+REMAPPED = """\
+at 0x80000000
+store 0x80000000 0x20000001
+store 0x80000008 0x200000cf
+satp 0x8000100000080000
+load 0x1000
+satp 0
+store 0x80000008 0x200004cf
+satp 0x8001100000080000
+load 0x1000
+"""
+# The same table, by Sv48.
+WIDE = REMAPPED.replace("satp 0x8", "satp 0x9")
+STARTS = "".join(f"ecall 0x48534d 0 {hart} 0x80000010 {hart}\n" for hart in range(1, 6))
+STARTED = f"at 0x80000000\n{STARTS}at 0x80000010\nsip\n"
+
+# The board, the blocks, and what is asked.
+ROWS = (
+    ("2 1 9 1 0x80000000 0", "at 0x80000000\nsip\n", ("some 1 sip", "never 0", "some 1 advance -> entry 0x80000000 1 0x0", "never 0 sip")),
+    ("6 1 9 5 0x80000000 0", "at 0x80000000\nsip\n", ("some 5 sip", "never 0")),
+    *((f"{harts} 1 99 0 0x80000000 0", STARTED, tuple(it for hart in range(1, 6) for it in (f"some {hart} sip", f"never 0 ecall _ 0 {hart} -> ret -3"))) for harts in range(1, 7)),
+    *((f"1 {pages} 9 0 0x80000000 0", f"at 0x80000000\nload {0x80000000 + 4096 * page:#x}\n", ("some 0 load -> value 0", "never 0 load -> fault 5"))
+      for pages, page in ((1, 0), (1, 1), (2, 1), (8, 7), (8, 8), (9, 8), (12, 11), (16, 15), (16, 16), (255, 254), (256, 255), (256, 256))),
+    *((f"1 2 99 0 0x80000000 0 {bits} 39", REMAPPED, ("some 0 load -> value 0x20000001", "each 0 load -> value 0x20000001", "some 0 load -> value 0")) for bits in (0, 4, 5, 8, 9, 15, 16)),
+    *((f"1 2 99 0 0x80000000 0 16 {width}", blocks, ("each 0 load -> value 0x20000001", "some 0 load -> fault 5", "some 0 load -> value 0")) for width in (39, 48) for blocks in (REMAPPED, WIDE)),
+    *((f"1 1 9 0 0x80000000 {opaque}", "at 0x80000000\n", tuple(f"some 0 advance -> entry _ 0 {it}" for it in (0, 5, 1 << 32, (1 << 64) - 1))) for opaque in (0, 5, 1 << 32, (1 << 64) - 1)),
+    *((f"1 2 9 0 {addr:#x} 0", "at 0x80000000\nsip\nat 0x80001ffe\nfencei\n", ("some 0 sip", "some 0 fencei", "some 0 advance -> entry 0x80001ffe")) for addr in (0x80000000, 0x80001FFE, 0x80000002)),
+    *((f"1 1 {limit} 0 0x80000000 0", "at 0x80000000\nsip\nfencei\n", ("some 0 fencei", "end quiet")) for limit in (1, 2, 3, 1_000_000)),
+)  # fmt: skip
+
+
+def boards_of_all_orders_are_the_scripts(room):
+    """Of each number of the board's line, and of its bounds, all orders are those of the script's board, but that no limit cuts them off."""
+    wrong = []
+    for board, blocks, asked in ROWS:
+        text = "".join(f"#! {it}\n" for it in asked) + f"board {board}\n{blocks}"
+        verdicts = Verdicts(all_orders.Orders(text))
+        wanted = [(verdicts.fewest(condition(1, it)) is None) != it.startswith("some") for it in asked]
+        for name, (_, lines) in (("explore", explored(room, text)), ("test", told(room, text))):
+            found = [line.startswith("ok ") for line in lines if line.startswith(("ok ", "not ok "))]
+            if found != wanted:
+                wrong.append((name, board, blocks.split("\n")[1], asked, found, wanted))
+    must(f"{len(wrong)} of {len(ROWS)} boards are others: {wrong[:9]}", not wrong)
+
+
+def boards_of_a_seed_are_the_scripts(room):
+    """So is the board of orders of a seed, with its limit."""
+    wrong = []
+    for board, blocks, asked in ROWS:
+        if len(all_orders.Orders(f"board {board}\n{blocks}").over) > 1 or int(board.split()[2]) < 9:
+            continue
+        text = "".join(f"#! {it}\n" for it in asked) + f"board {board}\n{blocks}"
+        verdicts = Verdicts(all_orders.Orders(text))
+        wanted = [(verdicts.fewest(condition(1, it)) is None) != it.startswith("some") for it in asked]
+        _, lines = told(room, text, "--times", "300")
+        found = [line.startswith("ok ") for line in lines if line.startswith(("ok ", "not ok "))]
+        if found != wanted:
+            wrong.append((board, blocks.split("\n")[1], asked, found, wanted))
+    must(f"{wrong[:9]}", not wrong)
+
+
+TESTS = [("boards of all orders are the scripts'", boards_of_all_orders_are_the_scripts), ("boards of a seed are the scripts'", boards_of_a_seed_are_the_scripts)]

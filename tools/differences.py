@@ -1,0 +1,168 @@
+"""Differences between what was recorded and what the board answers: what is compared, and by which verdict they are told."""
+from bisect import bisect_right
+
+from board_model import BASE, GONE, HSM, INVALID_ADDRESS, IPI, LOW, RFENCE, SSI, STI, WAITING, spelled_answer
+from liveness import shown as spelled_call
+from records import UNSEEN, is_reset, is_suspend
+from rules import TELLS, TOLD, UNEXPLAINED_VERDICT, by_this_state, certain, rule_of_entry, rule_of_wake, verdict_of
+from standard import FUNCTIONS, UNJUDGED, WITH_VALUE, Verdict, version_of
+from states import Difference
+
+READ_SIE = SSI | STI
+SUSP = 0x53555350
+BEYOND = Verdict(UNJUDGED, "an address that isn't in this board's RAM was refused, and what the machine has there isn't recorded", "9.1, 9.4")
+WITHOUT_ANSWER = Verdict(UNJUDGED, "a call returned to an interrupt, and its answer wasn't seen", "3")
+
+
+def is_system_suspend(numbers):
+    return numbers[:2] == (SUSP, 0)
+
+
+class Differences:
+    """What a record says of each call, and what is kept where the board says otherwise."""
+
+    def __init__(self, record, version):
+        self.record, self.lines = record, record.lines
+        self.places = {h: [] for h in range(record.harts)}
+        for place, line in enumerate(self.lines):
+            if line.hart is not None:
+                self.places[line.hart].append(place)
+        # What the firmware says of itself: the version of the specification, and which extensions it has.
+        told = {line.numbers[:3]: self.lines[line.reply].numbers for line in self.lines if line.kind == "call" and line.reply is not None}
+        said = [reply[1] for numbers, reply in told.items() if numbers[:2] == (BASE, 0) and reply[0] == 0 and reply[1] < 1 << 31]
+        self.version = version or (version_of(said[0]) if said else (1, 0))
+        self.offered = {numbers[2] for numbers, reply in told.items() if numbers[:2] == (BASE, 3) and reply[0] == 0 and reply[1]}
+
+    # ---- what was recorded
+
+    def shown(self, place):
+        """What a call answered, in the words of a board; None where the record doesn't tell. A value that the standard
+        leaves open is 0 here."""
+        line = self.lines[place]
+        eid, fid = line.numbers[:2]
+        if line.reply is None:
+            if (eid, fid) == (HSM, 1) or is_reset(line.numbers) or is_system_suspend(line.numbers):
+                return GONE
+            if is_suspend(line.numbers):
+                return GONE if line.numbers[2] & 1 << 31 else WAITING
+            return None
+        error, value = self.lines[line.reply].numbers
+        if error == 0 and (eid == RFENCE and fid <= 2 or is_suspend(line.numbers) and not line.numbers[2] & 1 << 31):
+            return WAITING
+        return None if error is None else self.settled_answer(line.numbers, error, value)
+
+    def settled_answer(self, numbers, error, value):
+        has_value = error == 0 and (numbers[:2] in WITH_VALUE or numbers[:2] not in FUNCTIONS)
+        return ("ret", error, value if has_value else 0)
+
+    def said(self, place):
+        """The same as it was recorded, for a trace."""
+        line, shown = self.lines[place], self.shown(place)
+        return ("ret", *self.lines[line.reply].numbers) if shown and shown[0] == "ret" else shown
+
+    def call_of(self, place):
+        """The line of the call that returns at this place."""
+        places = self.places[self.lines[place].hart]
+        return self.lines[places[bisect_right(places, place) - 2]]
+
+    def returns(self, place):
+        """What a return says of a call that was waiting; None where it wasn't seen."""
+        numbers = self.lines[place].numbers
+        return None if numbers == UNSEEN else self.settled_answer(self.call_of(place).numbers, *numbers)
+
+    # ---- differences
+
+    def name(self, line):
+        return spelled_call(self.record, line)
+
+    def id(self, hart):
+        return self.record.ids[hart]
+
+    def differs(self, state, hart, call, answer, shown):
+        line = self.lines[call.place]
+        verdict = certain(state.board, call.op, line.numbers, answer, shown, self.version, line.numbers[0] in self.offered)
+        if verdict is None and not self.origin(state, line, answer):
+            verdict = by_this_state(state.board, call.op, answer, shown)
+        self.found(state, line, self.name(line), answer, self.said(call.place), verdict, self.touched(hart, call.op))
+        if call.op[1:3] == (IPI, 0):
+            state.missed |= {h: line.number for h in self.named(line.numbers[2:4])}
+
+    def agrees(self, state, hart, call, answer):
+        """What is told of an answer that is alike: an address that is refused here since it isn't in the board's RAM, whatever
+        the machine has there; and what a kernel says that it saw."""
+        line = self.lines[call.place]
+        if answer == ("ret", INVALID_ADDRESS, 0) and call.op[1] == HSM and line.numbers[3] % 2 == 0:
+            state.put(Difference(line.number, f"{self.name(line)}: its address", "", "", BEYOND, None))
+        fid, here, there = call.op[2:5]
+        if call.op[1] == TELLS and fid < len(TOLD) and here != there:
+            state.put(Difference(line.number, f"{self.id(hart)} tells", f"{here:#x}", f"{there:#x}", verdict_of(TOLD[fid]), None))
+
+    def values(self, state, place):
+        """A return whose value isn't the board's where the standard leaves it open, or that wasn't seen."""
+        numbers, call = self.lines[place].numbers, self.call_of(place)
+        if numbers == UNSEEN:
+            state.put(Difference(call.number, f"{self.name(call)}: its return", "", "", WITHOUT_ANSWER, None))
+        elif self.settled_answer(call.numbers, *numbers)[2] != numbers[1]:
+            state.put(Difference(call.number, f"{self.name(call)}: a1", "0x0", f"{numbers[1]:#x}", verdict_of("values"), None))
+
+    def named(self, pair):
+        """The harts of a list, those of strange bits left out."""
+        mask, base = pair
+        if base == (1 << 64) - 1:
+            return list(range(self.record.harts))
+        return [self.record.place_of[base + i] for i in range(64) if mask >> i & 1 and base + i in self.record.place_of]
+
+    def touched(self, hart, op):
+        """The harts whose later answers may follow from this call's."""
+        eid, fid, a0 = op[1:4]
+        if (eid, fid) == (HSM, 0):
+            return {a0, a0 & LOW}
+        if (eid, fid) in ((HSM, 1), (HSM, 3)):
+            return {hart}
+        return set(range(self.record.harts)) if is_reset(op[1:]) else set()
+
+    def asked(self, hart, op):
+        """The harts on whose states a call's answer hangs."""
+        eid, fid, a0 = op[1:4]
+        return [a0, hart] if (eid, fid) in ((HSM, 0), (HSM, 2)) else [hart]
+
+    def origin(self, state, line, here):
+        """The line from which a difference at this one follows, if it does."""
+        op = state.calls[line.hart].op if line.hart in state.calls else ("ecall", BASE, 0, 0)
+        lines = [state.tainted[h] for h in self.asked(line.hart, op) if h in state.tainted]
+        if not lines and here == ("refused", 3) and line.hart in state.missed:
+            lines = [state.missed[line.hart]]
+        return lines[0] if lines else None
+
+    def found(self, state, line, what, here, there, verdict, touched):
+        follows = None if verdict else self.origin(state, line, here)
+        if verdict is None and follows is None:
+            verdict = UNEXPLAINED_VERDICT
+        state.put(Difference(line.number, what, spelled_answer(here), spelled_answer(there), verdict, follows))
+        if here[0] == there[0] == "ret" and here[1] and there[1]:
+            return
+        origin = follows or line.number
+        for h in touched:
+            if h < self.record.harts:
+                state.tainted.setdefault(h, origin)
+
+    def look_at_notes(self, state, line, is_start):
+        """What the hart's registers had at its entry, beside what the board's have."""
+        board, hart = state.board, line.hart
+        here = {"sie": board.harts[hart].sie, "sip": board.sip(hart), "sstatus": board.harts[hart].sstatus}
+        for name, value in here.items():
+            there = line.notes.get(name)
+            if there is None:
+                continue
+            there &= READ_SIE if name != "sstatus" else 1
+            if there != value:
+                rule = rule_of_entry(name, is_start, value, there)
+                verdict = verdict_of(rule) if rule else SSTATUS
+                state.put(Difference(line.number, f"{self.id(hart)} entry: {name}", f"{value:#x}", f"{there:#x}", verdict, None))
+
+    def of_wake(self, state, hart, answer):
+        rule = rule_of_wake(state, hart) if answer[0] == "refused" else None
+        return verdict_of(rule) if rule else None
+
+
+SSTATUS = Verdict("breaks", "sstatus.SIE is 0 at an entry", "9.1, 9.4")
