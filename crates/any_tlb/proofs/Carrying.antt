@@ -28,9 +28,9 @@ use Rattle.board_core.specs.States.{state}
 use Rattle.board_core.specs.Targets.{is_reached}
 use Rattle.board_core.proofs.Cutting.{hart-cut, hart-past}
 use Rattle.board_laws.proofs.Held.{held-by}
-use Rattle.board_laws.proofs.Parting.{cuts_are_never_seen}
+use Rattle.board_laws.proofs.Parting.{parted-are-seamless}
 use Rattle.board_laws.proofs.Places.{legal-older}
-use Rattle.board_laws.proofs.Right.{stopped-outside}
+use Rattle.board_core.proofs.Right.{stopped-outside}
 use Rattle.any_tlb.specs.declared.watcher.Walking.TheVariants.{Had}
 use Rattle.any_tlb.specs.Carried.{walks_from, watched_from, watched_words_from}
 use Rattle.any_tlb.specs.Effects.{effect_at, effect_by}
@@ -46,7 +46,7 @@ module _ (o : Opening) (past : List Event) (held : IsHeld o past) where
   state-cut : (t : ℕ) → state cut [] t ≡ state o past t
   state-cut t = elim (cases_lt t o.config.harts) [
     | inl near ↦ ap (λ (hart : HartSeen). hart.state) (hart-cut o past held t near)
-    | inr far ↦ ap (λ (hart : HartSeen). hart.state) (hart-past o past held t far) ∙ sym (stopped-outside o past t held.good held.legal far)
+    | inr far ↦ ap (λ (hart : HartSeen). hart.state) (hart-past o past held t far) ∙ sym (stopped-outside o past t held.boot_hart_is_there held.legal far)
   ]
 
   remote-cut : (x : ℕ) (remote : Option Remote) (r : Reply) → turn_by_remote cut [] x remote r ≡ turn_by_remote o past x remote r
@@ -90,20 +90,20 @@ module _ (o : Opening) (older : List Event) (opened : IsOpened o) where
 
   effects : (newer : List Event) → IsLegal o (newer ++ older) → (event : Event) (h : ℕ) → effect_at parted newer event h ≡ effect_at o (newer ++ older) event h
   effects newer legal event h =
-      let seam = cuts_are_never_seen o newer older opened legal in
+      let seam = parted-are-seamless o newer older opened legal in
       sym (first-effect parted newer (held-by parted newer (parted-opened (legal-older o newer older legal)) seam.legal) event h)
       ∙ ap (λ q. effect_at q [] event h) seam.leaves
       ∙ first-effect o (newer ++ older) (held-by o (newer ++ older) opened legal) event h
 
   memories : (newer : List Event) → IsLegal o (newer ++ older) → memory parted newer ≡ memory o (newer ++ older)
-  memories newer legal = (cuts_are_never_seen o newer older opened legal).alike.word
+  memories newer legal = (parted-are-seamless o newer older opened legal).alike.word
 
   walks-on : (newer : List Event) → IsLegal o (newer ++ older) → (h : ℕ) → h < o.config.harts → walks_from (walks_of o older h) parted newer h ≡ walks_of o (newer ++ older) h
   walks-on [] legal h inside = refl
   walks-on (event ∷ newer) legal h inside =
       let done = effects newer legal.2 event h in
       let before = walks-on newer legal.2 h inside in
-      let satps = (cuts_are_never_seen o (event ∷ newer) older opened legal).alike.satp h inside in
+      let satps = (parted-are-seamless o (event ∷ newer) older opened legal).alike.satp h inside in
       λ i. logged (done i) (before i) ++ Had (satps i) ∷ []
 
   watched-on : (newer : List Event) → IsLegal o (newer ++ older) → (h va : ℕ) → h < o.config.harts

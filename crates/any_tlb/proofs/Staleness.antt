@@ -69,7 +69,7 @@ pub asked_harts_miss_nothing : (o : Opening) (event : Event) (past : List Event)
     → access_of event.op ≡ Some reach → (x : IsMissed o past h event reach) → Asks o past x.caller h x.place (Entries x.fence) → ⊥
 asked_harts_miss_nothing o event past h reach opened legal own access x asks =
     let there : past_at o (event ∷ past) (place_after o past) ≡ past = before-more o event past (place_after o past) (omega arith) ∙ all-of o past in
-    let given = translations_are_fresh o (event ∷ past) h x.place (place_after o past) x.fence reach x.entry opened legal (record {
+    let given = translations_are_fresh o (event ∷ past) o.config.limit h x.place (place_after o past) x.fence reach x.entry opened legal (record {
       event = event;
       happened = last o event past;
       by_hart = own;
