@@ -1,5 +1,5 @@
 -- What an event does to caches after a cut is what it does without one.
-use Rattle.std.proofs.Common.{◌≡◌, ℕ, suc, ◌<◌, List, [], ◌∷◌, ◌++◌, refl, sym, ap, ◌∙◌, arith, Option, Some, Result, Ok, Err, inl, inr}
+use Rattle.std.proofs.Common.{◌≡◌, ℕ, suc, ◌<◌, List, [], ◌∷◌, ◌++◌, length, refl, sym, ap, ◌∙◌, arith, Option, Some, Result, Ok, Err, inl, inr}
 use Rattle.std.specs.Prelude.{if◌then◌else◌}
 use Rattle.std.proofs.lemmas.Bool.{cases_lt}
 use Rattle.hsm.specs.Harts.{Hart as HartSeen}
@@ -28,7 +28,9 @@ use Rattle.board_core.specs.States.{state}
 use Rattle.board_core.specs.Targets.{is_reached}
 use Rattle.board_core.proofs.Cutting.{hart-cut, hart-past}
 use Rattle.board_laws.proofs.Held.{held-by}
-use Rattle.board_laws.proofs.Parting.{parted-are-seamless}
+use Rattle.board_laws.specs.Limits.{with_limit}
+use Rattle.board_laws.specs.Seams.{AreLegal, joined, left_by as opening_left}
+use Rattle.board_laws.proofs.Parting.{joined-are-one, parted-are-seamless, parts-are-one}
 use Rattle.board_laws.proofs.Places.{legal-older}
 use Rattle.board_core.proofs.Right.{stopped-outside}
 use Rattle.any_tlb.specs.declared.watcher.Walking.TheVariants.{Had}
@@ -131,3 +133,52 @@ watched_go_on_over_cuts o newer older h va opened legal inside = watched-on o ol
 pub watched_words_go_on_over_cuts : (o : Opening) (newer older : List Event) (h pa : ℕ) → IsOpened o → IsLegal o (newer ++ older)
     → watched_words_from (watched_words o older h pa) (opening_of o older) newer h pa ≡ watched_words o (newer ++ older) h pa
 watched_words_go_on_over_cuts o newer older h pa opened legal = words-on o older opened newer legal h pa
+
+-- ---- however often the history was cut
+
+module _ (o : Opening) (parts : List (List Event)) (opened : IsOpened o) where
+  abbrev last_opening : Opening
+  last_opening = opening_left o parts
+
+  effects-of-all : (newer : List Event) → AreLegal o (newer ∷ parts) → (event : Event) (h : ℕ) → effect_at last_opening newer event h ≡ effect_at o (newer ++ joined parts) event h
+  effects-of-all newer legal event h =
+      let limit = length (newer ++ joined parts) in
+      let p = parts-are-one o limit newer parts opened legal (omega arith) in
+      sym (first-effect last_opening newer p.part event h)
+      ∙ ap (λ q. effect_at q [] event h) p.leaves
+      ∙ first-effect (with_limit limit o) (newer ++ joined parts) p.all event h
+
+  walks-of-all : (newer : List Event) → AreLegal o (newer ∷ parts) → (h : ℕ) → h < o.config.harts → walks_from (walks_of o (joined parts) h) last_opening newer h ≡ walks_of o (newer ++ joined parts) h
+  walks-of-all [] legal h inside = refl
+  walks-of-all (event ∷ newer) legal h inside =
+      let done = effects-of-all newer (legal.0.2, legal.1) event h in
+      let before = walks-of-all newer (legal.0.2, legal.1) h inside in
+      let satps = (joined-are-one o (event ∷ newer) parts opened legal).alike.satp h inside in
+      λ i. logged (done i) (before i) ++ Had (satps i) ∷ []
+
+  pub watched-of-all : (newer : List Event) → AreLegal o (newer ∷ parts) → (h va : ℕ) → h < o.config.harts
+      → watched_from (watched o (joined parts) h va) (walks_of o (joined parts) h) last_opening newer h va ≡ watched o (newer ++ joined parts) h va
+  watched-of-all [] legal h va inside = refl
+  watched-of-all (event ∷ newer) legal h va inside =
+      let done = effects-of-all newer (legal.0.2, legal.1) event h in
+      let before = watched-of-all newer (legal.0.2, legal.1) h va inside in
+      let memory_now = (joined-are-one o (event ∷ newer) parts opened legal).alike.word in
+      let walks = walks-of-all (event ∷ newer) legal h inside in
+      λ i. spared (done i) (before i) ++ given_by (memory_now i) va [] (walks i)
+
+  pub words-of-all : (newer : List Event) → AreLegal o (newer ∷ parts) → (h pa : ℕ)
+      → watched_words_from (watched_words o (joined parts) h pa) last_opening newer h pa ≡ watched_words o (newer ++ joined parts) h pa
+  words-of-all [] legal h pa = refl
+  words-of-all (event ∷ newer) legal h pa =
+      let done = effects-of-all newer (legal.0.2, legal.1) event h in
+      let before = words-of-all newer (legal.0.2, legal.1) h pa in
+      let memory_now = (joined-are-one o (event ∷ newer) parts opened legal).alike.word in
+      λ i. spared_words (done i) (before i) ++ word_of (memory_now i pa)
+
+pub watched_go_on_over_many_cuts : (o : Opening) (newer : List Event) (parts : List (List Event)) (h va : ℕ) → IsOpened o → AreLegal o (newer ∷ parts) → h < o.config.harts
+    → watched_from (watched o (joined parts) h va) (walks_of o (joined parts) h) (opening_left o parts) newer h va ≡ watched o (newer ++ joined parts) h va
+watched_go_on_over_many_cuts o newer parts h va opened legal inside = watched-of-all o parts opened newer legal h va inside
+
+pub watched_words_go_on_over_many_cuts : (o : Opening) (newer : List Event) (parts : List (List Event)) (h pa : ℕ) → IsOpened o → AreLegal o (newer ∷ parts)
+    → watched_words_from (watched_words o (joined parts) h pa) (opening_left o parts) newer h pa ≡ watched_words o (newer ++ joined parts) h pa
+watched_words_go_on_over_many_cuts o newer parts h pa opened legal = words-of-all o parts opened newer legal h pa
