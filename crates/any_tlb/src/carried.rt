@@ -1,0 +1,50 @@
+//! Watched lists over cuts of the history.
+ghost use Rattle.std.specs.Prelude.{◌≡◌, ℕ, ◌<◌, List, ◌∷◌, ◌++◌};
+ghost use Rattle.board_core.specs.Cuts.{IsOpened, opening_of};
+ghost use Rattle.board_core.specs.History.{Event};
+ghost use Rattle.board_core.specs.Opening.{Opening};
+ghost use Rattle.board_core.specs.Replies.{IsLegal};
+ghost use Rattle.board_laws.specs.Seams.{AreLegal, joined, left_by};
+ghost use Rattle.any_tlb.specs.Carried.{watched_from, watched_words_from};
+ghost use Rattle.any_tlb.specs.Watch.{walks_of, watched};
+ghost use Rattle.any_tlb.specs.WatchedWords.{watched_words};
+
+/// Wherever a board's history is cut, the watched entries that are carried over the cut, and the walks that are kept, become by
+/// the newer events what they become without the cut. So they decide which accesses are steady by the whole history.
+pub fn watched_go_on_over_cuts()
+    ensures { (o : Opening) (newer older : List Event) (h va : ℕ)
+        → IsOpened o
+        → IsLegal o (newer ++ older)
+        → h < o.config.harts
+        → watched_from (watched o older h va) (walks_of o older h) (opening_of o older) newer h va
+        ≡ watched o (newer ++ older) h va }
+{}
+
+/// So do the watched words.
+pub fn watched_words_go_on_over_cuts()
+    ensures { (o : Opening) (newer older : List Event) (h pa : ℕ)
+        → IsOpened o
+        → IsLegal o (newer ++ older)
+        → watched_words_from (watched_words o older h pa) (opening_of o older) newer h pa
+        ≡ watched_words o (newer ++ older) h pa }
+{}
+
+/// However often a board's history was cut, each part within the limit: the lists that were carried over all cuts become by the
+/// newest part what they become by the whole history, from the first opening on.
+pub fn watched_go_on_over_many_cuts()
+    ensures { (o : Opening) (newer : List Event) (parts : List (List Event)) (h va : ℕ)
+        → IsOpened o
+        → AreLegal o (newer ∷ parts)
+        → h < o.config.harts
+        → watched_from (watched o (joined parts) h va) (walks_of o (joined parts) h) (left_by o parts) newer h va
+        ≡ watched o (newer ++ joined parts) h va }
+{}
+
+/// So do the watched words.
+pub fn watched_words_go_on_over_many_cuts()
+    ensures { (o : Opening) (newer : List Event) (parts : List (List Event)) (h pa : ℕ)
+        → IsOpened o
+        → AreLegal o (newer ∷ parts)
+        → watched_words_from (watched_words o (joined parts) h pa) (left_by o parts) newer h pa
+        ≡ watched_words o (newer ++ joined parts) h pa }
+{}
