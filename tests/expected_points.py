@@ -182,9 +182,9 @@ def take_findings(case, told):
 
 def take_outcomes(case, told, are_all):
     """Each outcome, with how many orders have it; and with how many states, where states are told apart as by the model."""
-    wanted = case.orders.outcomes if any(op[0] in ("load", "fetch") for _, op, _ in case.verdicts.steps) else {}
-    if not wanted:
+    if not any(op[0] in ("load", "fetch") for _, op, _ in case.verdicts.steps):
         return
+    wanted = case.orders.outcomes
     told.take(f"# outcomes: {len(wanted)}")
     states = Counter(case.orders.over.values())
     loads = sorted({load for given, _ in wanted for load, _ in given})
