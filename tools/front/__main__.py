@@ -1,0 +1,197 @@
+"""What `./sbiboard` does beyond running a built program: it looks at words and FILEs, answers help and faults of usage, and builds.
+
+usage: python3 tools/front WORD.. (`./sbiboard` calls it)
+
+Nothing is built as long as something is wrong with the words: a misspelt subcommand or option, a FILE that can't be read, a
+script of another kind. What is said of them is what the program says, where it has words for it.
+"""
+import contextlib
+import os
+import signal
+import sys
+from dataclasses import replace
+
+import usage
+from builds import NotBuilt, build, is_current, program_of
+from checked_run import run_unproved
+from commands import ALL, HELP, PROGRAM, TESTER, VERSION, version
+from installing import install
+from kinds import kind_of, why_unread
+
+# The statuses of the program, and that of a program that couldn't be built.
+BAD_SCRIPT, USAGE, BAD_FILE, NO_BUILD = 1, 2, 7, 70
+FAILED_IO, WRONG_KIND = "sbiboard: input or output failed\n", "sbiboard: wrong kind of script\n"
+
+OWN_HELP = """
+A program is proved and built before its first task: that of run, replay and check in about 20 minutes
+on four processors and 26 on two, that of test and explore in 18 more on four. With --try it needs no proof:
+  ./sbiboard --try test examples/orders/lost-wakeup.program
+Status 70: a program could not be built, or the checked run not be made.
+"""
+
+
+class Ended(Exception):
+    """Says nothing or one text, and ends with a status."""
+
+    def __init__(self, status, said=""):
+        super().__init__()
+        self.status, self.said = status, said
+
+
+class Killed(BaseException):
+    """A signal that ends the script, once what runs is ended and taken away."""
+
+
+def main(words):
+    try:
+        return done(decoded(words))
+    except usage.Fault as fault:
+        return ended(USAGE, str(fault))
+    except usage.Asked as asked:
+        return printed(help_of(asked.command))
+    except Ended as end:
+        return ended(end.status, end.said)
+    except NotBuilt as why:
+        return ended(NO_BUILD, f"sbiboard: {why}\n")
+
+
+def decoded(words):
+    """The words as text. A name that isn't UTF-8 can't be one of a FILE."""
+    for word in words:
+        try:
+            os.fsencode(word).decode("utf-8")
+        except UnicodeDecodeError:
+            shown = os.fsencode(word).decode("utf-8", "backslashreplace")
+            raise Ended(BAD_FILE, f"sbiboard: '{shown}' is not UTF-8, and no file of such a name can be opened\n") from None
+    return [os.fsencode(word).decode("utf-8") for word in words]
+
+
+def done(words):
+    """Does what the words ask for, and returns the status."""
+    if not words:
+        raise Ended(USAGE, overview())
+    if words[0] == "--install" or words[0].startswith("--install="):
+        return installed([*words[0].split("=", 1)[1:], *words[1:]])
+    known, is_tried = ALL, words[0] == "--try"
+    if is_tried:
+        known, words = replace(ALL, name="sbiboard --try", options=(HELP, VERSION)), words[1:]
+    command, given, rest = usage.read(known, words)
+    own = ["sbiboard", command.word] if command.program == PROGRAM else [command.name]
+    call = [it.encode() for it in [*own, *rest]]
+    program = program_of(command.program, "tried" if is_tried else None)
+    if not is_current(program, command.program):
+        look_at(command, given)
+        if not is_tried:
+            build(command.program, command.word)
+    if is_tried:
+        return run_unproved(command, call)
+    # (Python passes this signal over, and so would the program)
+    signal.signal(signal.SIGPIPE, signal.SIG_DFL)
+    try:
+        os.execv(program, call)
+    except OSError as error:
+        raise NotBuilt(f"{program} can't be run: {error.strerror}") from None
+
+
+def installed(words):
+    if len(words) != 1:
+        raise usage.Fault("with --install, a folder DIR is wanted", "sbiboard --install <DIR>")
+    try:
+        install(os.fsdecode(words[0].encode()))
+    except OSError:
+        raise Ended(BAD_FILE, FAILED_IO) from None
+    return ended(0, f"sbiboard: {words[0]}/sbiboard runs the program beside it, which needs the C library alone\n")
+
+
+# ---- FILEs
+
+
+def look_at(command, given):
+    """Looks at the FILEs of a task before its program is made. What the program can't do with them isn't worth a build."""
+    files = given[""]
+    if command.program == TESTER:
+        wrong = [f"sbiboard: {it}: {why}\n" for it in files if (why := why_untested(command, it))]
+        if wrong:
+            raise Ended(BAD_SCRIPT, "".join([*wrong, "sbiboard: so nothing is built\n"]))
+        return
+    if why_unread(files[0].encode()) or is_kept_over(files[0], given.get("keep")):
+        raise Ended(BAD_FILE, FAILED_IO)
+    if kind_of(files[0].encode()) not in (None, *command.kinds):
+        raise Ended(BAD_SCRIPT, WRONG_KIND)
+
+
+def why_untested(command, file):
+    """Why `test` or `explore` surely does nothing with a FILE, in their words."""
+    why = why_unread(file.encode())
+    if not why and kind_of(file.encode()) not in (None, *command.kinds):
+        why = "only a program has orders"
+    return why
+
+
+def is_kept_over(file, kept):
+    """Whether a record is to be kept in the place of the script that is run."""
+    with contextlib.suppress(OSError):
+        return bool(kept) and os.path.samefile(file.encode(), kept[0].encode())
+    return False
+
+
+# ---- texts
+
+
+def overview():
+    """What there is, for who says nothing."""
+    rows = [*((it.word, it.about) for it in ALL.commands), *((str(it), it.about) for it in ALL.options)]
+    width = max(len(name) for name, _ in rows)
+    return "".join(["usage: ./sbiboard [--try] COMMAND [OPTIONS] FILE..\n\n", *(f"  {name:{width}}  {about}\n" for name, about in rows)])
+
+
+def help_of(command):
+    if command is None:
+        return version()
+    return command.help() + (OWN_HELP if command.word in ("sbiboard", "--try") else "")
+
+
+def printed(text):
+    signal.signal(signal.SIGPIPE, signal.SIG_DFL)
+    try:
+        write(1, text)
+    except OSError:
+        return ended(BAD_FILE, FAILED_IO)
+    return 0
+
+
+def ended(status, said):
+    with contextlib.suppress(OSError):
+        write(2, said)
+    return status
+
+
+def write(to, text):
+    left = text.encode("utf-8")
+    while left:
+        left = left[os.write(to, left) :]
+
+
+# ---- signals
+
+
+def kill(number, _):
+    raise Killed(number)
+
+
+def guarded(words):
+    """Ends by the signal that ends it, once all is taken away; a signal that was ignored stays ignored."""
+    for number in (signal.SIGINT, signal.SIGTERM, signal.SIGHUP):
+        if signal.getsignal(number) != signal.SIG_IGN:
+            signal.signal(number, kill)
+    try:
+        return main(words)
+    except Killed as killed:
+        if sys.stderr.isatty():
+            ended(0, "\n")
+        signal.signal(killed.args[0], signal.SIG_DFL)
+        os.kill(os.getpid(), killed.args[0])
+
+
+if __name__ == "__main__":
+    sys.exit(guarded(sys.argv[1:]))

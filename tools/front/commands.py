@@ -1,0 +1,160 @@
+"""The one list of what `./sbiboard` can be asked: its subcommands and options, with the help that is made of it.
+
+The words are those of the programs, whose sources have the long texts below a help; tests compare each with the program's own.
+"""
+import os
+import re
+from dataclasses import dataclass
+
+ROOT = os.path.dirname(os.path.dirname(os.path.dirname(os.path.realpath(__file__))))
+
+# The crates of the two programs.
+PROGRAM, TESTER = "sbiboard_cli", "sbiboard_test"
+
+# Where the texts below a help stand.
+OF_PROGRAM, OF_TESTER = "sbiboard/src/command_line.rt", "sbiboard_test/src/command_line.rt"
+
+
+def constant(source, name):
+    """The text of a constant of a crate's source, in which no character is escaped."""
+    with open(os.path.join(ROOT, "crates", source), encoding="utf-8") as file:
+        found = re.search(rf'^const {name}: &str = "(?:\\\n)?([^"\\]*)";$', file.read(), re.MULTILINE)
+    if found is None:
+        raise ValueError(f"{source} has no text {name}")
+    return found[1]
+
+
+@dataclass(frozen=True)
+class Option:
+    """An option, or FILE, which has no name."""
+
+    name: str
+    about: str
+    value: str = ""
+    short: str = ""
+    default: str = ""
+    is_number: bool = False
+    is_many: bool = False
+    is_needed: bool = True
+    excludes: str = ""
+
+    def __str__(self):
+        if not self.name:
+            return (f"<{self.value}>" if self.is_needed else f"[{self.value}]") + ("..." if self.is_many else "")
+        return f"--{self.name}" + (f" <{self.value}>" if self.value else "")
+
+
+HELP = Option("help", "Print help", short="h")
+VERSION = Option("version", "Print version", short="V")
+
+
+@dataclass(frozen=True)
+class Command:
+    """A subcommand, or the whole, which has subcommands and no FILE."""
+
+    name: str
+    about: str
+    options: tuple
+    # The source and the name of the text below its help.
+    after: tuple = ()
+    file: Option = None
+    # The crate of its program, and the kinds of scripts that it takes.
+    program: str = ""
+    kinds: tuple = ()
+    commands: tuple = ()
+
+    @property
+    def word(self):
+        return self.name.split()[-1]
+
+    def usage(self, used=()):
+        """How it is called: with its options as one word, or with those alone that are used."""
+        has_options = not used and self.file and self.options not in ((), (HELP,))
+        last = str(self.file) if self.file else "<COMMAND>"
+        return " ".join([self.name, *(["[OPTIONS]"] if has_options else []), *(str(it) for it in used if it.name), last])
+
+    def help(self):
+        parts = [self.about, f"Usage: {self.usage()}"]
+        if self.commands:
+            parts.append(table("Commands", [(it.word, it.about) for it in (*self.commands, HELP_COMMAND)]))
+        if self.file:
+            parts.append(table("Arguments", [(str(self.file), self.file.about)]))
+        if self.options:
+            parts.append(table("Options", [option_row(it) for it in self.options]))
+        return "\n\n".join([*parts, *([constant(*self.after)] if self.after else [])]) + "\n"
+
+
+def option_row(option):
+    default = f" [default: {option.default}]" if option.default else ""
+    return (f"-{option.short}, " if option.short else "    ") + str(option), option.about + default
+
+
+def table(head, rows):
+    width = max(len(name) for name, _ in rows)
+    return "\n".join([f"{head}:", *(f"  {name:{width}}  {about}" for name, about in rows)])
+
+
+HELP_COMMAND = Command(
+    "sbiboard help", "Print this message or the help of the given subcommand(s)", (),
+    file=Option("", "Print help for the subcommand(s)", value="COMMAND", is_many=True, is_needed=False),
+)  # fmt: skip
+
+
+def of_file(word, about, file, kinds, *options):
+    file = Option("", file, value="FILE")
+    return Command(f"sbiboard {word}", about, (*options, HELP), (OF_PROGRAM, "NUMBERS"), file, PROGRAM, kinds)
+
+
+def number(name, value, about, **more):
+    return Option(name, about, value=value, is_number=True, **more)
+
+
+SECONDS = number("seconds", "N", "Look at orders for so many seconds at most")
+FAILED = Option("failed", "Where records are written: of each condition that fails, of each `some` that is met", value="DIR", default=".")
+TAP = Option("tap", "Write the points into FILE, too", value="FILE")
+
+RUN = of_file(
+    "run", "Run a program's blocks on threads, one for each hart and one for the clock, and print the record, the board and how it ended",
+    "The file of the program, such as examples/three-harts.program", ("program",),
+    Option("keep", "Write the record into FILE2 while it grows: what a killed run leaves there is a trace", value="FILE2"),
+)  # fmt: skip
+REPLAY = of_file("replay", "Replay a schedule on a new board, and print each reply and the board", "The file of the schedule, such as examples/version.sched", ("schedule",))
+CHECK = of_file("check", "Check a trace on a new board, and print the first reply that differs", "The file of the trace, such as examples/version.trace", ("trace",))
+TEST = Command(
+    "sbiboard test", "Look at orders of programs, replay schedules and compare traces, and judge their conditions",
+    (
+        number("times", "N", "How many orders of each program are tried", default="1000"),
+        number("seed", "S", "The seed of the orders", default="0"),
+        number("order", "K", "Try order K of the seed alone", excludes="times"),
+        number("jobs", "J", "How many orders are tried at a time; as many as there are processors where nothing is said"),
+        Option("threads", "Run each program as often on real threads, too"),
+        number("seconds", "N", "Try orders for so many seconds at most"),
+        FAILED, TAP, HELP,
+    ),
+    (OF_TESTER, "AFTER"), Option("", "Programs, schedules and traces, with their conditions", value="FILE", is_many=True), TESTER, ("program", "schedule", "trace"),
+)  # fmt: skip
+EXPLORE = Command(
+    "sbiboard explore", "Look at all orders of a program, and judge its conditions",
+    (
+        number("states", "N", "How many states may be found", default="1000000"),
+        Option("no-outcomes", "Don't tell what each load gave last"),
+        SECONDS, FAILED, TAP, HELP,
+    ),
+    (OF_TESTER, "AFTER_EXPLORE"), Option("", "Programs, with their conditions", value="FILE", is_many=True), TESTER, ("program",),
+)  # fmt: skip
+
+# What the program of `run`, `replay` and `check` knows, and what `./sbiboard` knows.
+OF_THE_PROGRAM = Command(
+    "sbiboard", "Run programs, replay schedules and check traces on a proved SBI 1.0 firmware of a modelled RV64 board",
+    (HELP, VERSION), (OF_PROGRAM, "EXAMPLE"), commands=(RUN, REPLAY, CHECK),
+)  # fmt: skip
+TRY = Option("try", "Do the task that follows at once, unproved, by the toolchain's checked run")
+INSTALL = Option("install", "Copy the built programs to DIR, with a script that runs them without these sources", value="DIR")
+ALL = Command(
+    "sbiboard", "Test and run programs, replay schedules and check traces on a proved SBI 1.0 firmware of a modelled RV64 board",
+    (TRY, INSTALL, HELP, VERSION), (OF_PROGRAM, "EXAMPLE"), commands=(TEST, EXPLORE, RUN, REPLAY, CHECK),
+)  # fmt: skip
+
+
+def version():
+    return f"sbiboard {constant(OF_PROGRAM, 'VERSION')}\n"

@@ -1,0 +1,91 @@
+"""Looks at FILEs before a program is there: whether they can be read, and of which kind they surely are.
+
+A kind is told of a script without any fault alone: of another one the program says the fault first.
+"""
+import os
+import re
+import stat
+
+MOST_BYTES = 16_777_216
+
+# (numbers that are longer are left to the program)
+NUMBER = "(?:0x0*[0-9A-Fa-f]{1,16}|0*[0-9]{1,19})"
+HART = "(?:0x0*[0-7]?[0-9A-Fa-f]|0*(?:[0-9]{1,2}|1[01][0-9]|12[0-7]))"
+
+
+def with_numbers(name, least, most=None):
+    return f"{name}(?: {NUMBER}){{{least},{least if most is None else most}}}"
+
+
+TICK = with_numbers("tick", 1)
+GUEST = "|".join([
+    with_numbers("ecall", 2, 8), *(with_numbers(it, 1) for it in ("load", "fetch", "satp", "sie")), with_numbers("store", 2),
+    "sstatus (?:0x)?0*[01]", f"sfence (?:{NUMBER}|-) (?:{NUMBER}|-)", "sip", "clearssip", "fencei", "wfi",
+])  # fmt: skip
+STEP = f"(?:cut|(?:c|{HART}) (?:{GUEST}|{TICK}|poll|serve|advance))"
+REPLY = "|".join([
+    f"ret -?0*[0-9]{{1,18}} {NUMBER}", with_numbers("entry", 3), *(with_numbers(it, 1) for it in ("value", "fault", "moved", "refused")),
+    "waiting", "gone", "served", "done",
+])  # fmt: skip
+
+BOARD = re.compile(f"{with_numbers('board', 6)}|{with_numbers('board', 8)}")
+STEPS = {"schedule": re.compile(STEP), "trace": re.compile(f"{STEP} -> (?:{REPLY})")}
+BLOCKS = {"at": re.compile(f"at {NUMBER}"), "clock": re.compile("clock")}
+IN_BLOCK = {"at": re.compile(GUEST), "clock": re.compile(TICK)}
+UNALLOWED = re.compile(rb"[^\t\x20-\x7e]")
+
+
+def why_unread(path):
+    """Why a FILE can't be read, in the words of `test`, or nothing."""
+    try:
+        if stat.S_ISDIR(os.stat(path).st_mode):
+            return "is a directory"
+    except FileNotFoundError:
+        return "no such file"
+    except PermissionError:
+        return "permission denied"
+    except OSError:
+        return "can't be read"
+    return "" if os.access(path, os.R_OK) else "permission denied"
+
+
+def kind_of(path):
+    """The kind of the script in a file, where that is sure. (What isn't a regular file can be read but once.)"""
+    try:
+        if not stat.S_ISREG(os.stat(path).st_mode) or os.path.getsize(path) > MOST_BYTES:
+            return None
+        with open(path, "rb") as file:
+            return kind_of_text(file.read(MOST_BYTES))
+    except OSError:
+        return None
+
+
+def kind_of_text(text):
+    lines = [line[:-1] if line.endswith(b"\r") else line for line in text.split(b"\n")[:-1]] + text.split(b"\n")[-1:]
+    if any(UNALLOWED.search(line) for line in lines):
+        return None
+    lines = [" ".join(line.partition(b"#")[0].decode("ascii").split()) for line in lines]
+    lines = [line for line in lines if line]
+    if len(lines) < 2 or not BOARD.fullmatch(lines[0]):
+        return None
+    if lines[1].split()[0] in BLOCKS:
+        return "program" if is_program(lines[1:]) else None
+    kind = "trace" if "->" in lines[1].split() else "schedule"
+    return kind if all(STEPS[kind].fullmatch(line) for line in lines[1:]) else None
+
+
+def is_program(lines):
+    """Whether lines are blocks without a fault, of which no two begin alike."""
+    heads, block = set(), None
+    for line in lines:
+        name = line.split()[0]
+        if name not in BLOCKS:
+            if not IN_BLOCK[block].fullmatch(line):
+                return False
+            continue
+        head = (name, *(int(it, 16 if it.startswith("0x") else 10) for it in line.split()[1:] if BLOCKS[name].fullmatch(line)))
+        if not BLOCKS[name].fullmatch(line) or head in heads:
+            return False
+        heads.add(head)
+        block = name
+    return True
