@@ -91,7 +91,10 @@ def version(room):
         must_be(ran(words, cwd=room), 0, b"sbiboard 0.1.0\n", b"")
 
 # Words that the script answers as the program does, also before there is one.
-SAID_EARLY = [["--version"], [], ["fly"], ["fly", "a"], ["--fly"]]
+SAID_EARLY = [["--version"], ["fly"], ["fly", "a"], ["--fly"]]
+
+# What the script reads before it builds.
+READ_EARLY = ("sbiboard", "crates.txt", "HANDLES", "tools/front", "crates/sbiboard/src/command_line.rt", "crates/sbiboard_test/src/command_line.rt")
 
 # Lines of a run that keeps its record.
 KEPT_EARLY = (["--keep", "k", "none"], ["--keep=k", "none"], ["none", "--keep", "k"], ["none", "--keep=k", "--"], ["--keep", "k", "--", "none"])
@@ -101,9 +104,10 @@ FAULTS_EARLY = ([], ["a", "b"], ["--fly"], ["a", "--fly"], ["--"], ["a", "--", "
 
 def unbuilt(room):
     """A copy of the script that runs the program, and of what it reads, where nothing is built."""
-    for name in ("sbiboard", "crates.txt", "HANDLES", "crates/sbiboard/src/command_line.rt", "tests/program-data/help.txt"):
-        os.makedirs(os.path.dirname(os.path.join(room, name)), exist_ok=True)
-        shutil.copy(os.path.join(ROOT, name), os.path.join(room, name))
+    for name in READ_EARLY:
+        source, target = os.path.join(ROOT, name), os.path.join(room, name)
+        os.makedirs(os.path.dirname(target), exist_ok=True)
+        (shutil.copytree if os.path.isdir(source) else shutil.copy)(source, target)
     return os.path.join(room, "sbiboard")
 
 
@@ -112,12 +116,16 @@ def before_the_build(room):
     front = unbuilt(room)
     asked = lambda words: subprocess.run([front, *words], stdin=subprocess.DEVNULL, capture_output=True, timeout=30)
     faults = [[task, *it] for task in TASKS for it in FAULTS_EARLY]
-    for words in (*SAID_EARLY, *faults, *[words for words, _, _ in USAGE]):
+    for words in (*SAID_EARLY, *faults, *[words for words, _, _ in USAGE if words]):
         wanted = ran(words, cwd=room)
         must_be(asked(words), wanted.returncode, wanted.stdout, wanted.stderr)
-    early, _, own = asked(["--help"]).stdout.partition(b"\nBefore the program is built:\n")
-    if early != ran(["--help"], cwd=room).stdout or not own:
-        raise Wrong(f"before the build help is {shown(early)}")
+    early, told = asked(["--help"]), ran(["--help"], cwd=room).stdout
+    tasks = [line.split()[0] for line in early.stdout.partition(b"Commands:\n")[2].partition(b"\n\n")[0].splitlines()]
+    if early.returncode or told[told.index(b"Examples:") :] not in early.stdout or tasks != [b"test", b"explore", b"run", b"replay", b"check", b"help"]:
+        raise Wrong(f"before the build help is {shown(early.stdout)}")
+    overview = asked([])
+    if overview.returncode != 2 or overview.stdout or not all(b"\n  " + task + b" " in overview.stderr for task in tasks[:-1]):
+        raise Wrong(f"without words the script says {shown(overview.stderr)}")
     for task in TASKS:
         for words in ([task, "none"], [task, "none", "--"], [task, "--", "none"], [task, room], ["--try", task, "none"]):
             must_be(asked(words), 7, b"", FAILED_IO)
