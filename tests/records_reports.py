@@ -28,7 +28,6 @@ STORED = [("wrong-answers", 5), ("hangs", 5), ("entries", 5), ("boot-hart", 0), 
 
 BOOT = "record 3\n0 entry 0x80200000 0 0x87e00000\n"
 TWO = BOOT + "0 call 0x48534d 0 1 0x80200100 7 0 0 0\n0 ret 0 0\n1 entry 0x80200100 1 7\n"
-STATUS = "0 call 0x48534d 2 1 0 0 0 0 0\n"
 TIMER = "0 call 0x54494d45 0 100 0 0 0 0 0\n"
 # The hart's stop is refused there and not here, so the model knows nothing of it any more.
 LOST = TWO + "1 call 0x48534d 1 0 0 0 0 0 0\n1 ret -1 0\n"

@@ -143,11 +143,7 @@ EXPLORE = Command(
     (OF_TESTER, "AFTER_EXPLORE"), Option("", "Programs, with their conditions", value="FILE", is_many=True), TESTER, ("program",),
 )  # fmt: skip
 
-# What the program of `run`, `replay` and `check` knows, and what `./sbiboard` knows.
-OF_THE_PROGRAM = Command(
-    "sbiboard", "Run programs, replay schedules and check traces on a proved SBI 1.0 firmware of a modelled RV64 board",
-    (HELP, VERSION), (OF_PROGRAM, "EXAMPLE"), commands=(RUN, REPLAY, CHECK),
-)  # fmt: skip
+# What `./sbiboard` knows.
 TRY = Option("try", "Do the task that follows at once, unproved, by the toolchain's checked run")
 INSTALL = Option("install", "Copy the built programs to DIR, with a script that runs them without these sources", value="DIR")
 ALL = Command(
