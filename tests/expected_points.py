@@ -3,11 +3,12 @@ import os
 import re
 from collections import Counter
 
-import judge
-from all_orders import Program
 from board_model import STARTED, SUSPENDED, number, words_of
-from harness import Wrong
-from judge import Followed, NoOrder, Verdicts, broken_at
+
+from . import judge
+from .all_orders import Program
+from .fixtures import must, read
+from .judge import Followed, NoOrder, Verdicts, broken_at
 
 # How many steps are shown before the one at which a record fails, and behind it.
 AROUND = 6
@@ -28,15 +29,13 @@ class Told:
 
     def take(self, *wanted):
         for it in wanted:
-            if self.next() != it:
-                raise Wrong(f"told is {self.next()!r}, and not {it!r}, behind {self.lines[max(self.at - 12, 0) : self.at]}")
+            must(f"told is {self.next()!r}, and not {it!r}, behind {self.lines[max(self.at - 12, 0) : self.at]}", self.next() == it)
             self.at += 1
 
     def match(self, wanted):
         """A line that is as a pattern says."""
         found = re.fullmatch(wanted, self.next())
-        if found is None:
-            raise Wrong(f"told is {self.next()!r}, which isn't {wanted!r}, behind {self.lines[max(self.at - 12, 0) : self.at]}")
+        must(f"told is {self.next()!r}, which isn't {wanted!r}, behind {self.lines[max(self.at - 12, 0) : self.at]}", found is not None)
         self.at += 1
         return found
 
@@ -64,9 +63,8 @@ class Case:
         try:
             found = Followed(self.program, text, limit if is_whole else None)
         except NoOrder as why:
-            raise Wrong(f"{self.name}: {why}") from None
-        if text.split("\n")[0] != self.board_line(limit):
-            raise Wrong(f"{self.name}: the record's board is {text[:80]!r}, and not {self.board_line(limit)!r}")
+            raise AssertionError(f"{self.name}: {why}") from None
+        must(f"{self.name}: the record's board is {text[:80]!r}, and not {self.board_line(limit)!r}", text.split("\n")[0] == self.board_line(limit))
         return found
 
     def board_line(self, limit):
@@ -94,10 +92,8 @@ class Case:
         """The name of a record, and the record."""
         path = f"{folder}/{self.name}.{label}"
         told.take(f'  record: "{path}"')
-        if not os.path.exists(path):
-            raise Wrong(f"{path} isn't written")
-        with open(path, encoding="ascii") as file:
-            text = file.read()
+        must(f"{path} isn't written", os.path.exists(path))
+        text = read(path)
         told.records.add(path)
         return self.followed(text, limit, is_whole)
 
@@ -161,8 +157,7 @@ def must_show(case, asked, record, fewest):
         is_shown = record.end == "stuck" if asked is None else record.end is not None and record.end not in asked.ends
     else:
         is_shown = broken_at(asked, record.steps) == fewest - 1
-    if len(record.steps) != fewest or not is_shown:
-        raise Wrong(f"{case.name}: {asked}: the record is {record.lines}, {record.end}, of {fewest} steps")
+    must(f"{case.name}: {asked}: the record is {record.lines}, {record.end}, of {fewest} steps", len(record.steps) == fewest and is_shown)
 
 
 def take_findings(case, told):
@@ -195,9 +190,8 @@ def take_outcomes(case, told, are_all):
         key = tuple(sorted(((int(hart), int(at)), given_by(it)) for hart, at, it in given if it != "-")), line[2]
         found[key] = int(line[4]) if line[4] else None
         if not set(loads) <= {(int(hart), int(at)) for hart, at, _ in given} or int(line[3]) < 1 or are_all and int(line[3]) != states[key]:
-            raise Wrong(f"{case.name}: {line[0]!r}, and counted are {states[key]} states of the loads {loads}")
-    if found != wanted:
-        raise Wrong(f"{case.name}: told are the outcomes {found}, and counted {wanted}")
+            raise AssertionError(f"{case.name}: {line[0]!r}, and counted are {states[key]} states of the loads {loads}")
+    must(f"{case.name}: told are the outcomes {found}, and counted {wanted}", found == wanted)
 
 
 def given_by(word):
@@ -273,8 +267,7 @@ def take_first(case, told, folder, seed, asked, number, wanted):
     """The record of the first order that fails."""
     told.take(f"  order: {number}")
     record = case.take_record(told, folder, f"{seed}-{number}.failed", case.limit)
-    if record.lines != wanted.lines:
-        raise Wrong(f"{case.name}: order {number} of seed {seed} is {record.lines}, and alone {wanted.lines}")
+    must(f"{case.name}: order {number} of seed {seed} is {record.lines}, and alone {wanted.lines}", record.lines == wanted.lines)
     case.take_steps(told, record, failing_place(asked, record))
     if record.end == "stuck":
         case.take_stuck(told, record)
@@ -292,8 +285,7 @@ def take_runs(case, told, point, folder, runs):
         failing = int(told.match(r"  failing: (\d+)")[1])
         told.take(f"  runs: {runs}")
         if it is not None and it.word == "some":
-            if failing != runs:
-                raise Wrong(f"{case.name}: {failing} of {runs} fail")
+            must(f"{case.name}: {failing} of {runs} fail", failing == runs)
         else:
             take_run(case, told, folder, it, failing, runs)
         told.take("  ...")
@@ -304,9 +296,7 @@ def take_run(case, told, folder, asked, failing, runs):
     number = int(told.match(r"  run: (\d+)")[1])
     record = case.take_record(told, folder, f"threads-{number}.failed", case.limit)
     fails = record.end == "stuck" if asked is None else not judge.holds(asked, record.steps, record.end)
-    if not fails or not 1 <= failing <= runs - number:
-        raise Wrong(f"{case.name}: {asked}: run {number} is the first of {failing} that fail of {runs}: {record.lines}, {record.end}")
+    must(f"{case.name}: {asked}: run {number} is the first of {failing} that fail of {runs}: {record.lines}, {record.end}", fails and 1 <= failing <= runs - number)
     case.take_steps(told, record, failing_place(asked, record))
     if record.end == "stuck":
         case.take_stuck(told, record)
-

@@ -1,4 +1,4 @@
-"""Words of command lines, and scripts, for `tests/wrapper`: what is said of them before there is a program."""
+"""Words of command lines, and scripts, for tests of the script: what is said of them before there is a program."""
 
 # A script of each kind, one that is empty, and one with a fault.
 BOARD = "board 1 1 10 0 0x80000000 0\n"

@@ -1,8 +1,7 @@
-"""Judges a script by docs/FORMATS.md alone, in plain Python: what `tests/program` compares the built program with.
+"""Judges a script by docs/FORMATS.md alone, in plain Python: what tests compare the built program with.
 
 `judged(text)` answers the first fault of a script, or its kind. It is written for reading: a script is cut into lines,
-a line into words, and the tests of a line stand in the order in which its first fault is looked for.
-"""
+a line into words, and the tests of a line stand in the order in which its first fault is looked for."""
 import os
 import re
 
@@ -24,23 +23,9 @@ WIDTHS = widths()
 
 # How many words may follow an operation, at least and at most.
 COUNTS = {
-    "ecall": (2, 8),
-    "load": (1, 1),
-    "store": (2, 2),
-    "fetch": (1, 1),
-    "satp": (1, 1),
-    "sie": (1, 1),
-    "sstatus": (1, 1),
-    "sip": (0, 0),
-    "clearssip": (0, 0),
-    "sfence": (2, 2),
-    "fencei": (0, 0),
-    "wfi": (0, 0),
-    "poll": (0, 0),
-    "serve": (0, 0),
-    "advance": (0, 0),
-    "tick": (1, 1),
-}
+    "ecall": (2, 8), "load": (1, 1), "store": (2, 2), "fetch": (1, 1), "satp": (1, 1), "sie": (1, 1), "sstatus": (1, 1), "sip": (0, 0),
+    "clearssip": (0, 0), "sfence": (2, 2), "fencei": (0, 0), "wfi": (0, 0), "poll": (0, 0), "serve": (0, 0), "advance": (0, 0), "tick": (1, 1),
+}  # fmt: skip
 CLOCKS = {"tick"}
 FIRMWARES = {"poll", "serve", "advance"}
 GUESTS = set(COUNTS) - CLOCKS - FIRMWARES

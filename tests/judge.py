@@ -2,13 +2,13 @@
 orders of a program, whether they are so. It knows nothing of the program that is tested.
 
 Words of a step are its actor ("c" is the clock), its operation, and its numbers; words of a reply are its name and its numbers.
-In a pattern None stands for `_`.
-"""
+In a pattern None stands for `_`."""
 import re
 from collections import namedtuple
 
 import board_model
-from board_model import spelled_answer, spelled_step
+
+from .replays import spelled
 
 # What a condition asks: its line, its text, its first word (`after` is a `never` with an `after`), its patterns, and its ends.
 Condition = namedtuple("Condition", "line text word patterns ends")
@@ -209,7 +209,7 @@ class Followed:
         actor = line.split(" ", 1)[0]
         hart = None if actor == "c" else int(actor)
         for *step, after in program.steps_of(self.point, hart):
-            if f"{spelled_step(*step[:2])} -> {spelled_answer(step[2])}" == line:
+            if spelled(*step) == line:
                 self.see(step)
                 self.point = after
                 return
@@ -231,3 +231,9 @@ class Followed:
         if len(self.steps) < limit:
             raise NoOrder(f"it ends where a step can be taken: {self.lines}")
         return "history-full"
+
+    def ends(self, program, limit):
+        """How a run on threads with this record may end. Where the history is full, a tick that the time refuses may have been tried
+        before that or not."""
+        is_full = len(self.steps) == limit and program.meets_full_history(self.point, limit)
+        return {self.end, "history-full"} if is_full else {self.end}

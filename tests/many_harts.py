@@ -1,5 +1,6 @@
 """What the tests of boards with many harts share: their starts, and how each step is answered."""
-from harness import TOO_LONG, Wrong, must_agree, must_be, ran, script
+from . import replays
+from .fixtures import TOO_LONG, must, must_agree, must_be, ran, script
 
 FENCE = "ecall 0x52464e43 1"
 ALL = "0 0xffffffffffffffff"
@@ -20,33 +21,19 @@ def entered(harts, has_entered=True):
     return steps
 
 
-def each_answers(room, harts, steps, table=None):
-    """Replays the steps on a board of so many harts, and compares each reply, and the table where it is given."""
+def each_answers(room, harts, steps, *lines):
+    """Replays the steps on a board of so many harts: each is answered so, these lines are in the table, and the whole is the model's."""
     text = f"board {harts} 1 1000000 0 0x80000000 0\n" + "".join(f"{step}\n" for step, _ in steps)
-    found = ran(["replay", script(room, text.encode())])
+    found, wanted = ran(["replay", script(room, text.encode())]), replays.printed(text)
     must_be(found, 0, None, b"")
-    printed = found.stdout.decode().splitlines()
-    for (step, reply), line in zip(steps, printed[1:]):
-        if line.partition(" -> ")[2] != reply:
-            raise Wrong(f"{harts} harts, {step}: it answered {line!r}, not {reply!r}")
-    rest = printed[1 + len(steps) :]
-    if len(rest) < 3 + harts or not rest[0].startswith("# time ") or table is not None and rest != table:
-        raise Wrong(f"{harts} harts: another table, {rest[:4]}")
+    told = found.stdout.decode().splitlines()
+    for (step, reply), line, other in zip(steps, told[1:], wanted[1:]):
+        must(f"{harts} harts, {step}: it answered {line!r}, not {reply!r}, and the model {other!r}", line.partition(" -> ")[2] == reply and line == other)
+    missing = [line for line in lines if line not in told]
+    must(f"{harts} harts: another table, without {missing[:4]}", told == wanted and not missing)
     if len(found.stdout) < TOO_LONG:
         must_agree(room, found.stdout)
 
-
-def totals(events, starts, entries, pending, reset="power on reset none", fences=0):
-    """The table's lines above its rows; each fence that was asked was applied."""
-    return [
-        f"# time 0000000000000000 events {events:7} {reset}",
-        f"# starts {starts} entries {entries} pending {pending} asked {fences} applied {fences} waiting 0",
-        "# hart state           wait out ss st ie se satp             deadline         tlb ic",
-    ]
-
-
-def hart_row(hart, state, is_enabled=0):
-    return f"# {hart:>4} {state:<15}    0   -  0  0 00  {is_enabled} 0000000000000000 ----------------   0  0"
 
 MOST = (1 << 64) - 1
 

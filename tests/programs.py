@@ -1,6 +1,8 @@
-"""Programs for `tests/program`, with what holds of each record, in whatever order the threads go."""
+"""Programs for tests, with what holds of each record, in whatever order the threads go."""
 import random
 from collections import namedtuple
+
+from .replays import hart_row, totals
 
 # A program, how its run ends, and lines of the table after it.
 Program = namedtuple("Program", "text end table")
@@ -37,28 +39,18 @@ def ipi(hart):
     return f"{SEND_IPI} 1 {hart}"
 
 
-def counts(starts, entries, fences):
-    return f"# starts {starts} entries {entries} pending 0 asked {fences} applied {fences} waiting 0"
-
-
-def row(hart, state, registers="0  0 00  0"):
-    return f"# {hart:>4} {state:<15}    0   -  {registers} 0000000000000000 ----------------   0  0"
-
-
 def chain(harts, stops=True):
     """Each hart starts the next one, and stops. If none stops, there is one order alone."""
     stop = [HART_STOP] if stops else []
     blocks = [(head(it), [start(it + 1)] * (it + 1 < harts) + stop) for it in range(harts)]
-    table = [counts(harts, harts, 0)] + [row(it, "STOPPED" if stops else "STARTED") for it in range(harts)]
+    table = [totals(harts, harts)] + [hart_row(it, "STOPPED" if stops else "STARTED") for it in range(harts)]
     return program(harts, 10_000, blocks, "quiet", table)
 
 
 def hops(places):
-    """
-    A hart goes through the blocks at these places of the RAM, each once, in the order of the list: at the end of each it
-    sleeps, and resumes at the next one, since it was woken before. The blocks stand in the order of their addresses. Also
-    returns the addresses of its entries.
-    """
+    """A hart goes through the blocks at these places of the RAM, each once, in the order of the list: at the end of each it sleeps,
+    and resumes at the next one, since it was woken before. The blocks stand in the order of their addresses. Also returns the
+    addresses of its entries."""
     addresses = [BOOT + 2 * it for it in places]
     last = dict(zip(addresses, [f"{SUSPEND} {NON_RETENTIVE} {it:#x}" for it in addresses[1:]]))
     blocks = {it: [last[it]] if it in last else ["sip"] for it in addresses}
@@ -71,11 +63,9 @@ def hops(places):
 
 
 def sleepers(harts):
-    """
-    Each hart starts the next one and sleeps until that one, which has slept, wakes it; once hart 0 is awake, each wakes the
-    next one again; and the last one wakes all others at once. Each waking comes after what the sleep depends on, so that
-    none is lost, whether the hart sleeps already or not. Those of odd ids sleep in non-retentive suspends at last.
-    """
+    """Each hart starts the next one and sleeps until that one, which has slept, wakes it; once hart 0 is awake, each wakes the next
+    one again; and the last one wakes all others at once. Each waking comes after what the sleep depends on, so that none is lost,
+    whether the hart sleeps already or not. Those of odd ids sleep in non-retentive suspends at last."""
     last, blocks = harts - 1, []
     sleep = [f"{SUSPEND} 0", "clearssip"]
     for it in range(last):
@@ -87,7 +77,7 @@ def sleepers(harts):
         else:
             blocks.append((head(it), [*at_first, *down, *sleep, "sip"]))
     blocks.append((head(last), ["sie 0x2", ipi(last - 1), *sleep, f"{SEND_IPI} 0 0xffffffffffffffff", "clearssip"]))
-    table = [counts(harts, harts, 0)] + [row(it, "STARTED", "0  0 02  0") for it in range(harts)]
+    table = [totals(harts, harts)] + [hart_row(it, "STARTED", registers="0  0 02  0") for it in range(harts)]
     return program(harts, 10_000, [*blocks, ("clock", ["tick 1"] * 20)], "quiet", table)
 
 
@@ -118,24 +108,21 @@ def shutdown():
     starts = [it for hart in range(1, 8) for it in (start(hart), "wfi", "clearssip")]
     blocks = [(head(it), [*hear, *wait]) for it, wait in enumerate(waits, 1)]
     blocks += [(head(0), ["sie 0x2", *starts, f"{RESET} {SHUTDOWN} 0", "sip"]), ("clock", ["tick 3"] * 20)]
-    return program(8, 1_000, blocks, "off", [row(it, "STOPPED") for it in range(8)])
+    return program(8, 1_000, blocks, "off", [hart_row(it, "STOPPED") for it in range(8)])
 
 
 def fences(harts):
     """Each hart fences all harts at once, while each may be inside its own call."""
     blocks = [(head(0), [f"{HART_START} {it} 0x80001000 0" for it in range(1, harts)] + [FENCE_ALL])]
     blocks.append(("at 0x80001000", [FENCE_ALL]))
-    return program(harts, 1_000 if harts <= 16 else 100_000, blocks, "quiet", [row(it, "STARTED") for it in range(harts)], pages=2)
+    return program(harts, 1_000 if harts <= 16 else 100_000, blocks, "quiet", [hart_row(it, "STARTED") for it in range(harts)], pages=2)
 
 
 # The programs that are run many times, by their names.
 MANY = {
-    "runs of a chain of starts": chain(128),
-    "runs of sleepers": sleepers(16),
-    "runs of two sleepers": sleepers(2),
-    "runs of reboots": reboots(),
+    "runs of a chain of starts": chain(128), "runs of sleepers": sleepers(16), "runs of two sleepers": sleepers(2), "runs of reboots": reboots(),
     "runs of a shutdown": shutdown(),
-}
+}  # fmt: skip
 
 
 # ---- what holds of the records of examples
@@ -159,7 +146,6 @@ def is_shot_down(lines):
 
 # What is wrong of an example's record, by its lines, beyond its end and its table.
 WRONG_OF = {"shootdown.program": is_shot_down}
-
 
 # ---- random programs, and what holds of each record
 
@@ -210,29 +196,3 @@ class RandomProgram:
     def text(self):
         heads = [(f"at {it:#x}", block) for it, block in self.blocks.items()]
         return program(self.harts, self.limit, [*heads, ("clock", self.ticks)], None, []).text
-
-    def left(self, events):
-        """What each hart and the clock have still to do after these events. Raises ValueError where one did something else."""
-        left = {str(it): [] for it in range(self.harts)} | {"c": self.ticks}
-        for event in events:
-            step, _, reply = event.partition(" -> ")
-            actor, _, operation = step.partition(" ")
-            if reply.startswith("entry "):
-                left[actor] = self.blocks.get(int(reply.split()[1], 0), [])
-            elif operation not in ("advance", "poll", "serve"):
-                if operation != next(iter(left[actor]), None):
-                    raise ValueError(f"{event!r}, where {left[actor][:1]} is next")
-                left[actor] = left[actor][1:]
-        return left
-
-    def tries(self, left):
-        """The steps that each actor could still do, of which each must be refused where none goes on."""
-        for actor, operations in left.items():
-            firmware = ["advance", "poll", "serve"] if actor != "c" else []
-            yield from (f"{actor} {it}" for it in [*firmware, *operations[:1]])
-
-    def is_quiet(self, left, table):
-        """By the rows of the table: hart, state, waiting fences, and harts that its own call waits for."""
-        harts = {it[1]: (it[2], it[4]) for it in map(str.split, table) if len(it) == 13 and it[1].isdecimal()}
-        done = lambda it: harts[it][0] == "STOPPED" or harts[it] == ("STARTED", "-") and not left[it]
-        return all(done(str(it)) for it in range(self.harts))

@@ -1,9 +1,10 @@
 """Small random programs, on boards of all kinds, and random conditions about their steps. A seed makes one program."""
 import random
 
-from judge import step_words
 from board_model import ALL, BASE, FAILED, HSM, IPI, RAM, RFENCE, SRST, TIME
-from grammar import COUNTS, REPLIES
+
+from .grammar import COUNTS, REPLIES
+from .judge import step_words
 
 PAGE = 4_096
 # Where a page table of the board below stands, and the pages that it maps in turn at 0x1000.

@@ -1,6 +1,5 @@
-"""Scripts of all kinds, good ones and ones with each fault: what `tests/program` gives the built program and judges by
-`tests/grammar.py`. Each function gives texts; `all_texts` gives all of them, each once.
-"""
+"""Scripts of all kinds, good ones and ones with each fault: what tests give the built program and judge by `tests/grammar.py`. Each
+function gives texts; `all_texts` gives all of them, each once."""
 import random
 
 BOARD = b"board 3 2 100 0 0x80000000 0x0\n"
@@ -54,23 +53,9 @@ NUMBERS = """
 
 # Each operation with good numbers after it, and how many of them may be left out.
 OPERATIONS = [
-    ("ecall 1 2 3 4 5 6 7 8", 6),
-    ("load 1", 0),
-    ("store 1 2", 0),
-    ("fetch 1", 0),
-    ("satp 1", 0),
-    ("sie 1", 0),
-    ("sstatus 1", 0),
-    ("sip", 0),
-    ("clearssip", 0),
-    ("sfence 1 2", 0),
-    ("fencei", 0),
-    ("wfi", 0),
-    ("poll", 0),
-    ("serve", 0),
-    ("advance", 0),
-    ("tick 1", 0),
-]
+    ("ecall 1 2 3 4 5 6 7 8", 6), ("load 1", 0), ("store 1 2", 0), ("fetch 1", 0), ("satp 1", 0), ("sie 1", 0), ("sstatus 1", 0), ("sip", 0),
+    ("clearssip", 0), ("sfence 1 2", 0), ("fencei", 0), ("wfi", 0), ("poll", 0), ("serve", 0), ("advance", 0), ("tick 1", 0),
+]  # fmt: skip
 REPLIES = ["ret -1 2", "waiting", "gone", "served", "done", "entry 1 2 3", "value 1", "fault 1", "moved 1", "refused 1"]
 
 # Where an operation may stand: before it, and after it.
@@ -235,16 +220,10 @@ def orders():
 
 
 PRINTED = [
-    b"0 ecall 0x10 0x0 0xffffffffffffffff 0x0 0x1 0x0 0x0 0x0",
-    b"127 ecall 0x52464e43 0x1 0x2 0x0 0x1000 0x1000 0x0 0x0 -> ret -3 0x0",
-    b"0 sfence 0x1000 - -> done",
-    b"12 store 0x80000008 0x1234567890abcdef",
-    b"c tick 0x5",
-    b"1 sstatus 1 -> refused 2",
-    b"3 advance -> entry 0x80000000 3 0x7",
-    b"cut -> done",
-    b"cut",
-]
+    b"0 ecall 0x10 0x0 0xffffffffffffffff 0x0 0x1 0x0 0x0 0x0", b"127 ecall 0x52464e43 0x1 0x2 0x0 0x1000 0x1000 0x0 0x0 -> ret -3 0x0",
+    b"0 sfence 0x1000 - -> done", b"12 store 0x80000008 0x1234567890abcdef", b"c tick 0x5", b"1 sstatus 1 -> refused 2",
+    b"3 advance -> entry 0x80000000 3 0x7", b"cut -> done", b"cut",
+]  # fmt: skip
 
 
 def printed():

@@ -1,7 +1,7 @@
 """Boards that are refused, and boards that are made."""
 import random
 
-from harness import BAD_BOARD, WRONG_KIND, checked, must_be, must_have, ran, replayed, script
+from .fixtures import BAD_BOARD, WRONG_KIND, Test, checked, must_be, must_have, ran, replayed, script
 
 # Board lines with one number outside its limits, and their nearest good ones.
 BAD_BOARDS = [
@@ -22,16 +22,6 @@ BAD_BOARDS = [
     (b"board 2 1 10 0 0x80000000 0 0xffffffffffffffff 48", b"board 2 1 10 0 0x80000000 0 0 48"),
     (b"board 2 1 10 0 0x80000000 0 9 0xffffffffffffffff", b"board 2 1 10 0 0x80000000 0 9 0x30"),
 ]
-
-
-def bad_boards(room):
-    for bad, good in BAD_BOARDS:
-        replayed(room, bad + b"\n", 1, b"", BAD_BOARD)
-        replayed(room, bad + b"\n0 fly\n", 1, b"", b"sbiboard: line 2: fault 3\n")
-        replayed(room, bad + b"\n0 sip -> done\n", 1, b"", WRONG_KIND)
-        checked(room, bad + b"\n0 sip -> done\n", 1, b"", BAD_BOARD)
-        checked(room, bad + b"\nclock\n", 1, b"", WRONG_KIND)
-        replayed(room, good + b"\n", 0, None, b"")
 
 OPAQUES = (0, 1, 7, 1 << 32, 1 << 63, (1 << 64) - 1)
 # The most of each number of a board line: harts, pages, and events in the history.
@@ -54,16 +44,20 @@ def boards():
             yield harts, 2 * harts, limit, 0x80000000 + 2 * some.randrange(harts << 11), some.getrandbits(64)
 
 
-def good_boards(room):
-    """With ample memory each good board is made, whatever its numbers."""
-    for harts, pages, limit, address, opaque in boards():
-        text = b"board %d %d %d %d %#x %#x\n" % (harts, pages, limit, harts - 1, address, opaque)
-        found = ran(["replay", script(room, text)])
-        must_be(found, 0, None, b"")
-        must_have(found.stdout, text, b"\n# entry %3d %016x %016x\n" % (harts - 1, address, opaque))
+class Boards(Test):
+    def test_bad_boards(self):
+        for bad, good in BAD_BOARDS:
+            replayed(self.room, bad + b"\n", 1, b"", BAD_BOARD)
+            replayed(self.room, bad + b"\n0 fly\n", 1, b"", b"sbiboard: line 2: fault 3\n")
+            replayed(self.room, bad + b"\n0 sip -> done\n", 1, b"", WRONG_KIND)
+            checked(self.room, bad + b"\n0 sip -> done\n", 1, b"", BAD_BOARD)
+            checked(self.room, bad + b"\nclock\n", 1, b"", WRONG_KIND)
+            replayed(self.room, good + b"\n", 0, None, b"")
 
-
-TESTS = [
-    ("bad boards", bad_boards),
-    ("good boards", good_boards),
-]
+    def test_good_boards(self):
+        """With ample memory each good board is made, whatever its numbers."""
+        for harts, pages, limit, address, opaque in boards():
+            text = b"board %d %d %d %d %#x %#x\n" % (harts, pages, limit, harts - 1, address, opaque)
+            found = ran(["replay", script(self.room, text)])
+            must_be(found, 0, None, b"")
+            must_have(found.stdout, text, b"\n# entry %3d %016x %016x\n" % (harts - 1, address, opaque))

@@ -1,8 +1,7 @@
 """Each number of the board's line counts in all orders, and in orders of a seed: programs that show it, beside the model."""
-import all_orders
-from judge import Verdicts, condition
-from test_explore import explored
-from test_orders import must, told
+from . import all_orders
+from .fixtures import PROGRAM, TESTER, Test, explored, must, named, told
+from .judge import Verdicts, condition
 
 # A page table that is its own lower ones maps page 0x1000 to the RAM's first page and then to its second one, whose word is 0,
 # with another address space that is the same one where few bits are kept.
@@ -37,34 +36,41 @@ ROWS = (
 )  # fmt: skip
 
 
-def boards_of_all_orders_are_the_scripts(room):
-    """Of each number of the board's line, and of its bounds, all orders are those of the script's board, but that no limit cuts them off."""
-    wrong = []
-    for board, blocks, asked in ROWS:
-        text = "".join(f"#! {it}\n" for it in asked) + f"board {board}\n{blocks}"
-        verdicts = Verdicts(all_orders.Orders(text))
-        wanted = [(verdicts.fewest(condition(1, it)) is None) != it.startswith("some") for it in asked]
-        for name, (_, lines) in (("explore", explored(room, text)), ("test", told(room, text))):
-            found = [line.startswith("ok ") for line in lines if line.startswith(("ok ", "not ok "))]
-            if found != wanted:
-                wrong.append((name, board, blocks.split("\n")[1], asked, found, wanted))
-    must(f"{len(wrong)} of {len(ROWS)} boards are others: {wrong[:9]}", not wrong)
+def asking(board, blocks, asked):
+    """The program's text with its conditions, and whether each holds in all orders, by the model."""
+    text = "".join(f"#! {it}\n" for it in asked) + f"board {board}\n{blocks}"
+    verdicts = Verdicts(all_orders.Orders(text))
+    return text, [(verdicts.fewest(condition(1, it)) is None) != it.startswith("some") for it in asked]
 
 
-def boards_of_a_seed_are_the_scripts(room):
-    """So is the board of orders of a seed, with its limit."""
-    wrong = []
-    for board, blocks, asked in ROWS:
-        if len(all_orders.Orders(f"board {board}\n{blocks}").over) > 1 or int(board.split()[2]) < 9:
-            continue
-        text = "".join(f"#! {it}\n" for it in asked) + f"board {board}\n{blocks}"
-        verdicts = Verdicts(all_orders.Orders(text))
-        wanted = [(verdicts.fewest(condition(1, it)) is None) != it.startswith("some") for it in asked]
-        _, lines = told(room, text, "--times", "300")
-        found = [line.startswith("ok ") for line in lines if line.startswith(("ok ", "not ok "))]
-        if found != wanted:
-            wrong.append((board, blocks.split("\n")[1], asked, found, wanted))
-    must(f"{wrong[:9]}", not wrong)
+def held(lines):
+    """Whether each point holds that is told."""
+    return [line.startswith("ok ") for line in lines if line.startswith(("ok ", "not ok "))]
 
 
-TESTS = [("boards of all orders are the scripts'", boards_of_all_orders_are_the_scripts), ("boards of a seed are the scripts'", boards_of_a_seed_are_the_scripts)]
+class BoardsOfAllOrders(Test):
+    programs = (PROGRAM, TESTER)
+
+    @named("boards of all orders are the scripts'")
+    def test_boards_of_all_orders_are_the_scripts(self):
+        """Of each number of the board's line, and of its bounds, all orders are those of the script's board, but that no limit cuts them off."""
+        wrong = []
+        for board, blocks, asked in ROWS:
+            text, wanted = asking(board, blocks, asked)
+            for name, (_, lines) in (("explore", explored(self.room, text)), ("test", told(self.room, text))):
+                if held(lines) != wanted:
+                    wrong.append((name, board, blocks.split("\n")[1], asked, held(lines), wanted))
+        must(f"{len(wrong)} of {len(ROWS)} boards are others: {wrong[:9]}", not wrong)
+
+    @named("boards of a seed are the scripts'")
+    def test_boards_of_a_seed_are_the_scripts(self):
+        """So is the board of orders of a seed, with its limit."""
+        wrong = []
+        for board, blocks, asked in ROWS:
+            if len(all_orders.Orders(f"board {board}\n{blocks}").over) > 1 or int(board.split()[2]) < 9:
+                continue
+            text, wanted = asking(board, blocks, asked)
+            _, lines = told(self.room, text, "--times", "300")
+            if held(lines) != wanted:
+                wrong.append((board, blocks.split("\n")[1], asked, held(lines), wanted))
+        must(f"{wrong[:9]}", not wrong)

@@ -5,12 +5,12 @@ import re
 import subprocess
 import threading
 import time
+from unittest import SkipTest
 
-import programs
-from harness import HANG, Skipped
-from test_explore import explored
-from test_few_states import beside
-from test_orders import LOADS_AND_STORES, RACE, TESTER, at_a_terminal, must, told
+from . import programs
+from .fixtures import HANG, PROGRAM, TESTER, Test, explored, must, read, tester, told, write
+from .test_few_states import beside
+from .test_orders import LOADS_AND_STORES, RACE, at_a_terminal
 
 # How many states LOADS_AND_STORES has.
 STATES = 22
@@ -34,20 +34,6 @@ BOUNDS = (
 )
 
 
-def bounds_of_explore_are_told(room):
-    """Where a bound cuts off the look for a condition, or for what is found, the point or that line says so, and without a failure the status is 8."""
-    wrong = []
-    for words, asked, wanted, line in BOUNDS:
-        status, lines = explored(room, "".join(f"#! {it}\n" for it, _ in asked) + LOADS_AND_STORES, "--no-outcomes", *words)
-        points = [it for it in lines if it.startswith(("ok ", "not ok "))]
-        abouts = [(f"line {at}: {it}", said) for at, (it, said) in enumerate(asked, 1)] or [("no order ends stuck", None)]
-        expected = [point_of(at, about, said) for at, (about, said) in enumerate(abouts, 1)]
-        is_cut = lines[-1] == "# cut short: not all orders were seen"
-        if status != wanted or points != expected or not any(it.startswith(line) for it in lines) or is_cut != (line != SEEN or None in [said for _, said in asked]):
-            wrong.append((words, asked, status, points, lines[-3:]))
-    must(f"{wrong}", not wrong)
-
-
 def point_of(number, about, said):
     if said is None:
         return f"ok {number} - a.program: {about}: not all orders were seen # SKIP not tried"
@@ -57,76 +43,14 @@ def point_of(number, about, said):
 # A program with a block that no order enters, an entry without a block, and a call whose every answer is an error.
 ODD = RACE.replace("at 0x80001000\n", "ecall 0x48534d 0 9 0x80001000\nat 0x80003000\n")
 
-
-def what_was_not_tried_is_not_told(room):
-    """Where nothing was tried, nothing is said of blocks, calls and patterns; each point says that it wasn't."""
-    asked = ("never 0 poll", "some 1 load", "end quiet")
-    for text in (ODD, "".join(f"#! {it}\n" for it in asked) + ODD):
-        abouts = [f"race.program: line {at}: {it}" for at, it in enumerate(asked, 1)] if text.startswith("#!") else ["race.program (0 orders)"]
-        wanted = ["TAP version 14", *(f"ok {at} - {it} # SKIP not tried" for at, it in enumerate(abouts, 1)), f"1..{len(abouts)}", f"# {len(abouts)} points, 0 failed"]
-        wanted += ["# 1 files, 0 orders, 0 different records", "# ends: 0 off, 0 history-full, 0 quiet, 0 stuck", "# cut short: not all orders were tried"]
-        for words in (["--seconds", "0"], ["--seconds", "0", "--times", "9"], ["--seconds", "0", "--seed", "3"]):
-            _, lines = told(room, text, *words)
-            must(f"{words}: {lines}", lines == wanted)
-
-
-def points_of_explore_are_written(room):
-    """`explore --tap` writes the points into a file, those that fail and those of files that can't be tested too."""
-    for text in (RACE, "#! end off\n#! some 1 load\n" + RACE, "board\n"):
-        status, lines = explored(room, text, "--tap", "points.tap")
-        with open(os.path.join(room, "points.tap"), encoding="utf-8") as file:
-            must(f"status {status}, {lines}", file.read().splitlines() == lines)
-        os.remove(os.path.join(room, "points.tap"))
-
-
 # ---- time
 
 ENDLESS = ["--times", "1000000000", "--jobs", "1"]
 # More states than are seen within seconds.
 WIDE = beside(3_000, 3_000).replace("board 2 1 1000 ", "board 2 1 1000000 ")
 
-
-def times_are_told(room):
-    """At a terminal the last line is how long it took, in seconds with one digit behind the point, of `test` and of `explore`."""
-    for text, words in ((RACE, ["race.program"]), ("board\n", ["race.program"]), (RACE, [*ENDLESS, "--seconds", "1", "race.program"])):
-        told(room, text, "--times", "1")
-        begun = time.monotonic()
-        _, shown = at_a_terminal(room, *words)
-        spent = time.monotonic() - begun
-        found = re.fullmatch(r"time: (\d+\.\d) s", shown.split("\n")[-2])
-        must(f"{words}: {shown}", found and float(found[1]) <= spent + 0.1 and float(found[1]) >= (1 if "--seconds" in words else 0))
-    _, shown, _ = watched(room, "sbiboard explore", ["race.program"], True, False)
-    must(f"{shown}", re.fullmatch(r"time: \d+\.\d s", shown.split("\n")[-2]))
-
-
-def seconds_are_seconds(room):
-    """--seconds N ends after N seconds, and not much later, whatever is looked at: orders of a seed, all orders, a condition's too."""
-    told(room, RACE, "--times", "1")
-    with open(os.path.join(room, "wide.program"), "w", encoding="ascii") as file:
-        file.write("#! never 0 sip after 1 load\n" + WIDE)
-    for name, words in (("sbiboard", [*ENDLESS, "--seconds", "3", "race.program"]), ("sbiboard explore", ["--states", "100000000", "--seconds", "1", "wide.program"])):
-        begun, seconds = time.monotonic(), int(words[words.index("--seconds") + 1])
-        found = subprocess.run([name, *words], executable=TESTER, cwd=room, capture_output=True, text=True, timeout=200)
-        spent = time.monotonic() - begun
-        # (a look reads the clock every 1,024 turns)
-        must(f"{words}: {spent:.1f} s, {found}", seconds <= spent < (seconds + 2.5 if name == "sbiboard" else HANG) and "# cut short: not all orders were " in found.stdout)
-
-
 # Harts that each start the next one: a run on threads takes many times as long as an order.
 CHAIN = programs.chain(64).text.decode()
-
-
-def seconds_of_runs_are_kept(room):
-    """--seconds ends runs on threads, too: as many as were made are told, and the summary says that not all were."""
-    with open(os.path.join(room, "chain.program"), "w", encoding="ascii") as file:
-        file.write("#! end off\n" + CHAIN)
-    found = subprocess.run(["sbiboard", "--times", "3000", "--threads", "--seconds", "2", "chain.program"], executable=TESTER, cwd=room, capture_output=True, text=True, timeout=200)
-    lines = found.stdout.splitlines()
-    if lines[2:5] != ["  ---", "  seed: 0", "  failing: 3000"]:
-        raise Skipped("orders take all the time here")
-    runs = next((int(it.split()[1]) for it in lines if it.startswith("  runs: ")), 0)
-    must(f"{lines}", 0 < runs < 3000 and f"  failing: {runs}" in lines and "  run: 0" in lines)
-    must(f"{lines}", f"# ends: 0 off, 0 history-full, {3000 + runs} quiet, 0 stuck" in lines and lines[-1] == "# cut short: not all orders were tried")
 
 
 # ---- progress
@@ -168,47 +92,103 @@ def must_be_taken_back(text):
     return [it for it in lines if it]
 
 
-def progress_of_orders_is_told(room):
-    """Where standard error is a terminal the progress is told there: how many of how many, how many a second, and how long the others take."""
-    told(room, RACE, "--times", "1")
-    with open(os.path.join(room, "chain.program"), "w", encoding="ascii") as file:
-        file.write(CHAIN)
-    for words, name in (([*ENDLESS, "--seconds", "4", "race.program"], "orders"), (["--times", "3000", "--threads", "--seconds", "5", "chain.program"], "runs")):
-        _, out, said = watched(room, "sbiboard", words, False, True)
-        if name == "runs" and " runs, " not in said:
-            raise Skipped("orders take all the time here")
-        must(f"{out}", out.startswith("TAP version 14\n"))
-        lines = [re.fullmatch(rf"(\d+) of (\d+) (orders|runs), (\d+) a second, (\d+) s to go", it) for it in must_be_taken_back(said)]
-        must(f"{said!r}", all(lines) and name in [it[3] for it in lines])
-        for it in lines:
-            tried, of, rate, left = (int(it[place]) for place in (1, 2, 4, 5))
-            must(f"{it[0]}", of == int(words[1]) and left == (of - tried) // max(rate, 1) and tried <= of)
+class BoundsOfTime(Test):
+    programs = (PROGRAM, TESTER)
 
+    def test_bounds_of_explore_are_told(self):
+        """Where a bound cuts off the look for a condition, or for what is found, the point or that line says so, and without a failure the status is 8."""
+        wrong = []
+        for words, asked, wanted, line in BOUNDS:
+            status, lines = explored(self.room, "".join(f"#! {it}\n" for it, _ in asked) + LOADS_AND_STORES, "--no-outcomes", *words)
+            points = [it for it in lines if it.startswith(("ok ", "not ok "))]
+            abouts = [(f"line {at}: {it}", said) for at, (it, said) in enumerate(asked, 1)] or [("no order ends stuck", None)]
+            expected = [point_of(at, about, said) for at, (about, said) in enumerate(abouts, 1)]
+            is_cut = lines[-1] == "# cut short: not all orders were seen"
+            if status != wanted or points != expected or not any(it.startswith(line) for it in lines) or is_cut != (line != SEEN or None in [said for _, said in asked]):
+                wrong.append((words, asked, status, points, lines[-3:]))
+        must(f"{wrong}", not wrong)
 
-def progress_of_a_look_is_told(room):
-    """So is that of a look at all orders: how many states had their turn, and how many wait."""
-    with open(os.path.join(room, "wide.program"), "w", encoding="ascii") as file:
-        file.write(WIDE)
-    words = ["--states", "100000000", "--seconds", "3", "wide.program"]
-    _, out, said = watched(room, "sbiboard explore", words, False, True)
-    lines = must_be_taken_back(said)
-    must(f"{lines}", all(re.fullmatch(r"\d+ states, \d+ that wait, \d+ a second", it) for it in lines) and out.startswith("TAP version 14\n"))
+    def test_what_was_not_tried_is_not_told(self):
+        """Where nothing was tried, nothing is said of blocks, calls and patterns; each point says that it wasn't."""
+        asked = ("never 0 poll", "some 1 load", "end quiet")
+        for text in (ODD, "".join(f"#! {it}\n" for it in asked) + ODD):
+            abouts = [f"race.program: line {at}: {it}" for at, it in enumerate(asked, 1)] if text.startswith("#!") else ["race.program (0 orders)"]
+            wanted = ["TAP version 14", *(f"ok {at} - {it} # SKIP not tried" for at, it in enumerate(abouts, 1)), f"1..{len(abouts)}", f"# {len(abouts)} points, 0 failed"]
+            wanted += ["# 1 files, 0 orders, 0 different records", "# ends: 0 off, 0 history-full, 0 quiet, 0 stuck", "# cut short: not all orders were tried"]
+            for words in (["--seconds", "0"], ["--seconds", "0", "--times", "9"], ["--seconds", "0", "--seed", "3"]):
+                _, lines = told(self.room, text, *words)
+                must(f"{words}: {lines}", lines == wanted)
 
+    def test_points_of_explore_are_written_into_a_file_too(self):
+        """`explore --tap` writes the points into a file, those that fail and those of files that can't be tested too."""
+        for text in (RACE, "#! end off\n#! some 1 load\n" + RACE, "board\n"):
+            status, lines = explored(self.room, text, "--tap", "points.tap")
+            must(f"status {status}, {lines}", read(os.path.join(self.room, "points.tap")).splitlines() == lines)
+            os.remove(os.path.join(self.room, "points.tap"))
 
-def no_progress_elsewhere(room):
-    """Where standard error is no terminal, nothing goes there, also where standard output is one; and nothing is told of what is soon done."""
-    told(room, RACE, "--times", "1")
-    long = [*ENDLESS, "--seconds", "3", "race.program"]
-    for name, words, out_is_one, err_is_one in (
-        ("sbiboard", long, True, False), ("sbiboard", long, False, False), ("sbiboard", ["race.program"], False, True), ("sbiboard explore", ["race.program"], False, True),
-    ):  # fmt: skip
-        _, out, said = watched(room, name, words, out_is_one, err_is_one)
-        must(f"{words}: {said!r}", said == "" and "\x1b" not in out and out.startswith("TAP version 14\n") != out_is_one)
+    def test_times_are_told_at_a_terminal(self):
+        """At a terminal the last line is how long it took, in seconds with one digit behind the point, of `test` and of `explore`."""
+        for text, words in ((RACE, ["race.program"]), ("board\n", ["race.program"]), (RACE, [*ENDLESS, "--seconds", "1", "race.program"])):
+            told(self.room, text, "--times", "1")
+            begun = time.monotonic()
+            _, shown = at_a_terminal(self.room, *words)
+            spent = time.monotonic() - begun
+            found = re.fullmatch(r"time: (\d+\.\d) s", shown.split("\n")[-2])
+            must(f"{words}: {shown}", found and float(found[1]) <= spent + 0.1 and float(found[1]) >= (1 if "--seconds" in words else 0))
+        _, shown, _ = watched(self.room, "sbiboard explore", ["race.program"], True, False)
+        must(f"{shown}", re.fullmatch(r"time: \d+\.\d s", shown.split("\n")[-2]))
 
+    def test_seconds_are_seconds(self):
+        """--seconds N ends after N seconds, and not much later, whatever is looked at: orders of a seed, all orders, a condition's too."""
+        told(self.room, RACE, "--times", "1")
+        write(os.path.join(self.room, "wide.program"), "#! never 0 sip after 1 load\n" + WIDE)
+        for name, words in (("sbiboard", [*ENDLESS, "--seconds", "3", "race.program"]), ("sbiboard explore", ["--states", "100000000", "--seconds", "1", "wide.program"])):
+            begun, seconds = time.monotonic(), int(words[words.index("--seconds") + 1])
+            found = tester(self.room, *words, name=name, timeout=200)
+            spent = time.monotonic() - begun
+            # (a look reads the clock every 1,024 turns)
+            must(f"{words}: {spent:.1f} s, {found}", seconds <= spent < (seconds + 2.5 if name == "sbiboard" else HANG) and "# cut short: not all orders were " in found.stdout)
 
-TESTS = [
-    ("bounds of explore are told", bounds_of_explore_are_told), ("what was not tried is not told", what_was_not_tried_is_not_told),
-    ("points of explore are written into a file too", points_of_explore_are_written), ("times are told at a terminal", times_are_told),
-    ("seconds are seconds", seconds_are_seconds), ("seconds of runs are kept", seconds_of_runs_are_kept), ("progress of orders is told", progress_of_orders_is_told),
-    ("progress of a look is told", progress_of_a_look_is_told), ("no progress but at a terminal", no_progress_elsewhere),
-]  # fmt: skip
+    def test_seconds_of_runs_are_kept(self):
+        """--seconds ends runs on threads, too: as many as were made are told, and the summary says that not all were."""
+        write(os.path.join(self.room, "chain.program"), "#! end off\n" + CHAIN)
+        found = tester(self.room, "--times", "3000", "--threads", "--seconds", "2", "chain.program", timeout=200)
+        lines = found.stdout.splitlines()
+        if lines[2:5] != ["  ---", "  seed: 0", "  failing: 3000"]:
+            raise SkipTest("orders take all the time here")
+        runs = next((int(it.split()[1]) for it in lines if it.startswith("  runs: ")), 0)
+        must(f"{lines}", 0 < runs < 3000 and f"  failing: {runs}" in lines and "  run: 0" in lines)
+        must(f"{lines}", f"# ends: 0 off, 0 history-full, {3000 + runs} quiet, 0 stuck" in lines and lines[-1] == "# cut short: not all orders were tried")
+
+    def test_progress_of_orders_is_told(self):
+        """Where standard error is a terminal the progress is told there: how many of how many, how many a second, and how long the others take."""
+        told(self.room, RACE, "--times", "1")
+        write(os.path.join(self.room, "chain.program"), CHAIN)
+        for words, name in (([*ENDLESS, "--seconds", "4", "race.program"], "orders"), (["--times", "3000", "--threads", "--seconds", "5", "chain.program"], "runs")):
+            _, out, said = watched(self.room, "sbiboard", words, False, True)
+            if name == "runs" and " runs, " not in said:
+                raise SkipTest("orders take all the time here")
+            must(f"{out}", out.startswith("TAP version 14\n"))
+            lines = [re.fullmatch(rf"(\d+) of (\d+) (orders|runs), (\d+) a second, (\d+) s to go", it) for it in must_be_taken_back(said)]
+            must(f"{said!r}", all(lines) and name in [it[3] for it in lines])
+            for it in lines:
+                tried, of, rate, left = (int(it[place]) for place in (1, 2, 4, 5))
+                must(f"{it[0]}", of == int(words[1]) and left == (of - tried) // max(rate, 1) and tried <= of)
+
+    def test_progress_of_a_look_is_told(self):
+        """So is that of a look at all orders: how many states had their turn, and how many wait."""
+        write(os.path.join(self.room, "wide.program"), WIDE)
+        words = ["--states", "100000000", "--seconds", "3", "wide.program"]
+        _, out, said = watched(self.room, "sbiboard explore", words, False, True)
+        lines = must_be_taken_back(said)
+        must(f"{lines}", all(re.fullmatch(r"\d+ states, \d+ that wait, \d+ a second", it) for it in lines) and out.startswith("TAP version 14\n"))
+
+    def test_no_progress_but_at_a_terminal(self):
+        """Where standard error is no terminal, nothing goes there, also where standard output is one; and nothing is told of what is soon done."""
+        told(self.room, RACE, "--times", "1")
+        long = [*ENDLESS, "--seconds", "3", "race.program"]
+        for name, words, out_is_one, err_is_one in (
+            ("sbiboard", long, True, False), ("sbiboard", long, False, False), ("sbiboard", ["race.program"], False, True), ("sbiboard explore", ["race.program"], False, True),
+        ):  # fmt: skip
+            _, out, said = watched(self.room, name, words, out_is_one, err_is_one)
+            must(f"{words}: {said!r}", said == "" and "\x1b" not in out and out.startswith("TAP version 14\n") != out_is_one)

@@ -1,5 +1,6 @@
 """Caches whose next fill is at each of the sixteen places: what is replaced, what a fence leaves, and in which order."""
-from harness import Wrong, must_be, ran, script
+from .fixtures import Test, must, must_be, ran, script
+from .replays import printed
 
 BEFORE = """\
 board 2 16 1000 0 0x80000000 0x0
@@ -11,43 +12,12 @@ board 2 16 1000 0 0x80000000 0x0
 """
 
 
-class Cache:
-    """The last sixteen fills of hart 1, but for what was dropped, as the rule has it, and the lines of a schedule that make them."""
+class Translations:
+    """Pages whose leaves are of the page at 0x80004000 or of that at 0x80005000, which hart 1 loads."""
 
-    def __init__(self):
-        self.lines, self.replies, self.fills, self.now = [], [], [], {}
-
-    def line(self, text, reply="done"):
-        self.lines.append(text)
-        self.replies.append(f"{text} -> {reply}")
-
-    def change(self, key, value):
-        self.now[key] = value
-        self.line(self.stored(key, value))
-
-    def look(self, key):
-        found = [value for at, value in self.fills if at == key]
-        value = found[-1] if found else self.now[key]
-        if not found:
-            self.fills = [*self.fills, (key, value)]
-        self.line(self.asked(key), f"value {self.told(value):#x}")
-
-    def kept(self):
-        """What is live: of the last sixteen fills those that weren't dropped, which stand as None."""
-        self.fills = self.fills[-16:]
-        return [it for it in self.fills if it[0] is not None]
-
-    def drop(self, line, *keys):
-        self.line(line)
-        self.fills = [(None, None) if not keys or key in keys else (key, value) for key, value in self.fills]
-
-
-class Translations(Cache):
-    """Pages whose leaves are of the page at 0x80004000 or of that at 0x80005000."""
-
-    every = "1 sfence - -"
-    first = [("1 sfence 0x1000 -", 1)]
+    every, first = "1 sfence - -", "1 sfence 0x1000 -"
     opening = "0 store 0x80004000 0x11\n0 store 0x80005000 0x22\n1 satp 0x8000500000080001\n"
+    shown = "# tlb   1 "
 
     def stored(self, key, value):
         return f"0 store {0x80003000 + 8 * key:#x} {0x200010C7 + 0x400 * value:#x}"
@@ -55,19 +25,13 @@ class Translations(Cache):
     def asked(self, key):
         return f"1 load {key << 12:#x}"
 
-    def told(self, value):
-        return 0x11 * (1 + value)
 
-    def shown(self, key, value):
-        return f"# tlb   1 {key << 12:016x} 0 0005 - {0x80004000 + (value << 12):016x} rw-d"
+class Words:
+    """Words at 0x80004000 and above, which hart 1 fetches; only a FENCE.I drops them, and it drops all."""
 
-
-class Words(Cache):
-    """Words at 0x80004000 and above, which only a FENCE.I drops, and it drops all."""
-
-    every = "1 fencei"
-    first = [("1 fencei",)]
+    every = first = "1 fencei"
     opening = ""
+    shown = "# ic   1 "
 
     def stored(self, key, value):
         return f"0 store {0x80004000 + 8 * key:#x} {value:#x}"
@@ -75,74 +39,36 @@ class Words(Cache):
     def asked(self, key):
         return f"1 fetch {0x80004000 + 8 * key:#x}"
 
-    def told(self, value):
-        return value
-
-    def shown(self, key, value):
-        return f"# ic   1 {0x80004000 + 8 * key:016x} {value:016x}"
-
-
-def look_at(cache, keys):
-    for key in keys:
-        cache.look(key)
-        cache.kept()
-
 
 def started(kind, start):
-    """A cache in which so many fills were made, and all were dropped."""
-    cache = kind()
-    for key in range(1, 18):
-        cache.change(key, 0)
-    look_at(cache, range(1, start + 1))
-    cache.drop(cache.every)
-    return cache
+    """Steps after which so many fills were made, and all were dropped."""
+    return [*(kind.stored(key, 0) for key in range(1, 18)), *map(kind.asked, range(1, start + 1)), kind.every]
 
 
-def must_keep(room, cache):
-    """The replies are those of the rule, and the table has what is live, in the order of filling."""
-    text = BEFORE + cache.opening + "".join(line + "\n" for line in cache.lines)
+def must_keep(room, kind, steps):
+    """What is replayed is what the model says: each answer, and what is live, in the order of filling. Returns that, and the answers."""
+    text = BEFORE + kind.opening + "".join(line + "\n" for line in steps)
+    wanted = printed(text)
     found = ran(["replay", script(room, text.encode())])
-    must_be(found, 0, None, b"")
-    lines = found.stdout.decode().splitlines()
-    replies = [it for it in lines if " -> " in it][-len(cache.replies) :]
-    if replies != cache.replies:
-        raise Wrong(next(f"{it!r}, not {wanted!r}" for it, wanted in zip(replies, cache.replies) if it != wanted))
-    shown = [it for it in lines if it.startswith(("# tlb   1 ", "# ic   1 "))]
-    wanted = [cache.shown(*it) for it in cache.kept()]
-    if shown != wanted:
-        raise Wrong(f"{shown}, not {wanted}")
-    return wanted
+    must_be(found, 0, "".join(line + "\n" for line in wanted).encode(), b"")
+    return [it for it in wanted if it.startswith(kind.shown)], [it.partition(" -> ")[2] for it in wanted if " -> " in it]
 
 
-def seventeen_fills(room):
-    """Sixteen fills, a change of the first that isn't seen, a seventeenth, and the first again."""
-    for kind in (Translations, Words):
-        for start in range(16):
-            cache = started(kind, start)
-            look_at(cache, range(1, 17))
-            cache.change(1, 1)
-            look_at(cache, [1, 17, 1])
-            if len(must_keep(room, cache)) != 16 or cache.replies[-3].endswith(cache.replies[-1].split()[-1]):
-                raise Wrong(f"from place {start}: {cache.replies[-3:]}")
+class Caches(Test):
+    def test_seventeen_fills_from_each_place(self):
+        """Sixteen fills, a change of the first that isn't seen, a seventeenth, and the first again."""
+        for kind in (Translations(), Words()):
+            for start in range(16):
+                steps = [*started(kind, start), *map(kind.asked, range(1, 17)), kind.stored(1, 1), *map(kind.asked, [1, 17, 1])]
+                live, answers = must_keep(self.room, kind, steps)
+                must(f"from place {start}: {answers[-3:]}, {live}", len(live) == 16 and answers[-3] != answers[-1])
 
-
-def gap_fills(room):
-    """Eight fills, a fence of the first, or of all where there is no other, eight more, and two that replace others."""
-    for kind in (Translations, Words):
-        for start in range(16):
-            cache = started(kind, start)
-            look_at(cache, range(1, 9))
-            for line, *keys in cache.first:
-                cache.drop(line, *keys)
-            look_at(cache, range(9, 17))
-            must_keep(room, cache)
-            look_at(cache, [17, 1])
-            must_keep(room, cache)
-            look_at(cache, range(2, 17))
-            must_keep(room, cache)
-
-
-TESTS = [
-    ("seventeen fills from each place", seventeen_fills),
-    ("fills past a gap from each place", gap_fills),
-]
+    def test_fills_past_a_gap_from_each_place(self):
+        """Eight fills, a fence of the first, or of all where there is no other, eight more, and two that replace others."""
+        for kind in (Translations(), Words()):
+            for start in range(16):
+                steps = [*started(kind, start), *map(kind.asked, range(1, 9)), kind.first]
+                for more, count in ((range(9, 17), (15, 8)), ([17, 1], (16, 10)), (range(2, 17), (16, 16))):
+                    steps += map(kind.asked, more)
+                    live, _ = must_keep(self.room, kind, steps)
+                    must(f"from place {start}, {more}: {live}", len(live) in count)

@@ -1,12 +1,11 @@
 """Conditions by tables: each name, each number and each length of a text is read as it is written, and judged of what was asked."""
 import os
-import subprocess
 
-import judge
-from board_model import board_of, spelled_answer, spelled_step, step_of, words_of
-from grammar import COUNTS, REPLIES
-from harness import Wrong
-from test_orders import TESTER, must, told_of
+from board_model import spelled_answer, spelled_step
+
+from . import judge, replays
+from .fixtures import PROGRAM, TESTER, Test, must, tester, told_of, write
+from .grammar import COUNTS, REPLIES
 
 ENTERED = "0 advance\n"
 STARTED = ENTERED + "0 ecall 0x48534d 0 1 0x80000000\n1 advance\n"
@@ -42,8 +41,7 @@ ARGUMENTS = (0x10, 7, 0x102, 0x103, 0x104, 0x105, 0x106, 0x107)
 def points(room, texts, *words):
     """Whether each point holds, by the texts behind its number; `texts` are files by their names."""
     for name, text in texts.items():
-        with open(os.path.join(room, name), "w", encoding="ascii") as file:
-            file.write(text)
+        write(os.path.join(room, name), text)
     status, lines = told_of(room, *words, *texts)
     found = [line for line in lines if line.startswith(("ok ", "not ok "))]
     must(f"{lines[-3:]}, status {status}", status == int(any(line.startswith("not") for line in found)))
@@ -60,47 +58,14 @@ def must_hold(room, rows):
     found = points(room, texts)
     if found != wanted:
         wrong = [it for it in wanted.keys() | found.keys() if wanted.get(it) != found.get(it)]
-        raise Wrong(f"{sorted(wrong)[:9]} of {len(wanted)} conditions are judged otherwise: {[found.get(it) for it in sorted(wrong)[:9]]}")
+        raise AssertionError(f"{sorted(wrong)[:9]} of {len(wanted)} conditions are judged otherwise: {[found.get(it) for it in sorted(wrong)[:9]]}")
 
 
 def replayed(text):
     """The steps of a schedule with the model's answers, which refuses none."""
-    board, steps = board_of(words_of(HEAD)), []
-    for line in text.splitlines():
-        actor, op = step_of(line.split())
-        steps.append((actor, op, board.step(actor, op)))
-    must(text, all(answer[0] != "refused" for *_, answer in steps))
-    return steps
-
-
-def each_operation_is_itself(room):
-    """For each pair of operations, `some` and `never` hold of the one's schedule by whether it has a step of the other's name."""
-    for_each = lambda has: [row for name in COUNTS for row in ((f"some _ {name}", name in has), (f"never _ {name}", name not in has))]
-    must_hold(room, [(text, for_each({op[0] for _, op, _ in replayed(text)})) for text in OPERATIONS.values()])
-    must("each operation has a row", set(OPERATIONS) == set(COUNTS))
-
-
-def each_reply_is_itself(room):
-    """So it is for each pair of replies, with the actor and the operation of the step that has the one."""
-    rows = []
-    for name, text in REPLIED.items():
-        steps = replayed(text)
-        actor, op, answer = steps[-1]
-        has = {it[0] for *step, it in steps if (step[0], step[1][0]) == (actor, op[0])}
-        must(name, answer[0] == name)
-        rows.append((text, [row for other in REPLIED for row in ((f"some {actor} {op[0]} -> {other}", other in has), (f"never {actor} {op[0]} -> {other}", other not in has))]))
-    must_hold(room, rows)
-    must("each reply has a row", set(REPLIED) == set(REPLIES) - {"refused"})
-
-
-def each_word_counts(room):
-    """Of each operation and each reply each word counts: up to any of them the pattern is met, with any of them `_`, and with none of them another."""
-    rows = []
-    for text in [*OPERATIONS.values(), *REPLIED.values()]:
-        steps = replayed(text)
-        actor, op, answer = steps[-1]
-        rows.append((text, [(asked, judge.holds(judge.condition(1, asked), steps, None)) for asked in asked_about(actor, op, answer)]))
-    must_hold(room, rows)
+    found = [step for _, _, *step in replays.steps(HEAD + text)]
+    must(text, all(answer[0] != "refused" for *_, answer in found))
+    return found
 
 
 def asked_about(actor, op, answer):
@@ -118,59 +83,6 @@ def asked_about(actor, op, answer):
     return [f"{kind} {' '.join(words)}" for words in found for kind in ("some", "never")]
 
 
-def each_number_is_itself(room):
-    """Numbers of 64 bits are told apart in each place that has some: what is read, and what is written in an operation."""
-    rows = []
-    for number in NUMBERS:
-        text = ENTERED + f"0 store 0x80000000 {number}\n0 load 0x80000000\n0 satp {number}\n0 sie {number}\n0 sfence {number} {number}\n"
-        asked = [(f"{kind} {pattern}", (other == number) == (kind == "some")) for other in NUMBERS for kind in ("some", "never") for pattern in (
-            f"0 store 0x80000000 {other}", f"0 load _ -> value {other:#x}", f"0 satp 0{other}", f"0 sie 0x00{other:X}", f"0 sfence _ {other}", f"0 sfence {other} _",
-        )]  # fmt: skip
-        rows.append((text, asked))
-    for number in NUMBERS[1:]:
-        rows.append((f"c tick {number}\n", [(f"some c tick {other}", other == number and number < (1 << 64) - 1) for other in NUMBERS[1:]]))
-        opaque = HEAD.replace("0x80000000 0x0", f"0x80000000 {number}")
-        rows.append((opaque + ENTERED, [(f"some 0 advance -> entry 0x80000000 0 {other}", other == number) for other in NUMBERS]))
-    must_hold(room, rows)
-
-
-def each_argument_is_itself(room):
-    """Each of the eight numbers of a call is told apart from the others, and from itself with a bit above 2^32."""
-    numbers = [*ARGUMENTS[:2], *((1 << 32) + it for it in ARGUMENTS[2:])]
-    text = ENTERED + f"0 ecall {' '.join(map(str, numbers))}\n"
-    asked = [(f"some 0 ecall {' '.join(map(str, numbers))}", True)]
-    for place, number in enumerate(numbers):
-        for other in (number ^ 1 << 32, number + 1, number ^ 1 << 63, ARGUMENTS[place - 1]):
-            words = [*map(str, numbers[:place]), str(other)]
-            asked += [(f"some 0 ecall {' '.join(words)}", False), (f"never 0 ecall {' '.join(words)}", True)]
-    must_hold(room, [(text, asked)])
-
-
-def each_error_is_itself(room):
-    """The error of a call is a number with its sign: `ret -3` is no `ret 3`, and no number of 64 bits."""
-    rows = []
-    for error, call in ERRORS.items():
-        # (a hart that holds interrupts back can't stop)
-        text = ENTERED + ("0 sstatus 1\n" if error == -1 else "") + f"0 ecall {call}\n"
-        others = [(f"{kind} 0 ecall -> ret {other}", (other == error) == (kind == "some")) for other in [*ERRORS, *NO_ERRORS] for kind in ("some", "never")]
-        # (numbers compare as numbers)
-        spellings = [f"{'-' if error < 0 else ''}{zeros}{abs(error)}" for zeros in ("0", "000")] + (["-0", "0x0"] if error == 0 else [])
-        rows.append((text, others + [(f"some 0 ecall -> ret {it}", True) for it in spellings]))
-    must_hold(room, rows)
-
-
-def each_hart_is_itself(room):
-    """Harts up to 127 are told apart, as actors and as numbers of replies."""
-    rows = []
-    for hart in HARTS:
-        text = f"board 128 1 100 {hart} 0x80000000 0x0\n{hart} advance\n{hart} sip\n"
-        asked = [(f"{kind} {actor} sip", (other == hart) == (kind == "some")) for other in HARTS for kind in ("some", "never") for actor in (str(other), f"{other:#x}")]
-        asked += [(f"some _ advance -> entry _ {other}", other == hart) for other in [*HARTS, hart + 128]]
-        asked += [(f"each {other} sip -> value 1", other != hart) for other in HARTS] + [("some c", False), ("never c", True)]
-        rows.append((text, asked))
-    must_hold(room, rows)
-
-
 # ---- lengths
 
 # A hart with one order, which loads once; a condition that holds of it, and one that fails.
@@ -178,8 +90,7 @@ ONE = "board 1 1 10 0 0x80000000 0x0\nat 0x80000000\nload 0x80000000\nsip\n"
 GOOD, BAD = "never 0 load -> value 0x1", "never 0 load -> value 0x0"
 # The same steps as a schedule and as a trace.
 STEPS = "board 1 1 10 0 0x80000000 0x0\n0 advance\n0 load 0x80000000\n0 sip\n"
-ANSWERS = ("entry 0x80000000 0 0x0", "value 0x0", "value 0x0")
-TRACED = "".join(line + "\n" for line in (STEPS.split("\n")[0], *(f"{line} -> {it}" for line, it in zip(STEPS.split("\n")[1:], ANSWERS))))
+TRACED = replays.traced(STEPS)
 
 # How a file is judged: its name, its text, the program's own name, and its words; what is said behind a condition that holds and that fails.
 WAYS = {
@@ -208,16 +119,15 @@ def must_be_points(room, way, files):
     _, _, called, words, _ = WAYS[way]
     wanted = []
     for name, (text, asked) in files.items():
-        with open(os.path.join(room, name), "w", encoding="ascii") as file:
-            file.write(text)
+        write(os.path.join(room, name), text)
         wanted += points_of(way, name, len(wanted) + 1, asked)
-    found = subprocess.run([called, *words, "--failed", room, *files], executable=TESTER, cwd=room, capture_output=True, text=True, timeout=200)
+    found = tester(room, *words, "--failed", room, *files, name=called, timeout=200)
     lines = found.stdout.splitlines()
     told = [line for line in lines if line.startswith(("ok ", "not ok "))]
     failed = sum(line.startswith("not ok ") for line in wanted)
     if told != wanted:
         at = next((at for at, (one, other) in enumerate(zip(told, wanted)) if one != other), min(len(told), len(wanted)))
-        raise Wrong(f"{way}: of {len(wanted)} points told are {len(told)}, point {at + 1} as {told[at : at + 1]}, and not {wanted[at : at + 1]}")
+        raise AssertionError(f"{way}: of {len(wanted)} points told are {len(told)}, point {at + 1} as {told[at : at + 1]}, and not {wanted[at : at + 1]}")
     summary = [f"1..{len(wanted)}", f"# {len(wanted)} points, {failed} failed"]
     at = lines.index(summary[0]) if summary[0] in lines else len(lines)
     must(f"{way}: status {found.returncode}, {lines[-4:]}", lines[at : at + 2] == summary and found.returncode == (1 if failed else 0) and found.stderr == "")
@@ -228,41 +138,109 @@ def alternating(many):
     return [GOOD if at % 2 else BAD for at in range(many)]
 
 
-def many_conditions_are_judged(room):
-    """Of 130 conditions each other one fails, however a file is judged, and one alone that is the last."""
-    for way, (name, text, *_) in WAYS.items():
-        asked = list(enumerate(alternating(130), 1))
-        must_be_points(room, way, {name: ("".join(f"#! {it}\n" for _, it in asked) + text, asked)})
-        asked = list(enumerate([GOOD] * 129 + [BAD], 1))
-        must_be_points(room, way, {name: ("".join(f"#! {it}\n" for _, it in asked) + text, asked)})
+class ConditionRows(Test):
+    programs = (PROGRAM, TESTER)
 
+    def test_each_operation_of_a_condition_is_itself(self):
+        """For each pair of operations, `some` and `never` hold of the one's schedule by whether it has a step of the other's name."""
+        for_each = lambda has: [row for name in COUNTS for row in ((f"some _ {name}", name in has), (f"never _ {name}", name not in has))]
+        must_hold(self.room, [(text, for_each({op[0] for _, op, _ in replayed(text)})) for text in OPERATIONS.values()])
+        must("each operation has a row", set(OPERATIONS) == set(COUNTS))
 
-def late_conditions_are_judged(room):
-    """A condition behind 64 KiB, or behind 4 MB, of lines or of one comment, is judged as any other."""
-    for way, (name, text, *_) in WAYS.items():
-        for bytes_before, line in ((65_536, "# as it is\n"), (4_194_304, "#" + " a line of a comment, which is no short one" * 20 + "\n"), (4_194_304, None)):
-            before = "#" * bytes_before + "\n" if line is None else line * (bytes_before // len(line) + 1)
-            at = before.count("\n") + text.count("\n")
-            for conditions in ([GOOD, BAD], [BAD, GOOD]):
-                asked = list(enumerate(conditions, at + 1))
-                must_be_points(room, way, {name: (before + text + "".join(f"#! {it}\n" for it in conditions), asked)})
+    def test_each_reply_of_a_condition_is_itself(self):
+        """So it is for each pair of replies, with the actor and the operation of the step that has the one."""
+        rows = []
+        for name, text in REPLIED.items():
+            steps = replayed(text)
+            actor, op, answer = steps[-1]
+            has = {it[0] for *step, it in steps if (step[0], step[1][0]) == (actor, op[0])}
+            must(name, answer[0] == name)
+            rows.append((text, [row for other in REPLIED for row in ((f"some {actor} {op[0]} -> {other}", other in has), (f"never {actor} {op[0]} -> {other}", other not in has))]))
+        must_hold(self.room, rows)
+        must("each reply has a row", set(REPLIED) == set(REPLIES) - {"refused"})
 
+    def test_each_word_of_a_condition_counts(self):
+        """Of each operation and each reply each word counts: up to any of them the pattern is met, with any of them `_`, and with none of them another."""
+        rows = []
+        for text in [*OPERATIONS.values(), *REPLIED.values()]:
+            steps = replayed(text)
+            actor, op, answer = steps[-1]
+            rows.append((text, [(asked, judge.holds(judge.condition(1, asked), steps, None)) for asked in asked_about(actor, op, answer)]))
+        must_hold(self.room, rows)
 
-def many_files_are_tested(room):
-    """Of twelve files the first and the last fail, however they are judged; and so it is of 300."""
-    for way, (name, text, *_) in WAYS.items():
-        for many in (12, 300):
-            files = {}
-            for at in range(many):
-                asked = BAD if at in (0, many - 1) else GOOD
-                files[f"{at}-{name}"] = (f"#! {asked}\n{text}", [(1, asked)])
-            must_be_points(room, way, files)
+    def test_each_number_of_a_condition_is_itself(self):
+        """Numbers of 64 bits are told apart in each place that has some: what is read, and what is written in an operation."""
+        rows = []
+        for number in NUMBERS:
+            text = ENTERED + f"0 store 0x80000000 {number}\n0 load 0x80000000\n0 satp {number}\n0 sie {number}\n0 sfence {number} {number}\n"
+            asked = [(f"{kind} {pattern}", (other == number) == (kind == "some")) for other in NUMBERS for kind in ("some", "never") for pattern in (
+                f"0 store 0x80000000 {other}", f"0 load _ -> value {other:#x}", f"0 satp 0{other}", f"0 sie 0x00{other:X}", f"0 sfence _ {other}", f"0 sfence {other} _",
+            )]  # fmt: skip
+            rows.append((text, asked))
+        for number in NUMBERS[1:]:
+            rows.append((f"c tick {number}\n", [(f"some c tick {other}", other == number and number < (1 << 64) - 1) for other in NUMBERS[1:]]))
+            opaque = HEAD.replace("0x80000000 0x0", f"0x80000000 {number}")
+            rows.append((opaque + ENTERED, [(f"some 0 advance -> entry 0x80000000 0 {other}", other == number) for other in NUMBERS]))
+        must_hold(self.room, rows)
 
+    def test_each_argument_of_a_condition_is_itself(self):
+        """Each of the eight numbers of a call is told apart from the others, and from itself with a bit above 2^32."""
+        numbers = [*ARGUMENTS[:2], *((1 << 32) + it for it in ARGUMENTS[2:])]
+        text = ENTERED + f"0 ecall {' '.join(map(str, numbers))}\n"
+        asked = [(f"some 0 ecall {' '.join(map(str, numbers))}", True)]
+        for place, number in enumerate(numbers):
+            for other in (number ^ 1 << 32, number + 1, number ^ 1 << 63, ARGUMENTS[place - 1]):
+                words = [*map(str, numbers[:place]), str(other)]
+                asked += [(f"some 0 ecall {' '.join(words)}", False), (f"never 0 ecall {' '.join(words)}", True)]
+        must_hold(self.room, [(text, asked)])
 
-TESTS = [
-    ("each operation of a condition is itself", each_operation_is_itself), ("each reply of a condition is itself", each_reply_is_itself),
-    ("each word of a condition counts", each_word_counts), ("each number of a condition is itself", each_number_is_itself),
-    ("each argument of a condition is itself", each_argument_is_itself), ("each error of a condition is itself", each_error_is_itself),
-    ("each hart of a condition is itself", each_hart_is_itself), ("130 conditions are judged", many_conditions_are_judged),
-    ("conditions behind long texts are judged", late_conditions_are_judged), ("12 files and 300 are tested", many_files_are_tested),
-]  # fmt: skip
+    def test_each_error_of_a_condition_is_itself(self):
+        """The error of a call is a number with its sign: `ret -3` is no `ret 3`, and no number of 64 bits."""
+        rows = []
+        for error, call in ERRORS.items():
+            # (a hart that holds interrupts back can't stop)
+            text = ENTERED + ("0 sstatus 1\n" if error == -1 else "") + f"0 ecall {call}\n"
+            others = [(f"{kind} 0 ecall -> ret {other}", (other == error) == (kind == "some")) for other in [*ERRORS, *NO_ERRORS] for kind in ("some", "never")]
+            # (numbers compare as numbers)
+            spellings = [f"{'-' if error < 0 else ''}{zeros}{abs(error)}" for zeros in ("0", "000")] + (["-0", "0x0"] if error == 0 else [])
+            rows.append((text, others + [(f"some 0 ecall -> ret {it}", True) for it in spellings]))
+        must_hold(self.room, rows)
+
+    def test_each_hart_of_a_condition_is_itself(self):
+        """Harts up to 127 are told apart, as actors and as numbers of replies."""
+        rows = []
+        for hart in HARTS:
+            text = f"board 128 1 100 {hart} 0x80000000 0x0\n{hart} advance\n{hart} sip\n"
+            asked = [(f"{kind} {actor} sip", (other == hart) == (kind == "some")) for other in HARTS for kind in ("some", "never") for actor in (str(other), f"{other:#x}")]
+            asked += [(f"some _ advance -> entry _ {other}", other == hart) for other in [*HARTS, hart + 128]]
+            asked += [(f"each {other} sip -> value 1", other != hart) for other in HARTS] + [("some c", False), ("never c", True)]
+            rows.append((text, asked))
+        must_hold(self.room, rows)
+
+    def test_130_conditions_are_judged(self):
+        """Of 130 conditions each other one fails, however a file is judged, and one alone that is the last."""
+        for way, (name, text, *_) in WAYS.items():
+            asked = list(enumerate(alternating(130), 1))
+            must_be_points(self.room, way, {name: ("".join(f"#! {it}\n" for _, it in asked) + text, asked)})
+            asked = list(enumerate([GOOD] * 129 + [BAD], 1))
+            must_be_points(self.room, way, {name: ("".join(f"#! {it}\n" for _, it in asked) + text, asked)})
+
+    def test_conditions_behind_long_texts_are_judged(self):
+        """A condition behind 64 KiB, or behind 4 MB, of lines or of one comment, is judged as any other."""
+        for way, (name, text, *_) in WAYS.items():
+            for bytes_before, line in ((65_536, "# as it is\n"), (4_194_304, "#" + " a line of a comment, which is no short one" * 20 + "\n"), (4_194_304, None)):
+                before = "#" * bytes_before + "\n" if line is None else line * (bytes_before // len(line) + 1)
+                at = before.count("\n") + text.count("\n")
+                for conditions in ([GOOD, BAD], [BAD, GOOD]):
+                    asked = list(enumerate(conditions, at + 1))
+                    must_be_points(self.room, way, {name: (before + text + "".join(f"#! {it}\n" for it in conditions), asked)})
+
+    def test_12_files_and_300_are_tested(self):
+        """Of twelve files the first and the last fail, however they are judged; and so it is of 300."""
+        for way, (name, text, *_) in WAYS.items():
+            for many in (12, 300):
+                files = {}
+                for at in range(many):
+                    asked = BAD if at in (0, many - 1) else GOOD
+                    files[f"{at}-{name}"] = (f"#! {asked}\n{text}", [(1, asked)])
+                must_be_points(self.room, way, files)

@@ -1,24 +1,74 @@
-"""How tests are counted: a test whose tool is missing is skipped, by each runner and in the sum of all."""
-import contextlib
-import io
+"""How tests are counted: one whose tool is missing is skipped, by the runner and in the sum of all."""
 import os
 import shutil
 import subprocess
 import sys
 
-from harness import FAILED, HANG, PASSED, ROOT, SKIPPED, Skipped, Wrong, counted, ended
+from .fixtures import HANG, HERE, ROOT, Test, must, read, write
 
-# A test of each runner for each tool that it needs, and a word that names what is missing.
+# A test for each tool that some need, and a word that names what is missing.
 NEEDING = [
-    ("program", "each allocation refused", "C compiler"),
-    ("program", "what fences cost", "valgrind"),
-    ("program", "a kept record grows", "strace"),
-    ("program", "points are read by others", "prove"),
-    ("program", "pages name the toolchain", "rt"),
-    ("records", "timelines in a browser", "chromium"),
-    ("records", "timelines: pages are drawn", "node"),
-    ("records", "a fresh record: interrupts", "qemu-system-riscv64"),
-    ("wrapper", "two crates at a time, by the toolchain", "toolchain"),
+    ("each allocation refused", "C compiler"), ("what fences cost", "valgrind"), ("a kept record grows", "strace"), ("points are read by others", "prove"),
+    ("pages name the toolchain", "rt"), ("timelines in a browser", "chromium"), ("timelines: pages are drawn", "node"),
+    ("a fresh record: interrupts", "qemu-system-riscv64"), ("two crates at a time, by the toolchain", "toolchain"),
+]  # fmt: skip
+
+# Tests of each end, which stand beside a copy of the runner.
+OWN = """from .fixtures import Test, named
+
+
+class Some(Test):
+    programs = ()
+
+    def test_good(self):
+        self.assertTrue(self.room)
+
+    def test_good__enough(self):
+        pass
+
+    def test_bad(self):
+        self.fail("it is red")
+
+    def test_in_parts(self):
+        for it in range(3):
+            with self.subTest(it):
+                self.assertEqual(it, 1, "no")
+
+    def test_lacking(self):
+        self.skipTest("a tool is missing")
+
+    def test_broken(self):
+        {}["key"]
+
+
+class Unbuilt(Test):
+    programs = ("/none",)
+
+    def test_not_run(self):
+        pass
+"""
+LACKING, LACKED = "lacking: skipped: a tool is missing", "lacking: FAILED: skipped: a tool is missing"
+BAD, BROKEN = "bad: FAILED: it is red", "broken: FAILED: KeyError: 'key'"
+
+# Words of the runner, the status, and the lines that tell of those tests, for all and for what a word names.
+ENDS = [
+    (["-k", "good"], 0, ["1 passed, 0 failed, 0 skipped"]), (["-k", "goo"], 0, ["2 passed, 0 failed, 0 skipped"]),
+    (["-k", "good: enough"], 0, ["1 passed, 0 failed, 0 skipped"]), (["-k", "bad"], 1, [BAD, "0 passed, 1 failed, 0 skipped"]),
+    (["-k", "good", "-k", "lacking"], 0, [LACKING, "1 passed, 0 failed, 1 skipped"]), (["-k", "lacking"], 1, [LACKING, "0 passed, 0 failed, 1 skipped"]),
+    (["-k", "nothing"], 1, ["0 passed, 0 failed, 0 skipped"]), (["-k", "lacking", "--no-skips"], 1, [LACKED, "0 passed, 1 failed, 0 skipped"]),
+    (["-k", "broken"], 1, [BROKEN, "0 passed, 1 failed, 0 skipped"]), (["-k", "Some"], 1, [BAD, BROKEN, LACKING, "2 passed, 3 failed, 1 skipped"]),
+    (["-k", "in parts"], 1, ["0 passed, 1 failed, 0 skipped"]), (["-k", "not run"], 1, ["0 passed, 1 failed, 0 skipped"]),
+    ([], 1, [BAD, BROKEN, LACKING, "2 passed, 4 failed, 1 skipped"]), (["--no-skips"], 1, [BAD, BROKEN, LACKED, "2 passed, 5 failed, 0 skipped"]),
+]  # fmt: skip
+
+# Last lines of the two parts, each with its status, and the last line of all.
+SUMS = [
+    (("3 passed, 0 failed", 0), ("5 passed, 0 failed, 2 skipped", 0), "8 passed, 0 failed, 2 skipped"),
+    (("3 passed, 1 failed", 1), ("5 passed, 2 failed, 2 skipped", 1), "8 passed, 3 failed, 2 skipped"),
+    (("3 passed, 0 failed", 1), ("5 passed, 0 failed, 0 skipped", 0), "8 passed, 1 failed, 0 skipped"),
+    (("3 passed, 0 failed", 0), ("no last line", 0), "3 passed, 1 failed, 0 skipped"),
+    (("3 passed, 0 failed (a alone: not the gate)", 0), ("5 passed, 0 failed, 0 skipped", 1), "5 passed, 2 failed, 0 skipped"),
+    (("3 passed, 0 failed", 0), ("1 passed, 0 failed,", 0), "3 passed, 1 failed, 0 skipped"),
 ]
 
 
@@ -27,77 +77,53 @@ def run(words, folder, path):
 
 
 def must_end(found, status, last, *told):
-    lines = found.stdout.splitlines()
-    if found.returncode != status or lines[-1:] != [last] or any(it not in found.stdout for it in told):
-        raise Wrong(f"{found.args}: status {found.returncode}, it printed {found.stdout[-400:]!r} and said {found.stderr[-200:]!r}")
+    said = f"{found.args}: status {found.returncode}, it printed {found.stdout[-400:]!r} and said {found.stderr[-200:]!r}"
+    must(said, found.returncode == status and found.stdout.splitlines()[-1:] == [last] and all(it in found.stdout for it in told))
 
 
-def is_skipped_without_tools(room):
-    """With no tool on the path each runner says which test is skipped, and why, and counts no test as passed."""
-    for runner, name, missing in NEEDING:
-        words = [sys.executable, os.path.join(ROOT, "tests", runner)]
-        must_end(run([*words, name], ROOT, room), 1, "0 passed, 0 failed, 1 skipped", f"{name}: skipped: ", missing)
-        must_end(run([*words, "--no-skips", name], ROOT, room), 1, "0 passed, 1 failed, 0 skipped", f"{name}: FAILED: skipped: ", missing)
-
-
-def is_counted(room):
-    """One of each end, and runs in which nothing passed."""
-
-    def lacks(room):
-        raise Skipped("a tool is missing")
-
-    def fails(room):
-        raise Wrong("it is red")
-
-    tests = [("good", lambda room: None), ("bad", fails), ("lacking", lacks)]
-    with contextlib.redirect_stdout(io.StringIO()) as said:
-        ends = [ended(*it) for it in tests] + [ended(*tests[2], no_skips=True)]
-        statuses = [counted(it) for it in (ends, [PASSED, SKIPPED], [PASSED], [SKIPPED], [])]
-    wanted = ["bad: FAILED: it is red", "lacking: skipped: a tool is missing", "lacking: FAILED: skipped: a tool is missing"]
-    wanted += ["1 passed, 2 failed, 1 skipped", "1 passed, 0 failed, 1 skipped", "1 passed, 0 failed, 0 skipped"]
-    wanted += ["0 passed, 0 failed, 1 skipped", "0 passed, 0 failed, 0 skipped"]
-    if ends != [PASSED, FAILED, SKIPPED, FAILED] or statuses != [1, 0, 0, 1, 1] or said.getvalue().splitlines() != wanted:
-        raise Wrong(f"{ends}, {statuses}: {said.getvalue()}")
-
-
-# Last lines of the four parts, each with its status, and the last line of all.
-SUMS = [
-    (("3 passed, 0 failed", 0), ("5 passed, 0 failed, 2 skipped", 0), ("1 passed, 0 failed, 0 skipped", 0), "10 passed, 0 failed, 3 skipped"),
-    (("3 passed, 1 failed", 1), ("5 passed, 2 failed, 2 skipped", 1), ("1 passed, 0 failed, 0 skipped", 0), "10 passed, 3 failed, 3 skipped"),
-    (("3 passed, 0 failed", 1), ("5 passed, 0 failed, 0 skipped", 0), ("no last line", 0), "9 passed, 2 failed, 1 skipped"),
-    (("3 passed, 0 failed (a alone: not the gate)", 0), ("5 passed, 0 failed, 0 skipped", 1), ("1 passed, 0 failed,", 0), "6 passed, 3 failed, 1 skipped"),
-]
-
-
-def part(folder, name, last="1 passed, 0 failed, 1 skipped", status=0):
+def part(folder, name, last, status):
+    """A part of `./test` that says what it was asked, and ends so."""
     path = os.path.join(folder, name)
     os.makedirs(os.path.dirname(path), exist_ok=True)
-    with open(path, "w", encoding="utf-8") as file:
-        file.write(f'#!/bin/bash\necho "{name} $*" >> {folder}/called\necho "7 passed, 7 failed, 7 skipped"\necho "{last}"\nexit {status}\n')
+    write(path, f'#!/bin/bash\necho "{name} $*" >> {folder}/called\necho "7 passed, 7 failed, 7 skipped"\necho "{last}"\nexit {status}\n')
     os.chmod(path, 0o755)
 
 
-def is_summed(room):
-    """The sum of all parts has what they skipped, and each part is asked for --no-skips; one that ends otherwise has failed."""
-    shutil.copy(os.path.join(ROOT, "test"), room)
-    front, path = os.path.join(room, "test"), f"{room}/bin:{os.environ['PATH']}"
-    part(room, "tests/wrapper")
-    for first, second, third, last in SUMS:
-        for name, (line, status) in (("bin/rt", first), ("tests/program", second), ("tests/records", third)):
-            part(room, name, line, status)
-        must_end(run([front], room, path), 0 if " 0 failed" in last else 1, last)
-    os.remove(os.path.join(room, "called"))
-    run([front, "--no-skips"], room, path)
-    with open(os.path.join(room, "called"), encoding="utf-8") as file:
-        if file.read().splitlines() != ["bin/rt ci", *[f"tests/{it} --no-skips" for it in ("program", "records", "wrapper")]]:
-            raise Wrong("--no-skips isn't asked of each part")
-    found = run([front, "--quick"], room, path)
-    if (found.returncode, found.stdout) != (2, ""):
-        raise Wrong(f"of another word: {found}")
+class Counts(Test):
+    programs = ()
 
+    def test_tests_without_their_tools_are_skipped(self):
+        """With no tool on the path the runner says which test is skipped, and why, and counts no test as passed."""
+        for name, missing in NEEDING:
+            words = [sys.executable, os.path.join(HERE, "run"), "-k", name]
+            must_end(run(words, ROOT, self.room), 1, "0 passed, 0 failed, 1 skipped", f"{name}: skipped: ", missing)
+            must_end(run([*words, "--no-skips"], ROOT, self.room), 1, "0 passed, 1 failed, 0 skipped", f"{name}: FAILED: skipped: ", missing)
 
-TESTS = [
-    ("tests without their tools are skipped", is_skipped_without_tools),
-    ("ends of tests are counted", is_counted),
-    ("all parts of the tests are summed", is_summed),
-]
+    def test_ends_of_tests_are_counted(self):
+        """One of each end, and runs in which nothing passed."""
+        own = os.path.join(self.room, "tests")
+        os.mkdir(own)
+        for name in ("run", "__init__.py", "fixtures.py"):
+            shutil.copy(os.path.join(HERE, name), own)
+        write(os.path.join(own, "test_own.py"), OWN)
+        for words, status, wanted in ENDS:
+            found = run([sys.executable, os.path.join(own, "run"), *words], self.room, os.environ["PATH"])
+            lines = [it for it in found.stdout.splitlines() if it in (BAD, BROKEN, LACKING, LACKED) or " passed, " in it]
+            must(f"{words}: {found}", (found.returncode, lines) == (status, wanted))
+        found = run([sys.executable, os.path.join(own, "run"), "--list"], self.room, os.environ["PATH"])
+        must(f"{found}", found.stdout.splitlines() == ["bad", "broken", "good", "good: enough", "in parts", "lacking", "not run"])
+
+    def test_all_parts_of_the_tests_are_summed(self):
+        """The sum of all parts has what they skipped, and each part is asked for --no-skips; one that ends otherwise has failed."""
+        shutil.copy(os.path.join(ROOT, "test"), self.room)
+        front, path = os.path.join(self.room, "test"), f"{self.room}/bin:{os.environ['PATH']}"
+        for first, second, last in SUMS:
+            part(self.room, "bin/rt", *first)
+            part(self.room, "tests/run", *second)
+            must_end(run([front], self.room, path), 0 if " 0 failed" in last else 1, last)
+        os.remove(os.path.join(self.room, "called"))
+        run([front, "--no-skips"], self.room, path)
+        called = read(os.path.join(self.room, "called")).splitlines()
+        must(f"--no-skips isn't asked of each part: {called}", called == ["bin/rt ci", "tests/run --no-skips"])
+        found = run([front, "--quick"], self.room, path)
+        must(f"of another word: {found}", (found.returncode, found.stdout) == (2, ""))

@@ -1,9 +1,8 @@
 """Scripts of each kind that are cut anywhere, and come in one piece or in two, which are parted anywhere."""
 import os
-from concurrent.futures import ThreadPoolExecutor
 
-import grammar
-from harness import TASKS, Wrong, must_be, ran, shown
+from . import grammar
+from .fixtures import TASKS, Test, at_once, must, must_be, ran, shown
 
 ONE_HART = b"board 1 1 10 0 0x80000000 0x0\n"
 
@@ -37,20 +36,15 @@ def is_cut(kept, tasks):
     for task in TASKS:
         whole, said = in_pieces(task, kept), grammar.said_of(kept, task)
         if (whole.returncode, whole.stderr) != (1 if said else 0, said) or bool(whole.stdout) == bool(said):
-            raise Wrong(f"{task} {kept!r}: status {whole.returncode}, it said {shown(whole.stderr)}, not {said!r}")
+            raise AssertionError(f"{task} {kept!r}: status {whole.returncode}, it said {shown(whole.stderr)}, not {said!r}")
         for size in range(1, len(kept) if task in tasks else 0):
             parted = in_pieces(task, kept[:size], kept[size:])
             must_be(parted, whole.returncode, None, whole.stderr)
-            if in_order(parted.stdout) != in_order(whole.stdout):
-                raise Wrong(f"{task} {kept!r}, parted after {size} bytes: it printed {shown(parted.stdout)}")
+            must(f"{task} {kept!r}, parted after {size} bytes: it printed {shown(parted.stdout)}", in_order(parted.stdout) == in_order(whole.stdout))
 
 
-def cut_scripts(room):
-    """Each beginning of a script of each kind."""
-    with ThreadPoolExecutor(os.cpu_count()) as threads:
+class CutScripts(Test):
+    def test_cut_scripts_in_every_two_pieces(self):
+        """Each beginning of a script of each kind."""
         for whole, tasks in CUT:
-            for _ in threads.map(lambda size: is_cut(whole[:size], tasks), range(len(whole) + 1)):
-                pass
-
-
-TESTS = [("cut scripts in every two pieces", cut_scripts)]
+            at_once(lambda size, whole=whole, tasks=tasks: is_cut(whole[:size], tasks), range(len(whole) + 1))

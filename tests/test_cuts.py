@@ -1,14 +1,9 @@
 """Cuts of the history: no later answer of a board tells that there was one, and the history has room for its limit again."""
 import os
 import re
-from concurrent.futures import ThreadPoolExecutor
 
-from harness import EXAMPLES, FULL, ROOT, Wrong, checked, ran, replayed
-
-ROWS = os.path.join(ROOT, "crates", "rows", "data")
-
-# What stands behind the lines of a row.
-END_OF_LINES = re.compile(r"\n(?:(?:ends|prints|each) .*|says|checks)\n")
+from .fixtures import EXAMPLES, FULL, Test, at_once, checked, must, ran, read, replayed, write
+from .replays import bare, worked_rows
 
 # The table's number of events.
 EVENTS = re.compile(rb"(?m)^# time ([0-9a-f]{16}) events +([0-9]+) ")
@@ -18,28 +13,15 @@ MOST_SINGLE = 60
 
 
 def schedules():
-    """The schedules of all worked rows and of the examples: a name, the board line, and the steps without their replies."""
-    for file in sorted(os.listdir(ROWS)):
-        with open(os.path.join(ROWS, file), encoding="utf-8") as rows:
-            for text in rows.read().split("\nrow ")[1:]:
-                name, _, body = text.partition("\n")
-                yield f"{file}: {name}", END_OF_LINES.split(body + "\n", 1)[0]
+    """All worked rows and the examples: a name, the board line, and the steps."""
+    yield from worked_rows()
     for file in sorted(it for it in os.listdir(EXAMPLES) if it.endswith(".sched")):
-        with open(os.path.join(EXAMPLES, file), encoding="utf-8") as text:
-            yield file, text.read()
-
-
-def steps_of(text):
-    """The board line, and the steps: neither comments nor replies."""
-    lines = [it.partition("#")[0].partition("->")[0].strip() for it in text.splitlines()]
-    head, *steps = [it for it in lines if it]
-    return head, steps
+        head, *steps = bare(read(os.path.join(EXAMPLES, file)))
+        yield file, head, steps
 
 
 def replay(path, head, steps):
-    with open(path, "w", encoding="utf-8") as file:
-        file.write("\n".join([head, *steps]) + "\n")
-    return ran(["replay", path])
+    return ran(["replay", write(path, "\n".join([head, *steps]) + "\n")])
 
 
 def parted(printed):
@@ -76,50 +58,37 @@ def differs(path, head, steps, whole, places):
         return f"{events} events in the table"
     if table != whole[2]:
         return "another table"
-    trace = wrote(path[: -len(".sched")] + ".trace", found.stdout)
-    again = ran(["check", trace])
+    again = ran(["check", write(path[: -len(".sched")] + ".trace", found.stdout)])
     if (again.returncode, again.stdout) != (0, b"agrees %d\n" % len(answers)):
         return f"check: status {again.returncode}, {again.stdout}"
     return None
 
 
-def wrote(path, text):
-    with open(path, "wb") as file:
-        file.write(text)
-    return path
+class Cuts(Test):
+    def test_each_row_is_cut(self):
+        """Each worked row with a cut behind each of its steps, and behind all of them: each step is answered the same, the table is
+        the same but for its number of events, which is of those since the last cut, and what was printed agrees when it is checked.
+        Rows in which the history was full aren't looked at here: a cut makes room."""
+        cases = []
+        for number, (name, head, steps) in enumerate(schedules()):
+            path = os.path.join(self.room, f"{number}.sched")
+            found = replay(path, head, [it for it in steps if it != "cut"])
+            if found.returncode:
+                continue
+            steps = [it for it in steps if it != "cut"]
+            whole = parted(found.stdout)
+            sets = [set(range(len(steps)))]
+            if len(steps) <= MOST_SINGLE:
+                sets += [{place} for place in range(len(steps))]
+            cases += [(name, path[: -len(".sched")] + f"-{it}.sched", head, steps, whole, places) for it, places in enumerate(sets)]
+        must(f"only {len(cases)} schedules were cut", len(cases) >= 2000)
+        for case, why in zip(cases, at_once(lambda it: differs(*it[1:]), cases)):
+            must(f"{case[0]}, cut behind {sorted(case[5])}: {why}", not why)
 
-
-def each_row_is_cut(room):
-    """
-    Each worked row with a cut behind each of its steps, and behind all of them: each step is answered the same, the table is the
-    same but for its number of events, which is of those since the last cut, and what was printed agrees when it is checked. Rows
-    in which the history was full aren't looked at here: a cut makes room.
-    """
-    cases = []
-    for number, (name, text) in enumerate(schedules()):
-        head, steps = steps_of(text)
-        path = os.path.join(room, f"{number}.sched")
-        found = replay(path, head, [it for it in steps if it != "cut"])
-        if found.returncode:
-            continue
-        steps = [it for it in steps if it != "cut"]
-        whole = parted(found.stdout)
-        sets = [set(range(len(steps)))]
-        if len(steps) <= MOST_SINGLE:
-            sets += [{place} for place in range(len(steps))]
-        cases += [(name, path[: -len(".sched")] + f"-{it}.sched", head, steps, whole, places) for it, places in enumerate(sets)]
-    if len(cases) < 2000:
-        raise Wrong(f"only {len(cases)} schedules were cut")
-    with ThreadPoolExecutor(os.cpu_count()) as lanes:
-        for case, why in zip(cases, lanes.map(lambda it: differs(*it[1:]), cases)):
-            if why:
-                raise Wrong(f"{case[0]}, cut behind {sorted(case[5])}: {why}")
-
-
-def a_cut_makes_room(room):
-    """The limit counts from the last cut: a history that was full has room again, and the table tells its events since then."""
-    text = b"board 1 1 2 0 0x80000000 0x0\n0 advance\n0 sip\n0 sip\ncut\n0 sip\n0 sip\n0 sip\ncut\n"
-    out = b"""\
+    def test_a_cut_makes_room(self):
+        """The limit counts from the last cut: a history that was full has room again, and the table tells its events since then."""
+        text = b"board 1 1 2 0 0x80000000 0x0\n0 advance\n0 sip\n0 sip\ncut\n0 sip\n0 sip\n0 sip\ncut\n"
+        out = b"""\
 board 1 1 2 0 0x80000000 0x0
 0 advance -> entry 0x80000000 0 0x0
 0 sip -> value 0x0
@@ -134,22 +103,14 @@ cut -> done
 # hart state           wait out ss st ie se satp             deadline         tlb ic
 #    0 STARTED            0   -  0  0 00  0 0000000000000000 ----------------   0  0
 """
-    replayed(room, text, 3, out, FULL)
-    checked(room, out, 0, b"agrees 8\n", b"")
+        replayed(self.room, text, 3, out, FULL)
+        checked(self.room, out, 0, b"agrees 8\n", b"")
 
-
-def lines_of_cuts(room):
-    """A cut has no actor and no further word, and its reply is `done`; in a program it is no line."""
-    board = b"board 1 1 10 0 0x80000000 0x0\n"
-    for line, fault in ((b"cut x", 5), (b"cut ->", 5), (b"0 cut", 3), (b"c cut", 3), (b"cuts", 6), (b"cut cut", 5)):
-        replayed(room, board + line + b"\n", 1, b"", b"sbiboard: line 2: fault %d\n" % fault)
-    replayed(room, board + b"at 0x80000000\ncut\n", 1, b"", b"sbiboard: line 3: fault 6\n")
-    checked(room, board + b"cut -> value 0x1\n", 5, b"differs at line 2: done\n", b"")
-    replayed(room, board + b"c tick 1\n \tcut # here\n0 cut\n", 1, b"", b"sbiboard: line 4: fault 3\n")
-
-
-TESTS = [
-    ("each row is cut", each_row_is_cut),
-    ("a cut makes room", a_cut_makes_room),
-    ("lines of cuts", lines_of_cuts),
-]
+    def test_lines_of_cuts(self):
+        """A cut has no actor and no further word, and its reply is `done`; in a program it is no line."""
+        board = b"board 1 1 10 0 0x80000000 0x0\n"
+        for line, fault in ((b"cut x", 5), (b"cut ->", 5), (b"0 cut", 3), (b"c cut", 3), (b"cuts", 6), (b"cut cut", 5)):
+            replayed(self.room, board + line + b"\n", 1, b"", b"sbiboard: line 2: fault %d\n" % fault)
+        replayed(self.room, board + b"at 0x80000000\ncut\n", 1, b"", b"sbiboard: line 3: fault 6\n")
+        checked(self.room, board + b"cut -> value 0x1\n", 5, b"differs at line 2: done\n", b"")
+        replayed(self.room, board + b"c tick 1\n \tcut # here\n0 cut\n", 1, b"", b"sbiboard: line 4: fault 3\n")

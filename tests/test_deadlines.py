@@ -1,7 +1,8 @@
 """Deadlines of many harts."""
 import random
 
-from many_harts import MOST, each_answers, entered
+from .fixtures import Test
+from .many_harts import MOST, each_answers, entered
 
 
 def with_deadlines(harts, turns):
@@ -20,33 +21,27 @@ def with_deadlines(harts, turns):
     return steps
 
 
-def ticks(room):
-    """Deadlines of which none, one, half and all come due at a tick, set in any order, and set anew while they are due."""
-    for harts in (1, 2, 64, 65, 128):
-        order = random.Random(harts)
-        rising = [(it, 10 + it) for it in range(harts)]
-        for sets in (rising, rising[::-1], order.sample(rising, harts)):
-            anew = [(it, 1) for it in range(0, harts, 2)]
-            each_answers(room, harts, with_deadlines(harts, [*sets, 9, 0, 1, harts // 2, harts, 0, *anew, 0]))
-        equal = [(it, 5) for it in range(harts)]
-        later = [(it, MOST if it % 2 else 20) for it in range(harts)]
-        turns = [*equal, 4, 1, *later, 0, 14, 1, (0, 40), 0, 19, 1, MOST - 1 - 40]
-        each_answers(room, harts, with_deadlines(harts, turns))
+class Deadlines(Test):
+    def test_ticks_over_deadlines_of_many_harts(self):
+        """Deadlines of which none, one, half and all come due at a tick, set in any order, and set anew while they are due."""
+        for harts in (1, 2, 64, 65, 128):
+            order = random.Random(harts)
+            rising = [(it, 10 + it) for it in range(harts)]
+            for sets in (rising, rising[::-1], order.sample(rising, harts)):
+                anew = [(it, 1) for it in range(0, harts, 2)]
+                each_answers(self.room, harts, with_deadlines(harts, [*sets, 9, 0, 1, harts // 2, harts, 0, *anew, 0]))
+            equal = [(it, 5) for it in range(harts)]
+            later = [(it, MOST if it % 2 else 20) for it in range(harts)]
+            turns = [*equal, 4, 1, *later, 0, 14, 1, (0, 40), 0, 19, 1, MOST - 1 - 40]
+            each_answers(self.room, harts, with_deadlines(harts, turns))
 
-
-def random_deadlines(room):
-    """Deadlines that are set anew at random, past ones and the infinite one among them, and time that goes on between."""
-    for harts in (1, 2, 3, 64, 128):
-        for seed in range(4):
-            order, turns = random.Random(f"{harts} {seed}"), []
-            for _ in range(3 * harts + 20):
-                turns += [(order.randrange(harts), order.choice([0, order.randrange(400), order.randrange(60), MOST]))]
-                if not order.randrange(max(4, harts // 4)):
-                    turns += [order.choice([0, 1, order.randrange(20)])]
-            each_answers(room, harts, with_deadlines(harts, [*turns, 0, 500]))
-
-
-TESTS = [
-    ("ticks over deadlines of many harts", ticks),
-    ("random deadlines", random_deadlines),
-]
+    def test_random_deadlines(self):
+        """Deadlines that are set anew at random, past ones and the infinite one among them, and time that goes on between."""
+        for harts in (1, 2, 3, 64, 128):
+            for seed in range(4):
+                order, turns = random.Random(f"{harts} {seed}"), []
+                for _ in range(3 * harts + 20):
+                    turns += [(order.randrange(harts), order.choice([0, order.randrange(400), order.randrange(60), MOST]))]
+                    if not order.randrange(max(4, harts // 4)):
+                        turns += [order.choice([0, 1, order.randrange(20)])]
+                each_answers(self.room, harts, with_deadlines(harts, [*turns, 0, 500]))

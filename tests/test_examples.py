@@ -1,21 +1,8 @@
 """Each example against what is stored of it."""
 import os
 
-import programs
-from harness import (
-    DATA,
-    EXAMPLES,
-    FULL,
-    WRONG_KIND,
-    Wrong,
-    many_runs,
-    must_agree,
-    must_be,
-    must_run,
-    ran,
-    shown,
-    stored,
-)
+from . import programs
+from .fixtures import DATA, EXAMPLES, FULL, TASKS, WRONG_KIND, Test, add, many_runs, must, must_agree, must_be, must_run, ran, shown, stored
 
 # How the examples end that don't end with status 0, with what they say, and the programs that don't end quiet.
 ENDS = {"second-boot-hart.sched": (3, FULL), "real-wake.trace": (5, b"")}
@@ -28,42 +15,38 @@ def example_is_run(room, name, path, place):
     out = must_run(room, path, ENDS_OF_PROGRAMS.get(name, "quiet"), place)
     if os.path.exists(os.path.join(DATA, f"{name}.table")):
         table = out[out.index(b"# time ") :]
-        if table != stored(f"{name}.table"):
-            raise Wrong(f"its table is {shown(table)}")
+        must(f"its table is {shown(table)}", table == stored(f"{name}.table"))
     if name in programs.WRONG_OF and (wrong := programs.WRONG_OF[name](out.splitlines())):
-        raise Wrong(f"{wrong}: {out.decode()}")
+        raise AssertionError(f"{wrong}: {out.decode()}")
 
 
-def example(name):
-    """A schedule is replayed, and what it prints is a trace that agrees; a trace is checked; a program is run."""
+def names():
+    """The names of all examples, and of what is stored of one: an example that lacks its output fails, and so does an output without one."""
+    found = {it for it in os.listdir(EXAMPLES) if os.path.isfile(os.path.join(EXAMPLES, it))}
+    for kind in (".out", ".table"):
+        found |= {it[: -len(kind)] for it in os.listdir(DATA) if it.endswith(kind)}
+    return sorted(found)
+
+
+def is_as_stored(room, name):
+    """A schedule is replayed, and what it prints is a trace that agrees; a trace is checked; a program is run; other tasks take none."""
     path = os.path.join(EXAMPLES, name)
     status, said = ENDS.get(name, (0, b""))
-
-    def schedule(room):
-        must_be(ran(["replay", path]), status, stored(f"{name}.out"), said)
-        must_agree(room, stored(f"{name}.out"))
-        for task in ("run", "check"):
+    own = {"sched": "replay", "trace": "check", "program": "run"}[name.rpartition(".")[2]]
+    for task in TASKS:
+        if task != own:
             must_be(ran([task, path]), 1, b"", WRONG_KIND)
-
-    def trace(room):
-        must_be(ran(["check", path]), status, stored(f"{name}.out"), said)
-        for task in ("run", "replay"):
-            must_be(ran([task, path]), 1, b"", WRONG_KIND)
-
-    def program(room):
-        for task in ("replay", "check"):
-            must_be(ran([task, path]), 1, b"", WRONG_KIND)
+    if own == "run":
         many_runs(room, path, lambda place: example_is_run(room, name, path, place))
-
-    return {"sched": schedule, "trace": trace, "program": program}[name.rpartition(".")[2]]
-
-
-def examples():
-    """The tests of all examples: one that lacks its output fails, and so does an output without an example."""
-    names = {it for it in os.listdir(EXAMPLES) if os.path.isfile(os.path.join(EXAMPLES, it))}
-    for kind in (".out", ".table"):
-        names |= {it[: -len(kind)] for it in os.listdir(DATA) if it.endswith(kind)}
-    return [(f"example {it}", example(it)) for it in sorted(names)]
+    else:
+        must_be(ran([own, path]), status, stored(f"{name}.out"), said)
+    if own == "replay":
+        must_agree(room, stored(f"{name}.out"))
 
 
-TESTS = examples()
+class Examples(Test):
+    """Each example is a test: `example NAME`."""
+
+
+for name in names():
+    add(Examples, f"example {name}", lambda room, name=name: is_as_stored(room, name))

@@ -1,24 +1,12 @@
 """Programs of few states: `sbiboard test` looks at all their orders, and tries orders of its seed of the others."""
-import glob
 import os
 import re
-import subprocess
-import sys
 
-from harness import EXAMPLES, HANG, NO_MEMORY, ROOT, Wrong, allocating, shim
-
-sys.path.append(os.path.join(ROOT, "tools"))
-
-import all_orders  # noqa: E402
-import programs  # noqa: E402
-from test_explore import ASKED, COUNTED, MESSAGE_PASSING, REBOOTS, STORE_BUFFERING, ends_told, explored  # noqa: E402
-from test_orders import FENCE, LOADS_AND_STORES, RACE, ROWS, SUSPENDED, TESTER, WAKE, at_a_terminal, must, told, told_of  # noqa: E402
-
-with open(os.path.join(ROOT, "crates/all_orders/src/few_states.rt"), encoding="utf-8") as file:
-    SOURCE = file.read()
-
-# How many states are few, and how many pages of RAM they have together at most.
-FEW, FEW_PAGES = (int(re.search(rf"^const {name}: usize = ([\d_]+);$", SOURCE, re.M)[1].replace("_", "")) for name in ("FEW", "FEW_PAGES"))
+from . import all_orders, programs
+from .expected_points import FEW, FEW_PAGES
+from .fixtures import NO_MEMORY, PROGRAM, TESTER, Test, allocating, example_programs, explored, must, read, shim, tester, told, told_of, write
+from .test_explore import ASKED, COUNTED, MESSAGE_PASSING, REBOOTS, STORE_BUFFERING, ends_told
+from .test_orders import FENCE, LOADS_AND_STORES, RACE, ROWS, SUSPENDED, WAKE, at_a_terminal
 
 SEEDS = ("--times", "1000")
 
@@ -59,80 +47,8 @@ def summary(lines):
 def are_all(lines):
     """Whether all orders were looked at, by what is told of one program."""
     is_seen = any(line.startswith("# states: ") for line in lines)
-    if is_seen != any(line.startswith("# all orders of ") for line in summary(lines)) or is_seen == any(re.search(r" \d+ orders, ", line) for line in lines):
-        raise Wrong(f"{lines}")
+    must(f"{lines}", is_seen == any(line.startswith("# all orders of ") for line in summary(lines)) and is_seen != any(re.search(r" \d+ orders, ", line) for line in lines))
     return is_seen
-
-
-def few_states_are_explored(room):
-    """Of a program of few states the points are those of `explore`, and the summary has as many orders as there are."""
-    texts = [*COUNTED.values(), STORE_BUFFERING, MESSAGE_PASSING, *(f"#! {asked}\n{text}" for asked, text, _ in ASKED)]
-    for path in glob.glob(os.path.join(EXAMPLES, "*.program")) + glob.glob(os.path.join(EXAMPLES, "orders", "*.program")):
-        with open(path, encoding="utf-8") as file:
-            texts.append(file.read())
-    few = 0
-    for text in texts:
-        status, lines = told(room, text, name="a.program")
-        found, wanted = explored(room, text, "--no-outcomes")
-        states = next(int(line.split()[2].rstrip(",")) for line in wanted if line.startswith("# states: "))
-        if are_all(lines) != (states <= FEW):
-            raise Wrong(f"{text}: {states} states, {lines}")
-        if states > FEW:
-            continue
-        few += 1
-        plan = next(place for place, line in enumerate(wanted) if line.startswith("1.."))
-        odd = [line for line in lines if line.startswith(("# a hart was ", "# line ")) and line not in wanted]
-        if status != found or [line for line in lines if line not in odd][: plan + 3] != [*wanted[: plan + 2], "# 1 files"]:
-            raise Wrong(f"{text}: status {status}, {lines}, and explored {found}, {wanted}")
-        ends = all_orders.Orders(text).ends
-        told_ends = ends_told([line.replace("# all orders of 1 programs: ", "# orders: ") for line in summary(lines)])
-        if told_ends != ends and not (None in ends.values() and told_ends == {}):
-            raise Wrong(f"{text}: told are {told_ends}, and counted {ends}")
-        if len(summary(lines)) != 3:
-            raise Wrong(f"{text}: {lines}")
-    if few < 20:
-        raise Wrong(f"only {few} programs have few states")
-
-
-def many_states_are_tried(room):
-    """A program of more states is told as orders of its seed are, to the byte; with one state less all are looked at."""
-    for text, is_few in (
-        *((text, is_few) for _, few, many in EDGES for text, is_few in ((few, True), (many, False))),
-        (MANY, False), ("#! never 1 load -> value 1\n#! end off\n#! some 0 sip\n" + MANY, False),
-    ):  # fmt: skip
-        found = told(room, text)
-        seeds = told(room, text, *SEEDS)
-        name = text.splitlines()[0]
-        must(f"{name}: {found}, and by seeds {seeds}", are_all(found[1]) == is_few and not are_all(seeds[1]) and (is_few or found == seeds))
-    _, lines = told(room, MANY)
-    must(f"{lines}", lines[1] == "ok 1 - race.program (1000 orders)" and lines[-2].startswith("# 1 files, 1000 orders, "))
-    for few, text, _ in EDGES:
-        _, lines = told(room, text)
-        must(f"{lines}", f"# states: {few}, " in "\n".join(lines))
-
-
-def who_asks_for_seeds_gets_seeds(room):
-    """Where the words ask for orders of a seed, or for threads, these are tried; other words make no difference."""
-    text = "#! end quiet\n#! some 1 load -> value 1\n" + RACE
-    for words in FLAGS:
-        _, lines = told(room, text, *words)
-        must(f"{words}: {lines}", not are_all(lines))
-    must("--seed 0 is another seed", told(room, text, "--seed", "0") == told(room, text, *SEEDS))
-    _, lines = told(room, text, "--order", "5")
-    must(f"{lines}", any(line.startswith("# 1 files, 1 orders, ") for line in lines))
-    _, lines = told(room, text, "--threads", "--times", "4")
-    must(f"{lines}", "ok 3 - race.program: line 1: end quiet, on threads" in lines)
-    plain = told(room, text)
-    for words in OTHERS:
-        found = told(room, text, *words)
-        must(f"{words}: {found}", found == plain and are_all(found[1]))
-
-
-def time_that_is_over_is_told(room):
-    """Where the time is over before all orders were seen, no order of the seed is tried either, and it is told as it was."""
-    for text in (RACE, "#! end off\n" + RACE, "#! some 1 load\n#! end quiet\n" + MANY):
-        found = told(room, text, "--seconds", "0")
-        must(f"{found}", found == told(room, text, "--seconds", "0", *SEEDS) and found[0] == 0 and found[1][-1] == "# cut short: not all orders were tried")
 
 
 def oddities_of(text):
@@ -164,135 +80,178 @@ def oddities_told(lines):
     return found
 
 
-def odd_programs_are_told(room):
-    """What is odd about a program is told by all its orders as it is by those of a seed, in the same words."""
-    text = "#! end quiet\n" + RACE.replace("at 0x80001000\n", "ecall 0x48534d 0 9 0x80001000 # no such hart\nat 0x80003000\nat 0x80001004\n")
-    odd = lambda lines: [line for line in lines if line.startswith(("# line", "# a "))]
-    _, lines = told(room, text)
-    wanted = [
-        "# line 6: each answer to 'ecall 0x48534d 0 9 0x80001000' was an error", "# line 7: no order entered the block at 0x80003000",
-        "# line 8: no order entered the block at 0x80001004", "# a hart was entered at 0x80001000, where no block is",
-    ]  # fmt: skip
-    must(f"{lines}", are_all(lines) and odd(lines) == wanted and odd(told(room, text, *SEEDS)[1]) == wanted)
-    _, lines = told(room, RACE.replace("store 0x80002000 0x1", "store 0x80002000 0x1 #! never 0 store"))
-    must(f"{lines}", are_all(lines) and odd(lines) == ["# line 4: behind other words '#!' begins a comment, and no condition"])
-    for text in (RACE, WAKE, SUSPENDED, FENCE, REBOOTS):
-        must(text, oddities_told(told(room, text)[1]) == oddities_of(text) == set())
+class FewStates(Test):
+    programs = (PROGRAM, TESTER)
 
+    def test_few_states_are_all_looked_at(self):
+        """Of a program of few states the points are those of `explore`, and the summary has as many orders as there are."""
+        texts = [*COUNTED.values(), STORE_BUFFERING, MESSAGE_PASSING, *(f"#! {asked}\n{text}" for asked, text, _ in ASKED)]
+        texts += map(read, example_programs())
+        few = 0
+        for text in texts:
+            status, lines = told(self.room, text, name="a.program")
+            found, wanted = explored(self.room, text, "--no-outcomes")
+            states = next(int(line.split()[2].rstrip(",")) for line in wanted if line.startswith("# states: "))
+            must(f"{text}: {states} states, {lines}", are_all(lines) == (states <= FEW))
+            if states > FEW:
+                continue
+            few += 1
+            plan = next(place for place, line in enumerate(wanted) if line.startswith("1.."))
+            odd = [line for line in lines if line.startswith(("# a hart was ", "# line ")) and line not in wanted]
+            must(f"{text}: status {status}, {lines}, and explored {found}, {wanted}", status == found and [line for line in lines if line not in odd][: plan + 3] == [*wanted[: plan + 2], "# 1 files"])
+            ends = all_orders.Orders(text).ends
+            told_ends = ends_told([line.replace("# all orders of 1 programs: ", "# orders: ") for line in summary(lines)])
+            must(f"{text}: told are {told_ends}, and counted {ends}", not (told_ends != ends and not (None in ends.values() and told_ends == {})))
+            must(f"{text}: {lines}", len(summary(lines)) == 3)
+        must(f"only {few} programs have few states", few >= 20)
 
-def oddities_of_random_programs_are_told(room):
-    """Of random programs exactly that is told to be odd which is so by the model; some are."""
-    seen = odd = 0
-    for seed in range(20 * RANDOM):
-        text = programs.RandomProgram(seed).text().decode()
-        if int(text.split()[1]) > 3 or seen == RANDOM:
-            continue
-        try:
-            wanted = oddities_of(text)
-        except ValueError:
-            continue
-        _, lines = told(room, text)
-        must(f"seed {seed}: told are {oddities_told(lines)}, and odd {wanted}", are_all(lines) and oddities_told(lines) == wanted)
-        seen, odd = seen + 1, odd + bool(wanted)
-    must(f"{seen} programs, {odd} odd", seen == RANDOM and odd > 5)
+    def test_many_states_are_tried_by_seeds(self):
+        """A program of more states is told as orders of its seed are, to the byte; with one state less all are looked at."""
+        for text, is_few in (
+            *((text, is_few) for _, few, many in EDGES for text, is_few in ((few, True), (many, False))),
+            (MANY, False), ("#! never 1 load -> value 1\n#! end off\n#! some 0 sip\n" + MANY, False),
+        ):  # fmt: skip
+            found = told(self.room, text)
+            seeds = told(self.room, text, *SEEDS)
+            name = text.splitlines()[0]
+            must(f"{name}: {found}, and by seeds {seeds}", are_all(found[1]) == is_few and not are_all(seeds[1]) and (is_few or found == seeds))
+        _, lines = told(self.room, MANY)
+        must(f"{lines}", lines[1] == "ok 1 - race.program (1000 orders)" and lines[-2].startswith("# 1 files, 1000 orders, "))
+        for few, text, _ in EDGES:
+            _, lines = told(self.room, text)
+            must(f"{lines}", f"# states: {few}, " in "\n".join(lines))
 
+    def test_who_asks_for_seeds_gets_seeds(self):
+        """Where the words ask for orders of a seed, or for threads, these are tried; other words make no difference."""
+        text = "#! end quiet\n#! some 1 load -> value 1\n" + RACE
+        for words in FLAGS:
+            _, lines = told(self.room, text, *words)
+            must(f"{words}: {lines}", not are_all(lines))
+        must("--seed 0 is another seed", told(self.room, text, "--seed", "0") == told(self.room, text, *SEEDS))
+        _, lines = told(self.room, text, "--order", "5")
+        must(f"{lines}", any(line.startswith("# 1 files, 1 orders, ") for line in lines))
+        _, lines = told(self.room, text, "--threads", "--times", "4")
+        must(f"{lines}", "ok 3 - race.program: line 1: end quiet, on threads" in lines)
+        plain = told(self.room, text)
+        for words in OTHERS:
+            found = told(self.room, text, *words)
+            must(f"{words}: {found}", found == plain and are_all(found[1]))
 
-def conditions_of_few_states_are_judged(room):
-    """A condition of a program of few states is met, or isn't, as by orders of a seed, which meet all that the program has."""
-    for asked, holds in ROWS:
-        status, lines = told(room, f"#! {asked} # as it is\n{RACE}")
-        is_some = asked.startswith("some")
-        said = ("holds" if is_some else "holds in all orders") if holds else ("fails in all orders" if is_some else "fails")
-        must(f"{asked}: {status}, {lines}", status == (0 if holds else 1) and lines[1] == f"{'' if holds else 'not '}ok 1 - race.program: line 1: {asked}: {said}")
-        is_shown = holds == is_some
-        name = f"race.program.1.{'reached' if is_some else 'failed'}"
-        path = os.path.join(room, name)
-        must(f"{asked}: {lines}", (f'  record: "./{name}"' in lines) == is_shown == os.path.exists(path))
-        if is_shown:
-            os.remove(path)
-    for asked, is_met in (("never 1 load 0x80002008 -> value 1", False), ("never 1 load after 0 store", True), ("each 9 poll -> ret 0", False), ("some 0 sip", False), ("end quiet", True)):
-        _, lines = told(room, f"#! {asked}\n{RACE}")
-        must(f"{asked}: {lines}", are_all(lines) and ("# line 1: never met: no step has this actor and operation" in lines) != is_met)
+    def test_time_that_is_over_before_all_orders_were_seen(self):
+        """Where the time is over before all orders were seen, no order of the seed is tried either, and it is told as it was."""
+        for text in (RACE, "#! end off\n" + RACE, "#! some 1 load\n#! end quiet\n" + MANY):
+            found = told(self.room, text, "--seconds", "0")
+            must(f"{found}", found == told(self.room, text, "--seconds", "0", *SEEDS) and found[0] == 0 and found[1][-1] == "# cut short: not all orders were tried")
 
+    def test_odd_programs_of_few_states_are_told(self):
+        """What is odd about a program is told by all its orders as it is by those of a seed, in the same words."""
+        text = "#! end quiet\n" + RACE.replace("at 0x80001000\n", "ecall 0x48534d 0 9 0x80001000 # no such hart\nat 0x80003000\nat 0x80001004\n")
+        odd = lambda lines: [line for line in lines if line.startswith(("# line", "# a "))]
+        _, lines = told(self.room, text)
+        wanted = [
+            "# line 6: each answer to 'ecall 0x48534d 0 9 0x80001000' was an error", "# line 7: no order entered the block at 0x80003000",
+            "# line 8: no order entered the block at 0x80001004", "# a hart was entered at 0x80001000, where no block is",
+        ]  # fmt: skip
+        must(f"{lines}", are_all(lines) and odd(lines) == wanted and odd(told(self.room, text, *SEEDS)[1]) == wanted)
+        _, lines = told(self.room, RACE.replace("store 0x80002000 0x1", "store 0x80002000 0x1 #! never 0 store"))
+        must(f"{lines}", are_all(lines) and odd(lines) == ["# line 4: behind other words '#!' begins a comment, and no condition"])
+        for text in (RACE, WAKE, SUSPENDED, FENCE, REBOOTS):
+            must(text, oddities_told(told(self.room, text)[1]) == oddities_of(text) == set())
 
-def programs_without_conditions_are_judged(room):
-    """A program of few states and without conditions fails where some order ends stuck."""
-    for text, holds in ((RACE, True), (WAKE, False), (SUSPENDED, False), (REBOOTS, True), (FENCE, True)):
-        status, lines = told(room, text)
-        point = f"{'' if holds else 'not '}ok 1 - race.program: no order ends stuck: {'holds in all orders' if holds else 'fails'}"
-        must(f"{text}: {status}, {lines}", status == (0 if holds else 1) and lines[1] == point)
-    _, lines = told(room, WAKE)
-    must(f"{lines}", "    - \"hart 1: line 8 'wfi': SSIP is 0, STIP is 0, SSIE is 1, STIE is 0\"" in lines)
+    def test_what_is_odd_about_random_programs_is_told(self):
+        """Of random programs exactly that is told to be odd which is so by the model; some are."""
+        seen = odd = 0
+        for seed in range(20 * RANDOM):
+            text = programs.RandomProgram(seed).text().decode()
+            if int(text.split()[1]) > 3 or seen == RANDOM:
+                continue
+            try:
+                wanted = oddities_of(text)
+            except ValueError:
+                continue
+            _, lines = told(self.room, text)
+            must(f"seed {seed}: told are {oddities_told(lines)}, and odd {wanted}", are_all(lines) and oddities_told(lines) == wanted)
+            seen, odd = seen + 1, odd + bool(wanted)
+        must(f"{seen} programs, {odd} odd", seen == RANDOM and odd > 5)
 
+    def test_conditions_of_few_states_are_judged(self):
+        """A condition of a program of few states is met, or isn't, as by orders of a seed, which meet all that the program has."""
+        for asked, holds in ROWS:
+            status, lines = told(self.room, f"#! {asked} # as it is\n{RACE}")
+            is_some = asked.startswith("some")
+            said = ("holds" if is_some else "holds in all orders") if holds else ("fails in all orders" if is_some else "fails")
+            must(f"{asked}: {status}, {lines}", status == (0 if holds else 1) and lines[1] == f"{'' if holds else 'not '}ok 1 - race.program: line 1: {asked}: {said}")
+            is_shown = holds == is_some
+            name = f"race.program.1.{'reached' if is_some else 'failed'}"
+            path = os.path.join(self.room, name)
+            must(f"{asked}: {lines}", (f'  record: "./{name}"' in lines) == is_shown == os.path.exists(path))
+            if is_shown:
+                os.remove(path)
+        for asked, is_met in (("never 1 load 0x80002008 -> value 1", False), ("never 1 load after 0 store", True), ("each 9 poll -> ret 0", False), ("some 0 sip", False), ("end quiet", True)):
+            _, lines = told(self.room, f"#! {asked}\n{RACE}")
+            must(f"{asked}: {lines}", are_all(lines) and ("# line 1: never met: no step has this actor and operation" in lines) != is_met)
 
-def limits_are_asked_of_seeds(room):
-    """A condition that names a history that is full is asked of orders of the seed, since no limit cuts off those that are all looked at."""
-    for text in ("#! end quiet history-full\n" + RACE, "#! some 1 load\n#! end history-full\n" + RACE.replace(" 100 ", " 6 ")):
-        found = told(room, text)
-        must(f"{found}", not are_all(found[1]) and found == told(room, text, *SEEDS))
-    status, lines = told(room, "#! end quiet\n" + RACE.replace(" 100 ", " 5 "))
-    must(f"{lines}", status == 0 and are_all(lines) and lines[1].endswith("end quiet: holds in all orders"))
+    def test_programs_of_few_states_without_conditions(self):
+        """A program of few states and without conditions fails where some order ends stuck."""
+        for text, holds in ((RACE, True), (WAKE, False), (SUSPENDED, False), (REBOOTS, True), (FENCE, True)):
+            status, lines = told(self.room, text)
+            point = f"{'' if holds else 'not '}ok 1 - race.program: no order ends stuck: {'holds in all orders' if holds else 'fails'}"
+            must(f"{text}: {status}, {lines}", status == (0 if holds else 1) and lines[1] == point)
+        _, lines = told(self.room, WAKE)
+        must(f"{lines}", "    - \"hart 1: line 8 'wfi': SSIP is 0, STIP is 0, SSIE is 1, STIE is 0\"" in lines)
 
+    def test_conditions_about_limits_are_asked_of_seeds(self):
+        """A condition that names a history that is full is asked of orders of the seed, since no limit cuts off those that are all looked at."""
+        for text in ("#! end quiet history-full\n" + RACE, "#! some 1 load\n#! end history-full\n" + RACE.replace(" 100 ", " 6 ")):
+            found = told(self.room, text)
+            must(f"{found}", not are_all(found[1]) and found == told(self.room, text, *SEEDS))
+        status, lines = told(self.room, "#! end quiet\n" + RACE.replace(" 100 ", " 5 "))
+        must(f"{lines}", status == 0 and are_all(lines) and lines[1].endswith("end quiet: holds in all orders"))
 
-def summaries_count(room):
-    """The summary tells orders that were tried, and programs of which all were seen, apart."""
-    files = {"few.program": LOADS_AND_STORES, "wake.program": WAKE, "many.program": MANY, "endless.program": REBOOTS, "a.sched": "board 1 1 10 0 0x80000000 0\n0 advance\n"}
-    for name, text in files.items():
-        with open(os.path.join(room, name), "w", encoding="utf-8") as file:
-            file.write(text)
-    ends = all_orders.Orders(WAKE).ends
-    tried = r"# {} files, {} orders, \d+ different records;# ends: 0 off, 0 history-full, {} quiet, 0 stuck"
-    for names, status, wanted in (
-        (["few.program"], 0, "# 1 files;# all orders of 1 programs: 35, quiet 35"),
-        (["few.program", "wake.program"], 1, f"# 2 files;# all orders of 2 programs: 41, quiet {35 + ends['quiet']}, stuck {ends['stuck']}"),
-        (["endless.program"], 0, "# 1 files;# all orders of 1 programs: some without end"),
-        (["few.program", "endless.program", "a.sched"], 0, "# 3 files;# all orders of 1 programs: 35, quiet 35;# all orders of 1 programs: some without end"),
-        (["many.program", "few.program"], 0, tried.format(2, 1000, 1000) + ";# all orders of 1 programs: 35, quiet 35"),
-        (["many.program"], 0, tried.format(1, 1000, 1000)), (["a.sched"], 0, tried.format(1, 0, 0)),
-    ):  # fmt: skip
-        found, lines = told_of(room, *names)
-        points = sum(line.startswith(("ok ", "not ok ")) for line in lines)
-        failed = sum(line.startswith("not ok ") for line in lines)
-        must(f"{names}: {found}, {lines}", found == status and re.fullmatch(f"# {points} points, {failed} failed;(?:{wanted})", ";".join(summary(lines))))
+    def test_summaries_of_few_states_and_many(self):
+        """The summary tells orders that were tried, and programs of which all were seen, apart."""
+        files = {"few.program": LOADS_AND_STORES, "wake.program": WAKE, "many.program": MANY, "endless.program": REBOOTS, "a.sched": "board 1 1 10 0 0x80000000 0\n0 advance\n"}
+        for name, text in files.items():
+            write(os.path.join(self.room, name), text)
+        ends = all_orders.Orders(WAKE).ends
+        tried = r"# {} files, {} orders, \d+ different records;# ends: 0 off, 0 history-full, {} quiet, 0 stuck"
+        for names, status, wanted in (
+            (["few.program"], 0, "# 1 files;# all orders of 1 programs: 35, quiet 35"),
+            (["few.program", "wake.program"], 1, f"# 2 files;# all orders of 2 programs: 41, quiet {35 + ends['quiet']}, stuck {ends['stuck']}"),
+            (["endless.program"], 0, "# 1 files;# all orders of 1 programs: some without end"),
+            (["few.program", "endless.program", "a.sched"], 0, "# 3 files;# all orders of 1 programs: 35, quiet 35;# all orders of 1 programs: some without end"),
+            (["many.program", "few.program"], 0, tried.format(2, 1000, 1000) + ";# all orders of 1 programs: 35, quiet 35"),
+            (["many.program"], 0, tried.format(1, 1000, 1000)), (["a.sched"], 0, tried.format(1, 0, 0)),
+        ):  # fmt: skip
+            found, lines = told_of(self.room, *names)
+            points = sum(line.startswith(("ok ", "not ok ")) for line in lines)
+            failed = sum(line.startswith("not ok ") for line in lines)
+            must(f"{names}: {found}, {lines}", found == status and re.fullmatch(f"# {points} points, {failed} failed;(?:{wanted})", ";".join(summary(lines))))
 
+    def test_statuses_of_few_states(self):
+        """0 and 1 by the points, never 8; 7 for a record that can't be written; the points are written into a file, and told plainly at a terminal."""
+        for text, status in ((RACE, 0), ("#! end off\n" + RACE, 1), ("#! some 1 load -> value 9\n" + RACE, 1), ("#! some 9 sip\n" + MANY, 1), (MANY, 0)):
+            found = told(self.room, text, "--tap", "points.tap")
+            must(f"{found}", found[0] == status and read(os.path.join(self.room, "points.tap")).splitlines() == found[1])
+        told(self.room, "#! end off\n" + RACE)
+        found = tester(self.room, "--failed", "nowhere", "race.program")
+        must(f"{found}", found.returncode == 7 and found.stderr.startswith("sbiboard: nowhere/race.program.1.failed: "))
+        status, text = at_a_terminal(self.room, "race.program")
+        lines = text.split("\n")
+        must(f"{text}", status == 1 and lines[0] == "FAIL  race.program: line 1: end off: fails" and "all orders of 1 programs: 4, quiet 4" in lines and "TAP" not in text)
 
-def statuses_of_few_states(room):
-    """0 and 1 by the points, never 8; 7 for a record that can't be written; the points are written into a file, and told plainly at a terminal."""
-    for text, status in ((RACE, 0), ("#! end off\n" + RACE, 1), ("#! some 1 load -> value 9\n" + RACE, 1), ("#! some 9 sip\n" + MANY, 1), (MANY, 0)):
-        found = told(room, text, "--tap", "points.tap")
-        with open(os.path.join(room, "points.tap"), encoding="utf-8") as file:
-            must(f"{found}", found[0] == status and file.read().splitlines() == found[1])
-    told(room, "#! end off\n" + RACE)
-    found = subprocess.run(["sbiboard", "--failed", "nowhere", "race.program"], executable=TESTER, cwd=room, capture_output=True, text=True, timeout=HANG)
-    must(f"{found}", found.returncode == 7 and found.stderr.startswith("sbiboard: nowhere/race.program.1.failed: "))
-    status, text = at_a_terminal(room, "race.program")
-    lines = text.split("\n")
-    must(f"{text}", status == 1 and lines[0] == "FAIL  race.program: line 1: end off: fails" and "all orders of 1 programs: 4, quiet 4" in lines and "TAP" not in text)
-
-
-def want_of_memory_of_few_states_is_told(room):
-    """Allocations refused in turn, of a look at all orders: no memory, after whole points at most, or all is told as it is."""
-    made = shim(room)
-    with open(os.path.join(room, "race.program"), "w", encoding="ascii") as file:
-        file.write(f"#! never 1 load -> value 1\n#! end quiet\n{RACE}")
-    whole, sizes = allocating(made, room, ["race.program"], program=TESTER, cwd=room)
-    must(f"{whole}", whole.returncode == 1 and b"# states: " in whole.stdout)
-    step, refused = 1 + len(sizes) // 400, 0
-    for number in range(1, len(sizes) + 1, step):
-        found, _ = allocating(made, room, ["race.program"], number, program=TESTER, cwd=room)
-        if found.returncode == 6:
-            refused += 1
-            must(f"{number}: {found}", found.stderr == NO_MEMORY and whole.stdout.startswith(found.stdout))
-        else:
-            must(f"{number}: {found}", (found.returncode, found.stdout, found.stderr) == (whole.returncode, whole.stdout, whole.stderr))
-    must(f"{refused} of {len(sizes)} are told", refused > 50)
-
-
-TESTS = [
-    ("few states are all looked at", few_states_are_explored), ("many states are tried by seeds", many_states_are_tried),
-    ("who asks for seeds gets seeds", who_asks_for_seeds_gets_seeds), ("time that is over before all orders were seen", time_that_is_over_is_told),
-    ("odd programs of few states are told", odd_programs_are_told), ("what is odd about random programs is told", oddities_of_random_programs_are_told),
-    ("conditions of few states are judged", conditions_of_few_states_are_judged), ("programs of few states without conditions", programs_without_conditions_are_judged),
-    ("conditions about limits are asked of seeds", limits_are_asked_of_seeds), ("summaries of few states and many", summaries_count),
-    ("statuses of few states", statuses_of_few_states), ("want of memory of a look at few states", want_of_memory_of_few_states_is_told),
-]  # fmt: skip
+    def test_want_of_memory_of_a_look_at_few_states(self):
+        """Allocations refused in turn, of a look at all orders: no memory, after whole points at most, or all is told as it is."""
+        made = shim(self.room)
+        write(os.path.join(self.room, "race.program"), f"#! never 1 load -> value 1\n#! end quiet\n{RACE}")
+        whole, sizes = allocating(made, self.room, ["race.program"], program=TESTER, cwd=self.room)
+        must(f"{whole}", whole.returncode == 1 and b"# states: " in whole.stdout)
+        step, refused = 1 + len(sizes) // 400, 0
+        for number in range(1, len(sizes) + 1, step):
+            found, _ = allocating(made, self.room, ["race.program"], number, program=TESTER, cwd=self.room)
+            if found.returncode == 6:
+                refused += 1
+                must(f"{number}: {found}", found.stderr == NO_MEMORY and whole.stdout.startswith(found.stdout))
+            else:
+                must(f"{number}: {found}", (found.returncode, found.stdout, found.stderr) == (whole.returncode, whole.stdout, whole.stderr))
+        must(f"{refused} of {len(sizes)} are told", refused > 50)

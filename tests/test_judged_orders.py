@@ -2,15 +2,10 @@
 import os
 import random
 import re
-import subprocess
 
-import all_orders
-import expected_points
-import harness
-import random_programs
-from expected_points import Case, Order, Told
-from harness import HANG, Wrong
-from test_orders import TESTER
+from . import all_orders, expected_points, fixtures, random_programs
+from .expected_points import Case, Order, Told
+from .fixtures import PROGRAM, TESTER, Test, must, read, told_of, write
 
 # The most states of a program that is judged, with what its loads gave; and how many orders of a seed are tried of each.
 MOST, TIMES = 1_200, 6
@@ -40,18 +35,10 @@ def cases_from(seeds):
     return found
 
 
-def written(room, name, text):
-    with open(os.path.join(room, name), "w", encoding="ascii") as file:
-        file.write(text)
-    return os.path.join(room, name)
-
-
 def told(room, name, words):
     """The status, and the lines."""
-    found = subprocess.run([name, *words], executable=TESTER, cwd=room, capture_output=True, text=True, timeout=HANG)
-    if found.stderr:
-        raise Wrong(f"{name} {words}: {found.stderr!r}")
-    return found.returncode, Told(found.stdout.splitlines())
+    status, lines = told_of(room, *words, name=name)
+    return status, Told(lines)
 
 
 def in_groups(cases, some):
@@ -66,11 +53,9 @@ def in_groups(cases, some):
 def must_end(room, lines, status, points, failed, *summary):
     """The plan, the summary and the status; and no records are written but those that are told."""
     lines.take(f"1..{points}", f"# {points} points, {failed} failed", *summary)
-    if lines.at != len(lines.lines) or status != (1 if failed else 0):
-        raise Wrong(f"status {status}, with {failed} failed; behind the summary stands {lines.lines[lines.at :]}")
+    must(f"status {status}, with {failed} failed; behind the summary stands {lines.lines[lines.at :]}", lines.at == len(lines.lines) and status == (1 if failed else 0))
     found = {os.path.join(room, name) for name in os.listdir(room) if not name.endswith(".program")}
-    if found != lines.records:
-        raise Wrong(f"written are {found}, and told {lines.records}")
+    must(f"written are {found}, and told {lines.records}", found == lines.records)
     for path in found:
         os.remove(path)
 
@@ -117,14 +102,13 @@ def orders_alone(room, cases, seed, times=TIMES):
     """The records of so many orders of a seed, each tried alone."""
     names = [f"alone-{case.name}" for case in cases]
     for name, case in zip(names, cases):
-        written(room, name, case.text + FAILS)
+        write(os.path.join(room, name), case.text + FAILS)
     found = [[] for _ in cases]
     for order in range(times):
         told(room, "sbiboard", ["--seed", str(seed), "--order", str(order), "--failed", room, *names])
         for case, name, orders in zip(cases, names, found):
             path = os.path.join(room, f"{name}.{seed}-{order}.failed")
-            with open(path, encoding="ascii") as file:
-                orders.append(Order(case, file.read()))
+            orders.append(Order(case, read(path)))
             os.remove(path)
     return found
 
@@ -158,8 +142,7 @@ def run_on_threads(room, cases, orders):
         points, failed = points + many, failed + wrong
     both = 2 * times * len(cases)
     counted = re.fullmatch(rf"# {len(cases)} files, {both} orders, \d+ different records;# ends: (\d+) off, (\d+) history-full, (\d+) quiet, (\d+) stuck", ";".join(lines.lines[-2:]))
-    if counted is None or sum(map(int, counted.groups())) != both:
-        raise Wrong(f"{lines.lines[-2:]}, of {both} orders and runs")
+    must(f"{lines.lines[-2:]}, of {both} orders and runs", counted is not None and sum(map(int, counted.groups())) == both)
     must_end(room, lines, status, points, failed, *lines.lines[-2:])
     return lines.lines
 
@@ -168,7 +151,7 @@ def judged_batch(room, seeds):
     """Judges the programs of these seeds: how many have few enough states, of how many `test` tells all orders, and of how many the states are the model's."""
     cases, some = cases_from(seeds), random.Random(str(seeds))
     for case in cases:
-        written(room, case.name, case.text)
+        write(os.path.join(room, case.name), case.text)
     seed = some.choice([0, 1, 7, (1 << 64) - 1, some.getrandbits(64)])
     orders = dict(zip(cases, orders_alone(room, cases, seed)))
     few = same = 0
@@ -183,18 +166,16 @@ def judged_batch(room, seeds):
     return len(cases), few, same
 
 
-def programs_are_judged(room):
-    """
-    Of random programs `explore` and `test` tell what the judge does: each verdict, each record, which is followed through the model
-    and judged, each count, what is never met, and what is odd.
-    """
-    made, judged, few, same = 0, 0, 0, 0
-    while judged < harness.MANY:
-        counts = judged_batch(room, range(made, made + BATCH))
-        made += BATCH
-        judged, few, same = judged + counts[0], few + counts[1], same + counts[2]
-    if judged < made // 2 or few < judged // 2 or same < judged // 4:
-        raise Wrong(f"of {made} programs {judged} are judged, of {few} of them `test` tells all orders, and of {same} the states are those of the model")
+class JudgedOrders(Test):
+    programs = (PROGRAM, TESTER)
 
-
-TESTS = [("random programs are judged", programs_are_judged)]
+    def test_random_programs_are_judged(self):
+        """Of random programs `explore` and `test` tell what the judge does: each verdict, each record, which is followed through
+        the model and judged, each count, what is never met, and what is odd."""
+        made, judged, few, same = 0, 0, 0, 0
+        while judged < fixtures.MANY:
+            counts = judged_batch(self.room, range(made, made + BATCH))
+            made += BATCH
+            judged, few, same = judged + counts[0], few + counts[1], same + counts[2]
+        if judged < made // 2 or few < judged // 2 or same < judged // 4:
+            raise AssertionError(f"of {made} programs {judged} are judged, of {few} of them `test` tells all orders, and of {same} the states are those of the model")

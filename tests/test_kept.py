@@ -5,28 +5,13 @@ import resource
 import signal
 import subprocess
 import time
+from unittest import SkipTest
 
-import programs
-from harness import (
-    BAD_BOARD,
-    BOARD,
-    FAILED_IO,
-    FULL,
-    HANG,
-    ONE_BOARD,
-    PROGRAM,
-    ROOT,
-    STUCK,
-    TRACE,
-    TWO_HARTS,
-    WRONG_KIND,
-    Skipped,
-    Wrong,
-    must_be,
-    ran,
-    script,
-    shown,
-)
+from . import programs
+from .fixtures import (
+    BAD_BOARD, BOARD, FAILED_IO, FULL, HANG, ONE_BOARD, PROGRAM, ROOT, STUCK, TRACE, TWO_HARTS, WRONG_KIND, Test, must, must_be, ran, read_bytes, script,
+    shown, write,
+)  # fmt: skip
 
 # How many runs are killed.
 KILLS = 100
@@ -54,8 +39,7 @@ def kept_of(printed):
 
 
 def read(path):
-    with open(path, "rb") as file:
-        return file.read()
+    return read_bytes(path)
 
 
 def kept_run(room, path, status, said, *words):
@@ -63,81 +47,11 @@ def kept_run(room, path, status, said, *words):
     kept = os.path.join(room, "kept")
     found = ran(["run", *(words or ["--keep", kept]), path], timeout=HANG, cwd=room)
     must_be(found, status, None, said)
-    if read(kept) != kept_of(found.stdout):
-        raise Wrong(f"it kept {shown(read(kept))}, and printed {shown(found.stdout)}")
+    must(f"it kept {shown(read(kept))}, and printed {shown(found.stdout)}", read(kept) == kept_of(found.stdout))
     return found.stdout
 
 
 ENDED = {"quiet": (0, b""), "off": (0, b""), "history-full": (3, FULL), "stuck": (4, STUCK)}
-
-
-def kept_whole(room):
-    """What is kept of a run is what it prints of the record, of each end, with 1 to 8 harts and with 128; and it is a trace."""
-    some = [(TWO_HARTS, "quiet"), (ONE_BOARD + b"at 0x80000000\nwfi\n", "stuck"), (BOARD, "quiet")]
-    some += [(working(harts, 3_000 // harts), "quiet") for harts in range(1, 9)]
-    some += [(it.text, it.end) for it in programs.MANY.values()]
-    for text, end in some:
-        path = script(room, text)
-        for words in ([], ["--keep=kept"], ["--keep", "kept", "--"]):
-            printed = kept_run(room, path, *ENDED[end], *words)
-        kept = read(os.path.join(room, "kept"))
-        must_be(ran(["check", "kept"], cwd=room), 0, b"agrees %d\n" % (kept.count(b"\n") - 1), b"")
-        if not printed.startswith(kept):
-            raise Wrong(f"{shown(text)}: its record is {shown(kept)}")
-
-
-def kept_beside(room):
-    """FILE2 stands before FILE or behind it; what it had is dropped; and it may be a stream."""
-    path, kept = script(room, TWO_HARTS), os.path.join(room, "kept")
-    printed = ran(["run", path]).stdout
-    for words in (["--keep", kept, path], ["--keep=" + kept, path], [path, "--keep", kept], [path, f"--keep={kept}", "--"]):
-        with open(kept, "wb") as file:
-            file.write(b"an older record\n" * 1_000)
-        must_be(ran(["run", *words]), 0, printed, b"")
-        if read(kept) != kept_of(printed):
-            raise Wrong(f"{words}: it kept {shown(read(kept))}")
-    must_be(ran(["run", "--keep", "/dev/null", path]), 0, printed, b"")
-    must_be(ran(["run", "--keep", "/dev/stderr", path]), 0, printed, kept_of(printed))
-
-
-def nothing_else(room):
-    """With `--keep` a run prints, says and ends as without it, where its order is the only one: also with no script, and no run."""
-    kept = os.path.join(room, "kept")
-    alone = b"at 0x80000000\n"
-    rest = [alone, alone + b"sip\n" * 300, alone + b"wfi\n", alone + b"ecall 0x53525354 0 0 0\n", b"0 fly\n", b"at 0x10\ntick 1\n"]
-    for head in (ONE_BOARD, ONE_BOARD.replace(b" 10 ", b" 1000 "), b"board 0 1 10 0 0x80000000 0x0\n", b"fly\n"):
-        for text in [head + it for it in rest] + [head, TRACE]:
-            path = script(room, text)
-            found = ran(["run", path])
-            must_be(ran(["run", "--keep", kept, path]), found.returncode, found.stdout, found.stderr)
-
-
-def not_kept(room):
-    """What is no program is a fault as without `--keep`, and leaves FILE2 as it was; and so does a program that isn't there."""
-    kept = os.path.join(room, "kept")
-    with open(kept, "wb") as file:
-        file.write(b"an older record\n")
-    for text, status, said in (
-        (TRACE, 1, WRONG_KIND),
-        (b"board 0 1 10 0 0x80000000 0x0\n", 1, BAD_BOARD),
-        (b"fly\n", 1, b"sbiboard: line 1: fault 2\n"),
-    ):
-        for file in (kept, os.path.join(room, "none", "kept")):
-            must_be(ran(["run", "--keep", file, script(room, text)]), status, b"", said)
-    must_be(ran(["run", "--keep", kept, os.path.join(room, "none")]), 7, b"", FAILED_IO)
-    if read(kept) != b"an older record\n":
-        raise Wrong("the older record is gone")
-
-
-def no_place(room):
-    """Where FILE2 can't be made nothing is run or printed, and so where it is the program itself, which stays as it is."""
-    path = script(room, TWO_HARTS)
-    for kept in (os.path.join(room, "none", "kept"), room, "", os.path.join(room, "k" * 256), path, os.path.join(room, "./a.sched")):
-        must_be(ran(["run", "--keep", kept, path]), 7, b"", FAILED_IO)
-    os.link(path, os.path.join(room, "linked"))
-    must_be(ran(["run", "--keep", os.path.join(room, "linked"), path]), 7, b"", FAILED_IO)
-    if read(path) != TWO_HARTS:
-        raise Wrong("the program is gone")
 
 
 def limited(most):
@@ -150,100 +64,11 @@ def limited(most):
     return limit
 
 
-def full_disk(room):
-    """
-    Where FILE2 can't be written any more, the run goes on to its end, prints all, and ends with status 7. What is kept is as
-    much of the record as there was room for, and where that ends in a line, the command of the guides drops it.
-    """
-    kept = os.path.join(room, "kept")
-    for harts in (1, 2, 8):
-        path = script(room, working(harts, 3_000 // harts))
-        must_be(ran(["run", "--keep", "/dev/full", path], timeout=HANG), 7, None, FAILED_IO)
-        for most in (0, 1, 41, 42, 43, 100, 4_096, 5_001, 65_536):
-            if os.path.exists(kept):
-                os.remove(kept)
-            found = ran(["run", "--keep", kept, path], timeout=HANG, preexec_fn=limited(most))
-            must_be(found, 7, None, FAILED_IO)
-            if found.stdout.count(b" -> ") < 3_000 or not found.stdout.endswith(b"# end quiet\n"):
-                raise Wrong(f"a limit of {most}: the run hasn't come to its end")
-            cut = read(kept)
-            if cut != kept_of(found.stdout)[:most]:
-                raise Wrong(f"a limit of {most}: it kept {shown(cut)}")
-            mended(kept, cut)
-            if cut.count(b"\n"):
-                must_be(ran(["check", kept]), 0, b"agrees %d\n" % (cut.count(b"\n") - 1), b"")
-
-
 def mended(path, cut):
     """The command of the guides drops what stands behind the last line feed, and else nothing."""
     subprocess.run(["sh", "-c", MENDS.replace("kept.trace", path)], check=True, timeout=HANG)
     wanted = cut[: cut.rfind(b"\n") + 1]
-    if read(path) != wanted:
-        raise Wrong(f"mended {shown(cut[-200:])} is {shown(read(path)[-200:])}")
-
-
-def mends(room):
-    """The command that mends a kept record, on whole and cut ones; it stands in the guides."""
-    for name in ("FORMATS.md", "MANY_RUNS.md"):
-        if MENDS.encode() not in read(os.path.join(ROOT, "docs", name)):
-            raise Wrong(f"{name} lacks the command")
-    path = os.path.join(room, "kept")
-    for text in (b"", b"a\n", b"a\nb\n", b"a\nb", b"a\nb\nc -> d", b"a"):
-        with open(path, "wb") as file:
-            file.write(text)
-        mended(path, text)
-
-
-def killed(room):
-    """
-    Runs are killed at 100 moments that are spread over a long one. What each leaves is a beginning of a record, in whole lines,
-    with which `check` agrees. A line may be cut where a page of the file ends, since the system takes a write in such pieces: once
-    in a great many kills. It is mended as after a full disk.
-    """
-    kept = os.path.join(room, "kept")
-    some, lengths, cuts = random.Random(1), set(), 0
-    paths = []
-    for harts in (1, 3, 8):
-        paths.append(os.path.join(room, f"{harts}.program"))
-        with open(paths[-1], "wb") as file:
-            file.write(working(harts, 240_000 // harts))
-    begun = time.monotonic()
-    must_be(ran(["run", "--keep", kept, paths[1]]), 0, None, b"")
-    long = time.monotonic() - begun
-    for place in range(KILLS):
-        if os.path.exists(kept):
-            os.remove(kept)
-        words = ["sbiboard", "run", "--keep", kept, paths[place % len(paths)]]
-        run = subprocess.Popen(words, executable=PROGRAM, stdin=subprocess.DEVNULL, stdout=subprocess.DEVNULL)
-        time.sleep(long * 0.9 * (place + some.random()) / KILLS)
-        run.kill()
-        run.wait(HANG)
-        left = read(kept) if os.path.exists(kept) else b""
-        if not left:
-            continue
-        if not left.endswith(b"\n"):
-            if len(left) % PAGE:
-                raise Wrong(f"kill {place} of {len(left)} bytes: it ends in {shown(left[-200:])}")
-            cuts += 1
-            mended(kept, left)
-            left = read(kept)
-        must_be(ran(["check", kept]), 0, b"agrees %d\n" % (left.count(b"\n") - 1), b"")
-        lengths.add(len(left))
-    if len(lengths) < KILLS // 2 or cuts > KILLS // 10:
-        raise Wrong(f"of {KILLS} killed runs {len(lengths)} lengths were left, and {cuts} lines cut")
-
-
-def not_of_others(room):
-    """The other subcommands keep no record: that is a fault of usage, as any option that isn't there."""
-    for task, text in (("replay", BOARD), ("check", TRACE)):
-        path = script(room, text)
-        for words in (["--keep", "kept", path], [path, "--keep", "kept"], ["--keep=kept", path]):
-            found = ran([task, *words], cwd=room)
-            must_be(found, 2, b"", None)
-            if b"error: unexpected argument '--keep' found" not in found.stderr:
-                raise Wrong(f"{task} said {shown(found.stderr)}")
-        if os.path.exists(os.path.join(room, "kept")):
-            raise Wrong(f"{task} made the file")
+    must(f"mended {shown(cut[-200:])} is {shown(read(path)[-200:])}", read(path) == wanted)
 
 
 def traced(room, path):
@@ -258,26 +83,141 @@ def traced(room, path):
             stdin=subprocess.DEVNULL,
         )
     except FileNotFoundError:
-        raise Skipped("there is no strace") from None
+        raise SkipTest("there is no strace") from None
     return [it for it in read(told).splitlines() if b" -> " in it]
 
 
-def as_it_grows(room):
-    """Each line is written as soon as its step was done, by one call of the system for one line or several."""
-    writes = traced(room, script(room, ONE_BOARD.replace(b" 10 ", b" 1000 ") + b"at 0x80000000\n" + b"sip\n" * 99))
-    if len([it for it in writes if it.count(b" -> ") == 1]) < 100:
-        raise Wrong(f"a hart alone: {len(writes)} writes, the first {shown(b' '.join(writes[:3]))}")
+class KeptRecords(Test):
+    def test_a_kept_record_is_the_record(self):
+        """What is kept of a run is what it prints of the record, of each end, with 1 to 8 harts and with 128; and it is a trace."""
+        some = [(TWO_HARTS, "quiet"), (ONE_BOARD + b"at 0x80000000\nwfi\n", "stuck"), (BOARD, "quiet")]
+        some += [(working(harts, 3_000 // harts), "quiet") for harts in range(1, 9)]
+        some += [(it.text, it.end) for it in programs.MANY.values()]
+        for text, end in some:
+            path = script(self.room, text)
+            for words in ([], ["--keep=kept"], ["--keep", "kept", "--"]):
+                printed = kept_run(self.room, path, *ENDED[end], *words)
+            kept = read(os.path.join(self.room, "kept"))
+            must_be(ran(["check", "kept"], cwd=self.room), 0, b"agrees %d\n" % (kept.count(b"\n") - 1), b"")
+            must(f"{shown(text)}: its record is {shown(kept)}", printed.startswith(kept))
 
+    def test_a_kept_record_and_its_file(self):
+        """FILE2 stands before FILE or behind it; what it had is dropped; and it may be a stream."""
+        path, kept = script(self.room, TWO_HARTS), os.path.join(self.room, "kept")
+        printed = ran(["run", path]).stdout
+        for words in (["--keep", kept, path], ["--keep=" + kept, path], [path, "--keep", kept], [path, f"--keep={kept}", "--"]):
+            write(kept, b"an older record\n" * 1_000)
+            must_be(ran(["run", *words]), 0, printed, b"")
+            must(f"{words}: it kept {shown(read(kept))}", read(kept) == kept_of(printed))
+        must_be(ran(["run", "--keep", "/dev/null", path]), 0, printed, b"")
+        must_be(ran(["run", "--keep", "/dev/stderr", path]), 0, printed, kept_of(printed))
 
-TESTS = [
-    ("a kept record is the record", kept_whole),
-    ("a kept record and its file", kept_beside),
-    ("a run with a kept record", nothing_else),
-    ("nothing to keep", not_kept),
-    ("no place for a kept record", no_place),
-    ("a kept record on a full disk", full_disk),
-    ("mending a kept record", mends),
-    ("a kept record of a killed run", killed),
-    ("a kept record grows", as_it_grows),
-    ("no kept record of a replay", not_of_others),
-]
+    def test_a_run_with_a_kept_record(self):
+        """With `--keep` a run prints, says and ends as without it, where its order is the only one: also with no script, and no run."""
+        kept = os.path.join(self.room, "kept")
+        alone = b"at 0x80000000\n"
+        rest = [alone, alone + b"sip\n" * 300, alone + b"wfi\n", alone + b"ecall 0x53525354 0 0 0\n", b"0 fly\n", b"at 0x10\ntick 1\n"]
+        for head in (ONE_BOARD, ONE_BOARD.replace(b" 10 ", b" 1000 "), b"board 0 1 10 0 0x80000000 0x0\n", b"fly\n"):
+            for text in [head + it for it in rest] + [head, TRACE]:
+                path = script(self.room, text)
+                found = ran(["run", path])
+                must_be(ran(["run", "--keep", kept, path]), found.returncode, found.stdout, found.stderr)
+
+    def test_nothing_to_keep(self):
+        """What is no program is a fault as without `--keep`, and leaves FILE2 as it was; and so does a program that isn't there."""
+        kept = os.path.join(self.room, "kept")
+        write(kept, b"an older record\n")
+        for text, status, said in (
+            (TRACE, 1, WRONG_KIND),
+            (b"board 0 1 10 0 0x80000000 0x0\n", 1, BAD_BOARD),
+            (b"fly\n", 1, b"sbiboard: line 1: fault 2\n"),
+        ):
+            for file in (kept, os.path.join(self.room, "none", "kept")):
+                must_be(ran(["run", "--keep", file, script(self.room, text)]), status, b"", said)
+        must_be(ran(["run", "--keep", kept, os.path.join(self.room, "none")]), 7, b"", FAILED_IO)
+        must("the older record is gone", read(kept) == b"an older record\n")
+
+    def test_no_place_for_a_kept_record(self):
+        """Where FILE2 can't be made nothing is run or printed, and so where it is the program itself, which stays as it is."""
+        path = script(self.room, TWO_HARTS)
+        for kept in (os.path.join(self.room, "none", "kept"), self.room, "", os.path.join(self.room, "k" * 256), path, os.path.join(self.room, "./a.sched")):
+            must_be(ran(["run", "--keep", kept, path]), 7, b"", FAILED_IO)
+        os.link(path, os.path.join(self.room, "linked"))
+        must_be(ran(["run", "--keep", os.path.join(self.room, "linked"), path]), 7, b"", FAILED_IO)
+        must("the program is gone", read(path) == TWO_HARTS)
+
+    def test_a_kept_record_on_a_full_disk(self):
+        """Where FILE2 can't be written any more, the run goes on to its end, prints all, and ends with status 7. What is kept is as
+        much of the record as there was room for, and where that ends in a line, the command of the guides drops it."""
+        kept = os.path.join(self.room, "kept")
+        for harts in (1, 2, 8):
+            path = script(self.room, working(harts, 3_000 // harts))
+            must_be(ran(["run", "--keep", "/dev/full", path], timeout=HANG), 7, None, FAILED_IO)
+            for most in (0, 1, 41, 42, 43, 100, 4_096, 5_001, 65_536):
+                if os.path.exists(kept):
+                    os.remove(kept)
+                found = ran(["run", "--keep", kept, path], timeout=HANG, preexec_fn=limited(most))
+                must_be(found, 7, None, FAILED_IO)
+                must(f"a limit of {most}: the run hasn't come to its end", found.stdout.count(b" -> ") >= 3_000 and found.stdout.endswith(b"# end quiet\n"))
+                cut = read(kept)
+                must(f"a limit of {most}: it kept {shown(cut)}", cut == kept_of(found.stdout)[:most])
+                mended(kept, cut)
+                if cut.count(b"\n"):
+                    must_be(ran(["check", kept]), 0, b"agrees %d\n" % (cut.count(b"\n") - 1), b"")
+
+    def test_mending_a_kept_record(self):
+        """The command that mends a kept record, on whole and cut ones; it stands in the guides."""
+        for name in ("FORMATS.md", "MANY_RUNS.md"):
+            must(f"{name} lacks the command", MENDS.encode() in read(os.path.join(ROOT, "docs", name)))
+        path = os.path.join(self.room, "kept")
+        for text in (b"", b"a\n", b"a\nb\n", b"a\nb", b"a\nb\nc -> d", b"a"):
+            write(path, text)
+            mended(path, text)
+
+    def test_a_kept_record_of_a_killed_run(self):
+        """Runs are killed at 100 moments that are spread over a long one. What each leaves is a beginning of a record, in whole
+        lines, with which `check` agrees. A line may be cut where a page of the file ends, since the system takes a write in such
+        pieces: once in a great many kills. It is mended as after a full disk."""
+        kept = os.path.join(self.room, "kept")
+        some, lengths, cuts = random.Random(1), set(), 0
+        paths = []
+        for harts in (1, 3, 8):
+            paths.append(os.path.join(self.room, f"{harts}.program"))
+            write(paths[-1], working(harts, 240_000 // harts))
+        begun = time.monotonic()
+        must_be(ran(["run", "--keep", kept, paths[1]]), 0, None, b"")
+        long = time.monotonic() - begun
+        for place in range(KILLS):
+            if os.path.exists(kept):
+                os.remove(kept)
+            words = ["sbiboard", "run", "--keep", kept, paths[place % len(paths)]]
+            run = subprocess.Popen(words, executable=PROGRAM, stdin=subprocess.DEVNULL, stdout=subprocess.DEVNULL)
+            time.sleep(long * 0.9 * (place + some.random()) / KILLS)
+            run.kill()
+            run.wait(HANG)
+            left = read(kept) if os.path.exists(kept) else b""
+            if not left:
+                continue
+            if not left.endswith(b"\n"):
+                must(f"kill {place} of {len(left)} bytes: it ends in {shown(left[-200:])}", not (len(left) % PAGE))
+                cuts += 1
+                mended(kept, left)
+                left = read(kept)
+            must_be(ran(["check", kept]), 0, b"agrees %d\n" % (left.count(b"\n") - 1), b"")
+            lengths.add(len(left))
+        must(f"of {KILLS} killed runs {len(lengths)} lengths were left, and {cuts} lines cut", len(lengths) >= KILLS // 2 and cuts <= KILLS // 10)
+
+    def test_a_kept_record_grows(self):
+        """Each line is written as soon as its step was done, by one call of the system for one line or several."""
+        writes = traced(self.room, script(self.room, ONE_BOARD.replace(b" 10 ", b" 1000 ") + b"at 0x80000000\n" + b"sip\n" * 99))
+        must(f"a hart alone: {len(writes)} writes, the first {shown(b' '.join(writes[:3]))}", len([it for it in writes if it.count(b" -> ") == 1]) >= 100)
+
+    def test_no_kept_record_of_a_replay(self):
+        """The other subcommands keep no record: that is a fault of usage, as any option that isn't there."""
+        for task, text in (("replay", BOARD), ("check", TRACE)):
+            path = script(self.room, text)
+            for words in (["--keep", "kept", path], [path, "--keep", "kept"], ["--keep=kept", path]):
+                found = ran([task, *words], cwd=self.room)
+                must_be(found, 2, b"", None)
+                must(f"{task} said {shown(found.stderr)}", b"error: unexpected argument '--keep' found" in found.stderr)
+            must(f"{task} made the file", not os.path.exists(os.path.join(self.room, "kept")))

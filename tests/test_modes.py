@@ -1,78 +1,32 @@
 """Boards with other address spaces: Sv48 and short ASIDs, beside a model in plain Python."""
 import os
 import random
-import sys
+import re
 
-from harness import EXAMPLES, ROOT, Wrong, must_be, ran, script, stored
+import board_model
 
-sys.path.insert(0, os.path.join(ROOT, "tools"))
-import board_model  # noqa: E402
+from .fixtures import EXAMPLES, Test, must, must_be, ran, read_bytes, script, stored
+from .replays import printed, worked_rows
 
-ROWS = os.path.join(ROOT, "crates/rows/data")
 # ASIDLEN and WIDTH of other boards than the usual one.
 SPACES = ("16 48", "9 39", "1 48", "0 39")
 
 
+# A step, as rows have it.
+STEP = re.compile(rf"cut|(c|\d+|0x[0-9a-f]+)\s+({'|'.join([*board_model.GUEST, 'poll', 'serve', 'advance', 'tick'])})(\s.*)?")
+
+
 def schedules():
-    """The schedules of all rows: their board lines of six numbers, and their steps."""
-    for name in sorted(os.listdir(ROWS)):
-        with open(os.path.join(ROWS, name), encoding="utf-8") as file:
-            rows = file.read().split("\nrow ")[1:]
-        for row in rows:
-            title, *lines = row.split("\n")
-            if lines and lines[0].startswith("board ") and len(lines[0].split()) == 7:
-                steps = [board_model.words_of(line.partition("->")[0]) for line in lines[1:]]
-                found = list(takewhile_steps(steps))
-                if found:
-                    yield f"{name}, {title}", lines[0], found
-
-
-def takewhile_steps(steps):
-    """The steps up to the first line that is none."""
-    for words in steps:
-        if len(words) < 2 or not (words[0] == "c" or words[0].isdigit()) or words[1] not in NAMES:
-            return
-        yield words
-
-
-NAMES = {*board_model.GUEST, "poll", "serve", "advance", "tick"}
-
-
-def answered(board_line, steps):
-    """What the model answers, as lines of a trace, and the TLB lines of its table."""
-    board = board_model.board_of(board_line.split())
-    lines = []
-    for words in steps:
-        actor, op = board_model.step_of(words)
-        lines.append(f"{board_model.spelled_step(actor, op)} -> {board_model.spelled_answer(board.step(actor, op))}")
-    return lines, [spelled_entry(h, item[1]) for h, hart in enumerate(board.harts) for item in hart.tlb]
-
-
-def spelled_entry(h, entry):
-    page, level, asid, is_global, pa, *rights = entry
-    letters = "".join(letter if has else "-" for letter, has in zip("rwxd", rights))
-    return f"# tlb {h:3} {page:016x} {level} {asid:04x} {'g' if is_global else '-'} {pa:016x} {letters}"
+    """The rows that are schedules, of boards of six numbers."""
+    return [it for it in worked_rows() if len(it[1].split()) == 7 and it[2] and all(map(STEP.fullmatch, it[2]))]
 
 
 def must_agree(room, name, board_line, steps):
-    text = "\n".join([board_line, *(" ".join(words) for words in steps)]) + "\n"
-    found = ran(["replay", script(room, text.encode())])
-    lines, entries = answered(board_line, steps)
-    printed = found.stdout.decode().splitlines()
-    if printed[1 : 1 + len(lines)] != lines or [it for it in printed if it.startswith("# tlb")] != entries:
-        differs = next((pair for pair in zip(printed[1:], lines) if pair[0] != pair[1]), entries)
-        raise Wrong(f"{name} with {board_line!r}: {differs}")
-
-
-def all_rows(room):
-    """Each row's schedule on each of the other boards: its answers and its TLB lines are the model's."""
-    count = 0
-    for name, board_line, steps in schedules():
-        for spaces in SPACES:
-            must_agree(room, name, f"{board_line} {spaces}", steps)
-            count += 1
-    if count < 400:
-        raise Wrong(f"only {count} schedules")
+    """A replay prints what the model says."""
+    text = "\n".join([board_line, *steps]) + "\n"
+    found, wanted = ran(["replay", script(room, text.encode())]).stdout.decode().splitlines(), printed(text)
+    if found != wanted:
+        raise AssertionError(f"{name} with {board_line!r}: {next((pair for pair in zip(found, wanted) if pair[0] != pair[1]), (len(found), len(wanted)))}")
 
 
 # Page tables of four levels in pages 1 to 4 of the RAM, and pages of data after them.
@@ -128,29 +82,29 @@ SETUP = [["2", "store", f"{at:#x}", f"{entry:#x}"] for at, entry in TABLES.items
 SETUP += [["0", "satp", "0x8000500000080001"], ["1", "satp", "0x9000500000080001"]]
 
 
-def random_steps(room):
-    """Random accesses, tables, writes of satp and fences, on boards of each width."""
-    for seed in range(60):
-        some = random.Random(seed)
-        for width in (39, 48):
-            steps = [line.split() for line in ENTRIES.split("|")] + SETUP + [step for _ in range(300) for step in random_step(some)]
-            must_agree(room, f"seed {seed}", f"board 3 {PAGES} 1000 0 0x80000000 0x0 {some.choice((16, 16, 9, 2, 1, 0))} {width}", steps)
+class Modes(Test):
+    def test_all_rows_on_other_boards(self):
+        """Each row's schedule on each of the other boards: its answers and its table are the model's."""
+        rows = schedules()
+        must(f"only {len(rows)} schedules", len(rows) >= 200)
+        for name, board_line, steps in rows:
+            for spaces in SPACES:
+                must_agree(self.room, name, f"{board_line} {spaces}", steps)
 
+    def test_random_steps_by_both_modes(self):
+        """Random accesses, tables, writes of satp and fences, on boards of each width."""
+        for seed in range(60):
+            some = random.Random(seed)
+            for width in (39, 48):
+                steps = ENTRIES.split("|") + [" ".join(step) for step in SETUP + [step for _ in range(300) for step in random_step(some)]]
+                must_agree(self.room, f"seed {seed}", f"board 3 {PAGES} 1000 0 0x80000000 0x0 {some.choice((16, 16, 9, 2, 1, 0))} {width}", steps)
 
-def usual_spaces(room):
-    """An example of six numbers prints what is stored of it, with 16 and 39 written out, too."""
-    for name in sorted(it for it in os.listdir(EXAMPLES) if it.endswith(".sched")):
-        with open(os.path.join(EXAMPLES, name), "rb") as file:
-            text = file.read()
-        words = next(it for it in text.split(b"\n") if it.startswith(b"board ")).partition(b"#")[0].rstrip()
-        if len(words.split()) != 7:
-            continue
-        found = ran(["replay", script(room, text.replace(words, words + b" 16 39", 1))])
-        must_be(found, found.returncode, stored(f"{name}.out"), None)
-
-
-TESTS = [
-    ("all rows on other boards", all_rows),
-    ("random steps by both modes", random_steps),
-    ("16 and 39 written out", usual_spaces),
-]
+    def test_16_and_39_written_out(self):
+        """An example of six numbers prints what is stored of it, with 16 and 39 written out, too."""
+        for name in sorted(it for it in os.listdir(EXAMPLES) if it.endswith(".sched")):
+            text = read_bytes(os.path.join(EXAMPLES, name))
+            words = next(it for it in text.split(b"\n") if it.startswith(b"board ")).partition(b"#")[0].rstrip()
+            if len(words.split()) != 7:
+                continue
+            found = ran(["replay", script(self.room, text.replace(words, words + b" 16 39", 1))])
+            must_be(found, found.returncode, stored(f"{name}.out"), None)

@@ -1,16 +1,13 @@
 """What is told of each file by tables: each key below a point, each kind of line behind it, and counts of all sizes."""
 import os
 import re
-import subprocess
 
-import all_orders
-import random_programs
-from board_model import board_of, spelled_answer, spelled_step, step_of, words_of
-from expected_points import Case
-from harness import Wrong, ran
-from test_few_states import EDGES, are_all
-from test_judged_orders import explored, orders_alone, run_on_threads, tested, tried, written
-from test_orders import RACE, TESTER, must, told, told_of
+from . import all_orders, random_programs, replays
+from .expected_points import Case
+from .fixtures import PROGRAM, TESTER, Test, must, ran, read, tester, told, told_of, write
+from .test_few_states import EDGES, are_all
+from .test_judged_orders import explored, orders_alone, run_on_threads, tested, tried
+from .test_orders import RACE
 
 # Hart 1 loads beside two stores of hart 0, which does some more before and behind them: its records are long, and differ.
 LONG = """\
@@ -43,7 +40,7 @@ OF_LONG = (
 
 
 def case_of(room, name, text):
-    written(room, name, text)
+    write(os.path.join(room, name), text)
     return Case(name, text, all_orders.Orders(text, loads=True))
 
 
@@ -56,35 +53,6 @@ def blocks_of(lines):
         elif match := re.fullmatch(r"  (\w+): (\d+)", line):
             found.setdefault(point, {})[match[1]] = int(match[2])
     return found
-
-
-def keys_have_their_values(room):
-    """Below a failing point each key has its own value: of seed 7 the failing orders, all, the first that fails, and its place, where no two are the same."""
-    asked = "".join(f"#! {it}\n" for it in OF_LONG)
-    case = case_of(room, "long.program", LONG.replace("board 2 4 13", "board 2 4 1000") + asked)
-    orders = orders_alone(room, [case], 7, 40)
-    os.remove(os.path.join(room, "alone-long.program"))
-    blocks = blocks_of(tried(room, [case], orders, 7)).values()
-    differing = [it for it in blocks if set(it) == {"seed", "failing", "orders", "order", "place"} and len(set(it.values())) == 5 and it["order"] > 0 and it["place"] > 9]
-    must(f"no point has five different values: {blocks}", differing)
-    # (a record of all orders that is longer than the limit has a limit of its own)
-    case = case_of(room, "long.program", asked + LONG)
-    explored(room, [case])
-    must("few", tested(room, [case]) == 1)
-
-
-def keys_of_runs_have_their_values(room):
-    """So it is of runs on threads: each condition's failing runs are its own, with its own record. Of two that exclude each other each run fails one."""
-    pairs = ("before 0 store 0x80002000 {}, 1 load", "before 1 load, 0 store 0x80002000 {}")
-    asked = [*OF_LONG, *(it.format(value) for value in (1, 2) for it in pairs)]
-    case = case_of(room, "long.program", LONG.replace("board 2 4 13", "board 2 4 1000") + "".join(f"#! {it}\n" for it in asked))
-    orders = orders_alone(room, [case], 0, 60)
-    os.remove(os.path.join(room, "alone-long.program"))
-    lines = run_on_threads(room, [case], orders)
-    blocks = blocks_of(lines)
-    for first in (len(asked) + len(OF_LONG) + 1, len(asked) + len(OF_LONG) + 3):
-        failing = [blocks.get(it, {"failing": 0, "runs": 60}) for it in (first, first + 1)]
-        must(f"{failing}", sum(it["failing"] for it in failing) == 60 and {it["runs"] for it in failing} == {60})
 
 
 # ---- schedules and traces
@@ -118,72 +86,20 @@ OF_CUT = (
 )  # fmt: skip
 
 
-def answered(text):
-    """The lines of a schedule's steps with the model's answers; a cut is one."""
-    board, lines = None, []
-    for line in text.splitlines():
-        words = words_of(line)
-        if board is None:
-            board = board_of(words)
-        elif words:
-            actor, op = step_of(words)
-            lines.append(f"{spelled_step(actor, op)} -> {spelled_answer(board.step(actor, op))}")
-    return lines
-
-
-def cut_records_are_told(room):
-    """A schedule with cuts, and a trace, is judged as a whole: the place of the step that fails counts all steps, and the record has all, with the cuts."""
-    answers = answered(CUT)
-    whole = CUT.split("\n")[0] + "\n" + "".join(line + "\n" for line in answers)
-    for name, text in (("a.sched", CUT), ("a.trace", whole)):
-        asked = "".join(f"#! {it}\n" for it, *_ in OF_CUT)
-        status, lines = told(room, text + asked, name=name)
-        record = ran(["replay", written(room, "steps", CUT)]).stdout.decode()
-        first = text.count("\n") + 1
-        wanted = ["TAP version 14"] + [f"ok 1 - {name} ({len(answers)} lines)"] * (name == "a.trace")
-        points = len(wanted)
-        for at, (it, place, is_met) in enumerate(OF_CUT):
-            wanted.append(f"{'ok' if place is None else 'not ok'} {points + at} - {name}: line {first + at}: {it}")
-            wanted += below(name, place, [line for line in answers if line != "cut -> done"])
-            wanted += [f"# line {first + at}: never met: no step has this actor and operation"] * (not is_met)
-        count, failed = points + len(OF_CUT) - 1, sum(place is not None for _, place, _ in OF_CUT)
-        wanted += [f"1..{count}", f"# {count} points, {failed} failed", "# 1 files, 0 orders, 0 different records", "# ends: 0 off, 0 history-full, 0 quiet, 0 stuck"]
-        must_be_lines(name, lines, wanted)
-        with open(os.path.join(room, f"{name}.failed"), encoding="ascii") as file:
-            kept = file.read()
-        must(f"{name}: status {status}, the record is {kept!r}, and not {record!r}", status == 1 and kept == record)
-        os.remove(os.path.join(room, f"{name}.failed"))
-
-
-def below(name, place, steps):
+def below(name, place, events):
     """What stands below a point of a schedule or a trace that fails at this place."""
     if place is None:
         return []
     if place == "end":
         return ["  ---", '  reason: "only a program has an end"', "  ..."]
-    around = [] if place == "some" else [f"  place: {place}", "  steps: |", *(f"    {at} {line}" for at, line in enumerate(steps) if abs(at - place) <= 6)]
+    around = [] if place == "some" else [f"  place: {place}", "  steps: |", *(f"    {at} {line}" for at, line in enumerate(events) if abs(at - place) <= 6)]
     return ["  ---", f'  record: "./{name}.failed"', *around, "  ..."]
 
 
 def must_be_lines(name, lines, wanted):
     if lines != wanted:
         at = next((at for at, (one, other) in enumerate(zip(lines, wanted)) if one != other), min(len(lines), len(wanted)))
-        raise Wrong(f"{name}: line {at} is {lines[at : at + 2]}, and not {wanted[at : at + 2]}, of {len(lines)} and {len(wanted)}")
-
-
-def every_difference_is_told(room):
-    """Of a trace each line that differs is listed with both answers, 20,000 of them, and no line that agrees."""
-    many = 20_000
-    steps = [f"0 sip -> value {number % 7}" for number in range(many)]
-    text = f"board 1 1 {many + 1} 0 0x80000000 0x0\n0 advance -> entry 0x80000000 0 0\n" + "".join(line + "\n" for line in steps)
-    status, lines = told(room, text, name="a.trace")
-    wanted = ["TAP version 14", f"not ok 1 - a.trace ({many + 1} lines)", "  ---", f"  differing: {sum(number % 7 > 0 for number in range(many))}", "  lines:"]
-    for number, line in enumerate(steps):
-        if number % 7:
-            wanted += [f"    - line: {number + 3}", f'      wanted: "{line}"', '      got: "0 sip -> value 0x0"']
-    wanted += ["  ...", "1..1", "# 1 points, 1 failed", "# 1 files, 0 orders, 0 different records", "# ends: 0 off, 0 history-full, 0 quiet, 0 stuck"]
-    must(f"status {status}", status == 1)
-    must_be_lines("a.trace", lines, wanted)
+        raise AssertionError(f"{name}: line {at} is {lines[at : at + 2]}, and not {wanted[at : at + 2]}, of {len(lines)} and {len(wanted)}")
 
 
 # ---- stale accesses
@@ -210,16 +126,11 @@ def random_steps(seed):
 
 def stale_lines(text):
     """The lines that are stale, by the model, and why: a walk before the step gives another translation, or memory has another word."""
-    board, found = None, []
-    for at, line in enumerate(text.splitlines(), 1):
-        if board is None:
-            board = board_of(words_of(line))
-            continue
-        actor, op = step_of(words_of(line))
-        before = board.copy()
-        board.step(actor, op)
+    before, found = None, []
+    for at, board, actor, op, _ in replays.steps(text):
         if board.is_stale:
             found.append(f"# line {at}: stale: {why_stale(before, board, actor, op)}")
+        before = board.copy()
     return found
 
 
@@ -247,29 +158,6 @@ board 1 4 100 0 0x80000000 0x0
 0 load 0x1000
 """
 
-
-def stale_accesses_are_those_of_the_model(room):
-    """Of random schedules exactly those accesses are told as stale, and for the reason, that the model says, of lines of all numbers."""
-    texts = [UNMAPPED.format(leaf) for leaf in ("0", "0x20000043", "0x200000c7", "0x20000443", "0x2000004b")] + [random_steps(seed) for seed in range(60)]
-    seen = []
-    for at, text in enumerate(texts):
-        written(room, f"{at}.sched", text)
-    _, lines = told_of(room, *(f"{at}.sched" for at in range(len(texts))))
-    told_by = {}
-    for line in lines:
-        if match := re.fullmatch(r"(?:not )?ok \d+ - (\d+)\.sched .*", line):
-            told_by[int(match[1])] = found = []
-        elif line.startswith("# line "):
-            found.append(line)
-    for at, text in enumerate(texts):
-        wanted = stale_lines(text)
-        must(f"{text}: told are {told_by[at]}, and stale {wanted}", told_by[at] == wanted)
-        seen += wanted
-    places = [int(line.split()[2].rstrip(":")) for line in seen]
-    reasons = {line.partition("stale: ")[2] for line in seen}
-    must(f"{len(seen)} are stale, for {reasons}", len(seen) > 100 and len(reasons) == 2 and max(places) > 50 and {it % 2 for it in places} == {0, 1})
-
-
 # ---- files that can't be tested
 
 BOUNDS = (
@@ -277,79 +165,10 @@ BOUNDS = (
     ("BOOTHART", 3, 0, 1, "at most 1", None), ("ASIDLEN", 6, 0, 16, "at most 16", None),
 )  # fmt: skip
 
-
-def bounds_of_boards_are_told(room):
-    """Each number of the board's line is good up to its bounds, and is told with its bound beyond them."""
-    for name, place, least, most, above, under in BOUNDS:
-        for number in {least, least + 1, most - 1, most, most + 1, most + 2, most + 43, most + 44, most + 45, 2 * most, (1 << 63) + 1, (1 << 64) - 1} | ({least - 1} if under else set()):
-            numbers = [2, 2, 9, 0, 0x80000000, 0, 16, 39]
-            numbers[place] = number
-            _, lines = told(room, f"board {' '.join(map(str, numbers))}\n", "--times", "1", name="a.sched")
-            is_good = least <= number <= most
-            wanted = "ok 1 - a.sched (1 orders)" if is_good else f"not ok 1 - a.sched: bad board: {name} is {number}, {above if number > most else under}"
-            must(f"{name} {number}: {lines}", lines[1] == wanted)
-
-
-def long_files_are_told(room):
-    """A file of 16,777,216 bytes is tested, conditions at its end and all; with a byte more it is a point that fails."""
-    head, asked = "board 1 1 9 0 0x80000000 0\n0 advance\n", "#! never 0 advance\n"
-    filled = head + "#" + " " * (16_777_216 - len(head) - len(asked) - 2) + "\n" + asked
-    _, lines = told(room, filled, name="a.sched")
-    must(f"{lines}", lines[1] == "not ok 1 - a.sched: line 4: never 0 advance")
-    for more in ("#", "0", "#" * 70_000):
-        status, lines = told(room, filled + more, name="a.sched")
-        must(f"{lines}", status == 1 and re.fullmatch(r"not ok 1 - a\.sched: .* \(fault 8\)", lines[1]) and lines[3:5] == ["# 1 points, 1 failed", "# 1 files, 0 orders, 0 different records"])
-
-
-def all_files_are_counted(room):
-    """The summary counts each file, also those that can't be read or tested, whatever stands before or behind them."""
-    good = "board 1 1 9 0 0x80000000 0\n0 advance\n"
-    for name, text in (("good.sched", good), ("fault.sched", "board\n"), ("board.sched", good.replace("board 1", "board 0")), ("asked.sched", good + "#! fly\n"), ("one.program", RACE)):
-        written(room, name, text)
-    names = ["good.sched", "fault.sched", "board.sched", "asked.sched", "missing.sched", "one.program"]
-    for some in (names, names[::-1], names[1:3], names[1:5] * 3, ["missing.sched"]):
-        for name in ("sbiboard", "sbiboard explore"):
-            found = subprocess.run([name, *some], executable=TESTER, cwd=room, capture_output=True, text=True, timeout=200).stdout.splitlines()
-            summary = found[found.index(f"1..{len(some)}") :]
-            failed = sum(it not in ("good.sched", "one.program") or it == "good.sched" and name != "sbiboard" for it in some)
-            must(f"{some}: {summary}", summary[1] == f"# {len(some)} points, {failed} failed" and re.match(rf"# {len(some)} files(,|$)", summary[2]))
-
-
 # ---- few states and many orders
-
-
-def waiting_conditions_of_few_states(room):
-    """All orders of a program of as many states as are few are looked at, whatever its conditions wait for; each of twelve is judged."""
-    # (what hart 1 loaded is no part of a state, and the first of these waits for it)
-    asked = {
-        "never 0 sip after 1 load -> value 1": True, "before 0 ecall, 1 load": True, "before 1 load, 0 ecall": False, "never 1 load after 0 ecall": False,
-        "some 1 advance": True, "never 0 sip": True, "end quiet": True, "end off": False, "some 1 load -> value 1": True, "some 1 load -> value 2": False,
-        "each 1 load -> value 0": False, "never c": True,
-    }  # fmt: skip
-    for _, few, _ in EDGES:
-        head, start, body = few.partition("ecall 0x48534d 0 1 0x80000800\n")
-        text = head + start + body.replace("load 0x80000000", "store 0x80000000 1", 1) + "".join(f"#! {it}\n" for it in asked)
-        status, lines = told(room, text)
-        points = [line.startswith("ok ") for line in lines if re.match("(not )?ok ", line)]
-        must(f"status {status}, {lines}", are_all(lines) and points == list(asked.values()) and status == 1)
-
 
 # More orders than 2^128 - 1 of two harts that each do 70 steps beside each other, and a load that tells nothing.
 MANY_ORDERS = "board 2 1 1000 0 0x80000000 0x0\nat 0x80000000\necall 0x48534d 0 1 0x80000800\n" + "sip\n" * 70 + "at 0x80000800\nload 0x80000000\n" + "sip\n" * 70
-
-
-def more_orders_than_are_counted(room):
-    """Where there are 2^128 - 1 orders or more, that is said, of all orders and of an outcome; with fewer they are counted."""
-    most = (1 << 128) - 1
-    for text, is_more in ((MANY_ORDERS, True), (MANY_ORDERS.replace("sip\n" * 70, "sip\n" * 60), False)):
-        written(room, "a.program", text)
-        lines = subprocess.run(["sbiboard explore", "a.program"], executable=TESTER, cwd=room, capture_output=True, text=True, timeout=200).stdout.splitlines()
-        many = f"{most} or more" if is_more else str(all_orders.Orders(text).ends["quiet"])
-        orders = next(line for line in lines if line.startswith("# orders: "))
-        outcome = lines[lines.index("# outcomes: 1") + 1]
-        must(f"{orders}", re.fullmatch(rf"# orders: {many}, quiet {most if is_more else many}( or more)?", orders))
-        must(f"{outcome}", outcome == f"#   1:{text[: text.index('load')].count(chr(10)) + 1}=0x0 quiet: 1 states, {many} orders")
-
 
 # Orders without end, some of which end off, some quiet and some stuck.
 ENDLESS = """\
@@ -360,17 +179,6 @@ ecall 0x48534d 0 1 0x80000010
 at 0x80000010
 ecall 0x53525354 0 2 0
 """
-
-
-def ends_beside_no_end(room):
-    """Of orders of which some have no end it is told how the others end: off, quiet or stuck, each where some do."""
-    for operation, ends in (("ecall 0x53525354 0 0 0", ["off"]), ("ecall 0x48534d 1", []), ("wfi", []), ("sie 2\necall 0x735049 0 2 0\nwfi", [])):
-        text = ENDLESS.format(operation)
-        wanted = [end for end in ("off", "quiet", "stuck") if end in all_orders.Orders(text).ends]
-        must(f"{operation}: {wanted}", set(ends) <= set(wanted))
-        case = case_of(room, "a.program", text)
-        explored(room, [case])
-
 
 # Two harts whose stores leave one word or another one, whatever the load gives: an outcome of two states.
 TWO_ENDS = """\
@@ -384,19 +192,165 @@ load {}
 """
 
 
-def outcomes_are_counted(room):
-    """An outcome is told with how many states orders end at that have it, and how many orders do."""
-    for address, wanted in (("0x80002008", ["#   1:7=0x0 quiet: 2 states, 4 orders"]), ("0x80002000", ["#   1:7=0x1 quiet: 1 states, 1 orders", "#   1:7=0x2 quiet: 2 states, 3 orders"])):
-        written(room, "a.program", TWO_ENDS.format(address))
-        lines = subprocess.run(["sbiboard explore", "a.program"], executable=TESTER, cwd=room, capture_output=True, text=True, timeout=200).stdout.splitlines()
-        must(f"{lines}", sorted(it for it in lines if it.startswith("#   ")) == wanted and f"# outcomes: {len(wanted)}" in lines)
+class Points(Test):
+    programs = (PROGRAM, TESTER)
 
+    def test_keys_have_their_values(self):
+        """Below a failing point each key has its own value: of seed 7 the failing orders, all, the first that fails, and its place, where no two are the same."""
+        asked = "".join(f"#! {it}\n" for it in OF_LONG)
+        case = case_of(self.room, "long.program", LONG.replace("board 2 4 13", "board 2 4 1000") + asked)
+        orders = orders_alone(self.room, [case], 7, 40)
+        os.remove(os.path.join(self.room, "alone-long.program"))
+        blocks = blocks_of(tried(self.room, [case], orders, 7)).values()
+        differing = [it for it in blocks if set(it) == {"seed", "failing", "orders", "order", "place"} and len(set(it.values())) == 5 and it["order"] > 0 and it["place"] > 9]
+        must(f"no point has five different values: {blocks}", differing)
+        # (a record of all orders that is longer than the limit has a limit of its own)
+        case = case_of(self.room, "long.program", asked + LONG)
+        explored(self.room, [case])
+        must("few", tested(self.room, [case]) == 1)
 
-TESTS = [
-    ("keys have their values", keys_have_their_values), ("keys of runs on threads have their values", keys_of_runs_have_their_values),
-    ("schedules and traces with cuts are judged", cut_records_are_told), ("every difference of a trace is told", every_difference_is_told),
-    ("stale accesses are those of the model", stale_accesses_are_those_of_the_model), ("bounds of boards are told", bounds_of_boards_are_told),
-    ("files of all lengths are tested", long_files_are_told), ("all files are counted", all_files_are_counted),
-    ("conditions that wait of few states", waiting_conditions_of_few_states), ("more orders than are counted", more_orders_than_are_counted),
-    ("ends beside orders without end", ends_beside_no_end), ("states and orders of outcomes are counted", outcomes_are_counted),
-]  # fmt: skip
+    def test_keys_of_runs_on_threads_have_their_values(self):
+        """So it is of runs on threads: each condition's failing runs are its own, with its own record. Of two that exclude each other each run fails one."""
+        pairs = ("before 0 store 0x80002000 {}, 1 load", "before 1 load, 0 store 0x80002000 {}")
+        asked = [*OF_LONG, *(it.format(value) for value in (1, 2) for it in pairs)]
+        case = case_of(self.room, "long.program", LONG.replace("board 2 4 13", "board 2 4 1000") + "".join(f"#! {it}\n" for it in asked))
+        orders = orders_alone(self.room, [case], 0, 60)
+        os.remove(os.path.join(self.room, "alone-long.program"))
+        lines = run_on_threads(self.room, [case], orders)
+        blocks = blocks_of(lines)
+        for first in (len(asked) + len(OF_LONG) + 1, len(asked) + len(OF_LONG) + 3):
+            failing = [blocks.get(it, {"failing": 0, "runs": 60}) for it in (first, first + 1)]
+            must(f"{failing}", sum(it["failing"] for it in failing) == 60 and {it["runs"] for it in failing} == {60})
+
+    def test_schedules_and_traces_with_cuts_are_judged(self):
+        """A schedule with cuts, and a trace, is judged as a whole: the place of the step that fails counts all steps, and the record has all, with the cuts."""
+        answers = replays.answered(CUT)
+        for name, text in (("a.sched", CUT), ("a.trace", replays.traced(CUT))):
+            asked = "".join(f"#! {it}\n" for it, *_ in OF_CUT)
+            status, lines = told(self.room, text + asked, name=name)
+            record = ran(["replay", write(os.path.join(self.room, "steps"), CUT)]).stdout.decode()
+            first = text.count("\n") + 1
+            wanted = ["TAP version 14"] + [f"ok 1 - {name} ({len(answers)} lines)"] * (name == "a.trace")
+            points = len(wanted)
+            for at, (it, place, is_met) in enumerate(OF_CUT):
+                wanted.append(f"{'ok' if place is None else 'not ok'} {points + at} - {name}: line {first + at}: {it}")
+                wanted += below(name, place, [line for line in answers if line != "cut -> done"])
+                wanted += [f"# line {first + at}: never met: no step has this actor and operation"] * (not is_met)
+            count, failed = points + len(OF_CUT) - 1, sum(place is not None for _, place, _ in OF_CUT)
+            wanted += [f"1..{count}", f"# {count} points, {failed} failed", "# 1 files, 0 orders, 0 different records", "# ends: 0 off, 0 history-full, 0 quiet, 0 stuck"]
+            must_be_lines(name, lines, wanted)
+            kept = read(os.path.join(self.room, f"{name}.failed"))
+            must(f"{name}: status {status}, the record is {kept!r}, and not {record!r}", status == 1 and kept == record)
+            os.remove(os.path.join(self.room, f"{name}.failed"))
+
+    def test_every_difference_of_a_trace_is_told(self):
+        """Of a trace each line that differs is listed with both answers, 20,000 of them, and no line that agrees."""
+        many = 20_000
+        steps = [f"0 sip -> value {number % 7}" for number in range(many)]
+        text = f"board 1 1 {many + 1} 0 0x80000000 0x0\n0 advance -> entry 0x80000000 0 0\n" + "".join(line + "\n" for line in steps)
+        status, lines = told(self.room, text, name="a.trace")
+        wanted = ["TAP version 14", f"not ok 1 - a.trace ({many + 1} lines)", "  ---", f"  differing: {sum(number % 7 > 0 for number in range(many))}", "  lines:"]
+        for number, line in enumerate(steps):
+            if number % 7:
+                wanted += [f"    - line: {number + 3}", f'      wanted: "{line}"', '      got: "0 sip -> value 0x0"']
+        wanted += ["  ...", "1..1", "# 1 points, 1 failed", "# 1 files, 0 orders, 0 different records", "# ends: 0 off, 0 history-full, 0 quiet, 0 stuck"]
+        must(f"status {status}", status == 1)
+        must_be_lines("a.trace", lines, wanted)
+
+    def test_stale_accesses_are_those_of_the_model(self):
+        """Of random schedules exactly those accesses are told as stale, and for the reason, that the model says, of lines of all numbers."""
+        texts = [UNMAPPED.format(leaf) for leaf in ("0", "0x20000043", "0x200000c7", "0x20000443", "0x2000004b")] + [random_steps(seed) for seed in range(60)]
+        seen = []
+        for at, text in enumerate(texts):
+            write(os.path.join(self.room, f"{at}.sched"), text)
+        _, lines = told_of(self.room, *(f"{at}.sched" for at in range(len(texts))))
+        told_by = {}
+        for line in lines:
+            if match := re.fullmatch(r"(?:not )?ok \d+ - (\d+)\.sched .*", line):
+                told_by[int(match[1])] = found = []
+            elif line.startswith("# line "):
+                found.append(line)
+        for at, text in enumerate(texts):
+            wanted = stale_lines(text)
+            must(f"{text}: told are {told_by[at]}, and stale {wanted}", told_by[at] == wanted)
+            seen += wanted
+        places = [int(line.split()[2].rstrip(":")) for line in seen]
+        reasons = {line.partition("stale: ")[2] for line in seen}
+        must(f"{len(seen)} are stale, for {reasons}", len(seen) > 100 and len(reasons) == 2 and max(places) > 50 and {it % 2 for it in places} == {0, 1})
+
+    def test_bounds_of_boards_are_told(self):
+        """Each number of the board's line is good up to its bounds, and is told with its bound beyond them."""
+        for name, place, least, most, above, under in BOUNDS:
+            for number in {least, least + 1, most - 1, most, most + 1, most + 2, most + 43, most + 44, most + 45, 2 * most, (1 << 63) + 1, (1 << 64) - 1} | ({least - 1} if under else set()):
+                numbers = [2, 2, 9, 0, 0x80000000, 0, 16, 39]
+                numbers[place] = number
+                _, lines = told(self.room, f"board {' '.join(map(str, numbers))}\n", "--times", "1", name="a.sched")
+                is_good = least <= number <= most
+                wanted = "ok 1 - a.sched (1 orders)" if is_good else f"not ok 1 - a.sched: bad board: {name} is {number}, {above if number > most else under}"
+                must(f"{name} {number}: {lines}", lines[1] == wanted)
+
+    def test_files_of_all_lengths_are_tested(self):
+        """A file of 16,777,216 bytes is tested, conditions at its end and all; with a byte more it is a point that fails."""
+        head, asked = "board 1 1 9 0 0x80000000 0\n0 advance\n", "#! never 0 advance\n"
+        filled = head + "#" + " " * (16_777_216 - len(head) - len(asked) - 2) + "\n" + asked
+        _, lines = told(self.room, filled, name="a.sched")
+        must(f"{lines}", lines[1] == "not ok 1 - a.sched: line 4: never 0 advance")
+        for more in ("#", "0", "#" * 70_000):
+            status, lines = told(self.room, filled + more, name="a.sched")
+            must(f"{lines}", status == 1 and re.fullmatch(r"not ok 1 - a\.sched: .* \(fault 8\)", lines[1]) and lines[3:5] == ["# 1 points, 1 failed", "# 1 files, 0 orders, 0 different records"])
+
+    def test_all_files_are_counted(self):
+        """The summary counts each file, also those that can't be read or tested, whatever stands before or behind them."""
+        good = "board 1 1 9 0 0x80000000 0\n0 advance\n"
+        for name, text in (("good.sched", good), ("fault.sched", "board\n"), ("board.sched", good.replace("board 1", "board 0")), ("asked.sched", good + "#! fly\n"), ("one.program", RACE)):
+            write(os.path.join(self.room, name), text)
+        names = ["good.sched", "fault.sched", "board.sched", "asked.sched", "missing.sched", "one.program"]
+        for some in (names, names[::-1], names[1:3], names[1:5] * 3, ["missing.sched"]):
+            for name in ("sbiboard", "sbiboard explore"):
+                found = tester(self.room, *some, name=name, timeout=200).stdout.splitlines()
+                summary = found[found.index(f"1..{len(some)}") :]
+                failed = sum(it not in ("good.sched", "one.program") or it == "good.sched" and name != "sbiboard" for it in some)
+                must(f"{some}: {summary}", summary[1] == f"# {len(some)} points, {failed} failed" and re.match(rf"# {len(some)} files(,|$)", summary[2]))
+
+    def test_conditions_that_wait_of_few_states(self):
+        """All orders of a program of as many states as are few are looked at, whatever its conditions wait for; each of twelve is judged."""
+        # (what hart 1 loaded is no part of a state, and the first of these waits for it)
+        asked = {
+            "never 0 sip after 1 load -> value 1": True, "before 0 ecall, 1 load": True, "before 1 load, 0 ecall": False, "never 1 load after 0 ecall": False,
+            "some 1 advance": True, "never 0 sip": True, "end quiet": True, "end off": False, "some 1 load -> value 1": True, "some 1 load -> value 2": False,
+            "each 1 load -> value 0": False, "never c": True,
+        }  # fmt: skip
+        for _, few, _ in EDGES:
+            head, start, body = few.partition("ecall 0x48534d 0 1 0x80000800\n")
+            text = head + start + body.replace("load 0x80000000", "store 0x80000000 1", 1) + "".join(f"#! {it}\n" for it in asked)
+            status, lines = told(self.room, text)
+            points = [line.startswith("ok ") for line in lines if re.match("(not )?ok ", line)]
+            must(f"status {status}, {lines}", are_all(lines) and points == list(asked.values()) and status == 1)
+
+    def test_more_orders_than_are_counted(self):
+        """Where there are 2^128 - 1 orders or more, that is said, of all orders and of an outcome; with fewer they are counted."""
+        most = (1 << 128) - 1
+        for text, is_more in ((MANY_ORDERS, True), (MANY_ORDERS.replace("sip\n" * 70, "sip\n" * 60), False)):
+            write(os.path.join(self.room, "a.program"), text)
+            lines = tester(self.room, "a.program", name="sbiboard explore", timeout=200).stdout.splitlines()
+            many = f"{most} or more" if is_more else str(all_orders.Orders(text).ends["quiet"])
+            orders = next(line for line in lines if line.startswith("# orders: "))
+            outcome = lines[lines.index("# outcomes: 1") + 1]
+            must(f"{orders}", re.fullmatch(rf"# orders: {many}, quiet {most if is_more else many}( or more)?", orders))
+            must(f"{outcome}", outcome == f"#   1:{text[: text.index('load')].count(chr(10)) + 1}=0x0 quiet: 1 states, {many} orders")
+
+    def test_ends_beside_orders_without_end(self):
+        """Of orders of which some have no end it is told how the others end: off, quiet or stuck, each where some do."""
+        for operation, ends in (("ecall 0x53525354 0 0 0", ["off"]), ("ecall 0x48534d 1", []), ("wfi", []), ("sie 2\necall 0x735049 0 2 0\nwfi", [])):
+            text = ENDLESS.format(operation)
+            wanted = [end for end in ("off", "quiet", "stuck") if end in all_orders.Orders(text).ends]
+            must(f"{operation}: {wanted}", set(ends) <= set(wanted))
+            case = case_of(self.room, "a.program", text)
+            explored(self.room, [case])
+
+    def test_states_and_orders_of_outcomes_are_counted(self):
+        """An outcome is told with how many states orders end at that have it, and how many orders do."""
+        for address, wanted in (("0x80002008", ["#   1:7=0x0 quiet: 2 states, 4 orders"]), ("0x80002000", ["#   1:7=0x1 quiet: 1 states, 1 orders", "#   1:7=0x2 quiet: 2 states, 3 orders"])):
+            write(os.path.join(self.room, "a.program"), TWO_ENDS.format(address))
+            lines = tester(self.room, "a.program", name="sbiboard explore", timeout=200).stdout.splitlines()
+            must(f"{lines}", sorted(it for it in lines if it.startswith("#   ")) == wanted and f"# outcomes: {len(wanted)}" in lines)

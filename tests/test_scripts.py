@@ -1,10 +1,8 @@
 """Scripts that are refused, with the line and the number of their first fault, and those beside them that are taken."""
 import os
-from concurrent.futures import ThreadPoolExecutor
 
-import grammar
-import scripts
-from harness import BOARD, TASKS, TOO_LONG, Wrong, checked, must_be, must_have, ran, replayed, script, shown
+from . import grammar, scripts
+from .fixtures import BOARD, TASKS, TOO_LONG, Test, at_once, checked, must_be, must_have, ran, replayed, script, shown, write
 
 # Texts, with the line and the number of their first fault.
 FAULTS = [
@@ -45,79 +43,63 @@ FAULTS = [
 ]
 
 
-def faults(room):
-    for text, line, number in FAULTS:
-        for task in TASKS:
-            must_be(ran([task, script(room, text)]), 1, b"", b"sbiboard: line %d: fault %d\n" % (line, number))
-
-
 def is_judged(room, place, text):
     """What all tasks say of a text, compared with what the grammar says. A script that is taken prints something."""
     path = os.path.join(room, str(place))
-    with open(path, "wb") as file:
-        file.write(text)
+    write(path, text)
     for task in TASKS:
         found, said = ran([task, path]), grammar.said_of(text, task)
         ends = (1,) if said else {"run": (0, 3, 4), "replay": (0, 3), "check": (0, 5)}[task]
         if found.returncode not in ends or bool(found.stdout) == bool(said) or said and found.stderr != said:
-            raise Wrong(f"{task} {text!r}: status {found.returncode}, it said {shown(found.stderr)}, not {said!r}")
+            raise AssertionError(f"{task} {text!r}: status {found.returncode}, it said {shown(found.stderr)}, not {said!r}")
     os.remove(path)
 
 
-def grammar_of_scripts(room):
-    """Scripts of all kinds, and with all faults, are judged as `tests/grammar.py` judges them."""
-    texts = scripts.all_texts()
-    with ThreadPoolExecutor(os.cpu_count()) as threads:
-        for _ in threads.map(lambda it: is_judged(room, *it), enumerate(texts)):
-            pass
+class Scripts(Test):
+    def test_faults_of_scripts(self):
+        for text, line, number in FAULTS:
+            for task in TASKS:
+                must_be(ran([task, script(self.room, text)]), 1, b"", b"sbiboard: line %d: fault %d\n" % (line, number))
 
+    def test_the_grammar_of_scripts(self):
+        """Scripts of all kinds, and with all faults, are judged as `tests/grammar.py` judges them."""
+        at_once(lambda it: is_judged(self.room, *it), enumerate(scripts.all_texts()))
 
-def beginnings_of_a_schedule(room):
-    """The beginnings of a schedule, by the bytes that are kept: a script, or the line and number of its fault."""
-    whole = b"board 1 1 10 0 0x80000000 0x0\n0 advance\n0 ecall 0x10 0\n"
-    wanted = {0: (0, 2), **dict.fromkeys(range(1, 5), (1, 2)), **dict.fromkeys(range(5, 27), (1, 5)), 28: (1, 4)}
-    wanted |= {**dict.fromkeys((31, 32), (2, 5)), **dict.fromkeys(range(33, 39), (2, 3))}
-    wanted |= {**dict.fromkeys((41, 42, *range(47, 54)), (3, 5)), **dict.fromkeys(range(43, 47), (3, 3))}
-    for size in range(len(whole) + 1):
-        if size in wanted:
-            replayed(room, whole[:size], 1, b"", b"sbiboard: line %d: fault %d\n" % wanted[size])
-        else:
-            replayed(room, whole[:size], 0, None, b"")
+    def test_beginnings_of_a_schedule(self):
+        """The beginnings of a schedule, by the bytes that are kept: a script, or the line and number of its fault."""
+        whole = b"board 1 1 10 0 0x80000000 0x0\n0 advance\n0 ecall 0x10 0\n"
+        wanted = {0: (0, 2), **dict.fromkeys(range(1, 5), (1, 2)), **dict.fromkeys(range(5, 27), (1, 5)), 28: (1, 4)}
+        wanted |= {**dict.fromkeys((31, 32), (2, 5)), **dict.fromkeys(range(33, 39), (2, 3))}
+        wanted |= {**dict.fromkeys((41, 42, *range(47, 54)), (3, 5)), **dict.fromkeys(range(43, 47), (3, 3))}
+        for size in range(len(whole) + 1):
+            if size in wanted:
+                replayed(self.room, whole[:size], 1, b"", b"sbiboard: line %d: fault %d\n" % wanted[size])
+            else:
+                replayed(self.room, whole[:size], 0, None, b"")
 
+    def test_each_byte_of_a_comment(self):
+        """A comment may have printable ASCII and tabs; a line feed ends it, and any other byte is a fault."""
+        for byte in range(256):
+            text = BOARD + b"# " + bytes([byte])
+            if byte in b"\t\n" or 0x20 <= byte <= 0x7E:
+                replayed(self.room, text, 0, None, b"")
+            else:
+                replayed(self.room, text, 1, b"", b"sbiboard: line 2: fault 1\n")
 
-def each_byte(room):
-    """A comment may have printable ASCII and tabs; a line feed ends it, and any other byte is a fault."""
-    for byte in range(256):
-        text = BOARD + b"# " + bytes([byte])
-        if byte in b"\t\n" or 0x20 <= byte <= 0x7E:
-            replayed(room, text, 0, None, b"")
-        else:
-            replayed(room, text, 1, b"", b"sbiboard: line 2: fault 1\n")
-
-
-def too_long(room):
-    """One byte more than allowed is fault 8, whatever the bytes are; the last allowed one is read."""
-    filled = lambda size: BOARD + b"#" * (size - len(BOARD))
-    blanks = b" " * (TOO_LONG - 1)
-    replayed(room, blanks, 1, b"", b"sbiboard: line 0: fault 2\n")
-    replayed(room, blanks + b"\x80", 1, b"", b"sbiboard: line 0: fault 8\n")
-    replayed(room, blanks + b"\x80\x80", 1, b"", b"sbiboard: line 0: fault 8\n")
-    must_be(ran(["replay", "/dev/zero"]), 1, b"", b"sbiboard: line 0: fault 8\n")
-    replayed(room, filled(TOO_LONG), 1, b"", b"sbiboard: line 0: fault 8\n")
-    replayed(room, b"\x00" * TOO_LONG, 1, b"", b"sbiboard: line 0: fault 8\n")
-    checked(room, filled(TOO_LONG), 1, b"", b"sbiboard: line 0: fault 8\n")
-    must_be(ran(["check", "/dev/zero"]), 1, b"", b"sbiboard: line 0: fault 8\n")
-    path = script(room, filled(TOO_LONG - 1))
-    found = ran(["replay", path])
-    must_be(found, 0, None, b"")
-    must_have(found.stdout, b"board 2 1 10 0 0x80000000 0x0\n# time 0000000000000000 events       0 ")
-    must_be(ran(["check", path]), 0, b"agrees 0\n", b"")
-
-
-TESTS = [
-    ("faults of scripts", faults),
-    ("the grammar of scripts", grammar_of_scripts),
-    ("beginnings of a schedule", beginnings_of_a_schedule),
-    ("each byte of a comment", each_byte),
-    ("too many bytes", too_long),
-]
+    def test_too_many_bytes(self):
+        """One byte more than allowed is fault 8, whatever the bytes are; the last allowed one is read."""
+        filled = lambda size: BOARD + b"#" * (size - len(BOARD))
+        blanks = b" " * (TOO_LONG - 1)
+        replayed(self.room, blanks, 1, b"", b"sbiboard: line 0: fault 2\n")
+        replayed(self.room, blanks + b"\x80", 1, b"", b"sbiboard: line 0: fault 8\n")
+        replayed(self.room, blanks + b"\x80\x80", 1, b"", b"sbiboard: line 0: fault 8\n")
+        must_be(ran(["replay", "/dev/zero"]), 1, b"", b"sbiboard: line 0: fault 8\n")
+        replayed(self.room, filled(TOO_LONG), 1, b"", b"sbiboard: line 0: fault 8\n")
+        replayed(self.room, b"\x00" * TOO_LONG, 1, b"", b"sbiboard: line 0: fault 8\n")
+        checked(self.room, filled(TOO_LONG), 1, b"", b"sbiboard: line 0: fault 8\n")
+        must_be(ran(["check", "/dev/zero"]), 1, b"", b"sbiboard: line 0: fault 8\n")
+        path = script(self.room, filled(TOO_LONG - 1))
+        found = ran(["replay", path])
+        must_be(found, 0, None, b"")
+        must_have(found.stdout, b"board 2 1 10 0 0x80000000 0x0\n# time 0000000000000000 events       0 ")
+        must_be(ran(["check", path]), 0, b"agrees 0\n", b"")

@@ -2,7 +2,7 @@
 import errno
 import os
 
-from harness import ASKED, DIFFERS, FAILED_IO, NO_MEMORY, SHORT, TRACE, TWO_HARTS, Wrong, must_be, ran, script, shim
+from .fixtures import ASKED, DIFFERS, FAILED_IO, NO_MEMORY, SHORT, TRACE, TWO_HARTS, Test, must_be, ran, script, shim
 
 ERRORS = (errno.EIO, errno.EAGAIN, errno.ENOMEM, errno.EINTR)
 
@@ -27,26 +27,22 @@ def each_error(made, words, call, most, statuses):
                 else:
                     out = None if statuses is OF_WRITE else b""
                     must_be(found, status, out, NO_MEMORY if status == 6 else FAILED_IO)
-            except Wrong as wrong:
-                raise Wrong(f"{words}: call {call}, of {most} bytes at most, {errno.errorcode[number]}: {wrong}")
+            except AssertionError as wrong:
+                raise AssertionError(f"{words}: call {call}, of {most} bytes at most, {errno.errorcode[number]}: {wrong}")
 
 
-def each_call_fails(room):
-    """Each call that opens, reads or writes fails in turn: a failed read ends all, and a task makes no call but these."""
-    made = shim(room)
-    short = (("run", TWO_HARTS), ("replay", SHORT), ("check", TRACE), ("check", DIFFERS))
-    for task, text, mosts in (*((*it, (0, 7)) for it in short), ("replay", LONG, (0,))):
-        path = script(room, text + b"# \n" * 20)
-        printed, size = len(ran([task, path]).stdout), os.path.getsize(path)
-        for most in mosts:
-            pieces = lambda size: -(-size // (most or BUFFER))
-            calls = [OF_OPEN, *[OF_READ] * (pieces(size) + 1), *[OF_WRITE] * pieces(printed), (None,) * 4]
-            for call, statuses in enumerate(calls, 1):
-                each_error(made, [task, path], call, most, statuses)
-    for words in (*ASKED, [], ["check"], ["--fly"]):
-        each_error(made, words, 1, 0, OF_PRINT)
-
-
-TESTS = [
-    ("each call of the system fails", each_call_fails),
-]
+class SystemCalls(Test):
+    def test_each_call_of_the_system_fails(self):
+        """Each call that opens, reads or writes fails in turn: a failed read ends all, and a task makes no call but these."""
+        made = shim(self.room)
+        short = (("run", TWO_HARTS), ("replay", SHORT), ("check", TRACE), ("check", DIFFERS))
+        for task, text, mosts in (*((*it, (0, 7)) for it in short), ("replay", LONG, (0,))):
+            path = script(self.room, text + b"# \n" * 20)
+            printed, size = len(ran([task, path]).stdout), os.path.getsize(path)
+            for most in mosts:
+                pieces = lambda size: -(-size // (most or BUFFER))
+                calls = [OF_OPEN, *[OF_READ] * (pieces(size) + 1), *[OF_WRITE] * pieces(printed), (None,) * 4]
+                for call, statuses in enumerate(calls, 1):
+                    each_error(made, [task, path], call, most, statuses)
+        for words in (*ASKED, [], ["check"], ["--fly"]):
+            each_error(made, words, 1, 0, OF_PRINT)

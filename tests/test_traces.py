@@ -1,5 +1,5 @@
 """Traces that agree, and traces that differ."""
-from harness import BAD_BOARD, BOARD, EVERY, TOO_LONG, TRACE, WRONG_KIND, checked, every, must_agree, ran, script
+from .fixtures import BAD_BOARD, BOARD, EVERY, TOO_LONG, TRACE, WRONG_KIND, Test, checked, every, must_agree, ran, script
 
 # Traces and what else may be given, with the status, and what is printed and said.
 CHECKED = [
@@ -28,11 +28,6 @@ CHECKED = [
 ]
 
 
-def traces(room):
-    for text, status, out, said in CHECKED:
-        checked(room, text, status, out, said)
-
-
 def other_replies(reply):
     """Replies that are another one, each by one of its words."""
     name, *numbers = reply.split()
@@ -43,31 +38,28 @@ def other_replies(reply):
             yield b" ".join([name, *numbers[:at], b"%d" % other, *numbers[at + 1 :]])
 
 
-def each_reply_changed(room):
-    """A long replay agrees, and no longer where the reply of any one of its lines is another one by one of its words."""
-    lines = ran(["replay", script(room, every(len(EVERY.splitlines()) + 1, 1_000))]).stdout.splitlines(keepends=True)
-    must_agree(room, b"".join(lines))
-    steps = [at for at, line in enumerate(lines) if b" -> " in line]
-    for at in steps:
-        step, _, reply = lines[at].partition(b" -> ")
-        for other in other_replies(reply.strip()):
-            text = b"".join([*lines[:at], step + b" -> " + other + b"\n", *lines[at + 1 :]])
-            checked(room, text, 5, b"differs at line %d: %s" % (at + 1, reply), b"")
+class Traces(Test):
+    def test_long_traces(self):
+        """With ample memory a trace of any length is checked, and a reply that differs is found, whether first or last."""
+        head = b"board 1 1 1000000 0 0x80000000 1\n0 advance -> entry 0x80000000 0 1\n"
+        good, other = b"0 ecall 0x10 0 -> ret 0 0x1000000\n", b"0 ecall 0x10 0 -> ret 0 0x1000001\n"
+        for times in (1_000, (TOO_LONG - 1 - len(head)) // len(good)):
+            checked(self.room, head + good * times, 0, b"agrees %d\n" % (times + 1), b"")
+            differs = b"differs at line %d: ret 0 0x1000000\n"
+            checked(self.room, head + good * (times - 1) + other, 5, differs % (times + 2), b"")
+            checked(self.room, head + other + good * (times - 1), 5, differs % 3, b"")
 
+    def test_traces(self):
+        for text, status, out, said in CHECKED:
+            checked(self.room, text, status, out, said)
 
-def long_traces(room):
-    """With ample memory a trace of any length is checked, and a reply that differs is found, whether first or last."""
-    head = b"board 1 1 1000000 0 0x80000000 1\n0 advance -> entry 0x80000000 0 1\n"
-    good, other = b"0 ecall 0x10 0 -> ret 0 0x1000000\n", b"0 ecall 0x10 0 -> ret 0 0x1000001\n"
-    for times in (1_000, (TOO_LONG - 1 - len(head)) // len(good)):
-        checked(room, head + good * times, 0, b"agrees %d\n" % (times + 1), b"")
-        differs = b"differs at line %d: ret 0 0x1000000\n"
-        checked(room, head + good * (times - 1) + other, 5, differs % (times + 2), b"")
-        checked(room, head + other + good * (times - 1), 5, differs % 3, b"")
-
-
-TESTS = [
-    ("long traces", long_traces),
-    ("traces", traces),
-    ("each reply changed", each_reply_changed),
-]
+    def test_each_reply_changed(self):
+        """A long replay agrees, and no longer where the reply of any one of its lines is another one by one of its words."""
+        lines = ran(["replay", script(self.room, every(len(EVERY.splitlines()) + 1, 1_000))]).stdout.splitlines(keepends=True)
+        must_agree(self.room, b"".join(lines))
+        steps = [at for at, line in enumerate(lines) if b" -> " in line]
+        for at in steps:
+            step, _, reply = lines[at].partition(b" -> ")
+            for other in other_replies(reply.strip()):
+                text = b"".join([*lines[:at], step + b" -> " + other + b"\n", *lines[at + 1 :]])
+                checked(self.room, text, 5, b"differs at line %d: %s" % (at + 1, reply), b"")

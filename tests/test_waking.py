@@ -1,11 +1,10 @@
 """Threads that rest are woken: a table of what a hart rests on, and of what ends that, each the only thing that can."""
 import os
 import subprocess
-from concurrent.futures import ThreadPoolExecutor
 
-import harness
-from harness import HANG, Wrong, must_run, ran
-from programs import BOOT, HART_START, HART_STOP, RESET, SEND_IPI, SET_TIMER, SUSPEND, WARM
+from . import fixtures
+from .fixtures import HANG, Test, at_once, must, must_run, ran, write
+from .programs import BOOT, HART_START, HART_STOP, RESET, SEND_IPI, SET_TIMER, SUSPEND, WARM
 
 # The hart that ends rests, one that rests, and how many others there are, which are never started.
 OTHERS = 6
@@ -52,11 +51,7 @@ def rebooted(rest):
 
 
 # What a hart rests on, by name: what its guest does then.
-SLEEPS = {
-    "suspended": [f"{SUSPEND} 0", "sip"],
-    "suspended, to go on elsewhere": [f"{SUSPEND} 0x80000000 {LATER:#x} 0"],
-    "at a wfi": ["wfi", "sip"],
-}
+SLEEPS = {"suspended": [f"{SUSPEND} 0", "sip"], "suspended, to go on elsewhere": [f"{SUSPEND} 0x80000000 {LATER:#x} 0"], "at a wfi": ["wfi", "sip"]}
 TIMED = {name: [f"{SET_TIMER} {TICKS}", *rest] for name, rest in SLEEPS.items()}
 CALL = [f"{FENCE} 1 0", "sip"]
 DONE = ["sip"]
@@ -80,10 +75,7 @@ ROWS = [
     ("a fence call", "a fence that is asked of it", pair(CALL, [f"{FENCE} 2 0"]), "quiet"),
     ("a fence call", "a shutdown", pair(CALL, [f"{RESET} 0 0"]), "off"),
     ("a stop", "a start", pair([HART_STOP], [*DELAY, f"{HART_START} 1 {LATER:#x} 0"]), "quiet"),
-    *[
-        (name, "a reboot", rebooted(rest), "history-full")
-        for name, rest in {**SLEEPS, "a block that is done": DONE, "a stop": [HART_STOP]}.items()
-    ],
+    *[(name, "a reboot", rebooted(rest), "history-full") for name, rest in {**SLEEPS, "a block that is done": DONE, "a stop": [HART_STOP]}.items()],
     ("suspended", "an interrupt to two", crossing(SLEEPS["suspended"], SLEEPS["at a wfi"], [f"{SEND_IPI} 0x6 0"]), "quiet"),
     ("at a wfi", "an interrupt to one and then to another", crossing(SLEEPS["at a wfi"], SLEEPS["at a wfi"], [f"{SEND_IPI} 0x4 0", *DELAY, IPI]), "quiet"),
     ("a block that is done", "a fence of all", crossing(DONE, DONE, [f"{FENCE} 0 0xffffffffffffffff"]), "quiet"),
@@ -93,28 +85,22 @@ ROWS = [
 def ends_so(path, end):
     """Runs a program, which must end so."""
     last = ran(["run", path], timeout=HANG).stdout.splitlines()[-1:]
-    if last != [f"# end {end}".encode()]:
-        raise Wrong(f"the last line is {last}, not the end {end}")
+    must(f"the last line is {last}, not the end {end}", last == [f"# end {end}".encode()])
 
 
 def is_woken(room, number, row):
     """A row, a twentieth as often as the programs of 'runs of ..': no run hangs, and none ends stuck."""
     rest, ends, program, end = row
     path = os.path.join(room, f"{number}.program")
-    with open(path, "wb") as file:
-        file.write(program)
+    write(path, program)
     try:
         must_run(room, path, end, number)
-        for _ in range(harness.RUNS_OF_EACH // 20):
+        for _ in range(fixtures.RUNS_OF_EACH // 20):
             ends_so(path, end)
-    except (Wrong, subprocess.TimeoutExpired) as wrong:
-        raise Wrong(f"a rest on {rest}, which {ends} ends: {wrong}\n{program.decode()[:400]}") from None
+    except (AssertionError, subprocess.TimeoutExpired) as wrong:
+        raise AssertionError(f"a rest on {rest}, which {ends} ends: {wrong}\n{program.decode()[:400]}") from None
 
 
-def woken(room):
-    with ThreadPoolExecutor(os.cpu_count()) as threads:
-        for _ in threads.map(lambda it: is_woken(room, *it), enumerate(ROWS)):
-            pass
-
-
-TESTS = [("threads that rest are woken", woken)]
+class Waking(Test):
+    def test_threads_that_rest_are_woken(self):
+        at_once(lambda it: is_woken(self.room, *it), enumerate(ROWS))

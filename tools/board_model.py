@@ -1,4 +1,4 @@
-"""The board in plain Python, by docs/CALLS.md: what each step of a schedule answers. `tests/records` compares it with the
+"""The board in plain Python, by docs/CALLS.md: what each step of a schedule answers. The tests compare it with the
 program. An operation is a tuple of its name and its numbers (None for `-`), an answer one of its word and its numbers."""
 
 BASE, TIME, IPI, RFENCE, HSM, SRST = 0x10, 0x54494D45, 0x735049, 0x52464E43, 0x48534D, 0x53525354
@@ -98,7 +98,11 @@ class Board:
         self.owned = set(range(harts))
         self.ram = {}
         self.time = self.events = 0
-        self.is_off = False
+        # The pairs of a fence and a hart that were asked and applied, and the type and reason of the last reset.
+        self.asked = self.applied = 0
+        self.is_off, self.last_reset = False, None
+        # The accepted starts since then, and those of them that were entered.
+        self.starts = self.entries = 0
         self.start_boot_hart()
         # Of the last step: the TLB entry that it used, and whether its answer was stale.
         self.used, self.is_stale = None, False
@@ -107,6 +111,7 @@ class Board:
         _, _, _, hart, addr, opaque = self.config
         it = self.mine(hart)
         it.state, it.kept = START_PENDING, (addr, opaque)
+        self.starts += 1
 
     def copy(self):
         self.owned = set()
@@ -192,6 +197,7 @@ class Board:
     def do_advance(self, h):
         hart = self.mine(h)
         if hart.state == START_PENDING or hart.state == RESUME_PENDING and not hart.is_retentive:
+            self.entries += hart.state == START_PENDING
             hart.enter(hart.state == START_PENDING)
             hart.state = STARTED
             return ("entry", hart.kept[0], h, hart.kept[1])
@@ -210,6 +216,7 @@ class Board:
         caller, fence = hart.waiting[0]
         hart.waiting = hart.waiting[1:]
         self.apply(h, fence)
+        self.applied += 1
         self.mine(caller).outstanding -= {h}
         return ("served",)
 
@@ -224,6 +231,7 @@ class Board:
     def discharge(self, h):
         for caller, _ in self.mine(h).waiting:
             self.mine(caller).outstanding -= {h}
+        self.applied += len(self.mine(h).waiting)
         self.mine(h).waiting = ()
 
     # ---- the guest's operations
@@ -392,8 +400,10 @@ class Board:
         if fid:
             fence = (None if is_full(start, size) else (start, start + size), asid & self.asids if fid == 2 else None)
         asked = frozenset(t for t in named if self.harts[t].state in INTERRUPTIBLE)
+        self.asked += len(asked)
         if h in asked:
             self.apply(h, fence)
+            self.applied += 1
         for t in asked - {h}:
             self.mine(t).waiting += ((h, fence),)
         self.mine(h).outstanding = asked - {h}
@@ -410,6 +420,7 @@ class Board:
         if self.harts[t].state != STOPPED:
             return ALREADY_AVAILABLE
         self.mine(t).state, self.mine(t).kept = START_PENDING, (addr, opaque)
+        self.starts += 1
         return 0
 
     def stop(self, h, *rest):
@@ -440,10 +451,12 @@ class Board:
         if error := reset_error(kind, reason):
             return error
         for t in range(len(self.harts)):
+            self.applied += len(self.harts[t].waiting)
             self.mine(t).clear()
         if kind == 1:
             self.ram = {}
-        self.is_off = kind == 0
+        self.is_off, self.last_reset = kind == 0, (kind, reason)
+        self.starts = self.entries = 0
         if kind:
             self.start_boot_hart()
         return GONE

@@ -1,5 +1,5 @@
 """Which rule of this board a difference from a recorded answer is, its class, the section of SBI 1.0.0, and the answers that
-it excuses. Each sentence stands in docs/FIRMWARE.md, in the first column of a table of the section named (tests/records looks)."""
+it excuses. Each sentence stands in docs/FIRMWARE.md, in the first column of a table of the section named (tests/test_to_trace.py looks)."""
 from board_model import (
     ALREADY_AVAILABLE, BASE, EXTENSIONS, FAILED, GONE, HSM, INVALID_ADDRESS, INVALID_PARAM, IPI, LOW, NOT_SUPPORTED, RFENCE, SRST, SSI, STARTED,
     SUSPENDED, WAITING, suspend_error,

@@ -1,5 +1,5 @@
 """A stand-in for gdb's Python module: it plays the stops of a file, as a machine would make them, and stops only at addresses
-where a breakpoint is. tests/records_recorder.py has the plays."""
+where a breakpoint is. tests/test_recorder.py has the plays."""
 import json
 import os
 import re

@@ -14,9 +14,11 @@ from dataclasses import replace
 import usage
 from builds import NotBuilt, build, is_current, program_of
 from checked_run import run_unproved
-from commands import ALL, HELP, PROGRAM, TESTER, VERSION, version
+from commands import ALL, ALONE, COMPLETIONS, HELP, INSTALL, PROGRAM, TESTER, VERSION, version
+from completions import SHELLS
 from installing import install
 from kinds import kind_of, why_unread
+from man_page import man_page
 
 # The statuses of the program, and that of a program that couldn't be built.
 BAD_SCRIPT, USAGE, BAD_FILE, NO_BUILD = 1, 2, 7, 70
@@ -70,8 +72,10 @@ def done(words):
     """Does what the words ask for, and returns the status."""
     if not words:
         raise Ended(USAGE, overview())
-    if words[0] == "--install" or words[0].startswith("--install="):
-        return installed([*words[0].split("=", 1)[1:], *words[1:]])
+    first, has_value, value = words[0].partition("=")
+    alone = next((it for it in ALONE if first == f"--{it.name}"), None)
+    if alone:
+        return done_alone(alone, [*([value] if has_value else []), *words[1:]])
     known, is_tried = ALL, words[0] == "--try"
     if is_tried:
         known, words = replace(ALL, name="sbiboard --try", options=(HELP, VERSION)), words[1:]
@@ -93,14 +97,22 @@ def done(words):
         raise NotBuilt(f"{program} can't be run: {error.strerror}") from None
 
 
-def installed(words):
-    if len(words) != 1:
-        raise usage.Fault("with --install, a folder DIR is wanted", "sbiboard --install <DIR>")
+def done_alone(option, words):
+    """Does the task of an option, whose value and nothing else comes behind it."""
+    if len(words) != bool(option.value) or option.choices and words[0] not in option.choices:
+        wanted = " or ".join(option.choices) or ("a folder DIR" if option.value else "nothing else")
+        raise usage.Fault(f"with --{option.name}, {wanted} is wanted", f"sbiboard {option}")
+    if option == INSTALL:
+        return installed(words[0])
+    return printed(SHELLS[words[0]](ALL) if option == COMPLETIONS else man_page(ALL))
+
+
+def installed(folder):
     try:
-        install(os.fsdecode(words[0].encode()))
+        install(os.fsdecode(folder.encode()))
     except OSError:
         raise Ended(BAD_FILE, FAILED_IO) from None
-    return ended(0, f"sbiboard: {words[0]}/sbiboard runs the program beside it, which needs the C library alone\n")
+    return ended(0, f"sbiboard: {folder}/sbiboard runs the program beside it, which needs the C library alone\n")
 
 
 # ---- FILEs

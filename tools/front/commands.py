@@ -4,7 +4,7 @@ The words are those of the programs, whose sources have the long texts below a h
 """
 import os
 import re
-from dataclasses import dataclass
+from dataclasses import dataclass, replace
 
 ROOT = os.path.dirname(os.path.dirname(os.path.dirname(os.path.realpath(__file__))))
 
@@ -37,6 +37,8 @@ class Option:
     is_many: bool = False
     is_needed: bool = True
     excludes: str = ""
+    # The values that it may have, where these are few.
+    choices: tuple = ()
 
     def __str__(self):
         if not self.name:
@@ -146,10 +148,16 @@ EXPLORE = Command(
 # What `./sbiboard` knows.
 TRY = Option("try", "Do the task that follows at once, unproved, by the toolchain's checked run")
 INSTALL = Option("install", "Copy the built programs to DIR, with a script that runs them without these sources", value="DIR")
+COMPLETIONS = Option("completions", "Print the completions for a shell, bash or fish", value="SHELL", choices=("bash", "fish"))
+MAN = Option("man", "Print the manual page")
+# Those that are a task of their own: nothing comes before one, nor behind its value.
+ALONE = (INSTALL, COMPLETIONS, MAN)
 ALL = Command(
     "sbiboard", "Test and run programs, replay schedules and check traces on a proved SBI 1.0 firmware of a modelled RV64 board",
-    (TRY, INSTALL, HELP, VERSION), (OF_PROGRAM, "EXAMPLE"), commands=(TEST, EXPLORE, RUN, REPLAY, CHECK),
+    (TRY, *ALONE, HELP, VERSION), (OF_PROGRAM, "EXAMPLE"), commands=(TEST, EXPLORE, RUN, REPLAY, CHECK),
 )  # fmt: skip
+# What an installed copy knows, which has no sources.
+INSTALLED = replace(ALL, options=(HELP, VERSION))
 
 
 def version():

@@ -1,9 +1,12 @@
-"""`--install`: copies the built programs to a folder, with a script that runs them without the sources."""
+"""`--install`: copies the built programs to a folder, with a script that runs them without the sources, its completions and its
+manual page."""
 import os
 import shutil
 
 from builds import NotBuilt, build, is_current, program_of, remove
-from commands import PROGRAM, TESTER
+from commands import INSTALLED, PROGRAM, TESTER
+from completions import SHELLS
+from man_page import man_page
 
 LAUNCHER = os.path.join(os.path.dirname(os.path.realpath(__file__)), "launcher")
 
@@ -22,6 +25,9 @@ def install(folder):
     remove(copy)
     if is_current(tester, TESTER):
         put(tester, copy)
+    for ending, made in (*SHELLS.items(), ("1", man_page)):
+        with open(os.path.join(folder, f"sbiboard.{ending}"), "w", encoding="utf-8") as file:
+            file.write(made(INSTALLED))
 
 
 def put(source, target):

@@ -1,24 +1,15 @@
 //! What the loads of a program give.
 use board_core::{Actor, Event, Op, Reply};
-use board_orders::Spot;
 use indexmap::IndexSet;
+use outcome_statistics::Spot;
 use std::alloc::{AllocError, Global};
+use test_report::Given;
 
 /// A load or a fetch of a program: its hart, and where it stands.
 #[derive(Clone, Copy, Debug, PartialEq, Eq, Hash)]
 pub(crate) struct Load {
     pub(crate) hart: u64,
-    /// The address of its block's entry.
-    pub(crate) addr: u64,
-    /// How many operations of the block stand before it.
-    pub(crate) before: u64,
-}
-
-/// What a load gave: a value, or the number of its fault's cause.
-#[derive(Clone, Copy, Debug, PartialEq, Eq, Hash)]
-pub(crate) enum Given {
-    Value(u64),
-    Fault(u64),
+    pub(crate) spot: Spot,
 }
 
 /// What one load gave; the load is told by its place among those that were met.
@@ -33,8 +24,6 @@ pub(crate) struct Reading {
 pub(crate) struct Readings {
     pub(crate) loads: IndexSet<Load>,
     all: IndexSet<Reading>,
-    /// Where the guest of each hart is in the state whose turn it is.
-    spots: Vec<Spot>,
 }
 
 impl Readings {
@@ -43,37 +32,24 @@ impl Readings {
         Readings {
             loads: IndexSet::new(alloc),
             all: IndexSet::new(alloc),
-            spots: Vec::new(alloc),
         }
     }
 
-    /// The turn of a state begins in which guests are so far.
-    pub(crate) fn turn(&mut self, spots: &[Spot]) -> Result<(), AllocError> {
-        self.spots.clear();
-        self.spots.extend_from_slice(spots)
-    }
-
-    /// The number of what this step read, from 1, or 0 where it read nothing.
-    pub(crate) fn number(&mut self, event: &Event) -> Result<usize, AllocError> {
-        let (Some(load), Some(given)) = (self.load_of(event), given_by(event)) else {
+    /// The number of what this step read, whose guest is here, from 1, or 0 where it read nothing.
+    pub(crate) fn number(
+        &mut self,
+        event: &Event,
+        guest: Option<Spot>,
+    ) -> Result<usize, AllocError> {
+        let (Some(spot), Some(given)) = (guest, given_by(event)) else {
             return Ok(0);
         };
-        let (load, _) = self.loads.insert_full(load)?;
+        let Actor::Hart(hart) = event.actor() else {
+            return Ok(0);
+        };
+        let (load, _) = self.loads.insert_full(Load { hart, spot })?;
         let (place, _) = self.all.insert_full(Reading { load, given })?;
         Ok(place.saturating_add(1))
-    }
-
-    /// The load that a step of the state is whose turn it is.
-    fn load_of(&self, event: &Event) -> Option<Load> {
-        let Actor::Hart(hart) = event.actor() else {
-            return None;
-        };
-        let Spot { entry, done } = *self.spots.get(hart as usize)?;
-        Some(Load {
-            hart,
-            addr: entry?,
-            before: done,
-        })
     }
 
     /// The reading of a number, if there is one.

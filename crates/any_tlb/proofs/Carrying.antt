@@ -37,7 +37,7 @@ use Rattle.any_tlb.specs.declared.watcher.Walking.TheVariants.{Had}
 use Rattle.any_tlb.specs.Carried.{walks_from, watched_from, watched_words_from}
 use Rattle.any_tlb.specs.Effects.{effect_at, effect_by}
 use Rattle.any_tlb.specs.Watch.{given_by, logged, spared, walks_of, watched}
-use Rattle.any_tlb.specs.WatchedWords.{spared_words, watched_words, word_of}
+use Rattle.any_tlb.specs.WatchedWords.{spared_words, watched_words, word_or_none}
 
 -- ---- the first event after a cut
 
@@ -124,7 +124,7 @@ module _ (o : Opening) (older : List Event) (opened : IsOpened o) where
       let done = effects newer legal.2 event h in
       let before = words-on newer legal.2 h pa in
       let memory_now = memories (event ∷ newer) legal in
-      λ i. spared_words (done i) (before i) ++ word_of (memory_now i pa)
+      λ i. spared_words (done i) (before i) ++ word_or_none (memory_now i pa)
 
 pub watched_go_on_over_cuts : (o : Opening) (newer older : List Event) (h va : ℕ) → IsOpened o → IsLegal o (newer ++ older) → h < o.config.harts
     → watched_from (watched o older h va) (walks_of o older h) (opening_of o older) newer h va ≡ watched o (newer ++ older) h va
@@ -173,7 +173,7 @@ module _ (o : Opening) (parts : List (List Event)) (opened : IsOpened o) where
       let done = effects-of-all newer (legal.0.2, legal.1) event h in
       let before = words-of-all newer (legal.0.2, legal.1) h pa in
       let memory_now = (joined-are-one o (event ∷ newer) parts opened legal).alike.word in
-      λ i. spared_words (done i) (before i) ++ word_of (memory_now i pa)
+      λ i. spared_words (done i) (before i) ++ word_or_none (memory_now i pa)
 
 pub watched_go_on_over_many_cuts : (o : Opening) (newer : List Event) (parts : List (List Event)) (h va : ℕ) → IsOpened o → AreLegal o (newer ∷ parts) → h < o.config.harts
     → watched_from (watched o (joined parts) h va) (walks_of o (joined parts) h) (opening_left o parts) newer h va ≡ watched o (newer ++ joined parts) h va

@@ -20,10 +20,10 @@ use Rattle.board_core.specs.History.{Event}
 use Rattle.board_core.specs.Memory.{memory, satp}
 use Rattle.board_core.specs.Opening.{Opening, place_after}
 use Rattle.board_laws.specs.Fresh.{is_of_page}
-use Rattle.board_laws.specs.Places.{IsAt, past_at}
+use Rattle.board_laws.specs.Places.{IsAtPlace, past_at}
 use Rattle.board_laws.proofs.Places.{at-earlier, length-past_at, past_at-again, within}
 use Rattle.any_tlb.specs.Effects.{MaySee, effect_at}
-use Rattle.any_tlb.specs.Fenced.{AfterFence, IsClear, IsUnchanged}
+use Rattle.any_tlb.specs.Fenced.{AfterFence, CountsSince, IsUnchanged}
 use Rattle.any_tlb.specs.Firm.{AreOneWord, IsFirm}
 use Rattle.any_tlb.specs.FirmFences.{IsOneWay, NothingChanged, WasFullyFenced}
 use Rattle.any_tlb.specs.Mixed.{MaySeeTurned, MaySeeWord, is_of_walk, orders_ends, orders_pointers}
@@ -47,7 +47,7 @@ pointers-ends va global asid Empties of = refl
 
 -- ---- what was seen before a fence isn't seen any more
 
-module _ (o : Opening) (past : List Event) (h place : ℕ) (event : Event) (at : IsAt o past place event) where
+module _ (o : Opening) (past : List Event) (h place : ℕ) (event : Event) (at : IsAtPlace o past place event) where
   -- what may be seen was so at a place after the fence
   seen-later : {A : Type 0} (of : List Event → A) (ordered : Effect Flush → Bool) (value now : A) → ordered (effect_at o (past_at o past place) event h) ≡ true
       → ((m : ℕ) → suc place ≤ m → m ≤ place_after o past → of (past_at o past m) ≡ now) → MaySee of ordered o past h value → value ≡ now
@@ -64,7 +64,7 @@ record TurnedAt (o : Opening) (past : List Event) (h va : ℕ) (global : Bool) (
   since : o.places ≤ turn
   upto : turn ≤ place_after o past
   sees : MaySeeWord o (past_at o past turn) h (orders_ends va global asid) pa word
-  kept : (m : ℕ) (event : Event) → turn ≤ m → IsAt o past m event → orders_pointers global asid (effect_at o (past_at o past m) event h) ≡ false
+  kept : (m : ℕ) (event : Event) → turn ≤ m → IsAtPlace o past m event → orders_pointers global asid (effect_at o (past_at o past m) event h) ≡ false
 
 turned-at : (o : Opening) (past : List Event) (h va : ℕ) (global : Bool) (asid : ℕ) (level : Level) (pa : ℕ) (word : Option ℕ) → MaySeeTurned o past h va global asid level pa word
     → TurnedAt o past h va global asid pa word
@@ -157,7 +157,7 @@ module _ (o : Opening) (past : List Event) (h place va : ℕ) (fenced : WasFully
     in_all = λ had there other leaf from later upto translates gives global. phys-same kind had there from later upto;
   }
 
-  clear : (global : Bool) → IsClear o past h va global (asid_of (satp o past h)) (suc place)
+  clear : (global : Bool) → CountsSince o past h va global (asid_of (satp o past h)) (suc place)
   clear global = AfterFence place refl (record { event = fenced.event; happened = fenced.happened; fences = ends-fence global (asid_of (satp o past h)) })
 
   pub fully-fenced : IsOpened o → (kind : Kind) → IsFirm o past h va kind

@@ -34,7 +34,7 @@ use Rattle.board_terms.specs.declared.reply.Reply.{Reply}
 use Rattle.board_terms.specs.declared.reply.Reply.TheVariants.{Done, Entry, Gone, Ret, Value, Waiting}
 use Rattle.board_terms.specs.declared.op.Actor.TheVariants.{Hart}
 use Rattle.board_terms.specs.Limits.{IsGood, spaces_of}
-use Rattle.board_laws.specs.Places.{IsAt, past_at}
+use Rattle.board_laws.specs.Places.{IsAtPlace, past_at}
 use Rattle.board_laws.proofs.Again.{recorded_is_recomputed}
 use Rattle.any_tlb.specs.Fenced.{AfterFence, IsUnchanged, WasFenced}
 use Rattle.any_tlb.specs.Firm.{IsFirm}
@@ -303,7 +303,7 @@ abbrev first_reset : List Event → Option Reset
 first_reset [] = None
 first_reset (event ∷ past) = reset_by event.op event.reply
 
-no-reset : (m : ℕ) (other : Event) → 7 < m → m < 8 → IsAt two forgotten m other → reset_by other.op other.reply ≡ None
+no-reset : (m : ℕ) (other : Event) → 7 < m → m < 8 → IsAtPlace two forgotten m other → reset_by other.op other.reply ≡ None
 no-reset m other after before at = absurd (omega arith)
 
 pub forgotten-missed : IsMissed two forgotten 1 loaded (record { va = 0x80002000; access = accesses.Load })

@@ -7,12 +7,12 @@ use Rattle.board_core.specs.History.{Event}
 use Rattle.board_core.specs.Memory.{memory, satp}
 use Rattle.board_core.specs.Opening.{Opening}
 use Rattle.any_tlb.specs.Effects.{MaySee}
-use Rattle.any_tlb.specs.Possible.{IsGiven, IsWalkedTo, Possible, ends}
-use Rattle.any_tlb.specs.Quiet.{IsQuiet}
+use Rattle.any_tlb.specs.Possible.{IsGiven, IsWalkedTo, Possible, leaves_no_copy}
+use Rattle.any_tlb.specs.Quiet.{HasNoEffect}
 use Rattle.any_tlb.specs.Words.{PossibleWord, ends_words}
 use Rattle.any_tlb.proofs.Seen.{seen-now}
 
-module _ (o : Opening) (event : Event) (past : List Event) (h : ℕ) (quiet : IsQuiet o event past h) where
+module _ (o : Opening) (event : Event) (past : List Event) (h : ℕ) (quiet : HasNoEffect o event past h) where
   walked-before : (entry : Entry) → IsWalkedTo o (event ∷ past) h entry → IsWalkedTo o past h entry
   walked-before entry w = record {
     by_satp = w.by_satp;
@@ -20,8 +20,8 @@ module _ (o : Opening) (event : Event) (past : List Event) (h : ℕ) (quiet : Is
     given = subst (λ m. IsGiven m w.by_satp entry) quiet.memory w.given;
   }
     where
-      by_place : MaySee (λ past. satp o past h) (λ done. ends done entry) o (event ∷ past) h w.by_satp → MaySee (λ past. satp o past h) (λ done. ends done entry) o past h w.by_satp
-      by_place (inl is) = seen-now (λ past. satp o past h) (λ done. ends done entry) o past h w.by_satp (sym quiet.satp ∙ is)
+      by_place : MaySee (λ past. satp o past h) (λ done. leaves_no_copy done entry) o (event ∷ past) h w.by_satp → MaySee (λ past. satp o past h) (λ done. leaves_no_copy done entry) o past h w.by_satp
+      by_place (inl is) = seen-now (λ past. satp o past h) (λ done. leaves_no_copy done entry) o past h w.by_satp (sym quiet.satp ∙ is)
       by_place (inr before) = before.0
 
   walked-possible : (past : List Event) (entry : Entry) → IsWalkedTo o past h entry → Possible o past h entry
@@ -33,7 +33,7 @@ module _ (o : Opening) (event : Event) (past : List Event) (h : ℕ) (quiet : Is
   possible-before entry (inr before) = before.0
 
   possible-after : (entry : Entry) → Possible o past h entry → Possible o (event ∷ past) h entry
-  possible-after entry possible = inr (possible, ap (λ done. ends done entry) quiet.effect)
+  possible-after entry possible = inr (possible, ap (λ done. leaves_no_copy done entry) quiet.effect)
 
   held-possible : (past : List Event) (fetched : FetchWord) → memory o past fetched.pa ≡ Some fetched.word → PossibleWord o past h fetched
   held-possible [] fetched is = inl is
@@ -46,9 +46,9 @@ module _ (o : Opening) (event : Event) (past : List Event) (h : ℕ) (quiet : Is
   word-after : (fetched : FetchWord) → PossibleWord o past h fetched → PossibleWord o (event ∷ past) h fetched
   word-after fetched possible = inr (possible, ap ends_words quiet.effect)
 
-pub quiet_events_change_nothing : (o : Opening) (event : Event) (past : List Event) (h : ℕ) (entry : Entry) → IsQuiet o event past h → Possible o (event ∷ past) h entry ↔ Possible o past h entry
+pub quiet_events_change_nothing : (o : Opening) (event : Event) (past : List Event) (h : ℕ) (entry : Entry) → HasNoEffect o event past h → Possible o (event ∷ past) h entry ↔ Possible o past h entry
 quiet_events_change_nothing o event past h entry quiet = (possible-before o event past h quiet entry, possible-after o event past h quiet entry)
 
-pub quiet_events_change_no_word : (o : Opening) (event : Event) (past : List Event) (h : ℕ) (fetched : FetchWord) → IsQuiet o event past h
+pub quiet_events_change_no_word : (o : Opening) (event : Event) (past : List Event) (h : ℕ) (fetched : FetchWord) → HasNoEffect o event past h
     → PossibleWord o (event ∷ past) h fetched ↔ PossibleWord o past h fetched
 quiet_events_change_no_word o event past h fetched quiet = (word-before o event past h quiet fetched, word-after o event past h quiet fetched)

@@ -9,7 +9,7 @@ use Rattle.any_tlb.specs.declared.watcher.Walking.{Walking}
 use Rattle.any_tlb.specs.declared.watcher.Walking.TheVariants.{Had}
 use Rattle.any_tlb.specs.Effects.{effect_at}
 use Rattle.any_tlb.specs.Watch.{given_by, logged, spared}
-use Rattle.any_tlb.specs.WatchedWords.{spared_words, word_of}
+use Rattle.any_tlb.specs.WatchedWords.{spared_words, word_or_none}
 
 -- The satps that hart h had and the fences that were applied there, after what was kept before.
 abbrev pub walks_from : (kept : List Walking) → Opening → List Event → (h : ℕ) → List Walking
@@ -29,4 +29,4 @@ abbrev pub watched_words_from : (before : List ℕ) → Opening → List Event �
 watched_words_from before o [] h pa = before
 watched_words_from before o (event ∷ past) h pa =
     spared_words (effect_at o past event h) (watched_words_from before o past h pa)
-    ++ word_of (memory o (event ∷ past) pa)
+    ++ word_or_none (memory o (event ∷ past) pa)

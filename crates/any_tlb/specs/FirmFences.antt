@@ -8,14 +8,14 @@ use Rattle.sv39.specs.Satp.{paging_of, root_address}
 use Rattle.board_core.specs.History.{Event}
 use Rattle.board_core.specs.Memory.{memory, satp}
 use Rattle.board_core.specs.Opening.{Opening, place_after}
-use Rattle.board_laws.specs.Places.{IsAt, past_at}
+use Rattle.board_laws.specs.Places.{IsAtPlace, past_at}
 use Rattle.any_tlb.specs.Effects.{effect_at}
 use Rattle.any_tlb.specs.Mixed.{orders_pointers}
 
 -- At this place a fence without an address and without an ASID was applied at hart h, or the board was reset (Privileged 4.2.1).
 pub record WasFullyFenced (o : Opening) (past : List Event) (h place : ℕ) : Type 0 where
   pub event : Event
-  pub happened : IsAt o past place event
+  pub happened : IsAtPlace o past place event
   pub fences : (global : Bool) (asid : ℕ)
       → orders_pointers global asid (effect_at o (past_at o past place) event h) ≡ true
 

@@ -18,7 +18,7 @@ use Rattle.board_core.specs.Memory.{memory, satp}
 use Rattle.board_core.specs.Opening.{Opening, place_after}
 use Rattle.board_laws.specs.Fences.{Succeeded}
 use Rattle.board_laws.specs.Fresh.{is_of_page, is_of_space}
-use Rattle.board_laws.specs.Places.{IsAt, past_at}
+use Rattle.board_laws.specs.Places.{IsAtPlace, past_at}
 use Rattle.any_tlb.specs.Steady.{phys_of}
 
 -- The page tables in a memory don't give, by this satp, an access of this kind to the address what the entry gives it: another
@@ -35,7 +35,7 @@ pub record IsStale (o : Opening) (past : List Event) (h : ℕ) (event : Event) (
 -- At this place some hart asked a remote fence, by a call that was accepted (SBI 8).
 pub record WasAsked (o : Opening) (past : List Event) (x place : ℕ) (fence : Fence) : Type 0 where
   pub event : Event
-  pub happened : IsAt o past place event
+  pub happened : IsAtPlace o past place event
   pub by_hart : event.actor ≡ Hart x
   pub regs : Regs
   pub call : event.op ≡ Ecall regs

@@ -13,9 +13,9 @@ use Rattle.any_tlb.specs.Effects.{effect_at}
 use Rattle.any_tlb.specs.Words.{ends_words}
 
 -- the word of the memory, where the RAM has one
-abbrev pub word_of : Option ℕ → List ℕ
-word_of None = []
-word_of (Some word) = word ∷ []
+abbrev pub word_or_none : Option ℕ → List ℕ
+word_or_none None = []
+word_or_none (Some word) = word ∷ []
 
 -- the words of the address that lived in the instruction cache of hart h at the opening
 abbrev pub lived_words : Opening → (h pa : ℕ) → List ℕ
@@ -29,9 +29,9 @@ spared_words done words = if ends_words done then [] else words
 -- The words that are watched for a physical address in the instruction cache of hart h: those that were watched before the last
 -- event, if that was no FENCE.I, and the memory's now.
 abbrev pub watched_words : Opening → List Event → (h pa : ℕ) → List ℕ
-watched_words o [] h pa = lived_words o h pa ++ word_of (memory o [] pa)
+watched_words o [] h pa = lived_words o h pa ++ word_or_none (memory o [] pa)
 watched_words o (event ∷ past) h pa =
-    spared_words (effect_at o past event h) (watched_words o past h pa) ++ word_of (memory o (event ∷ past) pa)
+    spared_words (effect_at o past event h) (watched_words o past h pa) ++ word_or_none (memory o (event ∷ past) pa)
 
 -- Each watched word is the memory's now.
 abbrev pub WatchedWordsAgree : Opening → List Event → (h pa : ℕ) → Type 0

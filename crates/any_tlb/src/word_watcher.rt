@@ -3,7 +3,7 @@ ghost use Rattle.std.specs.Prelude.{◌≡◌, ◌++◌, ◌↔◌, [], IfOk, Is
 ghost use Rattle.std.specs.List.{All};
 ghost use Rattle.rfence.specs.Applied.{Drops};
 ghost use Rattle.sv39.specs.Memory.{word_in};
-ghost use Rattle.any_tlb.specs.WatchedWords.{spared_words, word_of};
+ghost use Rattle.any_tlb.specs.WatchedWords.{spared_words, word_or_none};
 
 use std::alloc::{AllocError, Global};
 use sv39::Ram;
@@ -49,7 +49,7 @@ impl WordWatch {
 
     /// The memory's word is possible now: after each event that changes the memory, or is a FENCE.I at the hart.
     pub fn look(&mut self, ram: &Ram) -> Result<(), AllocError>
-        ensures words { IfOk result (λ done. self.new.words.items ≡ self.old.words.items ++ word_of (word_in ram.now self.old.pa)) }
+        ensures words { IfOk result (λ done. self.new.words.items ≡ self.old.words.items ++ word_or_none (word_in ram.now self.old.pa)) }
         ensures pa { self.new.pa ≡ self.old.pa }
     {
         if ram.holds(self.pa) {

@@ -17,10 +17,11 @@ use Rattle.sv39.specs.declared.ram.TheConstants.{PAGE_WORDS}
 use Rattle.sv39.specs.Memory.{IsRam, pages_of, zero_words}
 use Rattle.tlb_model.specs.declared.fence.Flush.{Flush}
 use Rattle.board_terms.specs.declared.config.Config.{Config}
-use Rattle.board_core.specs.declared.machine.Machine.{Machine}
+use Rattle.board_machine.specs.declared.machine.Machine.{Machine}
 use Rattle.board_core.specs.Course.{harts_of}
 use Rattle.board_core.specs.Csrs.{sie, sstatus_sie}
-use Rattle.board_core.specs.Cuts.{opening_in, words_of}
+use Rattle.board_core.specs.Cuts.{words_of}
+use Rattle.board_core.specs.Inside.Stands.{opening_in}
 use Rattle.board_core.specs.Interrupts.{deadline, ssip}
 use Rattle.board_terms.specs.Limits.{IsGood}
 use Rattle.board_core.specs.Memory.{caches_of, memory, satp}
@@ -28,7 +29,8 @@ use Rattle.board_core.specs.Opening.{Opening, no_caches, opening_at}
 use Rattle.board_core.specs.Inside.Stands.{IsKept, StandsFor}
 use Rattle.board_core.specs.Starts.{hart_of}
 use Rattle.board_core.proofs.Beginning.{caches-opened, deadline-opened, opened_as, opens, satp-opened}
-use Rattle.board_core.proofs.Cutting.{held-by, is-cut, words-again}
+use Rattle.board_core.proofs.Cutting.{words-again}
+use Rattle.board_machine.proofs.CutStanding.{held-by, is-cut}
 use Rattle.board_core.proofs.Tables.{tabulate-same}
 
 module _ (c : Config) (good : IsGood c) where

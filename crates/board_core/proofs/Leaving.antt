@@ -1,46 +1,41 @@
 -- What a step from an opening leaves: the machine after it stands for what its event leaves, and is it.
-use Rattle.std.proofs.Common.{◌≡◌, ℕ, ◌+◌, ◌<◌, ◌≤◌, Bool, true, false, [], ◌∷◌, subst, refl, sym, ap, ◌∙◌, arith, None, Ok}
-use Rattle.std.specs.Prelude.{nat_eq, nat_le}
-use Rattle.std.proofs.lemmas.Bool.{leb-false}
+use Rattle.std.proofs.Common.{◌≡◌, ℕ, ◌+◌, ◌<◌, ◌≤◌, false, [], ◌∷◌, subst, refl, sym, ap, ◌∙◌, arith, None, Ok}
+use Rattle.std.specs.Prelude.{nat_eq}
 use Rattle.std.proofs.lemmas.Bool.Decides.{nat_tests}
 use Rattle.sv39.specs.Memory.{IsRam}
 use Rattle.board_core.specs.Accesses.{used_by_actor}
-use Rattle.board_core.specs.Cuts.{last_cut, opening_in, opening_of}
+use Rattle.board_core.specs.Cuts.{last_cut, opening_of}
+use Rattle.board_core.specs.Inside.Stands.{opening_in}
 use Rattle.board_terms.specs.declared.op.Actor.{Actor}
 use Rattle.board_terms.specs.declared.op.Actor.TheVariants.{Hart, Clock}
 use Rattle.board_terms.specs.declared.op.Op.{Op}
-use Rattle.board_terms.specs.declared.reply.Refusal.TheVariants.{Off, WrongPhase}
-use Rattle.board_core.specs.declared.machine.Machine.{Machine}
+use Rattle.board_machine.specs.declared.machine.Machine.{Machine}
 use Rattle.board_core.specs.declared.opening.Taken.{Taken}
+use Rattle.board_core.specs.Refusals.{first_refusal}
 use Rattle.board_core.specs.History.{Event}
+use Rattle.board_terms.specs.Limits.{IsGood}
 use Rattle.board_core.specs.Opening.{Opening}
-use Rattle.board_core.specs.Refusals.{first_that_holds, is_full, refusals, refusals_in, situation}
+use Rattle.board_core.specs.Refusals.{clock_refusals, first_that_holds, is_full, refusals}
 use Rattle.board_core.specs.Replies.{answer, answer_when, refused_or, reply}
-use Rattle.board_core.specs.Resets.{is_off}
 use Rattle.board_core.specs.Inside.Stands.{IsKept, StandsFor}
 use Rattle.board_core.specs.Taking.{event_with, refusal_at, reply_at, step_from, step_with}
-use Rattle.board_core.proofs.Cutting.{held-by, is-cut, kept-cut, stands-cut}
+use Rattle.board_core.proofs.Cutting.{kept-cut}
+use Rattle.board_machine.proofs.CutStanding.{held-by, is-cut, stands-cut}
 use Rattle.board_core.proofs.Rams.{ram-after, same-ram}
 use Rattle.board_core.proofs.Steps.{kept-more}
 
--- what isn't refused to a hart: the power is on, the hart is there, and its situation refuses nothing
-pub record IsUnrefused (o : Opening) (h : ℕ) (op : Op) : Type 0 where
-  pub on : is_off o [] ≡ false
-  pub inside : h < o.config.harts
-  pub none : first_that_holds (refusals_in (situation o [] h) op false) ≡ None
-
-pub hart-unrefused : (o : Opening) (h : ℕ) (op : Op) → first_that_holds (refusals false o [] h op) ≡ None → IsUnrefused o h op
-hart-unrefused o h op none =
-    let parts = by_tests (is_off o []) (nat_le o.config.harts h) none in
-    record { on = parts.0; inside = leb-false o.config.harts h parts.1; none = parts.2 }
+-- an opening has room for an event
+pub room-opened : (o : Opening) → IsGood o.config → is_full o [] ≡ false
+room-opened o good = by_limit o.config.limit good.some_room
   where
-    by_tests : (off missing : Bool) → first_that_holds ((off, Off) ∷ (missing, WrongPhase) ∷ refusals_in (situation o [] h) op false) ≡ None
-        → (off ≡ false) × (missing ≡ false) × (first_that_holds (refusals_in (situation o [] h) op false) ≡ None)
-    by_tests true missing none = cc
-    by_tests false true none = cc
-    by_tests false false none = (refl, refl, none)
+    by_limit : (limit : ℕ) → 1 ≤ limit → nat_eq 0 limit ≡ false
+    by_limit limit some = grind (arith, nat_tests)
 
--- and it is answered
+pub refusal-opened : (o : Opening) → IsGood o.config → (actor : Actor) (op : Op) → first_refusal o [] actor op ≡ refusal_at o actor op
+refusal-opened o good (Hart h) op = ap (λ full. first_that_holds (refusals full o [] h op)) (room-opened o good)
+refusal-opened o good Clock op = ap (λ full. first_that_holds (clock_refusals full o [] op)) (room-opened o good)
+
+-- what isn't refused is answered
 answered-at : (o : Opening) (actor : Actor) (op : Op) → refusal_at o actor op ≡ None → answer_when false o [] actor op ≡ Ok (reply_at o actor op)
 answered-at o (Hart h) op none = ap (λ refusal. refused_or refusal (reply o [] h op)) none
 answered-at o Clock op none = ap (λ refusal. refused_or refusal (reply_at o Clock op)) none
@@ -63,7 +58,7 @@ left-by-step : (o : Opening) (actor : Actor) (op : Op) (event : Event) (old new 
     → o.places < last_cut → refusal_at o actor op ≡ None → event ≡ event_with o actor op (reply_at o actor op) → StandsFor o (event ∷ []) new
     → IsLeft o event new
 left-by-step o actor op event old new kept ram before early none is after =
-    let room : is_full o [] ≡ false = by_limit o.config.limit kept.good.some_room in
+    let room = room-opened o kept.good in
     let made = event_with o actor op (reply_at o actor op) in
     let answered_made : answer o [] made.actor made.op ≡ Ok made.reply = ap (λ full. answer_when full o [] actor op) room ∙ answered-at o actor op none in
     let facts = subst (λ (e : Event). (answer o [] e.actor e.op ≡ Ok e.reply) × (e.translation ≡ used_by_actor o [] e.actor e.op)) (sym is) (answered_made, refl) in
@@ -77,9 +72,6 @@ left-by-step o actor op event old new kept ram before early none is after =
       stands = stands-cut o (event ∷ []) held new after;
       same = is-cut o (event ∷ []) held new is_ram after;
     }
-  where
-    by_limit : (limit : ℕ) → 1 ≤ limit → nat_eq 0 limit ≡ false
-    by_limit limit some = grind (arith, nat_tests)
 
 -- the same of an opening that is seen as this one
 pub left-by : (o now : Opening) → o ≡ now → (actor : Actor) (op : Op) (event : Event) (old new : Machine) → IsKept o [] → IsRam old.memory.ram → StandsFor now [] old

@@ -6,13 +6,14 @@ use Rattle.std.proofs.lemmas.List.FromFn.{length-map-range_with_len}
 use Rattle.sv39.specs.declared.ram.TheConstants.{PAGE_WORDS, RAM_START}
 use Rattle.sv39.specs.Memory.{IsRam}
 use Rattle.board_terms.specs.declared.config.Config.{Config}
-use Rattle.board_core.specs.declared.machine.Machine.{Machine}
-use Rattle.board_core.specs.Cuts.{OpensAfter, opening_in, opening_of}
+use Rattle.board_machine.specs.declared.machine.Machine.{Machine}
+use Rattle.board_core.specs.Cuts.{OpensAfter, opening_of}
+use Rattle.board_core.specs.Inside.Stands.{opening_in}
 use Rattle.board_terms.specs.Limits.{IsGood}
 use Rattle.board_core.specs.Memory.{memory}
 use Rattle.board_core.specs.Opening.{Opening}
 use Rattle.board_core.specs.Inside.Stands.{IsKept, StandsFor}
-use Rattle.board_core.proofs.Cutting.{held-by, is-cut}
+use Rattle.board_machine.proofs.CutStanding.{held-by, is-cut}
 
 -- the RAM has the pages of the board
 length-ram : (cuts : ℕ) (o : Opening) → OpensAfter cuts o → length o.ram ≡ PAGE_WORDS * o.config.pages

@@ -1,4 +1,4 @@
 -- Private: what no clause of a public call names.
-pub mod Keeping
+pub use Rattle.board_machine.specs.Stands
+pub mod Opened
 pub mod Packing
-pub mod Stands

@@ -1,14 +1,15 @@
 //! The board: its opening, its kept history, one atomic step, and the look-ups.
-ghost use Rattle.std.specs.Prelude.{◌≡◌, ◌⊎◌, ◌-◌, ◌*◌, ◌<◌, ◌≤◌, ◌↔◌, List, [], ◌∷◌, ◌++◌, true, false, IfErr, IfOk, IsErrOf, None, Ok, OnErr, OnOk, Some, length, reverse};
+ghost use Rattle.std.specs.Prelude.{◌≡◌, ◌⊎◌, ◌-◌, ◌*◌, ◌<◌, ◌≤◌, ◌↔◌, List, [], ◌∷◌, ◌++◌, true, IfErr, IfOk, IsErrOf, None, Ok, OnErr, OnOk, Some, length, reverse};
 ghost use Rattle.hsm.specs.declared.hart.HartState.{HartState};
 ghost use Rattle.interrupts.specs.Timing.{last_time};
 ghost use Rattle.sv39.specs.Maps.{maps};
 ghost use Rattle.board_terms.specs.declared.config.BuildFault.TheVariants.{BadConfig, CutFull, NoMemory};
-ghost use Rattle.board_core.specs.Cuts.{IsOpened, IsUnseen, first_of, last_cut, opening_of};
+ghost use Rattle.board_core.specs.Cuts.{IsOpened, IsUnseen, last_cut, opening_of};
+ghost use Rattle.board_core.specs.Inside.Opened.{first_of};
+ghost use Rattle.board_core.specs.Refusals.{first_refusal};
 ghost use Rattle.board_core.specs.History.{Event, access_of, access_op};
 ghost use Rattle.board_terms.specs.declared.op.Actor.TheVariants.{Hart, Clock};
 ghost use Rattle.board_core.specs.Csrs.{sie, sstatus_sie};
-ghost use Rattle.board_core.specs.ErrorLaw.{LooksSame, is_error};
 ghost use Rattle.board_core.specs.Interrupts.{deadline, ssip, stip, time, wake};
 ghost use Rattle.board_terms.specs.Limits.{IsGood};
 ghost use Rattle.board_core.specs.Opening.{Opening, opening_at, place_after};
@@ -16,20 +17,16 @@ ghost use Rattle.board_core.specs.Memory.{caches_of, memory, satp};
 ghost use Rattle.board_core.specs.Fences.{outstanding, phase, waiting};
 ghost use Rattle.board_core.specs.Need.{need, total_need};
 ghost use Rattle.board_core.specs.Serves.{CanEnd, GoesOn, HaveServed, IsLeft, KeepsNeeds};
-ghost use Rattle.board_core.specs.Refusals.{first_that_holds, is_full, refusals_in, situation};
 ghost use Rattle.board_core.specs.Resets.{is_off, last_reset};
 ghost use Rattle.board_core.specs.States.{state};
 ghost use Rattle.board_core.specs.Starts.{kept, StartsAreEntered};
 ghost use Rattle.board_core.specs.Replies.{answer, stepped, IsLegal};
 ghost use Rattle.board_core.specs.Totals.{totals};
 
-use crate::calls::is_shutdown;
-use crate::csrs::Sie;
-use crate::event::{Event, access_of};
-use crate::machine::Machine;
 use crate::opening::Opening;
-use crate::phase::Phase;
-use crate::recording::{record, record_access};
+use crate::view::View;
+use board_machine::Machine;
+use board_rules::{Event, Phase, Sie, Totals, access_of, record, record_access};
 use board_terms::{Actor, BuildFault, Config, Op, Refusal, Reply};
 use hart_access::Access;
 use hart_mask::HartSet;
@@ -39,29 +36,12 @@ use sbi_abi::Reset;
 use std::alloc::{AllocError, Global};
 use std::marker::Model;
 use std::mem;
-use sv39::{Cause, Kind, Leaf, walk};
+use sv39::{Cause, Kind, Leaf};
 use tlb_model::{Entry, FetchWord, Flush, Live};
 
 /// The most events that may have been accepted since the first opening where a history is cut, so that places, fill numbers and
 /// counts have room for as many more as it may hold.
 pub(crate) const LAST_CUT: u64 = (1 << 56) - 1_000_000;
-
-/// The counts of the board's table: starts and entries since the last reset, fences since the first opening.
-#[derive(Clone, Copy, Debug, PartialEq, Eq)]
-pub struct Totals {
-    /// Starts of harts, the boot start among them.
-    pub starts: u64,
-    /// Entries by start.
-    pub entries: u64,
-    /// Harts in START_PENDING.
-    pub pending: u64,
-    /// Pairs of an accepted remote fence and a hart that it asks.
-    pub asked: u64,
-    /// Such pairs that were applied.
-    pub applied: u64,
-    /// Fences that wait at harts.
-    pub waiting: u64,
-}
 
 /// A board of harts: its opening and the history of accepted steps.
 #[derive(Drop)]
@@ -86,7 +66,7 @@ pub struct Segment {
 impl Model for Board {
     ghost use Rattle.std.specs.Prelude.{◌≡◌, reverse, vec_capacity};
     ghost use Rattle.board_core.specs.Course.{Course};
-    ghost use Rattle.board_core.specs.Cuts.{IsOpenedBy, opened_by};
+    ghost use Rattle.board_core.specs.Inside.Opened.{IsOpenedBy, opened_by};
 
     ghost Value = { Course };
 
@@ -192,8 +172,9 @@ impl Board {
     {
         let config = *opening.config();
         let events = Vec::with_capacity(alloc, config.limit as usize)?;
-        let machine = opening.machine(alloc)?;
         let left = opening.try_copy(alloc)?;
+        let copy = opening.try_copy(alloc)?;
+        let machine = copy.into_machine();
         Ok(Board {
             config,
             places: opening.places(),
@@ -232,44 +213,28 @@ impl Board {
     {
         // (what calls need rests on the board's invariant)
         let _invariant = &self.config;
-        if self.is_off() {
-            return Err(Refusal::Off);
+        if let Some(refusal) = self.refusal(actor, op) {
+            return Err(refusal);
         }
-        match actor {
-            Actor::Hart(h) => self.hart_step(h, op),
-            Actor::Clock => self.clock_step(op),
+        match (actor, access_of(op)) {
+            (Actor::Hart(h), Some((va, what))) => Ok(self.access_step(h, va, what)),
+            (Actor::Hart(h), None) => Ok(self.other_step(h, op)),
+            (Actor::Clock, _) => Ok(self.clock_step(op)),
         }
     }
 
-    /// One step of hart `h`, while the power is on.
-    fn hart_step(&mut self, h: u64, op: Op) -> Result<Reply, Refusal>
-        requires { is_off self.old.opening self.old.past ≡ false }
-        ensures answer { result ≡ answer self.old.opening self.old.past (Hart h) op }
-        ensures after { self.new ≡ stepped self.old (Hart h) op }
+    /// Why a step of one actor is refused, if it is: the first refusal that holds (profile). `step` refuses exactly so.
+    #[inline(always)]
+    pub fn refusal(&self, actor: Actor, op: Op) -> Option<Refusal>
+        ensures { result ≡ first_refusal self.now.opening self.now.past actor op }
     {
-        if h >= self.config.harts {
-            return Err(Refusal::WrongPhase);
-        }
-        if let Some(refusal) = self.machine.refusal(h, op) {
-            return Err(refusal);
-        }
-        if self.is_full() {
-            return Err(Refusal::HistoryFull);
-        }
-        Ok(match access_of(op) {
-            Some((va, what)) => self.access_step(h, va, what),
-            None => self.other_step(h, op),
-        })
+        self.view().refusal(actor, op)
     }
 
     /// Carries out an access of hart `h` that isn't refused, and records it: the reply.
     #[inline(always)]
     fn access_step(&mut self, h: u64, va: u64, what: Access) -> Reply
-        requires on { is_off self.old.opening self.old.past ≡ false }
-        requires in_range { h < self.old.opening.config.harts }
-        requires unrefused { first_that_holds
-            (refusals_in (situation self.old.opening self.old.past h) (access_op va what) (is_full self.old.opening self.old.past))
-            ≡ None }
+        requires { first_refusal self.old.opening self.old.past (Hart h) (access_op va what) ≡ None }
         ensures answer { Ok result ≡ answer self.old.opening self.old.past (Hart h) (access_op va what) }
         ensures after { self.new ≡ stepped self.old (Hart h) (access_op va what) }
     {
@@ -282,11 +247,7 @@ impl Board {
     /// Carries out an operation of hart `h` that isn't refused, and is no access, and records it: the reply.
     #[inline(always)]
     fn other_step(&mut self, h: u64, op: Op) -> Reply
-        requires on { is_off self.old.opening self.old.past ≡ false }
-        requires in_range { h < self.old.opening.config.harts }
-        requires unrefused { first_that_holds
-            (refusals_in (situation self.old.opening self.old.past h) op (is_full self.old.opening self.old.past))
-            ≡ None }
+        requires unrefused { first_refusal self.old.opening self.old.past (Hart h) op ≡ None }
         requires other { access_of op ≡ None }
         ensures answer { Ok result ≡ answer self.old.opening self.old.past (Hart h) op }
         ensures after { self.new ≡ stepped self.old (Hart h) op }
@@ -297,24 +258,16 @@ impl Board {
         reply
     }
 
-    /// One step of the clock, which only ticks, while the power is on.
-    fn clock_step(&mut self, op: Op) -> Result<Reply, Refusal>
-        requires { is_off self.old.opening self.old.past ≡ false }
-        ensures answer { result ≡ answer self.old.opening self.old.past Clock op }
+    /// Carries out a tick that isn't refused, and records it: the reply.
+    fn clock_step(&mut self, op: Op) -> Reply
+        requires { first_refusal self.old.opening self.old.past Clock op ≡ None }
+        ensures answer { Ok result ≡ answer self.old.opening self.old.past Clock op }
         ensures after { self.new ≡ stepped self.old Clock op }
     {
-        let Op::Tick(n) = op else {
-            return Err(Refusal::WrongPhase);
-        };
-        if self.is_full() {
-            return Err(Refusal::HistoryFull);
-        }
-        if self.machine.interrupts.timers.tick(n).is_err() {
-            return Err(Refusal::TimeFull);
-        }
-        self.events
-            .push_reserved(Event::new(Actor::Clock, op, Reply::Done, None));
-        Ok(Reply::Done)
+        let Op::Tick(n) = op else { unreachable!() };
+        let event = self.machine.tick_event(n);
+        self.events.push_reserved(event);
+        Reply::Done
     }
 
     /// How many events were accepted since the first opening: the place of the next one.
@@ -322,13 +275,6 @@ impl Board {
         ensures { result ≡ place_after self.now.opening self.now.past }
     {
         self.places + self.events.len() as u64
-    }
-
-    /// Whether the history holds as many events as it may.
-    fn is_full(&self) -> bool
-        ensures { result ≡ is_full self.now.opening self.now.past }
-    {
-        self.events.len() as u64 == self.config.limit
     }
 
     /// The accepted events, oldest first: a legal history of a good opening, within the limit.
@@ -357,12 +303,26 @@ impl Board {
         &self.config
     }
 
+    /// The board as it is, to be looked at.
+    #[inline(always)]
+    pub fn view(&self) -> View<'_>
+        ensures { result ≡ self.now }
+    {
+        View {
+            config: &self.config,
+            places: self.places,
+            opened: self.opened.as_ref(),
+            events: &self.events,
+            machine: &self.machine,
+        }
+    }
+
     /// The state of hart `h` (SBI 9).
     pub fn state(&self, h: u64) -> HartState
         requires { h < self.now.opening.config.harts }
         ensures { result ≡ state self.now.opening self.now.past h }
     {
-        self.machine.hsm.status(h)
+        self.view().state(h)
     }
 
     /// Where hart `h` begins, while its start is pending, or while it is in a non-retentive suspend.
@@ -370,7 +330,7 @@ impl Board {
         requires { h < self.now.opening.config.harts }
         ensures { result ≡ kept self.now.opening self.now.past h }
     {
-        self.machine.hsm.kept(h)
+        self.view().kept(h)
     }
 
     /// Whether sstatus.SIE of hart `h` is 1 (Privileged 4.1.1).
@@ -378,7 +338,7 @@ impl Board {
         requires { h < self.now.opening.config.harts }
         ensures { result ≡ sstatus_sie self.now.opening self.now.past h }
     {
-        self.machine.interrupts.csrs.sstatus_sie.contains(h)
+        self.view().sstatus_sie(h)
     }
 
     /// The interrupts that sie of hart `h` enables (Privileged 4.1.3).
@@ -386,7 +346,7 @@ impl Board {
         requires { h < self.now.opening.config.harts }
         ensures { result ≡ sie self.now.opening self.now.past h }
     {
-        self.machine.interrupts.csrs.sie(h)
+        self.view().sie(h)
     }
 
     /// Whether SSIP of hart `h` is 1: a software interrupt is pending (Privileged 4.1.3, SBI 7).
@@ -394,7 +354,7 @@ impl Board {
         requires { h < self.now.opening.config.harts }
         ensures { result ≡ ssip self.now.opening self.now.past h }
     {
-        self.machine.interrupts.ipis.pending(h)
+        self.view().ssip(h)
     }
 
     /// Whether STIP of hart `h` is 1: its deadline has come (Privileged 4.1.3, SBI 6).
@@ -402,7 +362,7 @@ impl Board {
         requires { h < self.now.opening.config.harts }
         ensures { result ≡ stip self.now.opening self.now.past h }
     {
-        self.machine.interrupts.timers.pending(h)
+        self.view().stip(h)
     }
 
     /// Whether an interrupt is pending at hart `h` that its sie enables (Privileged 3.3.3, WFI).
@@ -410,7 +370,7 @@ impl Board {
         requires { h < self.now.opening.config.harts }
         ensures { result ≡ wake self.now.opening self.now.past h }
     {
-        self.machine.interrupts.wake(h)
+        self.view().wake(h)
     }
 
     /// satp of hart `h` (Privileged 4.1.11).
@@ -418,19 +378,14 @@ impl Board {
         requires { h < self.now.opening.config.harts }
         ensures { result ≡ satp self.now.opening self.now.past h }
     {
-        self.machine.memory.satp(h).bits()
+        self.view().satp(h)
     }
 
     /// The word of the RAM at a physical address; None where the address isn't aligned to 8, or outside the RAM.
     pub fn word(&self, at: u64) -> Option<u64>
         ensures { result ≡ memory self.now.opening self.now.past at }
     {
-        let ram = &self.machine.memory.ram;
-        if ram.holds(at) {
-            Some(ram.load(at))
-        } else {
-            None
-        }
+        self.view().word(at)
     }
 
     /// What a walk of the page tables gives hart `h` now for an access of this kind, whatever its TLB holds, where its satp
@@ -440,8 +395,7 @@ impl Board {
         ensures { result ≡ maps (memory self.now.opening self.now.past)
             (satp self.now.opening self.now.past h) va kind }
     {
-        let memory = &self.machine.memory;
-        walk(&memory.ram, memory.satp(h), va, kind)
+        self.view().walk(h, va, kind)
     }
 
     /// The live entries of the TLB of hart `h`, in the order of filling.
@@ -449,7 +403,7 @@ impl Board {
         requires { h < self.now.opening.config.harts }
         ensures { reverse result ≡ (caches_of self.now.opening self.now.past h).tlb.live }
     {
-        self.machine.memory.caches[h as usize].tlb.live()
+        self.view().tlb(h)
     }
 
     /// The live words of the instruction cache of hart `h`, in the order of filling.
@@ -457,7 +411,7 @@ impl Board {
         requires { h < self.now.opening.config.harts }
         ensures { reverse result ≡ (caches_of self.now.opening self.now.past h).words.live }
     {
-        self.machine.memory.caches[h as usize].words.live()
+        self.view().fetched(h)
     }
 
     /// The fences that wait at hart `h`, the one first that it serves first.
@@ -465,7 +419,7 @@ impl Board {
         requires { h < self.now.opening.config.harts }
         ensures { result ≡ waiting self.now.opening self.now.past h }
     {
-        self.machine.fences.iter(h)
+        self.view().waiting(h)
     }
 
     /// How many fences wait at hart `h`: fewer than there are harts.
@@ -474,7 +428,7 @@ impl Board {
         ensures count { result ≡ length (waiting self.now.opening self.now.past h) }
         ensures limit { result < self.now.opening.config.harts }
     {
-        self.machine.fences.len(h)
+        self.view().waiting_len(h)
     }
 
     /// Whether hart `h` is inside a fence call (SBI 8; that a call waits: profile).
@@ -482,10 +436,7 @@ impl Board {
         requires { h < self.now.opening.config.harts }
         ensures { result ≡ phase self.now.opening self.now.past h }
     {
-        match self.outstanding(h) {
-            None => Phase::Outside,
-            Some(_) => Phase::Inside,
-        }
+        self.view().phase(h)
     }
 
     /// The harts that the fence call of hart `h` waits for; None outside of a fence call.
@@ -493,7 +444,7 @@ impl Board {
         requires { h < self.now.opening.config.harts }
         ensures { result ≡ outstanding self.now.opening self.now.past h }
     {
-        self.machine.fences.outstanding(h)
+        self.view().outstanding(h)
     }
 
     /// How many serves by hart `t` the fence call of hart `caller` still needs, until it waits for `t` no more (profile). It
@@ -515,21 +466,21 @@ impl Board {
             → HaveServed self.now.opening newer self.now.past caller
             → CanEnd self.now.opening (newer ++ self.now.past) caller }
     {
-        self.machine.fences.need(caller, t)
+        self.view().need(caller, t)
     }
 
     /// The last system reset, if there was one (SBI 10).
     pub fn last_reset(&self) -> Option<Reset>
         ensures { result ≡ last_reset self.now.opening self.now.past }
     {
-        self.machine.last_reset
+        self.view().last_reset()
     }
 
     /// Whether the power is off: the last reset is a shutdown (SBI 10.1).
     pub fn is_off(&self) -> bool
         ensures { result ≡ is_off self.now.opening self.now.past }
     {
-        is_shutdown(self.machine.last_reset)
+        self.view().is_off()
     }
 
     /// The deadline of hart `h`, in ticks, if it has one (SBI 6.1).
@@ -537,7 +488,7 @@ impl Board {
         requires { h < self.now.opening.config.harts }
         ensures { result ≡ deadline self.now.opening self.now.past h }
     {
-        self.machine.interrupts.timers.deadline(h)
+        self.view().deadline(h)
     }
 
     /// The time, in ticks since the first opening: at most 2^64-2 (profile).
@@ -545,7 +496,7 @@ impl Board {
         ensures time { result ≡ time self.now.opening self.now.past }
         ensures within { result ≤ last_time }
     {
-        self.machine.interrupts.timers.time()
+        self.view().time()
     }
 
     /// The counts of the board's table. For each hart, its accepted starts are its entries followed by its
@@ -554,14 +505,7 @@ impl Board {
         ensures counts { result ≡ totals self.now.opening self.now.past }
         ensures starts { StartsAreEntered self.now.opening self.now.past }
     {
-        Totals {
-            starts: self.machine.counts.starts,
-            entries: self.machine.counts.entries,
-            pending: self.machine.hsm.pending_starts(),
-            asked: self.machine.fences.asked(),
-            applied: self.machine.fences.applied(),
-            waiting: self.machine.fences.waiting(),
-        }
+        self.view().totals()
     }
 }
 
@@ -580,16 +524,3 @@ fn first_opening(
     let opening = Opening::first(alloc, config)?;
     Ok(Some(opening))
 }
-
-/// In every legal history the starts of a hart are its entries followed by its pending start, each entered
-/// with its own address and opaque value. A law: there is nothing to run.
-pub fn starts_are_entered()
-    ensures { (o : Opening) (past : List Event) → IsLegal o past → StartsAreEntered o past }
-{}
-
-/// In every legal history an event whose reply is an SBI error changes nothing: each look-up answers what it answered
-/// before (profile). A law: there is nothing to run.
-pub fn errors_change_nothing()
-    ensures { (o : Opening) (event : Event) (past : List Event) →
-        IsLegal o (event ∷ past) → is_error event.reply ≡ true → LooksSame o past (event ∷ past) }
-{}

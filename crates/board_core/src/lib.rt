@@ -4,33 +4,24 @@
 #![tactic(auto)]
 
 mod board;
-mod calls;
-mod counts;
-mod csrs;
-mod cuts;
-mod event;
-mod interrupt_state;
-mod keeping;
-mod machine;
-mod memory;
 mod opening;
 mod packed;
-mod phase;
-mod recording;
-mod taking;
+mod view;
 
-pub use board::{Board, Segment, Totals, errors_change_nothing, starts_are_entered};
+pub use board::{Board, Segment};
+pub use board_machine::Csrs;
+pub use board_rules::{
+    Event, Phase, Sie, Totals, cuts_are_not_seen, cuts_open_boards, errors_change_nothing,
+    starts_are_entered,
+};
 pub use board_terms::{Actor, BuildFault, Config, Op, Refusal, Reply, USUAL_ASID_LEN, USUAL_WIDTH};
-pub use csrs::Sie;
-pub use cuts::{cuts_are_not_seen, cuts_open_boards};
-pub use event::Event;
 pub use fence_queue::Request;
 pub use hart_mask::HartSet;
 pub use hsm::{EntryPoint, HartState};
 pub use opening::{Opening, Taken};
 pub use packed::PackedOpening;
-pub use phase::Phase;
 pub use rfence::Waiting;
 pub use sbi_abi::{Reset, ResetKind};
 pub use sv39::{Cause, Kind, Leaf, Level};
 pub use tlb_model::{Entry, Fence, FetchWord, Flush, Live, Numbered, Range};
+pub use view::View;

@@ -1,43 +1,30 @@
-//! What a board begins with, before the first event of its kept history: the board as it was then, to be looked at.
-ghost use Rattle.std.specs.Prelude.{◌≡◌, ◌⊎◌, ◌+◌, ◌<◌, ◌≤◌, ◌↔◌, IfErr, IfOk, IsErrOf, Ok, [], ◌∷◌, length, reverse, false, None};
-ghost use Rattle.interrupts.specs.Timing.{last_time};
-ghost use Rattle.board_core.specs.Csrs.{sie, sstatus_sie};
-ghost use Rattle.board_core.specs.Cuts.{last_cut, opening_in, opening_of};
+//! What a board begins with, before the first event of its kept history: the board as it was then.
+ghost use Rattle.std.specs.Prelude.{◌≡◌, ◌⊎◌, ◌+◌, ◌<◌, ◌≤◌, ◌↔◌, IfErr, IfOk, IsErrOf, Ok, [], ◌∷◌, length, None};
+ghost use Rattle.board_core.specs.Cuts.{last_cut, opening_of};
+ghost use Rattle.board_core.specs.Inside.Stands.{opening_in};
 ghost use Rattle.board_core.specs.Taking.{event_with, refusal_at, reply_at, step_from};
 ghost use Rattle.board_terms.specs.declared.config.BuildFault.TheVariants.{CutFull, NoMemory};
-ghost use Rattle.board_terms.specs.declared.op.Actor.TheVariants.{Hart, Clock};
 ghost use Rattle.sv39.specs.Memory.{IsRam};
 ghost use Rattle.sv39.specs.Nonzero.{IsClear};
-ghost use Rattle.board_core.specs.Fences.{outstanding, phase, waiting};
-ghost use Rattle.board_core.specs.Interrupts.{deadline, ssip, stip, time, wake};
 ghost use Rattle.board_terms.specs.Limits.{IsGood};
-ghost use Rattle.board_core.specs.Memory.{caches_of, memory, satp};
-ghost use Rattle.board_core.specs.Need.{need};
+ghost use Rattle.board_core.specs.Memory.{caches_of};
 ghost use Rattle.board_core.specs.Opening.{IsOpening, opening_at};
-ghost use Rattle.board_core.specs.Resets.{is_off, last_reset};
 ghost use Rattle.board_core.specs.Inside.Stands.{IsKept, StandsFor};
-ghost use Rattle.board_core.specs.Starts.{kept, StartsAreEntered};
-ghost use Rattle.board_core.specs.States.{state};
-ghost use Rattle.board_core.specs.Totals.{totals};
 ghost use Rattle.rfence.specs.Opening.{called_at};
 
-use crate::board::{LAST_CUT, Totals};
-use crate::calls::is_shutdown;
-use crate::csrs::Sie;
-use crate::event::Event;
-use crate::machine::Machine;
-use crate::phase::Phase;
+use crate::board::LAST_CUT;
+use crate::view::View;
+use board_machine::{Csrs, Machine};
+use board_rules::Event;
 use board_terms::{Actor, BuildFault, Config, Op, Refusal};
 use hart_mask::HartSet;
-use hsm::{EntryPoint, HartState};
-use rfence::{FenceCall, Waiting};
-use sbi_abi::Reset;
+use rfence::FenceCall;
 use std::alloc::{AllocError, Global};
 use std::marker::Model;
-use tlb_model::{Entry, FetchWord, Flush, Live};
+use tlb_model::Flush;
 
-/// What a board began with: its numbers, and what a board was before the first event of the kept history. It answers what such
-/// a board answers, with the places, dates and numbers of what was before.
+/// What a board began with: its numbers, and what a board was before the first event of the kept history, with the places,
+/// dates and numbers of what was before. Its `view` answers what such a board answers.
 #[derive(Drop)]
 pub struct Opening {
     config: Config,
@@ -60,7 +47,7 @@ impl Model for Opening {
 
     ghost Value = { Opening };
 
-    ghost use Rattle.board_core.specs.Cuts.{opening_in};
+    ghost use Rattle.board_core.specs.Inside.Stands.{opening_in};
     ghost use Rattle.board_core.specs.Inside.Stands.{IsKept, StandsFor};
 
     ghost view = { λ o. opening_in o.config o.places o.machine };
@@ -116,18 +103,6 @@ impl Opening {
         })
     }
 
-    /// A machine that stands for it, where no event was accepted since.
-    ///
-    /// # Errors
-    ///
-    /// Memory was refused.
-    pub(crate) fn machine(&self, alloc: Global) -> Result<Machine, AllocError>
-        ensures kept { IsKept self.now [] }
-        ensures stands { IfOk result (StandsFor self.now []) }
-    {
-        self.machine.try_copy(alloc)
-    }
-
     /// The machine, which stands for it, where no event was accepted since.
     pub(crate) fn into_machine(self) -> Machine
         ensures kept { IsKept self [] }
@@ -169,36 +144,9 @@ impl Opening {
     pub fn refusal(&self, actor: Actor, op: Op) -> Option<Refusal>
         ensures { result ≡ refusal_at self.now actor op }
     {
-        if self.is_off() {
-            return Some(Refusal::Off);
-        }
-        match actor {
-            Actor::Hart(h) => self.hart_refusal(h, op),
-            Actor::Clock => self.clock_refusal(op),
-        }
-    }
-
-    /// Why a step of hart `h` is, while the power is on.
-    fn hart_refusal(&self, h: u64, op: Op) -> Option<Refusal>
-        requires { is_off self.now [] ≡ false }
-        ensures { result ≡ refusal_at self.now (Hart h) op }
-    {
-        if h >= self.config.harts {
-            return Some(Refusal::WrongPhase);
-        }
-        self.machine.refusal(h, op)
-    }
-
-    /// Why a step of the clock is, while the power is on.
-    fn clock_refusal(&self, op: Op) -> Option<Refusal>
-        requires { is_off self.now [] ≡ false }
-        ensures { result ≡ refusal_at self.now Clock op }
-    {
-        match op {
-            Op::Tick(n) if n < u64::MAX - self.time() => None,
-            Op::Tick(_) => Some(Refusal::TimeFull),
-            _ => Some(Refusal::WrongPhase),
-        }
+        // (a history has room for an event)
+        let _good = self.config();
+        self.view().refusal(actor, op)
     }
 
     /// What comes of a step that isn't refused, on a copy of the machine.
@@ -228,8 +176,8 @@ impl Opening {
         }
     }
 
-    /// The board's numbers. A board can open so, and what it begins with is what the look-ups here say, each hart's and the
-    /// sets of harts.
+    /// The board's numbers. A board can open so, and what it begins with is what the look-ups here and those of `view` say, each
+    /// hart's and the sets of harts.
     pub fn config(&self) -> &Config
         ensures config { result.now ≡ self.now.config }
         ensures good { IsGood self.now.config }
@@ -239,6 +187,20 @@ impl Opening {
         &self.config
     }
 
+    /// A board that begins so, to be looked at: no event was accepted since.
+    #[inline(always)]
+    pub fn view(&self) -> View<'_>
+        ensures { result ≡ record { opening = self.now; past = [] } }
+    {
+        View {
+            config: &self.config,
+            places: self.places,
+            opened: Some(self),
+            events: &[],
+            machine: &self.machine,
+        }
+    }
+
     /// How many events were accepted before, since the first opening.
     pub fn places(&self) -> u64
         ensures { result ≡ self.now.places }
@@ -246,49 +208,11 @@ impl Opening {
         self.places
     }
 
-    /// The state of hart `h` (SBI 9).
-    pub fn state(&self, h: u64) -> HartState
-        requires { h < self.now.config.harts }
-        ensures { result ≡ state self.now [] h }
+    /// What the supervisor's registers of the harts hold: sstatus.SIE, and what sie enables (Privileged 4.1).
+    pub fn csrs(&self) -> Csrs
+        ensures { result ≡ record { sstatus_sie = self.now.sstatus_sie; ssie = self.now.ssie; stie = self.now.stie } }
     {
-        self.machine.hsm.status(h)
-    }
-
-    /// Where hart `h` begins, while its start is pending, or while it is in a non-retentive suspend.
-    pub fn kept(&self, h: u64) -> Option<EntryPoint>
-        requires { h < self.now.config.harts }
-        ensures { result ≡ kept self.now [] h }
-    {
-        self.machine.hsm.kept(h)
-    }
-
-    /// Whether sstatus.SIE of hart `h` is 1 (Privileged 4.1.1).
-    pub fn sstatus_sie(&self, h: u64) -> bool
-        requires { h < self.now.config.harts }
-        ensures { result ≡ sstatus_sie self.now [] h }
-    {
-        self.machine.interrupts.csrs.sstatus_sie.contains(h)
-    }
-
-    /// The harts at which sstatus.SIE is 1 (Privileged 4.1.1).
-    pub fn sstatus_sie_harts(&self) -> HartSet
-        ensures { result ≡ self.now.sstatus_sie }
-    {
-        self.machine.interrupts.csrs.sstatus_sie
-    }
-
-    /// The harts whose sie enables software interrupts (Privileged 4.1.3).
-    pub fn ssie_harts(&self) -> HartSet
-        ensures { result ≡ self.now.ssie }
-    {
-        self.machine.interrupts.csrs.ssie
-    }
-
-    /// The harts whose sie enables timer interrupts (Privileged 4.1.3).
-    pub fn stie_harts(&self) -> HartSet
-        ensures { result ≡ self.now.stie }
-    {
-        self.machine.interrupts.csrs.stie
+        self.machine.interrupts.csrs
     }
 
     /// The harts at which SSIP is 1 (Privileged 4.1.3).
@@ -296,58 +220,6 @@ impl Opening {
         ensures { result ≡ self.now.ssip }
     {
         self.machine.interrupts.ipis.harts()
-    }
-
-    /// The interrupts that sie of hart `h` enables (Privileged 4.1.3).
-    pub fn sie(&self, h: u64) -> Sie
-        requires { h < self.now.config.harts }
-        ensures { result ≡ sie self.now [] h }
-    {
-        self.machine.interrupts.csrs.sie(h)
-    }
-
-    /// Whether SSIP of hart `h` is 1: a software interrupt is pending (Privileged 4.1.3, SBI 7).
-    pub fn ssip(&self, h: u64) -> bool
-        requires { h < self.now.config.harts }
-        ensures { result ≡ ssip self.now [] h }
-    {
-        self.machine.interrupts.ipis.pending(h)
-    }
-
-    /// Whether STIP of hart `h` is 1: its deadline has come (Privileged 4.1.3, SBI 6).
-    pub fn stip(&self, h: u64) -> bool
-        requires { h < self.now.config.harts }
-        ensures { result ≡ stip self.now [] h }
-    {
-        self.machine.interrupts.timers.pending(h)
-    }
-
-    /// Whether an interrupt is pending at hart `h` that its sie enables (Privileged 3.3.3, WFI).
-    pub fn wake(&self, h: u64) -> bool
-        requires { h < self.now.config.harts }
-        ensures { result ≡ wake self.now [] h }
-    {
-        self.machine.interrupts.wake(h)
-    }
-
-    /// satp of hart `h` (Privileged 4.1.11).
-    pub fn satp(&self, h: u64) -> u64
-        requires { h < self.now.config.harts }
-        ensures { result ≡ satp self.now [] h }
-    {
-        self.machine.memory.satp(h).bits()
-    }
-
-    /// The word of the RAM at a physical address; None where the address isn't aligned to 8, or outside the RAM.
-    pub fn word(&self, at: u64) -> Option<u64>
-        ensures { result ≡ memory self.now [] at }
-    {
-        let ram = &self.machine.memory.ram;
-        if ram.holds(at) {
-            Some(ram.load(at))
-        } else {
-            None
-        }
     }
 
     /// The words of the RAM, from its start on.
@@ -363,116 +235,6 @@ impl Opening {
         ensures clear { IsClear self.now.ram result (length self.now.ram) }
     {
         self.machine.memory.ram.used()
-    }
-
-    /// The live entries of the TLB of hart `h`, in the order of filling.
-    pub fn tlb(&self, h: u64) -> Live<'_, Entry>
-        requires { h < self.now.config.harts }
-        ensures { reverse result ≡ (caches_of self.now [] h).tlb.live }
-    {
-        self.machine.memory.caches[h as usize].tlb.live()
-    }
-
-    /// The live words of the instruction cache of hart `h`, in the order of filling.
-    pub fn fetched(&self, h: u64) -> Live<'_, FetchWord>
-        requires { h < self.now.config.harts }
-        ensures { reverse result ≡ (caches_of self.now [] h).words.live }
-    {
-        self.machine.memory.caches[h as usize].words.live()
-    }
-
-    /// The fences that wait at hart `h`, the one first that it serves first.
-    pub fn waiting(&self, h: u64) -> Waiting<'_, Flush>
-        requires { h < self.now.config.harts }
-        ensures { result ≡ waiting self.now [] h }
-    {
-        self.machine.fences.iter(h)
-    }
-
-    /// How many fences wait at hart `h`: fewer than there are harts.
-    pub fn waiting_len(&self, h: u64) -> u64
-        requires { h < self.now.config.harts }
-        ensures count { result ≡ length (waiting self.now [] h) }
-        ensures limit { result < self.now.config.harts }
-    {
-        self.machine.fences.len(h)
-    }
-
-    /// Whether hart `h` is inside a fence call (SBI 8; that a call waits: profile).
-    pub fn phase(&self, h: u64) -> Phase
-        requires { h < self.now.config.harts }
-        ensures { result ≡ phase self.now [] h }
-    {
-        match self.outstanding(h) {
-            None => Phase::Outside,
-            Some(_) => Phase::Inside,
-        }
-    }
-
-    /// The harts that the fence call of hart `h` waits for; None outside of a fence call.
-    pub fn outstanding(&self, h: u64) -> Option<HartSet>
-        requires { h < self.now.config.harts }
-        ensures { result ≡ outstanding self.now [] h }
-    {
-        self.machine.fences.outstanding(h)
-    }
-
-    /// How many serves by hart `t` the fence call of hart `caller` still needs, until it waits for `t` no more (profile). It
-    /// is 0 outside of a fence call, where the call doesn't wait for `t`, and where there is no such hart; and it is always
-    /// less than the number of harts.
-    pub fn need(&self, caller: u64, t: u64) -> u64
-        ensures need { result ≡ need self.now [] caller t }
-        ensures limit { result < self.now.config.harts }
-        ensures no_caller { self.now.config.harts ≤ caller → result ≡ 0 }
-        ensures no_target { self.now.config.harts ≤ t → result ≡ 0 }
-    {
-        self.machine.fences.need(caller, t)
-    }
-
-    /// The last system reset, if there was one (SBI 10).
-    pub fn last_reset(&self) -> Option<Reset>
-        ensures { result ≡ last_reset self.now [] }
-    {
-        self.machine.last_reset
-    }
-
-    /// Whether the power is off: the last reset is a shutdown (SBI 10.1).
-    pub fn is_off(&self) -> bool
-        ensures { result ≡ is_off self.now [] }
-    {
-        is_shutdown(self.machine.last_reset)
-    }
-
-    /// The deadline of hart `h`, in ticks, if it has one (SBI 6.1).
-    pub fn deadline(&self, h: u64) -> Option<u64>
-        requires { h < self.now.config.harts }
-        ensures { result ≡ deadline self.now [] h }
-    {
-        self.machine.interrupts.timers.deadline(h)
-    }
-
-    /// The time, in ticks since the first opening: at most 2^64-2 (profile).
-    pub fn time(&self) -> u64
-        ensures time { result ≡ time self.now [] }
-        ensures within { result ≤ last_time }
-    {
-        self.machine.interrupts.timers.time()
-    }
-
-    /// The counts of the board's table. For each hart, its accepted starts are its entries followed by its
-    /// pending start.
-    pub fn totals(&self) -> Totals
-        ensures counts { result ≡ totals self.now [] }
-        ensures starts { StartsAreEntered self.now [] }
-    {
-        Totals {
-            starts: self.machine.counts.starts,
-            entries: self.machine.counts.entries,
-            pending: self.machine.hsm.pending_starts(),
-            asked: self.machine.fences.asked(),
-            applied: self.machine.fences.applied(),
-            waiting: self.machine.fences.waiting(),
-        }
     }
 
     /// The number of the next fill of the TLB of hart `h`: how many entries were filled in it.

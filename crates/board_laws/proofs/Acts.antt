@@ -20,7 +20,7 @@ use Rattle.board_core.specs.Fences.{turn_by, turn_of, turns}
 use Rattle.board_core.specs.History.{Event}
 use Rattle.board_core.specs.Memory.{act_by, cached_in, entry_filling, hit_in, memory, own_filling, satp, tlb_acts, word_acts, word_filling}
 use Rattle.board_laws.specs.Fences.{own_fence}
-use Rattle.board_laws.specs.Lives.{Strikes, last_act}
+use Rattle.board_laws.specs.Lives.{ActStrikes, last_act}
 
 module _ {A : Type 0} where
   -- there is one for each event, and they are newest first as the events are
@@ -122,14 +122,14 @@ module _ (o : Opening) (t : ℕ) (event : Event) (older : List Event) where
       (own-actor event.actor t facts.0, facts.1)
 
 -- what strikes the caches of a hart strikes each of them
-effect-strikes : {E : Type 0} (done : Effect Flush) (filling : Option E) (flush : Flush) → turns_laws.Strikes flush done → Strikes flush (act_by done filling)
+effect-strikes : {E : Type 0} (done : Effect Flush) (filling : Option E) (flush : Flush) → turns_laws.Strikes flush done → ActStrikes flush (act_by done filling)
 effect-strikes Nothing filling flush strikes = absurd strikes
 effect-strikes (Drops other) filling flush strikes = strikes
 effect-strikes Empties filling flush strikes = strikes
 
 pub turn-strikes : (o : Opening) (t : ℕ) (event : Event) (older : List Event) (flush : Flush)
     → turns_laws.Strikes flush (effect o.fences (turns o older) (turn_of o older event.actor event.op event.reply) t)
-    → Strikes flush (last_act (tlb_acts o (event ∷ older) t)) × Strikes flush (last_act (word_acts o (event ∷ older) t))
+    → ActStrikes flush (last_act (tlb_acts o (event ∷ older) t)) × ActStrikes flush (last_act (word_acts o (event ∷ older) t))
 turn-strikes o t event older flush strikes =
     let done = effect o.fences (turns o older) (turn_of o older event.actor event.op event.reply) t in (
       effect-strikes done (own_filling (is_hart t event.actor) (entry_filling event.op event.translation (satp o older t) (hit_in o t (tlb_acts o older t)))) flush strikes,

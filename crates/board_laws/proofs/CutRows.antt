@@ -26,7 +26,7 @@ use Rattle.board_core.proofs.Beginning.{opens}
 use Rattle.board_laws.specs.Fences.{Itself, OpenedReached, Reached}
 use Rattle.board_laws.specs.Limits.{with_limit}
 use Rattle.board_laws.specs.Lives.{NoneLives, live_entries}
-use Rattle.board_laws.specs.Places.{IsAt, past_at}
+use Rattle.board_laws.specs.Places.{IsAtPlace, past_at}
 use Rattle.board_laws.specs.Seams.{AreLegal, AreOne, joined, left_by}
 use Rattle.board_laws.proofs.Again.{recorded_is_recomputed}
 use Rattle.board_laws.proofs.FencedRows.{did, first_reset, loaded, mapped, in_space, range_fence, range_regs, success, two, two-good, two-opened, two-opens}
@@ -76,7 +76,7 @@ is-covered = refl
 after-opened : IsOpened after_cut
 after-opened = record { cuts = 1; opens = (two, until_cut, (two-good, refl), cut-legal.2.2, refl) }
 
-no-reset : (m : ℕ) (other : Event) → 6 < m → m < 8 → IsAt after_cut since_cut m other → reset_by other.op other.reply ≡ None
+no-reset : (m : ℕ) (other : Event) → 6 < m → m < 8 → IsAtPlace after_cut since_cut m other → reset_by other.op other.reply ≡ None
 no-reset m other after before at =
     let place : m ≡ 7 = omega arith in
     sym (ap first_reset (at-with after_cut since_cut m other at)) ∙ ap (λ n. first_reset (past_at after_cut since_cut (suc n))) place

@@ -41,13 +41,13 @@ use Rattle.board_core.specs.Memory.{memory, satp}
 use Rattle.board_core.specs.Replies.{IsLegal}
 use Rattle.board_core.specs.Resets.{reset_by}
 use Rattle.board_core.specs.Totals.{totals}
-use Rattle.board_laws.specs.Fences.{Asks, ByCall, Itself, LeavesNothing, Reached, Stops, own_fence}
+use Rattle.board_laws.specs.Fences.{Asks, ByCall, Itself, LeavesNothing, Reached, StopsHart, own_fence}
 use Rattle.board_laws.specs.Fresh.{FencedAccess, FencedFetch, GivenAfter, StoodAfter, is_of_page, is_of_space}
 use Rattle.board_laws.specs.Lives.{LivesFromItsDate, NoneLives, Struck}
-use Rattle.board_laws.specs.Places.{IsAt, past_at}
+use Rattle.board_laws.specs.Places.{IsAtPlace, past_at}
 use Rattle.board_laws.specs.Resets.{IsFresh}
 use Rattle.board_laws.specs.Seams.{IsSeamless}
-use Rattle.board_laws.specs.Steady.{IsDecidedBy, IsSteady}
+use Rattle.board_laws.specs.Steady.{IsDecidedBy, TablesAreSteady}
 use Rattle.board_core.proofs.Beginning.{opens}
 use Rattle.board_laws.proofs.Again.{recorded_is_recomputed}
 use Rattle.board_laws.proofs.AfterResets.{resets_are_fresh}
@@ -174,7 +174,7 @@ address-fresh =
 only-four : (P : ℕ → Type 0) → P 4 → (m : ℕ) → 3 < m → m ≤ 4 → P m
 only-four P four m after upto = let e : m ≡ 4 = omega arith in rw e four
 
-leaf-steady : IsSteady alone (fenced_by of_asid) 0 3 4 reach (Ok leaf)
+leaf-steady : TablesAreSteady alone (fenced_by of_asid) 0 3 4 reach (Ok leaf)
 unfolding maps is_valid_by word_in zero_memory is_in_ram
 leaf-steady = record {
   same_satp = only-four (λ m. satp alone (past_at alone (fenced_by of_asid) m) 0 ≡ satp alone (past_at alone (fenced_by of_asid) 4) 0) refl;
@@ -291,7 +291,7 @@ abbrev pub first_reset : List Event → Option Reset
 first_reset [] = None
 first_reset (event ∷ past) = reset_by event.op event.reply
 
-no-reset : (m : ℕ) (other : Event) → 5 < m → m < 7 → IsAt two (past_at two ranged 8) m other → reset_by other.op other.reply ≡ None
+no-reset : (m : ℕ) (other : Event) → 5 < m → m < 7 → IsAtPlace two (past_at two ranged 8) m other → reset_by other.op other.reply ≡ None
 no-reset m other after before at =
     let place : m ≡ 6 = omega arith in
     sym (ap first_reset (at-with two (past_at two ranged 8) m other at)) ∙ ap (λ n. first_reset (past_at two (past_at two ranged 8) (suc n))) place
@@ -382,7 +382,7 @@ cut-once =
 abbrev stop_regs : Regs
 stop_regs = record { eid = 0x48534d; fid = 1; a = 0 ∷ 0 ∷ 0 ∷ 0 ∷ 0 ∷ 0 ∷ [] }
 
-stops : Stops (did 0 (Ecall stop_regs) Gone) 0
+stops : StopsHart (did 0 (Ecall stop_regs) Gone) 0
 unfolding call_of
 stops = record { by_hart = refl; regs = stop_regs; call = refl; stop = refl; accepted = refl }
 

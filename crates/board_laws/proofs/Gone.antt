@@ -12,11 +12,11 @@ use Rattle.tlb_model.proofs.Living.{cleared_is_gone, covered_is_gone}
 use Rattle.board_core.specs.Opening.{Opening, place_after, tlb_at, words_at}
 use Rattle.board_core.specs.Memory.{tlb_acts, word_acts}
 use Rattle.board_core.specs.History.{Event}
-use Rattle.board_laws.specs.Lives.{NoneLives, Strikes, Struck}
+use Rattle.board_laws.specs.Lives.{NoneLives, ActStrikes, Struck}
 use Rattle.board_laws.proofs.Acts.{OneForEach, one_tlb_act, one_word_act, length-seen, split-at}
 
 module _ {E : Type 0} (first : ℕ) (opening : Contents E) (covers : Flush → E → Bool) where
-  by-act : (place : ℕ) (flush : Flush) (newer : List (Act E)) (act : Act E) (older : List (Act E)) → place ≤ first + length older → Strikes flush act
+  by-act : (place : ℕ) (flush : Flush) (newer : List (Act E)) (act : Act E) (older : List (Act E)) → place ≤ first + length older → ActStrikes flush act
       → All (λ (x : Numbered E). x.date ≤ place → covers flush x.item ≡ false) (live first opening covers (newer ++ act ∷ older))
   by-act place flush newer (Fill item) older since strikes = absurd strikes
   by-act place flush newer (Drop other) older since strikes =
@@ -28,7 +28,7 @@ module _ {E : Type 0} (first : ℕ) (opening : Contents E) (covers : Flush → E
   by-act place flush newer Nothing older since strikes = absurd strikes
 
   by-event : (acts : List Event → List (Act E)) (are : OneForEach acts) (place : ℕ) (flush : Flush) (past newer : List Event) (event : Event) (older : List Event)
-      → past ≡ newer ++ event ∷ older → place ≤ first + length older → Strikes flush (are.of event older)
+      → past ≡ newer ++ event ∷ older → place ≤ first + length older → ActStrikes flush (are.of event older)
       → All (λ (x : Numbered E). x.date ≤ place → covers flush x.item ≡ false) (live first opening covers (acts past))
   by-event acts are place flush past newer event older made since strikes =
       let split = split-at acts are newer event older in

@@ -17,15 +17,15 @@ use Rattle.board_core.specs.Memory.{tlb_acts, word_acts}
 use Rattle.board_core.specs.History.{Event}
 use Rattle.board_terms.specs.Limits.{IsGood}
 use Rattle.board_core.specs.Replies.{IsLegal}
-use Rattle.board_laws.specs.Fences.{AppliedOnce, Asks, LeavesNothing, OpenedOnce, Stops}
-use Rattle.board_laws.specs.Places.{IsAt, past_at}
+use Rattle.board_laws.specs.Fences.{AppliedOnce, Asks, LeavesNothing, OpenedOnce, StopsHart}
+use Rattle.board_laws.specs.Places.{IsAtPlace, past_at}
 use Rattle.board_laws.proofs.AfterResets.{none-lives}
 use Rattle.board_laws.proofs.Acts.{length-seen, one_turn, split-at}
 use Rattle.board_laws.proofs.Places.{length-past_at, one-place, within}
 use Rattle.board_laws.proofs.Reached.{ask-turn}
 use Rattle.board_core.proofs.Right.{turns_are_right}
 
-pub applied_once : (o : Opening) (past : List Event) (t place : ℕ) (event : Event) → IsGood o.config → IsLegal o past → IsAt o past place event → AppliedOnce o past t place event
+pub applied_once : (o : Opening) (past : List Event) (t place : ℕ) (event : Event) → IsGood o.config → IsLegal o past → IsAtPlace o past place event → AppliedOnce o past t place event
 applied_once o past t place event good legal at =
     let inside = within o past place event at in
     let size = length-past_at o past place at.since (omega arith) in
@@ -50,10 +50,10 @@ opened_once o past c t call good legal called = opened-once o.fences o.config.ha
 -- ---- stops
 
 -- a stop empties the caches
-stop-turn : (o : Opening) (past : List Event) (event : Event) (t : ℕ) → Stops event t → turn_of o past event.actor event.op event.reply ≡ Stop t
+stop-turn : (o : Opening) (past : List Event) (event : Event) (t : ℕ) → StopsHart event t → turn_of o past event.actor event.op event.reply ≡ Stop t
 stop-turn o past event t stops = rw (stops.by_hart, stops.call, stops.stop, stops.accepted) refl
 
-pub stops_leave_nothing : (o : Opening) (event : Event) (past : List Event) (t : ℕ) → Stops event t → LeavesNothing o (event ∷ past) t
+pub stops_leave_nothing : (o : Opening) (event : Event) (past : List Event) (t : ℕ) → StopsHart event t → LeavesNothing o (event ∷ past) t
 stops_leave_nothing o event past t stops =
     let turn = stop-turn o past event t stops in
     let here = eq-eqb t t refl in

@@ -35,8 +35,8 @@ use Rattle.board_core.specs.Accesses.{used, used_by_access}
 use Rattle.board_core.specs.Calls.Ipi.{reaches_by_ipi}
 use Rattle.board_core.specs.Course.{harts_of, is_hart}
 use Rattle.board_core.specs.Csrs.{sie, sie_by, sstatus_sie, sstatus_sie_by}
+use Rattle.board_rules.specs.declared.sie.Sie.{Sie}
 use Rattle.board_core.specs.Cuts.{IsHeld, opening_of, words_of}
-use Rattle.board_core.specs.declared.csrs.Sie.{Sie}
 use Rattle.board_terms.specs.declared.op.Actor.{Actor}
 use Rattle.board_terms.specs.declared.op.Actor.TheVariants.{Hart, Clock}
 use Rattle.board_terms.specs.declared.op.Op.{Op}
@@ -58,7 +58,7 @@ use Rattle.board_core.specs.Targets.{is_reached}
 use Rattle.board_core.specs.Writes.{Here, Write, latest}
 use Rattle.board_core.proofs.Cutting.{caches_of-cut, deadlines-cut, hart-cut, hart-past, harts-cut, memory-cut, satps-cut}
 use Rattle.board_core.proofs.InCalls.{taken}
-use Rattle.board_core.proofs.MemoryStanding.{length-tlb_acts, length-word_acts}
+use Rattle.board_core.proofs.Lengths.{length-tlb_acts, length-word_acts}
 use Rattle.board_core.proofs.Rows.{clock_ticks}
 use Rattle.board_core.proofs.Right.{right-turns, stopped-outside}
 

@@ -5,7 +5,7 @@ use Rattle.std.proofs.lemmas.List.{drop-append-le, take-append-drop}
 use Rattle.board_core.specs.Opening.{IsOpening, Opening, place_after}
 use Rattle.board_core.specs.History.{Event, Reach}
 use Rattle.board_core.specs.Replies.{IsLegal}
-use Rattle.board_laws.specs.Places.{Accesses, IsAt, past_at}
+use Rattle.board_laws.specs.Places.{Accesses, IsAtPlace, past_at}
 
 module _ (o : Opening) where
   -- before an event there was what is older
@@ -18,7 +18,7 @@ module _ (o : Opening) where
   past_at-split past newer event older place made placed =
       ap (λ n. past_at o past n) (sym placed) ∙ ap (λ xs. past_at o xs (place_after o older)) made ∙ past_at-before newer event older
 
-  pub at-split : (past newer : List Event) (event : Event) (older : List Event) (place : ℕ) → past ≡ newer ++ event ∷ older → place_after o older ≡ place → IsAt o past place event
+  pub at-split : (past newer : List Event) (event : Event) (older : List Event) (place : ℕ) → past ≡ newer ++ event ∷ older → place_after o older ≡ place → IsAtPlace o past place event
   at-split past newer event older place made placed =
       record { since = omega (arith, placed); newer = newer; made = made ∙ ap (λ xs. newer ++ event ∷ xs) (sym (past_at-split past newer event older place made placed)) }
 
@@ -27,16 +27,16 @@ module _ (o : Opening) where
   length-past_at past place since within = omega (arith, length-drop (place_after o past - place) past)
 
   -- the sizes of what came before an event and since
-  sizes : (past : List Event) (place : ℕ) (event : Event) (at : IsAt o past place event) → length past ≡ length at.newer + suc (length (past_at o past place))
+  sizes : (past : List Event) (place : ℕ) (event : Event) (at : IsAtPlace o past place event) → length past ≡ length at.newer + suc (length (past_at o past place))
   sizes past place event at = ap length at.made ∙ length-append at.newer (event ∷ past_at o past place)
 
-  pub within : (past : List Event) (place : ℕ) (event : Event) → IsAt o past place event → place < place_after o past
+  pub within : (past : List Event) (place : ℕ) (event : Event) → IsAtPlace o past place event → place < place_after o past
   within past place event at =
       let since = at.since in
       omega (arith, sizes past place event at, length-drop (place_after o past - place) past)
 
   -- with its event there was one more
-  pub at-with : (past : List Event) (place : ℕ) (event : Event) → IsAt o past place event → past_at o past (suc place) ≡ event ∷ past_at o past place
+  pub at-with : (past : List Event) (place : ℕ) (event : Event) → IsAtPlace o past place event → past_at o past (suc place) ≡ event ∷ past_at o past place
   at-with past place event at =
       let size = length-past_at past place at.since (let inside = within past place event at in omega arith) in
       let later : place_after o past - suc place ≡ length at.newer + 0 = omega (arith, sizes past place event at) in
@@ -63,7 +63,7 @@ module _ (o : Opening) where
       ∙ ap (λ n. drop n past) (let size = length-past_at o past p (omega arith) inside in omega arith)
 
   -- an event of an earlier place was there at a later one
-  pub at-earlier : (past : List Event) (p m : ℕ) (event : Event) → m < p → p ≤ place_after o past → IsAt o past m event → IsAt o (past_at o past p) m event
+  pub at-earlier : (past : List Event) (p m : ℕ) (event : Event) → m < p → p ≤ place_after o past → IsAtPlace o past m event → IsAtPlace o (past_at o past p) m event
   at-earlier past p m event early inside at =
       let since = at.since in
       let before = length-past_at o past m since (omega arith) in
@@ -75,7 +75,7 @@ module _ (o : Opening) where
             ∙ ap (λ older. drop (place_after o past - p) at.newer ++ event ∷ older) (sym (past_at-again past p m since (omega arith) inside));
       }
 
-  pub at-later : (past : List Event) (p m : ℕ) (event : Event) → o.places ≤ p → p ≤ place_after o past → IsAt o (past_at o past p) m event → IsAt o past m event
+  pub at-later : (past : List Event) (p m : ℕ) (event : Event) → o.places ≤ p → p ≤ place_after o past → IsAtPlace o (past_at o past p) m event → IsAtPlace o past m event
   at-later past p m event from inside at =
       let since = at.since in
       let early : m < place_after o (past_at o past p) = within o (past_at o past p) m event at in
@@ -107,5 +107,5 @@ legal-older o [] older legal = legal
 legal-older o (event ∷ newer) older legal = legal-older o newer older legal.2
 
 -- what was at a place of a legal history, with the event there, was legal
-pub legal-with : (o : Opening) (past : List Event) (place : ℕ) (event : Event) → IsLegal o past → IsAt o past place event → IsLegal o (event ∷ past_at o past place)
+pub legal-with : (o : Opening) (past : List Event) (place : ℕ) (event : Event) → IsLegal o past → IsAtPlace o past place event → IsLegal o (event ∷ past_at o past place)
 legal-with o past place event legal at = legal-older o at.newer (event ∷ past_at o past place) (subst (IsLegal o) at.made legal)

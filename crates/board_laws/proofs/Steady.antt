@@ -29,7 +29,7 @@ use Rattle.board_core.specs.Replies.{IsLegal}
 use Rattle.board_laws.specs.Fresh.{FencedAccess}
 use Rattle.board_laws.specs.Limits.{with_limit}
 use Rattle.board_laws.specs.Places.{past_at}
-use Rattle.board_laws.specs.Steady.{IsDecidedBy, IsSteady, no_tlb}
+use Rattle.board_laws.specs.Steady.{IsDecidedBy, TablesAreSteady, no_tlb}
 use Rattle.board_laws.proofs.Fresh.{after-fence, translations_are_fresh}
 use Rattle.board_laws.proofs.Leaves.{page-bounds}
 use Rattle.sv39.proofs.PageLaw.{leaf_page}
@@ -97,7 +97,7 @@ failed (Store value) cause = refl
 failed Fetch cause = refl
 
 pub steady_tables_decide : (o : Opening) (past : List Event) (limit t a p : ℕ) (fence : Fence) (reach : Reach) (result : Result Leaf Cause)
-    → IsOpened (with_limit limit o) → IsLegal o past → (x : FencedAccess o past t a p fence reach) → IsTranslated (satp o (past_at o past p) t) reach.va → IsSteady o past t a p reach result
+    → IsOpened (with_limit limit o) → IsLegal o past → (x : FencedAccess o past t a p fence reach) → IsTranslated (satp o (past_at o past p) t) reach.va → TablesAreSteady o past t a p reach result
     → IsDecidedBy o (past_at o past p) t x.event reach result
 steady_tables_decide o past limit t a p fence reach result opened legal x is_translated steady =
     let older = past_at o past p in

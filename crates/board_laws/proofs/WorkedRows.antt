@@ -27,10 +27,10 @@ use Rattle.board_core.specs.Memory.{memory, satp}
 use Rattle.board_core.specs.Totals.{totals}
 use Rattle.board_laws.specs.Fresh.{FencedAccess}
 use Rattle.board_core.specs.Resets.{reset_by}
-use Rattle.board_laws.specs.Places.{IsAt, past_at}
-use Rattle.board_laws.specs.Steady.{IsSteady}
+use Rattle.board_laws.specs.Places.{IsAtPlace, past_at}
+use Rattle.board_laws.specs.Steady.{TablesAreSteady}
 use Rattle.board_core.specs.History.{Event, Reach}
-use Rattle.board_laws.specs.Again.{Step, again}
+use Rattle.board_laws.specs.Again.{ActorStep, again}
 use Rattle.board_laws.specs.Fences.{ByCall, Reached}
 use Rattle.board_laws.specs.Lives.{live_entries, live_words}
 
@@ -92,14 +92,14 @@ refilled = refl
 abbrev pair : Opening
 pair = opening_at (record { harts = 2; pages = 16; limit = 1000; boot_hart = 0; boot_addr = 0x80000000; boot_opaque = 0; asid_len = 16; width = 39 })
 
-abbrev did : ℕ → Op → Step
+abbrev did : ℕ → Op → ActorStep
 did h op = record { actor = Hart h; op = op }
 
 abbrev call : (eid fid a b c d : ℕ) → Op
 call eid fid a b c d = Ecall (record { eid = eid; fid = fid; a = a ∷ b ∷ c ∷ d ∷ 0 ∷ 0 ∷ [] })
 
 -- Hart 1 translates by the same gigapage, whose entry hart 0 takes away; and hart 0 asks a fence of hart 1.
-abbrev asked : List Step
+abbrev asked : List ActorStep
 asked =
     did 0 (call 0x52464e43 1 2 0 0 0)
     ∷ did 0 (Store 0x80001010 0)
@@ -120,7 +120,7 @@ unfolding maps is_valid_by word_in zero_memory is_in_ram call_of targets_of name
 stale-before_serve = refl
 
 -- A cold reboot by hart 1 drops the call: what hart 0 then polls is refused, and makes no event.
-abbrev rebooted : List Step
+abbrev rebooted : List ActorStep
 rebooted = did 1 (call 0x53525354 0 1 0 0 0) ∷ asked
 
 reboot-accepted : first_reply (again pair rebooted) ≡ Gone ∷ []
@@ -132,7 +132,7 @@ unfolding maps is_valid_by word_in zero_memory is_in_ram call_of targets_of name
 reboot-drops_call = refl
 
 -- Once the call was a success, it is fresh.
-abbrev served : List Step
+abbrev served : List ActorStep
 served = did 0 Poll ∷ did 1 Serve ∷ asked
 
 fresh-after_poll : first_reply (again pair (did 1 (Load 0x80002000) ∷ served)) ≡ Fault LoadPageFault ∷ []
@@ -204,7 +204,7 @@ only-served (first ∷ []) other e = sym (ap second_op e)
 only-served (first ∷ second ∷ newer) other e =
     absurd (too-long (length written) (length (newer ++ other ∷ ask ∷ before_ask)) (length newer) (ap length e) refl (length-append newer (other ∷ ask ∷ before_ask)))
 
-no-reset : (m : ℕ) (other : Event) → 7 < m → m < 9 → IsAt pair written m other → reset_by other.op other.reply ≡ None
+no-reset : (m : ℕ) (other : Event) → 7 < m → m < 9 → IsAtPlace pair written m other → reset_by other.op other.reply ≡ None
 no-reset m other after before at =
     let place : m ≡ 8 = omega arith in
     let served : other.op ≡ Serve = only-served at.newer other (at.made ∙ ap (λ n. at.newer ++ other ∷ past_at pair written n) place) in
@@ -255,7 +255,7 @@ after-seven P eight nine ten m after upto = elim (cases_eq m 8) [
   ]
 ]
 
-is-steady : IsSteady pair (load ∷ written) 1 7 10 reach (Err LoadPageFault)
+is-steady : TablesAreSteady pair (load ∷ written) 1 7 10 reach (Err LoadPageFault)
 unfolding maps is_valid_by word_in zero_memory is_in_ram call_of
 is-steady = record {
   same_satp = after-seven (λ m. satp pair (past_at pair (load ∷ written) m) 1 ≡ satp pair (past_at pair (load ∷ written) 10) 1) refl refl refl;

@@ -7,16 +7,16 @@ use Rattle.board_core.specs.History.{Event}
 use Rattle.board_core.specs.Replies.{stepped}
 
 -- a step, as an actor asks for it
-pub record Step : Type 0 where
+pub record ActorStep : Type 0 where
   pub actor : Actor
   pub op : Op
 
 -- who did what in the past, without what was answered and used
-abbrev pub steps_of : List Event → List Step
-steps_of = map (λ event. record { actor = event.actor; op = event.op })
+abbrev pub actor_steps : List Event → List ActorStep
+actor_steps = map (λ event. record { actor = event.actor; op = event.op })
 
 -- The past that the steps make, newest first: each is answered, and uses an entry, by what the steps before it made, and
 -- one that is refused makes no event.
-abbrev pub again : Opening → List Step → List Event
+abbrev pub again : Opening → List ActorStep → List Event
 again o [] = []
 again o (step ∷ steps) = (stepped (record { opening = o; past = again o steps }) step.actor step.op).past

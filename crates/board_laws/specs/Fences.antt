@@ -25,7 +25,7 @@ use Rattle.board_terms.specs.Limits.{spaces_of}
 use Rattle.board_core.specs.Resets.{reset_by}
 use Rattle.board_core.specs.States.{state}
 use Rattle.board_laws.specs.Lives.{live_entries, live_words}
-use Rattle.board_laws.specs.Places.{IsAt, past_at}
+use Rattle.board_laws.specs.Places.{IsAtPlace, past_at}
 
 -- What a guest's local fence drops: an SFENCE.VMA translations, and a FENCE.I fetched words (Privileged 4.2.1; Zifencei).
 abbrev pub own_fence : Config → Op → Option Flush
@@ -36,7 +36,7 @@ own_fence c op = None
 -- Hart t fenced itself at this place.
 pub record FencesItself (o : Opening) (past : List Event) (t place : ℕ) (flush : Flush) : Type 0 where
   pub event : Event
-  pub happened : IsAt o past place event
+  pub happened : IsAtPlace o past place event
   pub by_hart : event.actor ≡ Hart t
   pub fences : own_fence o.config event.op ≡ Some flush
 
@@ -44,7 +44,7 @@ pub record FencesItself (o : Opening) (past : List Event) (t place : ℕ) (flush
 -- interruptible state (SBI 8).
 pub record Asks (o : Opening) (past : List Event) (x t place : ℕ) (flush : Flush) : Type 0 where
   pub event : Event
-  pub happened : IsAt o past place event
+  pub happened : IsAtPlace o past place event
   pub by_hart : event.actor ≡ Hart x
   pub regs : Regs
   pub call : event.op ≡ Ecall regs
@@ -60,10 +60,10 @@ pub record Succeeded (o : Opening) (past : List Event) (x place : ℕ) : Type 0 
   pub end : ℕ
   pub later : place < end
   pub event : Event
-  pub happened : IsAt o past end event
+  pub happened : IsAtPlace o past end event
   pub by_hart : event.actor ≡ Hart x
   pub poll : event.op ≡ Poll
-  pub kept : (m : ℕ) (other : Event) → place < m → m < end → IsAt o past m other → reset_by other.op other.reply ≡ None
+  pub kept : (m : ℕ) (other : Event) → place < m → m < end → IsAtPlace o past m other → reset_by other.op other.reply ≡ None
 
 -- A fence that was asked at a place of the past has reached hart t: it is the hart's own, or it was asked of the hart by
 -- a call that was a success.
@@ -93,7 +93,7 @@ OpenedOnce o past c t call =
     ≡ (if has call.asked t then 1 else 0)
 
 -- Hart t stops by this event (SBI 9.2).
-pub record Stops (event : Event) (t : ℕ) : Type 0 where
+pub record StopsHart (event : Event) (t : ℕ) : Type 0 where
   pub by_hart : event.actor ≡ Hart t
   pub regs : Regs
   pub call : event.op ≡ Ecall regs

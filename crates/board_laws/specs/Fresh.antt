@@ -18,7 +18,7 @@ use Rattle.board_terms.specs.declared.reply.Reply.TheVariants.{Value}
 use Rattle.board_core.specs.History.{Event, Reach, access_of}
 use Rattle.board_core.specs.Memory.{memory, satp}
 use Rattle.board_laws.specs.Fences.{Reached}
-use Rattle.board_laws.specs.Places.{Accesses, IsAt, past_at}
+use Rattle.board_laws.specs.Places.{Accesses, IsAtPlace, past_at}
 
 -- The fence is of the address: the address's page of 4 KiB has an address of the fence's range (Privileged 4.2.1; SBI 8).
 abbrev pub is_of_page : Option Range → (va : ℕ) → Bool
@@ -37,7 +37,7 @@ is_of_space (Some asid) satp leaf = not leaf.global && (asid_of satp == asid)
 -- fence is of the translation that the access used, if it used one.
 pub record FencedAccess (o : Opening) (past : List Event) (t a p : ℕ) (fence : Fence) (reach : Reach) : Type 0 where
   pub event : Event
-  pub happened : IsAt o past p event
+  pub happened : IsAtPlace o past p event
   pub by_hart : event.actor ≡ Hart t
   pub access : access_of event.op ≡ Some reach
   pub reached : Reached o (past_at o past p) t a (Entries fence)
@@ -61,7 +61,7 @@ pub record GivenAfter (o : Opening) (past : List Event) (t a p va : ℕ) (leaf :
 -- Hart t fetches a value from this address at place p, after a FENCE.I of place a had reached the hart.
 pub record FencedFetch (o : Opening) (past : List Event) (t a p va value : ℕ) : Type 0 where
   pub event : Event
-  pub happened : IsAt o past p event
+  pub happened : IsAtPlace o past p event
   pub by_hart : event.actor ≡ Hart t
   pub fetch : event.op ≡ Fetch va
   pub answer : event.reply ≡ Value value

@@ -10,8 +10,9 @@ use Rattle.board_core.specs.Starts.{StartsAreEntered}
 use Rattle.board_laws.specs.Fences.{AppliedOnce, OpenedOnce, OpenedReached, Reached}
 use Rattle.board_laws.specs.Lives.{NoneLives}
 use Rattle.board_core.specs.Serves.{AreFew, CanEnd, GoesOn, HaveServed, ServeIsAccepted}
-use Rattle.board_laws.specs.Places.{IsAt}
+use Rattle.board_laws.specs.Places.{IsAtPlace}
 
+-- What holds of every board's history, whatever steps were made.
 pub record Headline (o : Opening) (past : List Event) : Type 0 where
   -- The kept history is what the written rules answer, each event by those before it. (Each look-up of a board is its
   -- definition on that history: this says its clause.)
@@ -20,7 +21,7 @@ pub record Headline (o : Opening) (past : List Event) : Type 0 where
   -- address and opaque value (SBI 9).
   pub starts_are_entered : StartsAreEntered o past
   -- Each fence that is asked of a hart was applied there once or waits there once, and no other (SBI 8).
-  pub applied_once : (t place : ℕ) (event : Event) → IsAt o past place event → AppliedOnce o past t place event
+  pub applied_once : (t place : ℕ) (event : Event) → IsAtPlace o past place event → AppliedOnce o past t place event
   -- So it is with the fence of a call that was open at the opening: it was applied before that, since, or waits (SBI 8).
   pub opened_once : (h t : ℕ) (call : FenceCall Flush) → OpenedOnce o past h t call
   -- No hart that a successful fence asked has anything in its caches that the fence covers and that was filled before

@@ -53,11 +53,11 @@ last_act [] = Nothing
 last_act (act ∷ acts) = act
 
 -- nothing that the fence covers outlives the act
-abbrev pub Strikes : {E : Type 0} → Flush → Act E → Type 0
-Strikes flush (Fill item) = ⊥
-Strikes flush (Drop other) = other ≡ flush
-Strikes flush Clear = Unit {0}
-Strikes flush Nothing = ⊥
+abbrev pub ActStrikes : {E : Type 0} → Flush → Act E → Type 0
+ActStrikes flush (Fill item) = ⊥
+ActStrikes flush (Drop other) = other ≡ flush
+ActStrikes flush Clear = Unit {0}
+ActStrikes flush Nothing = ⊥
 
 -- At an event of this place or a later one the fence was applied to the caches of hart t, or they were emptied.
 pub record Struck (o : Opening) (past : List Event) (t place : ℕ) (flush : Flush) : Type 0 where
@@ -66,8 +66,8 @@ pub record Struck (o : Opening) (past : List Event) (t place : ℕ) (flush : Flu
   pub older : List Event
   pub made : past ≡ newer ++ event ∷ older
   pub since : place ≤ place_after o older
-  pub entries : Strikes flush (last_act (tlb_acts o (event ∷ older) t))
-  pub words : Strikes flush (last_act (word_acts o (event ∷ older) t))
+  pub entries : ActStrikes flush (last_act (tlb_acts o (event ∷ older) t))
+  pub words : ActStrikes flush (last_act (word_acts o (event ∷ older) t))
 
 -- Nothing lives in the caches of hart t that the fence covers and that was filled at this place or before.
 pub record NoneLives (o : Opening) (past : List Event) (t place : ℕ) (flush : Flush) : Type 0 where

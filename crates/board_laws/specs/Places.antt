@@ -9,7 +9,7 @@ abbrev pub past_at : Opening → List Event → (place : ℕ) → List Event
 past_at o past place = drop (place_after o past - place) past
 
 -- The event of this place: it came after the opening and the history that there was, and others may have come since.
-pub record IsAt (o : Opening) (past : List Event) (place : ℕ) (event : Event) : Type 0 where
+pub record IsAtPlace (o : Opening) (past : List Event) (place : ℕ) (event : Event) : Type 0 where
   pub since : o.places ≤ place
   pub newer : List Event
   pub made : past ≡ newer ++ event ∷ past_at o past place
@@ -17,6 +17,6 @@ pub record IsAt (o : Opening) (past : List Event) (place : ℕ) (event : Event) 
 -- The event of this place is an access by hart t.
 pub record Accesses (o : Opening) (past : List Event) (place t : ℕ) (reach : Reach) : Type 0 where
   pub event : Event
-  pub happened : IsAt o past place event
+  pub happened : IsAtPlace o past place event
   pub by_hart : event.actor ≡ Hart t
   pub access : access_of event.op ≡ Some reach

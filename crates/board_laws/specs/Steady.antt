@@ -16,7 +16,7 @@ use Rattle.board_core.specs.Memory.{memory, satp}
 use Rattle.board_laws.specs.Places.{past_at}
 
 -- At all places after a up to p hart t's satp is the one of p, and with it the page tables give this access one result.
-pub record IsSteady (o : Opening) (past : List Event) (t a p : ℕ) (reach : Reach)
+pub record TablesAreSteady (o : Opening) (past : List Event) (t a p : ℕ) (reach : Reach)
     (result : Result Leaf Cause) : Type 0 where
   pub same_satp : (m : ℕ) → a < m → m ≤ p → satp o (past_at o past m) t ≡ satp o (past_at o past p) t
   pub one_result : (m : ℕ) → a < m → m ≤ p

@@ -14,7 +14,7 @@ ghost use Rattle.board_core.specs.Replies.{IsLegal};
 ghost use Rattle.board_laws.specs.Fresh.{FencedAccess, FencedFetch, GivenAfter, StoodAfter};
 ghost use Rattle.board_laws.specs.Limits.{with_limit};
 ghost use Rattle.board_laws.specs.Places.{past_at};
-ghost use Rattle.board_laws.specs.Steady.{IsDecidedBy, IsSteady};
+ghost use Rattle.board_laws.specs.Steady.{IsDecidedBy, TablesAreSteady};
 
 /// A translation that an access uses after a fence of it is one that the page tables gave after the fence was asked, and
 /// not later than the access: on what a board opens with, also where its history was cut, and whatever its limit is, so also of
@@ -46,6 +46,6 @@ pub fn steady_tables_decide()
         → IsLegal o past
         → (x : FencedAccess o past t a p fence reach)
         → IsTranslated (satp o (past_at o past p) t) reach.va
-        → IsSteady o past t a p reach result
+        → TablesAreSteady o past t a p reach result
         → IsDecidedBy o (past_at o past p) t x.event reach result }
 {}

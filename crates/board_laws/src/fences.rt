@@ -10,8 +10,8 @@ ghost use Rattle.board_core.specs.History.{Event};
 ghost use Rattle.board_terms.specs.Limits.{IsGood};
 ghost use Rattle.board_core.specs.Replies.{IsLegal};
 ghost use Rattle.board_core.specs.Totals.{totals};
-ghost use Rattle.board_laws.specs.Fences.{AppliedOnce, Asks, CallsAreMadeStarted, LeavesNothing, OpenedOnce, Stops};
-ghost use Rattle.board_laws.specs.Places.{IsAt};
+ghost use Rattle.board_laws.specs.Fences.{AppliedOnce, Asks, CallsAreMadeStarted, LeavesNothing, OpenedOnce, StopsHart};
+ghost use Rattle.board_laws.specs.Places.{IsAtPlace};
 
 /// In every legal history of a good board a hart asks for fences outside of a call, and of harts that are there; it
 /// serves where a fence waits; and it polls inside a call that waits for no hart (SBI 8; profile).
@@ -28,7 +28,7 @@ pub fn applied_once()
     ensures { (o : Opening) (past : List Event) (t place : ℕ) (event : Event)
         → IsGood o.config
         → IsLegal o past
-        → IsAt o past place event
+        → IsAtPlace o past place event
         → AppliedOnce o past t place event }
 {}
 
@@ -71,7 +71,7 @@ pub fn applied_is_counted()
 /// After a hart's stop nothing lives in its caches, and no fence waits there (profile).
 pub fn stops_leave_nothing()
     ensures { (o : Opening) (event : Event) (past : List Event) (t : ℕ)
-        → Stops event t
+        → StopsHart event t
         → LeavesNothing o (event ∷ past) t }
 {}
 

@@ -6,8 +6,8 @@ use Rattle.std.proofs.lemmas.Bool.{cases_Bool}
 use Rattle.std.proofs.lemmas.List.{get_or-set_same, get_or-set_other, length-append, length-reverse, length-set, reverse-reverse}
 use Rattle.std.proofs.lemmas.Grind.{get_or_default_zero}
 use mathlib.Core.List.{IsPrefix, reverse-cons}
-use Rattle.chronicle.specs.declared.tokens.Chronicle.{Chronicle}
-use Rattle.chronicle.specs.declared.tokens.Glimpse.{Glimpse}
+use Rattle.ghost_log.specs.declared.tokens.Log.{Log}
+use Rattle.ghost_log.specs.declared.tokens.Prefix.{Prefix}
 use Rattle.board_terms.specs.declared.config.Config.{Config}
 use Rattle.board_terms.specs.declared.op.Actor.{Actor}
 use Rattle.board_terms.specs.declared.op.Op.{Op}
@@ -18,8 +18,8 @@ use Rattle.board_core.specs.History.{Event}
 use Rattle.board_core.specs.Opening.{Opening}
 use Rattle.board_core.specs.Replies.{answer, recorded, stepped}
 use Rattle.board_lock.specs.Events.{IsActor, events_in, events_of, is_same}
-use Rattle.board_lock.specs.Inside.Kept.{IsDesk, IsSeated, IsTold, Tally, count_of, counter, number_of, tally}
-use Rattle.board_lock.specs.Receipts.{told}
+use Rattle.board_lock.specs.Inside.Kept.{IsDesk, IsSeated, IsReceiptOf, Tally, count_of, counter, number_of, tally}
+use Rattle.board_lock.specs.Receipts.{accepted_call}
 use Rattle.board_lock.specs.Seats.{Sitting}
 use Rattle.board_lock.specs.Views.{IsDone, board_after}
 use Rattle.board_lock.specs.declared.rests.Rests.{Rests}
@@ -40,7 +40,7 @@ count-same a es e other = count_of-append a es (e ∷ []) ∙ rw other (omega ar
 pub differs : (a : Actor) (es : List Event) (count value : ℕ) → value ≡ count_of a es → value ≢ count → length (events_of a es) ≢ count
 differs a es count value is other = λ e. other (is ∙ sym (length-events 0 a es) ∙ e)
 
-module _ {opening : Opening} {room : ℕ} {b : Course} {rests : Rests} {t : Tally} {log : Chronicle Event} (d : IsDesk opening room b rests t log) where
+module _ {opening : Opening} {room : ℕ} {b : Course} {rests : Rests} {t : Tally} {log : Log Event} (d : IsDesk opening room b rests t log) where
   -- a count that is read
   pub read : (a : Actor) (n v : ℕ) → IsActor opening.config a → n ≡ number_of opening.config a → v ≡ get_or t.counts n v
       → (v ≡ slice_index_or t.counts n 0) × (v ≡ count_of a log.list)
@@ -117,8 +117,8 @@ module _ (s : Step) where
       there : board_after opening list ≡ s.old
       there = ap (λ (o : Opening). record { opening = o; past = reverse list }) (sym opened) ∙ ap (λ (es : List Event). record { opening = s.old.opening; past = es }) past
 
-  module _ {opening : Opening} {room : ℕ} {rests : Rests} {t : Tally} {log : Chronicle Event} (d : IsDesk opening room s.old rests t log) (acting : IsActor opening.config s.actor) where
-    pub desk-more : (n v total : ℕ) (log' : Chronicle Event) → n ≡ number_of opening.config s.actor → v ≡ slice_index_or t.counts n 0 → total ≡ t.total + 1
+  module _ {opening : Opening} {room : ℕ} {rests : Rests} {t : Tally} {log : Log Event} (d : IsDesk opening room s.old rests t log) (acting : IsActor opening.config s.actor) where
+    pub desk-more : (n v total : ℕ) (log' : Log Event) → n ≡ number_of opening.config s.actor → v ≡ slice_index_or t.counts n 0 → total ≡ t.total + 1
         → log'.name ≡ log.name → log'.list ≡ log.list ++ event s ∷ [] → IsDesk opening room s.new rests (tally (set t.counts n (v + 1)) total t.parts t.amount) log'
     desk-more n v total log' number value sum named grown =
         record {
@@ -154,8 +154,8 @@ module _ (s : Step) where
         ]
 
   -- a seat that counts all of its actor's events so far counts one more
-  pub seat-more : {config : Config} {room count parts amount : ℕ} {seen last : Glimpse Event} → IsSeated config room (counter s.actor count parts amount) seen last
-      → (log : Chronicle Event) (parts' amount' : ℕ) (seen' last' : Glimpse Event) → log.name ≡ room → count ≡ count_of s.actor log.list → parts' ≡ parts → amount' ≡ amount + 1
+  pub seat-more : {config : Config} {room count parts amount : ℕ} {seen last : Prefix Event} → IsSeated config room (counter s.actor count parts amount) seen last
+      → (log : Log Event) (parts' amount' : ℕ) (seen' last' : Prefix Event) → log.name ≡ room → count ≡ count_of s.actor log.list → parts' ≡ parts → amount' ≡ amount + 1
       → seen'.name ≡ log.name → seen'.list ≡ log.list ++ event s ∷ [] → last'.name ≡ log.name → last'.list ≡ log.list ++ event s ∷ []
       → IsSeated config room (counter s.actor (count + 1) parts' amount') seen' last'
   seat-more seat log parts' amount' seen' last' listed counted part more named saw last-named lasts =
@@ -169,7 +169,7 @@ module _ (s : Step) where
         later = ([], append-nil seen'.list ∙ saw ∙ sym lasts);
       }
 
-  pub is-told : (first room : ℕ) (log : Chronicle Event) (seen : Glimpse Event) (count place : ℕ) → log.name ≡ room → count ≡ count_of s.actor log.list → first + length log.list ≡ place
-      → seen.name ≡ log.name → seen.list ≡ log.list ++ event s ∷ [] → IsTold first room (told s.actor count place s.op s.reply) seen
-  is-told first room log seen count place listed counted placed named saw =
+  pub is-receipt : (first room : ℕ) (log : Log Event) (seen : Prefix Event) (count place : ℕ) → log.name ≡ room → count ≡ count_of s.actor log.list → first + length log.list ≡ place
+      → seen.name ≡ log.name → seen.list ≡ log.list ++ event s ∷ [] → IsReceiptOf first room (accepted_call s.actor count place s.op s.reply) seen
+  is-receipt first room log seen count place listed counted placed named saw =
       record { before = log.list; event = event s; named = named ∙ listed; last = saw; by = refl; asked = refl; answered = refl; placed = placed; counted = sym counted }

@@ -9,7 +9,7 @@ use Rattle.std.proofs.lemmas.List.{get_or-replicate, length-replicate}
 use Rattle.std.proofs.lemmas.Slice.Eq.{slice_eq-Decides}
 use Rattle.hart_mask.specs.Ids.{IsIdSet, has, ids_below, ids_where}
 use Rattle.hart_mask.proofs.Sets.{IsIdSet-ids_where, has-ids_where, ids_where-none, passes-ids_where, same_sets}
-use Rattle.chronicle.specs.declared.tokens.Chronicle.{Chronicle}
+use Rattle.ghost_log.specs.declared.tokens.Log.{Log}
 use Rattle.board_terms.specs.declared.config.Config.{Config}
 use Rattle.board_terms.specs.declared.op.Actor.{Actor}
 use Rattle.board_terms.specs.declared.op.Actor.TheVariants.{Hart, Clock}
@@ -64,7 +64,7 @@ pub none-wakes : (d : Held) (op : Op) → d.rests.harts ≡ [] → d.rests.clock
 none-wakes d op none off =
     let who : List ℕ = concerned d.board.opening.config.harts op in
     ap (λ (ids : List ℕ). record { harts = ids; clock = false })
-    (none-of d.rests.harts (λ h. has d.rests.events h || (has d.rests.turns h && (has who h && comes_to d h))) none)
+    (none-of d.rests.harts (λ h. has d.rests.events h || (has d.rests.firmware h && (has who h && comes_to d h))) none)
     ∙ ap (λ (b : Bool). record { harts = (woken d op).harts; clock = b && d.rests.clock_events }) (sym off)
 
 still-off : (a : Bool) → a ≡ false → a ≡ (a && true)
@@ -74,9 +74,9 @@ still-off true off = absurd (let e = off in cc)
 pub still-none : (d : Held) → d.rests.harts ≡ [] → d.rests.clock ≡ false → d ≡ held d.board (awake d.rests none_woken) d.ended
 still-none d none off =
     let r : Rests = d.rests in
-    ap (λ (ids : List ℕ). held d.board (record { harts = ids; events = r.events; turns = r.turns; wakes = r.wakes; clock = r.clock; clock_events = r.clock_events }) d.ended)
+    ap (λ (ids : List ℕ). held d.board (record { harts = ids; events = r.events; firmware = r.firmware; wakes = r.wakes; clock = r.clock; clock_events = r.clock_events }) d.ended)
     (none ∙ none-of r.harts (λ i. true) none)
-    ∙ ap (λ (b : Bool). held d.board (record { harts = less r.harts []; events = r.events; turns = r.turns; wakes = r.wakes; clock = b; clock_events = r.clock_events }) d.ended)
+    ∙ ap (λ (b : Bool). held d.board (record { harts = less r.harts []; events = r.events; firmware = r.firmware; wakes = r.wakes; clock = b; clock_events = r.clock_events }) d.ended)
     (still-off r.clock off)
 
 -- the harts below a number are all those of the board that rest, or some doesn't
@@ -102,7 +102,7 @@ all-harts harts r b small is eq =
     (λ yes h low. ap (λ (ids : List ℕ). has ids h) (decides.0 yes) ∙ has-below harts h small low, λ each. decides.1 (all-below harts r is each))
 
 -- what the lock holds, where others rest
-pub desk-rests : {opening : Opening} {room : ℕ} {b : Course} {old new : Rests} {t : Tally} {log : Chronicle Event}
+pub desk-rests : {opening : Opening} {room : ℕ} {b : Course} {old new : Rests} {t : Tally} {log : Log Event}
     → IsDesk opening room b old t log → IsRests opening.config.harts new → IsDesk opening room b new t log
 desk-rests d is =
     record {
@@ -120,7 +120,7 @@ desk-rests d is =
     }
 
 -- what the lock of a new board holds
-pub new-desk : (opening : Opening) (room : ℕ) (b : Course) (rests : Rests) (t : Tally) (log : Chronicle Event) → IsGood opening.config → b ≡ record { opening = opening; past = [] }
+pub new-desk : (opening : Opening) (room : ℕ) (b : Course) (rests : Rests) (t : Tally) (log : Log Event) → IsGood opening.config → b ≡ record { opening = opening; past = [] }
     → rests ≡ none_rest → t.counts ≡ replicate (opening.config.harts + 1) 0 → t.total ≡ 0 → t.parts ≡ 0 → t.amount ≡ 0 → log.name ≡ room → log.list ≡ [] → IsDesk opening room b rests t log
 new-desk opening room b rests t log good is rested zeros none no-parts no-amount named empty =
     record {

@@ -109,24 +109,24 @@ shape true e true c p = refl
 shape true e false c p = refl
 shape false e t c p = refl
 
-pub waking : (harts events turns concerned : List ℕ) (p : ℕ → Bool)
-    → union_of (intersection_of harts events) (ids_where (λ h. has (intersection_of (intersection_of harts turns) concerned) h && p h))
-    ≡ ids_where (λ h. has harts h && (has events h || (has turns h && (has concerned h && p h))))
-waking harts events turns concerned p = ids_where-agree _ _ (λ i low.
-    ap (λ b. b || has (ids_where (λ h. has (intersection_of (intersection_of harts turns) concerned) h && p h)) i) (has-ids_where (λ h. has harts h && has events h) i low)
+pub waking : (harts events firmware concerned : List ℕ) (p : ℕ → Bool)
+    → union_of (intersection_of harts events) (ids_where (λ h. has (intersection_of (intersection_of harts firmware) concerned) h && p h))
+    ≡ ids_where (λ h. has harts h && (has events h || (has firmware h && (has concerned h && p h))))
+waking harts events firmware concerned p = ids_where-agree _ _ (λ i low.
+    ap (λ b. b || has (ids_where (λ h. has (intersection_of (intersection_of harts firmware) concerned) h && p h)) i) (has-ids_where (λ h. has harts h && has events h) i low)
     ∙ ap (λ b. (has harts i && has events i) || b)
-    (has-ids_where (λ h. has (intersection_of (intersection_of harts turns) concerned) h && p h) i low
+    (has-ids_where (λ h. has (intersection_of (intersection_of harts firmware) concerned) h && p h) i low
     ∙ ap (λ b. b && p i)
-    (has-ids_where (λ h. has (intersection_of harts turns) h && has concerned h) i low
-    ∙ ap (λ b. b && has concerned i) (has-ids_where (λ h. has harts h && has turns h) i low)))
-    ∙ shape (has harts i) (has events i) (has turns i) (has concerned i) (p i))
+    (has-ids_where (λ h. has (intersection_of harts firmware) h && has concerned h) i low
+    ∙ ap (λ b. b && has concerned i) (has-ids_where (λ h. has harts h && has firmware h) i low)))
+    ∙ shape (has harts i) (has events i) (has firmware i) (has concerned i) (p i))
 
 -- those of an intersection with a set are in it
-pub of-both : (harts turns concerned : List ℕ) (h : ℕ) → has (intersection_of (intersection_of harts turns) concerned) h ≡ true → has harts h ≡ true
-of-both harts turns concerned h there =
-    let both = (passes-ids_where (λ i. has (intersection_of harts turns) i && has concerned i) h there).1 in
-    let first = and-left (has (intersection_of harts turns) h) _ both in
-    and-left (has harts h) _ (passes-ids_where (λ i. has harts i && has turns i) h first).1
+pub of-both : (harts firmware concerned : List ℕ) (h : ℕ) → has (intersection_of (intersection_of harts firmware) concerned) h ≡ true → has harts h ≡ true
+of-both harts firmware concerned h there =
+    let both = (passes-ids_where (λ i. has (intersection_of harts firmware) i && has concerned i) h there).1 in
+    let first = and-left (has (intersection_of harts firmware) h) _ both in
+    and-left (has harts h) _ (passes-ids_where (λ i. has harts i && has firmware i) h first).1
 
 -- ---- a loop that takes the first of a set
 

@@ -1,28 +1,53 @@
--- What a seat that rests waits for, and when that has come (profile).
-use Rattle.std.specs.Prelude.{ℕ, ◌==◌, Bool, true, false, ◌&&◌, ◌||◌, nat_lt, List, length, Option, Some, None}
+-- What the firmware of a hart does next; what a seat that rests waits for, and when that has come (profile).
+use Rattle.std.specs.Prelude.{◌≡◌, ℕ, Bool, true, false, ◌&&◌, ◌||◌, nat_lt, List, [], ◌∷◌, length, Option, Some, None, is_some}
+use Rattle.std.specs.Option.{is_none}
 use Rattle.hsm.specs.States.{goes_on, is_interruptible, is_started}
-use Rattle.hsm.specs.declared.hart.HartState.{HartState}
+use Rattle.board_terms.specs.declared.op.Op.{Op}
+use Rattle.board_terms.specs.declared.op.Op.TheVariants.{Poll, Serve, Advance}
+use Rattle.board_core.specs.Refusals.{Situation, first_that_holds}
 use Rattle.board_lock.specs.declared.rests.Awaits.{Awaits}
 use Rattle.board_lock.specs.declared.rests.Awaits.TheVariants.{Firmware, Wake, End}
 use Rattle.board_lock.specs.declared.views.HartNow.{HartNow}
 
--- whether a hart's call can be ended, or its state goes on outside of one
-abbrev pub ends_or_goes_on : (call : Option (List ℕ)) → (wake : Bool) → HartState → Bool
-ends_or_goes_on (Some harts) wake s = length harts == 0
-ends_or_goes_on None wake s = goes_on wake s
+-- whether a hart is inside a fence call that waits for no hart
+abbrev pub waits_for_none : Option (List ℕ) → Bool
+waits_for_none (Some []) = true
+waits_for_none (Some (h ∷ harts)) = false
+waits_for_none None = false
 
--- Whether the firmware of a hart has something to do: a fence to serve, a call to end, or a state that goes on.
+-- The rows of what a hart's firmware does, in their order: where a fence waits and the state is interruptible, it serves; inside
+-- a fence call it polls if that waits for no hart, else it does nothing; and where the state goes on, it advances.
+abbrev pub firmware_choices : HartNow → List (Bool × Option Op)
+firmware_choices now =
+    (nat_lt 0 now.waiting && is_interruptible now.state, Some Serve)
+    ∷ (waits_for_none now.outstanding, Some Poll)
+    ∷ (is_some now.outstanding, None)
+    ∷ (goes_on now.wake now.state, Some Advance)
+    ∷ []
+
+-- what a row that holds has it do; nothing where none holds
+abbrev pub chosen : Option (Option Op) → Option Op
+chosen None = None
+chosen (Some op) = op
+
+-- What a hart's firmware does next: the first row that holds.
+abbrev pub firmware_choice : HartNow → Option Op
+firmware_choice now = chosen (first_that_holds (firmware_choices now))
+
+-- This is the situation of the hart that is seen.
+pub record Sees (s : Situation) (now : HartNow) : Type 0 where
+  pub state : now.state ≡ s.state
+  pub wake : now.wake ≡ s.wake
+  pub call : now.outstanding ≡ s.call
+  pub fences : now.waiting ≡ length s.fences
+
+-- Whether the firmware of a hart has something to do.
 abbrev pub has_turn : HartNow → Bool
-has_turn now = (nat_lt 0 now.waiting && is_interruptible now.state) || ends_or_goes_on now.outstanding now.wake
-    now.state
-
-abbrev pub is_outside : Option (List ℕ) → Bool
-is_outside (Some harts) = false
-is_outside None = true
+has_turn now = is_some (firmware_choice now)
 
 -- Whether a hart's guest goes on from a WFI: it runs, and has wake.
 abbrev pub has_wake : HartNow → Bool
-has_wake now = is_outside now.outstanding && (is_started now.state && now.wake)
+has_wake now = is_none now.outstanding && (is_started now.state && now.wake)
 
 -- Whether what a hart's seat waits for has come.
 abbrev pub has_come : Awaits → HartNow → Bool

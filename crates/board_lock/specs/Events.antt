@@ -37,8 +37,8 @@ abbrev pub placed_of : Course → Actor → List (ℕ × Event)
 placed_of b a = events_from b.opening.places a (events_in b)
 
 -- The event stands at this place among all events of the board: the history goes on from the opening's.
-abbrev pub IsPlaced : Course → (place : ℕ) → Event → Type 0
-IsPlaced b place e = (index : ℕ) × (place ≡ b.opening.places + index) × (slice_get (events_in b) index ≡ Some e)
+abbrev pub StandsAt : Course → (place : ℕ) → Event → Type 0
+StandsAt b place e = (index : ℕ) × (place ≡ b.opening.places + index) × (slice_get (events_in b) index ≡ Some e)
 
 -- The operations of an actor's events, in order.
 abbrev pub ops_of : Actor → List Event → List Op

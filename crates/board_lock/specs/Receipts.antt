@@ -1,16 +1,16 @@
--- Receipts: what an accepted call is told.
+-- Receipts: what holds of an accepted call.
 use Rattle.std.specs.Prelude.{ℕ}
 use Rattle.board_terms.specs.declared.op.Actor.{Actor}
 use Rattle.board_terms.specs.declared.op.Op.{Op}
 use Rattle.board_terms.specs.declared.reply.Reply.{Reply}
 
 -- Who made the call, how many of its seat's calls were accepted before, how many of all, what it asked and what was answered.
-pub record Told : Type 0 where
+pub record AcceptedCall : Type 0 where
   pub actor : Actor
   pub ordinal : ℕ
   pub place : ℕ
   pub op : Op
   pub reply : Reply
 
-abbrev pub told : Actor → (ordinal place : ℕ) → Op → Reply → Told
-told actor ordinal place op reply = record { actor = actor; ordinal = ordinal; place = place; op = op; reply = reply }
+abbrev pub accepted_call : Actor → (ordinal place : ℕ) → Op → Reply → AcceptedCall
+accepted_call actor ordinal place op reply = record { actor = actor; ordinal = ordinal; place = place; op = op; reply = reply }

@@ -3,8 +3,8 @@ ghost use Rattle.std.specs.Prelude.{◌≡◌, ◌+◌, ◌<◌, ◌∷◌, ◌+
 ghost use mathlib.Core.List.{IsPrefix};
 ghost use Rattle.board_core.specs.Replies.{answer, stepped};
 ghost use Rattle.board_lock.specs.Events.{IsActor, events_in};
-ghost use Rattle.board_lock.specs.Inside.Kept.{IsTold, number_of};
-ghost use Rattle.board_lock.specs.Receipts.{told};
+ghost use Rattle.board_lock.specs.Inside.Kept.{IsReceiptOf, number_of};
+ghost use Rattle.board_lock.specs.Receipts.{accepted_call};
 ghost use Rattle.board_lock.specs.Inside.Rests.{IsPause, IsPauseFor, IsStay, held};
 ghost use Rattle.board_lock.specs.Seats.{seeing};
 ghost use Rattle.board_lock.specs.Views.{IsDone, IsRefused, IsView, Shows};
@@ -16,7 +16,7 @@ use crate::seats::Seat;
 use crate::views::{HartNow, HartView};
 use crate::waking::has_come;
 use board_core::{Actor, Board, Event, Op, Refusal};
-use chronicle::Chronicle;
+use ghost_log::Log;
 use std::marker::Model;
 use std::sync::ledger::{Book, Share};
 
@@ -29,7 +29,7 @@ pub(crate) struct Desk<K: Room> {
     pub(crate) ended: bool,
     pub(crate) book: Book<K>,
     pub(crate) left: Share<K>,
-    pub(crate) log: Chronicle<Event>,
+    pub(crate) log: Log<Event>,
 }
 
 impl<K: Room> Model for Desk<K> {
@@ -58,8 +58,8 @@ pub(crate) enum Pause {
 impl<K: Room> Desk<K> {
     /// One step of the seat's actor, and what a receipt for it needs of the lock.
     pub(crate) fn call(&mut self, seat: &mut Seat<K>, op: &Op) -> Result<Answered, Refusal>
-        ensures told { IfOk result (λ r. IsTold K.opening.places K.log
-            (told seat.old.actor seat.old.count r.place op.now r.reply) r.seen) }
+        ensures receipt { IfOk result (λ r. IsReceiptOf K.opening.places K.log
+            (accepted_call seat.old.actor seat.old.count r.place op.now r.reply) r.seen) }
         ensures reply { IfOk result
             (λ r. answer self.old.board.opening self.old.board.past seat.old.actor op.now ≡ Ok r.reply) }
         ensures after { OnOk result
@@ -86,12 +86,12 @@ impl<K: Room> Desk<K> {
         self.counts[number] += 1;
         self.book.add(&mut seat.share, 1);
         seat.count += 1;
-        seat.seen = self.log.glimpse();
-        seat.saw = self.log.glimpse();
+        seat.seen = self.log.prefix();
+        seat.saw = self.log.prefix();
         Ok(Answered {
             place,
             reply,
-            seen: self.log.glimpse(),
+            seen: self.log.prefix(),
         })
     }
 
@@ -101,8 +101,8 @@ impl<K: Room> Desk<K> {
         seat: &mut Seat<K>,
         op: &Op,
     ) -> Result<(Answered, HartView), Refusal>
-        ensures told { IfOk result (λ r. IsTold K.opening.places K.log
-            (told seat.old.actor seat.old.count r.0.place op.now r.0.reply) r.0.seen) }
+        ensures receipt { IfOk result (λ r. IsReceiptOf K.opening.places K.log
+            (accepted_call seat.old.actor seat.old.count r.0.place op.now r.0.reply) r.0.seen) }
         ensures view { IfOk result (λ r. IsView K.opening seat.new r.1) }
         ensures actor { seat.new.actor ≡ seat.old.actor }
         ensures accepted { OnOk result (seat.new.count ≡ seat.old.count + 1) }
@@ -126,7 +126,7 @@ impl<K: Room> Desk<K> {
     {
         self.log.begins_with(&seat.seen);
         self.log.begins_with(&seat.saw);
-        seat.saw = self.log.glimpse();
+        seat.saw = self.log.prefix();
     }
 
     /// What the seat's hart may do next, and how far the board is.

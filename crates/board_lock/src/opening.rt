@@ -10,7 +10,7 @@ use crate::rests::Rests;
 use crate::rooms::{NewRoom, Room};
 use crate::seats::Seat;
 use board_core::{Actor, Board, BuildFault, Event};
-use chronicle::Chronicle;
+use ghost_log::Log;
 use std::alloc::{AllocError, Global};
 use std::sync::ledger::Share;
 
@@ -64,7 +64,7 @@ fn seats<K: Room>(
     alloc: Global,
     harts: u64,
     left: &mut Share<K>,
-    log: &mut Chronicle<Event>,
+    log: &mut Log<Event>,
 ) -> Result<Vec<Seat<K>>, AllocError>
     requires harts { (harts ≡ K.opening.config.harts) × (harts ≤ 128) }
     requires parts { (left.old.parts ≡ harts + 1) × (left.old.amount ≡ 0) }
@@ -82,7 +82,7 @@ fn seats<K: Room>(
 }
 
 /// The seat of an actor that made no call.
-fn seat<K: Room>(actor: Actor, left: &mut Share<K>, log: &mut Chronicle<Event>) -> Seat<K>
+fn seat<K: Room>(actor: Actor, left: &mut Share<K>, log: &mut Log<Event>) -> Seat<K>
     requires acting { IsActor K.opening.config actor }
     requires part { (0 < left.old.parts) × (left.old.amount ≡ 0) }
     requires log { (log.old.name ≡ K.log) × (log.old.list ≡ []) }
@@ -94,7 +94,7 @@ fn seat<K: Room>(actor: Actor, left: &mut Share<K>, log: &mut Chronicle<Event>) 
         actor,
         count: 0,
         share: left.split_off(1, 0),
-        seen: log.glimpse(),
-        saw: log.glimpse(),
+        seen: log.prefix(),
+        saw: log.prefix(),
     }
 }

@@ -3,13 +3,13 @@ ghost use Rattle.std.specs.Prelude.{◌≡◌, ℕ, ◌+◌, ◌≤◌, Some, sl
 ghost use Rattle.board_terms.specs.Limits.{IsGood};
 ghost use Rattle.board_core.specs.Cuts.{IsOpened};
 ghost use Rattle.board_core.specs.Replies.{IsLegal};
-ghost use Rattle.board_lock.specs.Events.{IsPlaced, events_in, placed_of};
+ghost use Rattle.board_lock.specs.Events.{StandsAt, events_in, placed_of};
 
 use crate::receipts::Receipt;
 use crate::records::find;
 use crate::rooms::Room;
 use board_core::{Event, Opening, Segment};
-use chronicle::Whole;
+use ghost_log::ClosedLog;
 use std::marker::{Model, PhantomData};
 
 /// What a record left when its board went on: what the board began with, and its history from there, in which every receipt of
@@ -17,7 +17,7 @@ use std::marker::{Model, PhantomData};
 #[derive(Drop)]
 pub struct Past<K: Room> {
     pub(crate) segment: Segment,
-    pub(crate) log: Whole<Event>,
+    pub(crate) log: ClosedLog<Event>,
     pub(crate) room: PhantomData<K>,
 }
 
@@ -56,9 +56,9 @@ impl<K: Room> Past<K> {
     /// The event of a receipt: it was made by the receipt's actor, asked what the receipt says and was answered so, it
     /// stands at the receipt's place, and it is the member of the receipt's ordinal of its actor's events.
     pub fn look(&self, receipt: &Receipt<K>) -> &Event
-        ensures told { (result.now.actor ≡ receipt.now.actor) × (result.now.op ≡ receipt.now.op)
+        ensures call { (result.now.actor ≡ receipt.now.actor) × (result.now.op ≡ receipt.now.op)
             × (result.now.reply ≡ receipt.now.reply) }
-        ensures place { IsPlaced self.now receipt.now.place result.now }
+        ensures place { StandsAt self.now receipt.now.place result.now }
         ensures member { slice_get (placed_of self.now receipt.now.actor) receipt.now.ordinal
             ≡ Some (receipt.now.place, result.now) }
     {

@@ -1,11 +1,11 @@
-//! What an accepted call is told.
+//! What an accepted call is given.
 ghost use Rattle.std.specs.Prelude.{◌≡◌};
-ghost use Rattle.board_lock.specs.Inside.Kept.{IsTold};
-ghost use Rattle.board_lock.specs.Receipts.{told};
+ghost use Rattle.board_lock.specs.Inside.Kept.{IsReceiptOf};
+ghost use Rattle.board_lock.specs.Receipts.{accepted_call};
 
 use crate::rooms::Room;
 use board_core::{Actor, Event, Op, Reply};
-use chronicle::Glimpse;
+use ghost_log::Prefix;
 use std::marker::{Model, PhantomData};
 
 /// What the lock alone can tell of an accepted call: the rest of its receipt the caller has, and adds when the lock is free.
@@ -16,14 +16,14 @@ pub(crate) struct Answered {
     /// What was answered.
     pub(crate) reply: Reply,
     /// The events up to its own.
-    pub(crate) seen: Glimpse<Event>,
+    pub(crate) seen: Prefix<Event>,
 }
 
 impl Answered {
     /// The receipt of the call that was answered so: who made it, how many of its seat's calls came before, and what it asked.
     pub(crate) fn receipt<K: Room>(self, actor: Actor, ordinal: u64, op: Op) -> Receipt<K>
-        requires told { IsTold K.opening.places K.log (told actor ordinal self.place op self.reply) self.seen }
-        ensures receipt { result ≡ told actor ordinal self.place op self.reply }
+        requires call { IsReceiptOf K.opening.places K.log (accepted_call actor ordinal self.place op self.reply) self.seen }
+        ensures receipt { result ≡ accepted_call actor ordinal self.place op self.reply }
     {
         let Answered { place, reply, seen } = self;
         Receipt {
@@ -38,7 +38,7 @@ impl Answered {
     }
 }
 
-/// What an accepted call is told. It stays true of the record.
+/// What an accepted call is given. It stays true of the record.
 #[derive(Drop)]
 pub struct Receipt<K: Room> {
     pub(crate) actor: Actor,
@@ -46,19 +46,19 @@ pub struct Receipt<K: Room> {
     pub(crate) place: u64,
     pub(crate) op: Op,
     pub(crate) reply: Reply,
-    pub(crate) seen: Glimpse<Event>,
+    pub(crate) seen: Prefix<Event>,
     pub(crate) room: PhantomData<K>,
 }
 
 impl<K: Room> Model for Receipt<K> {
-    ghost use Rattle.board_lock.specs.Inside.Kept.{IsTold};
-    ghost use Rattle.board_lock.specs.Receipts.{Told, told};
+    ghost use Rattle.board_lock.specs.Inside.Kept.{IsReceiptOf};
+    ghost use Rattle.board_lock.specs.Receipts.{AcceptedCall, accepted_call};
 
-    ghost Value = { Told };
+    ghost Value = { AcceptedCall };
 
-    ghost view = { λ r. told r.actor r.ordinal r.place r.op r.reply };
+    ghost view = { λ r. accepted_call r.actor r.ordinal r.place r.op r.reply };
 
-    ghost invariant = { λ r. IsTold K.opening.places K.log (told r.actor r.ordinal r.place r.op r.reply) r.seen };
+    ghost invariant = { λ r. IsReceiptOf K.opening.places K.log (accepted_call r.actor r.ordinal r.place r.op r.reply) r.seen };
 }
 
 impl<K: Room> Receipt<K> {

@@ -6,7 +6,7 @@ ghost use Rattle.board_core.specs.History.{Event};
 ghost use Rattle.board_terms.specs.Limits.{IsGood};
 ghost use Rattle.board_core.specs.Opening.{place_after};
 ghost use Rattle.board_core.specs.Replies.{IsLegal};
-ghost use Rattle.board_lock.specs.Events.{IsPlaced, events_from, events_in, placed_of};
+ghost use Rattle.board_lock.specs.Events.{StandsAt, events_from, events_in, placed_of};
 ghost use Rattle.board_lock.specs.Inside.Kept.{IsKeptLog};
 ghost use Rattle.board_lock.specs.Splits.{split_fault};
 
@@ -14,7 +14,7 @@ use crate::past::Past;
 use crate::receipts::Receipt;
 use crate::rooms::Room;
 use board_core::{Board, BuildFault, Event};
-use chronicle::Whole;
+use ghost_log::ClosedLog;
 use std::alloc::Global;
 use std::marker::{Model, PhantomData};
 
@@ -22,7 +22,7 @@ use std::marker::{Model, PhantomData};
 #[derive(Drop)]
 pub struct Record<K: Room> {
     pub(crate) board: Board,
-    pub(crate) log: Whole<Event>,
+    pub(crate) log: ClosedLog<Event>,
     pub(crate) room: PhantomData<K>,
 }
 
@@ -67,9 +67,9 @@ impl<K: Room> Record<K> {
     /// The event of a receipt: it was made by the receipt's actor, asked what the receipt says and was answered so, it
     /// stands at the receipt's place, and it is the member of the receipt's ordinal of its actor's events.
     pub fn look(&self, receipt: &Receipt<K>) -> &Event
-        ensures told { (result.now.actor ≡ receipt.now.actor) × (result.now.op ≡ receipt.now.op)
+        ensures call { (result.now.actor ≡ receipt.now.actor) × (result.now.op ≡ receipt.now.op)
             × (result.now.reply ≡ receipt.now.reply) }
-        ensures place { IsPlaced self.now receipt.now.place result.now }
+        ensures place { StandsAt self.now receipt.now.place result.now }
         ensures member { slice_get (placed_of self.now receipt.now.actor) receipt.now.ordinal
             ≡ Some (receipt.now.place, result.now) }
     {
@@ -107,12 +107,12 @@ impl<K: Room> Record<K> {
 pub(crate) fn find<'a, K: Room>(
     events: &'a [Event],
     first: u64,
-    log: &Whole<Event>,
+    log: &ClosedLog<Event>,
     receipt: &Receipt<K>,
 ) -> &'a Event
     requires first { first ≡ K.opening.places }
     requires log { IsKeptLog K.log log.now events.now }
-    ensures told { (result.now.actor ≡ receipt.now.actor) × (result.now.op ≡ receipt.now.op)
+    ensures call { (result.now.actor ≡ receipt.now.actor) × (result.now.op ≡ receipt.now.op)
         × (result.now.reply ≡ receipt.now.reply) }
     ensures place { (index : ℕ) × (receipt.now.place ≡ first + index) × (slice_get events.now index ≡ Some result.now) }
     ensures member { slice_get (events_from first receipt.now.actor events.now) receipt.now.ordinal

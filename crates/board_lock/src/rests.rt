@@ -2,7 +2,7 @@
 ghost use Rattle.std.specs.Prelude.{◌≡◌, ◌↔◌, ℕ, ◌<◌, ◌≤◌, [], IsTrue, false};
 ghost use Rattle.board_terms.specs.declared.op.Actor.TheVariants.{Hart};
 ghost use Rattle.hart_mask.specs.Ids.{IsIdSet};
-ghost use Rattle.board_lock.specs.Inside.Rests.{AllRest, IsRests, awake, for_turn, for_wake, is_any, less, none_rest, resting};
+ghost use Rattle.board_lock.specs.Inside.Rests.{AllRest, IsRests, awake, for_firmware, for_wake, is_any, less, none_rest, resting};
 
 use board_core::{Actor, HartSet};
 
@@ -43,9 +43,9 @@ impl Until {
         matches!(self, Until::Event)
     }
 
-    /// Whether its hart's turn ends it.
-    fn is_turn(self) -> bool
-        ensures { result ≡ for_turn self }
+    /// Whether work for its hart's firmware ends it.
+    fn is_firmware(self) -> bool
+        ensures { result ≡ for_firmware self }
     {
         matches!(self, Until::For(Awaits::Firmware | Awaits::Wake))
     }
@@ -65,8 +65,8 @@ pub(crate) struct Rests {
     pub(crate) harts: HartSet,
     /// Of these, those whose rest any event ends.
     pub(crate) events: HartSet,
-    /// And those whose rest their hart's turn ends.
-    pub(crate) turns: HartSet,
+    /// And those whose rest work for their hart's firmware ends.
+    pub(crate) firmware: HartSet,
     /// And of these, those whose rest wake ends, too.
     pub(crate) wakes: HartSet,
     /// Whether the clock's seat rests.
@@ -92,7 +92,7 @@ impl Rests {
         Rests {
             harts: HartSet::new(),
             events: HartSet::new(),
-            turns: HartSet::new(),
+            firmware: HartSet::new(),
             wakes: HartSet::new(),
             clock: false,
             clock_events: false,
@@ -108,7 +108,7 @@ impl Rests {
             Actor::Hart(h) => {
                 self.harts.insert(h);
                 self.events.set(h, until.is_any());
-                self.turns.set(h, until.is_turn());
+                self.firmware.set(h, until.is_firmware());
                 self.wakes.set(h, until.is_wake());
             }
             Actor::Clock => {

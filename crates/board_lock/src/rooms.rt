@@ -2,7 +2,7 @@
 ghost use Rattle.std.specs.Prelude.{◌≡◌};
 
 use board_core::{Config, Event};
-use chronicle::Chronicle;
+use ghost_log::Log;
 use std::marker::{Brand, Model};
 use std::sync::ledger::{Blank, Ledger};
 
@@ -44,7 +44,7 @@ impl Room for Brand {
 pub struct NewRoom {
     pub(crate) config: Config,
     pub(crate) ledger: Blank,
-    pub(crate) log: Chronicle<Event>,
+    pub(crate) log: Log<Event>,
 }
 
 impl Model for NewRoom {
@@ -72,7 +72,7 @@ impl NewRoom {
         NewRoom {
             config: *config,
             ledger: Blank::new(config.harts.saturating_add(1)),
-            log: Chronicle::new(),
+            log: Log::new(),
         }
     }
 }

@@ -4,7 +4,7 @@ ghost use Rattle.board_lock.specs.Events.{IsActor};
 
 use crate::rooms::Room;
 use board_core::{Actor, Event};
-use chronicle::Glimpse;
+use ghost_log::Prefix;
 use std::marker::Model;
 use std::sync::ledger::Share;
 
@@ -15,9 +15,9 @@ pub struct Seat<K: Room> {
     pub(crate) count: u64,
     pub(crate) share: Share<K>,
     /// The events after its last accepted call.
-    pub(crate) seen: Glimpse<Event>,
+    pub(crate) seen: Prefix<Event>,
     /// The events when it looked last.
-    pub(crate) saw: Glimpse<Event>,
+    pub(crate) saw: Prefix<Event>,
 }
 
 impl<K: Room> Model for Seat<K> {

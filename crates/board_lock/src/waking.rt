@@ -26,9 +26,9 @@ impl<K: Room> Desk<K> {
             return Woken::none();
         }
         let rests = self.rests;
-        let turns = rests.harts.intersection(rests.turns);
+        let firmware = rests.harts.intersection(rests.firmware);
         let concerned = concerned(op, self.board.config().harts);
-        let come = self.come_to(turns.intersection(concerned));
+        let come = self.come_to(firmware.intersection(concerned));
         let woken = Woken {
             harts: rests.harts.intersection(rests.events).union(come),
             clock: rests.clock && rests.clock_events,
@@ -52,7 +52,7 @@ impl<K: Room> Desk<K> {
         come
     }
 
-    /// Whether what hart `h`'s seat waits for has come, where it waits for a turn.
+    /// Whether what hart `h`'s seat waits for has come, where it waits for its firmware's work.
     fn comes_to(&self, h: u64) -> bool
         requires { h < K.opening.config.harts }
         ensures { result ≡ comes_to self.now h }
@@ -89,17 +89,11 @@ pub(crate) fn has_come(awaits: Awaits, now: &HartNow) -> bool
     }
 }
 
-/// Whether the firmware of a hart has something to do: a fence to serve, a call to end, or a state that goes on.
+/// Whether the firmware of a hart has something to do.
 fn has_turn(now: &HartNow) -> bool
     ensures { result ≡ has_turn now.now }
 {
-    if now.waiting > 0 && now.state.is_interruptible() {
-        return true;
-    }
-    match now.outstanding {
-        Some(harts) => harts.is_empty(),
-        None => now.state.goes_on(now.wake),
-    }
+    now.firmware_choice().is_some()
 }
 
 /// Whether a hart's guest goes on from a WFI.

@@ -19,6 +19,8 @@ build_fault_number BadConfig = 1
 build_fault_number NoMemory = 2
 build_fault_number CutFull = 3
 
+-- The numbers of a board: 1 to 128 harts, 1 to 256 pages, a history of 1 to 1,000,000 events, a boot hart that is there, a
+-- boot address where a hart may begin, an ASIDLEN of 0 to 16, and the width of a paging mode.
 pub record IsGood (c : Config) : Type 0 where
   pub some_harts : 1 ≤ c.harts
   pub at_most_128_harts : c.harts ≤ 128
@@ -50,5 +52,6 @@ usual_asid_len = USUAL_ASID_LEN
 abbrev pub usual_width : ℕ
 usual_width = USUAL_WIDTH
 
+-- Whether a board line may leave the address spaces out: 16 bits of an ASID, and Sv39 alone.
 abbrev pub has_usual_spaces : Config → Bool
 has_usual_spaces c = (c.asid_len == usual_asid_len) && (c.width == usual_width)

@@ -3,6 +3,7 @@ use Rattle.std.specs.Prelude.{ℕ, Bool, if◌then◌else◌, List, [], ◌∷�
 use Rattle.board_terms.specs.declared.reply.Refusal.{Refusal}
 use Rattle.board_terms.specs.declared.reply.Refusal.TheVariants.{Off, WrongPhase, Nothing, HistoryFull, TimeFull}
 
+-- The number of each refusal.
 abbrev pub refusal_number : Refusal → ℕ
 refusal_number Off = 1
 refusal_number WrongPhase = 2

@@ -1,5 +1,5 @@
 -- What stands behind the first words.
-use Rattle.std.proofs.Common.{◌≡◌, ℕ, zero, suc, ◌-◌, ◌<◌, ◌≤◌, List, [], ◌∷◌, refl, sym, ap, ◌∙◌, length, map, arith}
+use Rattle.std.proofs.Common.{◌≡◌, ℕ, zero, suc, ◌-◌, ◌≤◌, List, ◌∷◌, sym, ap, ◌∙◌, length, map, arith}
 use Rattle.std.proofs.lemmas.List.{length-map}
 use Rattle.std.proofs.lemmas.Option.{slice_get_past}
 use Rattle.std.specs.Prelude.{None, slice_get}
@@ -12,21 +12,14 @@ behind x xs (suc n) some =
     let same : n ≡ suc n - 1 = omega arith in
     ap (λ (k : ℕ). slice_get xs k) same
 
-pub behind-three : (x y z : Item) (xs : List Item) (place : ℕ) → 3 ≤ place → slice_get (x ∷ y ∷ z ∷ xs) place ≡ slice_get xs (place - 3)
-behind-three x y z xs zero some = absurd (omega arith)
-behind-three x y z xs (suc zero) some = absurd (omega arith)
-behind-three x y z xs (suc (suc zero)) some = absurd (omega arith)
-behind-three x y z xs (suc (suc (suc n))) some =
-    let same : n ≡ suc (suc (suc n)) - 3 = omega arith in
+behind-two : (x y : Item) (xs : List Item) (place : ℕ) → 2 ≤ place → slice_get (x ∷ y ∷ xs) place ≡ slice_get xs (place - 2)
+behind-two x y xs zero some = absurd (omega arith)
+behind-two x y xs (suc zero) some = absurd (omega arith)
+behind-two x y xs (suc (suc n)) some =
+    let same : n ≡ suc (suc n) - 2 = omega arith in
     ap (λ (k : ℕ). slice_get xs k) same
 
-pub of-three : (x y z : Item) (xs : List Item) (place : ℕ) → place < 3 → slice_get (x ∷ y ∷ z ∷ []) place ≡ slice_get (x ∷ y ∷ z ∷ xs) place
-of-three x y z xs zero few = refl
-of-three x y z xs (suc zero) few = refl
-of-three x y z xs (suc (suc zero)) few = refl
-of-three x y z xs (suc (suc (suc n))) few = absurd (omega arith)
-
-pub none-behind-three : (x y z : Item) (ns : List ℕ) (place : ℕ) → 3 ≤ place → length ns ≤ place - 3 → None ≡ slice_get (x ∷ y ∷ z ∷ map Number ns) place
-none-behind-three x y z ns place behind short =
-    let past : length (map Number ns) ≤ place - 3 = rw length-map short in
-    sym (behind-three x y z (map Number ns) place behind ∙ slice_get_past (map Number ns) (place - 3) past)
+pub none-behind-two : (x y : Item) (ns : List ℕ) (place : ℕ) → 2 ≤ place → length ns ≤ place - 2 → None ≡ slice_get (x ∷ y ∷ map Number ns) place
+none-behind-two x y ns place behind short =
+    let past : length (map Number ns) ≤ place - 2 = rw length-map short in
+    sym (behind-two x y (map Number ns) place behind ∙ slice_get_past (map Number ns) (place - 2) past)

@@ -1,3 +1,5 @@
+pub mod Endings
 pub mod Items
 pub mod Patterns
+pub mod Reading
 pub mod Rules

@@ -20,6 +20,7 @@ Fits pattern items = (k : ℕ) (wanted : Option Item) → slice_get pattern k �
 abbrev pub FitsStep : Pattern → Event → Type 0
 FitsStep p e = Fits p.step.items (step_items e)
 
+-- What a step gave fits a pattern.
 abbrev pub FitsReply : Pattern → Event → Type 0
 FitsReply p e = Fits p.reply.items (reply_items e)
 

@@ -1,13 +1,13 @@
 //! The words of a pattern, one after the other.
 ghost use Rattle.std.specs.Prelude.{◌≡◌, ◌∷◌, [], slice_get};
-ghost use Rattle.conditions.specs.Items.{actor_item, number_or_dash, op_items, reply_items, said_items, signed_item, step_items};
-ghost use Rattle.board_terms.specs.declared.op.Op.TheVariants.{Ecall, Sfence};
+ghost use Rattle.conditions.specs.Items.{actor_item, number_or_dash, op_arguments, op_items, reply_items, said_arguments, said_items, signed_item, step_items};
+ghost use Rattle.board_terms.specs.declared.op.Op.TheVariants.{Ecall};
 ghost use Rattle.conditions.specs.declared.items.Item.TheVariants as words;
 
 use crate::names::Name;
 use board_core::{Actor, Event, Op};
-use guest_script::Said;
 use sbi_abi::Regs;
+use script_lines::{OpName, Said, SaidName};
 
 /// A word of a step.
 #[derive(Clone, Copy, Debug, PartialEq, Eq)]
@@ -42,65 +42,43 @@ pub(crate) fn step_item(event: &Event, place: usize) -> Option<Item>
     op_item(&event.op(), place - 1)
 }
 
-/// The word in a place of an operation.
+/// The word in a place of an operation, of which the first is its name.
 fn op_item(op: &Op, place: usize) -> Option<Item>
     ensures { result ≡ slice_get (op_items op.now) place }
 {
+    if place == 0 {
+        return Some(Item::Word(Name::Op(OpName::of_op(op))));
+    }
+    op_argument(op, place - 1)
+}
+
+/// The number in a place of an operation.
+fn op_argument(op: &Op, place: usize) -> Option<Item>
+    ensures { result ≡ slice_get (op_arguments op.now) place }
+{
     match op {
-        Op::Ecall(regs) => call_item(regs, place),
-        Op::Load(va) => one(Name::Load, *va, place),
-        Op::Store(va, value) => item_of(
-            &[
-                Item::Word(Name::Store),
-                Item::Number(*va),
-                Item::Number(*value),
-            ],
-            place,
-        ),
-        Op::Fetch(va) => one(Name::Fetch, *va, place),
-        Op::WriteSatp(value) => one(Name::Satp, *value, place),
-        Op::WriteSie(value) => one(Name::Sie, *value, place),
-        Op::WriteSstatusSie(value) => one(Name::Sstatus, u64::from(*value), place),
-        Op::ReadSip => alone(Name::Sip, place),
-        Op::ClearSsip => alone(Name::Clearssip, place),
-        Op::Wfi => alone(Name::Wfi, place),
-        Op::Sfence(va, asid) => fence_item(*va, *asid, place),
-        Op::FenceI => alone(Name::Fencei, place),
-        Op::Poll => alone(Name::Poll, place),
-        Op::Serve => alone(Name::Serve, place),
-        Op::Advance => alone(Name::Advance, place),
-        Op::Tick(n) => one(Name::Tick, *n, place),
+        Op::Ecall(regs) => call_argument(regs, place),
+        Op::Store(va, value) => item_of(&[Item::Number(*va), Item::Number(*value)], place),
+        Op::Sfence(va, asid) => item_of(&[number_or_dash(*va), number_or_dash(*asid)], place),
+        Op::Load(n) | Op::Fetch(n) => one(*n, place),
+        Op::WriteSatp(n) | Op::WriteSie(n) | Op::Tick(n) => one(*n, place),
+        Op::WriteSstatusSie(value) => one(u64::from(*value), place),
+        Op::ReadSip | Op::ClearSsip | Op::Wfi | Op::FenceI => None,
+        Op::Poll | Op::Serve | Op::Advance => None,
     }
 }
 
-/// The word in a place of a call.
-fn call_item(regs: &Regs, place: usize) -> Option<Item>
-    ensures { result ≡ slice_get (op_items (Ecall regs.now)) place }
+/// The number in a place of a call.
+fn call_argument(regs: &Regs, place: usize) -> Option<Item>
+    ensures { result ≡ slice_get (op_arguments (Ecall regs.now)) place }
 {
-    if place >= 3 {
-        return match regs.a.get(place - 3) {
+    if place >= 2 {
+        return match regs.a.get(place - 2) {
             Some(a) => Some(Item::Number(*a)),
             None => None,
         };
     }
-    let items = [
-        Item::Word(Name::Ecall),
-        Item::Number(regs.eid),
-        Item::Number(regs.fid),
-    ];
-    item_of(&items, place)
-}
-
-/// The word in a place of a local fence.
-fn fence_item(va: Option<u64>, asid: Option<u64>, place: usize) -> Option<Item>
-    ensures { result ≡ slice_get (op_items (Sfence va asid)) place }
-{
-    let items = [
-        Item::Word(Name::Sfence),
-        number_or_dash(va),
-        number_or_dash(asid),
-    ];
-    item_of(&items, place)
+    item_of(&[Item::Number(regs.eid), Item::Number(regs.fid)], place)
 }
 
 /// The word in a place of these.
@@ -110,18 +88,11 @@ fn item_of(items: &[Item], place: usize) -> Option<Item>
     items.get(place).copied()
 }
 
-/// The item in a place, of a name that stands alone.
-fn alone(name: Name, place: usize) -> Option<Item>
-    ensures { result ≡ slice_get (words.Word name ∷ []) place }
+/// The item in a place, of one number.
+fn one(number: u64, place: usize) -> Option<Item>
+    ensures { result ≡ slice_get (words.Number number ∷ []) place }
 {
-    item_of(&[Item::Word(name)], place)
-}
-
-/// The item in a place, of a name with one number.
-fn one(name: Name, number: u64, place: usize) -> Option<Item>
-    ensures { result ≡ slice_get (words.Word name ∷ words.Number number ∷ []) place }
-{
-    item_of(&[Item::Word(name), Item::Number(number)], place)
+    item_of(&[Item::Number(number)], place)
 }
 
 /// A number, or the dash that stands for none.
@@ -152,35 +123,27 @@ pub(crate) fn reply_item(event: &Event, place: usize) -> Option<Item>
     said_item(Said::of(&Ok(event.reply())), place)
 }
 
-/// The word in a place of what is said of a step.
+/// The word in a place of what is said of a step, of which the first is its name.
 fn said_item(said: Said, place: usize) -> Option<Item>
     ensures { result ≡ slice_get (said_items said) place }
 {
+    if place == 0 {
+        return Some(Item::Word(Name::Said(SaidName::of_said(&said))));
+    }
+    said_argument(said, place - 1)
+}
+
+/// The number in a place of what is said of a step.
+fn said_argument(said: Said, place: usize) -> Option<Item>
+    ensures { result ≡ slice_get (said_arguments said) place }
+{
     match said {
-        Said::Ret { error, value } => item_of(
-            &[
-                Item::Word(Name::Ret),
-                signed_item(error),
-                Item::Number(value),
-            ],
-            place,
-        ),
-        Said::Waiting => alone(Name::Waiting, place),
-        Said::Gone => alone(Name::Gone, place),
+        Said::Ret { error, value } => { item_of(&[signed_item(error), Item::Number(value)], place) }
         Said::Entry { addr, hart, opaque } => item_of(
-            &[
-                Item::Word(Name::Entry),
-                Item::Number(addr),
-                Item::Number(hart),
-                Item::Number(opaque),
-            ],
+            &[Item::Number(addr), Item::Number(hart), Item::Number(opaque)],
             place,
         ),
-        Said::Value(value) => one(Name::Value, value, place),
-        Said::Fault(cause) => one(Name::Fault, cause, place),
-        Said::Served => alone(Name::Served, place),
-        Said::Moved(state) => one(Name::Moved, state, place),
-        Said::Done => alone(Name::Done, place),
-        Said::Refused(refusal) => one(Name::Refused, refusal, place),
+        Said::Value(n) | Said::Fault(n) | Said::Moved(n) | Said::Refused(n) => one(n, place),
+        Said::Waiting | Said::Gone | Said::Served | Said::Done => None,
     }
 }

@@ -1,6 +1,7 @@
 //! Conditions of scripts: what the comments that begin with `#!` ask of each record (profile).
 #![tactic(auto)]
 
+mod endings;
 mod faults;
 mod items;
 mod names;
@@ -8,6 +9,7 @@ mod patterns;
 mod reading;
 mod rules;
 
+pub use endings::ending;
 pub use faults::{Fault, Wrong};
 pub use items::Item;
 pub use names::Name;

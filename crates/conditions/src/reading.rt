@@ -1,5 +1,6 @@
 //! The conditions of a script's text, read from its comments.
-ghost use Rattle.std.specs.Prelude.{◌<◌, OnSome, length};
+ghost use Rattle.std.specs.Prelude.{◌<◌, true, false, IfOk, OnSome, length};
+ghost use Rattle.conditions.specs.Reading.{AsksActor, AsksAt, AsksName, AsksNumber};
 
 use crate::faults::{Fault, Unread, Wrong};
 use crate::items::{Item, signed_item};
@@ -7,10 +8,8 @@ use crate::names::Name;
 use crate::patterns::Pattern;
 use crate::rules::{Ending, Rule};
 use guest_script::{next_word, signed_number, unsigned_number, without_return};
+use script_lines::{LAST_HART, OP_NUMBERS, OpName, SAID_NUMBERS, SaidName};
 use std::alloc::Global;
-
-/// The largest number of a hart.
-const LAST_HART: u64 = 127;
 
 /// A condition of a script.
 #[derive(Debug, Drop)]
@@ -239,7 +238,9 @@ fn item(
     is_reply: bool,
     word: &[u8],
     last: usize,
-) -> Result<(Option<Item>, usize), Wrong> {
+) -> Result<(Option<Item>, usize), Wrong>
+    ensures { IfOk result (λ found. AsksAt place is_reply word.now found.0 last found.1) }
+{
     match place {
         0 => Ok((actor(word)?, last)),
         1 => name(word, is_reply),
@@ -249,7 +250,9 @@ fn item(
 }
 
 /// An actor, or any.
-fn actor(word: &[u8]) -> Result<Option<Item>, Wrong> {
+fn actor(word: &[u8]) -> Result<Option<Item>, Wrong>
+    ensures { IfOk result (λ item. AsksActor word.now item) }
+{
     match word {
         b"_" => Ok(None),
         b"c" => Ok(Some(Item::Word(Name::Clock))),
@@ -261,24 +264,45 @@ fn actor(word: &[u8]) -> Result<Option<Item>, Wrong> {
 }
 
 /// The name of an operation or of a reply, or any; and how many words may stand there, the name among them.
-fn name(word: &[u8], is_reply: bool) -> Result<(Option<Item>, usize), Wrong> {
+fn name(word: &[u8], is_reply: bool) -> Result<(Option<Item>, usize), Wrong>
+    ensures { IfOk result (λ found. AsksName is_reply word.now found.0 found.1) }
+{
     if word == b"_".as_slice() {
-        return Ok((None, if is_reply { 4 } else { 9 }));
+        let most = if is_reply { SAID_NUMBERS } else { OP_NUMBERS };
+        return Ok((None, most + 1));
     }
-    let named = if is_reply {
-        Name::of_reply(word)
+    if is_reply {
+        said_name(word)
     } else {
-        Name::of_op(word)
-    };
-    match named {
-        Some((Name::Refused, _)) => Err(Wrong::Refused),
-        Some((name, most)) => Ok((Some(Item::Word(name)), most)),
+        op_name(word)
+    }
+}
+
+/// The name of an operation, and how many words it has at most.
+fn op_name(word: &[u8]) -> Result<(Option<Item>, usize), Wrong>
+    ensures { IfOk result (λ found. AsksName false word.now found.0 found.1) }
+{
+    match OpName::of(word) {
+        Some(name) => Ok((Some(Item::Word(Name::Op(name))), name.places().most + 1)),
+        None => Err(Wrong::UnknownWord),
+    }
+}
+
+/// The name of a reply, and how many words it has at most.
+fn said_name(word: &[u8]) -> Result<(Option<Item>, usize), Wrong>
+    ensures { IfOk result (λ found. AsksName true word.now found.0 found.1) }
+{
+    match SaidName::of(word) {
+        Some(SaidName::Refused) => Err(Wrong::Refused),
+        Some(name) => Ok((Some(Item::Word(Name::Said(name))), name.places().most + 1)),
         None => Err(Wrong::UnknownWord),
     }
 }
 
 /// A number, a dash, or any.
-fn argument(word: &[u8]) -> Result<Option<Item>, Wrong> {
+fn argument(word: &[u8]) -> Result<Option<Item>, Wrong>
+    ensures { IfOk result (λ item. AsksNumber word.now item) }
+{
     match word {
         b"_" => Ok(None),
         b"-" => Ok(Some(Item::Absent)),

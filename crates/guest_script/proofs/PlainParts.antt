@@ -10,17 +10,19 @@ use Rattle.std.proofs.lemmas.Slice.Eq.{bytes_eq-Decides}
 use Rattle.board_terms.specs.declared.op.Actor.{Actor}
 use Rattle.board_terms.specs.declared.op.Op.{Op}
 use Rattle.board_terms.specs.declared.op.Op.TheVariants.{Sfence}
-use Rattle.guest_script.specs.declared.op_name.OpName.{OpName}
-use Rattle.guest_script.specs.declared.op_name.OpName.TheVariants as names
-use Rattle.guest_script.specs.declared.places.Places.{Places}
+use Rattle.script_lines.specs.declared.op_name.OpName.{OpName}
+use Rattle.script_lines.specs.declared.op_name.OpName.TheVariants as names
+use Rattle.script_lines.specs.declared.places.Places.{Places}
 use Rattle.script_lines.specs.declared.said.Said.{Said}
 use Rattle.script_lines.specs.declared.said.Said.TheVariants.{Ret}
 use Rattle.guest_script.specs.Words.{last_below, AreNumbers, last_number}
 use Rattle.guest_script.specs.Forms.{AreArguments, argument_at, Form, form_of, guest_form_of, IsNamed}
-use Rattle.guest_script.specs.Reading.{IsFormAt, made_from, op_spelling}
+use Rattle.script_lines.specs.Names.{is_guests, op_word}
+use Rattle.guest_script.specs.Reading.{IsFormAt, made_from}
 use Rattle.guest_script.specs.Values.{is_numeral}
 use Rattle.guest_script.specs.Inside.Scanning.{digit_after, digits_after, and_digits, numeral_of}
 use Rattle.guest_script.specs.Inside.PlainLines.{behind, BeginsActor, BeginsArgument, BeginsDigits, BeginsGuest, BeginsLine, BeginsName, BeginsNamed, BeginsNumber, BeginsNumbers, BeginsOp, BeginsSaid, BeginsSigned, BeginsWord}
+use Rattle.guest_script.proofs.Named.{op_forms}
 use Rattle.guest_script.proofs.PlainShapes.{some_all}
 use Rattle.guest_script.proofs.LineWords.{length_numbers}
 use Rattle.guest_script.proofs.Numerals.{at_most, numeral_at_most}
@@ -157,25 +159,25 @@ pub behind_blank : (bytes name : List ℕ) (others : List (List ℕ)) (rest : Li
 behind_blank bytes name others rest parts = ap (λ (b : List ℕ). 32 ∷ b) (parts ∙ sym (append_assoc name (behind others) rest))
 
 pub op_behind : (name : OpName) (bytes : List ℕ) (op : Op) (rest : List ℕ) → BeginsNamed name bytes op rest → BeginsOp (32 ∷ bytes) op rest
-op_behind name bytes op rest (others, parts, is) = (op_spelling name ∷ others, behind_blank bytes (op_spelling name) others rest parts, is)
+op_behind name bytes op rest (others, parts, is) = (op_word name ∷ others, behind_blank bytes (op_word name) others rest parts, is)
 
 -- of a guest, whose forms have this name too
-pub guest_begins : (name : OpName) (bytes : List ℕ) (op : Op) (rest after : List ℕ) → guest_form_of (op_spelling name) ≡ form_of (op_spelling name) → BeginsNamed name bytes op rest
+pub guest_begins : (name : OpName) (bytes : List ℕ) (op : Op) (rest after : List ℕ) → is_guests name ≡ true → BeginsNamed name bytes op rest
     → rest ≡ 10 ∷ after → BeginsGuest bytes op after
-guest_begins name bytes op rest after same (others, parts, is) end = (
-  op_spelling name,
+guest_begins name bytes op rest after guests (others, parts, is) end = (
+  op_word name,
   others,
-  parts ∙ ap (λ (b : List ℕ). op_spelling name ++ (behind others ++ b)) end,
-  guest_named same is,
+  parts ∙ ap (λ (b : List ℕ). op_word name ++ (behind others ++ b)) end,
+  guest_named (rw guests at (op_forms name).1 ∙ sym (op_forms name).0) is,
 ) where
-  guest_named : {words : List (List ℕ)} → guest_form_of (op_spelling name) ≡ form_of (op_spelling name) → IsNamed form_of (op_spelling name ∷ words) op → IsNamed guest_form_of (op_spelling name ∷ words) op
+  guest_named : {words : List (List ℕ)} → guest_form_of (op_word name) ≡ form_of (op_word name) → IsNamed form_of (op_word name ∷ words) op → IsNamed guest_form_of (op_word name ∷ words) op
   guest_named same named = record {
     name = named.name;
     others = named.others;
     form = named.form;
     arguments = named.arguments;
     parts = named.parts;
-    has_form = (let is : op_spelling name ≡ named.name = cc in rw (sym is) (same ∙ rw is named.has_form));
+    has_form = (let is : op_word name ≡ named.name = cc in rw (sym is) (same ∙ rw is named.has_form));
     enough = named.enough;
     not_more = named.not_more;
     are_arguments = named.are_arguments;

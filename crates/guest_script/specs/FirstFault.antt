@@ -9,6 +9,11 @@ use Rattle.guest_script.specs.declared.fault.Fault.TheVariants.{BadByte, NoBoard
 use Rattle.guest_script.specs.declared.fault.ScriptFault.{ScriptFault}
 use Rattle.guest_script.specs.declared.line_kind.LineKind.{LineKind}
 use Rattle.guest_script.specs.declared.line_kind.LineKind.TheVariants.{Head, Step, Operation}
+use Rattle.guest_script.specs.declared.wrong.Misread.{Misread}
+use Rattle.guest_script.specs.declared.wrong.Wrong.{Wrong}
+use Rattle.guest_script.specs.declared.wrong.Wrong.TheVariants as wrongs
+use Rattle.script_lines.specs.declared.op_name.OpName.TheVariants.{Tick}
+use Rattle.script_lines.specs.Names.{op_word}
 use Rattle.guest_script.specs.Words.{is_allowed, last_hart, last_number}
 use Rattle.guest_script.specs.Forms.{Form, form_of, guest_form_of, said_form_of}
 use Rattle.guest_script.specs.Grammar.{Draft, Nothing, Blocked, Stepped, Traced, Guest, has_block, most_bytes, Open, OfClock, OfGuest}
@@ -25,6 +30,24 @@ fault_number OtherKind = 6
 fault_number SecondBlock = 7
 fault_number TooLong = 8
 fault_number NoMemory = 9
+
+-- the fault that something wrong is
+abbrev pub fault_of : Wrong → Fault
+fault_of wrongs.BadByte = BadByte
+fault_of wrongs.NoBoardLine = NoBoardLine
+fault_of wrongs.UnknownOperation = UnknownWord
+fault_of wrongs.UnknownReply = UnknownWord
+fault_of wrongs.BadNumber = BadNumber
+fault_of wrongs.WordMissing = WordCount
+fault_of wrongs.WordTooMany = WordCount
+fault_of wrongs.OtherKind = OtherKind
+fault_of wrongs.SecondBlock = SecondBlock
+fault_of wrongs.TooLong = TooLong
+fault_of wrongs.NoMemory = NoMemory
+
+-- a fault with its place in a line, as the line's
+abbrev pub script_fault : Misread → ScriptFault
+script_fault misread = record { line = misread.line; fault = fault_of misread.wrong }
 
 -- ---- names with arguments
 
@@ -100,7 +123,7 @@ head_tests guests clock first words =
 abbrev pub in_block_tests : Open → List (List ℕ) → List (Bool × Fault)
 in_block_tests (OfGuest guest) words = named_tests guest_form_of words
 in_block_tests (OfClock ticks) [] = []
-in_block_tests (OfClock ticks) (name ∷ words) = (not (bytes_eq name (codes "tick")), UnknownWord) ∷ number_tests words
+in_block_tests (OfClock ticks) (name ∷ words) = (not (bytes_eq name (op_word Tick)), UnknownWord) ∷ number_tests words
 
 -- whether a line of this kind may follow: the first one may not be an operation alone, and the others are as the first
 abbrev pub may_follow : Draft → LineKind → Bool

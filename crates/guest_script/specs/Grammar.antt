@@ -8,12 +8,14 @@ use Rattle.board_terms.specs.declared.op.Actor.{Actor}
 use Rattle.board_terms.specs.declared.op.Actor.TheVariants.{Hart, Clock}
 use Rattle.board_terms.specs.declared.op.Op.{Op}
 use Rattle.guest_script.specs.declared.reader.TheConstants.{MOST_BYTES}
+use Rattle.script_lines.specs.declared.op_name.OpName.TheVariants.{Tick}
 use Rattle.script_lines.specs.declared.said.Said.{Said}
 use Rattle.script_lines.specs.declared.script.Block.{Block}
 use Rattle.script_lines.specs.declared.script.Body.{Body}
 use Rattle.script_lines.specs.declared.script.Body.TheVariants as bodies
 use Rattle.script_lines.specs.declared.script.Line.{Line}
 use Rattle.script_lines.specs.declared.script.Script.{Script}
+use Rattle.script_lines.specs.Names.{op_word}
 use Rattle.guest_script.specs.Words.{AreNumbers, IsLine, IsNumber, last_hart, last_number}
 use Rattle.guest_script.specs.Forms.{form_of, guest_form_of, IsNamed, IsSaid}
 
@@ -34,8 +36,10 @@ pub data Content : Type 0 where
 -- a board, and what its script's lines say
 pub record Written : Type 0 where
   pub config : Config
+  -- What a script's lines say.
   pub content : Content
 
+-- A block as the grammar sees it: its address, and its operations in order.
 abbrev pub guest : Block → Guest
 guest block = record { addr = block.addr; ops = block.ops.items }
 
@@ -146,7 +150,7 @@ IsHead guests clock words next =
 -- An operation of the open block: a guest's, or the clock's tick.
 abbrev pub IsInBlock : Open → List (List ℕ) → Open → Type 0
 IsInBlock (OfGuest guest) words next = (op : Op) × IsNamed guest_form_of words op × (next ≡ with_op guest op)
-IsInBlock (OfClock ticks) words next = (n : ℕ) × IsNumbered (codes "tick") words n × (next ≡ with_tick ticks n)
+IsInBlock (OfClock ticks) words next = (n : ℕ) × IsNumbered (op_word Tick) words n × (next ≡ with_tick ticks n)
 
 -- Line n, and what the lines say with it. The first line with words sets the kind: a block's head, a step, or a step with what it gave.
 abbrev pub IsNext : (n : ℕ) → Draft → List (List ℕ) → Draft → Type 0

@@ -2,6 +2,5 @@
 pub mod Drafts
 pub mod OpenBlocks
 pub mod PlainLines
-pub mod PlainShapes
 pub mod Progress
 pub mod Scanning

@@ -1,20 +1,18 @@
 -- What is read, where no test holds.
-use Rattle.std.specs.Prelude.{◌≡◌, ◌⊎◌, ℕ, List, ◌∷◌, ◌++◌, codes, Option, Some, None, Result, Ok, Err, Bool}
+use Rattle.std.specs.Prelude.{◌≡◌, ◌⊎◌, ℕ, List, ◌∷◌, ◌++◌, Option, Some, None, Result, Ok, Err, Bool}
 use Rattle.std.specs.Str.Lines.{lines}
 use Rattle.board_terms.specs.declared.config.Config.{Config}
 use Rattle.board_terms.specs.Refusals.{first_that_holds}
 use Rattle.guest_script.specs.declared.fault.Fault.{Fault}
 use Rattle.guest_script.specs.declared.fault.Fault.TheVariants.{NoMemory}
 use Rattle.guest_script.specs.declared.fault.ScriptFault.{ScriptFault}
-use Rattle.guest_script.specs.declared.places.Places.{Places}
-use Rattle.guest_script.specs.declared.op_name.OpName.{OpName}
-use Rattle.guest_script.specs.declared.op_name.OpName.TheVariants as ops
-use Rattle.guest_script.specs.declared.said_name.SaidName.{SaidName}
-use Rattle.guest_script.specs.declared.said_name.SaidName.TheVariants as saids
+use Rattle.guest_script.specs.declared.wrong.Misread.{Misread}
+use Rattle.guest_script.specs.declared.wrong.Unread.{Unread}
+use Rattle.script_lines.specs.declared.places.Places.{Places}
 use Rattle.guest_script.specs.Forms.{Form}
 use Rattle.guest_script.specs.Grammar.{content_of, Draft, Written}
 use Rattle.guest_script.specs.Values.{draft_in, next_in, script_in, words_in}
-use Rattle.guest_script.specs.FirstFault.{board_first_tests, byte_test, line_tests, lines_tests, no_memory, script_tests}
+use Rattle.guest_script.specs.FirstFault.{board_first_tests, byte_test, fault_of, line_tests, lines_tests, no_memory, script_fault, script_tests}
 
 -- the value, where there is no fault
 abbrev pub or_fault : {A F : Type 0} → Option F → A → Result A F
@@ -24,6 +22,16 @@ or_fault (Some fault) value = Err fault
 -- the value, where none of the tests holds, and else the fault of the first that does
 abbrev pub tested : {A F : Type 0} → List (Bool × F) → A → Result A F
 tested tests value = or_fault (first_that_holds tests) value
+
+-- what is answered of a line, without the place of what is wrong
+abbrev pub told : {A : Type 0} → Result A Unread → Result A Fault
+told (Ok value) = Ok value
+told (Err unread) = Err (fault_of unread.wrong)
+
+-- what is answered of a script, without the place in the line
+abbrev pub plainly : {A : Type 0} → Result A Misread → Result A ScriptFault
+plainly (Ok value) = Ok value
+plainly (Err misread) = Err (script_fault misread)
 
 -- What a function returned, seen by a view, is what is read.
 abbrev pub Gives : {X A F : Type 0} → (X → A) → Result X F → Result A F → Type 0
@@ -41,37 +49,6 @@ GivesOrWants view (Ok x) read = read ≡ Ok (view x)
 GivesOrWants view (Err fault) read = (fault ≡ NoMemory) ⊎ (read ≡ Err fault)
 
 -- ---- names
-
--- the word that names an operation
-abbrev pub op_spelling : OpName → List ℕ
-op_spelling ops.Ecall = codes "ecall"
-op_spelling ops.Load = codes "load"
-op_spelling ops.Store = codes "store"
-op_spelling ops.Fetch = codes "fetch"
-op_spelling ops.Satp = codes "satp"
-op_spelling ops.Sie = codes "sie"
-op_spelling ops.Sstatus = codes "sstatus"
-op_spelling ops.Sip = codes "sip"
-op_spelling ops.Clearssip = codes "clearssip"
-op_spelling ops.Sfence = codes "sfence"
-op_spelling ops.Fencei = codes "fencei"
-op_spelling ops.Wfi = codes "wfi"
-op_spelling ops.Poll = codes "poll"
-op_spelling ops.Serve = codes "serve"
-op_spelling ops.Advance = codes "advance"
-op_spelling ops.Tick = codes "tick"
-
--- the word that names what is said
-abbrev pub said_spelling : SaidName → List ℕ
-said_spelling saids.Waiting = codes "waiting"
-said_spelling saids.Gone = codes "gone"
-said_spelling saids.Served = codes "served"
-said_spelling saids.Done = codes "done"
-said_spelling saids.Entry = codes "entry"
-said_spelling saids.Value = codes "value"
-said_spelling saids.Fault = codes "fault"
-said_spelling saids.Moved = codes "moved"
-said_spelling saids.Refused = codes "refused"
 
 -- The places are those of a form.
 abbrev pub IsFormAt : {A : Type 0} → Places → Option (Form A) → Type 0

@@ -14,7 +14,9 @@ use Rattle.guest_script.specs.declared.line_kind.LineKind.{LineKind}
 use Rattle.guest_script.specs.declared.line_kind.LineKind.TheVariants.{Head, Step, Operation}
 use Rattle.script_lines.specs.declared.said.Said.{Said}
 use Rattle.script_lines.specs.declared.said.Said.TheVariants.{Ret, Done}
+use Rattle.script_lines.specs.declared.said_name.SaidName.TheVariants as saids
 use Rattle.script_lines.specs.declared.script.Line.{Line}
+use Rattle.script_lines.specs.Names.{said_word}
 use Rattle.guest_script.specs.Words.{is_blank, is_hash, last_above, last_below, last_hart, last_number}
 use Rattle.guest_script.specs.Forms.{Form, form_of, guest_form_of, number_at, number_or, said_form_of}
 use Rattle.guest_script.specs.Grammar.{clock_of, content_of, Draft, Nothing, Blocked, Stepped, Traced, guest_at, Guest, guests_of, Open, OfClock, OfGuest, opened, with_op, with_tick, Written}
@@ -101,7 +103,7 @@ ret_in words = Ret (unwrap_or (signed_in (slice_index_or words 0 [])) (pos 0))
 
 -- whether a word is `ret`
 abbrev pub is_ret : List ℕ → Bool
-is_ret word = bytes_eq word (codes "ret")
+is_ret word = bytes_eq word (said_word saids.Ret)
 
 -- what the words of a reply or a refusal say
 abbrev pub said_in : List (List ℕ) → Said

@@ -2,6 +2,7 @@
 use Rattle.std.specs.Prelude.{◌≡◌, ◌≢◌, ◌⊎◌, ℕ, ℤ, pos, neg_ℤ, ◌-◌, ◌^◌, ◌≤◌, Bool, ◌&&◌, ◌||◌, IsTrue, IsFalse, nat_le, ◌==◌, List, [], ◌∷◌, ◌++◌, codes}
 use Rattle.std.specs.List.{AllByRecursion, AllZip}
 use Rattle.std.specs.Str.Parse.{IsNumeral, digits_value}
+pub use Rattle.script_lines.specs.Names.{last_hart, last_number}
 
 -- a blank or a tab
 abbrev pub is_blank : ℕ → Bool
@@ -65,14 +66,6 @@ IsNumber limit word n = (n ≤ limit) × Spells word n
 -- each word spells the number in its place
 abbrev pub AreNumbers : (limit : ℕ) → List (List ℕ) → List ℕ → Type 0
 AreNumbers limit words ns = AllZip (IsNumber limit) words ns
-
--- the largest number of all
-abbrev pub last_number : ℕ
-last_number = 2 ^ 64 - 1
-
--- the largest number of a hart
-abbrev pub last_hart : ℕ
-last_hart = 127
 
 -- ---- signed numbers
 

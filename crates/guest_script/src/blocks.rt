@@ -3,17 +3,17 @@ ghost use Rattle.std.specs.Prelude.{◌≡◌, ◌⊎◌, ◌∷◌, ◌+◌, �
 ghost use Rattle.std.specs.BTreeSet.{contains};
 ghost use Rattle.std.specs.Option.{option_map};
 ghost use Rattle.std.specs.Ordering.{nat_cmp};
-ghost use Rattle.guest_script.specs.declared.fault.Fault.TheVariants.{NoMemory, SecondBlock};
+ghost use Rattle.guest_script.specs.declared.wrong.Wrong.TheVariants.{NoMemory, SecondBlock};
 ghost use Rattle.guest_script.specs.Inside.OpenBlocks.{blocks_in, open_of};
 ghost use Rattle.guest_script.specs.FirstFault.{in_block_tests};
 ghost use Rattle.guest_script.specs.Grammar.{Blocks, Guest, clock_of, clock_with, guest, guest_at, guests_of, guests_with, content, content_of, Blocked, has_block, OfClock, opened};
-ghost use Rattle.guest_script.specs.Reading.{GivesOrWants, GoesOn, tested};
+ghost use Rattle.guest_script.specs.Reading.{GivesOrWants, GoesOn, tested, told};
 ghost use Rattle.guest_script.specs.Values.{in_block, words_in};
 
-use crate::fault::Fault;
 use crate::plain::read_plain_ops;
 use crate::step::{guest_op, one_number};
-use script_lines::{Block, Body, MOST_LINES};
+use crate::wrong::{Unread, Wrong, from_word};
+use script_lines::{Block, Body, MOST_LINES, OpName};
 use std::alloc::{AllocError, Global};
 use std::collections::BTreeSet;
 use std::marker::Model;
@@ -49,8 +49,8 @@ impl OpenBlock {
     }
 
     /// Reads an operation of the block.
-    fn line(&mut self, first: &[u8], rest: &[u8]) -> Result<(), Fault>
-        ensures read { GivesOrWants (λ _. open_of self.new) result
+    fn line(&mut self, first: &[u8], rest: &[u8]) -> Result<(), Unread>
+        ensures read { GivesOrWants (λ _. open_of self.new) (told result)
             (tested (in_block_tests (open_of self.old) (first.now ∷ words_in rest.now))
             (in_block (open_of self.old) (first.now ∷ words_in rest.now))) }
         ensures err { OnErr result (open_of self.new ≡ open_of self.old) }
@@ -61,8 +61,11 @@ impl OpenBlock {
                 block.ops.push(op)?;
             }
             OpenBlock::Clock(ticks) => {
-                if first != b"tick".as_slice() {
-                    return Err(Fault::UnknownWord);
+                if first != OpName::Tick.word() {
+                    return Err(Unread {
+                        left: from_word(first, rest),
+                        wrong: Wrong::UnknownOperation,
+                    });
                 }
                 let n = one_number(rest)?;
                 ticks.push(n)?;
@@ -126,15 +129,15 @@ impl BlocksDraft {
     }
 
     /// Opens a block at an address that no block has.
-    pub fn open_guest(&mut self, alloc: Global, addr: u64) -> Result<(), Fault>
+    pub fn open_guest(&mut self, alloc: Global, addr: u64) -> Result<(), Wrong>
         ensures { MatchResult result
             (λ _. (has_block (guests_of self.old) addr ≡ false)
             × (self.new ≡ opened (guests_of self.old) (clock_of self.old) (guest_at addr)))
-            (λ fault. (fault ≡ NoMemory) ⊎ ((fault ≡ SecondBlock) × (has_block (guests_of self.old) addr ≡ true))) }
+            (λ wrong. (wrong ≡ NoMemory) ⊎ ((wrong ≡ SecondBlock) × (has_block (guests_of self.old) addr ≡ true))) }
     {
         self.before.reserve(1)?;
         if !self.addresses.insert(addr)? {
-            return Err(Fault::SecondBlock);
+            return Err(Wrong::SecondBlock);
         }
         let open = OpenBlock::Guest(Block {
             addr,
@@ -146,13 +149,13 @@ impl BlocksDraft {
     }
 
     /// Opens the clock's block, if there is none yet.
-    pub fn open_clock(&mut self, alloc: Global) -> Result<(), Fault>
+    pub fn open_clock(&mut self, alloc: Global) -> Result<(), Wrong>
         ensures { MatchResult result
             (λ _. (clock_of self.old ≡ None) × (self.new ≡ opened (guests_of self.old) None (OfClock [])))
-            (λ fault. (fault ≡ NoMemory) ⊎ ((fault ≡ SecondBlock) × (is_some (clock_of self.old) ≡ true))) }
+            (λ wrong. (wrong ≡ NoMemory) ⊎ ((wrong ≡ SecondBlock) × (is_some (clock_of self.old) ≡ true))) }
     {
         if self.has_clock() {
-            return Err(Fault::SecondBlock);
+            return Err(Wrong::SecondBlock);
         }
         self.before.reserve(1)?;
         let closed = mem::replace(&mut self.current, OpenBlock::Clock(Vec::new(alloc)));
@@ -183,8 +186,8 @@ impl BlocksDraft {
     }
 
     /// Reads an operation of the open block.
-    pub fn line(&mut self, first: &[u8], rest: &[u8]) -> Result<(), Fault>
-        ensures { GivesOrWants (λ _. self.new) result
+    pub fn line(&mut self, first: &[u8], rest: &[u8]) -> Result<(), Unread>
+        ensures { GivesOrWants (λ _. self.new) (told result)
             (tested (in_block_tests self.old.current (first.now ∷ words_in rest.now))
             (record self.old { current = in_block self.old.current (first.now ∷ words_in rest.now) })) }
     {

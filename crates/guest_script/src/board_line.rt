@@ -1,30 +1,37 @@
 //! The first line: a board's numbers.
 ghost use Rattle.std.specs.Prelude.{◌≡◌, ◌∷◌};
 ghost use Rattle.guest_script.specs.FirstFault.{board_number_tests, board_tests, byte_test};
-ghost use Rattle.guest_script.specs.Reading.{Gives, tested};
+ghost use Rattle.guest_script.specs.Reading.{Gives, tested, told};
 ghost use Rattle.guest_script.specs.Values.{arguments_in, board_in, config_of, words_in};
 ghost use Rattle.guest_script.specs.Words.{last_number};
 
 use crate::fault::Fault;
-use crate::numbers::{MOST_ARGUMENTS, arguments_in, number_at, number_or};
-use crate::places::any_numbers;
+use crate::numbers::{MOST_ARGUMENTS, arguments_in};
 use crate::text::is_clean;
 use crate::words::next_word;
+use crate::wrong::{Unread, Wrong, from_bad_byte, from_word};
 use arrayvec::ArrayVec;
 use board_terms::{Config, USUAL_ASID_LEN, USUAL_WIDTH};
+use script_lines::{any_numbers, number_at, number_or};
 
 /// The board that a line's words name, if the line has words.
-pub fn board_words(text: &[u8]) -> Result<Option<Config>, Fault>
-    ensures { result ≡ tested (byte_test text.now ∷ board_tests (words_in text.now)) (board_in (words_in text.now)) }
+pub fn board_words(text: &[u8]) -> Result<Option<Config>, Unread>
+    ensures { told result ≡ tested (byte_test text.now ∷ board_tests (words_in text.now)) (board_in (words_in text.now)) }
 {
     if !is_clean(text) {
-        return Err(Fault::BadByte);
+        return Err(Unread {
+            left: from_bad_byte(text),
+            wrong: Wrong::BadByte,
+        });
     }
     match next_word(text) {
         None => Ok(None),
         Some((first, rest)) => {
             if first != b"board".as_slice() {
-                return Err(Fault::NoBoardLine);
+                return Err(Unread {
+                    left: from_word(first, rest),
+                    wrong: Wrong::NoBoardLine,
+                });
             }
             let numbers = board_numbers(rest)?;
             Ok(Some(config(&numbers)))
@@ -33,13 +40,15 @@ pub fn board_words(text: &[u8]) -> Result<Option<Config>, Fault>
 }
 
 /// The numbers that a text's words are: a board has six or eight.
-fn board_numbers(text: &[u8]) -> Result<ArrayVec<Option<u64>, MOST_ARGUMENTS>, Fault>
-    ensures { Gives (λ found. found.items) result
+fn board_numbers(text: &[u8]) -> Result<ArrayVec<Option<u64>, MOST_ARGUMENTS>, Unread>
+    ensures { Gives (λ found. found.items) (told result)
         (tested (board_number_tests (words_in text.now)) (arguments_in last_number (words_in text.now))) }
 {
     match arguments_in(text, false, &any_numbers(6, 6)) {
-        Err(Fault::WordCount) => arguments_in(text, false, &any_numbers(8, 8)),
-        Err(fault) => Err(fault),
+        Err(unread) => match unread.wrong.fault() {
+            Fault::WordCount => arguments_in(text, false, &any_numbers(8, 8)),
+            _ => Err(unread),
+        },
         Ok(found) => Ok(found),
     }
 }

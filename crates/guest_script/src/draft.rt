@@ -2,22 +2,22 @@
 ghost use Rattle.std.specs.Prelude.{◌≡◌, ◌⊎◌, ◌∷◌, [], ◌++◌, Bool, ℕ, List, true, false, is_some, None, IfOk, OnOk, Err, MatchOption, MatchResult, ◌+◌, ◌<◌, ◌≤◌, length};
 ghost use Rattle.std.specs.Str.Lines.{lines};
 ghost use Rattle.script_lines.specs.Packing.{StepFits};
-ghost use Rattle.guest_script.specs.declared.fault.Fault.TheVariants.{NoMemory, SecondBlock};
+ghost use Rattle.guest_script.specs.declared.wrong.Wrong.TheVariants.{NoMemory, SecondBlock};
 ghost use Rattle.guest_script.specs.declared.line_kind.LineKind.TheVariants.{Head, Operation, Step};
 ghost use Rattle.guest_script.specs.Inside.Drafts.{draft_of};
 ghost use Rattle.guest_script.specs.FirstFault.{byte_test, kind_tests, line_tests, may_follow, no_memory};
 ghost use Rattle.guest_script.specs.Grammar.{Blocked, content, content_of, guest_at, has_block, OfClock, opened};
 ghost use Rattle.guest_script.specs.Inside.PlainLines.{BeginsLine};
-ghost use Rattle.guest_script.specs.Reading.{GivesOrLacks, GivesOrWants, GoesOn, line_from, lines_from, tested};
+ghost use Rattle.guest_script.specs.Reading.{GivesOrLacks, GivesOrWants, GoesOn, line_from, lines_from, plainly, tested, told};
 ghost use Rattle.guest_script.specs.Values.{clock_in, guests_in, lines_in, next_in, next_of, words_in, with_step};
 
 use crate::blocks::BlocksDraft;
-use crate::fault::{Fault, NO_MEMORY, ScriptFault};
 use crate::line_kind::LineKind;
 use crate::plain::read_plain_lines;
 use crate::step::{one_number, step_line};
 use crate::text::{is_clean, next_line};
 use crate::words::next_word;
+use crate::wrong::{Misread, NO_MEMORY, Unread, Wrong, from_bad_byte, from_next, from_word};
 use script_lines::{Body, Line, Lines, MOST_LINES};
 use std::alloc::{AllocError, Global};
 
@@ -36,14 +36,14 @@ pub enum BodyDraft {
 
 impl BodyDraft {
     /// Reads line `n`.
-    pub fn read_line(&mut self, alloc: Global, n: u64, text: &[u8]) -> Result<(), ScriptFault>
+    pub fn read_line(&mut self, alloc: Global, n: u64, text: &[u8]) -> Result<(), Misread>
         requires number { n < MOST_LINES }
         requires few { length (lines_in (draft_of self.old)) < MOST_LINES }
-        ensures { GivesOrLacks (λ _. draft_of self.new) result (line_from n (draft_of self.old) text.now) }
+        ensures { GivesOrLacks (λ _. draft_of self.new) (plainly result) (line_from n (draft_of self.old) text.now) }
     {
         match self.line(alloc, n, text) {
             Ok(()) => Ok(()),
-            Err(fault) => Err(ScriptFault::at(n, fault)),
+            Err(unread) => Err(Misread::of(n, text, unread)),
         }
     }
 
@@ -56,11 +56,11 @@ impl BodyDraft {
         expected: usize,
         n: u64,
         bytes: &'a [u8],
-    ) -> Result<(u64, &'a [u8]), ScriptFault>
+    ) -> Result<(u64, &'a [u8]), Misread>
         requires some { 0 < length bytes.now }
         requires number { n + length bytes.now < MOST_LINES }
         requires few { length (lines_in (draft_of self.old)) ≤ n }
-        ensures read { MatchResult result
+        ensures read { MatchResult (plainly result)
             (λ found. GoesOn n (draft_of self.old) bytes.now found.0 (draft_of self.new) found.1.now)
             (λ e. (e ≡ no_memory)
             ⊎ ((more : List (List ℕ)) → lines_from n (draft_of self.old) (lines bytes.now ++ more) ≡ Err e)) }
@@ -110,15 +110,18 @@ impl BodyDraft {
     }
 
     /// One line more, which has bytes that may stand in a script, or doesn't.
-    fn line(&mut self, alloc: Global, n: u64, text: &[u8]) -> Result<(), Fault>
+    fn line(&mut self, alloc: Global, n: u64, text: &[u8]) -> Result<(), Unread>
         requires number { n < MOST_LINES }
         requires few { length (lines_in (draft_of self.old)) < MOST_LINES }
-        ensures { GivesOrWants (λ _. draft_of self.new) result
+        ensures { GivesOrWants (λ _. draft_of self.new) (told result)
             (tested (byte_test text.now ∷ line_tests (draft_of self.old) (words_in text.now))
             (next_in n (draft_of self.old) (words_in text.now))) }
     {
         if !is_clean(text) {
-            return Err(Fault::BadByte);
+            return Err(Unread {
+                left: from_bad_byte(text),
+                wrong: Wrong::BadByte,
+            });
         }
         match next_word(text) {
             None => Ok(()),
@@ -127,16 +130,19 @@ impl BodyDraft {
     }
 
     /// Reads the words of line `n`.
-    fn words(&mut self, alloc: Global, n: u64, first: &[u8], rest: &[u8]) -> Result<(), Fault>
+    fn words(&mut self, alloc: Global, n: u64, first: &[u8], rest: &[u8]) -> Result<(), Unread>
         requires number { n < MOST_LINES }
         requires few { length (lines_in (draft_of self.old)) < MOST_LINES }
-        ensures { GivesOrWants (λ _. draft_of self.new) result
+        ensures { GivesOrWants (λ _. draft_of self.new) (told result)
             (tested (line_tests (draft_of self.old) (first.now ∷ words_in rest.now))
             (next_in n (draft_of self.old) (first.now ∷ words_in rest.now))) }
     {
         let kind = LineKind::of(first, rest);
         if !self.may_follow(kind) {
-            return Err(Fault::OtherKind);
+            return Err(Unread {
+                left: from_word(first, rest),
+                wrong: Wrong::OtherKind,
+            });
         }
         match kind {
             LineKind::Head => self.head(alloc, first, rest),
@@ -162,31 +168,46 @@ impl BodyDraft {
     }
 
     /// Reads a block's head.
-    fn head(&mut self, alloc: Global, first: &[u8], rest: &[u8]) -> Result<(), Fault>
+    fn head(&mut self, alloc: Global, first: &[u8], rest: &[u8]) -> Result<(), Unread>
         requires { may_follow (draft_of self.old) Head ≡ true }
-        ensures { GivesOrWants (λ _. draft_of self.new) result
+        ensures { GivesOrWants (λ _. draft_of self.new) (told result)
             (tested (kind_tests Head (draft_of self.old) first.now (words_in rest.now))
             (next_of Head 0 (draft_of self.old) first.now (words_in rest.now))) }
     {
         if first == b"at".as_slice() {
             let addr = one_number(rest)?;
-            self.open_guest(alloc, addr)
-        } else if next_word(rest).is_some() {
-            Err(Fault::WordCount)
+            match self.open_guest(alloc, addr) {
+                Ok(()) => Ok(()),
+                Err(wrong) => Err(Unread {
+                    left: from_next(rest),
+                    wrong,
+                }),
+            }
+        } else if let Some((word, after)) = next_word(rest) {
+            Err(Unread {
+                left: from_word(word, after),
+                wrong: Wrong::WordTooMany,
+            })
         } else {
-            self.open_clock(alloc)
+            match self.open_clock(alloc) {
+                Ok(()) => Ok(()),
+                Err(wrong) => Err(Unread {
+                    left: from_word(first, rest),
+                    wrong,
+                }),
+            }
         }
     }
 
     /// A guest's block begins.
-    fn open_guest(&mut self, alloc: Global, addr: u64) -> Result<(), Fault>
+    fn open_guest(&mut self, alloc: Global, addr: u64) -> Result<(), Wrong>
         requires { may_follow (draft_of self.old) Head ≡ true }
         ensures { MatchResult result
             (λ _. (has_block (guests_in (draft_of self.old)) addr ≡ false)
             × (draft_of self.new ≡ Blocked
             (opened (guests_in (draft_of self.old)) (clock_in (draft_of self.old)) (guest_at addr))))
-            (λ fault. (fault ≡ NoMemory)
-            ⊎ ((fault ≡ SecondBlock) × (has_block (guests_in (draft_of self.old)) addr ≡ true))) }
+            (λ wrong. (wrong ≡ NoMemory)
+            ⊎ ((wrong ≡ SecondBlock) × (has_block (guests_in (draft_of self.old)) addr ≡ true))) }
     {
         match self {
             BodyDraft::Blocks(blocks) => blocks.open_guest(alloc, addr),
@@ -198,12 +219,12 @@ impl BodyDraft {
     }
 
     /// The clock's block begins.
-    fn open_clock(&mut self, alloc: Global) -> Result<(), Fault>
+    fn open_clock(&mut self, alloc: Global) -> Result<(), Wrong>
         requires { may_follow (draft_of self.old) Head ≡ true }
         ensures { MatchResult result
             (λ _. (clock_in (draft_of self.old) ≡ None)
             × (draft_of self.new ≡ Blocked (opened (guests_in (draft_of self.old)) None (OfClock []))))
-            (λ fault. (fault ≡ NoMemory) ⊎ ((fault ≡ SecondBlock) × (is_some (clock_in (draft_of self.old)) ≡ true))) }
+            (λ wrong. (wrong ≡ NoMemory) ⊎ ((wrong ≡ SecondBlock) × (is_some (clock_in (draft_of self.old)) ≡ true))) }
     {
         match self {
             BodyDraft::Blocks(blocks) => blocks.open_clock(alloc),
@@ -239,15 +260,18 @@ impl BodyDraft {
     }
 
     /// Reads an operation of the open block.
-    fn operation(&mut self, first: &[u8], rest: &[u8]) -> Result<(), Fault>
+    fn operation(&mut self, first: &[u8], rest: &[u8]) -> Result<(), Unread>
         requires { may_follow (draft_of self.old) Operation ≡ true }
-        ensures { GivesOrWants (λ _. draft_of self.new) result
+        ensures { GivesOrWants (λ _. draft_of self.new) (told result)
             (tested (kind_tests Operation (draft_of self.old) first.now (words_in rest.now))
             (next_of Operation 0 (draft_of self.old) first.now (words_in rest.now))) }
     {
         match self {
             BodyDraft::Blocks(blocks) => blocks.line(first, rest),
-            _ => Err(Fault::OtherKind),
+            _ => Err(Unread {
+                left: from_word(first, rest),
+                wrong: Wrong::OtherKind,
+            }),
         }
     }
 

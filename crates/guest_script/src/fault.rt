@@ -1,10 +1,7 @@
 //! Why a text is no script, and where.
 ghost use Rattle.std.specs.Prelude.{◌≡◌};
-ghost use Rattle.guest_script.specs.declared.fault.Fault.TheVariants.{NoMemory};
 ghost use Rattle.guest_script.specs.FirstFault.{fault_number};
-ghost use Rattle.guest_script.specs.Reading.{located_fault};
 
-use std::alloc::{AllocError, AllocFailed};
 use thiserror::Error;
 
 /// What is wrong with a line, or with the whole script (profile).
@@ -58,22 +55,6 @@ impl Fault {
     }
 }
 
-impl From<AllocError> for Fault {
-    ghost from_gives = { λ _ fault. fault ≡ NoMemory };
-
-    fn from(_refused: AllocError) -> Fault {
-        Fault::NoMemory
-    }
-}
-
-impl<T: Drop> From<AllocFailed<T>> for Fault {
-    ghost from_gives = { λ _ fault. fault ≡ NoMemory };
-
-    fn from(_refused: AllocFailed<T>) -> Fault {
-        Fault::NoMemory
-    }
-}
-
 /// A fault and its line. Lines count from 1; 0 is the script as a whole.
 #[derive(Clone, Copy, Debug, PartialEq, Eq, Error)]
 #[error("line {line}: {fault}")]
@@ -91,20 +72,4 @@ impl ScriptFault {
     {
         self.fault.number()
     }
-
-    /// What is wrong with a line; the want of memory is none of a line's.
-    pub(crate) fn at(line: u64, fault: Fault) -> ScriptFault
-        ensures { result ≡ located_fault line fault }
-    {
-        match fault {
-            Fault::NoMemory => NO_MEMORY,
-            fault => ScriptFault { line, fault },
-        }
-    }
 }
-
-/// Memory was refused, at no line.
-pub const NO_MEMORY: ScriptFault = ScriptFault {
-    line: 0,
-    fault: Fault::NoMemory,
-};

@@ -2,9 +2,12 @@
 ghost use Rattle.std.specs.Prelude.{◌≡◌, ◌≢◌, IfErr, IfOk, MatchResult, Some};
 ghost use Rattle.guest_script.specs.Grammar.{Reads, Written, written};
 ghost use Rattle.guest_script.specs.FirstFault.{first_fault};
+ghost use Rattle.guest_script.specs.Pieces.{IsAnswered};
+ghost use Rattle.guest_script.specs.Reading.{plainly};
 
 use crate::fault::{Fault, ScriptFault};
 use crate::reader::Reader;
+use crate::wrong::Misread;
 use script_lines::Script;
 use std::alloc::Global;
 
@@ -20,4 +23,11 @@ pub fn parse(alloc: Global, bytes: &[u8]) -> Result<Script, ScriptFault>
     ensures memory { IfErr result (λ e. e.fault ≡ Fault.NoMemory → e.line ≡ 0) }
 {
     Reader::expecting(bytes.len()).end(alloc, bytes)
+}
+
+/// The same, with the place of the first fault in its line.
+pub fn locate(alloc: Global, bytes: &[u8]) -> Result<Script, Misread>
+    ensures { IsAnswered bytes.now (plainly result) }
+{
+    Reader::expecting(bytes.len()).locate(alloc, bytes)
 }

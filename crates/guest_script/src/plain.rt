@@ -1,5 +1,5 @@
 //! Lines that stand in the form in which steps are printed, each read in one pass.
-ghost use Rattle.std.specs.Prelude.{◌≡◌, ◌+◌, ◌≤◌, ◌<◌, ◌++◌, ◌^◌, ◌∷◌, [], ℕ, List, Option, None, Some, codes, IfOk, IfSome, MatchOption, length};
+ghost use Rattle.std.specs.Prelude.{◌≡◌, ◌≢◌, ◌+◌, ◌≤◌, ◌<◌, ◌++◌, ◌^◌, ◌∷◌, [], ℕ, List, Option, None, Some, codes, IfOk, IfSome, MatchOption, length};
 ghost use Rattle.board_terms.specs.declared.op.Op.{Op};
 ghost use Rattle.board_terms.specs.declared.op.Op.TheVariants.{Sfence};
 ghost use Rattle.script_lines.specs.declared.script.Line.{Line};
@@ -13,17 +13,10 @@ ghost use Rattle.script_lines.specs.Packing.{FitsKept, op_made};
 
 use crate::number::{LAST_ABOVE, LAST_BELOW, below_zero, push_digit};
 use crate::numbers::MOST_ARGUMENTS;
-use crate::op_name::OpName;
-use crate::places::Places;
-use crate::plain_shapes::{plain_said_shape, plain_shape};
-use crate::said_name::SaidName;
 use arrayvec::ArrayVec;
 use board_terms::{Actor, Op};
-use script_lines::{Lines, MOST_LINES, OpShape, Plain, Said};
+use script_lines::{LAST_HART, Lines, MOST_LINES, OpName, OpShape, Places, Plain, Said, SaidName};
 use std::alloc::AllocError;
-
-/// The largest number of a hart.
-const LAST_HART: u64 = 127;
 
 /// Puts the lines from number `first` on, which the bytes are, behind the others, as long as they stand in the form in which
 /// steps are printed, and answers the next line's number, and the bytes from it on.
@@ -188,7 +181,6 @@ fn read_plain_op<'a>(ops: &mut Vec<Op>, bytes: &'a [u8]) -> Result<Option<&'a [u
 /// A guest's operation, which the bytes begin with, and the bytes after its line, if it stands in the form in which it is
 /// printed. Its numbers are gathered.
 #[inline(always)]
-#[tactic(auto, using(crate::proofs::PlainParts::guest_begins))]
 fn plain_guest<'a>(
     bytes: &'a [u8],
     numbers: &mut ArrayVec<u64, MOST_ARGUMENTS>,
@@ -198,7 +190,7 @@ fn plain_guest<'a>(
     ensures shorter { IfSome result (λ found. length found.1.now < length bytes.now) }
 {
     let name = guest_by_letters(bytes)?;
-    if !name.is_guest() {
+    if !name.is_guests() {
         return None;
     }
     let (op, rest) = plain_named(name, bytes, numbers)?;
@@ -314,7 +306,7 @@ fn plain_named<'a>(
         OpName::Sfence => plain_fence(rest, numbers),
         _ => {
             let rest = plain_places(name.places(), rest, numbers)?;
-            Some((plain_shape(name), rest))
+            Some((name.shape(), rest))
         }
     }
 }
@@ -418,24 +410,7 @@ fn after_name(name: OpName, bytes: &[u8]) -> Option<&[u8]>
     ensures name { IfSome result (λ rest. BeginsName bytes.now name rest.now) }
     ensures shorter { IfSome result (λ rest. length rest.now ≤ length bytes.now) }
 {
-    match name {
-        OpName::Ecall => after(bytes, b"ecall"),
-        OpName::Load => after(bytes, b"load"),
-        OpName::Store => after(bytes, b"store"),
-        OpName::Fetch => after(bytes, b"fetch"),
-        OpName::Satp => after(bytes, b"satp"),
-        OpName::Sie => after(bytes, b"sie"),
-        OpName::Sstatus => after(bytes, b"sstatus"),
-        OpName::Sip => after(bytes, b"sip"),
-        OpName::Clearssip => after(bytes, b"clearssip"),
-        OpName::Sfence => after(bytes, b"sfence"),
-        OpName::Fencei => after(bytes, b"fencei"),
-        OpName::Wfi => after(bytes, b"wfi"),
-        OpName::Poll => after(bytes, b"poll"),
-        OpName::Serve => after(bytes, b"serve"),
-        OpName::Advance => after(bytes, b"advance"),
-        OpName::Tick => after(bytes, b"tick"),
-    }
+    after(bytes, name.word())
 }
 
 /// What follows a front, which the bytes may have.
@@ -596,16 +571,17 @@ fn plain_named_said(bytes: &[u8]) -> Option<(Said, &[u8])>
     }
 }
 
-/// The same of one name.
+/// The same of one name, of which `ret` is none: its error is a signed number.
 #[inline(always)]
 fn plain_said_as(name: SaidName, bytes: &[u8]) -> Option<(Said, &[u8])>
+    requires { name ≢ SaidName.Ret }
     ensures said { IfSome result (λ found. BeginsSaid bytes.now found.0 found.1.now) }
     ensures shorter { IfSome result (λ found. length found.1.now ≤ length bytes.now) }
 {
     let rest = after_said(name, bytes)?;
     let mut numbers = ArrayVec::new();
     let rest = plain_places(name.places(), rest, &mut numbers)?;
-    let said = plain_said_shape(name).said(&numbers)?;
+    let said = name.shape().said(&numbers)?;
     Some((said, rest))
 }
 
@@ -615,15 +591,8 @@ fn after_said(name: SaidName, bytes: &[u8]) -> Option<&[u8]>
     ensures name { IfSome result (λ rest. BeginsSaidName bytes.now name rest.now) }
     ensures shorter { IfSome result (λ rest. length rest.now ≤ length bytes.now) }
 {
-    match name {
-        SaidName::Waiting => after(bytes, b" waiting"),
-        SaidName::Gone => after(bytes, b" gone"),
-        SaidName::Served => after(bytes, b" served"),
-        SaidName::Done => after(bytes, b" done"),
-        SaidName::Entry => after(bytes, b" entry"),
-        SaidName::Value => after(bytes, b" value"),
-        SaidName::Fault => after(bytes, b" fault"),
-        SaidName::Moved => after(bytes, b" moved"),
-        SaidName::Refused => after(bytes, b" refused"),
+    match bytes {
+        [b' ', named @ ..] => after(named, name.word()),
+        _ => None,
     }
 }

@@ -4,12 +4,13 @@ ghost use Rattle.std.specs.Str.Lines.{lines};
 ghost use Rattle.guest_script.specs.Inside.Drafts.{draft_of};
 ghost use Rattle.guest_script.specs.Grammar.{written};
 ghost use Rattle.guest_script.specs.Inside.Progress.{lines_of_stage, lines_so_far, script_after, stage_after};
-ghost use Rattle.guest_script.specs.Reading.{GivesOrLacks, script_from, with_config};
+ghost use Rattle.guest_script.specs.Reading.{GivesOrLacks, plainly, script_from, with_config};
 
 use crate::board_line::board_words;
 use crate::draft::BodyDraft;
-use crate::fault::{Fault, NO_MEMORY, ScriptFault};
+use crate::fault::Fault;
 use crate::text::next_line;
+use crate::wrong::{Misread, NO_MEMORY, Wrong, column};
 use board_terms::Config;
 use script_lines::{MOST_LINES, Script};
 use std::alloc::{AllocError, Global};
@@ -27,7 +28,7 @@ pub enum Stage {
         draft: BodyDraft,
     },
     /// There was a fault.
-    Faulty(ScriptFault),
+    Faulty(Misread),
 }
 
 /// How far a script is read.
@@ -96,16 +97,13 @@ impl Progress {
                         self.next = next;
                         Ok(rest)
                     }
-                    Err(
-                        ScriptFault {
-                            line: _,
-                            fault: Fault::NoMemory,
-                        },
-                    ) => Err(AllocError),
-                    Err(fault) => {
-                        self.stage = Stage::Faulty(fault);
-                        Ok(&bytes[bytes.len()..])
-                    }
+                    Err(misread) => match misread.wrong.fault() {
+                        Fault::NoMemory => Err(AllocError),
+                        _ => {
+                            self.stage = Stage::Faulty(misread);
+                            Ok(&bytes[bytes.len()..])
+                        }
+                    },
                 }
             }
             Stage::Faulty(_) => Ok(&bytes[bytes.len()..]),
@@ -113,17 +111,18 @@ impl Progress {
     }
 
     /// The script, where no line follows.
-    pub fn script(self, alloc: Global) -> Result<Script, ScriptFault>
-        ensures { GivesOrLacks written result (script_after self []) }
+    pub fn script(self, alloc: Global) -> Result<Script, Misread>
+        ensures { GivesOrLacks written (plainly result) (script_after self []) }
     {
         let Progress { next: _, stage } = self;
         match stage {
-            Stage::Nothing => Err(ScriptFault {
+            Stage::Nothing => Err(Misread {
                 line: 0,
-                fault: Fault::NoBoardLine,
+                column: 0,
+                wrong: Wrong::NoBoardLine,
             }),
             Stage::Lines { config, draft } => script_with(alloc, config, draft),
-            Stage::Faulty(fault) => Err(fault),
+            Stage::Faulty(misread) => Err(misread),
         }
     }
 }
@@ -139,13 +138,17 @@ fn first_stage(n: u64, text: &[u8]) -> Stage
             config,
             draft: BodyDraft::Nothing,
         },
-        Err(fault) => Stage::Faulty(ScriptFault { line: n, fault }),
+        Err(unread) => Stage::Faulty(Misread {
+            line: n,
+            column: column(text, unread.left),
+            wrong: unread.wrong,
+        }),
     }
 }
 
 /// The script of a board and all that its lines say.
-fn script_with(alloc: Global, config: Config, draft: BodyDraft) -> Result<Script, ScriptFault>
-    ensures { GivesOrLacks written result (with_config config (Ok (draft_of draft))) }
+fn script_with(alloc: Global, config: Config, draft: BodyDraft) -> Result<Script, Misread>
+    ensures { GivesOrLacks written (plainly result) (with_config config (Ok (draft_of draft))) }
 {
     match draft.body(alloc) {
         Ok(body) => Ok(Script { config, body }),

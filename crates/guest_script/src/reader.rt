@@ -2,10 +2,12 @@
 ghost use Rattle.std.specs.Prelude.{◌≡◌, ◌+◌, ◌≤◌, ◌++◌, [], ℕ, List, IfOk, length};
 ghost use Rattle.guest_script.specs.Grammar.{most_bytes};
 ghost use Rattle.guest_script.specs.Pieces.{AreWhole, HasRead, IsAnswered, Part};
+ghost use Rattle.guest_script.specs.Reading.{plainly};
 ghost use Rattle.guest_script.specs.Inside.Progress.{grown, lines_so_far, part_of};
 
-use crate::fault::{Fault, NO_MEMORY, ScriptFault};
+use crate::fault::ScriptFault;
 use crate::progress::{Progress, Stage};
+use crate::wrong::{Misread, NO_MEMORY, Wrong};
 use script_lines::Script;
 use std::alloc::{AllocError, Global};
 use std::marker::Model;
@@ -82,15 +84,26 @@ impl Reader {
     pub fn end(self, alloc: Global, rest: &[u8]) -> Result<Script, ScriptFault>
         ensures { (before : List ℕ) → HasRead self before → IsAnswered (before ++ rest.now) result }
     {
+        match self.locate(alloc, rest) {
+            Ok(script) => Ok(script),
+            Err(misread) => Err(misread.fault()),
+        }
+    }
+
+    /// Reads the last bytes, and answers the script that all bytes are, or their first fault with its place.
+    pub fn locate(self, alloc: Global, rest: &[u8]) -> Result<Script, Misread>
+        ensures { (before : List ℕ) → HasRead self before → IsAnswered (before ++ rest.now) (plainly result) }
+    {
         let Reader {
             size,
             expected,
             mut progress,
         } = self;
         if grown(size, rest.len()) > MOST_BYTES {
-            return Err(ScriptFault {
+            return Err(Misread {
                 line: 0,
-                fault: Fault::TooLong,
+                column: 0,
+                wrong: Wrong::TooLong,
             });
         }
         match progress.read_lines(alloc, expected, rest) {

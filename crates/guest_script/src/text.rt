@@ -45,7 +45,7 @@ pub fn is_clean(text: &[u8]) -> bool
 }
 
 /// Whether a byte may stand in a script, comments aside.
-fn is_allowed(byte: u8) -> bool
+pub fn is_allowed(byte: u8) -> bool
     ensures { result ≡ is_allowed byte }
 {
     matches!(byte, b' '..=b'~' | b'\t')

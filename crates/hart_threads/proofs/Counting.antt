@@ -1,9 +1,8 @@
 -- Events of one actor, in what came later.
-use Rattle.std.proofs.Common.{◌≡◌, ℕ, ◌+◌, ◌≤◌, true, false, List, [], ◌∷◌, ◌++◌, length, refl, sym, ap, subst, ◌∙◌, arith}
+use Rattle.std.proofs.Common.{◌≡◌, ℕ, ◌+◌, ◌≤◌, true, false, List, [], ◌∷◌, ◌++◌, length, refl, sym, ap, subst, ◌∙◌, arith, inl, inr}
 use Rattle.std.specs.Prelude.{reverse, if◌then◌else◌, Option}
 use Rattle.std.proofs.lemmas.Bool.{cases_Bool}
 use Rattle.std.proofs.lemmas.List.{reverse-append}
-use Rattle.std.proofs.Common.{inl, inr}
 use mathlib.Core.List.{IsPrefix, IsSuffix}
 use Rattle.board_terms.specs.declared.op.Actor.{Actor}
 use Rattle.board_terms.specs.declared.op.Actor.TheVariants.{Hart, Clock}
@@ -12,7 +11,7 @@ use Rattle.board_core.specs.Course.{is_hart}
 use Rattle.board_core.specs.History.{Event}
 use Rattle.board_lock.specs.Events.{events_from, events_of, is_same}
 use Rattle.guest_script.specs.Grammar.{Guest}
-use Rattle.hart_threads.specs.Guests.{AreLeft, IsLeft, Meaning, Still, block_of, done, done_after, entry_after, last_entry, meaning_by}
+use Rattle.guest_programs.specs.Guests.{AreLeft, IsLeft, Meaning, Still, block_of, done, done_after, entry_after, last_entry, meaning_by}
 use Rattle.hart_threads.specs.Shares.{EachOf, many_of}
 use Rattle.hart_threads.specs.Inside.Works.{IsLeftTo}
 

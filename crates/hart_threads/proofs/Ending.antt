@@ -15,12 +15,12 @@ use Rattle.board_core.specs.Refusals.{first_that_holds, has_nothing_to_do, is_fu
 use Rattle.board_core.specs.Replies.{answer, refused_or, reply}
 use Rattle.board_core.specs.Resets.{is_off}
 use Rattle.guest_script.specs.Grammar.{Guest}
-use Rattle.hart_threads.specs.declared.ends.End.{End}
-use Rattle.hart_threads.specs.declared.ends.End.TheVariants.{GateLimit, Off, HistoryFull, Quiet, Stuck}
-use Rattle.hart_threads.specs.declared.met.Met.{Met}
-use Rattle.hart_threads.specs.declared.met.Met.TheVariants.{Nothing, FullHistory, ClosedGate}
-use Rattle.hart_threads.specs.Ends.{IsEndBy}
-use Rattle.hart_threads.specs.Met.{met_by_both}
+use Rattle.guest_programs.specs.declared.ends.End.{End}
+use Rattle.guest_programs.specs.declared.ends.End.TheVariants.{GateLimit, Off, HistoryFull, Quiet, Stuck}
+use Rattle.guest_programs.specs.declared.met.Met.{Met}
+use Rattle.guest_programs.specs.declared.met.Met.TheVariants.{Nothing, FullHistory, ClosedGate}
+use Rattle.guest_programs.specs.Ends.{IsEndBy}
+use Rattle.guest_programs.specs.Met.{met_by_both}
 use Rattle.hart_threads.specs.Shares.{AreThreads, HasMetFull, HasNoMore, HasStopped, IsClosed, IsOverFull, IsRun}
 
 -- ---- a call that was refused for a full history: the history is full

@@ -1,6 +1,4 @@
-pub mod Following
 pub mod InCalls
-pub mod Quiet
 pub mod NewSeats
 pub mod Kept
 pub mod Ticked

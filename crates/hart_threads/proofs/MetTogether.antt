@@ -1,8 +1,9 @@
 -- What threads met together, thread by thread.
 use Rattle.std.proofs.Common.{◌≡◌, List, [], ◌∷◌, ◌++◌, refl, ap, ◌∙◌}
-use Rattle.hart_threads.specs.declared.met.Met.{Met}
-use Rattle.hart_threads.specs.declared.met.Met.TheVariants.{Nothing, FullHistory, ClosedGate}
-use Rattle.hart_threads.specs.Met.{met_by_all, met_by_both}
+use Rattle.guest_programs.specs.declared.met.Met.{Met}
+use Rattle.guest_programs.specs.declared.met.Met.TheVariants.{Nothing, FullHistory, ClosedGate}
+use Rattle.guest_programs.specs.Met.{met_by_both}
+use Rattle.hart_threads.specs.Inside.Works.{met_by_all}
 
 alone : (m : Met) → met_by_both m Nothing ≡ m
 alone Nothing = refl

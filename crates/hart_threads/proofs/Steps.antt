@@ -18,11 +18,12 @@ use Rattle.board_lock.specs.declared.views.HartView.{HartView}
 use Rattle.board_lock.specs.Events.{IsActor}
 use Rattle.board_lock.specs.Seats.{Sitting, seeing, sitting}
 use Rattle.board_lock.specs.Views.{IsDone, IsRefused, IsView}
-use Rattle.hart_threads.specs.declared.met.Met.{Met}
-use Rattle.hart_threads.specs.declared.met.Met.TheVariants.{Nothing, FullHistory, ClosedGate}
-use Rattle.hart_threads.specs.Choices.{choice_of, chosen, first_choice, is_going, next_choice, waits_for_none}
-use Rattle.hart_threads.specs.Guests.{is_guest, next_of}
-use Rattle.hart_threads.specs.Met.{met_by_refusal}
+use Rattle.guest_programs.specs.declared.met.Met.{Met}
+use Rattle.guest_programs.specs.declared.met.Met.TheVariants.{Nothing, FullHistory, ClosedGate}
+use Rattle.board_lock.specs.Coming.{chosen, waits_for_none}
+use Rattle.hart_threads.specs.Choices.{choice_of, first_choice, is_going, next_choice}
+use Rattle.guest_programs.specs.Guests.{is_guest, next_of}
+use Rattle.guest_programs.specs.Met.{met_by_refusal}
 use Rattle.hart_threads.specs.Shares.{Refuses, gate_number}
 use Rattle.hart_threads.specs.Inside.Works.{At, Goes, HasTurn, HasWorked, IsAtWork, IsGoing, IsLeftTo, Stops, Task, WorkedAt}
 use Rattle.hart_threads.proofs.Counting.{earlier-of}

@@ -8,7 +8,7 @@ use Rattle.board_terms.specs.declared.op.Actor.TheVariants.{Hart, Clock}
 use Rattle.board_core.specs.History.{Event}
 use Rattle.board_lock.specs.Events.{ops_of}
 use Rattle.board_lock.specs.Seats.{Sitting, new_seats, seats_of, sitting}
-use Rattle.hart_threads.specs.Programs.{AreFirst}
+use Rattle.guest_programs.specs.Programs.{AreFirst}
 use Rattle.hart_threads.specs.Inside.Works.{IsFresh}
 
 -- the seats of a new board

@@ -4,7 +4,7 @@ use Rattle.std.specs.Prelude.{slice_get, Some}
 use Rattle.std.proofs.lemmas.Option.{slice_get-get_or}
 use Rattle.board_terms.specs.declared.op.Op.{Op}
 use Rattle.board_terms.specs.declared.op.Op.TheVariants.{Tick}
-use Rattle.hart_threads.specs.Programs.{AreFirst}
+use Rattle.guest_programs.specs.Programs.{AreFirst}
 
 pub next-tick : (ticks program : List ℕ) (k i : ℕ) → program ≡ ticks → k ≡ i → i < length program → slice_get ticks k ≡ Some (get_or program i 0)
 next-tick ticks program k i planned count below =

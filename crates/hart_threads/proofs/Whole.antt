@@ -10,11 +10,11 @@ use Rattle.board_terms.specs.declared.reply.Refusal.TheVariants.{HistoryFull}
 use Rattle.board_core.specs.History.{Event}
 use Rattle.board_lock.specs.Events.{IsActor, events_of, is_same}
 use Rattle.board_lock.specs.Seats.{Sitting, seats_of}
-use Rattle.hart_threads.specs.declared.met.Met.{Met}
-use Rattle.hart_threads.specs.declared.met.Met.TheVariants.{Nothing, FullHistory, ClosedGate}
-use Rattle.hart_threads.specs.Met.{met_by_all, met_by_both}
+use Rattle.guest_programs.specs.declared.met.Met.{Met}
+use Rattle.guest_programs.specs.declared.met.Met.TheVariants.{Nothing, FullHistory, ClosedGate}
+use Rattle.guest_programs.specs.Met.{met_by_both}
+use Rattle.hart_threads.specs.Inside.Works.{met_by_all, At, HasWorked, SeesNoMore, Stops, Task, WorkedAt}
 use Rattle.hart_threads.specs.Shares.{AreThreads, ChoosesNone, Earlier, EachOf, HasNoMore, HasStopped, IsDue, Refuses, gate_number, many_of}
-use Rattle.hart_threads.specs.Inside.Works.{At, HasWorked, SeesNoMore, Stops, Task, WorkedAt}
 use Rattle.hart_threads.proofs.Counting.{earlier-of, length-events}
 use Rattle.hart_threads.proofs.Working.{each-later, same-then}
 

@@ -18,14 +18,13 @@ use Rattle.board_lock.specs.Events.{is_same}
 use Rattle.board_lock.specs.Seats.{Sitting}
 use Rattle.board_lock.specs.Views.{IsDone, IsRefused, ShowsTo}
 use Rattle.guest_script.specs.Grammar.{Guest}
-use Rattle.hart_threads.specs.declared.met.Met.{Met}
-use Rattle.hart_threads.specs.declared.met.Met.TheVariants.{Nothing, FullHistory, ClosedGate}
+use Rattle.guest_programs.specs.declared.met.Met.{Met}
+use Rattle.guest_programs.specs.declared.met.Met.TheVariants.{Nothing, FullHistory, ClosedGate}
 use Rattle.hart_threads.specs.Choices.{choice_of}
-use Rattle.hart_threads.specs.Guests.{AreLeft, IsLeft, next_of}
+use Rattle.guest_programs.specs.Guests.{AreLeft, IsLeft, next_of}
 use Rattle.hart_threads.specs.Shares.{ChoosesNone, EachOf, IsDue, IsNext, IsTurn, Refuses, gate_number, many_of}
 use Rattle.hart_threads.specs.Inside.Works.{At, Goes, HasMet, HasTurn, IsAtWork, IsGoing, IsLeftTo, SeesNoMore, Stops, Task}
 use Rattle.hart_threads.proofs.Counting.{each-still, earlier-of, left-still, length-events, no-more, none-since, own-one-more}
-use Rattle.hart_threads.proofs.Following.{longer}
 
 -- ---- what was known is known of what is seen later
 
@@ -80,6 +79,10 @@ going-later t a n past later left met since going = record {
 }
 
 -- ---- what a hart's thread chooses by its view
+
+longer : (front : List Op) (a : Op) (us : List Op) → front ++ a ∷ us ≢ front
+longer [] a us same = cc
+longer (x ∷ front) a us same = longer front a us cc
 
 next-is : (left : Option (List Op)) (done whole : List Op) → AreLeft left done whole → IsNext (next_of left) done whole
 next-is None done whole never = λ op rest. never (op ∷ rest)

@@ -1,8 +1,5 @@
-pub mod Programs
-pub mod Guests
+pub use Rattle.guest_programs.specs.Programs
+pub use Rattle.guest_programs.specs.Ends
 pub mod Choices
-pub mod Met
 pub mod Shares
-pub mod Ends
-pub mod Faults
 pub mod Inside

@@ -16,14 +16,14 @@ use Rattle.board_lock.specs.declared.views.HartNow.{HartNow}
 use Rattle.board_lock.specs.Events.{IsActor, is_same}
 use Rattle.board_lock.specs.Views.{Shows}
 use Rattle.guest_script.specs.Grammar.{Guest}
-use Rattle.hart_threads.specs.declared.ends.End.{End}
-use Rattle.hart_threads.specs.declared.ends.End.TheVariants as ends
-use Rattle.hart_threads.specs.declared.ends.End.TheVariants.{GateLimit}
-use Rattle.hart_threads.specs.declared.met.Met.{Met}
-use Rattle.hart_threads.specs.declared.met.Met.TheVariants.{Nothing, FullHistory, ClosedGate}
+use Rattle.guest_programs.specs.declared.ends.End.{End}
+use Rattle.guest_programs.specs.declared.ends.End.TheVariants as ends
+use Rattle.guest_programs.specs.declared.ends.End.TheVariants.{GateLimit}
+use Rattle.guest_programs.specs.declared.met.Met.{Met}
+use Rattle.guest_programs.specs.declared.met.Met.TheVariants.{Nothing, FullHistory, ClosedGate}
 use Rattle.hart_threads.specs.Choices.{first_choice}
-use Rattle.hart_threads.specs.Guests.{block_of, done, last_entry}
-use Rattle.hart_threads.specs.Met.{met_by_both}
+use Rattle.guest_programs.specs.Guests.{block_of, done, last_entry}
+use Rattle.guest_programs.specs.Met.{met_by_both}
 
 -- how many of the events are the actor's
 abbrev pub many_of : Actor → List Event → ℕ

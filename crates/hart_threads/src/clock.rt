@@ -3,15 +3,15 @@ ghost use Rattle.std.specs.Prelude.{◌≡◌, [], reverse};
 ghost use Rattle.board_terms.specs.declared.op.Actor.TheVariants.{Clock};
 ghost use Rattle.board_lock.specs.Events.{IsActor};
 ghost use Rattle.board_lock.specs.Seats.{sitting};
-ghost use Rattle.hart_threads.specs.Programs.{AreFirst};
+ghost use Rattle.guest_programs.specs.Programs.{AreFirst};
 ghost use Rattle.hart_threads.specs.Inside.Works.{IsGate, WorkedAt, task};
 
 use crate::gate::Gate;
-use crate::met::Met;
 use crate::plans::Plan;
 use crate::work::{Work, Worked};
 use board_core::Op;
 use board_lock::{Awaits, Seat};
+use guest_programs::Met;
 use std::sync::Wait;
 
 /// The clock's thread: its ticks in order, up to one that is refused, and then rest.

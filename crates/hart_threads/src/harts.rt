@@ -6,18 +6,17 @@ ghost use Rattle.board_lock.specs.Events.{IsActor};
 ghost use Rattle.board_lock.specs.Seats.{sitting};
 ghost use Rattle.board_lock.specs.Views.{IsView};
 ghost use Rattle.hart_threads.specs.Choices.{awaited, next_choice};
-ghost use Rattle.hart_threads.specs.Guests.{is_guest, left_of, next_of};
+ghost use Rattle.guest_programs.specs.Guests.{is_guest, left_of, next_of};
 ghost use Rattle.hart_threads.specs.Inside.Works.{Goes, HasTurn, IsGate, WorkedAt, task};
-ghost use Rattle.hart_threads.specs.declared.met.Met.TheVariants.{Nothing};
+ghost use Rattle.guest_programs.specs.declared.met.Met.TheVariants.{Nothing};
 
 use crate::choosing::choice;
 use crate::gate::Gate;
-use crate::guests::Guest;
-use crate::met::Met;
 use crate::plans::Plan;
 use crate::work::{Work, Worked};
 use board_core::Op;
 use board_lock::{Awaits, HartView, Seat};
+use guest_programs::{Guest, Met};
 use std::sync::Wait;
 
 /// A hart's thread: by what it sees it serves, polls, advances, does the next operation of its guest's block, or rests, until

@@ -1,17 +1,16 @@
 //! Threads that are started, and waited for.
 ghost use Rattle.std.specs.Prelude.{◌≡◌, All, IfOk, IsErrOf, map};
 ghost use Rattle.hart_threads.specs.Inside.Works.{IsFresh, IsGate, WorkedAt, task};
-ghost use Rattle.hart_threads.specs.declared.ends.RunFault.TheVariants.{BadConfig};
+ghost use Rattle.guest_programs.specs.declared.ends.RunFault.TheVariants.{BadConfig};
 
 use crate::clock::tick;
-use crate::ends::RunFault;
 use crate::gate::Gate;
 use crate::harts::follow;
-use crate::met::Met;
 use crate::plans::Plan;
 use crate::work::{Work, Worked};
 use board_core::Actor;
 use board_lock::Seat;
+use guest_programs::{Met, RunFault};
 use std::alloc::{AllocError, Global};
 use std::sync::Wait;
 use std::thread::{self, Promise, Threads};

@@ -2,16 +2,15 @@
 ghost use Rattle.std.specs.Prelude.{◌≡◌, map};
 ghost use Rattle.board_terms.specs.declared.op.Actor.TheVariants.{Clock};
 ghost use Rattle.guest_script.specs.Grammar.{guest};
-ghost use Rattle.hart_threads.specs.Programs.{AreFirst};
+ghost use Rattle.guest_programs.specs.Programs.{AreFirst};
 ghost use Rattle.hart_threads.specs.Shares.{gate_number};
 ghost use Rattle.hart_threads.specs.Inside.Works.{IsGate};
 
-use crate::blocks::Program;
 use crate::gate::Gate;
-use crate::met::Met;
 use crate::plans::Plan;
 use board_core::Actor;
 use board_lock::{Receipt, Seat, SharedBoard};
+use guest_programs::{Met, Program};
 
 /// What all threads of a run share.
 #[derive(Drop)]

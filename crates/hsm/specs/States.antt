@@ -3,6 +3,7 @@ use Rattle.std.specs.Prelude.{ℕ, Bool, true, false}
 use Rattle.hsm.specs.declared.hart.HartState.{HartState}
 use Rattle.hsm.specs.declared.hart.HartState.TheVariants.{Started, Stopped, StartPending, StopPending, Suspended, SuspendPending, ResumePending}
 
+-- The number of each state, as hart_get_status answers it (SBI 9, HSM states).
 abbrev pub state_number : HartState → ℕ
 state_number Started = 0
 state_number Stopped = 1
@@ -12,6 +13,7 @@ state_number Suspended = 4
 state_number SuspendPending = 5
 state_number ResumePending = 6
 
+-- The states of these names (SBI 9, HSM states).
 abbrev pub is_started : HartState → Bool
 is_started Started = true
 is_started Stopped = false
@@ -30,6 +32,7 @@ is_stopped Suspended = false
 is_stopped SuspendPending = false
 is_stopped ResumePending = false
 
+-- Whether a hart was started, and isn't entered yet.
 abbrev pub is_start_pending : HartState → Bool
 is_start_pending Started = false
 is_start_pending Stopped = false

@@ -1,6 +1,5 @@
 -- The printed table of a board (profile).
-use Rattle.std.specs.Prelude.{ℕ, ◌-◌, List, [], ◌∷◌, ◌++◌, length, map, replicate, reverse, codes, decimal, Bool, true, false, if◌then◌else◌, Option, Some, None}
-use Rattle.std.specs.Fmt.{digits}
+use Rattle.std.specs.Prelude.{ℕ, List, [], ◌∷◌, ◌++◌, length, map, replicate, reverse, codes, decimal, Bool, true, false, if◌then◌else◌, Option, Some, None}
 use Rattle.std.specs.List.{flat_map}
 use Rattle.sbi_abi.specs.declared.reset.Reset.{Reset}
 use Rattle.sbi_abi.specs.ResetTypes.{reset_kind_number}
@@ -15,7 +14,6 @@ use Rattle.tlb_model.specs.declared.fence.Flush.{Flush}
 use Rattle.tlb_model.specs.declared.fence.Flush.TheVariants.{Words, Entries}
 use Rattle.tlb_model.specs.declared.fence.Range.{Range}
 use Rattle.tlb_model.specs.declared.word.FetchWord.{FetchWord}
-use Rattle.board_core.specs.declared.board.Totals.{Totals}
 use Rattle.board_core.specs.Course.{harts_of}
 use Rattle.board_core.specs.Csrs.{bits_of, sie, sstatus_sie}
 use Rattle.board_core.specs.Fences.{outstanding, waiting}
@@ -27,8 +25,9 @@ use Rattle.board_core.specs.Resets.{is_off, last_reset}
 use Rattle.board_core.specs.Starts.{kept}
 use Rattle.board_core.specs.States.{state}
 use Rattle.board_core.specs.Totals.{totals}
+use Rattle.board_rules.specs.declared.totals.Totals.{Totals}
 use Rattle.printed_lines.specs.Columns.{hex_column, left, right}
-use Rattle.printed_lines.specs.Words.{bit_of, line_of}
+use Rattle.printed_lines.specs.Words.{bit_of, as_line}
 
 abbrev pub hex16 : ℕ → List ℕ
 hex16 n = hex_column 16 n
@@ -58,9 +57,9 @@ power_word true = codes "off"
 power_word false = codes "on"
 
 -- the type and the reason of the last reset, or `none`
-abbrev pub reset_words : Option Reset → List (List ℕ)
-reset_words None = codes "none" ∷ []
-reset_words (Some reset) = hex_column 8 (reset_kind_number reset.kind) ∷ hex_column 8 reset.reason ∷ []
+abbrev pub shown_reset : Option Reset → List (List ℕ)
+shown_reset None = codes "none" ∷ []
+shown_reset (Some reset) = hex_column 8 (reset_kind_number reset.kind) ∷ hex_column 8 reset.reason ∷ []
 
 -- the time, the count of events since the opening, the power, and the last reset
 unfoldable pub time_cells : Opening → List Event → List (List ℕ)
@@ -69,7 +68,7 @@ time_cells o past =
     ∷ codes "time" ∷ hex16 (time o past)
     ∷ codes "events" ∷ right 7 (decimal (length past))
     ∷ codes "power" ∷ power_word (is_off o past)
-    ∷ codes "reset" ∷ reset_words (last_reset o past)
+    ∷ codes "reset" ∷ shown_reset (last_reset o past)
 
 unfoldable pub totals_cells : Totals → List (List ℕ)
 totals_cells t =
@@ -105,8 +104,8 @@ abbrev pub in_order : {E : Type 0} → List (Numbered E) → List E
 in_order fills = reverse (map (λ fill. fill.item) fills)
 
 -- the live entries of a hart's TLB, in the order of filling
-abbrev pub entries : Opening → List Event → ℕ → List Entry
-entries o past h = in_order (caches_of o past h).tlb.live
+abbrev pub tlb_entries : Opening → List Event → ℕ → List Entry
+tlb_entries o past h = in_order (caches_of o past h).tlb.live
 
 -- the live words of a hart's instruction cache, in the order of filling
 abbrev pub words : Opening → List Event → ℕ → List FetchWord
@@ -126,7 +125,7 @@ hart_cells o past h =
     ∷ right 2 (decimal (bit_of (sstatus_sie o past h)))
     ∷ hex16 (satp o past h)
     ∷ deadline_cell (deadline o past h)
-    ∷ right 3 (decimal (length (entries o past h)))
+    ∷ right 3 (decimal (length (tlb_entries o past h)))
     ∷ right 2 (decimal (length (words o past h)))
     ∷ []
 
@@ -135,11 +134,11 @@ unfoldable pub entry_cells : ℕ → EntryPoint → List (List ℕ)
 entry_cells h start = codes "#" ∷ codes "entry" ∷ right 3 (decimal h) ∷ hex16 start.addr ∷ hex16 start.opaque ∷ []
 
 abbrev pub entry_line : ℕ → Option EntryPoint → List ℕ
-entry_line h (Some start) = line_of (entry_cells h start)
+entry_line h (Some start) = as_line (entry_cells h start)
 entry_line h None = []
 
 abbrev pub row : Opening → List Event → ℕ → List ℕ
-row o past h = line_of (hart_cells o past h)
+row o past h = as_line (hart_cells o past h)
 
 -- a letter, or a dash where what it stands for is absent
 abbrev pub letter : Bool → (byte : ℕ) → ℕ
@@ -169,15 +168,15 @@ unfoldable pub word_cells : ℕ → FetchWord → List (List ℕ)
 word_cells h fetched = codes "#" ∷ codes "ic" ∷ right 3 (decimal h) ∷ hex16 fetched.pa ∷ hex16 fetched.word ∷ []
 
 abbrev pub tlb_line : ℕ → Entry → List ℕ
-tlb_line h entry = line_of (tlb_cells h entry)
+tlb_line h entry = as_line (tlb_cells h entry)
 
 abbrev pub word_line : ℕ → FetchWord → List ℕ
-word_line h fetched = line_of (word_cells h fetched)
+word_line h fetched = as_line (word_cells h fetched)
 
 -- the addresses that a fence is of: all, or a range by its start and its size
-abbrev pub range_words : Option Range → List (List ℕ)
-range_words None = codes "full" ∷ []
-range_words (Some range) = hex16 range.start ∷ hex16 range.size ∷ []
+abbrev pub shown_range : Option Range → List (List ℕ)
+shown_range None = codes "full" ∷ []
+shown_range (Some range) = hex16 range.start ∷ hex16 range.size ∷ []
 
 -- the address space that a fence is of, where it is of one
 abbrev pub asid_words : Option ℕ → List (List ℕ)
@@ -185,25 +184,25 @@ asid_words None = []
 asid_words (Some asid) = codes "asid" ∷ hex_column 4 asid ∷ []
 
 -- what a fence drops: the fetched words, or translations
-abbrev pub flush_words : Flush → List (List ℕ)
-flush_words Words = codes "i" ∷ []
-flush_words (Entries fence) = codes "vma" ∷ (range_words fence.range ++ asid_words fence.asid)
+abbrev pub shown_flush : Flush → List (List ℕ)
+shown_flush Words = codes "i" ∷ []
+shown_flush (Entries fence) = codes "vma" ∷ (shown_range fence.range ++ asid_words fence.asid)
 
 -- a fence that waits at a hart, and the hart that asked it
 unfoldable pub fence_cells : ℕ → Request Flush → List (List ℕ)
 fence_cells h request =
     codes "#" ∷ codes "fence" ∷ right 3 (decimal h) ∷ codes "from" ∷ right 3 (decimal request.from)
-    ∷ flush_words request.flush
+    ∷ shown_flush request.flush
 
 abbrev pub fence_line : ℕ → Request Flush → List ℕ
-fence_line h request = line_of (fence_cells h request)
+fence_line h request = as_line (fence_cells h request)
 
 -- the lines that follow the rows for a hart: what is kept for it, the entries of its TLB, its fetched words, and the
 -- fences that wait at it
 abbrev pub details : Opening → List Event → ℕ → List ℕ
 details o past h =
     entry_line h (kept o past h)
-    ++ (flat_map (tlb_line h) (entries o past h)
+    ++ (flat_map (tlb_line h) (tlb_entries o past h)
     ++ (flat_map (word_line h) (words o past h)
     ++ flat_map (fence_line h) (waiting o past h)))
 
@@ -211,8 +210,8 @@ details o past h =
 -- then, hart by hart, what is kept for it, what its caches have, and the fences that wait at it.
 abbrev pub table : Opening → List Event → List ℕ
 table o past =
-    line_of (time_cells o past)
-    ++ (line_of (totals_cells (totals o past))
-    ++ (line_of head_cells
+    as_line (time_cells o past)
+    ++ (as_line (totals_cells (totals o past))
+    ++ (as_line head_cells
     ++ (flat_map (row o past) (harts_of o.config)
     ++ flat_map (details o past) (harts_of o.config))))

@@ -1,7 +1,7 @@
 //! The line of an event.
 ghost use Rattle.std.specs.Prelude.{◌^◌, ◌<◌, Ok};
 ghost use Rattle.printed_lines.specs.Sinks.{Puts};
-ghost use Rattle.printed_lines.specs.Words.{event_words, line_of};
+ghost use Rattle.printed_lines.specs.Words.{event_words, as_line};
 
 use board_core::Event;
 use printed_lines::{Failed, Sink, print_line};
@@ -10,7 +10,7 @@ use printed_lines::{Failed, Sink, print_line};
 pub fn print_event<W: Sink>(event: &Event, sink: &mut W) -> Result<(), Failed>
     requires { W.failures sink.old < 2 ^ 63 }
     ensures { Puts W.written W.failures sink.old sink.new result
-        (line_of (event_words event.now.actor event.now.op (Ok event.now.reply))) }
+        (as_line (event_words event.now.actor event.now.op (Ok event.now.reply))) }
 {
     let step = (event.actor(), event.op());
     print_line(Some(step), Ok(event.reply()), sink)

@@ -5,13 +5,13 @@ ghost use Rattle.board_core.specs.Course.{harts_of};
 ghost use Rattle.board_core.specs.Fences.{waiting};
 ghost use Rattle.printed_lines.specs.LineText.{decimal_room, fence_room, flush_room, hex_column_room, hex_column_work, line_room, power_room, reset_room, with_words};
 ghost use Rattle.printed_lines.specs.Sinks.{Puts};
-ghost use Rattle.monitor.specs.Table.{asid_words, deadline_cell, details, entries, entry_cells, entry_line, fence_cells, fence_line, flush_words, hart_cells, head_cells, letter, outstanding_cell, power_word, range_words, reset_words, rights, row, state_name, table, time_cells, tlb_cells, tlb_line, totals_cells, word_cells, word_line, words};
-ghost use Rattle.printed_lines.specs.Words.{line_of};
+ghost use Rattle.monitor.specs.Table.{asid_words, deadline_cell, details, tlb_entries, entry_cells, entry_line, fence_cells, fence_line, shown_flush, hart_cells, head_cells, letter, outstanding_cell, power_word, shown_range, shown_reset, rights, row, state_name, table, time_cells, tlb_cells, tlb_line, totals_cells, word_cells, word_line, words};
+ghost use Rattle.printed_lines.specs.Words.{as_line};
 
 use board_core::{Board, Entry, EntryPoint, FetchWord, HartState, Reset, Totals};
 use fence_queue::Request;
 use hart_mask::HartSet;
-use printed_lines::{Failed, LineText, Sink, bit};
+use printed_lines::{Failed, LineText, Sink, bit_of};
 use tlb_model::{Flush, Range};
 
 /// Prints the board's table, of lines that are comments in a script.
@@ -68,7 +68,7 @@ fn print_tlb<W: Sink>(board: &Board, h: u64, sink: &mut W) -> Result<(), Failed>
     requires failures { W.failures sink.old < 2 ^ 63 }
     requires is_hart { h < board.now.opening.config.harts }
     ensures { Puts W.written W.failures sink.old sink.new result
-        (flat_map (tlb_line h) (entries board.now.opening board.now.past h)) }
+        (flat_map (tlb_line h) (tlb_entries board.now.opening board.now.past h)) }
 {
     for fill in board.tlb(h) {
         tlb_line(h, &fill.item).put(sink)?;
@@ -144,7 +144,7 @@ fn power(is_off: bool) -> &'static [u8]
 /// Appends the type and the reason of the last reset.
 fn reset_onto(line: &mut LineText, last: Option<Reset>)
     requires { length line.old ≤ power_room }
-    ensures text { line.new ≡ with_words line.old (reset_words last) }
+    ensures text { line.new ≡ with_words line.old (shown_reset last) }
     ensures len { length line.new ≤ length line.old + reset_room }
     ensures some { 0 < length line.new }
 {
@@ -219,10 +219,10 @@ fn hart_line(board: &Board, h: u64) -> LineText
     line.left(15, name(board.state(h)));
     line.right_decimal(4, board.waiting_len(h));
     outstanding_onto(&mut line, board.outstanding(h));
-    line.right_decimal(2, bit(board.ssip(h)));
-    line.right_decimal(2, bit(board.stip(h)));
+    line.right_decimal(2, bit_of(board.ssip(h)));
+    line.right_decimal(2, bit_of(board.stip(h)));
     line.hex_column(2, board.sie(h).bits());
-    line.right_decimal(2, bit(board.sstatus_sie(h)));
+    line.right_decimal(2, bit_of(board.sstatus_sie(h)));
     line.hex_column(16, board.satp(h));
     deadline_onto(&mut line, board.deadline(h));
     line.right_decimal(3, entry_count(board, h));
@@ -233,7 +233,7 @@ fn hart_line(board: &Board, h: u64) -> LineText
 /// How many entries are live in a hart's TLB.
 fn entry_count(board: &Board, h: u64) -> u64
     requires { h < board.now.opening.config.harts }
-    ensures { result ≡ length (entries board.now.opening board.now.past h) }
+    ensures { result ≡ length (tlb_entries board.now.opening board.now.past h) }
 {
     board.tlb(h).len() as u64
 }
@@ -363,7 +363,7 @@ fn fence_line(h: u64, request: &Request<Flush>) -> LineText
 /// Appends what a fence drops.
 fn flush_onto(line: &mut LineText, flush: Flush)
     requires { length line.old ≤ fence_room }
-    ensures text { line.new ≡ with_words line.old (flush_words flush) }
+    ensures text { line.new ≡ with_words line.old (shown_flush flush) }
     ensures len { length line.new ≤ length line.old + flush_room }
     ensures some { 0 < length line.new }
 {
@@ -380,7 +380,7 @@ fn flush_onto(line: &mut LineText, flush: Flush)
 /// Appends the addresses that a fence is of.
 fn range_onto(line: &mut LineText, range: Option<Range>)
     requires { length line.old ≤ fence_room + 4 }
-    ensures text { line.new ≡ with_words line.old (range_words range) }
+    ensures text { line.new ≡ with_words line.old (shown_range range) }
     ensures len { length line.new ≤ length line.old + 2 * hex_column_room }
     ensures some { 0 < length line.new }
 {

@@ -3,16 +3,17 @@ use Rattle.std.specs.Prelude.{ℕ, ◌-◌, List, ◌++◌, length, replicate, f
 use Rattle.std.specs.Fmt.{digits}
 
 -- a text after as many of these bytes as fill the width
-abbrev pub filled : (width byte : ℕ) → List ℕ → List ℕ
-filled width byte text = replicate (width - length text) byte ++ text
+abbrev pub padded : (width byte : ℕ) → List ℕ → List ℕ
+padded width byte text = replicate (width - length text) byte ++ text
 
 -- a text at the right, or at the left, of a column of this width
 abbrev pub right : (width : ℕ) → List ℕ → List ℕ
-right width text = filled width 32 text
+right width text = padded width 32 text
 
+-- A text at the left of a column of this width.
 abbrev pub left : (width : ℕ) → List ℕ → List ℕ
 left width text = text ++ replicate (width - length text) 32
 
 -- lower case hexadecimal digits with leading zeros
 abbrev pub hex_column : (width : ℕ) → ℕ → List ℕ
-hex_column width n = filled width 48 (digits 16 false n)
+hex_column width n = padded width 48 (digits 16 false n)

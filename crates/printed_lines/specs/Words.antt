@@ -50,6 +50,7 @@ op_words Serve = codes "serve" ∷ []
 op_words Advance = codes "advance" ∷ []
 op_words (Tick n) = codes "tick" ∷ hex n ∷ []
 
+-- The words of a reply or a refusal, behind the arrow.
 abbrev pub reply_words : Result Reply Refusal → List (List ℕ)
 reply_words (Ok (Ret answer)) = codes "ret" ∷ signed_decimal answer.error ∷ hex answer.value ∷ []
 reply_words (Ok Waiting) = codes "waiting" ∷ []
@@ -66,8 +67,9 @@ reply_words (Err refusal) = codes "refused" ∷ decimal (refusal_number refusal)
 abbrev pub spaces_words : Config → List (List ℕ)
 spaces_words c = if has_usual_spaces c then [] else decimal c.asid_len ∷ decimal c.width ∷ []
 
-abbrev pub board_words : Config → List (List ℕ)
-board_words c =
+-- The words of a board line.
+abbrev pub board_line_words : Config → List (List ℕ)
+board_line_words c =
     codes "board"
     ∷ decimal c.harts
     ∷ decimal c.pages
@@ -86,12 +88,14 @@ abbrev pub doing_words : Option (Actor × Op) → List (List ℕ)
 doing_words None = codes "cut" ∷ []
 doing_words (Some step) = step_words step.0 step.1
 
+-- The words of a step, or of a cut, with what it gave.
 abbrev pub line_words : Option (Actor × Op) → Result Reply Refusal → List (List ℕ)
 line_words step result = doing_words step ++ codes "->" ∷ reply_words result
 
+-- The words of an accepted or refused step.
 abbrev pub event_words : Actor → Op → Result Reply Refusal → List (List ℕ)
 event_words actor op result = line_words (Some (actor, op)) result
 
 -- words as a line: one blank between each two, and a line feed at the end
-abbrev pub line_of : List (List ℕ) → List ℕ
-line_of words = join_with_byte 32 words ++ 10 ∷ []
+abbrev pub as_line : List (List ℕ) → List ℕ
+as_line words = join_with_byte 32 words ++ 10 ∷ []

@@ -7,6 +7,6 @@ mod page;
 mod sink;
 
 pub use line_text::LineText;
-pub use lines::{bit, print_head, print_line, print_reply};
+pub use lines::{bit_of, print_head, print_line, print_reply};
 pub use page::Page;
 pub use sink::{Failed, Sink, write_all};

@@ -4,7 +4,7 @@ ghost use Rattle.std.specs.Fmt.{digit_glyph, digits, signed_decimal};
 ghost use Rattle.printed_lines.specs.Columns.{right, left, hex_column};
 ghost use Rattle.printed_lines.specs.LineText.{decimal_room, hex_column_room, hex_column_work, hex_room, page_room, signed_room, with_words};
 ghost use Rattle.printed_lines.specs.Sinks.{Puts};
-ghost use Rattle.printed_lines.specs.Words.{hex, line_of};
+ghost use Rattle.printed_lines.specs.Words.{hex, as_line};
 
 use crate::sink::{Failed, Sink, write_all};
 use itoa::Buffer;
@@ -91,7 +91,7 @@ impl LineText {
         requires room { length self.old < CAPACITY }
         ensures ended { self.new ≡ self.old ++ 10 ∷ [] }
         ensures puts { (words : List (List ℕ)) → self.old ≡ with_words [] words
-            → Puts W.written W.failures sink.old sink.new result (line_of words) }
+            → Puts W.written W.failures sink.old sink.new result (as_line words) }
     {
         self.text(b"\n");
         write_all(sink, self.without_blank())

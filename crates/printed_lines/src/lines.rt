@@ -4,7 +4,7 @@ ghost use Rattle.std.specs.Fmt.{signed_decimal};
 ghost use Rattle.std.specs.List.{join_with_byte};
 ghost use Rattle.printed_lines.specs.LineText.{arguments_room, decimal_room, hex_room, line_room, op_room, page_room, reply_room, signed_room, with_words};
 ghost use Rattle.printed_lines.specs.Sinks.{Puts};
-ghost use Rattle.printed_lines.specs.Words.{bit_of, hex, hex_or_dash, actor_word, board_words, event_words, line_of, line_words, op_words, reply_words, spaces_words};
+ghost use Rattle.printed_lines.specs.Words.{bit_of, hex, hex_or_dash, actor_word, board_line_words, event_words, as_line, line_words, op_words, reply_words, spaces_words};
 ghost use Rattle.board_terms.specs.declared.op.Op.TheVariants.{Ecall};
 ghost use Rattle.board_terms.specs.declared.reply.Reply.TheVariants.{Entry};
 
@@ -17,7 +17,7 @@ use sbi_abi::Regs;
 /// Prints the board line.
 pub fn print_head<W: Sink>(config: &Config, sink: &mut W) -> Result<(), Failed>
     requires { W.failures sink.old < 2 ^ 63 }
-    ensures { Puts W.written W.failures sink.old sink.new result (line_of (board_words config.now)) }
+    ensures { Puts W.written W.failures sink.old sink.new result (as_line (board_line_words config.now)) }
 {
     let mut line = LineText::new();
     line.word(b"board");
@@ -50,7 +50,7 @@ pub fn print_line<W: Sink>(
     sink: &mut W,
 ) -> Result<(), Failed>
     requires { W.failures sink.old < 2 ^ 63 }
-    ensures { Puts W.written W.failures sink.old sink.new result (line_of (line_words step answer)) }
+    ensures { Puts W.written W.failures sink.old sink.new result (as_line (line_words step answer)) }
 {
     let mut page = Page::new();
     page.print_line(step, answer, sink)?;
@@ -72,7 +72,7 @@ pub fn print_reply<W: Sink>(answer: Result<Reply, Refusal>, sink: &mut W) -> Res
 #[inline(never)]
 pub fn cut_onto(line: &mut LineText, answer: Result<Reply, Refusal>)
     requires { length line.old + line_room ≤ page_room }
-    ensures text { line.new ≡ line.old ++ line_of (line_words None answer) }
+    ensures text { line.new ≡ line.old ++ as_line (line_words None answer) }
     ensures len { length line.new ≤ length line.old + line_room }
 {
     line.text(b"cut ->");
@@ -84,7 +84,7 @@ pub fn cut_onto(line: &mut LineText, answer: Result<Reply, Refusal>)
 #[inline(always)]
 pub fn step_onto(line: &mut LineText, actor: Actor, op: Op, answer: Result<Reply, Refusal>)
     requires { length line.old + line_room ≤ page_room }
-    ensures text { line.new ≡ line.old ++ line_of (event_words actor op answer) }
+    ensures text { line.new ≡ line.old ++ as_line (event_words actor op answer) }
     ensures len { length line.new ≤ length line.old + line_room }
 {
     actor_onto(line, actor);
@@ -124,7 +124,7 @@ fn op_onto(line: &mut LineText, op: &Op)
         Op::Fetch(va) => hex_onto(line, b"fetch", *va),
         Op::WriteSatp(value) => hex_onto(line, b"satp", *value),
         Op::WriteSie(value) => hex_onto(line, b"sie", *value),
-        Op::WriteSstatusSie(value) => decimal_onto(line, b"sstatus", bit(*value)),
+        Op::WriteSstatusSie(value) => decimal_onto(line, b"sstatus", bit_of(*value)),
         Op::ReadSip => line.word(b"sip"),
         Op::ClearSsip => line.word(b"clearssip"),
         Op::Sfence(va, asid) => {
@@ -248,7 +248,7 @@ fn entry_onto(line: &mut LineText, addr: u64, hart: u64, opaque: u64)
 }
 
 /// A bit: 1 for true.
-pub fn bit(value: bool) -> u64
+pub fn bit_of(value: bool) -> u64
     ensures { result ≡ bit_of value }
 {
     u64::from(value)

@@ -2,7 +2,7 @@
 ghost use Rattle.std.specs.Prelude.{◌≡◌, ℕ, ◌+◌, ◌^◌, ◌<◌, ◌≤◌, List, [], None, OnOk, length};
 ghost use Rattle.printed_lines.specs.LineText.{line_room, page_room};
 ghost use Rattle.printed_lines.specs.Sinks.{Passes, Puts};
-ghost use Rattle.printed_lines.specs.Words.{event_words, line_of, line_words};
+ghost use Rattle.printed_lines.specs.Words.{event_words, as_line, line_words};
 
 use crate::line_text::{CAPACITY, LineText};
 use crate::lines::{cut_onto, step_onto};
@@ -54,7 +54,7 @@ impl Page {
     ) -> Result<(), Failed>
         requires { W.failures sink.old < 2 ^ 63 }
         ensures { Passes W.written W.failures sink.old sink.new result self.old self.new
-            (line_of (event_words actor op answer)) }
+            (as_line (event_words actor op answer)) }
     {
         step_onto(&mut self.text, actor, op, answer);
         put_full(&mut self.text, sink)
@@ -73,7 +73,7 @@ impl Page {
     ) -> Result<(), Failed>
         requires { W.failures sink.old < 2 ^ 63 }
         ensures { Passes W.written W.failures sink.old sink.new result self.old self.new
-            (line_of (line_words step answer)) }
+            (as_line (line_words step answer)) }
     {
         match step {
             Some((actor, op)) => self.print_step(actor, op, answer, sink),
@@ -93,7 +93,7 @@ impl Page {
     ) -> Result<(), Failed>
         requires { W.failures sink.old < 2 ^ 63 }
         ensures { Passes W.written W.failures sink.old sink.new result self.old self.new
-            (line_of (line_words None answer)) }
+            (as_line (line_words None answer)) }
     {
         cut_onto(&mut self.text, answer);
         put_full(&mut self.text, sink)

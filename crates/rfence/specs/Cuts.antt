@@ -69,6 +69,8 @@ pub record IsSeamless {F : Type 0} (o : Opening F) (n : ℕ) (newer older : List
   pub asked : total_asked (opening_after o n older) newer ≡ total_asked o (newer ++ older)
   pub applied : total_applied (opening_after o n older) n newer ≡ total_applied o n (newer ++ older)
 
+-- Wherever right turns are parted: by the newer ones, on what the older ones leave, waits what waits by all of them; so it
+-- is with open calls and the counts.
 abbrev pub CutsAreSeamless : Type 0 → Type 0
 CutsAreSeamless F =
     (o : Opening F) (n : ℕ) (newer older : List (Turn F)) → IsRight o n (newer ++ older) → IsSeamless o n newer older

@@ -18,6 +18,7 @@ pub record OfOpenCalls {F : Type 0} (o : Opening F) (n : ℕ) (turns : List (Tur
   pub few : length (waiting o turns t) < n
   pub opened : All (λ (asked : Asked F). IsOf t asked (open_call o turns asked.from)) (waiting o turns t)
 
+-- What waits at a hart is of distinct other harts, each inside the call by which it asked.
 abbrev pub WaitsAreOfOpenCalls : Type 0 → Type 0
 WaitsAreOfOpenCalls F =
     (o : Opening F) (n : ℕ) (turns : List (Turn F)) (t : ℕ) → IsRight o n turns → t < n → OfOpenCalls o n turns t
@@ -89,6 +90,7 @@ pub record IsSmall {F : Type 0} (o : Opening F) (n : ℕ) (turns : List (Turn F)
   pub asked : total_asked o turns ≤ 128 * place_after o turns
   pub applied : total_applied o n turns ≤ 128 * place_after o turns
 
+-- What is kept is bounded by the turns: a call waits only for harts that are there, and no count is past 128 for each turn.
 abbrev pub BoardsAreSmall : Type 0 → Type 0
 BoardsAreSmall F = (o : Opening F) (n : ℕ) (turns : List (Turn F)) → IsRight o n turns → IsSmall o n turns
 

@@ -46,6 +46,7 @@ pub record IsLowered {F : Type 0} (o : Opening F) (n : ℕ) (turns : List (Turn 
   pub can_serve : IsRightTurn o n turns (Serve t)
   pub lowered : suc (need o (Serve t ∷ turns) c t) ≡ need o turns c t
 
+-- While a call needs serves of a hart, that hart can serve, and its serve lowers the need by exactly one.
 abbrev pub ServesLowerNeeds : Type 0 → Type 0
 ServesLowerNeeds F =
     (o : Opening F) (n : ℕ) (turns : List (Turn F)) (c t : ℕ) → IsRight o n turns → 0 < need o turns c t
@@ -66,6 +67,8 @@ pub record AreBounded {F : Type 0} (o : Opening F) (n : ℕ) (turns : List (Turn
   pub no_caller : n ≤ c → (t : ℕ) → need o turns c t ≡ 0
   pub no_target : (t : ℕ) → n ≤ t → need o turns c t ≡ 0
 
+-- On a board of n harts a call needs at most n - 1 serves of each, and (n - 1) * (n - 1) in all; none of its caller, and
+-- none where no hart is.
 abbrev pub NeedsAreBounded : Type 0 → Type 0
 NeedsAreBounded F =
     (o : Opening F) (n : ℕ) (turns : List (Turn F)) (c : ℕ) → IsRight o n turns → AreBounded o n turns c
@@ -77,6 +80,7 @@ pub record IsLeft {F : Type 0} (o : Opening F) (newer older : List (Turn F)) (c 
   pub left : (t : ℕ) → need o (newer ++ older) c t
       ≡ (if list_any (is_stop t) newer then 0 else need o older c t - serves_in t newer)
 
+-- As long as a call goes on, a need is what it was without the hart's serves since, and 0 where the hart has stopped.
 abbrev pub NeedsAreLeft : Type 0 → Type 0
 NeedsAreLeft F =
     (o : Opening F) (n : ℕ) (newer older : List (Turn F)) (c : ℕ)

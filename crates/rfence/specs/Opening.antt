@@ -27,6 +27,7 @@ module _ {F : Type 0} where
   abbrev pub waited_at : Opening F → ℕ → List (Asked F)
   waited_at o t = slice_index_or o.waiting t []
 
+  -- The call that a hart is in, before the first turn.
   abbrev pub called_at : Opening F → ℕ → Option (FenceCall F)
   called_at o c = slice_index_or o.calls c None
 

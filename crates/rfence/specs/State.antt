@@ -124,5 +124,6 @@ module _ {F : Type 0} where
   abbrev pub call_at : State F → ℕ → Option (List ℕ)
   call_at fences c = slice_index_or fences.calls c None
 
+  -- The call of a hart, with its fence, as it is kept.
   abbrev pub opened_at : State F → ℕ → Option (FenceCall F)
   opened_at fences c = slice_index_or fences.opened c None

@@ -7,6 +7,7 @@ use Rattle.sbi_abi.specs.declared.reset.ResetKind.{ResetKind}
 use Rattle.sbi_abi.specs.declared.reset.ResetKind.TheVariants.{Shutdown, ColdReboot, WarmReboot}
 use Rattle.sbi_abi.specs.SuspendTypes.{ranged}
 
+-- The type of each kind of reset (SBI 10.1).
 abbrev pub reset_kind_number : ResetKind → ℕ
 reset_kind_number Shutdown = 0
 reset_kind_number ColdReboot = 1

@@ -19,7 +19,7 @@ use Rattle.clap.specs.Walk.{bundle_met}
 use Rattle.clap.specs.Faults.{flags_fault}
 use Rattle.clap.proofs.FaultLemmas.{stopped_fault}
 use Rattle.clap.proofs.WalkLemmas.{walk_stopped}
-use Rattle.sbiboard.specs.CommandLine.{Asked, asked, is_task, of_a_run, of_one_file, sbiboard, unless_faulty, with_file}
+use Rattle.sbiboard.specs.CommandLine.{Invocation, asked, is_task, of_a_run, of_one_file, sbiboard, unless_faulty, with_file}
 
 pub no_cons : {X : Type 0} (x : X) (xs : List X) → x ∷ xs ≡ [] → ⊥
 no_cons x xs e = cc
@@ -251,7 +251,7 @@ the_third word task not_run not_check = by_run (bytes_eq (codes "run") word) ref
 
 -- ---- what a parse finds
 
-pub no_fault : (kinds : Kinds) (found : Option Asked) → is_some (unless_faulty kinds found) ≡ true → kinds ≡ []
+pub no_fault : (kinds : Kinds) (found : Option Invocation) → is_some (unless_faulty kinds found) ≡ true → kinds ≡ []
 no_fault [] found e = refl
 no_fault (k ∷ ks) found e = absurd (true≢false (sym e))
 

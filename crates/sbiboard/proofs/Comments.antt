@@ -16,7 +16,6 @@ use Rattle.tlb_model.specs.declared.fence.Flush.{Flush}
 use Rattle.tlb_model.specs.declared.fence.Flush.TheVariants.{Words, Entries}
 use Rattle.tlb_model.specs.declared.fence.Range.{Range}
 use Rattle.tlb_model.specs.declared.word.FetchWord.{FetchWord}
-use Rattle.board_core.specs.declared.board.Totals.{Totals}
 use Rattle.board_core.specs.Opening.{Opening}
 use Rattle.board_core.specs.Course.{harts_of}
 use Rattle.board_core.specs.Fences.{waiting}
@@ -24,12 +23,13 @@ use Rattle.board_core.specs.History.{Event}
 use Rattle.board_core.specs.Starts.{kept}
 use Rattle.board_core.specs.States.{state}
 use Rattle.board_core.specs.Totals.{totals}
+use Rattle.board_rules.specs.declared.totals.Totals.{Totals}
 use Rattle.guest_script.specs.Words.{is_allowed, IsLine}
-use Rattle.hart_threads.specs.declared.ends.End.{End}
-use Rattle.hart_threads.specs.declared.ends.End.TheVariants as ends
+use Rattle.guest_programs.specs.declared.ends.End.{End}
+use Rattle.guest_programs.specs.declared.ends.End.TheVariants as ends
 use Rattle.printed_lines.specs.Columns.{hex_column, left, right}
-use Rattle.monitor.specs.Table.{asid_words, deadline_cell, details, entries, entry_cells, entry_line, fence_cells, fence_line, flush_words, hart_cells, head_cells, letter, outstanding_cell, power_word, range_words, reset_words, rights, row, state_name, table, time_cells, tlb_cells, tlb_line, totals_cells, word_cells, word_line, words}
-use Rattle.printed_lines.specs.Words.{line_of}
+use Rattle.monitor.specs.Table.{asid_words, deadline_cell, details, tlb_entries, entry_cells, entry_line, fence_cells, fence_line, shown_flush, hart_cells, head_cells, letter, outstanding_cell, power_word, shown_range, shown_reset, rights, row, state_name, table, time_cells, tlb_cells, tlb_line, totals_cells, word_cells, word_line, words}
+use Rattle.printed_lines.specs.Words.{as_line}
 use Rattle.sbiboard.specs.PrintedScripts.{AreComments, TableIsComments}
 use Rattle.sbiboard.specs.Threaded.{end_line}
 use Rattle.guest_script.proofs.PlainWords.{append_all, lines_allowed}
@@ -120,7 +120,7 @@ is_comment_line (cell ∷ cells) shown = record {
   spaces = tt;
 }
 
-pass_line : (cells : List (List ℕ)) → AreShown cells → Passes (line_of (codes "#" ∷ cells))
+pass_line : (cells : List (List ℕ)) → AreShown cells → Passes (as_line (codes "#" ∷ cells))
 pass_line cells shown rest are =
     let text = join_with_byte 32 (codes "#" ∷ cells) in
     let all = joined_shown (codes "#" ∷ cells) ((refl, tt), shown) in
@@ -132,11 +132,11 @@ power_shown : (off : Bool) → IsShown (power_word off)
 power_shown true = written_shown (codes "off") refl
 power_shown false = written_shown (codes "on") refl
 
-reset_shown : (reset : Option Reset) → AreShown (reset_words reset)
+reset_shown : (reset : Option Reset) → AreShown (shown_reset reset)
 reset_shown None = (written_shown (codes "none") refl, tt)
 reset_shown (Some reset) = (hex_shown 8 _, (hex_shown 8 reset.reason, tt))
 
-time_passes : (o : Opening) (past : List Event) → Passes (line_of (time_cells o past))
+time_passes : (o : Opening) (past : List Event) → Passes (as_line (time_cells o past))
 unfolding time_cells
 time_passes o past =
     let shown : AreShown (drop 1 (time_cells o past)) = (
@@ -151,7 +151,7 @@ time_passes o past =
     ) in
     pass_line (drop 1 (time_cells o past)) shown
 
-totals_passes : (t : Totals) → Passes (line_of (totals_cells t))
+totals_passes : (t : Totals) → Passes (as_line (totals_cells t))
 unfolding totals_cells
 totals_passes t =
     let shown : AreShown (drop 1 (totals_cells t)) = (
@@ -178,7 +178,7 @@ totals_passes t =
     ) in
     pass_line (drop 1 (totals_cells t)) shown
 
-head_passes : Passes (line_of head_cells)
+head_passes : Passes (as_line head_cells)
 unfolding head_cells
 head_passes =
     let shown : AreShown (drop 1 (head_cells)) = (
@@ -284,7 +284,7 @@ word_passes h fetched =
     let shown : AreShown (drop 1 (word_cells h fetched)) = (written_shown (codes "ic") refl, (number_shown 3 h, (hex_shown 16 fetched.pa, (hex_shown 16 fetched.word, tt)))) in
     pass_line (drop 1 (word_cells h fetched)) shown
 
-range_shown : (range : Option Range) → AreShown (range_words range)
+range_shown : (range : Option Range) → AreShown (shown_range range)
 range_shown None = (written_shown (codes "full") refl, tt)
 range_shown (Some range) = (hex_shown 16 range.start, (hex_shown 16 range.size, tt))
 
@@ -292,10 +292,10 @@ asid_shown : (asid : Option ℕ) → AreShown (asid_words asid)
 asid_shown None = tt
 asid_shown (Some asid) = (written_shown (codes "asid") refl, (hex_shown 4 asid, tt))
 
-flush_shown : (flush : Flush) → AreShown (flush_words flush)
+flush_shown : (flush : Flush) → AreShown (shown_flush flush)
 flush_shown Words = (written_shown (codes "i") refl, tt)
 flush_shown (Entries fence) =
-    (written_shown (codes "vma") refl, append_all IsShown (range_words fence.range) (asid_words fence.asid) (range_shown fence.range) (asid_shown fence.asid))
+    (written_shown (codes "vma") refl, append_all IsShown (shown_range fence.range) (asid_words fence.asid) (range_shown fence.range) (asid_shown fence.asid))
 
 fence_passes : (h : ℕ) (request : Request Flush) → Passes (fence_line h request)
 unfolding fence_cells
@@ -309,18 +309,18 @@ fence_passes h request =
 details_passes : (o : Opening) (past : List Event) (h : ℕ) → Passes (details o past h)
 details_passes o past h =
     let entry = entry_line h (kept o past h) in
-    let tlb = flat_map (tlb_line h) (entries o past h) in
+    let tlb = flat_map (tlb_line h) (tlb_entries o past h) in
     let ic = flat_map (word_line h) (words o past h) in
     let fences = flat_map (fence_line h) (waiting o past h) in
     pass_append entry (tlb ++ (ic ++ fences)) (entry_passes h (kept o past h))
-    (pass_append tlb (ic ++ fences) (pass_each (tlb_line h) (tlb_passes h) (entries o past h))
+    (pass_append tlb (ic ++ fences) (pass_each (tlb_line h) (tlb_passes h) (tlb_entries o past h))
     (pass_append ic fences (pass_each (word_line h) (word_passes h) (words o past h)) (pass_each (fence_line h) (fence_passes h) (waiting o past h))))
 
 pub table_passes : (o : Opening) (past : List Event) → Passes (table o past)
 table_passes o past =
-    let time = line_of (time_cells o past) in
-    let counts = line_of (totals_cells (totals o past)) in
-    let head = line_of head_cells in
+    let time = as_line (time_cells o past) in
+    let counts = as_line (totals_cells (totals o past)) in
+    let head = as_line head_cells in
     let rows = flat_map (row o past) (harts_of o.config) in
     let others = flat_map (details o past) (harts_of o.config) in
     pass_append time (counts ++ (head ++ (rows ++ others))) (time_passes o past)

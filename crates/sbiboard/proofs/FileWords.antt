@@ -12,7 +12,7 @@ use Rattle.clap.specs.Walk.{Held, Row, Text, Walk, arg_by_long, arg_by_short, fi
 use Rattle.clap.specs.Kinds.{Kinds, or_else}
 use Rattle.clap.specs.Simple.{Shape}
 use Rattle.clap.specs.Faults.{check_fault, defaults_fault, flags_fault, long_fault, settle_fault, short_fault, turn_fault, walk_fault, word_fault}
-use Rattle.sbiboard.specs.CommandLine.{Asked, asking, file_in, is_dashed, is_dashes, unless_faulty, with_file}
+use Rattle.sbiboard.specs.CommandLine.{Invocation, asking, file_in, is_dashed, is_dashes, unless_faulty, with_file}
 use Rattle.sbiboard.proofs.Asked.{both_empty, leaf, leaf_rules, no_cons}
 
 -- ---- how words look
@@ -132,11 +132,11 @@ abbrev pub after : Shape → Walk → Kinds
 after s end = or_else (settle_fault s.rules false end.held) (or_else (defaults_fault (settled s.rules end.held).rows s.rules)
     (check_fault s (finished s.rules end.held) false))
 
-abbrev pub ends : Shape → Kinds → Walk → Option Asked
+abbrev pub ends : Shape → Kinds → Walk → Option Invocation
 ends s kinds end = unless_faulty (or_else kinds (after s end)) (with_file (s.name, finished s.rules end.held))
 
 -- what is found of the words from there on
-abbrev pub finds : Shape → Walk → List Text → Option Asked
+abbrev pub finds : Shape → Walk → List Text → Option Invocation
 finds s w words = ends s (walk_fault s [] w words) (fold (walked s.rules []) w words)
 
 pub next : (s : Shape) (w then : Walk) (word : Text) (words : List Text) → turn_fault s [] w word ≡ [] → walked s.rules [] w word ≡ then
@@ -147,7 +147,7 @@ next s w then word words quiet is =
     ap (λ kinds. ends s (or_else kinds (walk_fault s [] later words)) (fold (walked s.rules []) later words)) quiet
     ∙ ap (λ v. finds s v words) is
 
-pub none_found : (kinds : Kinds) (found : Option Asked) → (kinds ≡ [] → ⊥) → unless_faulty kinds found ≡ None
+pub none_found : (kinds : Kinds) (found : Option Invocation) → (kinds ≡ [] → ⊥) → unless_faulty kinds found ≡ None
 none_found [] found faulty = absurd (faulty refl)
 none_found (k ∷ ks) found faulty = refl
 
@@ -161,7 +161,7 @@ stops s w word words faulty =
 
 -- ---- FILE
 
-abbrev pub told : Text → List Text → Option Asked
+abbrev pub told : Text → List Text → Option Invocation
 told name words = option_map (λ path. asking name path None) (file_in words)
 
 abbrev Right : Text → List Text → Type 0
@@ -237,7 +237,7 @@ pub dashed_is : (name word : Text) → is_dashed word ≡ true → is_dashes wor
 dashed_is name word dashed is [] = rw dashed refl
 dashed_is name word dashed is (second ∷ []) = rw (is, dashed) (go (is_dashes second))
   where
-    named : Option Text → Option Asked
+    named : Option Text → Option Invocation
     named = option_map (λ path. asking name path None)
 
     go : (b : Bool) → None ≡ named (cond (b && false) (Some word) None)

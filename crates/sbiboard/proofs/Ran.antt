@@ -10,10 +10,10 @@ use Rattle.board_core.specs.Opening.{Opening, opening_at}
 use Rattle.board_core.specs.Replies.{IsLegal}
 use Rattle.board_lock.specs.Events.{ops_of}
 use Rattle.guest_script.specs.Grammar.{Content, Empty, most_bytes, Program, Reads, Schedule, Trace, Written}
-use Rattle.hart_threads.specs.declared.ends.End.{End}
-use Rattle.hart_threads.specs.declared.ends.End.TheVariants.{GateLimit, Off, HistoryFull, Quiet, Stuck}
-use Rattle.hart_threads.specs.Ends.{IsEnd}
-use Rattle.hart_threads.specs.Programs.{AreFirst, blocks_of, ticks_of}
+use Rattle.guest_programs.specs.declared.ends.End.{End}
+use Rattle.guest_programs.specs.declared.ends.End.TheVariants.{GateLimit, Off, HistoryFull, Quiet, Stuck}
+use Rattle.guest_programs.specs.Ends.{IsEnd}
+use Rattle.guest_programs.specs.Programs.{AreFirst, blocks_of, ticks_of}
 use Rattle.hart_threads.specs.Shares.{IsRun}
 use Rattle.sbiboard.specs.declared.outcome.Outcome.TheVariants.{Good}
 use Rattle.sbiboard.specs.Check.{agrees_text, EndsCheck}

@@ -32,8 +32,8 @@ use Rattle.script_lines.specs.Agreeing.{said_of}
 use Rattle.guest_script.specs.Forms.{AreArguments, Form, form_of, IsArgument, IsNamed, IsSaid, number_at, regs_of, said_form_of}
 use Rattle.guest_script.specs.Grammar.{AreLines, Draft, HasUsualSpaces, Nothing, Traced, IsActor, IsDoing, IsStep, content_of}
 use Rattle.guest_script.specs.Words.{AreNumbers, IsLine, IsNumber, last_hart, last_number}
-use Rattle.printed_lines.specs.Words.{actor_word, board_words, doing_words, hex, hex_or_dash, line_of, op_words, reply_words}
-use Rattle.sbiboard.specs.PrintedScripts.{ActorFits, Answered, AreComments, FitsActor, FitsAnswer, FitsAnswered, FitsConfig, FitsError, FitsOp, LineReadsBack, NumberReadsBack, OpFits, SignedReadsBack, TraceReadsBack, trace_line, trace_lines, trace_of, words_of}
+use Rattle.printed_lines.specs.Words.{actor_word, board_line_words, doing_words, hex, hex_or_dash, as_line, op_words, reply_words}
+use Rattle.sbiboard.specs.PrintedScripts.{ActorFits, Answered, AreComments, FitsActor, FitsAnswer, FitsAnswered, FitsConfig, FitsError, FitsOp, LineReadsBack, NumberReadsBack, OpFits, SignedReadsBack, TraceReadsBack, trace_line, trace_lines, trace_of, answered_words}
 use Rattle.guest_script.proofs.PlainWords.{append_all, arguments_plain, IsPlain, joined_line, lines_printed, name_plain, numbers_plain, spelled_plain}
 
 -- ---- printed numbers
@@ -271,14 +271,14 @@ answer_read_back (Err refusal) fits =
 arrow_plain : IsPlain (codes "->")
 arrow_plain = ((λ e. cc), (record { allowed = refl; solid = refl; no_hash = refl }, (record { allowed = refl; solid = refl; no_hash = refl }, tt)))
 
-words_plain : (step : Answered) → FitsAnswered step → AllByRecursion IsPlain (words_of step)
+words_plain : (step : Answered) → FitsAnswered step → AllByRecursion IsPlain (answered_words step)
 words_plain step fits =
     append_all IsPlain (doing_words step.step) (codes "->" ∷ reply_words step.answer)
     (doing_plain step.step fits.actor fits.op) (arrow_plain, (answer_read_back step.answer fits.answer).plain)
 
 pub line_read_back : LineReadsBack
 line_read_back n step fits = (
-  joined_line (words_of step) (words_plain step fits),
+  joined_line (answered_words step) (words_plain step fits),
   (
     doing_words step.step,
     reply_words step.answer,
@@ -298,13 +298,13 @@ comments_pass n draft [] all = refl
 comments_pass n draft (text ∷ texts) all = inl (all.0, comments_pass (n + 1) draft texts all.1)
 
 abbrev printed_lines : List Answered → List ℕ → List ℕ
-printed_lines steps comments = flat_map (λ step. line_of (words_of step)) steps ++ comments
+printed_lines steps comments = flat_map (λ step. as_line (answered_words step)) steps ++ comments
 
 first_line : (step : Answered) (steps : List Answered) (comments : List ℕ) → FitsAnswered step
-    → lines (printed_lines (step ∷ steps) comments) ≡ join_with_byte 32 (words_of step) ∷ lines (printed_lines steps comments)
+    → lines (printed_lines (step ∷ steps) comments) ≡ join_with_byte 32 (answered_words step) ∷ lines (printed_lines steps comments)
 first_line step steps comments fits =
-    ap lines (append_assoc (line_of (words_of step)) (flat_map (λ s. line_of (words_of s)) steps) comments)
-    ∙ lines_printed (words_of step) (printed_lines steps comments) (words_plain step fits)
+    ap lines (append_assoc (as_line (answered_words step)) (flat_map (λ s. as_line (answered_words s)) steps) comments)
+    ∙ lines_printed (answered_words step) (printed_lines steps comments) (words_plain step fits)
 
 lines_read_back : (n : ℕ) (before : List Line) (steps : List Answered) (comments : List ℕ) → AllByRecursion FitsAnswered steps → AreComments comments
     → AreLines n (Traced before) (lines (printed_lines steps comments)) (Traced (before ++ trace_lines n steps))
@@ -315,7 +315,7 @@ lines_read_back n before (step ∷ steps) comments fits are =
     let line = trace_line n step in
     rw (first_line step steps comments fits.0)
     (inr (
-      words_of step,
+      answered_words step,
       Traced (before ++ line ∷ []),
       read.0,
       (line, read.1, refl),
@@ -335,7 +335,7 @@ all_read_back n (step ∷ steps) comments fits are =
     let read = line_read_back n step fits.0 in
     let line = trace_line n step in
     rw (first_line step steps comments fits.0)
-    (inr (words_of step, Traced (line ∷ []), read.0, (line, read.1, refl), lines_read_back (n + 1) (line ∷ []) steps comments fits.1 are))
+    (inr (answered_words step, Traced (line ∷ []), read.0, (line, read.1, refl), lines_read_back (n + 1) (line ∷ []) steps comments fits.1 are))
 
 content_drafted : (lines : List Line) → trace_of lines ≡ content_of (draft_of lines)
 content_drafted [] = refl
@@ -396,7 +396,7 @@ numbers_are_plain : (c : Config) (usual : Bool) → AreBoard c usual → AllByRe
 numbers_are_plain c usual (inl all) = numbers_plain last_number (arguments_of c usual) (numbers_of c) all
 numbers_are_plain c usual (inr first) = numbers_plain last_number (arguments_of c usual) (first_numbers c) first.0
 
-board_plain : (c : Config) → FitsConfig c → AllByRecursion IsPlain (board_words c)
+board_plain : (c : Config) → FitsConfig c → AllByRecursion IsPlain (board_line_words c)
 board_plain c fits = (
   name_plain (codes "board") (λ e. cc) (omega arith),
   numbers_are_plain c (has_usual_spaces c) (board_numbers c (has_usual_spaces c) refl fits),
@@ -407,11 +407,11 @@ trace_read_back c steps comments fits fit are short =
     let body = printed_lines steps comments in
     let plain = board_plain c fits in (
       short,
-      rw (lines_printed (board_words c) body plain)
+      rw (lines_printed (board_line_words c) body plain)
           (inr (
-            board_words c,
+            board_line_words c,
             draft_of (trace_lines 2 steps),
-            joined_line (board_words c) plain,
+            joined_line (board_line_words c) plain,
             record { arguments = arguments_of c (has_usual_spaces c); parts = refl; are_numbers = board_numbers c (has_usual_spaces c) refl fits },
             all_read_back 2 steps comments fit are,
             content_drafted (trace_lines 2 steps),

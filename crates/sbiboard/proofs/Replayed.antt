@@ -10,8 +10,8 @@ use Rattle.board_terms.specs.declared.reply.Refusal.{Refusal}
 use Rattle.board_terms.specs.declared.reply.Reply.{Reply}
 use Rattle.board_core.specs.Course.{Course}
 use Rattle.script_lines.specs.declared.script.Line.{Line}
-use Rattle.printed_lines.specs.Words.{board_words, line_of, line_words}
-use Rattle.sbiboard.specs.Replay.{AreDone, is_history_full, lines_text, meets_full, table_of, text_of}
+use Rattle.printed_lines.specs.Words.{board_line_words, as_line, line_words}
+use Rattle.sbiboard.specs.Replay.{AreDone, is_history_full, lines_text, meets_full, board_table, text_of}
 use Rattle.sbiboard.specs.Running.{after_line, answer_of, answer_to, course_after, course_with, new_course}
 
 -- what was written is the text of the lines that were done: with that of the others it is the whole text
@@ -65,7 +65,7 @@ course_after-append b (line ∷ lines) more = course_after-append (after_line b 
 lines_text-append : (b : Course) (lines more : List Line) → lines_text b (lines ++ more) ≡ lines_text b lines ++ lines_text (course_after b lines) more
 lines_text-append b [] more = refl
 lines_text-append b (line ∷ lines) more =
-    let own = line_of (line_words line.step (answer_of b line)) in
+    let own = as_line (line_words line.step (answer_of b line)) in
     ap (λ text. own ++ text) (lines_text-append (after_line b line) lines more)
     ∙ sym (append_assoc own (lines_text (after_line b line) lines) (lines_text (course_after (after_line b line) lines) more))
 
@@ -88,13 +88,13 @@ replaying-none b lines others all = record { course = ap (course_after b) all; f
 module _ (first b next : Course) (lines others rest : List Line) (line : Line) (are : others ≡ line ∷ rest) (course_is : next ≡ course_with b line.step)
     (step : Option (Actor × Op)) (step_is : step ≡ line.step) (answer : Result Reply Refusal) (answer_is : answer ≡ answer_to b line.step) where
   pub has_done-more : (old middle new : Option (List ℕ)) (waiting taken later : List ℕ) → Appends middle new taken
-      → taken ++ later ≡ waiting ++ line_of (line_words step answer) → HasDone first b lines others old middle waiting → HasDone first next lines rest old new later
+      → taken ++ later ≡ waiting ++ as_line (line_words step answer) → HasDone first b lines others old middle waiting → HasDone first next lines rest old new later
   has_done-more old middle new waiting taken later more passes so_far =
-      let own = line_of (line_words step answer) in
+      let own = as_line (line_words step answer) in
       let own_is : own ≡ lines_text (course_after first so_far.done) (line ∷ []) =
-      ap (λ s. line_of (line_words s answer)) step_is ∙ ap (λ a. line_of (line_words line.step a)) answer_is
-      ∙ ap (λ c. line_of (line_words line.step (answer_to c line.step))) so_far.course
-      ∙ sym (append-nil (line_of (line_words line.step (answer_to (course_after first so_far.done) line.step)))) in
+      ap (λ s. as_line (line_words s answer)) step_is ∙ ap (λ a. as_line (line_words line.step a)) answer_is
+      ∙ ap (λ c. as_line (line_words line.step (answer_to c line.step))) so_far.course
+      ∙ sym (append-nil (as_line (line_words line.step (answer_to (course_after first so_far.done) line.step)))) in
       record {
         done = so_far.done ++ line ∷ [];
         parts = so_far.parts ∙ ap (λ ls. so_far.done ++ ls) are ∙ sym (append_assoc so_far.done (line ∷ []) rest);
@@ -120,12 +120,12 @@ module _ (first b : Course) (lines others : List Line) (old middle new : Option 
 pub text_of-printed : (config : Config) (first last : Course) (lines : List Line) (body_text : List ℕ) → body_text ≡ lines_text first lines
     → first ≡ new_course config → last ≡ course_after first lines
     → (at_first at_lines at_table at_flush at_end : Option (List ℕ))
-    → Appends at_first at_lines (line_of (board_words config)) → Appends at_lines at_table body_text
-    → Appends at_table at_flush (table_of last) → Keeps at_flush at_end → Appends at_first at_end (text_of config lines)
+    → Appends at_first at_lines (as_line (board_line_words config)) → Appends at_lines at_table body_text
+    → Appends at_table at_flush (board_table last) → Keeps at_flush at_end → Appends at_first at_end (text_of config lines)
 unfolding text_of
 text_of-printed config first last lines body_text body_is opening_is last_is a b c d e head body table kept =
     let whole = Appends-kept a d e _ (Appends-trans a b d _ _ head (Appends-trans b c d _ _ body table)) kept in
     let lines_text_is : body_text ≡ lines_text (new_course config) lines = body_is ∙ ap (λ b. lines_text b lines) opening_is in
-    let table_is : table_of last ≡ table_of (course_after (new_course config) lines) =
-    ap table_of (last_is ∙ ap (λ b. course_after b lines) opening_is) in
-    subst (λ t. Appends a e (line_of (board_words config) ++ t)) (λ i. lines_text_is i ++ table_is i) whole
+    let table_is : board_table last ≡ board_table (course_after (new_course config) lines) =
+    ap board_table (last_is ∙ ap (λ b. course_after b lines) opening_is) in
+    subst (λ t. Appends a e (as_line (board_line_words config) ++ t)) (λ i. lines_text_is i ++ table_is i) whole

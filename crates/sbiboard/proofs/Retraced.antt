@@ -5,12 +5,12 @@ use Rattle.board_terms.specs.declared.config.Config.{Config}
 use Rattle.board_core.specs.Course.{Course}
 use Rattle.script_lines.specs.declared.script.Line.{Line}
 use Rattle.guest_script.specs.Grammar.{most_bytes}
-use Rattle.printed_lines.specs.Words.{board_words, line_of}
+use Rattle.printed_lines.specs.Words.{board_line_words, as_line}
 use Rattle.sbiboard.specs.declared.outcome.Outcome.TheVariants.{Good, HistoryFull}
 use Rattle.sbiboard.specs.Check.{AllAgree, agrees_text, EndsCheck, traced}
 use Rattle.sbiboard.specs.Inside.Fitting.{ActorsFit, AllFit, AreRead}
-use Rattle.sbiboard.specs.PrintedScripts.{Answered, FitsAnswered, printed, trace_lines, trace_of, words_of}
-use Rattle.sbiboard.specs.Replay.{IsPrinted, IsReplay, lines_text, Replays, table_of, text_of}
+use Rattle.sbiboard.specs.PrintedScripts.{Answered, FitsAnswered, printed, trace_lines, trace_of, answered_words}
+use Rattle.sbiboard.specs.Replay.{IsPrinted, IsReplay, lines_text, Replays, board_table, text_of}
 use Rattle.sbiboard.specs.Running.{after_line, answer_of, course_after, new_course}
 use Rattle.sbiboard.proofs.Comments.{table_is_comments}
 use Rattle.sbiboard.proofs.ReadBack.{trace_read_back}
@@ -20,9 +20,9 @@ abbrev answered : Course → List Line → List Answered
 answered b [] = []
 answered b (line ∷ lines) = record { step = line.step; answer = answer_of b line } ∷ answered (after_line b line) lines
 
-lines_answered : (b : Course) (lines : List Line) → lines_text b lines ≡ flat_map (λ step. line_of (words_of step)) (answered b lines)
+lines_answered : (b : Course) (lines : List Line) → lines_text b lines ≡ flat_map (λ step. as_line (answered_words step)) (answered b lines)
 lines_answered b [] = refl
-lines_answered b (line ∷ lines) = ap (λ text. line_of (words_of (record { step = line.step; answer = answer_of b line })) ++ text) (lines_answered (after_line b line) lines)
+lines_answered b (line ∷ lines) = ap (λ text. as_line (answered_words (record { step = line.step; answer = answer_of b line })) ++ text) (lines_answered (after_line b line) lines)
 
 answered_fit : (b : Course) (lines : List Line) → ActorsFit lines → AllFit b lines → AllByRecursion FitsAnswered (answered b lines)
 answered_fit b [] actors fits = tt
@@ -48,8 +48,8 @@ accepted c lines are fits text is short =
     let first = new_course c in
     let steps = answered first lines in
     let trace = trace_lines 2 steps in
-    let comments = table_of (course_after first lines) in
-    let same : text ≡ printed c steps comments = is ∙ ap (λ body. line_of (board_words c) ++ (body ++ comments)) (lines_answered first lines) in
+    let comments = board_table (course_after first lines) in
+    let same : text ≡ printed c steps comments = is ∙ ap (λ body. as_line (board_line_words c) ++ (body ++ comments)) (lines_answered first lines) in
     let fit = answered_fit first lines are.actors fits in
     let table = table_is_comments (course_after first lines).opening (course_after first lines).past in
     let reads = trace_read_back c steps comments are.config fit table (subst (λ t. length t ≤ most_bytes) same short) in

@@ -20,13 +20,13 @@ use Rattle.board_core.specs.Replies.{IsLegal, answer, recorded, refused_or, repl
 use Rattle.board_core.specs.Resets.{is_off}
 use Rattle.script_lines.specs.Agreeing.{said_of}
 use Rattle.guest_script.specs.Grammar.{most_bytes}
-use Rattle.hart_threads.specs.declared.ends.End.{End}
+use Rattle.guest_programs.specs.declared.ends.End.{End}
 use Rattle.monitor.specs.Table.{table}
-use Rattle.printed_lines.specs.Words.{board_words, event_words, line_of}
+use Rattle.printed_lines.specs.Words.{board_line_words, event_words, as_line}
 use Rattle.sbiboard.specs.declared.outcome.Outcome.TheVariants.{Good}
 use Rattle.sbiboard.specs.Check.{AllAgree, EndsCheck, agrees_text}
 use Rattle.sbiboard.specs.Inside.Fitting.{EventFits}
-use Rattle.sbiboard.specs.PrintedScripts.{Answered, AreComments, FitsActor, FitsAnswered, FitsConfig, printed, trace_lines, trace_of, words_of}
+use Rattle.sbiboard.specs.PrintedScripts.{Answered, AreComments, FitsActor, FitsAnswered, FitsConfig, printed, trace_lines, trace_of, answered_words}
 use Rattle.sbiboard.specs.Threaded.{end_line, events_text, run_text}
 use Rattle.sbiboard.proofs.Comments.{end_passes, table_passes}
 use Rattle.sbiboard.proofs.ReadBack.{trace_read_back}
@@ -98,9 +98,9 @@ as-many : (n : ℕ) (es : List Event) → length (trace_lines n (map step_of es)
 as-many n [] = refl
 as-many n (e ∷ es) = ap suc (as-many (n + 1) es)
 
-events-printed : (es : List Event) → events_text es ≡ flat_map (λ step. line_of (words_of step)) (map step_of es)
+events-printed : (es : List Event) → events_text es ≡ flat_map (λ step. as_line (answered_words step)) (map step_of es)
 events-printed [] = refl
-events-printed (e ∷ es) = ap (λ text. line_of (event_words e.actor e.op (Ok e.reply)) ++ text) (events-printed es)
+events-printed (e ∷ es) = ap (λ text. as_line (event_words e.actor e.op (Ok e.reply)) ++ text) (events-printed es)
 
 -- ---- what a run writes
 
@@ -111,7 +111,7 @@ run_accepted c past end good config legal fits short =
     let es : List Event = reverse past in
     let steps : List Answered = map step_of es in
     let comments : List ℕ = table o past ++ end_line end in
-    let same : run_text o past end ≡ printed c steps comments = ap (λ body. line_of (board_words c) ++ (body ++ comments)) (events-printed es) in
+    let same : run_text o past end ≡ printed c steps comments = ap (λ body. as_line (board_line_words c) ++ (body ++ comments)) (events-printed es) in
     let whole : IsLegal o (reverse es ++ []) = subst (IsLegal o) (sym (append-nil (reverse es) ∙ reverse-reverse past)) legal in
     let are : AreComments comments = table_passes o past (end_line end) (end_passes end) in
     let reads = trace_read_back c steps comments config (steps-fit o good es [] whole fits) are (subst (λ t. length t ≤ most_bytes) same short) in

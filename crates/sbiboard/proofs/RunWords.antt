@@ -9,7 +9,7 @@ use Rattle.clap.specs.Walk.{Held, Row, Rule, Text, Waiting, Walk, arg_by_long, a
 use Rattle.clap.specs.Kinds.{Kinds, or_else}
 use Rattle.clap.specs.Simple.{filled, with_index}
 use Rattle.clap.specs.Faults.{check_fault, defaults_fault, flags_fault, long_fault, settle_fault, short_fault, turn_fault, walk_fault, word_fault}
-use Rattle.sbiboard.specs.CommandLine.{Asked, are_over, asked, asking, file, file_in, is_dashed, is_dashes, is_task, keep, kept_in, name_in, run_before, run_behind, run_in, unless_faulty, value_in, with_file, written}
+use Rattle.sbiboard.specs.CommandLine.{Invocation, are_over, asked, asking, file, file_in, is_dashed, is_dashes, is_task, keep, keep_at_head, name_in, run_before, run_behind, run_in, unless_faulty, value_in, with_file, invocation_of}
 use Rattle.sbiboard.proofs.Asked.{Enters, both_empty, enters_run, first_word, leaf, leaf_of, no_cons, none_fails, own_fails, run_leaf, some_is}
 use Rattle.sbiboard.proofs.FileWords.{Flag, Plain, after, eq_dashes, file_met, file_right, finds, flag, next, none_found, plain, stops, told}
 
@@ -138,7 +138,7 @@ sorted word (inl long) = go (bytes_eq (codes "keep") long.0.0) refl
     go true is = inl (record { name = long.0.0; given = long.0.1; long = long.1; keep = is })
     go false is = inr (inl (long.0, long.1, is))
 
-other_unkept : (word : Text) (rest : List Text) → Other word → kept_in (word ∷ rest) ≡ None
+other_unkept : (word : Text) (rest : List Text) → Other word → keep_at_head (word ∷ rest) ≡ None
 other_unkept word rest (inl long) = rw (long.1, long.2) refl
 other_unkept word rest (inr short) = rw short.0 refl
 
@@ -188,7 +188,7 @@ empty_bad : (rows : List Row) → settle_fault run_rules false (holding rows (So
 empty_bad rows e = no_cons _ _ e
 
 -- its value is there
-abbrev valued : List Row → Bool → Option (Text × List Text) → Option Asked
+abbrev valued : List Row → Bool → Option (Text × List Text) → Option Invocation
 valued rows met None = None
 valued rows met (Some p) = finds run_leaf (spot (holding rows (keep_met p.0)) idle (position_of met) false) p.1
 
@@ -246,7 +246,7 @@ abbrev file_rows : Text → List Row
 file_rows file = settled_rows run_rules (file_met file) []
 
 -- what a run asks for
-abbrev run_asks : Text → Option Text → Option Asked
+abbrev run_asks : Text → Option Text → Option Invocation
 run_asks file kept = Some (asking (codes "run") file kept)
 
 -- a word behind a name of `--keep` that is used already
@@ -369,7 +369,7 @@ file_over word (second ∷ []) undashed is = rw (is, undashed) (go (is_dashes se
     go false = refl
 file_over word (second ∷ third ∷ rest) undashed is = refl
 
-abbrev with_name : Text → Option Text → Option Asked
+abbrev with_name : Text → Option Text → Option Invocation
 with_name name = option_map (λ path. asking (codes "run") path (Some name))
 
 full_name : (b : Bool) (path name : Text) → cond b (run_asks path (Some name)) None ≡ with_name name (cond b (Some path) None)
@@ -481,7 +481,7 @@ full_at_once file name = full (keep_rows name (file_rows file)) None refl refl f
 
 -- ---- all words of a run
 
-abbrev run_told : Option (Text × Option Text) → Option Asked
+abbrev run_told : Option (Text × Option Text) → Option Invocation
 run_told = option_map (λ found. asking (codes "run") found.0 found.1)
 
 abbrev unkept : List Text → Option (Text × Option Text)
@@ -505,14 +505,14 @@ module _ (file : Text) (undashed : is_dashed file ≡ false) (no_dashes : is_das
   met is_trailing = spot (holding [] (file_met file)) idle 2 is_trailing
 
   abbrev Goes : List Text → Type 0
-  Goes rest = finds run_leaf (met false) rest ≡ run_told (run_behind file (kept_in rest) (unkept (file ∷ rest)))
+  Goes rest = finds run_leaf (met false) rest ≡ run_told (run_behind file (keep_at_head rest) (unkept (file ∷ rest)))
 
   over : (is_trailing : Bool) → finds run_leaf (met is_trailing) [] ≡ run_asks file None
   unfolding walk_fault defaults_fault
   over is_trailing = refl
 
   -- with no `--keep` behind it
-  bare : (rest : List Text) → kept_in rest ≡ None → cond (are_over rest) (run_asks file None) None ≡ run_told (run_behind file (kept_in rest) (unkept (file ∷ rest)))
+  bare : (rest : List Text) → keep_at_head rest ≡ None → cond (are_over rest) (run_asks file None) None ≡ run_told (run_behind file (keep_at_head rest) (unkept (file ∷ rest)))
   bare rest none =
       told_file (are_over rest) file ∙ ap (λ o. run_told (option_map (λ path. (path, None)) o)) (sym (file_over file rest undashed no_dashes))
       ∙ ap (λ k. run_told (run_behind file k (unkept (file ∷ rest)))) (sym none)
@@ -542,7 +542,7 @@ module _ (file : Text) (undashed : is_dashed file ≡ false) (no_dashes : is_das
           ∙ ap (λ o. run_told (option_map (λ path. (path, None)) o)) (sym (file_over file (word ∷ rest) undashed no_dashes))
       valued_is is k given (Some p) some = full_apart file p.0 p.1 (name_utf8 rest p later some) ∙ told_full (are_over p.1) file p.0 ∙ (rw undashed refl)
 
-      kept_is : (k : Kept word) (v : Option Text) → k.given ≡ v → kept_in (word ∷ rest) ≡ value_in v rest
+      kept_is : (k : Kept word) (v : Option Text) → k.given ≡ v → keep_at_head (word ∷ rest) ≡ value_in v rest
       kept_is k v given = rw (k.long, k.keep, given) refl
 
       by_given : is_dashes word ≡ false → (k : Kept word) (v : Option Text) → k.given ≡ v → Goes (word ∷ rest)
@@ -598,7 +598,7 @@ begin_last (path ∷ second ∷ rest) = refl
 run_right_behind : (rest : List Text) → RunRight (codes "--" ∷ rest)
 run_right_behind rest =
     next run_leaf (begins false) (begins true) (codes "--") rest (dashes_quiet nothing_held idle 1) (dashes_walked nothing_held idle 1)
-    ∙ begin_last rest ∙ ap run_told (sym (behind_dashed (codes "--") (kept_in rest) (unkept (codes "--" ∷ rest)) refl))
+    ∙ begin_last rest ∙ ap run_told (sym (behind_dashed (codes "--") (keep_at_head rest) (unkept (codes "--" ∷ rest)) refl))
 
 run_right : (words : List Text) → All IsUtf8 words → RunRight words
 run_right [] utf8 = begin_none false
@@ -608,21 +608,21 @@ run_right (word ∷ rest) utf8 = by_dashes (is_dashes word) refl
     later = λ j d lt. utf8 (suc j) d (omega arith)
 
     without : Option (Text × Option Text)
-    without = run_behind word (kept_in rest) (unkept (word ∷ rest))
+    without = run_behind word (keep_at_head rest) (unkept (word ∷ rest))
 
-    told_by : Option (Text × List Text) → Option Asked
+    told_by : Option (Text × List Text) → Option Invocation
     told_by kept = run_told (run_before kept without)
 
     none_told : is_dashed word ≡ true → is_dashes word ≡ false → None ≡ run_told without
     none_told dashed is =
         ap (λ o. run_told (option_map (λ path. (path, None)) o)) (sym (file_none word rest dashed is))
-        ∙ ap run_told (sym (behind_dashed word (kept_in rest) (unkept (word ∷ rest)) dashed))
+        ∙ ap run_told (sym (behind_dashed word (keep_at_head rest) (unkept (word ∷ rest)) dashed))
 
     valued_is : is_dashed word ≡ true → is_dashes word ≡ false → (o : Option (Text × List Text)) → name_in rest ≡ o → valued [] false o ≡ told_by o
     valued_is dashed is None none = none_told dashed is
     valued_is dashed is (Some p) some = named_apart p.0 p.1 (name_utf8 rest p later some) ∙ told_name (file_in p.1) p.0
 
-    kept_is : (k : Kept word) (v : Option Text) → k.given ≡ v → kept_in (word ∷ rest) ≡ value_in v rest
+    kept_is : (k : Kept word) (v : Option Text) → k.given ≡ v → keep_at_head (word ∷ rest) ≡ value_in v rest
     kept_is k v given = rw (k.long, k.keep, given) refl
 
     by_given : is_dashed word ≡ true → is_dashes word ≡ false → (k : Kept word) (v : Option Text) → k.given ≡ v → RunRight (word ∷ rest)
@@ -649,7 +649,7 @@ run_right (word ∷ rest) utf8 = by_dashes (is_dashes word) refl
         next run_leaf (begins false) (spot (holding [] (file_met word)) idle 2 false) word rest (file_quiet [] None refl word looks) (file_walked [] None refl word looks)
         ∙ goes word dashed is rest later ∙ ap told_by (sym (plain_unkept looks))
       where
-        plain_unkept : Plain word → kept_in (word ∷ rest) ≡ None
+        plain_unkept : Plain word → keep_at_head (word ∷ rest) ≡ None
         plain_unkept looks = rw looks.long refl
 
     by_dashes : (b : Bool) → is_dashes word ≡ b → RunRight (word ∷ rest)
@@ -659,20 +659,20 @@ run_right (word ∷ rest) utf8 = by_dashes (is_dashes word) refl
 -- ---- the whole line
 
 abbrev Plainly : Text → Text → List Text → Type 0
-Plainly own name rest = asked (own ∷ name ∷ rest) ≡ written (own ∷ name ∷ rest)
+Plainly own name rest = asked (own ∷ name ∷ rest) ≡ invocation_of (own ∷ name ∷ rest)
 
 run_plainly : (own : Text) (rest : List Text) → All IsUtf8 rest → Plainly own (codes "run") rest
 run_plainly own rest utf8 =
     let found = enters_run own rest in
     ap₂ (λ kinds sub. unless_faulty kinds (option_and_then with_file sub)) found.0 found.1 ∙ run_right rest utf8
 
-pub plainly : (words : List Text) → All IsUtf8 words → asked words ≡ written words
+pub plainly : (words : List Text) → All IsUtf8 words → asked words ≡ invocation_of words
 plainly [] utf8 = none_found _ _ none_fails
 plainly (own ∷ []) utf8 = none_found _ _ (own_fails own)
 plainly (own ∷ name ∷ rest) utf8 = elim (first_word name) [
   | inl task ↦ by_run task (bytes_eq (codes "run") name) refl
   | inr other ↦
-      let none : None ≡ written (own ∷ name ∷ rest) = rw other.0 refl in
+      let none : None ≡ invocation_of (own ∷ name ∷ rest) = rw other.0 refl in
       none_found _ _ (other.1 own rest) ∙ none
 ]
   where
@@ -683,5 +683,5 @@ plainly (own ∷ name ∷ rest) utf8 = elim (first_word name) [
     by_run task true is = subst (λ n. Plainly own n rest) ((bytes_eq-Decides (codes "run") name).0 is) (run_plainly own rest later)
     by_run task false is =
         let found : Enters (leaf name) = rw is at task.2 in
-        let right : told name rest ≡ written (own ∷ name ∷ rest) = rw (task.0, is) refl in
+        let right : told name rest ≡ invocation_of (own ∷ name ∷ rest) = rw (task.0, is) refl in
         ap₂ (λ kinds sub. unless_faulty kinds (option_and_then with_file sub)) (found own rest).0 (found own rest).1 ∙ file_right name is rest later ∙ right

@@ -8,12 +8,12 @@ use Rattle.sbiboard.specs.declared.command_line.Task.{Task}
 use Rattle.sbiboard.specs.declared.command_line.Task.TheVariants.{Run, Replay, Check}
 
 -- What is asked for: a subcommand, its FILE, and the file that a record is kept in.
-pub record Asked : Type 0 where
+pub record Invocation : Type 0 where
   pub task : Text
   pub file : Text
   pub keep : Option Text
 
-abbrev pub asking : Text → Text → Option Text → Asked
+abbrev pub asking : Text → Text → Option Text → Invocation
 asking name path kept = record { task = name; file = path; keep = kept }
 
 -- ---- as clap reads them
@@ -48,25 +48,25 @@ sbiboard =
     with_subcommand replay (of_one_file (codes "check"))
 
 -- the value of `--keep`, which a run has
-abbrev pub kept_of : Text × List Row → Option Text
-kept_of met = if bytes_eq (codes "run") met.0 then first_of (codes "keep") met.1 else None
+abbrev pub keep_option : Text × List Row → Option Text
+keep_option met = if bytes_eq (codes "run") met.0 then first_of (codes "keep") met.1 else None
 
 -- A subcommand that was met, with the value of its FILE, and of its `--keep`.
-abbrev pub with_file : Text × List Row → Option Asked
-with_file met = option_map (λ path. asking met.0 path (kept_of met)) (first_of (codes "FILE") met.1)
+abbrev pub with_file : Text × List Row → Option Invocation
+with_file met = option_map (λ path. asking met.0 path (keep_option met)) (first_of (codes "FILE") met.1)
 
 -- What is found, where there is no fault.
-abbrev pub unless_faulty : Kinds → Option Asked → Option Asked
+abbrev pub unless_faulty : Kinds → Option Invocation → Option Invocation
 unless_faulty [] found = found
 unless_faulty (fault ∷ faults) found = None
 
 -- What clap's meaning of the command gives for the words, the program's own name first: none where it has a fault to tell of them, or
 -- help or the version to show.
-abbrev pub asked : List Text → Option Asked
+abbrev pub asked : List Text → Option Invocation
 asked words = unless_faulty (fault_of sbiboard words) (option_and_then with_file (subcommand_of sbiboard words))
 
 -- What a task asks for.
-abbrev pub task_words : Task → Asked
+abbrev pub task_words : Task → Invocation
 task_words (Run path kept) = asking (codes "run") path.now (option_map (λ name. name.now) kept)
 task_words (Replay path) = asking (codes "replay") path.now None
 task_words (Check path) = asking (codes "check") path.now None
@@ -105,14 +105,14 @@ abbrev pub value_in : Option Text → List Text → Option (Text × List Text)
 value_in None rest = name_in rest
 value_in (Some name) rest = Some (name, rest)
 
-abbrev pub kept_by : Option (Text × Option Text) → List Text → Option (Text × List Text)
-kept_by None rest = None
-kept_by (Some p) rest = if bytes_eq (codes "keep") p.0 then value_in p.1 rest else None
+abbrev pub keep_named : Option (Text × Option Text) → List Text → Option (Text × List Text)
+keep_named None rest = None
+keep_named (Some p) rest = if bytes_eq (codes "keep") p.0 then value_in p.1 rest else None
 
 -- `--keep NAME` or `--keep=NAME` at the head of the words: NAME, and the words behind it.
-abbrev pub kept_in : List Text → Option (Text × List Text)
-kept_in [] = None
-kept_in (word ∷ rest) = kept_by (long_of word) rest
+abbrev pub keep_at_head : List Text → Option (Text × List Text)
+keep_at_head [] = None
+keep_at_head (word ∷ rest) = keep_named (long_of word) rest
 
 -- FILE, with NAME of `--keep` before it or behind it, in the words after `run`.
 abbrev pub run_before : (kept : Option (Text × List Text)) → (unkept : Option (Text × Option Text))
@@ -135,16 +135,16 @@ run_behind path (Some p) unkept = if is_dashed path then unkept else
 abbrev pub run_in : List Text → Option (Text × Option Text)
 run_in [] = None
 run_in (word ∷ rest) =
-    run_before (kept_in (word ∷ rest))
-    (run_behind word (kept_in rest) (option_map (λ path. (path, None)) (file_in (word ∷ rest))))
+    run_before (keep_at_head (word ∷ rest))
+    (run_behind word (keep_at_head rest) (option_map (λ path. (path, None)) (file_in (word ∷ rest))))
 
 -- What a subcommand's words ask for: a run may keep its record.
-abbrev pub task_in : (name : Text) → List Text → Option Asked
-task_in name rest =
+abbrev pub invocation_by : (name : Text) → List Text → Option Invocation
+invocation_by name rest =
     if bytes_eq (codes "run") name then option_map (λ found. asking name found.0 found.1) (run_in rest)
     else option_map (λ path. asking name path None) (file_in rest)
 
 -- What a line asks for: the program's own name, a subcommand's, and its words.
-abbrev pub written : List Text → Option Asked
-written (own ∷ name ∷ rest) = if is_task name then task_in name rest else None
-written words = None
+abbrev pub invocation_of : List Text → Option Invocation
+invocation_of (own ∷ name ∷ rest) = if is_task name then invocation_by name rest else None
+invocation_of words = None

@@ -1,7 +1,7 @@
 -- What a run's keeper appends to a record, and how a run is told whose record was kept in part (profile).
 use Rattle.std.specs.Prelude.{ℕ, List, [], ◌∷◌, ◌++◌, Option, Result, Ok, Err}
 use Rattle.std.specs.Io.KnownBytes.{Appends}
-use Rattle.printed_lines.specs.Words.{event_words, line_of}
+use Rattle.printed_lines.specs.Words.{event_words, as_line}
 use Rattle.sbiboard.specs.declared.keeping.KeepFault.{KeepFault}
 use Rattle.sbiboard.specs.declared.keeping.KeepFault.TheVariants.{Failed, NoMemory as NoRoom}
 use Rattle.sbiboard.specs.declared.keeping.Step.{Step}
@@ -9,19 +9,19 @@ use Rattle.sbiboard.specs.declared.outcome.Outcome.{Outcome}
 use Rattle.sbiboard.specs.declared.outcome.Outcome.TheVariants.{Io, NoMemory}
 
 -- the line of a step that was accepted
-abbrev pub step_line : Step → List ℕ
-step_line s = line_of (event_words s.actor s.op (Ok s.reply))
+abbrev pub accepted_line : Step → List ℕ
+accepted_line s = as_line (event_words s.actor s.op (Ok s.reply))
 
 abbrev pub steps_text : List Step → List ℕ
 steps_text [] = []
-steps_text (s ∷ ss) = step_line s ++ steps_text ss
+steps_text (s ∷ ss) = accepted_line s ++ steps_text ss
 
 -- What was appended are the lines of some steps.
 abbrev pub AppendsLines : (old new : Option (List ℕ)) → Type 0
 AppendsLines old new = (steps : List Step) × Appends old new (steps_text steps)
 
 -- The outcome that is told of a run: a record that was kept in part comes before how the run ended.
-abbrev pub told_as : Outcome → Result (Unit {0}) KeepFault → Outcome
-told_as outcome (Ok done) = outcome
-told_as outcome (Err Failed) = Io
-told_as outcome (Err NoRoom) = NoMemory
+abbrev pub reported_as : Outcome → Result (Unit {0}) KeepFault → Outcome
+reported_as outcome (Ok done) = outcome
+reported_as outcome (Err Failed) = Io
+reported_as outcome (Err NoRoom) = NoMemory

@@ -11,6 +11,7 @@ use Rattle.sbiboard.specs.declared.ending.Stop.TheVariants.{Usage, System}
 use Rattle.sbiboard.specs.declared.outcome.Outcome.{Outcome}
 use Rattle.sbiboard.specs.declared.outcome.Outcome.TheVariants.{Good, Script, BadBoard, WrongKind, HistoryFull, Stuck, Differs, NoMemory, Io}
 
+-- The exit status of each outcome.
 abbrev pub status_of : Outcome → ℕ
 status_of Good = 0
 status_of (Script line number) = 1
@@ -23,16 +24,16 @@ status_of NoMemory = 6
 status_of Io = 7
 
 -- whether a line on standard error says how a run ended
-abbrev pub is_told : Outcome → Bool
-is_told Good = false
-is_told (Script line number) = true
-is_told BadBoard = true
-is_told WrongKind = true
-is_told HistoryFull = true
-is_told Stuck = true
-is_told Differs = false
-is_told NoMemory = true
-is_told Io = true
+abbrev pub is_reported : Outcome → Bool
+is_reported Good = false
+is_reported (Script line number) = true
+is_reported BadBoard = true
+is_reported WrongKind = true
+is_reported HistoryFull = true
+is_reported Stuck = true
+is_reported Differs = false
+is_reported NoMemory = true
+is_reported Io = true
 
 -- How a run ends with an error of the system: refused memory is that, and any other failed.
 pub record FailsAs (kind : ErrorKind) (outcome : Outcome) : Type 0 where

@@ -19,7 +19,7 @@ use Rattle.script_lines.specs.Agreeing.{said_of}
 use Rattle.guest_script.specs.Grammar.{Content, Empty, IsStepLine, most_bytes, Reads, Trace}
 use Rattle.guest_script.specs.Words.{IsLine, IsNumber, IsSigned, last_above, last_below, last_hart, last_number}
 use Rattle.monitor.specs.Table.{table}
-use Rattle.printed_lines.specs.Words.{board_words, hex, line_of, line_words}
+use Rattle.printed_lines.specs.Words.{board_line_words, hex, as_line, line_words}
 
 -- ---- numbers
 
@@ -85,8 +85,8 @@ pub record FitsAnswered (line : Answered) : Type 0 where
   pub answer : FitsAnswer line.answer
 
 -- the words of a printed line
-abbrev pub words_of : Answered → List (List ℕ)
-words_of line = line_words line.step line.answer
+abbrev pub answered_words : Answered → List (List ℕ)
+answered_words line = line_words line.step line.answer
 
 -- it as line n of a trace
 abbrev pub trace_line : (n : ℕ) → Answered → Line
@@ -95,7 +95,7 @@ trace_line n line = record { number = n; step = line.step; said = Some (said_of 
 -- a printed line, with a blank between each two words, is a line of these words, which are that step or a cut, and what it gave
 abbrev pub LineReadsBack : Type 0
 LineReadsBack = (n : ℕ) (step : Answered) → FitsAnswered step
-    → IsLine (join_with_byte 32 (words_of step)) (words_of step) × IsStepLine n true (words_of step) (trace_line n step)
+    → IsLine (join_with_byte 32 (answered_words step)) (answered_words step) × IsStepLine n true (answered_words step) (trace_line n step)
 
 -- ---- a trace
 
@@ -119,7 +119,7 @@ trace_of (line ∷ lines) = Trace (line ∷ lines)
 
 -- the board line, the lines, and comments
 abbrev pub printed : Config → List Answered → (comments : List ℕ) → List ℕ
-printed c steps comments = line_of (board_words c) ++ (flat_map (λ step. line_of (words_of step)) steps ++ comments)
+printed c steps comments = as_line (board_line_words c) ++ (flat_map (λ step. as_line (answered_words step)) steps ++ comments)
 
 -- a board of registers' numbers
 abbrev pub FitsConfig : Config → Type 0

@@ -8,7 +8,7 @@ use Rattle.board_core.specs.Course.{Course}
 use Rattle.script_lines.specs.declared.script.Line.{Line}
 use Rattle.guest_script.specs.Grammar.{Content, Empty, Program, most_bytes, Schedule, Trace}
 use Rattle.monitor.specs.Table.{table}
-use Rattle.printed_lines.specs.Words.{board_words, line_of, line_words}
+use Rattle.printed_lines.specs.Words.{board_line_words, as_line, line_words}
 use Rattle.sbiboard.specs.declared.outcome.Outcome.{Outcome}
 use Rattle.sbiboard.specs.declared.outcome.Outcome.TheVariants.{Good, HistoryFull, NoMemory}
 use Rattle.sbiboard.specs.Check.{agrees_text, EndsCheck}
@@ -25,7 +25,7 @@ scheduled (Trace lines) = None
 abbrev pub lines_text : Course → List Line → List ℕ
 lines_text b [] = []
 lines_text b (line ∷ lines) =
-    line_of (line_words line.step (answer_of b line)) ++ lines_text (after_line b line) lines
+    as_line (line_words line.step (answer_of b line)) ++ lines_text (after_line b line) lines
 
 abbrev pub is_history_full : Result Reply Refusal → Bool
 is_history_full (Ok reply) = false
@@ -40,13 +40,13 @@ abbrev pub meets_full : Course → List Line → Bool
 meets_full b [] = false
 meets_full b (line ∷ lines) = is_history_full (answer_of b line) || meets_full (after_line b line) lines
 
-abbrev pub table_of : Course → List ℕ
-table_of b = table b.opening b.past
+abbrev pub board_table : Course → List ℕ
+board_table b = table b.opening b.past
 
 -- The board line, the lines with their replies, and the table of the board after them.
 unfoldable pub text_of : Config → List Line → List ℕ
 text_of c lines =
-    line_of (board_words c) ++ (lines_text (new_course c) lines ++ table_of (course_after (new_course c) lines))
+    as_line (board_line_words c) ++ (lines_text (new_course c) lines ++ board_table (course_after (new_course c) lines))
 
 -- The text of these lines' replay. Where it isn't too long, it is a trace, and its check says that as many lines agree.
 pub record IsReplay (c : Config) (lines : List Line) (text : List ℕ) : Type 0 where
@@ -62,7 +62,7 @@ AreDone b lines (Some met_full) text = (met_full ≡ meets_full b lines) × (tex
 abbrev pub IsPrinted : Config → List Line → (met_full : Option Bool) → List ℕ → Type 0
 IsPrinted c lines None text =
     (before : List Line) × StopsAtCut lines before
-    × (text ≡ line_of (board_words c) ++ lines_text (new_course c) before)
+    × (text ≡ as_line (board_line_words c) ++ lines_text (new_course c) before)
 IsPrinted c lines (Some met_full) text = (met_full ≡ meets_full (new_course c) lines) × (text ≡ text_of c lines)
 
 -- What the replay of these lines writes with each outcome. Where memory for a cut was refused, it has written what comes before.

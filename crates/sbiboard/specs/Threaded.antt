@@ -7,13 +7,13 @@ use Rattle.board_core.specs.Opening.{Opening, opening_at}
 use Rattle.board_core.specs.Replies.{IsLegal}
 use Rattle.board_lock.specs.Events.{ops_of}
 use Rattle.guest_script.specs.Grammar.{Content, Empty, Guest, most_bytes, Program, Schedule, Trace}
-use Rattle.hart_threads.specs.declared.ends.End.{End}
-use Rattle.hart_threads.specs.declared.ends.End.TheVariants as ends
-use Rattle.hart_threads.specs.Ends.{IsEnd}
-use Rattle.hart_threads.specs.Programs.{AreFirst}
+use Rattle.guest_programs.specs.declared.ends.End.{End}
+use Rattle.guest_programs.specs.declared.ends.End.TheVariants as ends
+use Rattle.guest_programs.specs.Ends.{IsEnd}
+use Rattle.guest_programs.specs.Programs.{AreFirst}
 use Rattle.hart_threads.specs.Shares.{IsRun}
 use Rattle.monitor.specs.Table.{table}
-use Rattle.printed_lines.specs.Words.{board_words, event_words, line_of}
+use Rattle.printed_lines.specs.Words.{board_line_words, event_words, as_line}
 use Rattle.sbiboard.specs.declared.outcome.Outcome.{Outcome}
 use Rattle.sbiboard.specs.declared.outcome.Outcome.TheVariants.{Good, HistoryFull, Stuck}
 use Rattle.sbiboard.specs.Check.{EndsCheck, agrees_text}
@@ -34,7 +34,7 @@ programmed (Trace lines) = None
 -- each event with its reply
 abbrev pub events_text : List Event → List ℕ
 events_text [] = []
-events_text (e ∷ es) = line_of (event_words e.actor e.op (Ok e.reply)) ++ events_text es
+events_text (e ∷ es) = as_line (event_words e.actor e.op (Ok e.reply)) ++ events_text es
 
 -- the name of an end
 abbrev pub end_name : End → List ℕ
@@ -50,7 +50,7 @@ end_line end = codes "# end " ++ (end_name end ++ 10 ∷ [])
 
 -- The board line, the record's events in their order, the table of the board after them, and the end.
 abbrev pub run_text : Opening → List Event → End → List ℕ
-run_text o past end = line_of (board_words o.config) ++ (events_text (reverse past) ++ (table o past ++ end_line end))
+run_text o past end = as_line (board_line_words o.config) ++ (events_text (reverse past) ++ (table o past ++ end_line end))
 
 -- The outcome with each end. The program's own gate is always open.
 abbrev pub outcome_of : End → Outcome

@@ -5,7 +5,7 @@ ghost use Rattle.std.specs.Str.{IsUtf8};
 ghost use Rattle.std.specs.String.{string_bytes};
 ghost use Rattle.clap.specs.Words.{Text, app_of, kind_of, shape_of};
 ghost use Rattle.clap.specs.declared.builder.command.Command.TheViews.{out-Command as fields_of};
-ghost use Rattle.sbiboard.specs.CommandLine.{asked, of_a_run, of_one_file, sbiboard, task_words, written};
+ghost use Rattle.sbiboard.specs.CommandLine.{asked, of_a_run, of_one_file, sbiboard, task_words, invocation_of};
 
 use clap::error::ErrorKind;
 use clap::{Arg, Command, Error};
@@ -124,7 +124,7 @@ pub fn command<'a>(alloc: Global, words: &'a [String]) -> Result<Task<'a>, Error
 /// What clap finds in the words of a command line is what is written there: the program's own name, a subcommand's, and
 /// FILE.
 pub fn asked_as_written()
-    ensures { (words : List Text) → All IsUtf8 words → asked words ≡ written words }
+    ensures { (words : List Text) → All IsUtf8 words → asked words ≡ invocation_of words }
 {}
 
 /// The command line, as clap reads it.

@@ -51,8 +51,8 @@ pub fn ended<R: Eprint + Print>(rt: &R, run: Result<Outcome, Stop>) -> u8
     ensures { EndsWith run result }
 {
     match run {
-        Ok(outcome) => told(rt, outcome),
-        Err(Stop::System(error)) => told(rt, Outcome::from(error)),
+        Ok(outcome) => report(rt, outcome),
+        Err(Stop::System(error)) => report(rt, Outcome::from(error)),
         Err(Stop::Usage(error)) => shown(rt, &error),
     }
 }
@@ -63,19 +63,19 @@ fn shown<R: Eprint + Print>(rt: &R, error: &clap::Error) -> u8
 {
     let kind = error.kind();
     if kind == ErrorKind::OutOfMemory {
-        return told(rt, Outcome::NoMemory);
+        return report(rt, Outcome::NoMemory);
     }
     match error.print(rt) {
         Ok(()) => usage_status(kind),
-        Err(error) => told(rt, Outcome::from(error)),
+        Err(error) => report(rt, Outcome::from(error)),
     }
 }
 
 /// Says an outcome on standard error, where there is a line to say, and answers its status.
-fn told<R: Eprint>(rt: &R, outcome: Outcome) -> u8
+fn report<R: Eprint>(rt: &R, outcome: Outcome) -> u8
     ensures { result ≡ status_of outcome }
 {
-    if outcome.is_told() {
+    if outcome.is_reported() {
         let _ = eprintln!(rt; "sbiboard: {outcome}");
     }
     outcome.status()

@@ -2,7 +2,7 @@
 
 ghost use Rattle.std.specs.Prelude.{◌≡◌, ◌^◌, ◌<◌, true, [], Ok, OnOk};
 ghost use Rattle.printed_lines.specs.Sinks.{Passes};
-ghost use Rattle.printed_lines.specs.Words.{event_words, line_of};
+ghost use Rattle.printed_lines.specs.Words.{event_words, as_line};
 ghost use Rattle.sbiboard.specs.Keeping.{AppendsLines};
 
 use board_core::{Actor, Config, Op, Reply};
@@ -84,7 +84,7 @@ impl<K: Sink> Lines<K> {
     fn put(&mut self, step: Step) -> Result<(), Failed>
         requires { K.failures self.old.sink < 2 ^ 63 }
         ensures line { Passes K.written K.failures self.old.sink self.new.sink result self.old.page self.new.page
-            (line_of (event_words step.actor step.op (Ok step.reply))) }
+            (as_line (event_words step.actor step.op (Ok step.reply))) }
         ensures early { self.new.early ≡ self.old.early }
     {
         self.next = self.next.wrapping_add(1);

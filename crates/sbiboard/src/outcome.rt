@@ -1,7 +1,7 @@
 //! What came of a task, by number.
 ghost use Rattle.std.specs.Prelude.{◌≡◌};
 ghost use Rattle.std.specs.IoError.{error_kind};
-ghost use Rattle.sbiboard.specs.Outcomes.{FailsAs, is_told, status_of};
+ghost use Rattle.sbiboard.specs.Outcomes.{FailsAs, is_reported, status_of};
 
 use std::io::{self, ErrorKind};
 use thiserror::Error;
@@ -60,8 +60,8 @@ impl Outcome {
     }
 
     /// Whether a line on standard error says how the run ended (profile).
-    pub fn is_told(self) -> bool
-        ensures { result ≡ is_told self }
+    pub fn is_reported(self) -> bool
+        ensures { result ≡ is_reported self }
     {
         !matches!(self, Outcome::Good | Outcome::Differs)
     }

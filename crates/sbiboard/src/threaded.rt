@@ -5,7 +5,7 @@ ghost use Rattle.board_terms.specs.Limits.{IsGood};
 ghost use Rattle.guest_script.specs.Grammar.{Reads, content, written};
 ghost use Rattle.printed_lines.specs.Sinks.{Puts};
 ghost use Rattle.sbiboard.specs.Inside.Fitting.{EventFits};
-ghost use Rattle.sbiboard.specs.Keeping.{told_as};
+ghost use Rattle.sbiboard.specs.Keeping.{reported_as};
 ghost use Rattle.sbiboard.specs.Running.{CountsEnd, EndsFlushed, EndsRead, Writes};
 ghost use Rattle.sbiboard.specs.Sources.{ReadsUpTo, read_limit};
 ghost use Rattle.sbiboard.specs.Threaded.{EndsRun, end_line, end_name, events_text, open_lets, outcome_of, programmed, run_text};
@@ -35,9 +35,9 @@ pub struct KeptRun {
 }
 
 impl KeptRun {
-    /// The outcome that is told: a record that was kept in part comes before how the run ended.
-    pub fn told(self) -> Outcome
-        ensures { result ≡ told_as self.outcome self.kept }
+    /// The outcome that is reported: a record that was kept in part comes before how the run ended.
+    pub fn reported(self) -> Outcome
+        ensures { result ≡ reported_as self.outcome self.kept }
     {
         match self.kept {
             Ok(()) => self.outcome,

@@ -65,7 +65,7 @@ where
         Task::Run {
             keep: Some(path),
             ..
-        } => run_and_keep(rt, &mut reader, &mut writer, path)?.told(),
+        } => run_and_keep(rt, &mut reader, &mut writer, path)?.reported(),
         Task::Run { .. } => run_script(rt, &mut reader, &mut writer, &Open),
         Task::Replay(_) => replay(rt.alloc(), &mut reader, &mut writer),
         Task::Check(_) => check(rt.alloc(), &mut reader, &mut writer),

@@ -8,6 +8,7 @@ use std::alloc::{AllocError, Global};
 use std::ops::Range;
 use std::rt::Clock;
 use std::thread::{self, Threads};
+use test_report::Mode;
 use test_terms::{Limit, Options, Screen};
 
 const TIMES: &str = "times";
@@ -64,13 +65,17 @@ pub(crate) fn options_of<'a, R: AllocGlobal + Clock + Threads>(
     words: &'a [String],
     screen: Screen,
 ) -> Result<Options<'a>, Early> {
-    if words.first().is_some_and(|name| name.as_str() == EXPLORE) {
-        return explore_options(rt, words, screen);
-    }
     let alloc = rt.alloc();
-    let matches = described(alloc)?.try_get_matches_from(words)?;
+    let mode = mode_of(words);
+    let command = match mode {
+        Mode::Test => described(alloc)?,
+        Mode::Explore => described_exploring(alloc)?,
+    };
+    let matches = command.try_get_matches_from(words)?;
     let times = matches.get_one(TIMES).unwrap_or(0);
+    let states: u64 = matches.get_one(STATES).unwrap_or(0);
     Ok(Options {
+        mode,
         orders: match matches.get_one(ORDER) {
             Some(order) => one_order(order),
             None => 0..times,
@@ -79,14 +84,22 @@ pub(crate) fn options_of<'a, R: AllocGlobal + Clock + Threads>(
         jobs: jobs_of(rt, matches.get_one(JOBS)),
         runs: if matches.get_flag(THREADS) { times } else { 0 },
         are_few_seen: !asks_for_some(&matches),
+        states: states as usize,
+        outcomes: mode == Mode::Explore && !matches.get_flag(NO_OUTCOMES),
         screen,
-        states: None,
-        outcomes: false,
         failed: matches.get_str(FAILED).unwrap_or("."),
         limit: Limit::begin(rt, matches.get_one(SECONDS))?,
         tap: matches.get_str(TAP),
         files: files_of(alloc, &matches)?,
     })
+}
+
+/// What the files are asked for, by the program's own name.
+fn mode_of(words: &[String]) -> Mode {
+    match words.first() {
+        Some(name) if name.as_str() == EXPLORE => Mode::Explore,
+        _ => Mode::Test,
+    }
 }
 
 /// The numbers of one order alone.
@@ -105,31 +118,6 @@ fn asks_for_some(matches: &ArgMatches<'_>) -> bool {
 /// Whether an option stands among the words.
 fn is_given(matches: &ArgMatches<'_>, name: &str) -> bool {
     matches.value_source(name) == Some(ValueSource::CommandLine)
-}
-
-/// What they ask for where all orders are looked at.
-fn explore_options<'a, R: AllocGlobal + Clock>(
-    rt: &R,
-    words: &'a [String],
-    screen: Screen,
-) -> Result<Options<'a>, Early> {
-    let alloc = rt.alloc();
-    let matches = described_exploring(alloc)?.try_get_matches_from(words)?;
-    let states: u64 = matches.get_one(STATES).unwrap_or(0);
-    Ok(Options {
-        orders: 0..0,
-        seed: 0,
-        jobs: 1,
-        runs: 0,
-        are_few_seen: false,
-        screen,
-        states: Some(states as usize),
-        outcomes: !matches.get_flag(NO_OUTCOMES),
-        failed: matches.get_str(FAILED).unwrap_or("."),
-        limit: Limit::begin(rt, matches.get_one(SECONDS))?,
-        tap: matches.get_str(TAP),
-        files: files_of(alloc, &matches)?,
-    })
 }
 
 /// The files that are named.

@@ -1,13 +1,18 @@
-//! How far the program is with its files, and what it found.
-use board_core::{Actor, Board, Event, Op, Refusal, Reply};
+//! A board under the lines of a schedule or a trace.
+use crate::stale::Expected;
+use board_core::{Board, Event, Refusal, Reply};
+use guest_script::KeptLine;
 use std::alloc::{AllocError, Global};
+use test_report::{Note, RecordParts};
 
 /// A board under a schedule or a trace, with what was cut off its history.
 #[derive(Drop)]
 pub(crate) struct Course {
-    pub(crate) board: Board,
+    board: Board,
     /// The events before each cut, since the one before.
-    pub(crate) segments: Vec<Vec<Event>>,
+    segments: Vec<Vec<Event>>,
+    /// Where it used what isn't there any more.
+    pub(crate) stale: Vec<Note>,
 }
 
 impl Course {
@@ -16,23 +21,33 @@ impl Course {
         Course {
             board,
             segments: Vec::new(alloc),
+            stale: Vec::new(alloc),
         }
     }
 
-    /// Has the board make a step, or where it is none cut its history, which is always done.
+    /// Has the board make a line's step, or where it is none cut its history, which is always done.
     pub(crate) fn answer(
         &mut self,
         alloc: Global,
-        step: Option<(Actor, Op)>,
+        line: &KeptLine<'_>,
     ) -> Result<Result<Reply, Refusal>, AllocError> {
-        let Some((actor, op)) = step else {
+        let Some((actor, op)) = line.step() else {
             let Ok(segment) = self.board.cut(alloc) else {
                 return Err(AllocError);
             };
             self.segments.push(segment.events)?;
             return Ok(Ok(Reply::Done));
         };
-        Ok(self.board.step(actor, op))
+        let expected = Expected::of(&self.board, actor, op);
+        let answer = self.board.step(actor, op);
+        if answer.is_ok()
+            && let Some(expected) = expected
+            && let Some(event) = self.board.history().last()
+            && let Some(stale) = expected.stale(&self.board, event)
+        {
+            self.stale.push(Note::Stale(line.number(), stale))?;
+        }
+        Ok(answer)
     }
 
     /// All events, also those that were cut off, oldest first.
@@ -43,5 +58,15 @@ impl Course {
         }
         events.extend_from_slice(self.board.history())?;
         Ok(events)
+    }
+
+    /// The record, whose events these are.
+    pub(crate) fn record<'a>(&'a self, events: &'a [Event]) -> RecordParts<'a> {
+        RecordParts {
+            board: &self.board,
+            segments: &self.segments,
+            events,
+            end: None,
+        }
     }
 }

@@ -1,8 +1,8 @@
 //! Why the program ends early, and its status.
 use clap::error::ErrorKind;
-use points::Unwritten;
 use std::alloc::AllocError;
 use std::io;
+use test_report::Unwritten;
 use test_terms::Stop;
 
 /// Why not all that was asked for is told.
@@ -58,8 +58,8 @@ fn stopped(rt: &impl Eprint, stop: &Stop) -> u8 {
             let _ = eprintln!(rt; "sbiboard: {error}");
             7
         }
-        Stop::Unwritten(Unwritten { path, error }) => {
-            let _ = eprintln!(rt; "sbiboard: {path}: {error}");
+        Stop::Unwritten(Unwritten { path, why }) => {
+            let _ = eprintln!(rt; "sbiboard: {path}: {why}");
             7
         }
     }

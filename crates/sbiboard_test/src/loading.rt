@@ -1,7 +1,7 @@
 //! A file, read with its conditions, or why it can't be.
 use conditions::{Condition, Wrong, conditions};
-use guest_script::{Fault, Script, parse};
-use script_text::{bad_board, bad_condition, faulty};
+use diagnostics::{bad_board, bad_condition, faulty};
+use guest_script::{Fault, Script, locate};
 use std::alloc::{AllocError, Global};
 use std::fs;
 use std::io::{self, ErrorKind, Read};
@@ -52,9 +52,9 @@ pub(crate) fn load<R: AllocGlobal + Files>(rt: &R, file: &str) -> Result<Loaded,
         Ok(text) => text,
         Err(error) => return Err(unreadable(alloc, error.kind())?),
     };
-    let script = match parse(alloc, &text) {
+    let script = match locate(alloc, &text) {
         Ok(script) => script,
-        Err(found) if found.fault == Fault::NoMemory => return Err(Unloaded::NoMemory),
+        Err(found) if found.wrong.fault() == Fault::NoMemory => return Err(Unloaded::NoMemory),
         Err(found) => return Err(Unloaded::File(faulty(alloc, &text, found)?)),
     };
     if !script.config.is_good() {

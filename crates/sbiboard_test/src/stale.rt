@@ -1,5 +1,6 @@
 //! Which accesses were answered by what isn't there any more.
 use board_core::{Actor, Board, Cause, Event, Kind, Leaf, Op, Reply};
+use test_report::Stale;
 
 /// What a walk would give where a step is an access, as the board is before it.
 #[derive(Clone, Copy, Debug)]
@@ -8,19 +9,10 @@ pub(crate) struct Expected {
     walked: Result<Leaf, Cause>,
 }
 
-/// What a step used that isn't there any more.
-#[derive(Clone, Copy, Debug)]
-pub(crate) enum Stale {
-    /// A translation that a walk of the page tables wouldn't give.
-    Translation,
-    /// A word of the instruction cache that memory hasn't any more.
-    Word,
-}
-
 impl Expected {
     /// What a walk gives a hart that there is now, where the step is an access.
-    pub(crate) fn of(board: &Board, step: Option<(Actor, Op)>) -> Option<Expected> {
-        let Some((Actor::Hart(h), op)) = step else {
+    pub(crate) fn of(board: &Board, actor: Actor, op: Op) -> Option<Expected> {
+        let Actor::Hart(h) = actor else {
             return None;
         };
         let (va, kind) = match op {

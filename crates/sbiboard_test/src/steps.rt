@@ -1,183 +1,127 @@
 //! Schedules that are replayed, and traces that are compared.
 use crate::course::Course;
-use crate::stale::{Expected, Stale};
-use board_core::{Refusal, Reply};
 use conditions::{Condition, Rule};
-use guest_script::{KeptLine, Lines};
-use points::{RecordParts, Report, step_line};
-use script_text::{Case, Walk};
-use std::alloc::{AllocError, Global};
-use std::fmt::Write;
+use diagnostics::Walk;
+use guest_programs::new_board;
+use guest_script::{Body, Lines};
+use outcome_statistics::{failing_step, is_met, meets};
+use std::alloc::AllocError;
 use std::rt::Files;
 use std::str;
-use tallies::{failing_step, is_met, meets};
-use test_terms::{Options, Stop, put_record};
+use test_report::{
+    Detail, Difference, FileReport, Note, Point, RecordParts, Verdict, named, step_line,
+};
+use test_terms::{Stop, Trial, keep};
+
+/// Tests a schedule or a trace: its lines, and its record by each condition.
+pub(crate) fn test_steps<R: AllocGlobal + Files>(trial: &Trial<'_, R>) -> Result<FileReport, Stop> {
+    let alloc = trial.rt.alloc();
+    let mut course = Course::of(alloc, new_board(alloc, &trial.script.config)?);
+    let mut file = FileReport::new(alloc);
+    match &trial.script.body {
+        Body::Schedule(lines) => replay(trial, &mut course, lines, &mut file)?,
+        Body::Trace(lines) => compare(trial, &mut course, lines, &mut file)?,
+        Body::Empty | Body::Program { .. } => {}
+    }
+    let events = course.events(alloc)?;
+    for condition in trial.case.conditions {
+        judge(trial, condition, course.record(&events), &mut file)?;
+    }
+    Ok(file)
+}
 
 /// Makes each step of a schedule, whatever is refused. Without conditions that is the point.
-pub(crate) fn replay(
-    alloc: Global,
-    case: &Case<'_>,
+fn replay<R: AllocGlobal>(
+    trial: &Trial<'_, R>,
     course: &mut Course,
     lines: &Lines,
-    report: &mut Report,
+    file: &mut FileReport,
 ) -> Result<(), AllocError> {
-    let mut notes = String::new(alloc);
     for line in lines.iter() {
-        let _ = answer_noted(alloc, course, &line, &mut notes)?;
+        let _ = course.answer(trial.rt.alloc(), &line)?;
     }
-    if case.conditions.is_empty() {
-        put_point(alloc, case, lines, true, report)?;
+    if trial.case.conditions.is_empty() {
+        file.push(point_of_lines(trial, lines, Verdict::Holds)?)?;
     }
-    report.text.push_str(notes.as_str())
+    note_stale(course, file)
 }
 
 /// Compares each line of a trace with the board's own answer, goes on with that, and tells all lines that differ.
-pub(crate) fn compare(
-    alloc: Global,
-    case: &Case<'_>,
+fn compare<R: AllocGlobal>(
+    trial: &Trial<'_, R>,
     course: &mut Course,
     lines: &Lines,
-    report: &mut Report,
+    file: &mut FileReport,
 ) -> Result<(), AllocError> {
-    let mut differing: u64 = 0;
-    let mut text = String::new(alloc);
-    let mut notes = String::new(alloc);
-    let mut walk = Walk::new(case.text);
+    let alloc = trial.rt.alloc();
+    let mut differences = Vec::new(alloc);
+    let mut walk = Walk::new(trial.case.text);
     for line in lines.iter() {
-        let answer = answer_noted(alloc, course, &line, &mut notes)?;
+        let answer = course.answer(alloc, &line)?;
         if !line.said().is_some_and(|said| said.agrees(&answer)) {
-            differing = differing.saturating_add(1);
             let got = step_line(alloc, line.step(), answer)?;
-            put_difference(&mut walk, &line, &got, &mut text)?;
+            let got = str::from_utf8(&got).unwrap_or("").trim();
+            differences.push(Difference {
+                line: line.number(),
+                wanted: String::from_str(alloc, walk.said_at(line.number()))?,
+                got: String::from_str(alloc, got)?,
+            })?;
         }
     }
-    put_point(alloc, case, lines, differing == 0, report)?;
-    if differing > 0 {
-        let shown = text.as_str();
-        write!(
-            report.text,
-            "  ---\n  differing: {differing}\n  lines:\n{shown}  ...\n"
-        )?;
+    let mut point = point_of_lines(trial, lines, Verdict::of(differences.is_empty()))?;
+    if !differences.is_empty() {
+        let many = differences.len() as u64;
+        point.details.push(Detail::Number("differing", many))?;
+        point.details.push(Detail::Lines(differences))?;
     }
-    report.text.push_str(notes.as_str())
+    file.push(point)?;
+    note_stale(course, file)
 }
 
-/// Has the board make the step of a line, and notes where it used what isn't there any more.
-fn answer_noted(
-    alloc: Global,
-    course: &mut Course,
-    line: &KeptLine<'_>,
-    notes: &mut String,
-) -> Result<Result<Reply, Refusal>, AllocError> {
-    let step = line.step();
-    let expected = Expected::of(&course.board, step);
-    let answer = course.answer(alloc, step)?;
-    if answer.is_ok()
-        && let Some(expected) = expected
-        && let Some(event) = course.board.history().last()
-    {
-        let number = line.number();
-        match expected.stale(&course.board, event) {
-            Some(Stale::Translation) => write!(
-                notes,
-                "# line {number}: stale: a walk gives another translation\n"
-            )?,
-            Some(Stale::Word) => write!(
-                notes,
-                "# line {number}: stale: memory has another word\n"
-            )?,
-            None => {}
-        }
-    }
-    Ok(answer)
-}
-
-/// Puts what a line wants, and the line with what the board gave.
-fn put_difference(
-    walk: &mut Walk<'_>,
-    line: &KeptLine<'_>,
-    got: &[u8],
-    text: &mut String,
-) -> Result<(), AllocError> {
-    let number = line.number();
-    let wanted = walk.said_at(number);
-    let got = str::from_utf8(got).unwrap_or("").trim();
-    write!(
-        text,
-        "    - line: {number}\n      wanted: \"{wanted}\"\n      got: \"{got}\"\n"
-    )
-}
-
-/// Puts the point of a schedule's or a trace's lines.
-fn put_point(
-    alloc: Global,
-    case: &Case<'_>,
-    lines: &Lines,
-    holds: bool,
-    report: &mut Report,
-) -> Result<(), AllocError> {
-    let file = case.file;
-    let many = lines.len();
-    let about = format!(in alloc; "{file} ({many} lines)")?;
-    report.point(holds, about.as_str())
-}
-
-/// Judges the record of a schedule or of a trace by each condition.
-pub(crate) fn judge_record<R: AllocGlobal + Files>(
-    rt: &R,
-    options: &Options<'_>,
-    case: &Case<'_>,
-    course: &Course,
-    report: &mut Report,
-) -> Result<(), Stop> {
-    let events = course.events(rt.alloc())?;
-    let told = RecordParts {
-        board: &course.board,
-        segments: &course.segments,
-        events: &events,
-    };
-    for condition in case.conditions {
-        tell(rt, options, case, condition, told, report)?;
+/// Notes where the board used what isn't there any more.
+fn note_stale(course: &mut Course, file: &mut FileReport) -> Result<(), AllocError> {
+    for note in course.stale.drain(..) {
+        file.note(note)?;
     }
     Ok(())
 }
 
-/// Tells whether a record meets a condition.
-fn tell<R: AllocGlobal + Files>(
-    rt: &R,
-    options: &Options<'_>,
-    case: &Case<'_>,
+/// The point of a schedule's or a trace's lines.
+fn point_of_lines<R: AllocGlobal>(
+    trial: &Trial<'_, R>,
+    lines: &Lines,
+    verdict: Verdict,
+) -> Result<Point, AllocError> {
+    let alloc = trial.rt.alloc();
+    let many = lines.len();
+    let said = format!(in alloc; " ({many} lines)")?;
+    let name = named(alloc, &trial.case, None, said.as_str())?;
+    Ok(Point::new(alloc, name, verdict))
+}
+
+/// Judges the record of a schedule or of a trace by a condition.
+fn judge<R: AllocGlobal + Files>(
+    trial: &Trial<'_, R>,
     condition: &Condition,
-    told: RecordParts<'_>,
-    report: &mut Report,
-) -> Result<(), Stop> {
-    let events = told.events;
+    record: RecordParts<'_>,
+    file: &mut FileReport,
+) -> Result<(), AllocError> {
+    let alloc = trial.rt.alloc();
     let rule = &condition.rule;
-    let holds = meets(rule, events, None);
-    let file = case.file;
-    let line = condition.line;
-    let asked = case.asked_at(line);
-    let about = format!(in rt.alloc(); "{file}: line {line}: {asked}")?;
-    report.point(holds, about.as_str())?;
+    let verdict = Verdict::of(meets(rule, record.events, None));
+    let name = named(alloc, &trial.case, Some(condition), "")?;
+    let mut point = Point::new(alloc, name, verdict);
     if matches!(rule, Rule::End(_)) {
-        report
-            .text
-            .push_str("  ---\n  reason: \"only a program has an end\"\n  ...\n")?;
-    } else if !holds {
-        report.text.push_str("  ---\n")?;
-        put_record(
-            rt,
-            options,
-            case,
-            "failed",
-            told,
-            failing_step(Some(rule), events),
-            report,
-        )?;
-        report.text.push_str("  ...\n")?;
+        point
+            .details
+            .push(Detail::Reason("only a program has an end"))?;
+    } else if verdict == Verdict::Fails {
+        let place = failing_step(Some(rule), record.events);
+        keep(trial, "failed", record, place, &mut point.details)?;
     }
-    if !is_met(rule, events) {
-        report.never_met(line)?;
+    file.push(point)?;
+    if !is_met(rule, record.events) {
+        file.note(Note::NeverMet(condition.line))?;
     }
     Ok(())
 }

@@ -1,3 +1,4 @@
 pub mod Agreeing
 pub mod KeptLines
+pub mod Names
 pub mod Packing

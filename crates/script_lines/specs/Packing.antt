@@ -5,10 +5,14 @@ use Rattle.board_terms.specs.declared.op.Actor.{Actor}
 use Rattle.board_terms.specs.declared.op.Actor.TheVariants.{Hart, Clock}
 use Rattle.board_terms.specs.declared.op.Op.{Op}
 use Rattle.board_terms.specs.declared.op.Op.TheVariants as ops
+use Rattle.script_lines.specs.declared.op_name.OpName.{OpName}
+use Rattle.script_lines.specs.declared.op_name.OpName.TheVariants as names
 use Rattle.script_lines.specs.declared.op_shape.OpShape.{OpShape}
 use Rattle.script_lines.specs.declared.op_shape.OpShape.TheVariants.{Ecall, Load, Store, Fetch, WriteSatp, WriteSie, SstatusOff, SstatusOn, ReadSip, ClearSsip, SfenceAll, SfenceAddress, SfenceAsid, SfenceBoth, FenceI, Wfi, Poll, Serve, Advance, Tick}
 use Rattle.script_lines.specs.declared.said.Said.{Said}
 use Rattle.script_lines.specs.declared.said.Said.TheVariants as says
+use Rattle.script_lines.specs.declared.said_name.SaidName.{SaidName}
+use Rattle.script_lines.specs.declared.said_name.SaidName.TheVariants as saids
 use Rattle.script_lines.specs.declared.said_shape.SaidShape.{SaidShape}
 use Rattle.script_lines.specs.declared.said_shape.SaidShape.TheVariants as shapes
 
@@ -23,6 +27,7 @@ abbrev pub used : List ℕ → ℕ
 used [] = 0
 used (n ∷ ns) = if (used ns == 0) && (n == 0) then 0 else suc (used ns)
 
+-- The shape of an operation: what it is, without its numbers.
 abbrev pub shape_of : Op → OpShape
 shape_of (ops.Ecall regs) = Ecall
 shape_of (ops.Load va) = Load
@@ -44,6 +49,25 @@ shape_of ops.Poll = Poll
 shape_of ops.Serve = Serve
 shape_of ops.Advance = Advance
 shape_of (ops.Tick n) = Tick
+
+-- the shape of an operation of this name, with a number in each place
+abbrev pub named_shape : OpName → OpShape
+named_shape names.Ecall = Ecall
+named_shape names.Load = Load
+named_shape names.Store = Store
+named_shape names.Fetch = Fetch
+named_shape names.Satp = WriteSatp
+named_shape names.Sie = WriteSie
+named_shape names.Sstatus = SstatusOff
+named_shape names.Sip = ReadSip
+named_shape names.Clearssip = ClearSsip
+named_shape names.Sfence = SfenceBoth
+named_shape names.Fencei = FenceI
+named_shape names.Wfi = Wfi
+named_shape names.Poll = Poll
+named_shape names.Serve = Serve
+named_shape names.Advance = Advance
+named_shape names.Tick = Tick
 
 -- an absent number is none
 abbrev pub given : Option ℕ → List ℕ
@@ -104,6 +128,7 @@ kept_count shape ns = length ns
 
 -- ---- what is said
 
+-- The shape of what a trace's line says, without its numbers.
 abbrev pub said_shape_of : Option Said → SaidShape
 said_shape_of None = shapes.Nothing
 said_shape_of (Some (says.Ret error value)) = shapes.Ret
@@ -116,6 +141,19 @@ said_shape_of (Some says.Served) = shapes.Served
 said_shape_of (Some (says.Moved state)) = shapes.Moved
 said_shape_of (Some says.Done) = shapes.Done
 said_shape_of (Some (says.Refused n)) = shapes.Refused
+
+-- the shape of what is said under this name
+abbrev pub named_said_shape : SaidName → SaidShape
+named_said_shape saids.Ret = shapes.Ret
+named_said_shape saids.Waiting = shapes.Waiting
+named_said_shape saids.Gone = shapes.Gone
+named_said_shape saids.Entry = shapes.Entry
+named_said_shape saids.Value = shapes.Value
+named_said_shape saids.Fault = shapes.Fault
+named_said_shape saids.Served = shapes.Served
+named_said_shape saids.Moved = shapes.Moved
+named_said_shape saids.Done = shapes.Done
+named_said_shape saids.Refused = shapes.Refused
 
 -- the numbers of what is said; an error by its bits
 abbrev pub said_numbers : Option Said → List ℕ
@@ -131,6 +169,7 @@ said_numbers (Some (says.Moved state)) = state ∷ []
 said_numbers (Some says.Done) = []
 said_numbers (Some (says.Refused n)) = n ∷ []
 
+-- What a line says, made of its shape and its numbers again.
 abbrev pub said_made : SaidShape → List ℕ → Option Said
 said_made shapes.Nothing ns = None
 said_made shapes.Ret ns = Some (says.Ret (cast_signed w64 (number_from ns 0)) (number_from ns 1))

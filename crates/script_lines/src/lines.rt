@@ -9,6 +9,7 @@ ghost use Rattle.script_lines.specs.Packing.{FitsKept, StepFits};
 use crate::kept_line::KeptLine;
 use crate::line_shape::{LineShape, actor_number, step_number};
 use crate::op_shape::{OP_NUMBERS, put_all, put_step};
+use crate::places::LAST_HART;
 use crate::plain::Plain;
 use crate::said_shape::{SAID_NUMBERS, SaidShape};
 use crate::script::Line;
@@ -53,7 +54,7 @@ fn fits(step: Option<(Actor, Op)>) -> bool
     ensures { (result ≡ true) ↔ StepFits step }
 {
     match step {
-        Some((Actor::Hart(hart), _)) => hart < 128,
+        Some((Actor::Hart(hart), _)) => hart <= LAST_HART,
         Some((Actor::Clock, _)) | None => true,
     }
 }

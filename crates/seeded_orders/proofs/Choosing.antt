@@ -17,9 +17,8 @@ use Rattle.board_core.specs.History.{Event}
 use Rattle.board_terms.specs.Limits.{IsGood}
 use Rattle.board_core.specs.Replies.{answer, IsLegal, refused_or}
 use Rattle.board_core.specs.Resets.{is_off}
-use Rattle.hart_threads.specs.Choices.{IsOwn}
+use Rattle.guest_programs.specs.Steps.{IsOwn, AreOwn, IsActorsOwn, next_op, Task}
 use Rattle.seeded_orders.specs.Choices.{choice, choice_of, own_number}
-use Rattle.seeded_orders.specs.Steps.{AreOwn, IsActorsOwn, next_op, Task}
 
 -- the firmware's operation of a number
 abbrev named : ℕ → Op

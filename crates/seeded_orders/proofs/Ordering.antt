@@ -12,18 +12,18 @@ use Rattle.board_terms.specs.declared.reply.Reply.{Reply}
 use Rattle.board_core.specs.History.{Event}
 use Rattle.board_core.specs.Replies.{answer, recorded}
 use Rattle.guest_script.specs.Grammar.{Content, guest}
-use Rattle.hart_threads.specs.declared.blocks.Program.{Program}
-use Rattle.hart_threads.specs.declared.ends.End.{End}
-use Rattle.hart_threads.specs.declared.met.Met.TheVariants.{Nothing}
-use Rattle.hart_threads.specs.Ends.{IsEnd, IsEndBy}
-use Rattle.hart_threads.specs.Programs.{blocks_of, ticks_of}
-use Rattle.seeded_orders.specs.declared.steps.Step.{Step}
-use Rattle.seeded_orders.specs.declared.steps.Step.TheVariants as takes
+use Rattle.guest_programs.specs.declared.blocks.Program.{Program}
+use Rattle.guest_programs.specs.declared.ends.End.{End}
+use Rattle.guest_programs.specs.declared.met.Met.TheVariants.{Nothing}
+use Rattle.guest_programs.specs.Ends.{IsEnd, IsEndBy}
+use Rattle.guest_programs.specs.Programs.{blocks_of, ticks_of}
+use Rattle.guest_programs.specs.declared.steps.Step.{Step}
+use Rattle.guest_programs.specs.declared.steps.Step.TheVariants as takes
 use Rattle.seeded_orders.specs.declared.pickers.Picker.{Picker}
 use Rattle.seeded_orders.specs.declared.pickers.Picker.TheVariants.{Even, Ranked}
 use Rattle.seeded_orders.specs.Orders.{IsTried, met_before, ordered, order_of, past_after, past_with, pick, picked, picker_of}
 use Rattle.seeded_orders.specs.Ranks.{higher, highest, reranked}
-use Rattle.seeded_orders.specs.Steps.{actor_of, AreOwn, IsActorsOwn, next_op, op_of, steps, Task, task_in, task_of}
+use Rattle.guest_programs.specs.Steps.{actor_of, AreOwn, IsActorsOwn, next_op, op_of, steps, Task, task_in, task_of}
 
 -- of no steps none is picked
 nothing-picked : (picker : Picker) (turn : ℕ) → (pick picker turn []).0 ≡ None

@@ -4,7 +4,7 @@ use Rattle.std.specs.Prelude.{Option, Some}
 use Rattle.std.proofs.Math.Seq.{drop-cons}
 use Rattle.rand_pcg.specs.Lcg.{Lcg}
 use Rattle.rand_pcg.specs.Pcg.{pcg64_dxsm}
-use Rattle.seeded_orders.specs.declared.steps.Step.{Step}
+use Rattle.guest_programs.specs.declared.steps.Step.{Step}
 use Rattle.seeded_orders.specs.Ranks.{higher, highest, Ranking, ranking, ranking_within, ranks_from}
 
 word-of : (word : ℕ) (w v : Lcg) → (word, v) ≡ pcg64_dxsm w → word ≡ (pcg64_dxsm w).0

@@ -9,9 +9,9 @@ use Rattle.board_core.specs.Accesses.{used_by_actor}
 use Rattle.board_core.specs.Course.{Course}
 use Rattle.board_core.specs.History.{Event}
 use Rattle.board_core.specs.Replies.{answer, recorded, stepped}
-use Rattle.seeded_orders.specs.declared.steps.Step.{Step}
+use Rattle.guest_programs.specs.declared.steps.Step.{Step}
 use Rattle.seeded_orders.specs.Orders.{past_after, past_with}
-use Rattle.seeded_orders.specs.Steps.{actor_of, op_of, Task}
+use Rattle.guest_programs.specs.Steps.{actor_of, op_of, Task}
 
 recorded-opening : (b : Course) (actor : Actor) (op : Op) (said : Result Reply Refusal) → (recorded b actor op said).opening ≡ b.opening
 recorded-opening b actor op (Ok reply) = refl

@@ -1,5 +1,3 @@
-pub mod Steps
 pub mod Ranks
 pub mod Orders
 pub mod Choices
-pub mod Inside

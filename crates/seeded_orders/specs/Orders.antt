@@ -8,15 +8,15 @@ use Rattle.board_terms.specs.declared.op.Actor.{Actor}
 use Rattle.board_terms.specs.declared.op.Op.{Op}
 use Rattle.board_core.specs.History.{Event}
 use Rattle.board_core.specs.Replies.{stepped}
-use Rattle.hart_threads.specs.declared.ends.End.{End}
-use Rattle.hart_threads.specs.declared.met.Met.{Met}
-use Rattle.hart_threads.specs.declared.met.Met.TheVariants.{FullHistory, Nothing}
-use Rattle.hart_threads.specs.Ends.{IsEnd, IsEndBy}
+use Rattle.guest_programs.specs.declared.ends.End.{End}
+use Rattle.guest_programs.specs.declared.met.Met.{Met}
+use Rattle.guest_programs.specs.declared.met.Met.TheVariants.{FullHistory, Nothing}
+use Rattle.guest_programs.specs.Ends.{IsEnd, IsEndBy}
 use Rattle.seeded_orders.specs.declared.pickers.Picker.{Picker}
 use Rattle.seeded_orders.specs.declared.pickers.Picker.TheVariants.{Even, Ranked}
-use Rattle.seeded_orders.specs.declared.steps.Step.{Step}
+use Rattle.guest_programs.specs.declared.steps.Step.{Step}
 use Rattle.seeded_orders.specs.Ranks.{highest, ranking, reranked}
-use Rattle.seeded_orders.specs.Steps.{actor_of, AreOwn, op_of, steps, Task}
+use Rattle.guest_programs.specs.Steps.{actor_of, AreOwn, op_of, steps, Task}
 
 -- the generator of an order: PCG64 DXSM, whose state is begun with the seed and whose stream is the order's number
 abbrev pub words_of : (seed order : ℕ) → Lcg

@@ -2,8 +2,8 @@
 use Rattle.std.specs.Prelude.{ℕ, zero, suc, ◌+◌, ◌*◌, ◌/◌, ◌%◌, ◌^◌, ◌==◌, nat_le, if◌then◌else◌, List, [], ◌∷◌, get_or, slice_set, Option, Some, None}
 use Rattle.rand_pcg.specs.Lcg.{Lcg}
 use Rattle.rand_pcg.specs.Pcg.{pcg64_dxsm}
-use Rattle.seeded_orders.specs.declared.steps.Step.{Step}
-use Rattle.seeded_orders.specs.declared.steps.Step.TheVariants as takes
+use Rattle.guest_programs.specs.declared.steps.Step.{Step}
+use Rattle.guest_programs.specs.declared.steps.Step.TheVariants as takes
 
 -- The ranks by the places of kinds, and the two turns in which the kind that would go falls below all others before.
 pub record Ranking : Type 0 where

@@ -5,7 +5,7 @@ ghost use Rattle.board_core.specs.History.{Event};
 ghost use Rattle.board_terms.specs.Limits.{IsGood};
 ghost use Rattle.board_core.specs.Replies.{IsLegal};
 ghost use Rattle.seeded_orders.specs.Choices.{choice_of, own_number};
-ghost use Rattle.seeded_orders.specs.Steps.{AreOwn, Task};
+ghost use Rattle.guest_programs.specs.Steps.{AreOwn, Task};
 
 use board_core::{Actor, Event, Op};
 use std::alloc::{AllocError, Global};

@@ -4,10 +4,7 @@
 mod kept;
 mod orders;
 mod pickers;
-mod places;
 mod ranks;
-mod steps;
 
 pub use kept::{choices, choices_tell_records};
 pub use orders::{try_order, try_order_on};
-pub use steps::{Step, steps_are_all};

@@ -4,18 +4,18 @@ ghost use Rattle.board_terms.specs.Limits.{IsGood};
 ghost use Rattle.board_core.specs.Opening.{opening_at};
 ghost use Rattle.board_core.specs.Replies.{IsLegal};
 ghost use Rattle.guest_script.specs.Grammar.{content};
-ghost use Rattle.hart_threads.specs.Programs.{IsProgram};
-ghost use Rattle.hart_threads.specs.declared.ends.RunFault.TheVariants.{BadConfig, NoMemory};
+ghost use Rattle.guest_programs.specs.Programs.{IsProgram};
+ghost use Rattle.guest_programs.specs.declared.ends.RunFault.TheVariants.{BadConfig, NoMemory};
 ghost use Rattle.seeded_orders.specs.Orders.{IsTried, met_before, ordered, past_with};
-ghost use Rattle.seeded_orders.specs.Inside.Places.{AreAt};
-ghost use Rattle.seeded_orders.specs.Steps.{steps, task_in, task_of};
+ghost use Rattle.guest_programs.specs.Places.{AreAt};
+ghost use Rattle.guest_programs.specs.Steps.{steps, task_in, task_of};
 
 use crate::pickers::Picker;
-use crate::places::Places;
-use crate::steps::Step;
 use board_core::Board;
+use guest_programs::{
+    End, Met, Places, Program, RunEnd, RunFault, Step, end_of, new_board, program_in,
+};
 use guest_script::Script;
-use hart_threads::{End, Met, Program, RunEnd, RunFault, end_of, new_board, program_in};
 use std::alloc::{AllocError, Global};
 
 /// Runs a program on a new board in the order that a seed and a number pick: each time one of all steps that its actors can

@@ -1,9 +1,9 @@
 //! Who picks the next step: all alike, or by ranks.
 ghost use Rattle.std.specs.Prelude.{◌≡◌, ◌≤◌, IfOk};
-ghost use Rattle.seeded_orders.specs.Orders.{pick, picker_of};
+ghost use Rattle.seeded_orders.specs.Orders.{pick, picked, picker_of};
 
 use crate::ranks::Ranks;
-use crate::steps::{Step, picked};
+use guest_programs::Step;
 use rand_core::utils::NextWord;
 use rand_pcg::Pcg64Dxsm;
 use std::alloc::{AllocError, Global};
@@ -48,4 +48,16 @@ impl Picker {
             Picker::Ranked(ranks) => ranks.pick(turn, steps),
         }
     }
+}
+
+/// The step that a word picks of these, if there is one.
+#[tactic(auto, using(crate::proofs::Picking::picked_none, crate::proofs::Picking::picked_some))]
+fn picked(word: u64, steps: &[Step]) -> Option<Step>
+    ensures { result ≡ picked word steps.now }
+{
+    if steps.is_empty() {
+        return None;
+    }
+    let place = word % steps.len() as u64;
+    steps.get(place as usize).copied()
 }

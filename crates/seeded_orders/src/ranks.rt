@@ -2,7 +2,7 @@
 ghost use Rattle.std.specs.Prelude.{◌≡◌, ◌^◌, ◌*◌, ◌+◌, ◌%◌, ◌<◌, ◌≤◌, zero, slice_set, IfOk, None, Some};
 ghost use Rattle.seeded_orders.specs.Ranks.{higher, highest, place_of, rank_of, ranking, ranks_from, reranked};
 
-use crate::steps::Step;
+use guest_programs::Step;
 use rand_core::utils::NextWord;
 use rand_pcg::Pcg64Dxsm;
 use std::alloc::{AllocError, Global};

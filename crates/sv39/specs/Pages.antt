@@ -4,6 +4,7 @@ use Rattle.sv39.specs.declared.page.TheConstants.{PAGE_BYTES, TABLE_ENTRIES}
 use Rattle.sv39.specs.declared.page.Level.{Level}
 use Rattle.sv39.specs.declared.page.Level.TheVariants.{Kilo, Mega, Giga, Tera}
 
+-- The number of a level, 0 for pages of 4 KiB.
 abbrev pub level_number : Level → ℕ
 level_number Kilo = 0
 level_number Mega = 1

@@ -1,15 +1,15 @@
-//! What the parts of a test have in common: what is asked for, how long it may take, why it ends early, and the records that are
-//! told of.
+//! What the parts of a test have in common: a file on trial, what is asked of it, how long that may take, why it ends early, and the
+//! records that are kept.
 #![tactic(auto)]
 
-mod detail;
+mod kept;
 mod limit;
 mod options;
-mod screen;
 mod stop;
+mod trial;
 
-pub use detail::{put_ended, put_record};
+pub use kept::keep;
 pub use limit::Limit;
-pub use options::Options;
-pub use screen::Screen;
+pub use options::{Options, Screen};
 pub use stop::Stop;
+pub use trial::Trial;

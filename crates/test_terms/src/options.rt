@@ -1,11 +1,22 @@
 //! What is asked for.
 use crate::limit::Limit;
-use crate::screen::Screen;
 use std::ops::Range;
+use test_report::Mode;
+
+/// What stands where the program prints.
+#[derive(Clone, Copy, Debug)]
+pub struct Screen {
+    /// Standard output is a terminal: points are told as a reader wants them.
+    pub is_read: bool,
+    /// Standard error is a terminal: the progress is told.
+    pub is_watched: bool,
+}
 
 /// What a test is asked for (profile).
 #[derive(Debug, Drop)]
 pub struct Options<'a> {
+    /// Whether orders are tried, or all are looked at.
+    pub mode: Mode,
     /// The numbers of the orders that are tried of each program.
     pub orders: Range<u64>,
     /// The seed of the orders.
@@ -16,12 +27,12 @@ pub struct Options<'a> {
     pub runs: u64,
     /// Whether all orders of a program with few states are looked at, and none of a seed is tried.
     pub are_few_seen: bool,
-    /// What stands where the program prints.
-    pub screen: Screen,
-    /// Where all orders are looked at, how many states may be found.
-    pub states: Option<usize>,
+    /// How many states may be found where all orders are looked at.
+    pub states: usize,
     /// Whether what loads gave last is told, too.
     pub outcomes: bool,
+    /// What stands where the program prints.
+    pub screen: Screen,
     /// The folder that records are written into.
     pub failed: &'a str,
     /// How long orders are tried, of all programs together.

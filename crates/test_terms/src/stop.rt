@@ -1,8 +1,8 @@
 //! Why a test ends early.
-use hart_threads::RunFault;
-use points::Unwritten;
+use guest_programs::RunFault;
 use std::alloc::{AllocError, AllocFailed};
 use std::io;
+use test_report::Unwritten;
 
 /// Why the files were not all tested.
 #[derive(Debug, Drop)]

@@ -27,6 +27,8 @@ abbrev pub range_of_address : Spaces → Option ℕ → Option Range
 range_of_address spaces =
     option_map (λ va. record { start = va; size = if is_valid_by spaces.widest va then 1 else 0 })
 
+-- The fence of an SFENCE.VMA: of one address or, where it names none, of all; in one address space or, where it names no
+-- ASID, in all (Privileged 4.2.1). An address that isn't one of the widest mode is of no page (profile).
 abbrev pub fence_of_address : Spaces → (va asid : Option ℕ) → Fence
 fence_of_address spaces va asid = record { asid = low_asid spaces asid; range = range_of_address spaces va }
 
@@ -39,6 +41,7 @@ is_full start size = ((start == 0) && (size == 0)) || (size == 2 ^ 64 - 1)
 abbrev pub is_wrong_range : (start size : ℕ) → Bool
 is_wrong_range start size = not (is_full start size) && nat_lt (2 ^ 64) (start + size)
 
+-- The fence of a remote SFENCE.VMA (SBI 8).
 abbrev pub fence_of_range : Spaces → (start size : ℕ) (asid : Option ℕ) → Fence
 fence_of_range spaces start size asid =
     record {

@@ -1,8 +1,9 @@
-//! Orders of a program that a seed picks, and runs on threads: each is tried and judged, and what was found is told.
+//! Orders of a program that a seed picks, and runs on threads: each is tried and judged.
 #![tactic(auto)]
 
 mod orders;
 mod pace;
+mod points;
 mod threaded;
 
 pub use orders::test_orders;

@@ -24,15 +24,18 @@ pub(crate) struct Pace {
     begun: Instant,
     last: u64,
     batch: u64,
+    /// There is a terminal that is told.
+    is_watched: bool,
 }
 
 impl Pace {
     /// From now on.
-    pub(crate) fn begin(clock: &impl Clock) -> io::Result<Pace> {
+    pub(crate) fn begin(clock: &impl Clock, is_watched: bool) -> io::Result<Pace> {
         Ok(Pace {
             begun: Instant::now(clock)?,
             last: 0,
             batch: FIRST_BATCH,
+            is_watched,
         })
     }
 
@@ -43,9 +46,17 @@ impl Pace {
         self.batch.max(1)
     }
 
-    /// A batch was tried.
-    pub(crate) fn see(&mut self, clock: &impl Clock) -> io::Result<()> {
-        let now = millis(&self.begun, clock)?;
+    /// A batch was tried, so that so many orders or runs of all were: tells it, and how long the others will take, where it takes
+    /// long.
+    pub(crate) fn see<R: Clock + Eprint>(
+        &mut self,
+        rt: &R,
+        name: &str,
+        tried: u64,
+        of: u64,
+    ) -> io::Result<()> {
+        let spent = self.begun.elapsed(rt)?.as_millis();
+        let now = u64::try_from(spent).unwrap_or(u64::MAX);
         let spent = now.saturating_sub(self.last);
         self.last = now;
         if spent < SHORT {
@@ -53,28 +64,23 @@ impl Pace {
         } else if spent > LONG {
             self.batch /= 2;
         }
-        Ok(())
-    }
-
-    /// Tells how many of so many orders or runs were tried, and how long the others will take, where it takes long.
-    pub(crate) fn tell(&self, rt: &impl Eprint, name: &str, tried: u64, of: u64) {
-        if self.last < QUIET {
-            return;
+        if self.is_told() {
+            let rate = tried.saturating_mul(1_000) / now.max(1);
+            let left = of.saturating_sub(tried) / rate.max(1);
+            let _ = eprint!(rt; "\r\x1b[K{tried} of {of} {name}, {rate} a second, {left} s to go");
         }
-        let rate = tried.saturating_mul(1_000) / self.last.max(1);
-        let left = of.saturating_sub(tried) / rate.max(1);
-        let _ = eprint!(rt; "\r\x1b[K{tried} of {of} {name}, {rate} a second, {left} s to go");
+        Ok(())
     }
 
     /// Takes back what was told last.
     pub(crate) fn end(&self, rt: &impl Eprint) {
-        if self.last >= QUIET {
+        if self.is_told() {
             let _ = eprint!(rt; "\r\x1b[K");
         }
     }
-}
 
-fn millis(begun: &Instant, clock: &impl Clock) -> io::Result<u64> {
-    let spent = begun.elapsed(clock)?.as_millis();
-    Ok(u64::try_from(spent).unwrap_or(u64::MAX))
+    /// Whether it takes long, and there is somebody to tell.
+    fn is_told(&self) -> bool {
+        self.is_watched && self.last >= QUIET
+    }
 }

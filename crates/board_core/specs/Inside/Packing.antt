@@ -1,5 +1,5 @@
 -- How a packed machine stands for the machine: private.
-use Rattle.board_core.specs.declared.machine.Machine.{Machine}
+use Rattle.board_machine.specs.declared.machine.Machine.{Machine}
 use Rattle.board_core.specs.declared.packed.PackedMachine.{PackedMachine}
 
 -- the machine of these components

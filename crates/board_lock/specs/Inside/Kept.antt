@@ -2,9 +2,9 @@
 use Rattle.std.specs.Prelude.{◌≡◌, ℕ, ◌+◌, ◌≤◌, if◌then◌else◌, List, [], ◌∷◌, ◌++◌, length, reverse, slice_index_or}
 use Rattle.std.specs.List.{AllByRecursion}
 use mathlib.Core.List.{IsPrefix}
-use Rattle.chronicle.specs.declared.tokens.Chronicle.{Chronicle}
-use Rattle.chronicle.specs.declared.tokens.Glimpse.{Glimpse}
-use Rattle.chronicle.specs.declared.tokens.Whole.{Whole}
+use Rattle.ghost_log.specs.declared.tokens.Log.{Log}
+use Rattle.ghost_log.specs.declared.tokens.Prefix.{Prefix}
+use Rattle.ghost_log.specs.declared.tokens.ClosedLog.{ClosedLog}
 use Rattle.board_terms.specs.declared.config.Config.{Config}
 use Rattle.board_terms.specs.declared.op.Actor.{Actor}
 use Rattle.board_terms.specs.declared.op.Actor.TheVariants.{Hart, Clock}
@@ -15,7 +15,7 @@ use Rattle.board_terms.specs.Limits.{IsGood}
 use Rattle.board_core.specs.Opening.{Opening}
 use Rattle.board_core.specs.Replies.{IsLegal}
 use Rattle.board_lock.specs.Events.{IsActor, events_in, is_same}
-use Rattle.board_lock.specs.Receipts.{Told}
+use Rattle.board_lock.specs.Receipts.{AcceptedCall}
 use Rattle.board_lock.specs.Inside.Rests.{IsRests}
 use Rattle.board_lock.specs.declared.rests.Rests.{Rests}
 
@@ -42,7 +42,7 @@ tally counts total parts amount = record { counts = counts; total = total; parts
 
 -- Under the lock: the board began as the room says, which is good; the log is its history, and the ledger's total its length; each
 -- actor's count is that of its events, which are the actors' alone; those that rest are the board's; and what is left of the ledger is nothing.
-pub record IsDesk (opening : Opening) (room : ℕ) (board : Course) (rests : Rests) (t : Tally) (log : Chronicle Event)
+pub record IsDesk (opening : Opening) (room : ℕ) (board : Course) (rests : Rests) (t : Tally) (log : Log Event)
     : Type 0 where
   pub good : IsGood opening.config
   pub opened : board.opening ≡ opening
@@ -69,7 +69,7 @@ counter actor count parts amount = record { actor = actor; count = count; parts 
 
 -- A seat: its actor is one of the board's, it has one part of the ledger with its count for amount, and had seen as many
 -- events of its own at its last accepted call, which is no later than when it looked last.
-pub record IsSeated (c : Config) (room : ℕ) (s : Counter) (seen last : Glimpse Event) : Type 0 where
+pub record IsSeated (c : Config) (room : ℕ) (s : Counter) (seen last : Prefix Event) : Type 0 where
   pub acting : IsActor c s.actor
   pub one_part : s.parts ≡ 1
   pub counted : s.amount ≡ s.count
@@ -79,7 +79,7 @@ pub record IsSeated (c : Config) (room : ℕ) (s : Counter) (seen last : Glimpse
   pub later : IsPrefix seen.list last.list
 
 -- A receipt: its event was the last of those that were seen, the first of which had place `first`.
-pub record IsTold (first room : ℕ) (t : Told) (seen : Glimpse Event) : Type 0 where
+pub record IsReceiptOf (first room : ℕ) (t : AcceptedCall) (seen : Prefix Event) : Type 0 where
   pub before : List Event
   pub event : Event
   pub named : seen.name ≡ room
@@ -91,18 +91,18 @@ pub record IsTold (first room : ℕ) (t : Told) (seen : Glimpse Event) : Type 0 
   pub counted : count_of t.actor before ≡ t.ordinal
 
 -- The log of a room, under its name, has these events.
-pub record IsKeptLog (room : ℕ) (log : Whole Event) (events : List Event) : Type 0 where
+pub record IsKeptLog (room : ℕ) (log : ClosedLog Event) (events : List Event) : Type 0 where
   pub named : log.name ≡ room
   pub logged : log.list ≡ events
 
 -- A record: the board began as the room says, and the log is its history.
-pub record IsRecord (opening : Opening) (room : ℕ) (board : Course) (log : Whole Event) : Type 0 where
+pub record IsRecord (opening : Opening) (room : ℕ) (board : Course) (log : ClosedLog Event) : Type 0 where
   pub opened : board.opening ≡ opening
   pub kept : IsKeptLog room log (events_in board)
 
 -- What a record left: it began as the room says, with an opening that a board comes to; its events are a legal history within
 -- the limit, and the log is those.
-pub record IsPast (opening : Opening) (room : ℕ) (began : Opening) (events : List Event) (log : Whole Event)
+pub record IsPast (opening : Opening) (room : ℕ) (began : Opening) (events : List Event) (log : ClosedLog Event)
     : Type 0 where
   pub opened : began ≡ opening
   pub good : IsGood began.config

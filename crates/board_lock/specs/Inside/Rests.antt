@@ -18,19 +18,19 @@ use Rattle.board_lock.specs.declared.views.HartNow.{HartNow}
 
 -- no seat rests
 abbrev pub none_rest : Rests
-none_rest = record { harts = []; events = []; turns = []; wakes = []; clock = false; clock_events = false }
+none_rest = record { harts = []; events = []; firmware = []; wakes = []; clock = false; clock_events = false }
 
 -- whether any event ends a rest
 abbrev pub is_any : Until → Bool
 is_any Event = true
 is_any (For awaits) = false
 
--- whether its hart's turn ends it
-abbrev pub for_turn : Until → Bool
-for_turn Event = false
-for_turn (For Firmware) = true
-for_turn (For Wake) = true
-for_turn (For End) = false
+-- whether work for its hart's firmware ends it
+abbrev pub for_firmware : Until → Bool
+for_firmware Event = false
+for_firmware (For Firmware) = true
+for_firmware (For Wake) = true
+for_firmware (For End) = false
 
 -- whether wake ends it, too
 abbrev pub for_wake : Until → Bool
@@ -44,7 +44,7 @@ abbrev pub resting : Rests → Actor → Until → Rests
 resting r (Hart h) until = record {
   harts = with_id r.harts h;
   events = with_bit r.events h (is_any until);
-  turns = with_bit r.turns h (for_turn until);
+  firmware = with_bit r.firmware h (for_firmware until);
   wakes = with_bit r.wakes h (for_wake until);
   clock = r.clock;
   clock_events = r.clock_events;
@@ -52,7 +52,7 @@ resting r (Hart h) until = record {
 resting r Clock until = record {
   harts = r.harts;
   events = r.events;
-  turns = r.turns;
+  firmware = r.firmware;
   wakes = r.wakes;
   clock = true;
   clock_events = is_any until;
@@ -71,7 +71,7 @@ abbrev pub awake : Rests → Woken → Rests
 awake r w = record {
   harts = less r.harts w.harts;
   events = r.events;
-  turns = r.turns;
+  firmware = r.firmware;
   wakes = r.wakes;
   clock = r.clock && not w.clock;
   clock_events = r.clock_events;
@@ -104,7 +104,7 @@ IsStay Waits old new a until =
 IsStay Last old new a until =
     (new ≡ held old.board (resting old.rests a until) true) × AllRest old.board.opening.config.harts new.rests
 
--- What an actor's seat that has seen so many events is told when it would rest. Every rest is over just where the end was
+-- What an actor's seat that has seen so many events is answered when it would rest. Every rest is over just where the end was
 -- called for or all rested before; else it has changed just where another number of events is there; else the seat rests.
 abbrev pub IsPause : Pause → (old new : Held) → Actor → (seen : ℕ) → Type 0
 IsPause (Over rest.AllRest) old new a seen = (old.ended ≡ true) × (new ≡ old)

@@ -76,16 +76,16 @@ now_of b h = record {
   wake = wake b.opening b.past h;
 }
 
--- whether what hart h's seat waits for has come, where it waits for a turn
+-- whether what hart h's seat waits for has come, where it waits for its firmware's work
 abbrev pub comes_to : Held → ℕ → Bool
 comes_to d h = has_come (if has d.rests.wakes h then Wake else Firmware) (now_of d.board h)
 
 -- The seats that rest and are woken after an event of this operation: those whose rest any event ends, and of those that wait
--- for a turn, and whom it may concern, those to whom that has come.
+-- for their firmware's work, and whom it may concern, those to whom that has come.
 abbrev pub woken : Held → Op → Woken
 woken d op = record {
   harts = ids_where (λ h. has d.rests.harts h
       && (has d.rests.events h ||
-      (has d.rests.turns h && (has (concerned d.board.opening.config.harts op) h && comes_to d h))));
+      (has d.rests.firmware h && (has (concerned d.board.opening.config.harts op) h && comes_to d h))));
   clock = d.rests.clock && d.rests.clock_events;
 }

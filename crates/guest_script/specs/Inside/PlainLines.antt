@@ -3,14 +3,14 @@ use Rattle.std.specs.Prelude.{◌≡◌, ℕ, ℤ, Bool, true, List, [], ◌∷�
 use Rattle.std.specs.Str.Parse.{IsNumeral, digits_value}
 use Rattle.board_terms.specs.declared.op.Actor.{Actor}
 use Rattle.board_terms.specs.declared.op.Op.{Op}
-use Rattle.guest_script.specs.declared.op_name.OpName.{OpName}
+use Rattle.script_lines.specs.declared.op_name.OpName.{OpName}
 use Rattle.script_lines.specs.declared.said.Said.{Said}
-use Rattle.guest_script.specs.declared.said_name.SaidName.{SaidName}
+use Rattle.script_lines.specs.declared.said_name.SaidName.{SaidName}
 use Rattle.script_lines.specs.declared.script.Line.{Line}
 use Rattle.guest_script.specs.Words.{AreNumbers, IsNumber, IsSigned, last_number}
 use Rattle.guest_script.specs.Forms.{form_of, guest_form_of, IsArgument, IsNamed, IsSaid}
 use Rattle.guest_script.specs.Grammar.{IsActor, IsStepLine}
-use Rattle.guest_script.specs.Reading.{op_spelling, said_spelling}
+use Rattle.script_lines.specs.Names.{op_word, said_word}
 
 -- each word behind a blank
 abbrev pub behind : List (List ℕ) → List ℕ
@@ -28,7 +28,7 @@ BeginsActor bytes actor rest = (word : List ℕ) × (bytes ≡ word ++ rest) × 
 
 -- the bytes begin with an operation's name
 abbrev pub BeginsName : List ℕ → OpName → List ℕ → Type 0
-BeginsName bytes name rest = bytes ≡ op_spelling name ++ rest
+BeginsName bytes name rest = bytes ≡ op_word name ++ rest
 
 -- the bytes begin with a number
 abbrev pub BeginsWord : List ℕ → ℕ → List ℕ → Type 0
@@ -49,8 +49,8 @@ BeginsNumbers bytes ns rest = (words : List (List ℕ)) × (bytes ≡ behind wor
 
 -- the bytes begin with the operation of this name
 abbrev pub BeginsNamed : OpName → List ℕ → Op → List ℕ → Type 0
-BeginsNamed name bytes op rest = (others : List (List ℕ)) × (bytes ≡ op_spelling name ++ (behind others ++ rest))
-    × IsNamed form_of (op_spelling name ∷ others) op
+BeginsNamed name bytes op rest = (others : List (List ℕ)) × (bytes ≡ op_word name ++ (behind others ++ rest))
+    × IsNamed form_of (op_word name ∷ others) op
 
 -- the bytes begin with the line of a guest's operation
 abbrev pub BeginsGuest : List ℕ → Op → List ℕ → Type 0
@@ -63,7 +63,7 @@ BeginsOp bytes op rest = (words : List (List ℕ)) × (bytes ≡ behind words ++
 
 -- the bytes begin with a blank and the name of what is said
 abbrev pub BeginsSaidName : List ℕ → SaidName → List ℕ → Type 0
-BeginsSaidName bytes name rest = bytes ≡ 32 ∷ (said_spelling name ++ rest)
+BeginsSaidName bytes name rest = bytes ≡ 32 ∷ (said_word name ++ rest)
 
 -- the bytes begin with a signed number
 abbrev pub BeginsSigned : List ℕ → ℤ → List ℕ → Type 0

@@ -5,6 +5,7 @@ use Rattle.guest_script.specs.declared.progress.Progress.{Progress}
 use Rattle.guest_script.specs.declared.progress.Stage.{Stage}
 use Rattle.guest_script.specs.declared.progress.Stage.TheVariants.{Nothing, Lines, Faulty}
 use Rattle.script_lines.specs.declared.script.Line.{Line}
+use Rattle.guest_script.specs.FirstFault.{script_fault}
 use Rattle.guest_script.specs.Inside.Drafts.{draft_of}
 use Rattle.guest_script.specs.Grammar.{Written, most_bytes}
 use Rattle.guest_script.specs.Pieces.{OnBoard, Part, Saying, Untold, Wrong, told_after}
@@ -13,7 +14,7 @@ use Rattle.guest_script.specs.Values.{lines_in}
 abbrev pub told_of : Stage → Saying
 told_of Nothing = Untold
 told_of (Lines config draft) = OnBoard config (draft_of draft)
-told_of (Faulty fault) = Wrong fault
+told_of (Faulty misread) = Wrong (script_fault misread)
 
 abbrev pub part_of : (size : ℕ) → Progress → Part
 part_of size p = record { size = size; next = p.next; told = told_of p.stage }
@@ -30,7 +31,7 @@ script_after p texts = stage_after p.stage p.next texts
 abbrev pub lines_of_stage : Stage → List Line
 lines_of_stage Nothing = []
 lines_of_stage (Lines config draft) = lines_in (draft_of draft)
-lines_of_stage (Faulty fault) = []
+lines_of_stage (Faulty misread) = []
 
 abbrev pub lines_so_far : Progress → List Line
 lines_so_far p = lines_of_stage p.stage

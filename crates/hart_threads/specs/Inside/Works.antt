@@ -1,6 +1,6 @@
 -- What a thread knows of its actor while it works: private. A seat's count is that of its actor's events in the whole record, so
 -- what is known where as many were seen holds of the record.
-use Rattle.std.specs.Prelude.{◌≡◌, ◌≢◌, ◌⊎◌, ℕ, ◌≤◌, Bool, false, List, [], length, reverse, Option}
+use Rattle.std.specs.Prelude.{◌≡◌, ◌≢◌, ◌⊎◌, ℕ, ◌≤◌, Bool, false, List, [], ◌∷◌, length, reverse, Option}
 use mathlib.Core.List.{IsSuffix}
 use Rattle.board_terms.specs.declared.config.Config.{Config}
 use Rattle.board_terms.specs.declared.op.Actor.{Actor}
@@ -13,9 +13,10 @@ use Rattle.board_core.specs.Opening.{Opening}
 use Rattle.board_lock.specs.Events.{IsActor}
 use Rattle.board_lock.specs.Seats.{Sitting, sitting}
 use Rattle.guest_script.specs.Grammar.{Guest}
-use Rattle.hart_threads.specs.declared.met.Met.{Met}
-use Rattle.hart_threads.specs.declared.met.Met.TheVariants.{Nothing, FullHistory, ClosedGate}
-use Rattle.hart_threads.specs.Guests.{IsLeft}
+use Rattle.guest_programs.specs.declared.met.Met.{Met}
+use Rattle.guest_programs.specs.declared.met.Met.TheVariants.{Nothing, FullHistory, ClosedGate}
+use Rattle.guest_programs.specs.Guests.{IsLeft}
+use Rattle.guest_programs.specs.Met.{met_by_both}
 use Rattle.hart_threads.specs.Shares.{ChoosesNone, EachOf, IsDue, IsTurn, Refuses, gate_number, many_of}
 
 -- what a run has its threads do: its gate's answers, its board's opening, its guests' blocks and its clock's ticks
@@ -89,6 +90,11 @@ WorkedAt t s met = HasWorked t s.actor s.count (reverse s.saw) met
 abbrev pub HasTurn : Task → Actor → (n : ℕ) → (seen : List Event) → Op → Type 0
 HasTurn t a n seen op = (past : List Event) → IsSuffix seen past → many_of a past ≡ n
     → IsTurn t.opening t.blocks t.ticks a op past
+
+-- what all threads met together
+abbrev pub met_by_all : List Met → Met
+met_by_all [] = Nothing
+met_by_all (m ∷ ms) = met_by_both m (met_by_all ms)
 
 -- what a gate answers is what the plan says that it may
 abbrev pub IsGate : (lets plan : ℕ → ℕ → Bool → Type 0) → Type 0

@@ -4,7 +4,7 @@ use Rattle.std.specs.Io.KnownBytes.{Appends}
 use Rattle.board_terms.specs.declared.op.Actor.{Actor}
 use Rattle.board_terms.specs.declared.op.Op.{Op}
 use Rattle.board_core.specs.Course.{Course}
-use Rattle.printed_lines.specs.Words.{line_of, line_words}
+use Rattle.printed_lines.specs.Words.{as_line, line_words}
 use Rattle.sbiboard.specs.PrintedScripts.{FitsAnswer, OpFits}
 use Rattle.sbiboard.specs.Replay.{is_history_full}
 use Rattle.sbiboard.specs.Running.{answer_to, course_with}
@@ -19,7 +19,7 @@ pub record IsDone (b next : Course) (step : Option (Actor × Op)) (full : Bool) 
   pub answer_fits : FitsAnswer (answer_to b step)
   pub taken : List ℕ
   pub written : Appends before after taken
-  pub passed : taken ++ later ≡ waiting ++ line_of (line_words step (answer_to b step))
+  pub passed : taken ++ later ≡ waiting ++ as_line (line_words step (answer_to b step))
   pub none_failed : fails ≡ failed
 
 -- It was a cut, whose memory was refused: the page and the sink are as they were.

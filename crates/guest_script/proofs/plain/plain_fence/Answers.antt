@@ -1,4 +1,4 @@
-use Rattle.guest_script.specs.declared.op_name.OpName.TheVariants.{Sfence}
+use Rattle.script_lines.specs.declared.op_name.OpName.TheVariants.{Sfence}
 use Rattle.guest_script.proofs.PlainParts.{fence_begins, op_behind}
 use Rattle.script_lines.specs.Packing.{op_made}
 use Rattle.guest_script.proofs.plain.plain_fence.Goals as goal

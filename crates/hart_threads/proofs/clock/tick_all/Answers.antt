@@ -1,6 +1,6 @@
 use Rattle.std.proofs.Common.{◌+◌, ap, sym, subst, ◌∙◌}
 use Rattle.board_lock.specs.Seats.{Sitting}
-use Rattle.hart_threads.specs.declared.met.Met.{Met}
+use Rattle.guest_programs.specs.declared.met.Met.{Met}
 use Rattle.hart_threads.specs.Inside.Works.{Task, WorkedAt, task}
 use Rattle.hart_threads.proofs.Steps.{clock-done, clock-refused}
 use Rattle.hart_threads.proofs.Ticking.{first-of, next-tick, one-more}

@@ -3,9 +3,9 @@ use Rattle.std.specs.Prelude.{Option}
 use Rattle.board_terms.specs.declared.op.Op.{Op}
 use Rattle.board_lock.specs.Seats.{Sitting}
 use Rattle.guest_script.specs.Grammar.{Guest}
-use Rattle.hart_threads.specs.declared.met.Met.{Met}
-use Rattle.hart_threads.specs.Guests.{IsLeft, left_of}
-use Rattle.hart_threads.specs.Met.{met_by_refusal}
+use Rattle.guest_programs.specs.declared.met.Met.{Met}
+use Rattle.guest_programs.specs.Guests.{IsLeft, left_of}
+use Rattle.guest_programs.specs.Met.{met_by_refusal}
 use Rattle.hart_threads.specs.Inside.Works.{Goes, Task, task}
 use Rattle.hart_threads.proofs.Steps.{looked, refused-going}
 use Rattle.hart_threads.proofs.Working.{Tells, done-going}

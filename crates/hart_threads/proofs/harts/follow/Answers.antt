@@ -1,9 +1,9 @@
 use Rattle.std.proofs.Common.{◌≡◌, ap, sym, subst, ◌∙◌}
 use Rattle.board_lock.specs.Events.{IsActor}
 use Rattle.board_lock.specs.Seats.{Sitting}
-use Rattle.hart_threads.specs.declared.met.Met.{Met}
-use Rattle.hart_threads.specs.declared.met.Met.TheVariants.{Nothing}
-use Rattle.hart_threads.specs.Guests.{left_of}
+use Rattle.guest_programs.specs.declared.met.Met.{Met}
+use Rattle.guest_programs.specs.declared.met.Met.TheVariants.{Nothing}
+use Rattle.guest_programs.specs.Guests.{left_of}
 use Rattle.hart_threads.specs.Inside.Works.{Goes, Task, WorkedAt, task}
 use Rattle.hart_threads.proofs.Steps.{fresh-going, looked, met-nothing, own-next, rested, view-turn}
 use Rattle.hart_threads.proofs.harts.follow.Goals as goal

@@ -1,6 +1,6 @@
 use Rattle.std.specs.Prelude.{◌≡◌}
 use Rattle.board_lock.specs.Views.{IsView}
-use Rattle.hart_threads.specs.Guests.{left_of}
+use Rattle.guest_programs.specs.Guests.{left_of}
 use Rattle.hart_threads.specs.Inside.Works.{Goes, task}
 use Rattle.hart_threads.proofs.harts.follow.Given as goal
 

@@ -3,8 +3,9 @@ use Rattle.std.specs.Vec.Iter.{into_iter_items}
 use Rattle.std.proofs.lemmas.List.{map-append}
 use Rattle.board_terms.specs.declared.op.Actor.{Actor}
 use Rattle.board_lock.specs.Seats.{Sitting}
-use Rattle.hart_threads.specs.declared.met.Met.{Met}
-use Rattle.hart_threads.specs.Met.{met_by_all, met_by_both}
+use Rattle.guest_programs.specs.declared.met.Met.{Met}
+use Rattle.guest_programs.specs.Met.{met_by_both}
+use Rattle.hart_threads.specs.Inside.Works.{met_by_all}
 use Rattle.hart_threads.proofs.MetTogether.{met_by_one_more}
 use Rattle.hart_threads.proofs.Ticked.{ticked-more}
 use Rattle.hart_threads.proofs.running.parted.Goals as goal

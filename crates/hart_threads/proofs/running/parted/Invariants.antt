@@ -2,8 +2,8 @@ use Rattle.std.proofs.Common.{◌≡◌, ◌++◌, length, map}
 use Rattle.std.specs.List.{All}
 use Rattle.std.specs.Vec.Iter.{into_iter_items, into_iter_len}
 use Rattle.board_terms.specs.declared.op.Actor.TheVariants.{Clock}
-use Rattle.hart_threads.specs.Met.{met_by_all}
-use Rattle.hart_threads.specs.Programs.{AreFirst}
+use Rattle.hart_threads.specs.Inside.Works.{met_by_all}
+use Rattle.guest_programs.specs.Programs.{AreFirst}
 use Rattle.hart_threads.proofs.running.parted.Given as goal
 
 abbrev pub invariant-loop-worked : goal.invariant-loop-worked

@@ -1,6 +1,6 @@
 use Rattle.board_core.specs.Opening.{opening_at}
 use Rattle.guest_script.specs.Grammar.{content}
-use Rattle.hart_threads.specs.Programs.{blocks_of, ticks_of}
+use Rattle.guest_programs.specs.Programs.{blocks_of, ticks_of}
 use Rattle.hart_threads.proofs.running.run.Given as goal
 
 -- the room that was just made

@@ -2,7 +2,7 @@ use Rattle.std.proofs.Common.{ℕ, ◌≤◌, List, ap, length, subst, sym, ◌�
 use Rattle.std.proofs.lemmas.List.{length-reverse}
 use Rattle.board_core.specs.Opening.{Opening}
 use Rattle.guest_script.specs.Grammar.{Guest}
-use Rattle.hart_threads.specs.Ends.{IsEndBy}
+use Rattle.guest_programs.specs.Ends.{IsEndBy}
 use Rattle.hart_threads.specs.Shares.{AreThreads}
 use Rattle.hart_threads.proofs.Ending.{is-run}
 use Rattle.hart_threads.proofs.running.run_in.Goals as goal

@@ -6,9 +6,8 @@ use Rattle.board_terms.specs.declared.op.Actor.TheVariants.{Clock}
 use Rattle.board_core.specs.History.{Event}
 use Rattle.board_lock.specs.Events.{events_in, events_of}
 use Rattle.board_lock.specs.Seats.{Sitting, seats_of}
-use Rattle.hart_threads.specs.Met.{met_by_all}
+use Rattle.hart_threads.specs.Inside.Works.{met_by_all, Task, task}
 use Rattle.hart_threads.specs.Shares.{AreThreads}
-use Rattle.hart_threads.specs.Inside.Works.{Task, task}
 use Rattle.hart_threads.proofs.NewSeats.{back_again, new-seats}
 use Rattle.hart_threads.proofs.Ticked.{clock-ticked, seats-fresh}
 use Rattle.hart_threads.proofs.Whole.{are-threads, settle-all}

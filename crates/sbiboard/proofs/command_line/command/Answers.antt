@@ -4,7 +4,7 @@ use Rattle.std.specs.String.{string_bytes}
 use Rattle.clap.specs.Words.{first_of, first_value, found_of, rows_of, subcommand_name_of, subcommand_of}
 use Rattle.clap.proofs.TakesLemmas.{passed_up}
 use Rattle.clap.proofs.WalkLemmas.{first_value-rows}
-use Rattle.sbiboard.specs.CommandLine.{asked, asking, kept_of, sbiboard, with_file}
+use Rattle.sbiboard.specs.CommandLine.{asked, asking, keep_option, sbiboard, with_file}
 use Rattle.sbiboard.proofs.Asked.{asked_is, has_found, memory_alone, met_is, none_asked, none_met, sound, task_named, the_third}
 use Rattle.sbiboard.proofs.command_line.command.Goals as goal
 use Rattle.sbiboard.proofs.command_line.command.Goals.{in_default-via-in-None-1, in_default-via-in-Some+in-None-1}
@@ -24,19 +24,19 @@ returns-clause-task c =
     let met = met_is c.in_ok-matches.matches c.in-Some.name.now rows c.in-Some.ensures.name c.in-Some.ensures.rows in
     let path : first_of (codes "FILE") rows ≡ Some c.in-Some-get_str.file.now = sym (c.in-Some-get_str.ensures ∙ first_value-rows (found_of c.in-Some.found.now) (codes "FILE")) in
     let sub : subcommand_of sbiboard words ≡ Some (c.in-Some.name.now, rows) = sym found ∙ met in
-    let is : asked words ≡ Some (asking c.in-Some.name.now c.in-Some-get_str.file.now (kept_of (c.in-Some.name.now, rows))) =
+    let is : asked words ≡ Some (asking c.in-Some.name.now c.in-Some-get_str.file.now (keep_option (c.in-Some.name.now, rows))) =
     asked_is words none ∙ ap (option_and_then with_file) sub
-    ∙ ap (option_map (λ p. asking c.in-Some.name.now p (kept_of (c.in-Some.name.now, rows)))) path in
+    ∙ ap (option_map (λ p. asking c.in-Some.name.now p (keep_option (c.in-Some.name.now, rows)))) path in
     let task = task_named words c.in-Some.name.now rows none sub in
     elim c.match-name.branch [
       | in-run w ↦ let run : codes "run" ≡ c.in-Some.name.now = search rules in
-          rw w.result-is (is ∙ ap (λ n. Some (asking n c.in-Some-get_str.file.now (kept_of (n, rows)))) (sym run)
+          rw w.result-is (is ∙ ap (λ n. Some (asking n c.in-Some-get_str.file.now (keep_option (n, rows)))) (sym run)
           ∙ ap (λ k. Some (asking (codes "run") c.in-Some-get_str.file.now k)) (sym (w.get_str-in-run.ensures ∙ first_value-rows (found_of c.in-Some.found.now) (codes "keep"))))
-      | in-check w ↦ let check : codes "check" ≡ c.in-Some.name.now = search rules in rw w.result-is (is ∙ ap (λ n. Some (asking n c.in-Some-get_str.file.now (kept_of (n, rows)))) (sym check))
+      | in-check w ↦ let check : codes "check" ≡ c.in-Some.name.now = search rules in rw w.result-is (is ∙ ap (λ n. Some (asking n c.in-Some-get_str.file.now (keep_option (n, rows)))) (sym check))
       | in_default w ↦
           let not_run : c.in-Some.name.now ≡ codes "run" → ⊥ = search rules in
           let not_check : c.in-Some.name.now ≡ codes "check" → ⊥ = search rules in
-          rw w.result-is (is ∙ ap (λ n. Some (asking n c.in-Some-get_str.file.now (kept_of (n, rows)))) (sym (the_third c.in-Some.name.now task not_run not_check)))
+          rw w.result-is (is ∙ ap (λ n. Some (asking n c.in-Some-get_str.file.now (keep_option (n, rows)))) (sym (the_third c.in-Some.name.now task not_run not_check)))
     ]
 
 pub returns-2-clause-refused : goal.returns-2-clause-refused
@@ -53,5 +53,5 @@ returns-2-clause-refused c =
           let met = met_is c.in_ok-matches.matches w.in-Some.name.now rows w.in-Some.ensures.name w.in-Some.ensures.rows in
           let no_file : None ≡ first_value (found_of w.in-Some.found.now) (codes "FILE") = search rules in
           let no_path : first_of (codes "FILE") rows ≡ None = sym (no_file ∙ first_value-rows (found_of w.in-Some.found.now) (codes "FILE")) in
-          absurd (none_asked words none (ap (option_and_then with_file) (sym found ∙ met) ∙ ap (option_map (λ p. asking w.in-Some.name.now p (kept_of (w.in-Some.name.now, rows)))) no_path) some)
+          absurd (none_asked words none (ap (option_and_then with_file) (sym found ∙ met) ∙ ap (option_map (λ p. asking w.in-Some.name.now p (keep_option (w.in-Some.name.now, rows)))) no_path) some)
     ]

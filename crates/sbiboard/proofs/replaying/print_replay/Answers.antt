@@ -1,7 +1,7 @@
 use Rattle.std.proofs.Common.{ℕ, List, ◌++◌, refl, ap, ◌∙◌}
 use Rattle.std.proofs.KnownBytes.{Appends-trans}
 use Rattle.board_core.specs.Course.{Course}
-use Rattle.printed_lines.specs.Words.{board_words, line_of}
+use Rattle.printed_lines.specs.Words.{board_line_words, as_line}
 use Rattle.sbiboard.specs.Replay.{lines_text, meets_full, text_of}
 use Rattle.sbiboard.proofs.Replayed.{text_of-printed}
 use Rattle.sbiboard.proofs.replaying.print_replay.Goals as goal
@@ -23,7 +23,7 @@ pub returns-in_default-clause-text : goal.returns-in_default-clause-text
 returns-in_default-clause-text g c =
     let (text, (before, stops, is), body, body_failures) = (rw c.in_default.is at c.in_ok-met_full.ensures.text) in
     let head = c.in_ok-print_head.ensures in
-    let own = line_of (board_words c.args.config.now) in (
+    let own = as_line (board_line_words c.args.config.now) in (
       own ++ text,
       (before, stops, ap (λ (t : List ℕ). own ++ t) (is ∙ ap (λ (b : Course). lines_text b before) c.requires.at_opening)),
       Appends-trans _ _ _ own text head.0 body,

@@ -2,8 +2,8 @@ use Rattle.std.proofs.Common.{◌≡◌, ◌-◌, ◌+◌, sym, ap, ◌∙◌, s
 use Rattle.board_terms.specs.declared.config.Config.{Config}
 use Rattle.board_core.specs.Opening.{Opening}
 use Rattle.seeded_orders.specs.Orders.{met_before, ordered}
-use Rattle.seeded_orders.specs.Inside.Places.{AreAt}
-use Rattle.seeded_orders.specs.Steps.{task_in, Task}
+use Rattle.guest_programs.specs.Places.{AreAt}
+use Rattle.guest_programs.specs.Steps.{task_in, Task}
 use Rattle.seeded_orders.proofs.Ordering.{ends, goes, nothing-met, stops}
 use Rattle.seeded_orders.proofs.orders.follow.Goals as goal
 

@@ -1,7 +1,7 @@
 use Rattle.std.proofs.Common.{◌≡◌, ◌-◌}
 use Rattle.seeded_orders.specs.Orders.{ordered}
-use Rattle.seeded_orders.specs.Inside.Places.{AreAt}
-use Rattle.seeded_orders.specs.Steps.{task_in}
+use Rattle.guest_programs.specs.Places.{AreAt}
+use Rattle.guest_programs.specs.Steps.{task_in}
 use Rattle.seeded_orders.proofs.orders.follow.Given as goal
 
 abbrev pub invariant-loop-i : goal.invariant-loop-i

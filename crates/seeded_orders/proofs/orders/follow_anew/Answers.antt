@@ -3,12 +3,12 @@ use Rattle.board_terms.specs.declared.config.Config.{Config}
 use Rattle.board_core.specs.Course.{Course}
 use Rattle.board_core.specs.History.{Event}
 use Rattle.board_core.specs.Opening.{Opening, opening_at}
-use Rattle.hart_threads.specs.declared.ends.End.{End}
-use Rattle.hart_threads.specs.declared.met.Met.{Met}
-use Rattle.hart_threads.specs.Ends.{IsEnd, IsEndBy}
+use Rattle.guest_programs.specs.declared.ends.End.{End}
+use Rattle.guest_programs.specs.declared.met.Met.{Met}
+use Rattle.guest_programs.specs.Ends.{IsEnd, IsEndBy}
 use Rattle.seeded_orders.specs.Orders.{met_before, ordered, picker_of}
-use Rattle.seeded_orders.specs.Inside.Places.{AreAt}
-use Rattle.seeded_orders.specs.Steps.{steps, task_in, Task}
+use Rattle.guest_programs.specs.Places.{AreAt}
+use Rattle.guest_programs.specs.Steps.{steps, task_in, Task}
 use Rattle.seeded_orders.proofs.Ordering.{if-both, order-is-tried}
 use Rattle.seeded_orders.proofs.orders.follow_anew.Goals as goal
 

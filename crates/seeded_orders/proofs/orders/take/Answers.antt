@@ -2,8 +2,8 @@ use Rattle.std.proofs.Common.{◌≡◌, List, ◌∷◌, refl, sym, ap, ◌∙�
 use Rattle.board_terms.specs.declared.op.Actor.{Actor}
 use Rattle.board_core.specs.Course.{Course}
 use Rattle.board_core.specs.History.{Event}
-use Rattle.seeded_orders.specs.Inside.Places.{AreAt}
-use Rattle.seeded_orders.specs.Steps.{IsActorsOwn, task_in, Task}
+use Rattle.guest_programs.specs.Places.{AreAt}
+use Rattle.guest_programs.specs.Steps.{IsActorsOwn, task_in, Task}
 use Rattle.seeded_orders.proofs.Ordering.{own-step}
 use Rattle.seeded_orders.proofs.Taking.{accepted-past, event_of}
 use Rattle.seeded_orders.proofs.orders.take.Goals as goal

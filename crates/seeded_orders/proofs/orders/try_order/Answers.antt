@@ -3,7 +3,7 @@ use Rattle.board_terms.specs.declared.config.Config.{Config}
 use Rattle.board_core.specs.Course.{Course}
 use Rattle.guest_script.specs.Grammar.{content}
 use Rattle.seeded_orders.specs.Orders.{IsTried}
-use Rattle.seeded_orders.specs.Steps.{Task, task_in, task_of}
+use Rattle.guest_programs.specs.Steps.{Task, task_in, task_of}
 use Rattle.seeded_orders.proofs.Ordering.{same-task}
 use Rattle.seeded_orders.proofs.orders.try_order.Goals as goal
 

@@ -1,6 +1,6 @@
 use Rattle.std.proofs.Common.{◌≡◌, [], refl, ap, sym, ◌∙◌, subst}
 use Rattle.std.specs.Prelude.{Some}
-use Rattle.board_core.specs.Cuts.{opened_by}
+use Rattle.board_core.specs.Inside.Opened.{opened_by}
 use Rattle.board_core.specs.Opening.{Opening}
 use Rattle.board_core.specs.Inside.Stands.{IsKept, StandsFor}
 use Rattle.board_core.proofs.board.Board.at.Goals as goal
@@ -10,8 +10,8 @@ invariant_of-result c =
     let o = c.args.opening.now in
     let same : opened_by c.config-config.result.now c.places.result (Some c.in_ok-left.left) ≡ o = rw (c.in_ok-left.ensures, c.config-config.ensures.config, c.places.ensures) refl in
     rw c.in_ok-events.ensures.items (
-      subst (λ (opening : Opening). IsKept opening []) (sym same) c.machine.ensures.kept,
-      subst (λ (opening : Opening). StandsFor opening [] c.in_ok-machine.machine) (sym same) c.in_ok-machine.ensures.stands,
+      subst (λ (opening : Opening). IsKept opening []) (c.in_ok-copy.ensures ∙ sym same) c.into_machine-machine.ensures.kept,
+      subst (λ (opening : Opening). StandsFor opening [] c.into_machine-machine.result) (c.in_ok-copy.ensures ∙ sym same) c.into_machine-machine.ensures.stands,
       c.in_ok-events.ensures.exact,
       (
         ap (λ (opening : Opening). opening.config) c.in_ok-left.ensures ∙ sym c.config-config.ensures.config,

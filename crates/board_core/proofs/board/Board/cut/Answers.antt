@@ -1,9 +1,11 @@
 use Rattle.std.proofs.Common.{◌≡◌, [], refl, ap, sym, ◌∙◌, arith, reverse, subst}
 use Rattle.board_core.specs.Course.{Course}
-use Rattle.board_core.specs.Cuts.{IsUnseen, opened_by, opening_of}
+use Rattle.board_core.specs.Cuts.{IsUnseen, opening_of}
+use Rattle.board_core.specs.Inside.Opened.{opened_by}
 use Rattle.board_core.specs.Opening.{Opening, place_after}
 use Rattle.board_core.specs.Inside.Stands.{IsKept, StandsFor}
-use Rattle.board_core.proofs.Cutting.{copy-cut, held-by, kept-cut, stands-cut}
+use Rattle.board_core.proofs.Cutting.{kept-cut}
+use Rattle.board_machine.proofs.CutStanding.{copy-cut, held-by, stands-cut}
 use Rattle.board_core.proofs.Unseen.{unseen}
 use Rattle.board_core.proofs.board.Board.cut.Goals as goal
 

@@ -1,14 +1,14 @@
 use Rattle.std.proofs.Common.{[], ◌∷◌, false, subst, ap, sym, ◌∙◌, arith}
-use Rattle.board_core.specs.Cuts.{opening_in}
+use Rattle.board_core.specs.Inside.Stands.{opening_in}
 use Rattle.board_terms.specs.declared.op.Actor.{Actor}
 use Rattle.board_terms.specs.declared.op.Actor.TheVariants.{Hart}
 use Rattle.board_core.specs.Opening.{Opening}
-use Rattle.board_core.specs.Refusals.{IsAccepted, situation}
+use Rattle.board_core.specs.Refusals.{IsAccepted}
 use Rattle.board_core.specs.Inside.Stands.{IsStanding, StandsFor}
 use Rattle.board_core.specs.Taking.{event_with, refusal_at, reply_at}
-use Rattle.board_core.proofs.Rows.{unrefused}
-use Rattle.board_core.proofs.Situations.{legal-opens, situation-read}
-use Rattle.board_core.proofs.Leaving.{hart-unrefused}
+use Rattle.board_core.proofs.Beginning.{legal-opens}
+use Rattle.board_machine.proofs.Situations.{situation-read}
+use Rattle.board_core.proofs.Steps.{hart_unrefused}
 use Rattle.board_core.proofs.opening.Opening.event.Goals as goal
 
 pub hart_event-requires-clause-accepted : goal.hart_event-requires-clause-accepted
@@ -16,11 +16,11 @@ hart_event-requires-clause-accepted c =
     let o = c.args.self.now in
     let h = c.in-Hart-default.h in
     let op = c.args.op in
-    let free = hart-unrefused o h op (ap (λ (actor : Actor). refusal_at o actor op) (sym c.in-Hart-default.is-0) ∙ c.requires.unrefused) in
+    let free = hart_unrefused false o [] h op (ap (λ (actor : Actor). refusal_at o actor op) (sym c.in-Hart-default.is-0) ∙ c.requires.unrefused) in
     let most = c.self.invariant.0.good.at_most_128_harts in
     let same_config = ap (λ (o : Opening). o.config.harts) c.self.view_is in
     subst (IsAccepted op) (sym (situation-read o [] c.args.machine.now (omega arith) c.requires.stands h free.inside))
-    (unrefused op (situation o [] h) false free.none).0
+    free.accepted
 
 pub hart_event-requires-clause-standing : goal.hart_event-requires-clause-standing
 hart_event-requires-clause-standing c =

@@ -1,5 +1,6 @@
 use Rattle.std.proofs.Common.{[], ◌∷◌, subst, ap, sym, ◌∙◌}
-use Rattle.board_core.specs.Cuts.{opening_in, opening_of}
+use Rattle.board_core.specs.Cuts.{opening_of}
+use Rattle.board_core.specs.Inside.Stands.{opening_in}
 use Rattle.board_core.specs.Opening.{Opening}
 use Rattle.board_core.specs.Inside.Stands.{IsKept, StandsFor}
 use Rattle.board_core.proofs.Leaving.{left-by, stepped-to}

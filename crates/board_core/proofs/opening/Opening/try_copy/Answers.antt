@@ -1,5 +1,5 @@
 use Rattle.std.proofs.Common.{[], sym, ◌∙◌, subst}
-use Rattle.board_core.specs.Cuts.{opening_in}
+use Rattle.board_core.specs.Inside.Stands.{opening_in}
 use Rattle.board_core.specs.Opening.{Opening}
 use Rattle.board_core.specs.Inside.Stands.{IsKept, StandsFor}
 use Rattle.board_core.proofs.opening.Opening.try_copy.Goals as goal

@@ -1,19 +1,19 @@
-use Rattle.std.proofs.Common.{◌≡◌, ◌≢◌, ℕ, ◌+◌, List, [], ◌∷◌, ◌++◌, length, inr, refl, arith, sym, ap, subst, ◌∙◌}
+use Rattle.std.proofs.Common.{◌≡◌, ◌≢◌, ◌+◌, List, [], ◌∷◌, ◌++◌, length, inr, refl, arith, sym, ap, subst, ◌∙◌}
 use Rattle.std.proofs.lemmas.List.{length-reverse}
 use mathlib.Core.List.{IsPrefix}
-use Rattle.chronicle.specs.declared.tokens.Chronicle.{Chronicle}
+use Rattle.ghost_log.specs.declared.tokens.Log.{Log}
 use Rattle.board_terms.specs.declared.op.Actor.{Actor}
 use Rattle.board_terms.specs.declared.op.Op.{Op}
 use Rattle.board_core.specs.History.{Event}
 use Rattle.board_core.specs.Opening.{Opening}
 use Rattle.board_lock.specs.Events.{events_in, events_of, ops_of}
-use Rattle.board_lock.specs.Inside.Kept.{IsTold, count_of, number_of}
-use Rattle.board_lock.specs.Receipts.{told}
+use Rattle.board_lock.specs.Inside.Kept.{IsReceiptOf, count_of, number_of}
+use Rattle.board_lock.specs.Receipts.{accepted_call}
 use Rattle.board_lock.specs.Inside.Rests.{Held}
 use Rattle.board_lock.specs.Seats.{Sitting}
 use Rattle.board_lock.proofs.Actors.{number-within, same-itself}
 use Rattle.board_lock.proofs.Ops.{ops-more, ops-same}
-use Rattle.board_lock.proofs.Growing.{Step, desk-more, differs, done, event, is-told, last, logs, longer-by-one, read, seat-more, small, step}
+use Rattle.board_lock.proofs.Growing.{Step, desk-more, differs, done, event, is-receipt, last, logs, longer-by-one, read, seat-more, small, step}
 use Rattle.board_lock.proofs.desk.Desk.call.Goals as goal
 
 pub index-requires : goal.index-requires
@@ -56,11 +56,11 @@ invariant_of-self-2 g c =
     let at : c.index-history-index.result ≡ event s =
     last s c.history-index.result.now c.history.result.now c.index-history-index.result c.history-index.ensures.events c.history.ensures.events c.index-history-index.is in
     let here = read c.self.invariant s.actor c.number-number.result c.index_mut.result.now c.seat.invariant.acting c.number-number.ensures c.index_mut.ensures.value in
-    let same : c.glimpse-3.new.self ≡ c.push.new.self = c.glimpse-3.ensures.0 ∙ c.glimpse-2.ensures.0 ∙ c.glimpse.ensures.0 in
-    let named : c.glimpse-3.new.self.name ≡ c.self.inside.log.name = ap (λ (l : Chronicle Event). l.name) same ∙ c.push.ensures.0 in
-    let list : c.glimpse-3.new.self.list ≡ c.self.inside.log.list ++ event s ∷ [] =
-    ap (λ (l : Chronicle Event). l.list) same ∙ c.push.ensures.1 ∙ ap (λ (e : Event). c.self.inside.log.list ++ e ∷ []) at in
-    desk-more s c.self.invariant c.seat.invariant.acting c.number-number.result c.index_mut.result.now c.add.new.self.total c.glimpse-3.new.self c.number-number.ensures here.0 c.add.ensures.total
+    let same : c.prefix-3.new.self ≡ c.push.new.self = c.prefix-3.ensures.0 ∙ c.prefix-2.ensures.0 ∙ c.prefix.ensures.0 in
+    let named : c.prefix-3.new.self.name ≡ c.self.inside.log.name = ap (λ (l : Log Event). l.name) same ∙ c.push.ensures.0 in
+    let list : c.prefix-3.new.self.list ≡ c.self.inside.log.list ++ event s ∷ [] =
+    ap (λ (l : Log Event). l.list) same ∙ c.push.ensures.1 ∙ ap (λ (e : Event). c.self.inside.log.list ++ e ∷ []) at in
+    desk-more s c.self.invariant c.seat.invariant.acting c.number-number.result c.index_mut.result.now c.add.new.self.total c.prefix-3.new.self c.number-number.ensures here.0 c.add.ensures.total
     named list
 
 pub invariant_of-seat : goal.invariant_of-seat
@@ -72,13 +72,13 @@ invariant_of-seat g c =
     let here = read d s.actor c.number-number.result c.index.result.now c.seat.invariant.acting c.number-number.ensures c.index.ensures in
     let counted : c.seat.inside.count ≡ count_of s.actor c.self.inside.log.list = sym c.if-index-seat.false ∙ here.1 in
     let more : c.push.new.self.list ≡ c.self.inside.log.list ++ event s ∷ [] = c.push.ensures.1 ∙ ap (λ (e : Event). c.self.inside.log.list ++ e ∷ []) at in
-    let named : c.glimpse-2.result.name ≡ c.self.inside.log.name = c.glimpse-2.ensures.1 ∙ ap (λ (l : Chronicle Event). l.name) c.glimpse.ensures.0 ∙ c.push.ensures.0 in
-    let saw : c.glimpse-2.result.list ≡ c.self.inside.log.list ++ event s ∷ [] = c.glimpse-2.ensures.2 ∙ ap (λ (l : Chronicle Event). l.list) c.glimpse.ensures.0 ∙ more in
-    seat-more s c.seat.invariant c.self.inside.log c.add.new.share.parts c.add.new.share.amount c.glimpse.result c.glimpse-2.result d.named counted c.add.ensures.parts c.add.ensures.amount
-    (c.glimpse.ensures.1 ∙ c.push.ensures.0) (c.glimpse.ensures.2 ∙ more) named saw
+    let named : c.prefix-2.result.name ≡ c.self.inside.log.name = c.prefix-2.ensures.1 ∙ ap (λ (l : Log Event). l.name) c.prefix.ensures.0 ∙ c.push.ensures.0 in
+    let saw : c.prefix-2.result.list ≡ c.self.inside.log.list ++ event s ∷ [] = c.prefix-2.ensures.2 ∙ ap (λ (l : Log Event). l.list) c.prefix.ensures.0 ∙ more in
+    seat-more s c.seat.invariant c.self.inside.log c.add.new.share.parts c.add.new.share.amount c.prefix.result c.prefix-2.result d.named counted c.add.ensures.parts c.add.ensures.amount
+    (c.prefix.ensures.1 ∙ c.push.ensures.0) (c.prefix.ensures.2 ∙ more) named saw
 
-pub returns-clause-told : goal.returns-clause-told
-returns-clause-told g c =
+pub returns-clause-receipt : goal.returns-clause-receipt
+returns-clause-receipt g c =
     let d = c.self.invariant in
     let s : Step = step c.self.inside.board c.step.new.self c.seat.inside.actor c.args.op.now c.in_ok-reply.reply c.in_ok-reply.ensures.answer c.step.ensures.after in
     let at : c.index-history-index.result ≡ event s =
@@ -89,12 +89,12 @@ returns-clause-told g c =
     let opened : s.old.opening.places ≡ g.K.Room.opening.places = ap (λ (o : Opening). o.places) d.opened in
     let is : c.place-place.result ≡ s.old.opening.places + length s.old.past = c.place-place.ensures in
     let placed : g.K.Room.opening.places + length c.self.inside.log.list ≡ c.place-place.result = omega arith in
-    let same : c.glimpse-2.new.self ≡ c.push.new.self = c.glimpse-2.ensures.0 ∙ c.glimpse.ensures.0 in
-    let named : c.glimpse-3.result.name ≡ c.self.inside.log.name = c.glimpse-3.ensures.1 ∙ ap (λ (l : Chronicle Event). l.name) same ∙ c.push.ensures.0 in
-    let saw : c.glimpse-3.result.list ≡ c.self.inside.log.list ++ event s ∷ [] =
-    c.glimpse-3.ensures.2 ∙ ap (λ (l : Chronicle Event). l.list) same ∙ c.push.ensures.1 ∙ ap (λ (e : Event). c.self.inside.log.list ++ e ∷ []) at in
-    subst (λ (x : Sitting). IsTold g.K.Room.opening.places g.K.Room.log (told x.actor x.count c.place-place.result s.op s.reply) c.glimpse-3.result) (c.seat.view_is ∙ c.see.ensures.seat)
-    (is-told s g.K.Room.opening.places g.K.Room.log c.self.inside.log c.glimpse-3.result c.seat.inside.count c.place-place.result d.named counted placed named saw)
+    let same : c.prefix-2.new.self ≡ c.push.new.self = c.prefix-2.ensures.0 ∙ c.prefix.ensures.0 in
+    let named : c.prefix-3.result.name ≡ c.self.inside.log.name = c.prefix-3.ensures.1 ∙ ap (λ (l : Log Event). l.name) same ∙ c.push.ensures.0 in
+    let saw : c.prefix-3.result.list ≡ c.self.inside.log.list ++ event s ∷ [] =
+    c.prefix-3.ensures.2 ∙ ap (λ (l : Log Event). l.list) same ∙ c.push.ensures.1 ∙ ap (λ (e : Event). c.self.inside.log.list ++ e ∷ []) at in
+    subst (λ (x : Sitting). IsReceiptOf g.K.Room.opening.places g.K.Room.log (accepted_call x.actor x.count c.place-place.result s.op s.reply) c.prefix-3.result) (c.seat.view_is ∙ c.see.ensures.seat)
+    (is-receipt s g.K.Room.opening.places g.K.Room.log c.self.inside.log c.prefix-3.result c.seat.inside.count c.place-place.result d.named counted placed named saw)
 
 pub returns-clause-ops : goal.returns-clause-ops
 returns-clause-ops g c =
@@ -103,8 +103,8 @@ returns-clause-ops g c =
     let at : c.index-history-index.result ≡ event s =
     last s c.history-index.result.now c.history.result.now c.index-history-index.result c.history-index.ensures.events c.history.ensures.events c.index-history-index.is in
     let here = read d s.actor c.number-number.result c.index.result.now c.seat.invariant.acting c.number-number.ensures c.index.ensures in
-    let saw : c.glimpse.result.list ≡ c.self.inside.log.list ++ event s ∷ [] =
-    c.glimpse.ensures.2 ∙ c.push.ensures.1 ∙ ap (λ (e : Event). c.self.inside.log.list ++ e ∷ []) at in
+    let saw : c.prefix.result.list ≡ c.self.inside.log.list ++ event s ∷ [] =
+    c.prefix.ensures.2 ∙ c.push.ensures.1 ∙ ap (λ (e : Event). c.self.inside.log.list ++ e ∷ []) at in
     let none-since : count_of s.actor c.seat.inside.seen.list ≡ count_of s.actor c.self.inside.log.list = c.seat.invariant.saw ∙ sym c.if-index-seat.false ∙ here.1 in
     let sees : c.seat.inside.saw.list ≡ c.self.inside.log.list =
     ap (λ (x : Sitting). x.saw) (c.seat.view_is ∙ c.see.ensures.seat) ∙ ap (λ (h : Held). events_in h.board) (sym (c.self.view_is ∙ c.see.ensures.same)) ∙ sym d.logged in
@@ -119,8 +119,8 @@ returns-clause-done g c =
     let s : Step = step c.self.inside.board c.step.new.self c.seat.inside.actor c.args.op.now c.in_ok-reply.reply c.in_ok-reply.ensures.answer c.step.ensures.after in
     let at : c.index-history-index.result ≡ event s =
     last s c.history-index.result.now c.history.result.now c.index-history-index.result c.history-index.ensures.events c.history.ensures.events c.index-history-index.is in
-    let longer : c.glimpse-2.result.list ≡ c.self.inside.log.list ++ event s ∷ [] =
-    c.glimpse-2.ensures.2 ∙ ap (λ (l : Chronicle Event). l.list) c.glimpse.ensures.0 ∙ c.push.ensures.1 ∙ ap (λ (e : Event). c.self.inside.log.list ++ e ∷ []) at in
+    let longer : c.prefix-2.result.list ≡ c.self.inside.log.list ++ event s ∷ [] =
+    c.prefix-2.ensures.2 ∙ ap (λ (l : Log Event). l.list) c.prefix.ensures.0 ∙ c.push.ensures.1 ∙ ap (λ (e : Event). c.self.inside.log.list ++ e ∷ []) at in
     let sees : c.see.new.seat.saw ≡ c.self.inside.log.list =
     ap (λ (x : Sitting). x.saw) c.see.ensures.seat ∙ ap (λ (h : Held). events_in h.board) (sym (c.self.view_is ∙ c.see.ensures.same)) ∙ sym d.logged in
     done s g.K.Room.opening c.args.seat.now _ c.self.inside.log.list d.opened d.logged
@@ -131,9 +131,9 @@ returns-clause-now g c =
     let s : Step = step c.self.inside.board c.step.new.self c.seat.inside.actor c.args.op.now c.in_ok-reply.reply c.in_ok-reply.ensures.answer c.step.ensures.after in
     let at : c.index-history-index.result ≡ event s =
     last s c.history-index.result.now c.history.result.now c.index-history-index.result c.history-index.ensures.events c.history.ensures.events c.index-history-index.is in
-    let longer : c.glimpse-2.result.list ≡ c.self.inside.log.list ++ event s ∷ [] =
-    c.glimpse-2.ensures.2 ∙ ap (λ (l : Chronicle Event). l.list) c.glimpse.ensures.0 ∙ c.push.ensures.1 ∙ ap (λ (e : Event). c.self.inside.log.list ++ e ∷ []) at in
-    logs s c.self.inside.log.list c.glimpse-2.result.list c.self.invariant.logged longer
+    let longer : c.prefix-2.result.list ≡ c.self.inside.log.list ++ event s ∷ [] =
+    c.prefix-2.ensures.2 ∙ ap (λ (l : Log Event). l.list) c.prefix.ensures.0 ∙ c.push.ensures.1 ∙ ap (λ (e : Event). c.self.inside.log.list ++ e ∷ []) at in
+    logs s c.self.inside.log.list c.prefix-2.result.list c.self.invariant.logged longer
 
 pub returns-then-index-seat-clause-refusal : goal.returns-then-index-seat-clause-refusal
 returns-then-index-seat-clause-refusal g c =

@@ -28,9 +28,9 @@ returns-then-is_none-clause-left g c =
 pub come_to-come-requires : goal.come_to-come-requires
 come_to-come-requires g c h there =
     let r : Rests = c.self.inside.rests in
-    let both : c.intersection.result ≡ intersection_of (intersection_of r.harts r.turns) c.concerned-concerned.result =
-    c.intersection.ensures ∙ ap (λ (ids : List ℕ). intersection_of ids c.concerned-concerned.result) c.intersection-turns.ensures in
-    c.self.invariant.at_rest.below h (of-both r.harts r.turns c.concerned-concerned.result h (subst (λ (ids : List ℕ). has ids h ≡ true) both there))
+    let both : c.intersection.result ≡ intersection_of (intersection_of r.harts r.firmware) c.concerned-concerned.result =
+    c.intersection.ensures ∙ ap (λ (ids : List ℕ). intersection_of ids c.concerned-concerned.result) c.intersection-firmware.ensures in
+    c.self.invariant.at_rest.below h (of-both r.harts r.firmware c.concerned-concerned.result h (subst (λ (ids : List ℕ). has ids h ≡ true) both there))
 
 pub invariant_of-self : goal.invariant_of-self
 invariant_of-self g c =
@@ -44,14 +44,14 @@ returns-clause-answer g c =
     let now : Held = c.args.self.now in
     let who : List ℕ = concerned c.self.inside.board.opening.config.harts c.args.op.now in
     let named : c.concerned-concerned.result ≡ who = c.concerned-concerned.ensures ∙ ap (λ (now : Config). concerned now.harts c.args.op.now) c.config.ensures.config in
-    let both : c.intersection.result ≡ intersection_of (intersection_of r.harts r.turns) who =
-    c.intersection.ensures ∙ ap (λ (ids : List ℕ). intersection_of ids c.concerned-concerned.result) c.intersection-turns.ensures
-    ∙ ap (intersection_of (intersection_of r.harts r.turns)) named in
-    let come : c.come_to-come.result ≡ ids_where (λ h. has (intersection_of (intersection_of r.harts r.turns) who) h && comes_to now h) =
+    let both : c.intersection.result ≡ intersection_of (intersection_of r.harts r.firmware) who =
+    c.intersection.ensures ∙ ap (λ (ids : List ℕ). intersection_of ids c.concerned-concerned.result) c.intersection-firmware.ensures
+    ∙ ap (intersection_of (intersection_of r.harts r.firmware)) named in
+    let come : c.come_to-come.result ≡ ids_where (λ h. has (intersection_of (intersection_of r.harts r.firmware) who) h && comes_to now h) =
     c.come_to-come.ensures ∙ ap (λ (ids : List ℕ). ids_where (λ h. has ids h && comes_to now h)) both in
-    let harts : c.union.result ≡ ids_where (λ h. has r.harts h && (has r.events h || (has r.turns h && (has who h && comes_to now h)))) =
+    let harts : c.union.result ≡ ids_where (λ h. has r.harts h && (has r.events h || (has r.firmware h && (has who h && comes_to now h)))) =
     c.union.ensures ∙ ap (λ (ids : List ℕ). union_of ids c.come_to-come.result) c.intersection-2.ensures
-    ∙ ap (union_of (intersection_of r.harts r.events)) come ∙ waking r.harts r.events r.turns who (comes_to now) in
+    ∙ ap (union_of (intersection_of r.harts r.events)) come ∙ waking r.harts r.events r.firmware who (comes_to now) in
     let clock : c.if-rests.woken ≡ (r.clock && r.clock_events) = elim c.if-rests.branch [
       | then-rests w ↦ w.woken-is ∙ ap (λ b. b && r.clock_events) (sym w.if-rests.true)
       | else-rests w ↦ w.woken-is ∙ w.if-rests.false ∙ ap (λ b. b && r.clock_events) (sym w.if-rests.false)
@@ -59,7 +59,7 @@ returns-clause-answer g c =
     let is : Woken = record { harts = c.union.result; clock = c.if-rests.woken } in
     woken-of is (woken now c.args.op.now)
     (subst (λ (x : Held). c.union.result ≡ ids_where (λ h. has x.rests.harts h
-    && (has x.rests.events h || (has x.rests.turns h && (has (concerned x.board.opening.config.harts c.args.op.now) h && comes_to now h))))) c.self.view_is harts)
+    && (has x.rests.events h || (has x.rests.firmware h && (has (concerned x.board.opening.config.harts c.args.op.now) h && comes_to now h))))) c.self.view_is harts)
     (subst (λ (x : Held). c.if-rests.woken ≡ (x.rests.clock && x.rests.clock_events)) c.self.view_is clock)
 
 pub returns-clause-below : goal.returns-clause-below
@@ -68,14 +68,14 @@ returns-clause-below g c h there =
     let now : Held = c.args.self.now in
     let who : List ℕ = concerned c.self.inside.board.opening.config.harts c.args.op.now in
     let named : c.concerned-concerned.result ≡ who = c.concerned-concerned.ensures ∙ ap (λ (now : Config). concerned now.harts c.args.op.now) c.config.ensures.config in
-    let both : c.intersection.result ≡ intersection_of (intersection_of r.harts r.turns) who =
-    c.intersection.ensures ∙ ap (λ (ids : List ℕ). intersection_of ids c.concerned-concerned.result) c.intersection-turns.ensures
-    ∙ ap (intersection_of (intersection_of r.harts r.turns)) named in
-    let come : c.come_to-come.result ≡ ids_where (λ h. has (intersection_of (intersection_of r.harts r.turns) who) h && comes_to now h) =
+    let both : c.intersection.result ≡ intersection_of (intersection_of r.harts r.firmware) who =
+    c.intersection.ensures ∙ ap (λ (ids : List ℕ). intersection_of ids c.concerned-concerned.result) c.intersection-firmware.ensures
+    ∙ ap (intersection_of (intersection_of r.harts r.firmware)) named in
+    let come : c.come_to-come.result ≡ ids_where (λ h. has (intersection_of (intersection_of r.harts r.firmware) who) h && comes_to now h) =
     c.come_to-come.ensures ∙ ap (λ (ids : List ℕ). ids_where (λ h. has ids h && comes_to now h)) both in
-    let harts : c.union.result ≡ ids_where (λ h. has r.harts h && (has r.events h || (has r.turns h && (has who h && comes_to now h)))) =
+    let harts : c.union.result ≡ ids_where (λ h. has r.harts h && (has r.events h || (has r.firmware h && (has who h && comes_to now h)))) =
     c.union.ensures ∙ ap (λ (ids : List ℕ). union_of ids c.come_to-come.result) c.intersection-2.ensures
-    ∙ ap (union_of (intersection_of r.harts r.events)) come ∙ waking r.harts r.events r.turns who (comes_to now) in
-    let in_rest = (passes-ids_where (λ k. has r.harts k && (has r.events k || (has r.turns k && (has who k && comes_to now k)))) h
+    ∙ ap (union_of (intersection_of r.harts r.events)) come ∙ waking r.harts r.events r.firmware who (comes_to now) in
+    let in_rest = (passes-ids_where (λ k. has r.harts k && (has r.events k || (has r.firmware k && (has who k && comes_to now k)))) h
     (subst (λ (ids : List ℕ). has ids h ≡ true) harts there)).1 in
     c.self.invariant.at_rest.below h (and-left (has r.harts h) _ in_rest)

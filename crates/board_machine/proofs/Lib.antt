@@ -1,0 +1,10 @@
+pub mod HartsStanding
+pub mod InterruptsStanding
+pub mod MemoryStanding
+pub mod Standing
+pub mod Reading
+pub mod Situations
+pub mod Resetting
+pub mod Targets
+pub mod Advances
+pub mod CutStanding

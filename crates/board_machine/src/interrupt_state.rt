@@ -1,0 +1,87 @@
+//! Interrupts of harts: what is pending, what is enabled, and who wakes.
+ghost use Rattle.std.specs.Prelude.{◌≡◌, ◌<◌, [], IfOk, None, false, length};
+ghost use Rattle.hart_mask.specs.Ids.{has, with_bit, without_id};
+ghost use Rattle.interrupts.specs.Timing.{is_timer_pending, with_deadline, without_deadlines};
+ghost use Rattle.board_rules.specs.Csrs.{enables, interrupt_bits};
+
+use crate::csrs::Csrs;
+use board_rules::{Sie, interrupt_bits};
+use interrupts::{Ipis, Timers};
+use std::alloc::{AllocError, Global};
+
+/// What interrupts harts, and what enables it: their registers, pending software interrupts, and the time with the
+/// deadlines.
+#[derive(Drop)]
+pub struct Interrupts {
+    pub csrs: Csrs,
+    pub ipis: Ipis,
+    pub timers: Timers,
+}
+
+impl Interrupts {
+    /// What interrupts harts, equal to this. It fails where memory runs out.
+    pub(crate) fn try_copy(&self, alloc: Global) -> Result<Interrupts, AllocError>
+        ensures { IfOk result (λ copy. copy ≡ self.now) }
+    {
+        let timers = self.timers.try_copy(alloc)?;
+        Ok(Interrupts {
+            csrs: self.csrs,
+            ipis: self.ipis,
+            timers,
+        })
+    }
+
+    /// sip of hart `h`: SSIP in bit 1, and STIP in bit 5.
+    pub(crate) fn sip(&self, h: u64) -> u64
+        requires in_range { h < length self.now.timers.deadlines }
+        requires most { h < 128 }
+        ensures { result ≡ interrupt_bits (has self.now.ipis h) (is_timer_pending self.now.timers h) }
+    {
+        interrupt_bits(self.ipis.pending(h), self.timers.pending(h))
+    }
+
+    /// Whether an interrupt is pending at hart `h` that its sie enables.
+    pub fn wake(&self, h: u64) -> bool
+        requires in_range { h < length self.now.timers.deadlines }
+        requires most { h < 128 }
+        ensures { result ≡ enables (record { ssie = has self.now.csrs.ssie h; stie = has self.now.csrs.stie h })
+            (has self.now.ipis h) (is_timer_pending self.now.timers h) }
+    {
+        let sie = self.csrs.sie(h);
+        sie.enables(self.ipis.pending(h), self.timers.pending(h))
+    }
+
+    /// A reset: every interrupt is disabled, nothing is pending, no hart has a deadline, and the time goes on (profile).
+    pub(crate) fn reset(&mut self)
+        ensures { self.new ≡ record {
+          csrs = record { sstatus_sie = []; ssie = []; stie = [] };
+          ipis = [];
+          timers = without_deadlines self.old.timers;
+        } }
+    {
+        self.csrs = Csrs::new();
+        self.ipis.reset();
+        self.timers.reset();
+    }
+
+    /// The entry of a start of hart `h`: its interrupts are disabled, and nothing is pending (SBI 9.1; that sie, SSIP and
+    /// the deadline are cleared too: profile).
+    pub(crate) fn enter(&mut self, h: u64)
+        requires in_range { h < length self.old.timers.deadlines }
+        requires most { h < 128 }
+        ensures { self.new ≡ record {
+          csrs = record {
+            sstatus_sie = with_bit self.old.csrs.sstatus_sie h false;
+            ssie = with_bit self.old.csrs.ssie h false;
+            stie = with_bit self.old.csrs.stie h false;
+          };
+          ipis = without_id self.old.ipis h;
+          timers = with_deadline self.old.timers h None;
+        } }
+    {
+        self.csrs.sstatus_sie.set(h, false);
+        self.csrs.write_sie(h, Sie::of(0));
+        self.ipis.clear(h);
+        self.timers.forget(h);
+    }
+}

@@ -1,0 +1,102 @@
+-- What a step answers.
+use Rattle.std.specs.Prelude.{◌≡◌, ℕ, List, [], ◌∷◌, Bool, Option, Some, None, Result, Ok, Err}
+use Rattle.sbi_abi.specs.declared.call.Call.{Call}
+use Rattle.sbi_abi.specs.Calls.{call_of}
+use Rattle.hart_access.specs.declared.accesses.Access.TheVariants as accesses
+use Rattle.hsm.specs.declared.hart.HartState.{HartState}
+use Rattle.hsm.specs.declared.hart.HartState.TheVariants as states
+use Rattle.hsm.specs.declared.hart.EntryPoint.{EntryPoint}
+use Rattle.board_rules.specs.Opening.{IsOpening, Opening}
+use Rattle.board_terms.specs.declared.op.Actor.{Actor}
+use Rattle.board_terms.specs.declared.op.Actor.TheVariants.{Hart, Clock}
+use Rattle.board_rules.specs.History.{Event}
+use Rattle.board_terms.specs.declared.op.Op.{Op}
+use Rattle.board_terms.specs.declared.op.Op.TheVariants.{Ecall, Load, Store, Fetch, WriteSatp, WriteSie, WriteSstatusSie, ReadSip, ClearSsip, Wfi, Sfence, FenceI, Poll, Serve, Advance, Tick}
+use Rattle.board_terms.specs.declared.reply.Refusal.{Refusal}
+use Rattle.board_terms.specs.declared.reply.Reply.{Reply}
+use Rattle.board_terms.specs.declared.reply.Reply.TheVariants.{Ret, Entry, Value, Served, Moved, Done}
+use Rattle.board_rules.specs.Accesses.{access_reply, used_by_actor}
+use Rattle.board_rules.specs.Calls.{reply_to}
+use Rattle.board_rules.specs.Returns.{as_reply}
+use Rattle.board_rules.specs.Course.{Course}
+use Rattle.board_rules.specs.Csrs.{interrupt_bits, sstatus_sie}
+use Rattle.board_rules.specs.Interrupts.{ssip, stip}
+use Rattle.board_rules.specs.Refusals.{clock_refusals, first_that_holds, is_full, refusals}
+pub use Rattle.board_rules.specs.Returns.{failure, success, unless}
+use Rattle.board_rules.specs.Starts.{Start, last_start}
+use Rattle.board_rules.specs.States.{state}
+use Rattle.board_rules.specs.Suspends.{resume_point}
+
+-- The reply to a call by hart x.
+abbrev pub call_reply : Opening → List Event → (x : ℕ) → Call → Reply
+call_reply o past x call = as_reply (reply_to o.config (sstatus_sie o past x) (state o past) call)
+
+-- The reply to the end of a suspend: an entry where the suspend said, or the return of its call (SBI 9.4).
+abbrev pub resume_reply : (x : ℕ) → Option EntryPoint → Reply
+resume_reply x (Some resume) = Entry resume.addr x resume.opaque
+resume_reply x None = Ret (success 0)
+
+-- The reply to the Advance of hart x, by its state, its last start and where its last suspend said that it begins anew.
+-- An entry hands over the address, the hart's id and the opaque value (SBI 9.1 and 9.4). A STARTED or STOPPED hart is
+-- refused before.
+abbrev pub advance_reply : (x : ℕ) → HartState → Start → (resume : Option EntryPoint) → Reply
+advance_reply x states.StartPending start resume = Entry start.addr x start.opaque
+advance_reply x states.StopPending start resume = Moved states.Stopped
+advance_reply x states.SuspendPending start resume = Moved states.Suspended
+advance_reply x states.Suspended start resume = Moved states.ResumePending
+advance_reply x states.ResumePending start resume = resume_reply x resume
+advance_reply x s start resume = Moved s
+
+-- The reply to an operation of hart x that isn't refused.
+abbrev pub reply : Opening → List Event → (x : ℕ) → Op → Reply
+reply o past x (Ecall regs) = call_reply o past x (call_of regs)
+reply o past x (Load va) = access_reply o past x va accesses.Load
+reply o past x (Store va value) = access_reply o past x va (accesses.Store value)
+reply o past x (Fetch va) = access_reply o past x va accesses.Fetch
+reply o past x (WriteSatp value) = Done
+reply o past x (WriteSie value) = Done
+reply o past x (WriteSstatusSie value) = Done
+reply o past x ReadSip = Value (interrupt_bits (ssip o past x) (stip o past x))
+reply o past x ClearSsip = Done
+reply o past x Wfi = Done
+reply o past x (Sfence va asid) = Done
+reply o past x FenceI = Done
+reply o past x Poll = Ret (success 0)
+reply o past x Serve = Served
+reply o past x Advance = advance_reply x (state o past x) (last_start o past x) (resume_point o past x)
+reply o past x (Tick n) = Done
+
+abbrev pub refused_or : Option Refusal → Reply → Result Reply Refusal
+refused_or (Some refusal) reply = Err refusal
+refused_or None reply = Ok reply
+
+-- What a step answers, where the history is full or isn't: the first refusal that holds, else the reply.
+abbrev pub answer_when : (is_full : Bool) → Opening → List Event → Actor → Op → Result Reply Refusal
+answer_when is_full o past (Hart h) op = refused_or (first_that_holds (refusals is_full o past h op))
+    (reply o past h op)
+answer_when is_full o past Clock op = refused_or (first_that_holds (clock_refusals is_full o past op)) Done
+
+-- What a step answers.
+abbrev pub answer : Opening → List Event → Actor → Op → Result Reply Refusal
+answer o past actor op = answer_when (is_full o past) o past actor op
+
+-- A legal history: a board could open so, and each event holds the answer that the events before it give, and the entry that
+-- it used by them.
+abbrev pub IsLegal : Opening → List Event → Type 0
+IsLegal o [] = IsOpening o
+IsLegal o (event ∷ past) =
+    (answer o past event.actor event.op ≡ Ok event.reply)
+    × (event.translation ≡ used_by_actor o past event.actor event.op)
+    × IsLegal o past
+
+abbrev pub recorded : Course → Actor → Op → Result Reply Refusal → Course
+recorded b actor op (Ok reply) = record {
+  opening = b.opening;
+  past = record { actor = actor; op = op; reply = reply; translation = used_by_actor b.opening b.past actor op }
+      ∷ b.past;
+}
+recorded b actor op (Err refusal) = b
+
+-- The course after a step: one more event where it is accepted, the same course where it is refused.
+abbrev pub stepped : Course → Actor → Op → Course
+stepped b actor op = recorded b actor op (answer b.opening b.past actor op)

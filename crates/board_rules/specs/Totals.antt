@@ -1,0 +1,21 @@
+-- The counts that the board's table shows.
+use Rattle.std.specs.Prelude.{◌+◌, List, length, sum_by}
+use Rattle.rfence.specs.State.{total_applied, total_asked}
+use Rattle.board_rules.specs.Opening.{Opening}
+use Rattle.board_rules.specs.History.{Event}
+use Rattle.board_rules.specs.declared.totals.Totals.{Totals}
+use Rattle.board_rules.specs.Course.{harts_of}
+use Rattle.board_rules.specs.Fences.{turns, waiting}
+use Rattle.board_rules.specs.Starts.{all_pending, entered_before, entries, starts}
+
+-- Of remote fences the pairs of a fence and a hart of which it was asked, those at which it was applied, and those that
+-- wait (profile).
+abbrev pub totals : Opening → List Event → Totals
+totals o past = record {
+  starts = length (starts o past) + entered_before o past;
+  entries = length (entries o past) + entered_before o past;
+  pending = length (all_pending o past);
+  asked = total_asked o.fences (turns o past);
+  applied = total_applied o.fences o.config.harts (turns o past);
+  waiting = sum_by (λ h. length (waiting o past h)) (harts_of o.config);
+}

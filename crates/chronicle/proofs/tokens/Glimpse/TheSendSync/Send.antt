@@ -1,7 +1,0 @@
-use denote.RattleType.{RattleType}
-use denote.Param.Send.{IsSend}
-use Rattle.chronicle.specs.contracts.tokens.Glimpse.{the_row}
-use Rattle.chronicle.proofs.Values.{begun_keyless}
-
-pub send : (E : RattleType) → IsSend (the_row E)
-send E = record { owned = λ d vs. ((λ vss. (tt, ((λ uss. (tt, tt)), tt))), begun_keyless E.coded.code d.name d.list); leaving = λ k f vs. tt }

@@ -1,7 +1,0 @@
-use Rattle.std.proofs.Common.{sym}
-use Rattle.std.proofs.lemmas.Bool.{ltb-false}
-use Rattle.conditions.proofs.Places.{none-behind-three}
-use Rattle.conditions.proofs.items.call_item.Goals as goal
-
-pub returns-in-None : goal.returns-in-None
-returns-in-None c = none-behind-three _ _ _ c.args.regs.now.a c.args.place c.if-place-ge3.true (ltb-false _ _ (sym c.in-None.ensures.lookup.0))

@@ -1,0 +1,14 @@
+-- How runs end, by the names that conditions have for it (profile).
+use Rattle.std.specs.Prelude.{Option, Some, None}
+use Rattle.conditions.specs.declared.rules.Ending.{Ending}
+use Rattle.conditions.specs.declared.rules.Ending.TheVariants as endings
+use Rattle.guest_programs.specs.declared.ends.End.{End}
+use Rattle.guest_programs.specs.declared.ends.End.TheVariants as ends
+
+-- An end as conditions name it; none for a gate's, of which they ask nothing.
+abbrev pub ending : End → Option Ending
+ending ends.GateLimit = None
+ending ends.Off = Some endings.Off
+ending ends.HistoryFull = Some endings.HistoryFull
+ending ends.Quiet = Some endings.Quiet
+ending ends.Stuck = Some endings.Stuck

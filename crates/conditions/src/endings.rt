@@ -1,0 +1,19 @@
+//! How runs end, by the names that conditions have for it.
+ghost use Rattle.std.specs.Prelude.{◌≡◌};
+ghost use Rattle.conditions.specs.Endings.{ending};
+
+use crate::rules::Ending;
+use guest_programs::End;
+
+/// An end as conditions name it.
+pub fn ending(end: End) -> Option<Ending>
+    ensures { result ≡ ending end }
+{
+    match end {
+        End::Off => Some(Ending::Off),
+        End::HistoryFull => Some(Ending::HistoryFull),
+        End::Quiet => Some(Ending::Quiet),
+        End::Stuck => Some(Ending::Stuck),
+        End::GateLimit => None,
+    }
+}

@@ -1,0 +1,7 @@
+use denote.RattleType.{RattleType}
+use denote.Param.Send.{IsSend}
+use Rattle.ghost_log.specs.contracts.tokens.ClosedLog.{the_row}
+use Rattle.ghost_log.proofs.Values.{whole_keyless}
+
+pub send : (E : RattleType) → IsSend (the_row E)
+send E = record { owned = λ d vs. ((λ vss. (tt, ((λ uss. (tt, tt)), tt))), whole_keyless E.coded.code d.name d.list); leaving = λ k f vs. tt }

@@ -1,0 +1,11 @@
+use denote.RattleType.{RattleType}
+use denote.Param.Send.{IsSync, sendable}
+use denote.Struct.Struct.{Struct}
+use denote.Struct.Owning.{shape}
+use Rattle.ghost_log.specs.contracts.tokens.Prefix.{the_row, the_type}
+use Rattle.ghost_log.proofs.Values.{begun_keyless}
+
+pub sync : (E : RattleType) → IsSync (the_row E)
+sync E =
+    let fields : IsSync (Struct (shape (the_type E))) = search sendable depth 20 in
+    record { shared = λ d b o ν. (fields.shared (tt, tt) b o ν, begun_keyless E.coded.code d.name d.list) }

@@ -1,0 +1,21 @@
+//! Guests' programs, by whatever runs them: what each hart's guest does next and has done, which steps can be taken, and how a
+//! run ended.
+#![tactic(auto)]
+
+mod blocks;
+mod boards;
+mod ends;
+mod found_end;
+mod guests;
+mod met;
+mod places;
+mod steps;
+
+pub use blocks::{Program, program_in};
+pub use boards::new_board;
+pub use ends::{End, RunEnd, RunFault};
+pub use found_end::end_of;
+pub use guests::{Guest, is_guest};
+pub use met::Met;
+pub use places::Places;
+pub use steps::{Step, steps_are_all};

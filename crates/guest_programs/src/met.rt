@@ -1,0 +1,39 @@
+//! What kept a run's actors from going on.
+ghost use Rattle.std.specs.Prelude.{◌≡◌};
+ghost use Rattle.guest_programs.specs.Met.{met_by_both, met_by_refusal};
+
+use board_core::Refusal;
+
+/// What kept an actor from going on, if something did.
+#[derive(Clone, Copy, Debug, PartialEq, Eq)]
+pub enum Met {
+    /// Nothing.
+    Nothing,
+    /// An operation was refused, since the history was full.
+    FullHistory,
+    /// The gate answered false.
+    ClosedGate,
+}
+
+impl Met {
+    /// What an actor met whose operation was refused: another refusal than that of a full history keeps none from going on.
+    pub fn by_refusal(refusal: Refusal) -> Met
+        ensures { result ≡ met_by_refusal refusal }
+    {
+        match refusal {
+            Refusal::HistoryFull => Met::FullHistory,
+            _ => Met::Nothing,
+        }
+    }
+
+    /// What two met: a gate's answer comes first.
+    pub fn and(self, other: Met) -> Met
+        ensures { result ≡ met_by_both self other }
+    {
+        match (self, other) {
+            (Met::ClosedGate, _) | (_, Met::ClosedGate) => Met::ClosedGate,
+            (Met::FullHistory, _) | (_, Met::FullHistory) => Met::FullHistory,
+            (Met::Nothing, Met::Nothing) => Met::Nothing,
+        }
+    }
+}

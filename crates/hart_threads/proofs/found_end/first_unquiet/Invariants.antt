@@ -1,7 +1,0 @@
-use Rattle.std.specs.Prelude.{ℕ, ◌<◌, map}
-use Rattle.guest_script.specs.Grammar.{guest}
-use Rattle.hart_threads.specs.Ends.{IsQuiet}
-use Rattle.hart_threads.proofs.found_end.first_unquiet.Given as goal
-
-abbrev pub invariant-loop-h : goal.invariant-loop-h
-invariant-loop-h l = (k : ℕ) → k < l.h → IsQuiet l.board.opening l.board.past (map guest l.program.blocks.now) k

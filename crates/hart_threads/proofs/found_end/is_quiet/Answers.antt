@@ -1,8 +1,0 @@
-use Rattle.std.proofs.Common.{◌∙◌, sym, ap}
-use Rattle.std.specs.Prelude.{not}
-use Rattle.hart_threads.proofs.Quiet.{is-quiet}
-use Rattle.hart_threads.proofs.found_end.is_quiet.Goals as goal
-
-pub returns-then-is_none : goal.returns-then-is_none
-returns-then-is_none c = is-quiet _ _ _ c.args.h _ c.has_done.result _ (sym c.state.ensures ∙ c.in-Started.is)
-    (c.is_none.ensures ∙ ap not c.if-is_none.true) c.outstanding.ensures c.requires.left c.has_done.ensures

@@ -1,0 +1,54 @@
+-- What was found of orders, and of orders behind others.
+use Rattle.std.proofs.Common.{◌≡◌, ℕ, ◌+◌, List, [], ◌∷◌, ◌++◌, map, refl, sym, subst}
+use Rattle.std.specs.Prelude.{reverse}
+use Rattle.std.proofs.lemmas.List.{reverse-reverse}
+use Rattle.board_terms.specs.declared.config.Config.{Config}
+use Rattle.board_core.specs.History.{Event}
+use Rattle.conditions.specs.declared.reading.Condition.{Condition}
+use Rattle.guest_script.specs.Grammar.{Content, guest}
+use Rattle.guest_programs.specs.declared.blocks.Program.{Program}
+use Rattle.guest_programs.specs.declared.ends.End.{End}
+use Rattle.guest_programs.specs.Programs.{blocks_of, ticks_of}
+use Rattle.seeded_orders.specs.Orders.{IsTried}
+use Rattle.guest_programs.specs.Steps.{task_in, task_of}
+use Rattle.outcome_statistics.specs.declared.findings.Findings.{Findings}
+use Rattle.conditions.specs.Endings.{ending}
+use Rattle.outcome_statistics.specs.Records.{Tried}
+use Rattle.outcome_statistics.specs.Findings.{AreFound, AreFoundOf, AreOrders, IsOrder}
+
+orders-behind : (c : Config) (content : Content) (seed from mid to : ℕ) (xs ys : List Tried) → AreOrders c content seed from xs mid → AreOrders c content seed mid ys to
+    → AreOrders c content seed from (ys ++ xs) to
+orders-behind c content seed from mid to xs [] here there = subst (λ (n : ℕ). AreOrders c content seed from xs n) (sym there) here
+orders-behind c content seed from mid to xs (y ∷ ys) here there = (there.0, there.1, orders-behind c content seed from mid y.number xs ys here there.2)
+
+-- what a program has its actors do is what its script says
+pub same-task : (program : Program) (content : Content) → map guest program.blocks.now ≡ blocks_of content → program.ticks.now ≡ ticks_of content → task_in program ≡ task_of content
+same-task program content blocks ticks = λ i. record { blocks = blocks i; ticks = ticks i }
+
+-- before any order
+pub found-none : (c : Config) (content : Content) (conditions : List Condition) (seed from : ℕ) (found : Findings) → AreFound conditions [] found → AreFoundOf c content conditions seed from from found
+found-none c content conditions seed from found none = ([], refl, none)
+
+-- one order more
+pub found-next : (c : Config) (content : Content) (conditions : List Condition) (seed from i : ℕ) (past : List Event) (end : End) (before after : Findings)
+    → IsTried c (task_of content) seed i past end
+    → ((tried : List Tried) (x : Tried) → x.number ≡ i → x.events ≡ reverse past → x.end ≡ ending end → AreFound conditions tried before → AreFound conditions (x ∷ tried) after)
+    → AreFoundOf c content conditions seed from i before → AreFoundOf c content conditions seed from (i + 1) after
+found-next c content conditions seed from i past end before after is sees found =
+    let x : Tried = record { number = i; events = reverse past; end = ending end } in
+    let P : List Event → Type 0 = λ xs. IsTried c (task_of content) seed i xs end in
+    let order : IsOrder c content seed x = (end, refl, subst P (sym (reverse-reverse past)) is) in (
+      x ∷ found.0,
+      (refl, order, found.1),
+      sees found.0 x refl refl refl found.2,
+    )
+
+-- orders behind others
+pub found-both : (c : Config) (content : Content) (conditions : List Condition) (seed from mid to : ℕ) (one other both : Findings)
+    → ((asked : List Condition) (tried more : List Tried) → AreFound asked tried one → AreFound asked more other → AreFound asked (more ++ tried) both)
+    → AreFoundOf c content conditions seed from mid one → AreFoundOf c content conditions seed mid to other → AreFoundOf c content conditions seed from to both
+found-both c content conditions seed from mid to one other both adds here there = (
+  there.0 ++ here.0,
+  orders-behind c content seed from mid to here.0 there.0 here.1 there.1,
+  adds conditions here.0 there.0 here.2 there.2,
+)

@@ -1,0 +1,31 @@
+use Rattle.std.proofs.Common.{◌≡◌, ◌∷◌, ◌∙◌, false, subst, length, get_or, arith}
+use Rattle.std.specs.Prelude.{Some, None}
+use Rattle.std.proofs.lemmas.List.{length-set}
+use Rattle.std.proofs.lemmas.Option.{get_or_from_slice_get, slice_get_within}
+use Rattle.conditions.specs.declared.reading.Condition.{Condition}
+use Rattle.outcome_statistics.specs.declared.findings.Judged.{Judged}
+use Rattle.outcome_statistics.specs.Records.{IsSo, Tells}
+use Rattle.outcome_statistics.proofs.Updates.{kept-next, tally-next}
+use Rattle.outcome_statistics.proofs.findings.judge_each.Goals as goal
+
+pub loop-i-preserved : goal.loop-i-preserved
+loop-i-preserved c =
+    let at = c.loop-i in
+    let many : length at.judged ≡ length c.args.conditions.now = at.invariant.0 ∙ c.requires in
+    let below = c.loop-i-test.true in
+    let d : Judged = record { tally = record { holding = 0; failing = 0; first = None }; is_met = false } in
+    let v : Judged = record { tally = c.judge.new.tally; is_met = c.if-of_it.of_it } in (
+      length-set at.judged at.i v ∙ at.invariant.0,
+      (λ tried x number events end each.
+          let Q : Condition → Type 0 = λ r. Tells (IsSo (Some r.rule)) tried (get_or at.judged at.i d).tally → Tells (IsSo (Some r.rule)) (x ∷ tried) c.judge.new.tally in
+          tally-next c.args.conditions.now at.judged c.args.judged.now at.i d v tried (x ∷ tried) (omega arith) each at.invariant.2
+          (λ k is told. subst Q (get_or_from_slice_get c.args.conditions.now at.i k c.index-conditions-i.result is) (c.judge.ensures tried x number events end) told)
+          (at.invariant.1 tried x number events end each)),
+      kept-next at.judged c.args.judged.now at.i v (omega arith) at.invariant.2,
+    )
+
+pub returns-clause-each : goal.returns-clause-each
+returns-clause-each c tried x number events end each k asked j is at =
+    let within = slice_get_within c.args.conditions.now k asked is in
+    let over = c.loop-i-test.false in
+    c.loop-i.invariant.1 tried x number events end each k j (omega arith) at asked is

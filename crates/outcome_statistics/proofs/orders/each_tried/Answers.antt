@@ -1,0 +1,27 @@
+use Rattle.std.proofs.Common.{◌≡◌, ℕ, ◌∙◌, subst, arith}
+use Rattle.board_terms.specs.declared.config.Config.{Config}
+use Rattle.seeded_orders.specs.Orders.{IsTried}
+use Rattle.guest_programs.specs.Steps.{task_in, Task}
+use Rattle.outcome_statistics.specs.Findings.{AreFoundOf}
+use Rattle.outcome_statistics.proofs.Finding.{found-next}
+use Rattle.outcome_statistics.proofs.orders.each_tried.Goals as goal
+
+pub loop-order-preserved : goal.loop-order-preserved
+loop-order-preserved c =
+    let k : Config = c.args.board.now.opening.config in
+    let P : Config → Task → Type 0 = λ k p. IsTried k p c.args.batch.now.seed c.loop-order.order c.try_order_on.new.board.past c.in_ok-end.end in
+    let here = subst (λ (k : Config). P k (task_in c.args.program.now)) c.loop-order.invariant.0 c.in_ok-end.ensures.tried in (
+      c.try_order_on.ensures.config ∙ c.loop-order.invariant.0,
+      c.see.ensures.many,
+      λ body same.
+          found-next k body c.args.batch.now.conditions.now c.args.batch.now.seed c.args.batch.now.from c.loop-order.order c.try_order_on.new.board.past c.in_ok-end.end
+          c.loop-order.found c.see.new.self (subst (P k) same here) c.in_ok-see.ensures.found (c.loop-order.invariant.2 body same),
+    )
+
+pub returns : goal.returns
+returns c = λ body is.
+    let over = c.loop-order-test.false in
+    let most = c.loop-order.auto.order-end in
+    let up = c.requires in
+    let same : c.loop-order.order ≡ c.args.batch.now.to = grind arith in
+    subst (λ (n : ℕ). AreFoundOf c.args.board.now.opening.config body c.args.batch.now.conditions.now c.args.batch.now.seed c.args.batch.now.from n c.loop-order.found) same (c.loop-order.invariant.2 body is)

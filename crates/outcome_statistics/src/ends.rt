@@ -1,0 +1,84 @@
+//! How many orders ended how.
+ghost use Rattle.std.specs.Prelude.{◌≡◌, ◌↔◌, ◌∷◌, ◌++◌, List, Some, true, []};
+ghost use Rattle.conditions.specs.declared.rules.Ending.{Ending as HowEnded};
+ghost use Rattle.conditions.specs.Endings.{ending};
+ghost use Rattle.outcome_statistics.specs.Records.{Tried};
+ghost use Rattle.outcome_statistics.specs.Findings.{AreEnded, HaveEnded};
+
+use guest_programs::End;
+
+/// How many orders ended in which way.
+#[derive(Clone, Copy, Debug, PartialEq, Eq)]
+pub struct Ends {
+    /// The power was off.
+    pub off: u64,
+    /// The limit cut them off.
+    pub full: u64,
+    /// Each hart was done.
+    pub quiet: u64,
+    /// Some hart wasn't, and none went on.
+    pub stuck: u64,
+}
+
+impl Ends {
+    /// Before any order was tried.
+    pub fn new() -> Ends
+        ensures { AreEnded [] result }
+    {
+        Ends {
+            off: 0,
+            full: 0,
+            quiet: 0,
+            stuck: 0,
+        }
+    }
+
+    /// An order ended so.
+    pub fn see(&mut self, end: End)
+        ensures { (tried : List Tried) (x : Tried) → x.end ≡ ending end → AreEnded tried self.old
+            → AreEnded (x ∷ tried) self.new }
+    {
+        self.off = counted(self.off, is(end, End::Off));
+        self.full = counted(self.full, is(end, End::HistoryFull));
+        self.quiet = counted(self.quiet, is(end, End::Quiet));
+        self.stuck = counted(self.stuck, is(end, End::Stuck));
+    }
+
+    /// Orders were tried behind these.
+    pub fn add(&mut self, later: Ends)
+        ensures { (tried more : List Tried) → AreEnded tried self.old → AreEnded more later
+            → AreEnded (more ++ tried) self.new }
+    {
+        self.off = self.off.saturating_add(later.off);
+        self.full = self.full.saturating_add(later.full);
+        self.quiet = self.quiet.saturating_add(later.quiet);
+        self.stuck = self.stuck.saturating_add(later.stuck);
+    }
+
+    /// How many orders were tried.
+    pub fn orders(&self) -> u64 {
+        self.off
+            .saturating_add(self.full)
+            .saturating_add(self.quiet)
+            .saturating_add(self.stuck)
+    }
+}
+
+/// A count with one more, where that is such.
+fn counted(count: u64, is_such: bool) -> u64
+    ensures { (ended : HowEnded) (x : Tried) (xs : List Tried) → (is_such ≡ true) ↔ (x.end ≡ Some ended)
+        → HaveEnded ended xs count → HaveEnded ended (x ∷ xs) result }
+{
+    if is_such {
+        count.saturating_add(1)
+    } else {
+        count
+    }
+}
+
+/// Whether an end is this one.
+pub(crate) fn is(end: End, named: End) -> bool
+    ensures { (result ≡ true) ↔ (end ≡ named) }
+{
+    end == named
+}

@@ -1,0 +1,144 @@
+//! What was found of many orders.
+ghost use Rattle.std.specs.Prelude.{◌≡◌, ◌∷◌, ◌++◌, List, [], IfOk, OnOk, length, reverse};
+ghost use Rattle.conditions.specs.declared.reading.Condition.{Condition as Asked};
+ghost use Rattle.conditions.specs.Endings.{ending};
+ghost use Rattle.outcome_statistics.specs.Records.{Tried};
+ghost use Rattle.outcome_statistics.specs.Findings.{AreFound, EachTells};
+
+use crate::ends::{Ends, is};
+use crate::judging::judge;
+use crate::matched::is_met;
+use crate::tally::Tally;
+use crate::visits::Visits;
+use board_core::{Board, Event};
+use conditions::{Condition, Ending, ending};
+use guest_programs::End;
+use seeded_orders::choices;
+use std::alloc::{AllocError, Global};
+use std::collections::BTreeSet;
+
+/// What was found by a condition.
+#[derive(Clone, Copy, Debug)]
+pub struct Judged {
+    /// How many records are as it asks.
+    pub tally: Tally,
+    /// Whether in some record each of its patterns met a step, whatever its reply.
+    pub is_met: bool,
+}
+
+/// What was found of orders of a program.
+#[derive(Drop)]
+pub struct Findings {
+    /// By each condition.
+    pub judged: Vec<Judged>,
+    /// How many orders didn't end stuck.
+    pub well: Tally,
+    /// How they ended.
+    pub ends: Ends,
+    /// The different records, as what is kept of them.
+    pub records: BTreeSet<Vec<u16>>,
+    /// What their guests met.
+    pub visits: Visits,
+}
+
+impl Findings {
+    /// Before any order was tried, for so many conditions.
+    ///
+    /// # Errors
+    ///
+    /// Memory was refused.
+    pub fn new(alloc: Global, conditions: usize) -> Result<Findings, AllocError>
+        ensures { IfOk result (λ found. (asked : List Asked) → length asked ≡ conditions → AreFound asked [] found) }
+    {
+        let none = Judged {
+            tally: Tally::new(),
+            is_met: false,
+        };
+        Ok(Findings {
+            judged: vec![in alloc; none; conditions]?,
+            well: Tally::new(),
+            ends: Ends::new(),
+            records: BTreeSet::new(alloc),
+            visits: Visits::new(alloc),
+        })
+    }
+
+    /// An order of this number was tried.
+    ///
+    /// # Errors
+    ///
+    /// Memory was refused.
+    pub fn see(
+        &mut self,
+        alloc: Global,
+        conditions: &[Condition],
+        number: u64,
+        board: &Board,
+        end: End,
+    ) -> Result<(), AllocError>
+        requires { length self.old.judged.items ≡ length conditions.now }
+        ensures many { length self.new.judged.items ≡ length conditions.now }
+        ensures found { OnOk result ((tried : List Tried) (x : Tried) → x.number ≡ number
+            → x.events ≡ reverse board.now.past → x.end ≡ ending end
+            → AreFound conditions.now tried self.old → AreFound conditions.now (x ∷ tried) self.new) }
+    {
+        let events = board.history();
+        judge_each(conditions, &mut self.judged, number, events, ending(end));
+        self.well.see(number, !is(end, End::Stuck));
+        self.ends.see(end);
+        let kept = choices(alloc, events)?;
+        self.records.insert(kept)?;
+        self.visits.see(alloc, board.config().harts, events)
+    }
+
+    /// Orders were tried behind these.
+    ///
+    /// # Errors
+    ///
+    /// Memory was refused.
+    pub fn add(&mut self, mut later: Findings) -> Result<(), AllocError>
+        ensures { OnOk result ((asked : List Asked) (tried more : List Tried) → AreFound asked tried self.old
+            → AreFound asked more later → AreFound asked (more ++ tried) self.new) }
+    {
+        add_each(&mut self.judged, &later.judged);
+        self.well.add(later.well);
+        self.ends.add(later.ends);
+        self.visits.add(&mut later.visits)?;
+        self.records.append(&mut later.records)
+    }
+}
+
+/// Judges a record of this number by each condition.
+fn judge_each(
+    conditions: &[Condition],
+    judged: &mut [Judged],
+    number: u64,
+    events: &[Event],
+    end: Option<Ending>,
+)
+    requires { length judged.old ≡ length conditions.now }
+    ensures many { length judged.new ≡ length judged.old }
+    ensures each { (tried : List Tried) (x : Tried) → x.number ≡ number → x.events ≡ events.now → x.end ≡ end
+        → EachTells conditions.now tried judged.old → EachTells conditions.now (x ∷ tried) judged.new }
+{
+    for i in 0..conditions.len() {
+        let rule = &conditions[i].rule;
+        let of_it = &mut judged[i];
+        judge(rule, &mut of_it.tally, number, events, end);
+        of_it.is_met = of_it.is_met || is_met(rule, events);
+    }
+}
+
+/// Puts what was found by each condition of later records behind what was found before.
+fn add_each(judged: &mut [Judged], later: &[Judged])
+    ensures many { length judged.new ≡ length judged.old }
+    ensures each { (asked : List Asked) (tried more : List Tried) → length judged.old ≡ length asked
+        → length later.now ≡ length asked → EachTells asked tried judged.old → EachTells asked more later.now
+        → EachTells asked (more ++ tried) judged.new }
+{
+    for i in 0..judged.len().min(later.len()) {
+        let of_it = &mut judged[i];
+        of_it.tally.add(later[i].tally);
+        of_it.is_met = of_it.is_met || later[i].is_met;
+    }
+}

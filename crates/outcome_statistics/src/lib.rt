@@ -1,0 +1,22 @@
+//! What was found of many records: how many are as each condition asks, how they ended, and how many are different.
+#![tactic(auto)]
+
+mod batch;
+mod ends;
+mod findings;
+mod jobs;
+mod judging;
+mod matched;
+mod orders;
+mod tally;
+mod visits;
+
+pub use batch::Batch;
+pub use ends::Ends;
+pub use findings::{Findings, Judged};
+pub use jobs::try_in_jobs;
+pub use judging::{failing_step, judge, meets};
+pub use matched::{Matched, is_met};
+pub use orders::try_orders;
+pub use tally::Tally;
+pub use visits::{Spot, Visits};

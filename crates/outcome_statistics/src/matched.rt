@@ -1,0 +1,53 @@
+//! Whether the patterns of a condition meet steps.
+use board_core::Event;
+use conditions::Rule;
+
+/// Whether each pattern of a condition has met a step, whatever its reply; one that it hasn't is met.
+#[derive(Clone, Copy, Debug)]
+pub struct Matched {
+    first: bool,
+    second: bool,
+}
+
+impl Matched {
+    /// Before any step.
+    pub fn new(rule: &Rule) -> Matched {
+        let (first, second) = match rule {
+            Rule::Never(_) | Rule::OfSome(_) | Rule::Each(_) => (false, true),
+            Rule::NeverAfter(..) | Rule::Before(..) => (false, false),
+            Rule::End(_) => (true, true),
+        };
+        Matched { first, second }
+    }
+
+    /// A step was taken.
+    pub fn see(&mut self, rule: &Rule, event: &Event) {
+        match rule {
+            Rule::Never(p) | Rule::OfSome(p) | Rule::Each(p) => {
+                self.first = self.first || p.fits_step(event);
+            }
+            Rule::NeverAfter(p, q) | Rule::Before(p, q) => {
+                self.first = self.first || p.fits_step(event);
+                self.second = self.second || q.fits_step(event);
+            }
+            Rule::End(_) => {}
+        }
+    }
+
+    /// Whether each has.
+    pub fn is_each(self) -> bool {
+        self.first && self.second
+    }
+}
+
+/// Whether each pattern of a condition meets a step of a record, whatever its reply.
+pub fn is_met(rule: &Rule, events: &[Event]) -> bool {
+    let mut matched = Matched::new(rule);
+    for event in events {
+        if matched.is_each() {
+            break;
+        }
+        matched.see(rule, event);
+    }
+    matched.is_each()
+}

@@ -1,0 +1,105 @@
+//! Where a report goes: standard output, and a file too where one is named.
+use std::alloc::{AllocError, Global};
+use std::fs;
+use std::io::{self, ErrorKind, Write};
+use std::os::unix::fs::MetadataExt;
+use std::rt::{Clock, Files};
+use test_report::{FileReport, Page, Report, Style, Unwritten};
+use test_terms::{Options, Stop};
+
+/// Where a report goes.
+#[derive(Drop)]
+pub(crate) struct Output<'a, R: Files> {
+    rt: &'a R,
+    options: &'a Options<'a>,
+    /// What is printed.
+    shown: Page,
+    /// What is written into the named file.
+    kept: Page,
+    file: Option<R::File>,
+}
+
+impl<'a, R: AllocGlobal + Clock + Files + Print> Output<'a, R> {
+    /// Makes the named file, which must not take the place of a file that is tested.
+    pub(crate) fn begin(rt: &'a R, options: &'a Options<'a>) -> Result<Output<'a, R>, Stop> {
+        let alloc = rt.alloc();
+        let style = if options.screen.is_read {
+            Style::Plain
+        } else {
+            Style::Tap
+        };
+        let file = match options.tap {
+            Some(path) => match created(rt, path, &options.files) {
+                Ok(file) => Some(file),
+                Err(error) => return Err(unwritten(alloc, path, &error)?),
+            },
+            None => None,
+        };
+        Ok(Output {
+            rt,
+            options,
+            shown: Page::new(alloc, style)?,
+            kept: Page::new(alloc, Style::Tap)?,
+            file,
+        })
+    }
+
+    /// Tells what is found of a file.
+    pub(crate) fn tell_file(&mut self, file: &FileReport) -> Result<(), Stop> {
+        let alloc = self.rt.alloc();
+        self.shown.put_file(alloc, file)?;
+        if self.file.is_some() {
+            self.kept.put_file(alloc, file)?;
+        }
+        self.tell()
+    }
+
+    /// Tells the plan and the summary, and at a terminal how long it took.
+    pub(crate) fn end(&mut self, report: &Report) -> Result<(), Stop> {
+        self.shown.put_summary(report)?;
+        self.kept.put_summary(report)?;
+        self.tell()?;
+        if self.options.screen.is_read {
+            let millis = self.options.limit.millis(self.rt)?;
+            println!(self.rt; "time: {}.{} s", millis / 1_000, millis % 1_000 / 100)?;
+        }
+        Ok(())
+    }
+
+    /// Prints what isn't told yet, and writes it into the named file.
+    fn tell(&mut self) -> Result<(), Stop> {
+        self.rt.print(self.shown.text.as_str())?;
+        self.shown.text.clear();
+        if let Some(file) = &mut self.file
+            && let Some(path) = self.options.tap
+            && let Err(error) = file.write_all(self.kept.text.as_bytes())
+        {
+            return Err(unwritten(self.rt.alloc(), path, &error)?);
+        }
+        self.kept.text.clear();
+        Ok(())
+    }
+}
+
+/// Makes the file of the points, which must not take the place of a file that is tested.
+fn created<R: Files>(rt: &R, path: &str, files: &[&str]) -> Result<R::File, io::Error> {
+    for file in files {
+        if are_one(rt, path, file) {
+            return Err(io::Error::from(ErrorKind::AlreadyExists));
+        }
+    }
+    fs::create(rt, path)
+}
+
+/// Whether both paths are of one file that is there.
+fn are_one<R: Files>(rt: &R, path: &str, other: &str) -> bool {
+    match (fs::metadata(rt, path), fs::metadata(rt, other)) {
+        (Ok(one), Ok(another)) => one.dev() == another.dev() && one.ino() == another.ino(),
+        _ => false,
+    }
+}
+
+/// A file of this name could not be written.
+fn unwritten(alloc: Global, path: &str, error: &io::Error) -> Result<Stop, AllocError> {
+    Ok(Stop::Unwritten(Unwritten::new(alloc, path, error)?))
+}

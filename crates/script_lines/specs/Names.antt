@@ -1,0 +1,245 @@
+-- The one table of operations and replies: the word of each, the numbers that may follow it, whether a guest may do it, and
+-- what is made of them (profile).
+use Rattle.std.specs.Prelude.{ℕ, ◌-◌, ◌^◌, Bool, true, false, ◌==◌, nat_lt, if◌then◌else◌, List, [], ◌∷◌, ◌++◌, length, slice_index_or, map, codes, Option, None, unwrap_or}
+use Rattle.std.specs.Int.{w64, cast_signed}
+use Rattle.std.specs.Str.{bytes_eq}
+use Rattle.sbi_abi.specs.declared.call.Regs.{Regs}
+use Rattle.board_terms.specs.declared.op.Op.{Op}
+use Rattle.board_terms.specs.declared.op.Op.TheVariants as ops
+use Rattle.board_terms.specs.Refusals.{first_that_holds}
+use Rattle.script_lines.specs.declared.op_name.OpName.{OpName}
+use Rattle.script_lines.specs.declared.op_name.OpName.TheVariants.{Ecall, Load, Store, Fetch, Satp, Sie, Sstatus, Sip, Clearssip, Sfence, Fencei, Wfi, Poll, Serve, Advance, Tick}
+use Rattle.script_lines.specs.declared.places.Places.{Places}
+use Rattle.script_lines.specs.declared.places.TheConstants.{LAST_HART}
+use Rattle.script_lines.specs.declared.said.Said.{Said}
+use Rattle.script_lines.specs.declared.said.Said.TheVariants as says
+use Rattle.script_lines.specs.declared.said_name.SaidName.{SaidName}
+use Rattle.script_lines.specs.declared.said_name.SaidName.TheVariants as saids
+
+-- ---- numbers
+
+-- the largest number of all
+abbrev pub last_number : ℕ
+last_number = 2 ^ 64 - 1
+
+-- the largest number of a hart
+abbrev pub last_hart : ℕ
+last_hart = LAST_HART
+
+-- numbers of any size, from `least` to `most` of them
+abbrev pub any_numbers : (least most : ℕ) → Places
+any_numbers least most = record { least = least; most = most; limit = last_number; may_be_absent = false }
+
+-- the argument in a place, and its number, which is 0 where there is none
+abbrev pub argument_at : List (Option ℕ) → ℕ → Option ℕ
+argument_at arguments i = slice_index_or arguments i None
+
+-- the number of the argument in a place, which is 0 where there is none
+abbrev pub number_at : List (Option ℕ) → ℕ → ℕ
+number_at arguments i = unwrap_or (argument_at arguments i) 0
+
+-- the number in a place, or another one where there are fewer
+abbrev pub number_or : (other : ℕ) → List (Option ℕ) → ℕ → ℕ
+number_or other arguments i = if nat_lt i (length arguments) then number_at arguments i else other
+
+-- what stands under the name whose word this is
+abbrev pub by_word : {A : Type 0} → (A → List ℕ) → List A → List ℕ → Option A
+by_word word_of names word = first_that_holds (map (λ name. (bytes_eq word (word_of name), name)) names)
+
+-- ---- operations
+
+-- what a guest may do, and what the firmware of a hart and the clock do
+abbrev pub guest_ops : List OpName
+guest_ops =
+    Ecall
+    ∷ Load
+    ∷ Store
+    ∷ Fetch
+    ∷ Satp
+    ∷ Sie
+    ∷ Sstatus
+    ∷ Sip
+    ∷ Clearssip
+    ∷ Sfence
+    ∷ Fencei
+    ∷ Wfi
+    ∷ []
+
+abbrev pub firmware_ops : List OpName
+firmware_ops = Poll ∷ Serve ∷ Advance ∷ Tick ∷ []
+
+-- all of them
+abbrev pub op_names : List OpName
+op_names = guest_ops ++ firmware_ops
+
+-- the word that names an operation
+abbrev pub op_word : OpName → List ℕ
+op_word Ecall = codes "ecall"
+op_word Load = codes "load"
+op_word Store = codes "store"
+op_word Fetch = codes "fetch"
+op_word Satp = codes "satp"
+op_word Sie = codes "sie"
+op_word Sstatus = codes "sstatus"
+op_word Sip = codes "sip"
+op_word Clearssip = codes "clearssip"
+op_word Sfence = codes "sfence"
+op_word Fencei = codes "fencei"
+op_word Wfi = codes "wfi"
+op_word Poll = codes "poll"
+op_word Serve = codes "serve"
+op_word Advance = codes "advance"
+op_word Tick = codes "tick"
+
+-- what may follow it
+abbrev pub op_places : OpName → Places
+op_places Ecall = any_numbers 2 8
+op_places Load = any_numbers 1 1
+op_places Store = any_numbers 2 2
+op_places Fetch = any_numbers 1 1
+op_places Satp = any_numbers 1 1
+op_places Sie = any_numbers 1 1
+op_places Sstatus = record { least = 1; most = 1; limit = 1; may_be_absent = false }
+op_places Sip = any_numbers 0 0
+op_places Clearssip = any_numbers 0 0
+op_places Sfence = record { least = 2; most = 2; limit = last_number; may_be_absent = true }
+op_places Fencei = any_numbers 0 0
+op_places Wfi = any_numbers 0 0
+op_places Poll = any_numbers 0 0
+op_places Serve = any_numbers 0 0
+op_places Advance = any_numbers 0 0
+op_places Tick = any_numbers 1 1
+
+-- whether a guest may do it, or the firmware of a hart and the clock alone
+abbrev pub is_guests : OpName → Bool
+is_guests Poll = false
+is_guests Serve = false
+is_guests Advance = false
+is_guests Tick = false
+is_guests name = true
+
+-- the registers of a call, where an argument that isn't written is 0
+abbrev pub regs_of : List (Option ℕ) → Regs
+regs_of ns = record {
+  eid = number_at ns 0;
+  fid = number_at ns 1;
+  a = number_at ns 2 ∷ number_at ns 3 ∷ number_at ns 4 ∷ number_at ns 5 ∷ number_at ns 6 ∷ number_at ns 7 ∷ [];
+}
+
+-- the operation of this name, with its arguments
+abbrev pub op_from : OpName → List (Option ℕ) → Op
+op_from Ecall ns = ops.Ecall (regs_of ns)
+op_from Load ns = ops.Load (number_at ns 0)
+op_from Store ns = ops.Store (number_at ns 0) (number_at ns 1)
+op_from Fetch ns = ops.Fetch (number_at ns 0)
+op_from Satp ns = ops.WriteSatp (number_at ns 0)
+op_from Sie ns = ops.WriteSie (number_at ns 0)
+op_from Sstatus ns = ops.WriteSstatusSie (number_at ns 0 == 1)
+op_from Sip ns = ops.ReadSip
+op_from Clearssip ns = ops.ClearSsip
+op_from Sfence ns = ops.Sfence (argument_at ns 0) (argument_at ns 1)
+op_from Fencei ns = ops.FenceI
+op_from Wfi ns = ops.Wfi
+op_from Poll ns = ops.Poll
+op_from Serve ns = ops.Serve
+op_from Advance ns = ops.Advance
+op_from Tick ns = ops.Tick (number_at ns 0)
+
+-- the name of an operation
+abbrev pub name_of : Op → OpName
+name_of (ops.Ecall regs) = Ecall
+name_of (ops.Load va) = Load
+name_of (ops.Store va value) = Store
+name_of (ops.Fetch va) = Fetch
+name_of (ops.WriteSatp value) = Satp
+name_of (ops.WriteSie value) = Sie
+name_of (ops.WriteSstatusSie value) = Sstatus
+name_of ops.ReadSip = Sip
+name_of ops.ClearSsip = Clearssip
+name_of (ops.Sfence va asid) = Sfence
+name_of ops.FenceI = Fencei
+name_of ops.Wfi = Wfi
+name_of ops.Poll = Poll
+name_of ops.Serve = Serve
+name_of ops.Advance = Advance
+name_of (ops.Tick n) = Tick
+
+-- the operation that a word names
+unfoldable pub op_named : List ℕ → Option OpName
+op_named word = by_word op_word op_names word
+
+-- ---- replies and refusals
+
+-- those whose numbers have no sign: all but `ret`
+abbrev pub unsigned_saids : List SaidName
+unsigned_saids =
+    saids.Waiting
+    ∷ saids.Gone
+    ∷ saids.Entry
+    ∷ saids.Value
+    ∷ saids.Fault
+    ∷ saids.Served
+    ∷ saids.Moved
+    ∷ saids.Done
+    ∷ saids.Refused
+    ∷ []
+
+-- all of them
+abbrev pub said_names : List SaidName
+said_names = saids.Ret ∷ unsigned_saids
+
+-- the word that names what is said of a step
+abbrev pub said_word : SaidName → List ℕ
+said_word saids.Ret = codes "ret"
+said_word saids.Waiting = codes "waiting"
+said_word saids.Gone = codes "gone"
+said_word saids.Entry = codes "entry"
+said_word saids.Value = codes "value"
+said_word saids.Fault = codes "fault"
+said_word saids.Served = codes "served"
+said_word saids.Moved = codes "moved"
+said_word saids.Done = codes "done"
+said_word saids.Refused = codes "refused"
+
+-- what may follow it; the first number of `ret` is a signed one
+abbrev pub said_places : SaidName → Places
+said_places saids.Ret = any_numbers 2 2
+said_places saids.Waiting = any_numbers 0 0
+said_places saids.Gone = any_numbers 0 0
+said_places saids.Entry = any_numbers 3 3
+said_places saids.Value = any_numbers 1 1
+said_places saids.Fault = any_numbers 1 1
+said_places saids.Served = any_numbers 0 0
+said_places saids.Moved = any_numbers 1 1
+said_places saids.Done = any_numbers 0 0
+said_places saids.Refused = any_numbers 1 1
+
+-- what is said under this name, with its arguments; the error of `ret` by its bits
+abbrev pub said_from : SaidName → List (Option ℕ) → Said
+said_from saids.Ret ns = says.Ret (cast_signed w64 (number_at ns 0)) (number_at ns 1)
+said_from saids.Waiting ns = says.Waiting
+said_from saids.Gone ns = says.Gone
+said_from saids.Entry ns = says.Entry (number_at ns 0) (number_at ns 1) (number_at ns 2)
+said_from saids.Value ns = says.Value (number_at ns 0)
+said_from saids.Fault ns = says.Fault (number_at ns 0)
+said_from saids.Served ns = says.Served
+said_from saids.Moved ns = says.Moved (number_at ns 0)
+said_from saids.Done ns = says.Done
+said_from saids.Refused ns = says.Refused (number_at ns 0)
+
+-- the name of what is said
+abbrev pub name_of_said : Said → SaidName
+name_of_said (says.Ret error value) = saids.Ret
+name_of_said says.Waiting = saids.Waiting
+name_of_said says.Gone = saids.Gone
+name_of_said (says.Entry addr hart opaque) = saids.Entry
+name_of_said (says.Value value) = saids.Value
+name_of_said (says.Fault cause) = saids.Fault
+name_of_said says.Served = saids.Served
+name_of_said (says.Moved state) = saids.Moved
+name_of_said says.Done = saids.Done
+name_of_said (says.Refused n) = saids.Refused
+
+-- the reply or the refusal that a word names
+unfoldable pub said_named : List ℕ → Option SaidName
+said_named word = by_word said_word said_names word

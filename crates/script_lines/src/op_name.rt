@@ -1,0 +1,231 @@
+//! Operations by their names: the word of each, the numbers that may follow it, and whether a guest may do it.
+ghost use Rattle.std.specs.Prelude.{◌≡◌, ◌≤◌, MatchOption, None};
+ghost use Rattle.script_lines.specs.Names.{is_guests, name_of, op_from, op_named, op_places, op_word, regs_of};
+ghost use Rattle.script_lines.specs.Packing.{named_shape};
+
+use crate::op_shape::{OP_NUMBERS, OpShape};
+use crate::places::{Places, any_numbers, argument_at, number_at};
+use board_terms::Op;
+use sbi_abi::Regs;
+
+/// An operation by its name.
+#[derive(Clone, Copy, Debug, PartialEq, Eq)]
+pub enum OpName {
+    /// `ecall`
+    Ecall,
+    /// `load`
+    Load,
+    /// `store`
+    Store,
+    /// `fetch`
+    Fetch,
+    /// `satp`
+    Satp,
+    /// `sie`
+    Sie,
+    /// `sstatus`
+    Sstatus,
+    /// `sip`
+    Sip,
+    /// `clearssip`
+    Clearssip,
+    /// `sfence`
+    Sfence,
+    /// `fencei`
+    Fencei,
+    /// `wfi`
+    Wfi,
+    /// `poll`
+    Poll,
+    /// `serve`
+    Serve,
+    /// `advance`
+    Advance,
+    /// `tick`
+    Tick,
+}
+
+impl OpName {
+    /// The operation that a word names.
+    #[tactic(auto, unfolding(crate::specs::Names::op_named))]
+    pub fn of(word: &[u8]) -> Option<OpName>
+        ensures { MatchOption result (op_named word.now ≡ None) (λ name. word.now ≡ op_word name) }
+    {
+        match word {
+            b"ecall" => Some(OpName::Ecall),
+            b"load" => Some(OpName::Load),
+            b"store" => Some(OpName::Store),
+            b"fetch" => Some(OpName::Fetch),
+            b"satp" => Some(OpName::Satp),
+            b"sie" => Some(OpName::Sie),
+            b"sstatus" => Some(OpName::Sstatus),
+            b"sip" => Some(OpName::Sip),
+            b"clearssip" => Some(OpName::Clearssip),
+            b"sfence" => Some(OpName::Sfence),
+            b"fencei" => Some(OpName::Fencei),
+            b"wfi" => Some(OpName::Wfi),
+            b"poll" => Some(OpName::Poll),
+            b"serve" => Some(OpName::Serve),
+            b"advance" => Some(OpName::Advance),
+            b"tick" => Some(OpName::Tick),
+            _ => None,
+        }
+    }
+
+    /// The word that names it.
+    #[inline(always)]
+    pub fn word(self) -> &'static [u8]
+        ensures { result.now ≡ op_word self }
+    {
+        match self {
+            OpName::Ecall => b"ecall",
+            OpName::Load => b"load",
+            OpName::Store => b"store",
+            OpName::Fetch => b"fetch",
+            OpName::Satp => b"satp",
+            OpName::Sie => b"sie",
+            OpName::Sstatus => b"sstatus",
+            OpName::Sip => b"sip",
+            OpName::Clearssip => b"clearssip",
+            OpName::Sfence => b"sfence",
+            OpName::Fencei => b"fencei",
+            OpName::Wfi => b"wfi",
+            OpName::Poll => b"poll",
+            OpName::Serve => b"serve",
+            OpName::Advance => b"advance",
+            OpName::Tick => b"tick",
+        }
+    }
+
+    /// What may follow its name.
+    #[inline(always)]
+    pub fn places(self) -> Places
+        ensures form { result ≡ op_places self }
+        ensures fits { result.most ≤ OP_NUMBERS }
+    {
+        match self {
+            OpName::Ecall => any_numbers(2, 8),
+            OpName::Sstatus => Places {
+                least: 1,
+                most: 1,
+                limit: 1,
+                may_be_absent: false,
+            },
+            OpName::Sfence => Places {
+                least: 2,
+                most: 2,
+                limit: u64::MAX,
+                may_be_absent: true,
+            },
+            OpName::Load | OpName::Fetch | OpName::Satp => any_numbers(1, 1),
+            OpName::Sie | OpName::Tick => any_numbers(1, 1),
+            OpName::Store => any_numbers(2, 2),
+            OpName::Sip | OpName::Clearssip | OpName::Fencei => any_numbers(0, 0),
+            OpName::Wfi | OpName::Poll => any_numbers(0, 0),
+            OpName::Serve | OpName::Advance => any_numbers(0, 0),
+        }
+    }
+
+    /// Whether a guest may do it.
+    #[inline(always)]
+    pub fn is_guests(self) -> bool
+        ensures { result ≡ is_guests self }
+    {
+        !matches!(
+            self,
+            OpName::Poll | OpName::Serve | OpName::Advance | OpName::Tick
+        )
+    }
+
+    /// The operation of this name, with its arguments.
+    pub fn op(self, arguments: &[Option<u64>]) -> Op
+        ensures { result ≡ op_from self arguments.now }
+    {
+        match self {
+            OpName::Ecall => Op::Ecall(regs(arguments)),
+            OpName::Load => Op::Load(number_at(arguments, 0)),
+            OpName::Store => Op::Store(number_at(arguments, 0), number_at(arguments, 1)),
+            OpName::Fetch => Op::Fetch(number_at(arguments, 0)),
+            OpName::Satp => Op::WriteSatp(number_at(arguments, 0)),
+            OpName::Sie => Op::WriteSie(number_at(arguments, 0)),
+            OpName::Sstatus => Op::WriteSstatusSie(number_at(arguments, 0) == 1),
+            OpName::Sip => Op::ReadSip,
+            OpName::Clearssip => Op::ClearSsip,
+            OpName::Sfence => Op::Sfence(argument_at(arguments, 0), argument_at(arguments, 1)),
+            OpName::Fencei => Op::FenceI,
+            OpName::Wfi => Op::Wfi,
+            OpName::Poll => Op::Poll,
+            OpName::Serve => Op::Serve,
+            OpName::Advance => Op::Advance,
+            OpName::Tick => Op::Tick(number_at(arguments, 0)),
+        }
+    }
+
+    /// The name of an operation.
+    #[inline(always)]
+    pub fn of_op(op: &Op) -> OpName
+        ensures { result ≡ name_of op.now }
+    {
+        match op {
+            Op::Ecall(_) => OpName::Ecall,
+            Op::Load(_) => OpName::Load,
+            Op::Store(..) => OpName::Store,
+            Op::Fetch(_) => OpName::Fetch,
+            Op::WriteSatp(_) => OpName::Satp,
+            Op::WriteSie(_) => OpName::Sie,
+            Op::WriteSstatusSie(_) => OpName::Sstatus,
+            Op::ReadSip => OpName::Sip,
+            Op::ClearSsip => OpName::Clearssip,
+            Op::Sfence(..) => OpName::Sfence,
+            Op::FenceI => OpName::Fencei,
+            Op::Wfi => OpName::Wfi,
+            Op::Poll => OpName::Poll,
+            Op::Serve => OpName::Serve,
+            Op::Advance => OpName::Advance,
+            Op::Tick(_) => OpName::Tick,
+        }
+    }
+
+    /// The shape in which it is kept with a number in each place.
+    #[inline(always)]
+    pub fn shape(self) -> OpShape
+        ensures { result ≡ named_shape self }
+    {
+        match self {
+            OpName::Ecall => OpShape::Ecall,
+            OpName::Load => OpShape::Load,
+            OpName::Store => OpShape::Store,
+            OpName::Fetch => OpShape::Fetch,
+            OpName::Satp => OpShape::WriteSatp,
+            OpName::Sie => OpShape::WriteSie,
+            OpName::Sstatus => OpShape::SstatusOff,
+            OpName::Sip => OpShape::ReadSip,
+            OpName::Clearssip => OpShape::ClearSsip,
+            OpName::Sfence => OpShape::SfenceBoth,
+            OpName::Fencei => OpShape::FenceI,
+            OpName::Wfi => OpShape::Wfi,
+            OpName::Poll => OpShape::Poll,
+            OpName::Serve => OpShape::Serve,
+            OpName::Advance => OpShape::Advance,
+            OpName::Tick => OpShape::Tick,
+        }
+    }
+}
+
+/// The registers of a call. An argument that isn't written is 0.
+fn regs(arguments: &[Option<u64>]) -> Regs
+    ensures { result ≡ regs_of arguments.now }
+{
+    Regs {
+        eid: number_at(arguments, 0),
+        fid: number_at(arguments, 1),
+        a: [
+            number_at(arguments, 2),
+            number_at(arguments, 3),
+            number_at(arguments, 4),
+            number_at(arguments, 5),
+            number_at(arguments, 6),
+            number_at(arguments, 7),
+        ],
+    }
+}

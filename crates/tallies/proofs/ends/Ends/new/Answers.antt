@@ -1,5 +1,0 @@
-use Rattle.tallies.proofs.Counting.{counted-none}
-use Rattle.tallies.proofs.ends.Ends.new.Goals as goal
-
-pub returns : goal.returns
-returns c = record { off = counted-none _ _; full = counted-none _ _; quiet = counted-none _ _; stuck = counted-none _ _ }

@@ -1,8 +1,0 @@
-use Rattle.guest_script.specs.Grammar.{content}
-use Rattle.tallies.proofs.Finding.{same-task}
-use Rattle.tallies.proofs.orders.tried_on.Goals as goal
-
-pub returns : goal.returns
-returns c =
-    let body = content c.args.script.now.body in
-    c.each_tried.ensures body (same-task c.in_ok-program.program body c.in_ok-program.ensures.blocks c.in_ok-program.ensures.ticks)

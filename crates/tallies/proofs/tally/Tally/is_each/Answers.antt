@@ -1,9 +1,0 @@
-use Rattle.std.proofs.lemmas.Bool.{eqb-true, eq-eqb}
-use Rattle.tallies.specs.Records.{IsSo}
-use Rattle.tallies.proofs.Counting.{each-tells}
-use Rattle.tallies.proofs.tally.Tally.is_each.Goals as goal
-
-pub returns : goal.returns
-returns c asked tried tells =
-    let each = each-tells (IsSo asked) tried c.args.self.now tells in
-    ((λ yes. each.0 (eqb-true c.args.self.now.failing 0 yes)), (λ all. eq-eqb c.args.self.now.failing 0 (each.1 all)))

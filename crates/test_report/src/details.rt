@@ -1,0 +1,142 @@
+//! What stands below a point, as YAML.
+use crate::records::event_line;
+use crate::stuck::StuckHart;
+use board_core::Event;
+use std::alloc::{AllocError, Global};
+use std::fmt::Write;
+use std::{io, str};
+
+/// A file that could not be written.
+#[derive(Debug, Drop)]
+pub struct Unwritten {
+    /// Its name.
+    pub path: String,
+    /// Why.
+    pub why: String,
+}
+
+impl Unwritten {
+    /// The file of this name could not be written.
+    pub fn new(alloc: Global, path: &str, error: &io::Error) -> Result<Unwritten, AllocError> {
+        Ok(Unwritten {
+            path: String::from_str(alloc, path)?,
+            why: format!(in alloc; "{error}")?,
+        })
+    }
+
+    /// The same once more.
+    pub fn copied(&self, alloc: Global) -> Result<Unwritten, AllocError> {
+        Ok(Unwritten {
+            path: String::from_str(alloc, self.path.as_str())?,
+            why: String::from_str(alloc, self.why.as_str())?,
+        })
+    }
+}
+
+/// A line of a trace that wants something else than the board gives.
+#[derive(Debug, Drop)]
+pub struct Difference {
+    /// Its number, from 1.
+    pub line: u64,
+    /// What it says.
+    pub wanted: String,
+    /// The line that the board gives.
+    pub got: String,
+}
+
+/// Something that stands below a point.
+#[derive(Debug, Drop)]
+pub enum Detail {
+    /// A number, with what it is.
+    Number(&'static str, u64),
+    /// Why it fails.
+    Reason(&'static str),
+    /// The name of the file that has the record.
+    Record(String),
+    /// Why the record's file could not be written.
+    Unwritten(Unwritten),
+    /// The place of a step, from 0, and those around it, each with its place.
+    Steps(usize, Vec<(usize, Event)>),
+    /// The harts that wait for ever.
+    Stuck(Vec<StuckHart>),
+    /// The lines of a trace that differ.
+    Lines(Vec<Difference>),
+}
+
+impl Detail {
+    /// Puts it behind this margin.
+    pub(crate) fn put(
+        &self,
+        alloc: Global,
+        margin: &str,
+        text: &mut String,
+    ) -> Result<(), AllocError> {
+        match self {
+            Detail::Number(key, number) => writeln!(text, "{margin}{key}: {number}"),
+            Detail::Reason(why) => writeln!(text, "{margin}reason: \"{why}\""),
+            Detail::Record(path) => {
+                write!(text, "{margin}record: ")?;
+                put_quoted(path.as_str(), text)?;
+                text.push('\n')
+            }
+            Detail::Unwritten(found) => {
+                let why = &found.why;
+                writeln!(text, "{margin}unwritten: \"{why}\"")
+            }
+            Detail::Steps(place, steps) => {
+                writeln!(text, "{margin}place: {place}\n{margin}steps: |")?;
+                put_steps(alloc, margin, steps, text)
+            }
+            Detail::Stuck(harts) => {
+                writeln!(text, "{margin}stuck:")?;
+                for hart in harts {
+                    writeln!(text, "{margin}  - \"{hart}\"")?;
+                }
+                Ok(())
+            }
+            Detail::Lines(differences) => {
+                writeln!(text, "{margin}lines:")?;
+                for Difference { line, wanted, got } in differences {
+                    writeln!(
+                        text,
+                        "{margin}  - line: {line}\n{margin}    wanted: \"{wanted}\""
+                    )?;
+                    writeln!(text, "{margin}    got: \"{got}\"")?;
+                }
+                Ok(())
+            }
+        }
+    }
+}
+
+/// Puts steps, each with its place.
+fn put_steps(
+    alloc: Global,
+    margin: &str,
+    steps: &[(usize, Event)],
+    text: &mut String,
+) -> Result<(), AllocError> {
+    for (place, event) in steps {
+        let line = event_line(alloc, event)?;
+        let shown = str::from_utf8(&line).unwrap_or("\n");
+        write!(text, "{margin}  {place} {shown}")?;
+    }
+    Ok(())
+}
+
+/// Puts a text in quotes.
+fn put_quoted(quoted: &str, text: &mut String) -> Result<(), AllocError> {
+    text.push('"')?;
+    for letter in quoted.chars() {
+        if letter == '"' || letter == '\\' {
+            text.push('\\')?;
+        }
+        text.push(shown(letter))?;
+    }
+    text.push('"')
+}
+
+/// A letter as it may be shown: no control character is.
+pub(crate) fn shown(letter: char) -> char {
+    if letter.is_control() { '?' } else { letter }
+}

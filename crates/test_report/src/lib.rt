@@ -1,0 +1,26 @@
+//! What `test` and `explore` find, as data: of each file its points, with what stands below them and what is noted behind them. Two
+//! ways to show it: as the Test Anything Protocol, version 14, and as a plain text for a terminal.
+#![tactic(auto)]
+
+mod counts;
+mod details;
+mod notes;
+mod odd;
+mod page;
+mod plain;
+mod point;
+mod records;
+mod report;
+mod stuck;
+mod summary;
+mod tap;
+
+pub use counts::{AllOrders, Counts};
+pub use details::{Detail, Difference, Unwritten};
+pub use notes::{Given, LoadGave, Note, Outcome, Stale};
+pub use odd::{comments, oddities};
+pub use page::{Page, Style};
+pub use point::{Point, Verdict, named};
+pub use records::{RecordParts, record, step_line};
+pub use report::{FileReport, Mode, Report, Status};
+pub use stuck::{StuckHart, stuck_harts};

@@ -1,0 +1,177 @@
+"""Tests of tools/record with stand-ins for gdb and QEMU, which play stops: each kind of stop, calls inside calls by an interrupt,
+resets, refused starts, and each way in which a run ends."""
+import json
+import os
+import re
+import shutil
+import subprocess
+from unittest import SkipTest
+
+from .fixtures import HERE, RECORDS, ROOT, Test, add, must, read, shown, write
+
+STAND_IN = os.path.join(HERE, "gdb-stand-in")
+FIRMWARE = "/usr/lib/riscv64-linux-gnu/opensbi/generic/fw_dynamic.bin"
+ENTRY, VECTOR, HANDLER = 0x80200000, 0x80000400, 0x80300000
+# Where all tasks of a kernel call from, and stacks of three of them.
+AT, TASK, IRQ, OTHER = 0x80201000, 0x80400000, 0x80410000, 0x80420000
+TIME, IPI, HSM, SRST, SUSP = 0x54494D45, 0x735049, 0x48534D, 0x53525354, 0x53555350
+OFF = {"ends": "off"}
+M64 = (1 << 64) - 1
+
+
+def enters(hart, pc=ENTRY, a1=7):
+    return {"hart": hart, "pc": pc, "mepc": pc, "a0": hart, "a1": a1, "mtvec": VECTOR}
+
+
+def calls(hart, eid, fid, *numbers, sp=TASK, at=AT):
+    registers = dict(zip(("a7", "a6", "a0", "a1", "a2", "a3", "a4", "a5"), (eid, fid, *numbers)))
+    return {"hart": hart, "pc": VECTOR, "mcause": 9, "mepc": at, "sp": sp, **registers}
+
+
+def is_back(hart, error=0, value=0, sp=TASK, at=AT):
+    return {"hart": hart, "pc": at + 4, "sp": sp, "a0": error & M64, "a1": value}
+
+
+def traps(hart):
+    """A timer's interrupt of the firmware, which is no call."""
+    return {"hart": hart, "pc": VECTOR, "mcause": 1 << 63 | 7, "mepc": AT}
+
+
+class Play:
+    """What is played, the record's lines without their notes, and what else is asked: the status, what is said."""
+
+    def __init__(self, name, stops, lines, status=0, said=(), harts=2, words=()):
+        self.name, self.stops, self.lines, self.status, self.said, self.harts, self.words = name, stops, lines, status, said, harts, words
+
+
+BOOT = "0 entry 0x80200000 0x0 0x7"
+
+
+def call(hart, eid, fid, *numbers):
+    return f"{hart} call " + " ".join(f"{number:#x}" for number in (eid, fid, *numbers, *[0] * (6 - len(numbers))))
+
+
+TWO = [enters(0), calls(0, HSM, 0, 1, HANDLER, 9), is_back(0), enters(1, HANDLER, 9)]
+TWO_LINES = [BOOT, call(0, HSM, 0, 1, HANDLER, 9), "0 ret 0 0x0", "1 entry 0x80300000 0x1 0x9"]
+FENCE, SEND = (0x52464E43, 1, 3, 0), (IPI, 0, 1, 0)
+PLAYS = [
+    Play("a call, its return, and an interrupt of the firmware", [enters(0), traps(0), calls(0, 0x10, 3, TIME), is_back(0, 0, 1), calls(0, 9, 9), is_back(0, -2), OFF],
+         [BOOT, call(0, 0x10, 3, TIME), "0 ret 0 0x1", call(0, 9, 9), "0 ret -2 0x0", "m end off"]),
+    Play("a start that is entered before it returns", [enters(0), calls(0, HSM, 0, 1, HANDLER, 9), enters(1, HANDLER, 9), is_back(0), OFF],
+         [BOOT, call(0, HSM, 0, 1, HANDLER, 9), "1 entry 0x80300000 0x1 0x9", "0 ret 0 0x0", "m end off"]),
+    Play("a refused start", [enters(0), calls(0, HSM, 0, 1, HANDLER, 9), is_back(0, -3), enters(1, HANDLER, 9), OFF],
+         [BOOT, call(0, HSM, 0, 1, HANDLER, 9), "0 ret -3 0x0", "m end off"]),
+    Play("a non-retentive suspend", [enters(0), calls(0, HSM, 3, 1 << 31, HANDLER, 5), enters(0, HANDLER, 5), OFF],
+         [BOOT, call(0, HSM, 3, 1 << 31, HANDLER, 5), "0 entry 0x80300000 0x0 0x5", "m end off"]),
+    Play("a suspend of the system", [enters(0), calls(0, SUSP, 0, 0, HANDLER, 5), enters(0, HANDLER, 5), OFF],
+         [BOOT, call(0, SUSP, 0, 0, HANDLER, 5), "0 entry 0x80300000 0x0 0x5", "m end off"]),
+    Play("a reset by a call", [enters(0), calls(0, SRST, 0, 1), enters(0), OFF], [BOOT, call(0, SRST, 0, 1), BOOT, "m end off"]),
+    Play("a reset by no call", [enters(0), calls(0, TIME, 0, 5), enters(0), OFF], [BOOT, call(0, TIME, 0, 5), "m reset", BOOT, "m end off"]),
+    Play("a reset by no call, behind one that was refused", [enters(0), calls(0, SRST, 0, 9), is_back(0, -3), enters(0), OFF],
+         [BOOT, call(0, SRST, 0, 9), "0 ret -3 0x0", "m reset", BOOT, "m end off"]),
+    Play("an interrupt right behind a return", [enters(0), calls(0, *FENCE), calls(0, *SEND, sp=IRQ), is_back(0, sp=IRQ), is_back(0, -1, 6), OFF],
+         [BOOT, call(0, *FENCE), "0 ret -1 0x6", call(0, *SEND), "0 ret 0 0x0", "m end off"]),
+    Play("interrupts right behind two returns",
+         [enters(0), calls(0, *FENCE), calls(0, *SEND, sp=IRQ), calls(0, TIME, 0, 5, sp=OTHER), is_back(0, sp=OTHER), is_back(0, 0, 2, sp=IRQ), is_back(0, 0, 1), OFF],
+         [BOOT, call(0, *FENCE), "0 ret 0 0x1", call(0, *SEND), "0 ret 0 0x2", call(0, TIME, 0, 5), "0 ret 0 0x0", "m end off"]),
+    Play("an interrupted return that comes before that of the handler's own task",
+         [enters(0), calls(0, *FENCE), calls(0, *SEND, sp=IRQ), is_back(0, 0, 1), is_back(0, 0, 2, sp=IRQ), OFF],
+         [BOOT, call(0, *FENCE), "0 ret 0 0x1", call(0, *SEND), "0 ret 0 0x2", "m end off"]),
+    Play("a run that ends before an interrupted return is seen", [enters(0), calls(0, *FENCE), calls(0, *SEND, sp=IRQ), is_back(0, sp=IRQ), OFF],
+         [BOOT, call(0, *FENCE), "0 ret - -", call(0, *SEND), "0 ret 0 0x0", "m end off"]),
+    Play("a reset before an interrupted return is seen", [enters(0), calls(0, *FENCE), calls(0, *SEND, sp=IRQ), enters(0), calls(0, *SEND), is_back(0), OFF],
+         [BOOT, call(0, *FENCE), "0 ret - -", call(0, *SEND), "m reset", BOOT, call(0, *SEND), "0 ret 0 0x0", "m end off"]),
+    Play("an interrupted return of a task that ended, and one of the next on its stack",
+         [enters(0), calls(0, *FENCE), calls(0, *SEND, sp=IRQ), is_back(0, sp=IRQ), calls(0, TIME, 0, 5), calls(0, *SEND, sp=IRQ), is_back(0, sp=IRQ), is_back(0, 0, 5), OFF],
+         [BOOT, call(0, *FENCE), "0 ret - -", call(0, *SEND), "0 ret 0 0x0", call(0, TIME, 0, 5), "0 ret 0 0x5", call(0, *SEND), "0 ret 0 0x0", "m end off"]),
+    Play("a task that goes on on another hart", [*TWO, calls(0, *FENCE), calls(0, *SEND, sp=IRQ), is_back(0, sp=IRQ), is_back(1, 0, 3), calls(1, *SEND), is_back(1), OFF],
+         [*TWO_LINES, call(0, *FENCE), "0 ret 0 0x3", call(0, *SEND), "0 ret 0 0x0", call(1, *SEND), "1 ret 0 0x0", "m end off"]),
+    Play("a task that goes on on another hart, right behind a return there",
+         [*TWO, calls(0, *FENCE), calls(0, *SEND, sp=IRQ), is_back(0, sp=IRQ), calls(1, TIME, 0, 8, sp=OTHER), is_back(1, 0, 3), is_back(0, 0, 4, sp=OTHER), OFF],
+         [*TWO_LINES, call(0, *FENCE), "0 ret 0 0x3", call(0, *SEND), "0 ret 0 0x0", call(1, TIME, 0, 8), "1 ret 0 0x4", "m end off"]),
+    Play("two harts that use the same stack's address", [*TWO, calls(0, *FENCE), calls(1, *FENCE), is_back(1, 0, 1), is_back(0, 0, 2), OFF],
+         [*TWO_LINES, call(0, *FENCE), call(1, *FENCE), "1 ret 0 0x1", "0 ret 0 0x2", "m end off"]),
+    Play("a firmware that changes the stack pointer", [enters(0), calls(0, *FENCE), is_back(0, 0, 1, sp=OTHER), OFF], [BOOT, call(0, *FENCE), "0 ret 0 0x1", "m end off"]),
+    Play("a machine that is switched off without a word to gdb", [enters(0), calls(0, SRST, 0, 0), {"ends": "exits"}], [BOOT, call(0, SRST, 0, 0), "m end off"]),
+    Play("a connection that is lost", [enters(0), calls(0, TIME, 0, 5), is_back(0), {"ends": "Remote connection closed"}],
+         [BOOT, call(0, TIME, 0, 5), "0 ret 0 0x0", "m end closed"], 3, ["the connection to QEMU was lost"]),
+    Play("the limit, behind a return", [enters(0), calls(0, TIME, 0, 5), is_back(0), {"waits": 60}],
+         [BOOT, call(0, TIME, 0, 5), "0 ret 0 0x0", "m end limit"], 3, ["the limit of 1 s was over"], words=("--seconds", "1")),
+    Play("the limit, in a call that never returns", [enters(0), calls(0, TIME, 0, 5), {"waits": 60}], [BOOT, call(0, TIME, 0, 5), "m end limit"], 3,
+         ["the limit of 1 s was over", "line 7: 0 ecall 0x54494d45 0x0 0x5 0x0 0x0 0x0 0x0 0x0: not until the record's limit"], words=("--seconds", "1", "--grace", "0.5")),
+    Play("the limit, in a call that returns a little later", [enters(0), calls(0, TIME, 0, 5), {"waits": 4}, is_back(0), calls(0, TIME, 0, 6), {"waits": 60}],
+         [BOOT, call(0, TIME, 0, 5), "0 ret 0 0x0", "m end limit"], 3, ["the limit of 2 s was over"], words=("--seconds", "2")),
+    Play("the limit, in a call that returns after another hart's call began",
+         [*TWO, calls(1, *FENCE), {"waits": 4}, calls(0, TIME, 0, 6), is_back(1), {"waits": 60}],
+         [*TWO_LINES, call(1, *FENCE), "1 ret 0 0x0", "m end limit"], 3, ["the limit of 2 s was over"], words=("--seconds", "2")),
+    Play("a hart that never enters", [enters(0), calls(0, HSM, 0, 1, HANDLER, 9), is_back(0), OFF],
+         [BOOT, call(0, HSM, 0, 1, HANDLER, 9), "0 ret 0 0x0", "m end off"], 3, ["hart 1 never enters, until the record's end"]),
+]  # fmt: skip
+
+
+def recorded(room, play):
+    """What tools/record makes of a play: its run, and the lines without notes and head."""
+    image, stops, out = (os.path.join(room, name) for name in ("image", "play", "out"))
+    write(image, "an image")
+    with open(stops, "w", encoding="ascii") as file:
+        json.dump(play.stops, file)
+    given = os.environ | {"PATH": f"{STAND_IN}:{os.environ.get('PATH', '')}", "STAND_IN_PLAY": stops}
+    words = [os.path.join(ROOT, "tools/record"), "--harts", str(play.harts), "--bios", image, "--out", out, *play.words, image]
+    found = subprocess.run(words, stdin=subprocess.DEVNULL, stdout=subprocess.PIPE, stderr=subprocess.PIPE, timeout=60, env=given)
+    if not os.path.exists(out):
+        return found, []
+    with open(out, encoding="ascii") as file:
+        lines = [line.rstrip("\n") for line in file if not line.startswith(("#", "record "))]
+    return found, lines
+
+
+def is_recorded(room, play):
+    found, lines = recorded(room, play)
+    plain = [" ".join(word for word in line.split(" ") if "=" not in word) for line in lines]
+    said = found.stderr.decode()
+    must(f"status {found.returncode}, lines {plain}, not {play.status}, {play.lines}; it said {said}", plain == play.lines and found.returncode == play.status)
+    must(f"it said {said!r}, not {play.said}", all(text in said for text in play.said) and len(said.splitlines()) == len(play.said))
+    seen_late = plain.count("0 ret - -") + sum("time=" not in line for line in lines if " ret " in line and "- -" not in line)
+    must(f"a return has no notes: {lines}", not seen_late or any(word in play.name for word in ("interrupt", "another hart", "reset before")))
+
+
+def ran(words, status):
+    found = subprocess.run(words, stdin=subprocess.DEVNULL, stdout=subprocess.PIPE, stderr=subprocess.PIPE, timeout=120)
+    must(f"{os.path.basename(words[0])}: status {found.returncode}, not {status}; it said {shown(found.stderr)}", not (status is not None and found.returncode != status))
+    return found
+
+
+class Recorders(Test):
+    def test_recorder__what_is_refused(self):
+        """Nothing is run where an output can't be written; and a run of which nothing came is told."""
+        play = Play("", [enters(0), OFF], [], words=("--out", os.path.join(self.room, "none/there")))
+        for words in (("--out", os.path.join(self.room, "none/there")), ("--console", self.room), ("--harts", "0"), ("--seconds", "0")):
+            play.words = words
+            found, lines = recorded(self.room, play)
+            if found.returncode != 1 or not found.stderr.startswith(b"record: ") or lines or os.path.exists(os.path.join(self.room, "play.ran")):
+                raise AssertionError(f"with {words} status {found.returncode}, and it said {shown(found.stderr)}")
+        found, lines = recorded(self.room, Play("", [{"ends": "no machine"}], []))
+        must(f"of nothing: status {found.returncode}, and it said {shown(found.stderr)}", found.returncode == 1 and b"record: nothing was recorded; gdb said: no machine" in found.stderr and not lines)
+
+    def test_a_fresh_record__interrupts(self):
+        """A supervisor whose timers come right behind returns, built and recorded here and now: no return is lost, and all agree."""
+        for name in ("qemu-system-riscv64", "gdb-multiarch", "riscv64-linux-gnu-gcc", FIRMWARE):
+            if shutil.which(name) is None and not os.path.isfile(name):
+                raise SkipTest(f"{name} is missing")
+        image, out = os.path.join(self.room, "image"), os.path.join(self.room, "out")
+        words = ["riscv64-linux-gnu-gcc", "-nostdlib", "-static", "-Wl,--build-id=none,--no-warn-rwx-segments", "-Wl,-T", os.path.join(ROOT, "examples/kernel/kernel.ld")]
+        ran([*words, "-o", image, os.path.join(RECORDS, "interrupts.S")], 0)
+        found = ran([os.path.join(ROOT, "tools/record"), "--harts", "2", "--seconds", "30", "--grace", "1", "--out", out, image], None)
+        if found.returncode == 3 and b"was over" in found.stderr:
+            raise SkipTest("QEMU is too slow here: the supervisor didn't end in 30 s")
+        must(f"tools/record: status {found.returncode}, and it said {shown(found.stderr)}", not found.returncode)
+        text = read(out)
+        late = re.findall(r"^([01]) ret 0 (0x0|0x1000000)$", text, re.M)
+        must(f"interrupts came right behind {len(late)} returns, and not of both harts; or an answer wasn't seen", {hart for hart, _ in late} == {"0", "1"} and "ret - -" not in text)
+        report = ran([os.path.join(ROOT, "tools/to-trace"), "--report", out], 0).stdout.decode()
+        calls = text.count(" call ")
+        must(f"the report is {report}", report.startswith(f"calls {calls}, entries 2: {calls + 2} agree\n"))
+
+
+for play in PLAYS:
+    add(Recorders, f"recorder: {play.name}", lambda room, play=play: is_recorded(room, play))

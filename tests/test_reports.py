@@ -1,0 +1,364 @@
+"""Tests of the report by the standard: its classes on small records, wrong records that must not pass, and the table of rules."""
+import os
+import random
+import re
+import subprocess
+from collections import Counter
+from itertools import zip_longest
+
+from board_model import ALL, BASE, GONE, HSM, IPI, RFENCE, SRST, TIME, WAITING, Board
+from numbers_here import Numbers
+from records import read as read_record
+from reports import CLASSES, FAULTS, Report
+from rules import RULES, by_this_state, certain
+from standard import BREAKS, FUNCTIONS, LATER, LOWEST, PMU, UNEXPLAINED
+from states import Difference
+from traces import followed
+
+from . import random_records, test_recorder
+from .fixtures import RECORDS, ROOT, TESTER, Test, must, named, ran, script, shown, write
+
+TO_TRACE = os.path.join(ROOT, "tools/to-trace")
+# The small stored records, and the statuses of their reports.
+STORED = [("wrong-answers", 5), ("hangs", 5), ("entries", 5), ("boot-hart", 0), ("newer", 0), ("far-pages", 0), ("interrupted", 0), ("interrupts", 0)]
+
+# ---- wrong records: with each of these a firmware is at fault, and a kernel isn't
+
+BOOT = "record 3\n0 entry 0x80200000 0 0x87e00000\n"
+TWO = BOOT + "0 call 0x48534d 0 1 0x80200100 7 0 0 0\n0 ret 0 0\n1 entry 0x80200100 1 7\n"
+TIMER = "0 call 0x54494d45 0 100 0 0 0 0 0\n"
+# The hart's stop is refused there and not here, so the model knows nothing of it any more.
+LOST = TWO + "1 call 0x48534d 1 0 0 0 0 0 0\n1 ret -1 0\n"
+
+
+def call(eid, fid, *numbers, hart=0):
+    return f"{hart} call " + " ".join(map(str, (eid, fid, *numbers, *[0] * (6 - len(numbers))))) + "\n"
+
+
+def answered(eid, fid, *numbers, ret="0 0", hart=0):
+    return call(eid, fid, *numbers, hart=hart) + f"{hart} ret {ret}\n"
+
+
+WRONG = [
+    # (what is wrong, the record, the class, the line)
+    ("an error of no list", TWO + answered(TIME, 0, 5, ret="-77 0"), "breaks", 6),
+    ("a positive error", TWO + answered(TIME, 0, 5, ret="1 0"), "breaks", 6),
+    ("an error of a later version", TWO + answered(HSM, 0, 2, 0x80200100, ret="-9 0"), "breaks", 6),
+    ("an error of another function", TWO + answered(HSM, 2, 1, ret="-6 0"), "breaks", 6),
+    ("an error of a function of Base", TWO + answered(BASE, 3, 0x4442434E, ret="-2 0"), "breaks", 6),
+    ("an error of no list, of a hart that went on otherwise", LOST + answered(HSM, 2, 1, ret="-77 0"), "breaks", 8),
+    ("a state that isn't one, of a hart that went on otherwise", LOST + answered(HSM, 2, 1, ret="0 7"), "breaks", 8),
+    ("an error of no list, of a suspend", TWO + answered(HSM, 3, 0, ret="-77 0", hart=1), "breaks", 6),
+    ("a version with bit 31", TWO + answered(BASE, 0, ret="0 0x81000000"), "breaks", 6),
+    ("a version 0", TWO + answered(BASE, 0, ret="0 0"), "breaks", 6),
+    ("a version that loosens nothing", BOOT + answered(BASE, 0, ret="0 0xff000000") + answered(TIME, 0, 5, ret="-9 0"), "breaks", 5),
+    ("Base that isn't there by the probe", TWO + answered(BASE, 3, BASE), UNEXPLAINED, 6),
+    ("a function that Base hasn't", TWO + answered(BASE, 7), "breaks", 6),
+    ("a function that IPI hasn't", TWO + answered(IPI, 1, 1), "breaks", 6),
+    ("an extension that nobody has", TWO + answered(0x12345, 0), UNEXPLAINED, 6),
+    ("an extension that is offered, and not there", BOOT + answered(BASE, 3, TIME, ret="0 1") + answered(TIME, 0, 5, ret="-2 0"), "breaks", 5),
+    ("a later extension's positive error", TWO + answered(0x4442434E, 0, ret="5 0"), "breaks", 6),
+    ("a later extension's error of a still later version", TWO + answered(0x4442434E, 0, ret="-14 0"), "breaks", 6),
+    ("an error of Base, by an id that is cut", TWO + answered(1 << 32 | BASE, 0, ret="-6 0"), "breaks", 6),
+    ("a state that isn't one, by an id that is cut", TWO + answered(1 << 63 | HSM, 2, 1, ret="0 7"), "breaks", 6),
+    ("a valid list that is refused", TWO + answered(IPI, 0, 3, ret="-3 0"), "breaks", 6),
+    ("a valid range that is refused", TWO + answered(RFENCE, 1, 1, 0, 0x1000, 0x1000, ret="-5 0"), UNEXPLAINED, 6),
+    ("a hart that isn't there, started", TWO + answered(HSM, 0, 9, 0x80200100), "breaks", 6),
+    ("a hart that isn't there, with a state", TWO + answered(HSM, 2, 9), "breaks", 6),
+    ("an id that is cut", TWO + answered(HSM, 2, 1 << 32), "breaks", 6),
+    ("a started hart, started", TWO + answered(HSM, 0, 1, 0x80200100), "breaks", 6),
+    ("a started hart that is invalid", TWO + answered(HSM, 0, 1, 0x80200100, ret="-3 0"), UNEXPLAINED, 6),
+    ("a stopped hart that isn't available", TWO + answered(HSM, 0, 2, 0x80200100, ret="-6 0"), UNEXPLAINED, 6),
+    ("an error of the timer", TWO + answered(TIME, 0, 5, ret="-3 0"), UNEXPLAINED, 6),
+    ("another state", TWO + answered(HSM, 2, 1, ret="0 1"), UNEXPLAINED, 6),
+    ("a stop that succeeds and returns", TWO + answered(HSM, 1, hart=1), "breaks", 6),
+    ("a non-retentive suspend that succeeds and returns", TWO + answered(HSM, 3, 1 << 31, 0x80200100, hart=1), "breaks", 6),
+    ("a reserved suspend that succeeds", TWO + answered(HSM, 3, 5, hart=1), "breaks", 6),
+    ("a reserved non-retentive suspend", TWO + call(HSM, 3, 0x80000005, 0x80200100, 9, hart=1) + "1 entry 0x80200100 1 9\n", "breaks", 6),
+    ("a suspend that nothing ends", TWO + answered(HSM, 3, 0, hart=1), UNEXPLAINED, 7),
+    ("a reset that succeeds and returns", TWO + answered(SRST, 0, 1), "breaks", 6),
+    ("a reserved type of a reset", TWO + call(SRST, 0, 5) + "0 entry 0x80200000 0 0x87e00000\n", "breaks", 6),
+    ("a reserved reason of a reset", TWO + call(SRST, 0, 1, 5) + "0 entry 0x80200000 0 0x87e00000\n", "breaks", 6),
+    ("a reserved type that is refused by FAILED's neighbour", TWO + answered(SRST, 0, 1, ret="-4 0"), "breaks", 6),
+    ("sstatus.SIE at an entry", TWO.replace("1 entry 0x80200100 1 7", "1 entry 0x80200100 1 7 sstatus=1"), "breaks", 5),
+    ("a call that never returns, by its comment", TWO + TIMER + "# ended: the limit of 60 s\n", "return", 6),
+    ("a call that never returns", TWO + TIMER + "m end limit\n", "return", 6),
+    ("a fence that never returns", TWO + call(RFENCE, 0, 3) + "m end limit\n", "return", 6),
+    ("a call that never returns, of a hart that enters again", TWO + call(IPI, 0, 1, hart=1) + answered(HSM, 0, 1, 0x80200100, 9) + "1 entry 0x80200100 1 9\n", "return", 6),
+    ("a hart that never enters", BOOT + answered(HSM, 0, 1, 0x80200100, 7) + "m end limit\n", "enter", 3),
+    ("a hart that never enters, and the machine is off", BOOT + answered(HSM, 0, 1, 0x80200100, 7) + call(SRST, 0, 0) + "m end off\n", "enter", 3),
+    ("a hart that never enters, at a far page", BOOT + answered(HSM, 0, 1, 0x80a00000, 7) + "m end limit\n", "enter", 3),
+    ("a hart that never enters before a reset", BOOT + answered(HSM, 0, 1, 0x80200100, 7) + "m reset\n0 entry 0x80200000 0 0x87e00000\n", "enter", 3),
+    ("another a0", TWO.replace("1 entry 0x80200100 1 7", "1 entry 0x80200100 0 7"), "otherwise", 5),
+    ("another a1", TWO.replace("1 entry 0x80200100 1 7", "1 entry 0x80200100 1 8"), "otherwise", 5),
+    ("another address", TWO.replace("1 entry 0x80200100 1 7", "1 entry 0x80200104 1 7"), "otherwise", 5),
+    ("an entry that nobody asked for", TWO + "2 entry 0x80200100 2 7\n", "otherwise", 6),
+    ("a second entry for one start", TWO + "1 entry 0x80200100 1 7\n", "otherwise", 6),
+    ("an entry of a hart that went on otherwise, with another a1", LOST + answered(HSM, 0, 1, 0x80200100, 9) + "1 entry 0x80200100 1 8\n", "otherwise", 10),
+    ("a boot hart's other a0", BOOT.replace("0 0x87e00000", "1 0x87e00000"), "otherwise", 2),
+    ("a reboot with another a1", TWO + "m reset\n0 entry 0x80200000 0 0x87e00001\n", "otherwise", 7),
+    ("a resume at another address", TWO + call(HSM, 3, 1 << 31, 0x80200100, 9, hart=1) + "1 entry 0x80200108 1 9\n", "otherwise", 7),
+    ("a resume of the system at another address", BOOT + call(0x53555350, 0, 0, 0x80200100, 9) + "0 entry 0x80200108 0 9\n", "otherwise", 4),
+    ("a return behind a reset", TWO + call(TIME, 0, 5, hart=1) + "m reset\n0 entry 0x80200000 0 0x87e00000\n1 ret 0 0\n", UNEXPLAINED, 9),
+]  # fmt: skip
+
+
+def reported(text, *more):
+    follower, items = followed(read_record(text.encode()), *more)
+    return Report(follower, items)
+
+
+def must_add_up(what, report):
+    total = sum(report.counts.values())
+    must(f"{what}: {report.calls} calls and {report.entries} entries, and the classes are {dict(report.counts)}", total == report.calls + report.entries and report.compared <= total)
+    for kind in FAULTS:
+        must(f"{what}: {kind} is told, and no call or entry has it", not (report.items[kind] and not any(report.counts[other] for other in FAULTS)))
+
+
+# ---- what is told, and is no fault
+
+TOLD = [
+    ("a suspend, a stop and a reset without a return", TWO + call(HSM, 3, 0, hart=1) + call(SRST, 0, 0) + "m end off\n", None, 0),
+    ("a call that is open where the machine is off", TWO + call(RFENCE, 0, 1, hart=1) + call(SRST, 0, 0) + "m end off\n", "unjudged", 6),
+    ("a call that is open at a record's end that says nothing", TWO + TIMER, "unjudged", 6),
+    ("a shutdown that doesn't come", TWO + call(SRST, 0, 0) + "m end limit\n", "unjudged", 6),
+    ("an address beyond the board's RAM that is refused", TWO + answered(HSM, 0, 2, 0x80a00000, ret="-5 0"), "unjudged", 6),
+    ("an answer that wasn't seen", TWO + answered(HSM, 2, 1, ret="- -"), "unjudged", 6),
+    ("a fence whose answer wasn't seen", TWO + answered(RFENCE, 0, 3, ret="- -"), "unjudged", 6),
+    ("a reset that doesn't come", TWO + call(SRST, 0, 1) + answered(TIME, 0, 5, hart=1) + "m end limit\n", "unjudged", 6),
+    ("sie at an entry by start", TWO.replace("1 entry 0x80200100 1 7", "1 entry 0x80200100 1 7 sie=0x2"), "open", 5),
+    ("a value of a function that has none", TWO + answered(TIME, 0, 5, ret="0 5"), "open", 6),
+    ("a value behind an error", TWO + answered(HSM, 2, 9, ret="-3 5"), "open", 6),
+    ("a fence's value", TWO + answered(RFENCE, 0, 3, ret="0 5"), "open", 6),
+    ("a retentive suspend's value", TWO + "0 call 0x735049 0 2 0 0 0 0 0\n0 ret 0 0\n1 call 0x48534d 3 0 0 0 0 0 0 sie=2 sip=2\n1 ret 0 5\n", "open", 8),
+    ("a start that fails", TWO + answered(HSM, 0, 2, 0x80200100, ret="-1 0"), "open", 6),
+    ("a stop that fails", TWO + answered(HSM, 1, hart=1, ret="-1 0"), "open", 6),
+    ("a suspend that isn't there", TWO + answered(HSM, 3, 0, hart=1, ret="-2 0"), "open", 6),
+    ("a platform's suspend", TWO + call(HSM, 3, 0x90000000, 0x80200100, 9, hart=1) + "m end off\n", "open", 6),
+    ("a warm reboot that isn't there", TWO + answered(SRST, 0, 2, ret="-2 0"), "open", 6),
+    ("an extension that isn't offered", BOOT + answered(BASE, 3, TIME) + answered(TIME, 0, 5, ret="-2 0"), "open", 5),
+    ("a strange base", TWO + answered(IPI, 0, 0, 7), "open", 6),
+    ("ids that are cut to 32 bits", TWO + answered(1 << 32 | BASE, 0, ret="0 0x1000000"), "open", 6),
+    ("a hart's life that went on otherwise", LOST + answered(HSM, 2, 1, ret="0 0"), "follows", 8),
+    ("user pages", TWO + answered(0x08000001, 4, 15, 3, ret="-2 0"), "own", 6),
+]  # fmt: skip
+
+# ---- the table of rules
+
+ARGUMENTS = {
+    BASE: [(0,), (3, 0x54494D45), (3, 0x4442434E), (4,)],
+    TIME: [(0, 5)],
+    IPI: [(0, 3, 0), (0, 8, 0), (0, 0, 7), (0, 1, ALL)],
+    RFENCE: [(0, 3, 0), (1, 3, 0, 0x1000, 0x1000), (2, 8, 0), (1, 1, 0, ALL - 1, 5), (3, 1), (6, 1)],
+    HSM: [(0, 0, 0x80000000), (0, 1, 0x80000000), (0, 1, 1), (0, 9, 0x80000000), (0, 1 << 32, 0x80000000), (1,), (2, 0), (2, 9), (2, 1 << 32)]
+    + [(3, kind, 0x80000000) for kind in (0, 5, 0x80000000, 0x80000005, 0x10000000, 0x90000000)] + [(3, 0x80000000, 1)],
+    SRST: [(0, kind, reason) for kind in (0, 1, 2, 5, 0xF0000000) for reason in (0, 5, 0xE0000000)],
+}  # fmt: skip
+ERRORS = [*range(-15, 1), -77, 55]
+
+
+def answers_of(op):
+    """What a record may have of a call."""
+    yield from (("ret", error, value) for error in ERRORS for value in ((0, 9) if error == 0 else (0,)))
+    if op[1] in (HSM, SRST):
+        yield GONE
+    if op[1] in (RFENCE, HSM):
+        yield WAITING
+
+
+def must_have_verdict(op, there):
+    board = Board(3, 4, 100, 0, 0x80000000, 0)
+    board.step(0, ("advance",))
+    here = board.step(0, op)
+    if here == there:
+        return None
+    function = FUNCTIONS[op[1:3]]
+    for is_offered in (True, False):
+        verdict = certain(board, op, op[1:], here, there, (1, 0), is_offered) or by_this_state(board, op, here, there)
+        must(f"{op} -> {there}: {verdict.kind} by {verdict.rule}", verdict.kind in CLASSES and not (verdict.rule and not RULES[verdict.rule].excuses(there)))
+        error = there[1] if there[0] == "ret" else 0
+        is_named = error in (0, *function.errors) or error == -2 and not is_offered or not function.tells and -9 < error < 0
+        must(f"{op} -> {there} is {verdict.kind}, and SBI {function.section} names no such error", not (not is_named and verdict.kind != BREAKS))
+        must(f"{op} -> {there} has no section", not (not verdict.section and verdict.kind != UNEXPLAINED))
+    return verdict
+
+
+# ---- random records
+
+SEEDS = range(5000, 5040)
+
+
+def mutants(lines, any_):
+    """The record with one line wrong, in each way that its lines allow."""
+    rets = [at for at, line in enumerate(lines) if line.split()[1] == "ret"]
+    entries = [at for at, line in enumerate(lines) if line.split()[1] == "entry"]
+    if rets:
+        at = any_.choice(rets)
+        hart, _, _, value, *notes = lines[at].split()
+        yield "an error of no list", replaced(lines, at, " ".join([hart, "ret", "-77", value, *notes]))
+    if entries:
+        at = any_.choice(entries)
+        hart, _, pc, a0, a1, *notes = lines[at].split()
+        yield "another a0", replaced(lines, at, " ".join([hart, "entry", pc, str(int(a0, 0) + 1), a1, *notes]))
+        yield "an entry twice", lines[: at + 1] + lines[at:]
+        if at:
+            yield "another a1", replaced(lines, at, " ".join([hart, "entry", pc, a0, str(int(a1, 0) ^ 1 << 63), *notes]))
+    last = {line.split()[0]: at for at, line in enumerate(lines)}
+    if ends := [at for at in last.values() if at in rets]:
+        at = any_.choice(ends)
+        yield "no last return, and the limit", lines[:at] + lines[at + 1 :] + ["m end limit"]
+
+
+def replaced(lines, at, line):
+    return lines[:at] + [line] + lines[at + 1 :]
+
+
+# ---- ids of harts, and addresses
+
+
+CONDITIONS = [
+    # (what is asked, whether it holds, the line that the trace has)
+    ("never _ ecall RFENCE 0 0xf", True, "never _ ecall 0x52464e43 0 0xf"),
+    ("never _ ecall RFENCE 1 0x2 0", False, "never _ ecall 0x52464e43 1 0x2 0"),
+    ("some _ ecall HSM 3 0x80000000", True, "some _ ecall 0x48534d 3 0x80000000"),
+    ("some _ ecall SRST 0 1", False, "some _ ecall 0x53525354 0 1"),
+    ("each _ ecall TIME -> ret 0", True, "each _ ecall 0x54494d45 -> ret 0"),
+]
+
+
+class Reports(Test):
+    def test_report__wrong_records(self):
+        """Each is told in its class, at its line, and is bad; and so is it by the tool's status."""
+        for what, text, kind, at in WRONG:
+            report = reported(text)
+            must(f"{what}: the report is {list(report.lines())}", report.is_bad and at in [item.at for item in report.items[kind]])
+            must_add_up(what, report)
+        for what, text, _, _ in WRONG[::9]:
+            found = subprocess.run([TO_TRACE, "--report", script(self.room, text.encode())], stdout=subprocess.PIPE, stderr=subprocess.PIPE)
+            must(f"{what}: status {found.returncode}, and it said {shown(found.stderr)}", found.returncode == 5)
+
+    def test_report__what_is_told(self):
+        """Each is told in its class, and isn't bad."""
+        for what, text, kind, at in TOLD:
+            report = reported(text)
+            must(f"{what}: the report is {list(report.lines())}", not report.is_bad and not (kind and at not in [item.at for item in report.items[kind]]))
+            must_add_up(what, report)
+        must("an error of the version that has the extension is no fault", not reported(BOOT + "0 call 0x535441 0 0 0 0 0 0 0\n0 ret -9 0\n", None, (), (1, 0)).is_bad)
+        must("an error that the function's section doesn't name passes by --spec 2.0", reported(BOOT + answered(HSM, 2, 0, ret="-9 0"), None, (), (2, 0)).is_bad)
+        path = script(self.room, (BOOT + answered(PMU, 0, ret="-9 0")).encode())
+        found = [subprocess.run([TO_TRACE, "--report", *words, path], stdout=subprocess.PIPE).returncode for words in ((), ("--spec", "2.0"))]
+        must(f"an error of 2.0 has the statuses {found} without and with --spec 2.0", found == [5, 0])
+
+    def test_report__each_answer_of_each_call(self):
+        """Of each call each answer has a verdict, and the whole is the stored table: an error that the standard's list or the
+        function's section hasn't breaks the standard, and nothing is excused but by a rule that names the answer."""
+        lines = []
+        for eid, arguments in ARGUMENTS.items():
+            for fid, *numbers in arguments:
+                op = ("ecall", eid, fid, *numbers, *[0] * (6 - len(numbers)))
+                answers = {}
+                for there in answers_of(op):
+                    if verdict := must_have_verdict(op, there):
+                        why = f"{verdict.kind} {verdict.section}: {verdict.rule or verdict.sentence}" if verdict.section else verdict.kind
+                        answers.setdefault(why, []).append(f"{there[1]}/{there[2]}" if there[0] == "ret" and there[2] else str(there[1]) if there[0] == "ret" else there[0])
+                lines.append(f"{FUNCTIONS[op[1:3]].name} {' '.join(f'{number:#x}' for number in numbers)}".rstrip())
+                lines += [f"    {', '.join(found)}: {why}" for why, found in answers.items()]
+        with open(os.path.join(RECORDS, "verdicts"), encoding="ascii") as file:
+            for at, (line, stored) in enumerate(zip_longest(lines, file.read().splitlines()), 1):
+                must(f"line {at} of tests/records-data/verdicts is {stored!r}, and the verdict {line!r}", line == stored)
+
+    def test_report__each_rule_is_met(self):
+        """Each rule of the table is one that a record of these tests meets."""
+        texts = [text for _, text, _, _ in WRONG + TOLD]
+        names = [*(name for name, _ in STORED), "kernel", "survey", "u-boot"]
+        texts += [open(os.path.join(RECORDS, f"{name}.record"), encoding="ascii").read() for name in names]
+        met = set()
+        for text in texts:
+            met |= {item.rule for item in followed(read_record(text.encode()))[1] if isinstance(item, Difference)}
+        if unmet := set(RULES) - met:
+            raise AssertionError(f"no record meets the rules {sorted(unmet)}")
+        for eid in LATER:
+            record = TWO + answered(eid, 0, ret="0 1")
+            must(f"a call of {eid:#x} is told otherwise", [item.rule for item in reported(record).items["unjudged"]] == ["their calls"])
+        must("the versions aren't those of --spec", PMU not in LATER and sorted(LOWEST) == [(1, 0), (2, 0), (3, 0)])
+
+    def test_report__random_records_with_one_wrong_line(self):
+        """A record of a right firmware has no fault but harts that have not entered yet; with one line wrong it is bad."""
+        tried = Counter()
+        for seed in SEEDS:
+            head, *lines = random_records.Maker(seed).lines
+            if not lines:
+                continue
+            report = reported("".join(line + "\n" for line in [head, *lines]))
+            must_add_up(f"seed {seed}", report)
+            must(f"seed {seed}: the report is {list(report.lines())}", not any(report.items[kind] for kind in FAULTS if kind != "enter"))
+            for what, mutant in mutants(lines, random.Random(seed)):
+                tried[what] += 1
+                report = reported("".join(line + "\n" for line in [head, *mutant]))
+                must_add_up(f"seed {seed}, {what}", report)
+                must(f"seed {seed}, {what}: the report is {list(report.lines())}", any(report.items[kind] for kind in FAULTS if kind != "enter"))
+        must(f"too little was tried: {tried}", len(tried) >= 5 and min(tried.values()) >= 10)
+
+    def test_ids_of_harts__hart_lists(self):
+        """Of any ids, and any list, the board's list names the same harts; or is refused where a hart isn't there."""
+        for seed in range(300):
+            any_ = random.Random(seed)
+            ids = sorted(any_.sample(range(any_.choice([4, 70, 130, 300])), any_.choice([1, 2, 3, 4])))
+            text = f"record {len(ids)} {' '.join(map(str, ids))}\n{ids[0]} entry 0x80200000 {ids[0]} 0\n"
+            numbers = Numbers(read_record(text.encode()), [], 256)
+            for place, number in enumerate(ids):
+                if (numbers.hart(number), numbers.hart(number | 3 << 40)) != (place, place | 3 << 40) or numbers.hart(301 + number) < len(ids):
+                    raise AssertionError(f"of the ids {ids} hart {number} is {numbers.hart(number)}, and its cut id {numbers.hart(number | 3 << 40):#x}")
+            for _ in range(20):
+                base = any_.choice([*ids, any_.randrange(300)])
+                mask = sum(1 << number - base for number in ids if 0 <= number - base < 64 and any_.random() < 0.6)
+                mask |= any_.choice([0, 0, 1 << any_.randrange(64)])
+                named = [base + i for i in range(64) if mask >> i & 1]
+                here, at = numbers.hart_list(mask, base)
+                got = [at + i for i in range(64) if here >> i & 1]
+                is_valid = base in ids and all(number in ids for number in named)
+                if is_valid != (at < len(ids) and all(number < len(ids) for number in got)) or is_valid and [ids[h] for h in got] != named:
+                    raise AssertionError(f"of the ids {ids} the list {mask:#x} from {base} is {here:#x} from {at}")
+
+    def test_ids_of_harts__without_a_list(self):
+        """Ids without a list: of those who act, those that calls name, and the first that are free."""
+        text, end = "record 4\n1 entry 0x80200000 1 0\n" + answered(IPI, 0, 0xD, 1, hart=1), "8 entry 0x80200000 8 0\n"
+        for record, ids in ((text, [0, 1, 2, 3]), (text + end, [1, 3, 4, 8]), (text.replace("ret 0", "ret -3") + end, [0, 1, 2, 8])):
+            must(f"of {record!r} the ids are {read_record(record.encode()).ids}", read_record(record.encode()).ids == ids)
+
+    def test_addresses__more_pages_than_the_board_has(self):
+        """256 pages have room; of others it is told."""
+        lines = ["record 2", "0 entry 0x80200000 0 0"]
+        for page in range(1, 260):
+            lines += [f"0 call 0x48534d 0 1 {page << 20:#x} {page} 0 0 0", "0 ret 0 0", f"1 entry {page << 20:#x} 1 {page}", "1 call 0x48534d 1 0 0 0 0 0 0"]
+            lines += ["0 call 0x48534d 2 1 0 0 0 0 0", "0 ret 0 1"]
+        report = reported("\n".join(lines) + "\n")
+        said = [line for line in report.lines() if "has no room here" in line]
+        must(f"it said {said}, and {dict(report.counts)}", len(said) == 4 and said[0] == "line 1535: the page at 0x10000000 has no room here" and report.counts["own"] == 4)
+
+    def test_interrupted_returns__the_stored_record(self):
+        """The stored record of interrupts behind returns is the one that the recorder makes of its play."""
+        stops = next(play.stops for play in test_recorder.PLAYS if play.name == "a task that goes on on another hart, right behind a return there")
+        wanted = os.path.join(RECORDS, "interrupted.record")
+        play = test_recorder.Play("", stops, [], harts=2)
+        _, lines = test_recorder.recorded(self.room, play)
+        with open(wanted, encoding="ascii") as file:
+            stored = [line.rstrip("\n") for line in file if not line.startswith(("#", "record "))]
+        must(f"the recorder has {lines}", lines == stored)
+
+    def test_conditions_on_records(self):
+        """Conditions stand in a file or in the record, with names of extensions, and `test` judges the trace by them."""
+        conditions, own = (os.path.join(self.room, name) for name in ("conditions", "own.record"))
+        write(conditions, "# a file of conditions\n" + "".join(f"  #! {text}  # why\n" for text, _, _ in CONDITIONS[1:]))
+        with open(os.path.join(RECORDS, "kernel.record"), encoding="ascii") as kernel, open(own, "w", encoding="ascii") as file:
+            file.write(f"#! {CONDITIONS[0][0]}\n" + kernel.read())
+        found = subprocess.run([TO_TRACE, "--conditions", conditions, own], stdout=subprocess.PIPE, stderr=subprocess.PIPE)
+        must(f"status {found.returncode}, and it said {shown(found.stderr)}", not found.returncode)
+        trace = script(self.room, found.stdout)
+        judged = ran([trace], program=TESTER, cwd=self.room)
+        told = dict(reversed(it) for it in re.findall(r"^(ok|not ok) [0-9]+ - .*: line [0-9]+: (.*)$", judged.stdout.decode(), re.M))
+        if told != {text: "ok" if holds else "not ok" for _, holds, text in CONDITIONS} or judged.returncode != 1:
+            raise AssertionError(f"status {judged.returncode}, and the points are {told}; it said {shown(judged.stderr)}")
+        found = subprocess.run([TO_TRACE, "--conditions", own + "x", own], stdout=subprocess.PIPE, stderr=subprocess.PIPE)
+        empty = subprocess.run([TO_TRACE, "--conditions", os.path.join(RECORDS, "hangs.record"), own], stdout=subprocess.PIPE, stderr=subprocess.PIPE)
+        must(f"a file without conditions passes: {shown(empty.stderr)}", (found.returncode, empty.returncode) == (1, 1) and b"so nothing is asked" in empty.stderr)

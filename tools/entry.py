@@ -1,0 +1,40 @@
+"""How every tool begins and ends: it answers --help, and dies quietly where nobody reads what it writes."""
+import os
+import select
+import signal
+import sys
+
+
+def usage_of(doc):
+    """The usage in a tool's text, for its parser of words."""
+    return doc.partition("usage: ")[2].partition("\n\n")[0]
+
+
+def run(main, doc):
+    """Does the tool's task, and ends with the status that `main` returns or exits with; asked for help it prints its text.
+
+    Where nobody reads on, as behind `| head`, it ends by SIGPIPE like any other command, but only once all is put away.
+    """
+    try:
+        try:
+            if {"-h", "--help"} & set(sys.argv[1:]):
+                print(doc.strip())
+                status = 0
+            else:
+                status = main()
+        except SystemExit as end:
+            status = end.code
+        print(end="", flush=True)
+    except BrokenPipeError:
+        if not (is_unread(1) or is_unread(2)):
+            raise
+        signal.signal(signal.SIGPIPE, signal.SIG_DFL)
+        os.kill(os.getpid(), signal.SIGPIPE)
+    sys.exit(status)
+
+
+def is_unread(to):
+    """Whether a descriptor is a pipe that nobody reads any more."""
+    poll = select.poll()
+    poll.register(to, 0)
+    return any(event & select.POLLERR for _, event in poll.poll(0))
