@@ -41,6 +41,10 @@ FAULTS = [
     ("crates/rows/src/debugging.rt", ", Sv48", "", "wrong: crates/rows/src/debugging.rt doesn't name it, and is listed as a use"),
 ]
 
+# A page on extensions, and a file of bench/ that lists them by their ids, as Rust parts these.
+OF_EXTENSIONS = "# Adding\n\n## An extension that has no state of its own\n\n`low/src/call.rt`\n\n## An extension, or a call, that does something\n\nNo more.\n"
+BY_IDS = "0x48_534D | 0x5246_4E43 | 0x73_5049 | 0x5449_4D45 | 0x5352_5354 => true,\n"
+
 
 def adding(root, *words):
     command = [os.path.join(root, "tools/adding"), *words]
@@ -77,5 +81,9 @@ class Adding(Test):
             status, said = adding(self.room, "mode")
             must(f"{new!r} for {old!r} in {name}: {shown(said)}", status == (wanted is not None) and (wanted or "") in said)
             write(os.path.join(self.room, name), files[name])
+        for name, text in ((PAGE, OF_EXTENSIONS), ("crates/low/src/call.rt", "Srst\n"), ("bench/board.rs", BY_IDS)):
+            os.makedirs(os.path.dirname(os.path.join(self.room, name)), exist_ok=True)
+            write(os.path.join(self.room, name), text)
+        must_have(adding(self.room, "extension")[1], "forgotten: bench/board.rs\n")
         status, said = adding(self.room, "modes")
         must(f"a kind that there isn't: {shown(said)}", status == 1 and "usage" in said)

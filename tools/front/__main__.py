@@ -25,10 +25,10 @@ BAD_SCRIPT, USAGE, BAD_FILE, NO_BUILD = 1, 2, 7, 70
 FAILED_IO, WRONG_KIND = "sbiboard: input or output failed\n", "sbiboard: wrong kind of script\n"
 
 OWN_HELP = """
-A program is proved and built before its first task: that of run, replay and check in about 20 minutes
-on four processors and 26 on two, that of test and explore in 18 more on four. With --try it needs no proof:
+The first task proves and builds its program. For run, replay and check this takes about 20 minutes on
+four processors, 26 on two; for test and explore 18 more on four. --try runs a task without proof:
   ./sbiboard --try test examples/orders/lost-wakeup.program
-Status 70: a program could not be built, or the checked run not be made.
+Status 70: a program could not be built, or the checked run could not be made.
 """
 
 
