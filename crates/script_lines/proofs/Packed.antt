@@ -29,7 +29,7 @@ lines_behind numbers more (first ∷ kept) later all =
     (ap (λ (ls : List Line). line_of first (take count numbers) ∷ ls) (lines_behind (drop count numbers) more kept later (omega (arith, all, length-drop count numbers))))
 
 counts_behind : (kept later : List LineShape) → total_count (kept ++ later) ≡ total_count kept + total_count later
-counts_behind [] later = refl
+counts_behind [] later = omega arith
 counts_behind (first ∷ kept) later = omega (arith, counts_behind kept later)
 
 pub length_lines : (numbers : List ℕ) (kept : List LineShape) → length (lines_of numbers kept) ≡ length kept

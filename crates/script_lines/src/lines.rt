@@ -202,6 +202,7 @@ impl Lines {
     }
 
     /// How many lines there are.
+    #[tactic(auto, using(crate::proofs::Packed::length_lines))]
     pub fn len(&self) -> usize
         ensures { result ≡ length self.now }
     {
@@ -212,7 +213,7 @@ impl Lines {
     pub fn is_empty(&self) -> bool
         ensures { result ≡ (length self.now == 0) }
     {
-        self.kept.is_empty()
+        self.len() == 0
     }
 
     /// The first line, if there is one.
