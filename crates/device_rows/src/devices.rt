@@ -1,7 +1,7 @@
 //! Devices over readers and writers that move a few bytes at a call, or fail.
 
 use crate::failing::{ANSWERS, Answer, Failing};
-use crate::failures::{SCHEDULE, Task};
+use crate::failures::{SCHEDULE, LibraryTask};
 use anyhow::{Result, ensure};
 use monitor::{Failed, Sink};
 use sbiboard::{Device, Outcome, Source};
@@ -74,7 +74,7 @@ fn commented(alloc: Global, length: usize) -> Result<Vec<u8>> {
 /// many bytes are expected. What has no end is too long.
 pub fn show_pieces<R: AllocGlobal + Print>(rt: &R) -> Result<()> {
     let alloc = rt.alloc();
-    let text = Task::Replay.text();
+    let text = LibraryTask::Replay.text();
     for length in [0, 1, 65_000, 65_508, 65_509, 65_510, 65_536, 200_000] {
         let script = commented(alloc, length)?;
         for expected in [0, 1, 62, usize::MAX] {

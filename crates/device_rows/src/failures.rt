@@ -47,7 +47,7 @@ board 1 1 9 0 0x80000000 0x0
 
 /// A task of the library.
 #[derive(Clone, Copy)]
-pub enum Task {
+pub enum LibraryTask {
     /// A schedule is replayed.
     Replay,
     /// A trace is checked.
@@ -56,22 +56,22 @@ pub enum Task {
     Run,
 }
 
-impl Task {
+impl LibraryTask {
     /// A script for it.
     fn script(self) -> &'static [u8] {
         match self {
-            Task::Replay => SCHEDULE,
-            Task::Check => TRACE,
-            Task::Run => PROGRAM,
+            LibraryTask::Replay => SCHEDULE,
+            LibraryTask::Check => TRACE,
+            LibraryTask::Run => PROGRAM,
         }
     }
 
     /// All that it prints.
     pub fn text(self) -> &'static [u8] {
         match self {
-            Task::Replay => REPLAYED,
-            Task::Check => CHECKED,
-            Task::Run => RAN,
+            LibraryTask::Replay => REPLAYED,
+            LibraryTask::Check => CHECKED,
+            LibraryTask::Run => RAN,
         }
     }
 
@@ -86,9 +86,9 @@ impl Task {
         requires writes { O.failures writer.old < 2 ^ 63 }
     {
         match self {
-            Task::Replay => sbiboard::replay(rt.alloc(), reader, writer),
-            Task::Check => sbiboard::check(rt.alloc(), reader, writer),
-            Task::Run => sbiboard::run_script(rt, reader, writer, &Open),
+            LibraryTask::Replay => sbiboard::replay(rt.alloc(), reader, writer),
+            LibraryTask::Check => sbiboard::check(rt.alloc(), reader, writer),
+            LibraryTask::Run => sbiboard::run_script(rt, reader, writer, &Open),
         }
     }
 }
@@ -110,7 +110,7 @@ type Ended = (Outcome, u64, Vec<u8>);
 /// The same of a task that reads three bytes at a call.
 fn run_from<R: AllocGlobal + Threads + Wait + Sync>(
     rt: &R,
-    task: Task,
+    task: LibraryTask,
     behind: Behind,
     at: u64,
     answer: Answer,
@@ -134,7 +134,7 @@ fn run_from<R: AllocGlobal + Threads + Wait + Sync>(
 /// The same of a task that writes three bytes at a call.
 fn run_to<R: AllocGlobal + Threads + Wait + Sync>(
     rt: &R,
-    task: Task,
+    task: LibraryTask,
     behind: Behind,
     at: u64,
     answer: Answer,
@@ -157,7 +157,7 @@ fn run_to<R: AllocGlobal + Threads + Wait + Sync>(
 
 /// How many reads a task makes, each of which failed in turn: nothing is written then, and no more is read. A read of
 /// nothing is the end.
-pub fn check_reads<R: AllocGlobal + Threads + Wait + Sync>(rt: &R, task: Task) -> Result<u64> {
+pub fn check_reads<R: AllocGlobal + Threads + Wait + Sync>(rt: &R, task: LibraryTask) -> Result<u64> {
     let mut reads = 0;
     for behind in BEHIND {
         let (outcome, calls, printed) = run_from(rt, task, behind, u64::MAX, Answer::Moves);
@@ -173,7 +173,7 @@ pub fn check_reads<R: AllocGlobal + Threads + Wait + Sync>(rt: &R, task: Task) -
 
 fn check_read<R: AllocGlobal + Threads + Wait + Sync>(
     rt: &R,
-    task: Task,
+    task: LibraryTask,
     behind: Behind,
     at: u64,
 ) -> Result<()> {
@@ -190,7 +190,7 @@ fn check_read<R: AllocGlobal + Threads + Wait + Sync>(
 
 /// How many writes a task makes, with the flush at the end, each of which failed or took nothing in turn: no call is made
 /// after it. A flush moves no bytes, so it ends well where it answers so.
-pub fn check_writes<R: AllocGlobal + Threads + Wait + Sync>(rt: &R, task: Task) -> Result<u64> {
+pub fn check_writes<R: AllocGlobal + Threads + Wait + Sync>(rt: &R, task: LibraryTask) -> Result<u64> {
     let mut writes = 0;
     for behind in BEHIND {
         let (outcome, last, printed) = run_to(rt, task, behind, u64::MAX, Answer::Moves);
@@ -206,7 +206,7 @@ pub fn check_writes<R: AllocGlobal + Threads + Wait + Sync>(rt: &R, task: Task) 
 
 fn check_write<R: AllocGlobal + Threads + Wait + Sync>(
     rt: &R,
-    task: Task,
+    task: LibraryTask,
     behind: Behind,
     at: u64,
     last: u64,

@@ -8,7 +8,7 @@ mod devices;
 mod failing;
 mod failures;
 
-use crate::failures::Task;
+use crate::failures::LibraryTask;
 use anyhow::Result;
 use std::sync::Wait;
 use std::thread::Threads;
@@ -16,9 +16,9 @@ use std::thread::Threads;
 fn main(rt: HostRuntime) -> Result<()> {
     devices::show_calls(&rt)?;
     devices::show_pieces(&rt)?;
-    show_failures(&rt, Task::Replay, "replay")?;
-    show_failures(&rt, Task::Check, "check")?;
-    show_failures(&rt, Task::Run, "run")?;
+    show_failures(&rt, LibraryTask::Replay, "replay")?;
+    show_failures(&rt, LibraryTask::Check, "check")?;
+    show_failures(&rt, LibraryTask::Run, "run")?;
     cuts::show_cuts(&rt)?;
     cuts::show_lengths(&rt)
 }
@@ -26,7 +26,7 @@ fn main(rt: HostRuntime) -> Result<()> {
 /// Shows how many reads and writes a task makes, each of which failed in turn.
 fn show_failures<R: AllocGlobal + Print + Threads + Wait + Sync>(
     rt: &R,
-    task: Task,
+    task: LibraryTask,
     name: &str,
 ) -> Result<()> {
     let reads = failures::check_reads(rt, task)?;

@@ -5,7 +5,7 @@ use Rattle.std.specs.Option.{is_some}
 use Rattle.std.proofs.lemmas.Bool.{cases_Bool, lt-ltb, le-ltb}
 use Rattle.std.proofs.lemmas.List.{append_assoc, append-nil, length-append, length-map}
 use Rattle.board_terms.specs.Refusals.{first_that_holds}
-use Rattle.guest_script.specs.declared.fault.Fault.TheVariants.{BadNumber, WordCount}
+use Rattle.guest_script.specs.declared.fault.FaultKind.TheVariants.{BadNumber, WordCount}
 use Rattle.board_terms.specs.declared.op.Actor.TheVariants.{Hart}
 use Rattle.guest_script.specs.Words.{last_hart}
 use Rattle.guest_script.specs.Values.{actor_in, arguments_in, is_clock, is_number, number_in}

@@ -9,7 +9,7 @@ use Rattle.std.proofs.lemmas.List.FromFn.{fill_by_all}
 use Rattle.std.proofs.lemmas.Slice.Eq.{bytes_eq-Decides}
 use Rattle.board_terms.specs.declared.config.Config.{Config}
 use Rattle.board_terms.specs.Limits.{first_numbers, numbers_of, usual_asid_len, usual_width}
-use Rattle.guest_script.specs.declared.fault.Fault.TheVariants.{NoBoardLine, WordCount}
+use Rattle.guest_script.specs.declared.fault.FaultKind.TheVariants.{NoBoardLine, WordCount}
 use Rattle.guest_script.specs.Words.{AreNumbers, last_number}
 use Rattle.guest_script.specs.Forms.{AreArguments, number_at}
 use Rattle.guest_script.specs.Grammar.{HasUsualSpaces, IsBoard}

@@ -6,7 +6,7 @@ use Rattle.std.proofs.lemmas.Bool.{cases_Bool, ltb-false, ltb-true}
 use Rattle.std.proofs.lemmas.Option.{same_Some}
 use Rattle.board_terms.specs.declared.config.Config.{Config}
 use Rattle.board_terms.specs.Refusals.{first_that_holds}
-use Rattle.guest_script.specs.declared.fault.Fault.{Fault}
+use Rattle.guest_script.specs.declared.fault.FaultKind.{FaultKind}
 use Rattle.guest_script.specs.declared.fault.ScriptFault.{ScriptFault}
 use Rattle.guest_script.specs.Words.{IsLine, last_number}
 use Rattle.guest_script.specs.Grammar.{AreLines, Draft, IsBoard, Nothing, most_bytes}
@@ -36,11 +36,11 @@ first_before (test ∷ tests) more fault some = elim (cases_Bool test.0) [
 ]
 
 -- a fault of line n says so
-mapped_line : (n : ℕ) (o : Option Fault) (e : ScriptFault) → option_map (λ f. record { line = n; fault = f }) o ≡ Some e → e.line ≡ n
+mapped_line : (n : ℕ) (o : Option FaultKind) (e : ScriptFault) → option_map (λ f. record { line = n; fault = f }) o ≡ Some e → e.line ≡ n
 mapped_line n None e some = absurd cc
 mapped_line n (Some f) e some = sym (ap (λ (s : ScriptFault). s.line) (same_Some _ _ some))
 
-of_line : (n : ℕ) (tests : List (Bool × Fault)) (e : ScriptFault) → first_that_holds (at_line n tests) ≡ Some e → e.line ≡ n
+of_line : (n : ℕ) (tests : List (Bool × FaultKind)) (e : ScriptFault) → first_that_holds (at_line n tests) ≡ Some e → e.line ≡ n
 of_line n tests e some = mapped_line n (first_that_holds tests) e (sym (first_at_line n tests) ∙ some)
 
 some_none : {F : Type 0} {P : Type 0} (o : Option F) (x : F) → o ≡ Some x → o ≡ None → P

@@ -6,8 +6,8 @@ use Rattle.std.specs.Str.Lines.{lines}
 use Rattle.std.proofs.lemmas.Bool.{cases_Bool}
 use Rattle.std.proofs.lemmas.Option.{same_Some}
 use Rattle.board_terms.specs.Refusals.{first_that_holds}
-use Rattle.guest_script.specs.declared.fault.Fault.{Fault}
-use Rattle.guest_script.specs.declared.fault.Fault.TheVariants.{NoMemory, SecondBlock, WordCount}
+use Rattle.guest_script.specs.declared.fault.FaultKind.{FaultKind}
+use Rattle.guest_script.specs.declared.fault.FaultKind.TheVariants.{NoMemory, SecondBlock, WordCount}
 use Rattle.guest_script.specs.declared.fault.ScriptFault.{ScriptFault}
 use Rattle.script_lines.specs.declared.script.Script.{Script}
 use Rattle.guest_script.specs.declared.line_kind.LineKind.{LineKind}
@@ -22,7 +22,7 @@ use Rattle.guest_script.proofs.ScriptLines.{first_fault_answered, read_what_it_r
 
 -- ---- no test's fault is the want of memory
 
-abbrev AreOfBytes : List (Bool × Fault) → Type 0
+abbrev AreOfBytes : List (Bool × FaultKind) → Type 0
 AreOfBytes tests = AllByRecursion (λ test. test.1 ≢ NoMemory) tests
 
 abbrev AreFound : List (Bool × ScriptFault) → Type 0
@@ -40,11 +40,11 @@ named_of_bytes : {A : Type 0} (form_of : List ℕ → Option (Form A)) (words : 
 named_of_bytes form_of [] = ((λ e. cc), tt)
 named_of_bytes form_of (name ∷ words) = form_of_bytes (form_of name) words
 
-of_bytes_both : (tests more : List (Bool × Fault)) → AreOfBytes tests → AreOfBytes more → AreOfBytes (tests ++ more)
+of_bytes_both : (tests more : List (Bool × FaultKind)) → AreOfBytes tests → AreOfBytes more → AreOfBytes (tests ++ more)
 of_bytes_both [] more all later = later
 of_bytes_both (test ∷ tests) more all later = (all.0, of_bytes_both tests more all.1 later)
 
-cond_of_bytes : (b : Bool) (xs ys : List (Bool × Fault)) → AreOfBytes xs → AreOfBytes ys → AreOfBytes (cond b xs ys)
+cond_of_bytes : (b : Bool) (xs ys : List (Bool × FaultKind)) → AreOfBytes xs → AreOfBytes ys → AreOfBytes (cond b xs ys)
 cond_of_bytes true xs ys p q = p
 cond_of_bytes false xs ys p q = q
 
@@ -97,7 +97,7 @@ board_of_bytes : (words : List (List ℕ)) → AreOfBytes (board_tests words)
 board_of_bytes [] = tt
 board_of_bytes (first ∷ words) = ((λ e. cc), ((λ e. cc), arguments_of_bytes false last_number words))
 
-found_on_line : (n : ℕ) (tests : List (Bool × Fault)) → AreOfBytes tests → AreFound (at_line n tests)
+found_on_line : (n : ℕ) (tests : List (Bool × FaultKind)) → AreOfBytes tests → AreFound (at_line n tests)
 found_on_line n [] all = tt
 found_on_line n (test ∷ tests) all = (all.0, found_on_line n tests all.1)
 
@@ -105,7 +105,7 @@ found_both : (tests more : List (Bool × ScriptFault)) → AreFound tests → Ar
 found_both [] more all later = later
 found_both (test ∷ tests) more all later = (all.0, found_both tests more all.1 later)
 
-line_found : (n : ℕ) (text : List ℕ) (tests : List (Bool × Fault)) (more : List (Bool × ScriptFault)) → AreOfBytes tests → AreFound more → AreFound (at_line n (byte_test text ∷ tests) ++ more)
+line_found : (n : ℕ) (text : List ℕ) (tests : List (Bool × FaultKind)) (more : List (Bool × ScriptFault)) → AreOfBytes tests → AreFound more → AreFound (at_line n (byte_test text ∷ tests) ++ more)
 line_found n text tests more all later = found_both (at_line n (byte_test text ∷ tests)) more (found_on_line n (byte_test text ∷ tests) ((λ e. cc), all)) later
 
 lines_found : (n : ℕ) (draft : Draft) (texts : List (List ℕ)) → AreFound (lines_tests n draft texts)

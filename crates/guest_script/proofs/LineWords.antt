@@ -11,17 +11,19 @@ use Rattle.board_terms.specs.declared.op.Actor.TheVariants.{Hart, Clock}
 use Rattle.board_terms.specs.declared.op.Op.{Op}
 use Rattle.board_terms.specs.declared.op.Op.TheVariants.{Advance}
 use Rattle.board_terms.specs.Refusals.{first_that_holds}
-use Rattle.guest_script.specs.declared.fault.Fault.{Fault}
-use Rattle.guest_script.specs.declared.fault.Fault.TheVariants.{BadNumber, OtherKind, SecondBlock, UnknownWord, WordCount}
+use Rattle.guest_script.specs.declared.fault.FaultKind.{FaultKind}
+use Rattle.guest_script.specs.declared.fault.FaultKind.TheVariants.{BadNumber, OtherKind, SecondBlock, UnknownWord, WordCount}
 use Rattle.guest_script.specs.declared.line_kind.LineKind.{LineKind}
 use Rattle.guest_script.specs.declared.line_kind.LineKind.TheVariants.{Head, Step, Operation}
 use Rattle.script_lines.specs.declared.said.Said.{Said}
 use Rattle.script_lines.specs.declared.said.Said.TheVariants.{Done}
+use Rattle.script_lines.specs.declared.script.Doing.{Doing}
+use Rattle.script_lines.specs.declared.script.Doing.TheVariants as doings
 use Rattle.script_lines.specs.declared.script.Line.{Line}
 use Rattle.guest_script.specs.Words.{AreNumbers, IsNumber, Spells, last_hart, last_number}
 use Rattle.guest_script.specs.Forms.{AreArguments, Form, IsArgument, IsNamed, IsRet, IsSaid, form_of, guest_form_of, number_at, said_form_of}
 use Rattle.guest_script.specs.Grammar.{Blocked, Blocks, Draft, Guest, IsActor, IsDoing, IsHead, IsInBlock, IsNext, IsStep, IsStepLine, Nothing, OfClock, OfGuest, Open, Stepped, Traced, clock_of, guests_of, has_block, opened, with_op, with_tick}
-use Rattle.guest_script.specs.Values.{actor_in, after_arrow, arguments_in, before_arrow, begins_actor_line, first_number, has_arrow, in_block, is_arrow, is_at, is_clock, is_clock_head, is_cut, is_filled, is_number, is_ret, is_signed, kind_of, line_in, made_by, named_in, next_in, next_of, number_in, op_in, opened_by, ret_in, said_in, signed_in, step_in, with_step}
+use Rattle.guest_script.specs.Values.{actor_in, after_arrow, arguments_in, before_arrow, begins_actor_line, first_number, has_arrow, in_block, is_arrow, is_at, is_clock, is_clock_head, is_cut, is_filled, is_number, is_ret, is_signed, kind_of, line_in, made_by, named_in, next_in, next_of, number_in, op_in, opened_by, ret_in, said_in, signed_in, doing_in, with_step}
 use Rattle.guest_script.specs.FirstFault.{actor_test, argument_tests, arguments_tests, doing_tests, form_tests, head_tests, in_block_tests, kind_tests, line_tests, may_follow, named_tests, number_tests, ret_tests, said_tests, step_tests}
 use Rattle.guest_script.proofs.ArgumentsIn.{first_argument_fault}
 use Rattle.guest_script.proofs.Spelling.{arguments_as_numbers, arguments_spelled, number_spelled, signed_spelled, spelled_number, spelled_arguments, spelled_signed}
@@ -47,7 +49,7 @@ pub record AreCounted (least most : ℕ) (dash : Bool) (limit : ℕ) (words : Li
   pub not_more : length words ≤ most
   pub are_arguments : AreArguments dash limit words ns
 
-all_from_none : (b : Bool) (fault : Fault) → cond b None (Some fault) ≡ None → b ≡ true
+all_from_none : (b : Bool) (fault : FaultKind) → cond b None (Some fault) ≡ None → b ≡ true
 all_from_none true fault none = refl
 all_from_none false fault none = absurd cc
 
@@ -320,7 +322,7 @@ step_tested first words actor none = record {
   is_op = named_tested form_of Advance words none;
 }
 
-doing_tested : (first : List ℕ) (words : List (List ℕ)) → NoneHolds (doing_tests first words) → IsDoing (first ∷ words) (step_in first words)
+doing_tested : (first : List ℕ) (words : List (List ℕ)) → NoneHolds (doing_tests first words) → IsDoing (first ∷ words) (doing_in first words)
 doing_tested first words none = elim (cases_Bool (is_cut first)) [
   | inl cut ↦
       let filled = none_first (is_filled words, WordCount) [] (rw cut at none) in
@@ -347,7 +349,7 @@ step_line_tested n true first words at none =
     )
 
 -- what a line does passes
-record DoingPasses (words : List (List ℕ)) (step : Option (Actor × Op)) : Type 0 where
+record DoingPasses (words : List (List ℕ)) (doing : Doing) : Type 0 where
   first : List ℕ
   others : List (List ℕ)
   parts : words ≡ first ∷ others
@@ -355,22 +357,22 @@ record DoingPasses (words : List (List ℕ)) (step : Option (Actor × Op)) : Typ
   begins : begins_actor_line first ≡ true
   no_arrow : has_arrow others ≡ false
   none : NoneHolds (doing_tests first others)
-  value : step_in first others ≡ step
+  value : doing_in first others ≡ doing
 
-doing_passes : (words : List (List ℕ)) (step : Option (Actor × Op)) → IsDoing words step → DoingPasses words step
-doing_passes words None is = record { first = codes "cut"; others = []; parts = is; no_head = refl; begins = refl; no_arrow = refl; none = refl; value = refl }
-doing_passes words (Some step) is =
-    let actor = actor_passes is.first step.0 is.is_actor in
-    let op = named_passes form_of Advance is.others step.1 is.is_op in
+doing_passes : (words : List (List ℕ)) (doing : Doing) → IsDoing words doing → DoingPasses words doing
+doing_passes words doings.Cut is = record { first = codes "cut"; others = []; parts = is; no_head = refl; begins = refl; no_arrow = refl; none = refl; value = refl }
+doing_passes words (doings.Step by op) is =
+    let actor = actor_passes is.first by is.is_actor in
+    let named = named_passes form_of Advance is.others op is.is_op in
     record {
       first = is.first;
       others = is.others;
       parts = is.parts;
       no_head = actor.no_head;
       begins = actor.begins;
-      no_arrow = op_no_arrow is.others step.1 is.is_op;
-      none = rw actor.no_cut (none_cons (actor_test is.first) (named_tests form_of is.others) (not_from_true _ actor.good) op.0);
-      value = rw (actor.no_cut, actor.value, op.1) refl;
+      no_arrow = op_no_arrow is.others op is.is_op;
+      none = rw actor.no_cut (none_cons (actor_test is.first) (named_tests form_of is.others) (not_from_true _ actor.good) named.0);
+      value = rw (actor.no_cut, actor.value, named.1) refl;
     }
 
 -- a line that is a step or a cut passes as one
@@ -384,7 +386,7 @@ record StepPasses (n : ℕ) (in_trace : Bool) (words : List (List ℕ)) (line : 
 
 step_line_passes : (n : ℕ) (in_trace : Bool) (words : List (List ℕ)) (line : Line) → IsStepLine n in_trace words line → StepPasses n in_trace words line
 step_line_passes n false words line (number, said, is) =
-    let doing = doing_passes words line.step is in
+    let doing = doing_passes words line.doing is in
     record {
       first = doing.first;
       others = doing.others;
@@ -394,7 +396,7 @@ step_line_passes n false words line (number, said, is) =
       value = rw (doing.value, number, said) refl;
     }
 step_line_passes n true words line (before, after, said, number, has_said, parts, is, is_said) =
-    let doing = doing_passes before line.step is in
+    let doing = doing_passes before line.doing is in
     let told = said_passes after said is_said in
     let split = splits_at doing.others after doing.no_arrow in
     let others = doing.others ++ codes "->" ∷ after in

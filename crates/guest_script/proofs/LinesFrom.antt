@@ -6,8 +6,8 @@ use Rattle.std.proofs.lemmas.Bool.{cases_Bool, lt-ltb, le-ltb}
 use Rattle.std.proofs.lemmas.Option.{same_Some}
 use Rattle.board_terms.specs.declared.config.Config.{Config}
 use Rattle.board_terms.specs.Refusals.{first_that_holds}
-use Rattle.guest_script.specs.declared.fault.Fault.{Fault}
-use Rattle.guest_script.specs.declared.fault.Fault.TheVariants.{NoBoardLine, TooLong}
+use Rattle.guest_script.specs.declared.fault.FaultKind.{FaultKind}
+use Rattle.guest_script.specs.declared.fault.FaultKind.TheVariants.{NoBoardLine, TooLong}
 use Rattle.guest_script.specs.declared.fault.ScriptFault.{ScriptFault}
 use Rattle.guest_script.specs.Grammar.{Draft, Nothing, content_of, most_bytes}
 use Rattle.guest_script.specs.Values.{board_in, draft_in, is_filled, next_in, script_in, words_in}
@@ -30,23 +30,23 @@ tested_fail (test ∷ tests) more value fault some = elim (cases_Bool test.0) [
   | inr fails ↦ rw fails (tested_fail tests more value fault (rw fails at some))
 ]
 
-pub first_at_line : (n : ℕ) (tests : List (Bool × Fault)) → first_that_holds (at_line n tests) ≡ option_map (λ f. record { line = n; fault = f }) (first_that_holds tests)
+pub first_at_line : (n : ℕ) (tests : List (Bool × FaultKind)) → first_that_holds (at_line n tests) ≡ option_map (λ f. record { line = n; fault = f }) (first_that_holds tests)
 first_at_line n [] = refl
 first_at_line n (test ∷ tests) = elim (cases_Bool test.0) [
   | inl holds ↦ rw holds refl
   | inr fails ↦ rw fails (first_at_line n tests)
 ]
 
-located_ok : {A : Type 0} (n : ℕ) (o : Option Fault) (x y : A) → located n (or_fault o x) ≡ Ok y → (o ≡ None) × (x ≡ y)
+located_ok : {A : Type 0} (n : ℕ) (o : Option FaultKind) (x y : A) → located n (or_fault o x) ≡ Ok y → (o ≡ None) × (x ≡ y)
 located_ok n None x y e = (refl, cc)
 located_ok n (Some f) x y e = absurd cc
 
-located_err : {A : Type 0} (n : ℕ) (o : Option Fault) (x : A) (e : ScriptFault) → located n (or_fault o x) ≡ Err e → option_map (λ f. record { line = n; fault = f }) o ≡ Some e
+located_err : {A : Type 0} (n : ℕ) (o : Option FaultKind) (x : A) (e : ScriptFault) → located n (or_fault o x) ≡ Err e → option_map (λ f. record { line = n; fault = f }) o ≡ Some e
 located_err n None x e at = absurd cc
 located_err n (Some f) x e at = cc
 
 -- line n, and the lines after it
-module _ {A B : Type 0} (n : ℕ) (tests : List (Bool × Fault)) (value : A) (more : List (Bool × ScriptFault)) (all : B) where
+module _ {A B : Type 0} (n : ℕ) (tests : List (Bool × FaultKind)) (value : A) (more : List (Bool × ScriptFault)) (all : B) where
   line_good : (found : A) → Ok found ≡ located n (tested tests value) → (tested (at_line n tests ++ more) all ≡ tested more all) × (value ≡ found)
   line_good found at =
       let good = located_ok n (first_that_holds tests) value found (sym at) in

@@ -3,7 +3,7 @@ use Rattle.std.proofs.Common.{◌≡◌, ℕ, ◌+◌, ◌<◌, ◌≤◌, ltb, 
 use Rattle.std.specs.Str.Lines.{lines}
 use Rattle.std.proofs.lemmas.Bool.{cases_Bool, le-ltb, lt-ltb, ltb-false, ltb-true}
 use Rattle.std.proofs.lemmas.List.{append-nil, append_assoc}
-use Rattle.guest_script.specs.declared.fault.Fault.TheVariants.{TooLong}
+use Rattle.guest_script.specs.declared.fault.FaultKind.TheVariants.{TooLong}
 use Rattle.guest_script.specs.declared.fault.ScriptFault.{ScriptFault}
 use Rattle.guest_script.specs.declared.progress.Progress.{Progress}
 use Rattle.guest_script.specs.declared.progress.Stage.TheVariants.{Nothing}

@@ -15,13 +15,15 @@ use Rattle.script_lines.specs.declared.op_name.OpName.TheVariants as names
 use Rattle.script_lines.specs.declared.places.Places.{Places}
 use Rattle.script_lines.specs.declared.said.Said.{Said}
 use Rattle.script_lines.specs.declared.said.Said.TheVariants.{Ret}
+use Rattle.script_lines.specs.declared.said_name.SaidName.TheVariants as saids
+use Rattle.script_lines.specs.declared.script.Doing.TheVariants.{Step}
 use Rattle.guest_script.specs.Words.{last_below, AreNumbers, last_number}
 use Rattle.guest_script.specs.Forms.{AreArguments, argument_at, Form, form_of, guest_form_of, IsNamed}
 use Rattle.script_lines.specs.Names.{is_guests, op_word}
 use Rattle.guest_script.specs.Reading.{IsFormAt, made_from}
 use Rattle.guest_script.specs.Values.{is_numeral}
 use Rattle.guest_script.specs.Inside.Scanning.{digit_after, digits_after, and_digits, numeral_of}
-use Rattle.guest_script.specs.Inside.PlainLines.{behind, BeginsActor, BeginsArgument, BeginsDigits, BeginsGuest, BeginsLine, BeginsName, BeginsNamed, BeginsNumber, BeginsNumbers, BeginsOp, BeginsSaid, BeginsSigned, BeginsWord}
+use Rattle.guest_script.specs.Inside.PlainLines.{behind, BeginsActor, BeginsArgument, BeginsDigits, BeginsGuest, BeginsLine, BeginsName, BeginsNamed, BeginsNumber, BeginsNumbers, BeginsOp, BeginsSaid, BeginsSaidName, BeginsSigned, BeginsWord}
 use Rattle.guest_script.proofs.Named.{op_forms}
 use Rattle.guest_script.proofs.PlainShapes.{some_all}
 use Rattle.guest_script.proofs.LineWords.{length_numbers}
@@ -216,7 +218,7 @@ pub below_begins : (bytes front : List ℕ) (n : ℕ) (rest : List ℕ) → byte
 below_begins bytes front n rest at small (digits, parts, numeral, value) =
     (codes "-" ++ digits, at ∙ ap (λ (b : List ℕ). 45 ∷ b) parts, inr (digits, refl, numeral, omega (arith, small, value), ap (λ (k : ℕ). neg_ℤ (pos k)) value))
 
-pub ret_begins : (before bytes : List ℕ) (error : ℤ) (middle : List ℕ) (value : ℕ) (rest : List ℕ) → before ≡ codes " ret " ++ bytes → BeginsSigned bytes error middle → BeginsNumber middle value rest
+pub ret_begins : (before bytes : List ℕ) (error : ℤ) (middle : List ℕ) (value : ℕ) (rest : List ℕ) → BeginsSaidName before saids.Ret (32 ∷ bytes) → BeginsSigned bytes error middle → BeginsNumber middle value rest
     → BeginsSaid before (Ret error value) rest
 ret_begins before bytes error middle value rest at (word, parts, is_error) (next, more, is_value) = (
   codes "ret" ∷ word ∷ next ∷ [],
@@ -229,7 +231,7 @@ ret_begins before bytes error middle value rest at (word, parts, is_error) (next
 
 pub told_begins : (n : ℕ) (bytes : List ℕ) (actor : Actor) (middle : List ℕ) (op : Op) (rest told : List ℕ) (said : Said) (end after : List ℕ) → BeginsActor bytes actor middle
     → BeginsOp middle op rest → rest ≡ codes " ->" ++ told
-    → BeginsSaid told said end → end ≡ codes "\n" ++ after → BeginsLine n true bytes (record { number = n; step = Some (actor, op); said = Some said }) after
+    → BeginsSaid told said end → end ≡ codes "\n" ++ after → BeginsLine n true bytes (record { number = n; doing = Step actor op; said = Some said }) after
 told_begins n bytes actor middle op rest told said end after (first, parts, is_actor) (words, more, is_op) arrow (replies, last, is_said) at = (
   first,
   words ++ codes "->" ∷ replies,

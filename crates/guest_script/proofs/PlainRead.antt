@@ -10,9 +10,11 @@ use Rattle.std.proofs.lemmas.List.{append_assoc, append-nil}
 use Rattle.board_terms.specs.declared.op.Actor.{Actor}
 use Rattle.board_terms.specs.declared.op.Actor.TheVariants.{Hart, Clock}
 use Rattle.board_terms.specs.Refusals.{first_that_holds}
-use Rattle.guest_script.specs.declared.fault.Fault.{Fault}
+use Rattle.guest_script.specs.declared.fault.FaultKind.{FaultKind}
 use Rattle.guest_script.specs.declared.line_kind.LineKind.TheVariants.{Step}
 use Rattle.script_lines.specs.declared.said.Said.{Said}
+use Rattle.script_lines.specs.declared.script.Doing.{Doing}
+use Rattle.script_lines.specs.declared.script.Doing.TheVariants as doings
 use Rattle.script_lines.specs.declared.script.Line.{Line}
 use Rattle.guest_script.specs.Inside.Drafts.{in_guest, steps_of}
 use Rattle.guest_script.specs.Forms.{Form, form_of, guest_form_of, guest_forms, IsNamed, IsSaid, named, other_forms, said_form_of, said_forms}
@@ -76,9 +78,9 @@ step_plain words actor op step =
       (op_name_plain named.name named.form named.has_form, arguments_plain named.form.may_be_absent named.form.limit named.others named.arguments named.are_arguments),
     )
 
-doing_plain : (words : List (List ℕ)) (step : Option (Actor × Op)) → IsDoing words step → AllByRecursion IsPlain words
-doing_plain words None is = rw is (word_plain (codes "cut") refl, tt)
-doing_plain words (Some step) is = step_plain words step.0 step.1 is
+doing_plain : (words : List (List ℕ)) (doing : Doing) → IsDoing words doing → AllByRecursion IsPlain words
+doing_plain words doings.Cut is = rw is (word_plain (codes "cut") refl, tt)
+doing_plain words (doings.Step actor op) is = step_plain words actor op is
 
 said_name_plain : (name : List ℕ) (form : Form Said) → said_form_of name ≡ Some form → IsPlain name
 unfolding said_form_of
@@ -97,13 +99,13 @@ said_plain words said (inr named) =
     rw named.parts (said_name_plain named.name named.form named.has_form, arguments_plain named.form.may_be_absent named.form.limit named.others named.arguments named.are_arguments)
 
 line_plain : (n : ℕ) (in_trace : Bool) (words : List (List ℕ)) (line : Line) → IsStepLine n in_trace words line → AllByRecursion IsPlain words
-line_plain n false words line (number, said, is) = doing_plain words line.step is
+line_plain n false words line (number, said, is) = doing_plain words line.doing is
 line_plain n true words line (before, after, said, number, has_said, parts, is, is_said) =
-    rw parts (append_all IsPlain before (codes "->" ∷ after) (doing_plain before line.step is) (word_plain (codes "->") refl, said_plain after said is_said))
+    rw parts (append_all IsPlain before (codes "->" ∷ after) (doing_plain before line.doing is) (word_plain (codes "->") refl, said_plain after said is_said))
 
 -- ---- the line is read
 
-located_none : (n : ℕ) (o : Option Fault) (x y : Draft) → o ≡ None → x ≡ y → located n (or_fault o x) ≡ Ok y
+located_none : (n : ℕ) (o : Option FaultKind) (x y : Draft) → o ≡ None → x ≡ y → located n (or_fault o x) ≡ Ok y
 located_none n o x y none value = rw (none, value) refl
 
 read_by : (n : ℕ) (draft : Draft) (text first : List ℕ) (others : List (List ℕ)) (next : Draft) → words_in text ≡ first ∷ others → list_all is_allowed text ≡ true

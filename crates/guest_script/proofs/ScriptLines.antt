@@ -4,7 +4,7 @@ use Rattle.std.specs.Option.{option_map}
 use Rattle.std.specs.Str.Lines.{lines}
 use Rattle.std.proofs.lemmas.Bool.{le-ltb, ltb-false, not-false, not_from_true}
 use Rattle.board_terms.specs.declared.config.Config.{Config}
-use Rattle.guest_script.specs.declared.fault.Fault.{Fault}
+use Rattle.guest_script.specs.declared.fault.FaultKind.{FaultKind}
 use Rattle.guest_script.specs.declared.fault.ScriptFault.{ScriptFault}
 use Rattle.guest_script.specs.Words.{IsLine}
 use Rattle.guest_script.specs.Grammar.{AreLines, AreScript, Draft, IsBoard, Nothing, Reads, Written}
@@ -22,7 +22,7 @@ none_mapped f None none = refl
 none_mapped f (Some x) none = absurd cc
 
 -- what holds of line n, and of the lines after it
-module _ (n : ℕ) (text : List ℕ) (tests : List (Bool × Fault)) (more : List (Bool × ScriptFault)) where
+module _ (n : ℕ) (text : List ℕ) (tests : List (Bool × FaultKind)) (more : List (Bool × ScriptFault)) where
   pub line_tested : NoneHolds (at_line n (byte_test text ∷ tests) ++ more) → IsLine text (words_in text) × NoneHolds tests × NoneHolds more
   line_tested none =
       let parts = none_parts (at_line n (byte_test text ∷ tests)) more none in

@@ -4,8 +4,8 @@ use Rattle.std.specs.List.{list_all}
 use Rattle.std.specs.Str.{bytes_eq}
 use Rattle.std.specs.Str.Lines.{lines}
 use Rattle.board_terms.specs.Refusals.{first_that_holds}
-use Rattle.guest_script.specs.declared.fault.Fault.{Fault}
-use Rattle.guest_script.specs.declared.fault.Fault.TheVariants.{BadByte, NoBoardLine, UnknownWord, BadNumber, WordCount, OtherKind, SecondBlock, TooLong, NoMemory}
+use Rattle.guest_script.specs.declared.fault.FaultKind.{FaultKind}
+use Rattle.guest_script.specs.declared.fault.FaultKind.TheVariants.{BadByte, NoBoardLine, UnknownWord, BadNumber, WordCount, OtherKind, SecondBlock, TooLong, NoMemory}
 use Rattle.guest_script.specs.declared.fault.ScriptFault.{ScriptFault}
 use Rattle.guest_script.specs.declared.line_kind.LineKind.{LineKind}
 use Rattle.guest_script.specs.declared.line_kind.LineKind.TheVariants.{Head, Step, Operation}
@@ -20,7 +20,7 @@ use Rattle.guest_script.specs.Grammar.{Draft, Nothing, Blocked, Stepped, Traced,
 use Rattle.guest_script.specs.Values.{after_arrow, before_arrow, clock_in, first_number, guests_in, is_at, is_clock, is_cut, is_filled, is_number, is_ret, is_signed, kind_of, next_in, words_in}
 
 -- the faults' numbers
-abbrev pub fault_number : Fault → ℕ
+abbrev pub fault_number : FaultKind → ℕ
 fault_number BadByte = 1
 fault_number NoBoardLine = 2
 fault_number UnknownWord = 3
@@ -32,7 +32,7 @@ fault_number TooLong = 8
 fault_number NoMemory = 9
 
 -- the fault that something wrong is
-abbrev pub fault_of : Wrong → Fault
+abbrev pub fault_of : Wrong → FaultKind
 fault_of wrongs.BadByte = BadByte
 fault_of wrongs.NoBoardLine = NoBoardLine
 fault_of wrongs.UnknownOperation = UnknownWord
@@ -60,67 +60,67 @@ abbrev pub is_argument : (may_be_absent : Bool) → (limit : ℕ) → List ℕ �
 is_argument may_be_absent limit word = is_number limit word || (may_be_absent && is_dash word)
 
 -- each word in turn is an argument
-abbrev pub argument_tests : (may_be_absent : Bool) → (limit : ℕ) → List (List ℕ) → List (Bool × Fault)
+abbrev pub argument_tests : (may_be_absent : Bool) → (limit : ℕ) → List (List ℕ) → List (Bool × FaultKind)
 argument_tests may_be_absent limit words = map (λ word. (not (is_argument may_be_absent limit word), BadNumber)) words
 
 -- so many arguments: their count, and then each from left to right
 abbrev pub arguments_tests : (least most : ℕ) → (may_be_absent : Bool) → (limit : ℕ) → List (List ℕ)
-    → List (Bool × Fault)
+    → List (Bool × FaultKind)
 arguments_tests least most may_be_absent limit words =
     (nat_lt (length words) least || nat_lt most (length words), WordCount) ∷ argument_tests may_be_absent limit words
 
 -- the name is known, and its arguments are as it takes them
-abbrev pub form_tests : {A : Type 0} → Option (Form A) → List (List ℕ) → List (Bool × Fault)
+abbrev pub form_tests : {A : Type 0} → Option (Form A) → List (List ℕ) → List (Bool × FaultKind)
 form_tests None words = (true, UnknownWord) ∷ []
 form_tests (Some form) words = arguments_tests form.least form.most form.may_be_absent form.limit words
 
 -- there is a name, and it is known
-abbrev pub named_tests : {A : Type 0} → (List ℕ → Option (Form A)) → List (List ℕ) → List (Bool × Fault)
+abbrev pub named_tests : {A : Type 0} → (List ℕ → Option (Form A)) → List (List ℕ) → List (Bool × FaultKind)
 named_tests form_of [] = (true, WordCount) ∷ []
 named_tests form_of (name ∷ words) = form_tests (form_of name) words
 
 -- one number
-abbrev pub number_tests : List (List ℕ) → List (Bool × Fault)
+abbrev pub number_tests : List (List ℕ) → List (Bool × FaultKind)
 number_tests words = arguments_tests 1 1 false last_number words
 
 -- a signed number and a number
-abbrev pub ret_tests : List (List ℕ) → List (Bool × Fault)
+abbrev pub ret_tests : List (List ℕ) → List (Bool × FaultKind)
 ret_tests (error ∷ value ∷ []) = (not (is_signed error), BadNumber) ∷ (not (is_number last_number value), BadNumber)
     ∷ []
 ret_tests words = (true, WordCount) ∷ []
 
 -- the words of a reply or a refusal: there is one, it is known, and its arguments are as it takes them
-abbrev pub said_tests : List (List ℕ) → List (Bool × Fault)
+abbrev pub said_tests : List (List ℕ) → List (Bool × FaultKind)
 said_tests [] = (true, WordCount) ∷ []
 said_tests (name ∷ words) = if is_ret name then ret_tests words else form_tests (said_form_of name) words
 
 -- ---- the tests of a line
 
 -- `c`, or the number of a hart
-abbrev pub actor_test : List ℕ → Bool × Fault
+abbrev pub actor_test : List ℕ → Bool × FaultKind
 actor_test word = (not (is_clock word || is_number last_hart word), BadNumber)
 
 -- an actor and an operation
-abbrev pub acting_tests : (first : List ℕ) → List (List ℕ) → List (Bool × Fault)
+abbrev pub acting_tests : (first : List ℕ) → List (List ℕ) → List (Bool × FaultKind)
 acting_tests first words = actor_test first ∷ named_tests form_of words
 
 -- the same, or a cut, which has no further word
-abbrev pub doing_tests : (first : List ℕ) → List (List ℕ) → List (Bool × Fault)
+abbrev pub doing_tests : (first : List ℕ) → List (List ℕ) → List (Bool × FaultKind)
 doing_tests first words = if is_cut first then (is_filled words, WordCount) ∷ [] else acting_tests first words
 
 -- what a line does, and in a trace what that gave
-abbrev pub step_tests : (in_trace : Bool) → (first : List ℕ) → List (List ℕ) → List (Bool × Fault)
+abbrev pub step_tests : (in_trace : Bool) → (first : List ℕ) → List (List ℕ) → List (Bool × FaultKind)
 step_tests false first words = doing_tests first words
 step_tests true first words = doing_tests first (before_arrow words) ++ said_tests (after_arrow words)
 
 -- an address that no block has, or the clock's first block
-abbrev pub head_tests : List Guest → (clock : Option (List ℕ)) → (first : List ℕ) → List (List ℕ) → List (Bool × Fault)
+abbrev pub head_tests : List Guest → (clock : Option (List ℕ)) → (first : List ℕ) → List (List ℕ) → List (Bool × FaultKind)
 head_tests guests clock first words =
     if is_at first then number_tests words ++ (has_block guests (first_number words), SecondBlock) ∷ []
     else (is_filled words, WordCount) ∷ (is_some clock, SecondBlock) ∷ []
 
 -- an operation of the open block
-abbrev pub in_block_tests : Open → List (List ℕ) → List (Bool × Fault)
+abbrev pub in_block_tests : Open → List (List ℕ) → List (Bool × FaultKind)
 in_block_tests (OfGuest guest) words = named_tests guest_form_of words
 in_block_tests (OfClock ticks) [] = []
 in_block_tests (OfClock ticks) (name ∷ words) = (not (bytes_eq name (op_word Tick)), UnknownWord) ∷ number_tests words
@@ -136,40 +136,40 @@ may_follow (Stepped lines) kind = false
 may_follow (Traced lines) (Step in_trace) = in_trace
 may_follow (Traced lines) kind = false
 
-abbrev pub operation_tests : Draft → List (List ℕ) → List (Bool × Fault)
+abbrev pub operation_tests : Draft → List (List ℕ) → List (Bool × FaultKind)
 operation_tests (Blocked p) words = in_block_tests p.current words
 operation_tests draft words = []
 
 -- the tests of a line of this kind
-abbrev pub kind_tests : LineKind → Draft → (first : List ℕ) → List (List ℕ) → List (Bool × Fault)
+abbrev pub kind_tests : LineKind → Draft → (first : List ℕ) → List (List ℕ) → List (Bool × FaultKind)
 kind_tests Head draft first words = head_tests (guests_in draft) (clock_in draft) first words
 kind_tests (Step in_trace) draft first words = step_tests in_trace first words
 kind_tests Operation draft first words = operation_tests draft (first ∷ words)
 
 -- a line's kind, and then what it says
-abbrev pub line_tests : Draft → List (List ℕ) → List (Bool × Fault)
+abbrev pub line_tests : Draft → List (List ℕ) → List (Bool × FaultKind)
 line_tests draft [] = []
 line_tests draft (first ∷ words) =
     (not (may_follow draft (kind_of first words)), OtherKind) ∷ kind_tests (kind_of first words) draft first words
 
 -- a board has six numbers or eight, and then each is looked at from left to right
-abbrev pub board_number_tests : List (List ℕ) → List (Bool × Fault)
+abbrev pub board_number_tests : List (List ℕ) → List (Bool × FaultKind)
 board_number_tests words =
     (not ((length words == 6) || (length words == 8)), WordCount) ∷ argument_tests false last_number words
 
 -- the word `board`, and then its numbers
-abbrev pub board_tests : List (List ℕ) → List (Bool × Fault)
+abbrev pub board_tests : List (List ℕ) → List (Bool × FaultKind)
 board_tests [] = []
 board_tests (first ∷ words) = (not (bytes_eq first (codes "board")), NoBoardLine) ∷ board_number_tests words
 
 -- each byte is allowed, also in a comment
-abbrev pub byte_test : List ℕ → Bool × Fault
+abbrev pub byte_test : List ℕ → Bool × FaultKind
 byte_test text = (not (list_all is_allowed text), BadByte)
 
 -- ---- the tests of a script
 
 -- the tests of line n
-abbrev pub at_line : ℕ → List (Bool × Fault) → List (Bool × ScriptFault)
+abbrev pub at_line : ℕ → List (Bool × FaultKind) → List (Bool × ScriptFault)
 at_line n tests = map (λ test. (test.0, record { line = n; fault = test.1 })) tests
 
 -- the tests of the lines from line n on, after the board's

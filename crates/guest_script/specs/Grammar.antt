@@ -10,6 +10,8 @@ use Rattle.board_terms.specs.declared.op.Op.{Op}
 use Rattle.guest_script.specs.declared.reader.TheConstants.{MOST_BYTES}
 use Rattle.script_lines.specs.declared.op_name.OpName.TheVariants.{Tick}
 use Rattle.script_lines.specs.declared.said.Said.{Said}
+use Rattle.script_lines.specs.declared.script.Doing.{Doing}
+use Rattle.script_lines.specs.declared.script.Doing.TheVariants as doings
 use Rattle.script_lines.specs.declared.script.Block.{Block}
 use Rattle.script_lines.specs.declared.script.Body.{Body}
 use Rattle.script_lines.specs.declared.script.Body.TheVariants as bodies
@@ -69,16 +71,16 @@ pub record IsStep (words : List (List ℕ)) (actor : Actor) (op : Op) : Type 0 w
   pub is_op : IsNamed form_of others op
 
 -- What a line does: the word `cut` alone, or a step by an actor.
-abbrev pub IsDoing : List (List ℕ) → Option (Actor × Op) → Type 0
-IsDoing words None = words ≡ codes "cut" ∷ []
-IsDoing words (Some step) = IsStep words step.0 step.1
+abbrev pub IsDoing : List (List ℕ) → Doing → Type 0
+IsDoing words (doings.Step actor op) = IsStep words actor op
+IsDoing words doings.Cut = words ≡ codes "cut" ∷ []
 
 -- Line n: a step or a cut, and in a trace what it gave, behind the first arrow.
 abbrev pub IsStepLine : (n : ℕ) → (in_trace : Bool) → List (List ℕ) → Line → Type 0
-IsStepLine n false words line = (line.number ≡ n) × (line.said ≡ None) × IsDoing words line.step
+IsStepLine n false words line = (line.number ≡ n) × (line.said ≡ None) × IsDoing words line.doing
 IsStepLine n true words line =
     (before after : List (List ℕ)) × (said : Said)
-    × (line.number ≡ n) × (line.said ≡ Some said) × (words ≡ before ++ codes "->" ∷ after) × IsDoing before line.step
+    × (line.number ≡ n) × (line.said ≡ Some said) × (words ≡ before ++ codes "->" ∷ after) × IsDoing before line.doing
     × IsSaid after said
 
 -- a name, and one number behind it

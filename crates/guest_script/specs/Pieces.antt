@@ -2,7 +2,7 @@
 use Rattle.std.specs.Prelude.{◌≡◌, ◌≢◌, ◌⊎◌, ℕ, ◌+◌, nat_lt, if◌then◌else◌, List, [], ◌∷◌, ◌++◌, length, Some, Result, Err, IfErr, IfOk, MatchResult}
 use Rattle.std.specs.Str.Lines.{lines}
 use Rattle.board_terms.specs.declared.config.Config.{Config}
-use Rattle.guest_script.specs.declared.fault.Fault.TheVariants.{NoMemory, TooLong}
+use Rattle.guest_script.specs.declared.fault.FaultKind.TheVariants.{NoMemory, TooLong}
 use Rattle.guest_script.specs.declared.fault.ScriptFault.{ScriptFault}
 use Rattle.script_lines.specs.declared.script.Script.{Script}
 use Rattle.guest_script.specs.FirstFault.{first_fault}

@@ -3,8 +3,8 @@ use Rattle.std.specs.Prelude.{◌≡◌, ◌⊎◌, ℕ, List, ◌∷◌, ◌++�
 use Rattle.std.specs.Str.Lines.{lines}
 use Rattle.board_terms.specs.declared.config.Config.{Config}
 use Rattle.board_terms.specs.Refusals.{first_that_holds}
-use Rattle.guest_script.specs.declared.fault.Fault.{Fault}
-use Rattle.guest_script.specs.declared.fault.Fault.TheVariants.{NoMemory}
+use Rattle.guest_script.specs.declared.fault.FaultKind.{FaultKind}
+use Rattle.guest_script.specs.declared.fault.FaultKind.TheVariants.{NoMemory}
 use Rattle.guest_script.specs.declared.fault.ScriptFault.{ScriptFault}
 use Rattle.guest_script.specs.declared.wrong.Misread.{Misread}
 use Rattle.guest_script.specs.declared.wrong.Unread.{Unread}
@@ -24,7 +24,7 @@ abbrev pub tested : {A F : Type 0} → List (Bool × F) → A → Result A F
 tested tests value = or_fault (first_that_holds tests) value
 
 -- what is answered of a line, without the place of what is wrong
-abbrev pub told : {A : Type 0} → Result A Unread → Result A Fault
+abbrev pub told : {A : Type 0} → Result A Unread → Result A FaultKind
 told (Ok value) = Ok value
 told (Err unread) = Err (fault_of unread.wrong)
 
@@ -44,7 +44,7 @@ GivesOrLacks view (Ok x) read = read ≡ Ok (view x)
 GivesOrLacks view (Err e) read = (e ≡ no_memory) ⊎ (read ≡ Err e)
 
 -- What a function returned, seen by a view, is what is read of a line; or memory was refused.
-abbrev pub GivesOrWants : {X A : Type 0} → (X → A) → Result X Fault → Result A Fault → Type 0
+abbrev pub GivesOrWants : {X A : Type 0} → (X → A) → Result X FaultKind → Result A FaultKind → Type 0
 GivesOrWants view (Ok x) read = read ≡ Ok (view x)
 GivesOrWants view (Err fault) read = (fault ≡ NoMemory) ⊎ (read ≡ Err fault)
 
@@ -64,12 +64,12 @@ made_from otherwise (Some form) ns = form.makes ns
 -- ---- what is read
 
 -- what line n gave, with its number at its fault
-abbrev pub located : {A : Type 0} → ℕ → Result A Fault → Result A ScriptFault
+abbrev pub located : {A : Type 0} → ℕ → Result A FaultKind → Result A ScriptFault
 located n (Ok value) = Ok value
 located n (Err fault) = Err (record { line = n; fault = fault })
 
 -- a fault of line n; the want of memory is of no line
-abbrev pub located_fault : ℕ → Fault → ScriptFault
+abbrev pub located_fault : ℕ → FaultKind → ScriptFault
 located_fault n NoMemory = no_memory
 located_fault n fault = record { line = n; fault = fault }
 

@@ -3,7 +3,7 @@
 use Rattle.std.specs.Prelude.{◌≡◌, ◌↔◌, ◌⊎◌, ℕ, ◌+◌, ◌<◌, ◌≤◌, List, [], ◌∷◌, ◌++◌, length, None}
 use Rattle.std.specs.Str.Lines.{lines}
 use Rattle.board_terms.specs.declared.config.Config.{Config}
-use Rattle.guest_script.specs.declared.fault.Fault.TheVariants.{NoBoardLine, TooLong}
+use Rattle.guest_script.specs.declared.fault.FaultKind.TheVariants.{NoBoardLine, TooLong}
 use Rattle.guest_script.specs.declared.fault.ScriptFault.{ScriptFault}
 use Rattle.guest_script.specs.Words.{IsLine}
 use Rattle.guest_script.specs.Grammar.{AreLines, Draft, IsBoard, Nothing, Reads, Written, most_bytes}

@@ -15,6 +15,8 @@ use Rattle.guest_script.specs.declared.line_kind.LineKind.TheVariants.{Head, Ste
 use Rattle.script_lines.specs.declared.said.Said.{Said}
 use Rattle.script_lines.specs.declared.said.Said.TheVariants.{Ret, Done}
 use Rattle.script_lines.specs.declared.said_name.SaidName.TheVariants as saids
+use Rattle.script_lines.specs.declared.script.Doing.{Doing}
+use Rattle.script_lines.specs.declared.script.Doing.TheVariants as doings
 use Rattle.script_lines.specs.declared.script.Line.{Line}
 use Rattle.script_lines.specs.Names.{said_word}
 use Rattle.guest_script.specs.Words.{is_blank, is_hash, last_above, last_below, last_hart, last_number}
@@ -161,16 +163,16 @@ kind_of first words =
     if is_at first || is_clock_head first then Head else if begins_actor_line first then Step
     (has_arrow words) else Operation
 
--- what a line does: a step, or nothing but a cut
-abbrev pub step_in : (first : List ℕ) → List (List ℕ) → Option (Actor × Op)
-step_in first words = if is_cut first then None else Some (actor_in first, op_in words)
+-- what a line does
+abbrev pub doing_in : (first : List ℕ) → List (List ℕ) → Doing
+doing_in first words = if is_cut first then doings.Cut else doings.Step (actor_in first) (op_in words)
 
 -- line n of a schedule, and of a trace
 abbrev pub line_in : (n : ℕ) → (in_trace : Bool) → (first : List ℕ) → List (List ℕ) → Line
-line_in n false first words = record { number = n; step = step_in first words; said = None }
+line_in n false first words = record { number = n; doing = doing_in first words; said = None }
 line_in n true first words = record {
   number = n;
-  step = step_in first (before_arrow words);
+  doing = doing_in first (before_arrow words);
   said = Some (said_in (after_arrow words));
 }
 
@@ -191,10 +193,6 @@ stepped_in draft = []
 abbrev pub traced_in : Draft → List Line
 traced_in (Traced lines) = lines
 traced_in draft = []
-
--- the lines so far
-abbrev pub lines_in : Draft → List Line
-lines_in draft = stepped_in draft ++ traced_in draft
 
 -- the block that a head opens
 abbrev pub opened_by : (first : List ℕ) → List (List ℕ) → Open

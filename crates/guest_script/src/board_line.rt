@@ -5,7 +5,7 @@ ghost use Rattle.guest_script.specs.Reading.{Gives, tested, told};
 ghost use Rattle.guest_script.specs.Values.{arguments_in, board_in, config_of, words_in};
 ghost use Rattle.guest_script.specs.Words.{last_number};
 
-use crate::fault::Fault;
+use crate::fault::FaultKind;
 use crate::numbers::{MOST_ARGUMENTS, arguments_in};
 use crate::text::is_clean;
 use crate::words::next_word;
@@ -46,7 +46,7 @@ fn board_numbers(text: &[u8]) -> Result<ArrayVec<Option<u64>, MOST_ARGUMENTS>, U
 {
     match arguments_in(text, false, &any_numbers(6, 6)) {
         Err(unread) => match unread.wrong.fault() {
-            Fault::WordCount => arguments_in(text, false, &any_numbers(8, 8)),
+            FaultKind::WordCount => arguments_in(text, false, &any_numbers(8, 8)),
             _ => Err(unread),
         },
         Ok(found) => Ok(found),

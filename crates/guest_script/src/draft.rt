@@ -1,7 +1,7 @@
 //! What the lines so far say, of a script whose kind they decide.
 ghost use Rattle.std.specs.Prelude.{◌≡◌, ◌⊎◌, ◌∷◌, [], ◌++◌, Bool, ℕ, List, true, false, is_some, None, IfOk, OnOk, Err, MatchOption, MatchResult, ◌+◌, ◌<◌, ◌≤◌, length};
 ghost use Rattle.std.specs.Str.Lines.{lines};
-ghost use Rattle.script_lines.specs.Packing.{StepFits};
+ghost use Rattle.script_lines.specs.Packing.{DoingFits};
 ghost use Rattle.guest_script.specs.declared.wrong.Wrong.TheVariants.{NoMemory, SecondBlock};
 ghost use Rattle.guest_script.specs.declared.line_kind.LineKind.TheVariants.{Head, Operation, Step};
 ghost use Rattle.guest_script.specs.Inside.Drafts.{draft_of};
@@ -9,7 +9,7 @@ ghost use Rattle.guest_script.specs.FirstFault.{byte_test, kind_tests, line_test
 ghost use Rattle.guest_script.specs.Grammar.{Blocked, content, content_of, guest_at, has_block, OfClock, opened};
 ghost use Rattle.guest_script.specs.Inside.PlainLines.{BeginsLine};
 ghost use Rattle.guest_script.specs.Reading.{GivesOrLacks, GivesOrWants, GoesOn, line_from, lines_from, plainly, tested, told};
-ghost use Rattle.guest_script.specs.Values.{clock_in, guests_in, lines_in, next_in, next_of, words_in, with_step};
+ghost use Rattle.guest_script.specs.Values.{clock_in, guests_in, next_in, next_of, words_in, with_step};
 
 use crate::blocks::BlocksDraft;
 use crate::line_kind::LineKind;
@@ -38,7 +38,6 @@ impl BodyDraft {
     /// Reads line `n`.
     pub fn read_line(&mut self, alloc: Global, n: u64, text: &[u8]) -> Result<(), Misread>
         requires number { n < MOST_LINES }
-        requires few { length (lines_in (draft_of self.old)) < MOST_LINES }
         ensures { GivesOrLacks (λ _. draft_of self.new) (plainly result) (line_from n (draft_of self.old) text.now) }
     {
         match self.line(alloc, n, text) {
@@ -59,14 +58,12 @@ impl BodyDraft {
     ) -> Result<(u64, &'a [u8]), Misread>
         requires some { 0 < length bytes.now }
         requires number { n + length bytes.now < MOST_LINES }
-        requires few { length (lines_in (draft_of self.old)) ≤ n }
         ensures read { MatchResult (plainly result)
             (λ found. GoesOn n (draft_of self.old) bytes.now found.0 (draft_of self.new) found.1.now)
             (λ e. (e ≡ no_memory)
             ⊎ ((more : List (List ℕ)) → lines_from n (draft_of self.old) (lines bytes.now ++ more) ≡ Err e)) }
         ensures within { IfOk result (λ found. found.0 + length found.1.now ≤ n + length bytes.now) }
         ensures shorter { IfOk result (λ found. length found.1.now < length bytes.now) }
-        ensures few { IfOk result (λ found. length (lines_in (draft_of self.new)) ≤ found.0) }
     {
         let Ok((next, rest)) = self.read_printed(expected, n, bytes) else {
             return Err(NO_MEMORY);
@@ -88,12 +85,10 @@ impl BodyDraft {
         bytes: &'a [u8],
     ) -> Result<(u64, &'a [u8]), AllocError>
         requires number { n + length bytes.now < MOST_LINES }
-        requires few { length (lines_in (draft_of self.old)) ≤ n }
         ensures read { IfOk result
             (λ found. GoesOn n (draft_of self.old) bytes.now found.0 (draft_of self.new) found.1.now) }
         ensures within { IfOk result (λ found. found.0 + length found.1.now ≤ n + length bytes.now) }
         ensures shorter { IfOk result (λ found. length found.1.now ≤ length bytes.now) }
-        ensures few { IfOk result (λ found. length (lines_in (draft_of self.new)) ≤ found.0) }
     {
         match self {
             BodyDraft::Steps(steps) => {
@@ -112,7 +107,6 @@ impl BodyDraft {
     /// One line more, which has bytes that may stand in a script, or doesn't.
     fn line(&mut self, alloc: Global, n: u64, text: &[u8]) -> Result<(), Unread>
         requires number { n < MOST_LINES }
-        requires few { length (lines_in (draft_of self.old)) < MOST_LINES }
         ensures { GivesOrWants (λ _. draft_of self.new) (told result)
             (tested (byte_test text.now ∷ line_tests (draft_of self.old) (words_in text.now))
             (next_in n (draft_of self.old) (words_in text.now))) }
@@ -132,7 +126,6 @@ impl BodyDraft {
     /// Reads the words of line `n`.
     fn words(&mut self, alloc: Global, n: u64, first: &[u8], rest: &[u8]) -> Result<(), Unread>
         requires number { n < MOST_LINES }
-        requires few { length (lines_in (draft_of self.old)) < MOST_LINES }
         ensures { GivesOrWants (λ _. draft_of self.new) (told result)
             (tested (line_tests (draft_of self.old) (first.now ∷ words_in rest.now))
             (next_in n (draft_of self.old) (first.now ∷ words_in rest.now))) }
@@ -239,8 +232,7 @@ impl BodyDraft {
     fn step(&mut self, alloc: Global, in_trace: bool, line: &Line) -> Result<(), AllocError>
         requires kind { may_follow (draft_of self.old) (Step in_trace) ≡ true }
         requires number { line.now.number < MOST_LINES }
-        requires actor { StepFits line.now.step }
-        requires few { length (lines_in (draft_of self.old)) < MOST_LINES }
+        requires actor { DoingFits line.now.doing }
         ensures { OnOk result (draft_of self.new ≡ with_step in_trace (draft_of self.old) line.now) }
     {
         match self {

@@ -6,7 +6,7 @@ use thiserror::Error;
 
 /// What is wrong with a line, or with the whole script (profile).
 #[derive(Clone, Copy, Debug, PartialEq, Eq, Error)]
-pub enum Fault {
+pub enum FaultKind {
     /// A byte that is neither printable ASCII nor a tab.
     #[error("a byte that is neither printable ASCII nor a tab")]
     BadByte,
@@ -36,21 +36,21 @@ pub enum Fault {
     NoMemory,
 }
 
-impl Fault {
+impl FaultKind {
     /// The fault's number (profile).
     pub fn number(self) -> u64
         ensures { result ≡ fault_number self }
     {
         match self {
-            Fault::BadByte => 1,
-            Fault::NoBoardLine => 2,
-            Fault::UnknownWord => 3,
-            Fault::BadNumber => 4,
-            Fault::WordCount => 5,
-            Fault::OtherKind => 6,
-            Fault::SecondBlock => 7,
-            Fault::TooLong => 8,
-            Fault::NoMemory => 9,
+            FaultKind::BadByte => 1,
+            FaultKind::NoBoardLine => 2,
+            FaultKind::UnknownWord => 3,
+            FaultKind::BadNumber => 4,
+            FaultKind::WordCount => 5,
+            FaultKind::OtherKind => 6,
+            FaultKind::SecondBlock => 7,
+            FaultKind::TooLong => 8,
+            FaultKind::NoMemory => 9,
         }
     }
 }
@@ -62,7 +62,7 @@ pub struct ScriptFault {
     /// The line.
     pub line: u64,
     /// What is wrong.
-    pub fault: Fault,
+    pub fault: FaultKind,
 }
 
 impl ScriptFault {

@@ -18,12 +18,12 @@ mod text;
 mod words;
 mod wrong;
 
-pub use fault::{Fault, ScriptFault};
+pub use fault::{FaultKind, ScriptFault};
 pub use laws::{faults_are_first, one_reading};
 pub use number::{number as unsigned_number, signed_number};
 pub use parsing::{locate, parse};
 pub use reader::Reader;
-pub use script_lines::{Block, Body, KeptLine, Line, LineFault, Lines, LinesIter, Said, Script};
+pub use script_lines::{Doing, Block, Body, KeptLine, Line, LineFault, Lines, LinesIter, Said, Script};
 pub use text::without_return;
 pub use words::next_word;
 pub use wrong::{Misread, Wrong};

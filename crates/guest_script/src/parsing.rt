@@ -5,7 +5,7 @@ ghost use Rattle.guest_script.specs.FirstFault.{first_fault};
 ghost use Rattle.guest_script.specs.Pieces.{IsAnswered};
 ghost use Rattle.guest_script.specs.Reading.{plainly};
 
-use crate::fault::{Fault, ScriptFault};
+use crate::fault::{FaultKind, ScriptFault};
 use crate::reader::Reader;
 use crate::wrong::Misread;
 use script_lines::Script;
@@ -17,10 +17,10 @@ pub fn parse(alloc: Global, bytes: &[u8]) -> Result<Script, ScriptFault>
     ensures script { IfOk result (λ script. Reads bytes.now (written script)) }
     // Bytes that are a script are read as that one, unless memory runs out.
     ensures only { (s : Written) → Reads bytes.now s
-        → MatchResult result (λ script. written script ≡ s) (λ e. e.fault ≡ Fault.NoMemory) }
+        → MatchResult result (λ script. written script ≡ s) (λ e. e.fault ≡ FaultKind.NoMemory) }
     // Any other fault is the first one.
-    ensures fault { IfErr result (λ e. e.fault ≢ Fault.NoMemory → first_fault bytes.now ≡ Some e) }
-    ensures memory { IfErr result (λ e. e.fault ≡ Fault.NoMemory → e.line ≡ 0) }
+    ensures fault { IfErr result (λ e. e.fault ≢ FaultKind.NoMemory → first_fault bytes.now ≡ Some e) }
+    ensures memory { IfErr result (λ e. e.fault ≡ FaultKind.NoMemory → e.line ≡ 0) }
 {
     Reader::expecting(bytes.len()).end(alloc, bytes)
 }

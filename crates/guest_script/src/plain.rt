@@ -1,5 +1,5 @@
 //! Lines that stand in the form in which steps are printed, each read in one pass.
-ghost use Rattle.std.specs.Prelude.{◌≡◌, ◌≢◌, ◌+◌, ◌≤◌, ◌<◌, ◌++◌, ◌^◌, ◌∷◌, [], ℕ, List, Option, None, Some, codes, IfOk, IfSome, MatchOption, length};
+ghost use Rattle.std.specs.Prelude.{◌≡◌, ◌≢◌, ◌+◌, ◌≤◌, ◌<◌, ◌++◌, ◌^◌, ◌∷◌, [], ℕ, List, Option, None, Some, IfOk, IfSome, MatchOption, length};
 ghost use Rattle.board_terms.specs.declared.op.Op.{Op};
 ghost use Rattle.board_terms.specs.declared.op.Op.TheVariants.{Sfence};
 ghost use Rattle.script_lines.specs.declared.script.Line.{Line};
@@ -31,13 +31,11 @@ pub fn read_plain_lines<'a>(
     bytes: &'a [u8],
 ) -> Result<(u64, &'a [u8]), AllocError>
     requires number { first + length bytes.now < MOST_LINES }
-    requires few { length steps.old ≤ first }
     ensures read { IfOk result
         (λ found. GoesOn first (steps_of in_trace steps.old) bytes.now found.0
         (steps_of in_trace steps.new) found.1.now) }
     ensures within { IfOk result (λ found. found.0 + length found.1.now ≤ first + length bytes.now) }
     ensures shorter { IfOk result (λ found. length found.1.now ≤ length bytes.now) }
-    ensures few { IfOk result (λ found. length steps.new ≤ found.0) }
 {
     let mut number = first;
     let mut rest = bytes;
@@ -61,8 +59,7 @@ fn read_plain_line<'a>(
     in_trace: bool,
     bytes: &'a [u8],
 ) -> Result<Option<&'a [u8]>, AllocError>
-    requires number { n < MOST_LINES }
-    requires few { length lines.old < MOST_LINES }
+    requires { n < MOST_LINES }
     ensures { IfOk result (λ found. MatchOption found (lines.new ≡ lines.old)
         (λ after. (line : Line) × BeginsLine n in_trace bytes.now line after.now × (lines.new ≡ lines.old ++ line ∷ [])
         × (length after.now < length bytes.now))) }
@@ -507,16 +504,16 @@ fn plain_said(bytes: &[u8]) -> Option<(Said, &[u8])>
     ensures said { IfSome result (λ found. BeginsSaid bytes.now found.0 found.1.now) }
     ensures shorter { IfSome result (λ found. length found.1.now ≤ length bytes.now) }
 {
-    match after(bytes, b" ret ") {
-        Some(rest) => plain_ret(rest),
-        None => plain_named_said(bytes),
+    match after_said(SaidName::Ret, bytes) {
+        Some([b' ', rest @ ..]) => plain_ret(rest),
+        _ => plain_named_said(bytes),
     }
 }
 
 /// The error and the value behind `ret`.
 #[inline(always)]
 fn plain_ret(bytes: &[u8]) -> Option<(Said, &[u8])>
-    ensures said { (before : List ℕ) → before ≡ codes " ret " ++ bytes.now
+    ensures said { (before : List ℕ) → BeginsSaidName before SaidName.Ret (32 ∷ bytes.now)
         → IfSome result (λ found. BeginsSaid before found.0 found.1.now) }
     ensures shorter { IfSome result (λ found. length found.1.now ≤ length bytes.now) }
 {

@@ -3,12 +3,12 @@ ghost use Rattle.std.specs.Prelude.{◌≡◌, ◌+◌, ◌<◌, ◌≤◌, ◌+
 ghost use Rattle.std.specs.Str.Lines.{lines};
 ghost use Rattle.guest_script.specs.Inside.Drafts.{draft_of};
 ghost use Rattle.guest_script.specs.Grammar.{written};
-ghost use Rattle.guest_script.specs.Inside.Progress.{lines_of_stage, lines_so_far, script_after, stage_after};
+ghost use Rattle.guest_script.specs.Inside.Progress.{script_after, stage_after};
 ghost use Rattle.guest_script.specs.Reading.{GivesOrLacks, plainly, script_from, with_config};
 
 use crate::board_line::board_words;
 use crate::draft::BodyDraft;
-use crate::fault::Fault;
+use crate::fault::FaultKind;
 use crate::text::next_line;
 use crate::wrong::{Misread, NO_MEMORY, Wrong, column};
 use board_terms::Config;
@@ -52,12 +52,10 @@ impl Progress {
         expected: usize,
         bytes: &[u8],
     ) -> Result<(), AllocError>
-        requires number { self.old.next + length bytes.now < MOST_LINES }
-        requires few { length (lines_so_far self.old) ≤ self.old.next }
+        requires { self.old.next + length bytes.now < MOST_LINES }
         ensures read { OnOk result
             ((more : List (List ℕ)) → script_after self.old (lines bytes.now ++ more) ≡ script_after self.new more) }
         ensures within { OnOk result (self.new.next ≤ self.old.next + length bytes.now) }
-        ensures few { OnOk result (length (lines_so_far self.new) ≤ self.new.next) }
     {
         let mut rest = bytes;
         while !rest.is_empty() {
@@ -76,13 +74,11 @@ impl Progress {
     ) -> Result<&'a [u8], AllocError>
         requires some { 0 < length bytes.now }
         requires number { self.old.next + length bytes.now < MOST_LINES }
-        requires few { length (lines_so_far self.old) ≤ self.old.next }
         ensures read { IfOk result
             (λ rest. (more : List (List ℕ))
             → script_after self.old (lines bytes.now ++ more) ≡ script_after self.new (lines rest.now ++ more)) }
         ensures within { IfOk result (λ rest. self.new.next + length rest.now ≤ self.old.next + length bytes.now) }
         ensures shorter { IfOk result (λ rest. length rest.now < length bytes.now) }
-        ensures few { OnOk result (length (lines_so_far self.new) ≤ self.new.next) }
     {
         match &mut self.stage {
             Stage::Nothing => {
@@ -98,7 +94,7 @@ impl Progress {
                         Ok(rest)
                     }
                     Err(misread) => match misread.wrong.fault() {
-                        Fault::NoMemory => Err(AllocError),
+                        FaultKind::NoMemory => Err(AllocError),
                         _ => {
                             self.stage = Stage::Faulty(misread);
                             Ok(&bytes[bytes.len()..])
@@ -129,8 +125,7 @@ impl Progress {
 
 /// What line `n` says, which is the board's if it has words.
 fn first_stage(n: u64, text: &[u8]) -> Stage
-    ensures read { (others : List (List ℕ)) → script_from n (text.now ∷ others) ≡ stage_after result (n + 1) others }
-    ensures none { lines_of_stage result ≡ [] }
+    ensures { (others : List (List ℕ)) → script_from n (text.now ∷ others) ≡ stage_after result (n + 1) others }
 {
     match board_words(text) {
         Ok(None) => Stage::Nothing,

@@ -3,7 +3,7 @@ ghost use Rattle.std.specs.Prelude.{◌≡◌, ◌+◌, ◌≤◌, ◌++◌, [],
 ghost use Rattle.guest_script.specs.Grammar.{most_bytes};
 ghost use Rattle.guest_script.specs.Pieces.{AreWhole, HasRead, IsAnswered, Part};
 ghost use Rattle.guest_script.specs.Reading.{plainly};
-ghost use Rattle.guest_script.specs.Inside.Progress.{grown, lines_so_far, part_of};
+ghost use Rattle.guest_script.specs.Inside.Progress.{grown, part_of};
 
 use crate::fault::ScriptFault;
 use crate::progress::{Progress, Stage};
@@ -28,8 +28,7 @@ impl Model for Reader {
 
     ghost view = { λ r. part_of r.size r.progress };
 
-    ghost invariant = { λ r. (r.size ≤ most_bytes + 1) × (r.progress.next ≤ r.size + 1)
-        × (length (lines_so_far r.progress) ≤ r.progress.next) };
+    ghost invariant = { λ r. (r.size ≤ most_bytes + 1) × (r.progress.next ≤ r.size + 1) };
 }
 
 impl Reader {

@@ -1,26 +1,27 @@
 //! The lines of schedules and traces, word by word.
 ghost use Rattle.std.specs.Prelude.{◌≡◌, ◌∷◌, [], true, false, IfOk, MatchOption, None, Some};
-ghost use Rattle.script_lines.specs.Packing.{FitsKept, StepFits};
+ghost use Rattle.script_lines.specs.Packing.{DoingFits, FitsKept};
 ghost use Rattle.board_terms.specs.declared.op.Op.TheVariants.{Advance};
 ghost use Rattle.script_lines.specs.declared.said.Said.TheVariants.{Done};
+ghost use Rattle.script_lines.specs.declared.script.Doing.TheVariants.{Step};
 ghost use Rattle.guest_script.specs.Forms.{form_of, guest_form_of, op_form, said_form, said_form_of};
 ghost use Rattle.guest_script.specs.FirstFault.{acting_tests, actor_test, doing_tests, form_tests, named_tests, number_tests, ret_tests, said_tests, step_tests};
 ghost use Rattle.guest_script.specs.Reading.{tested, told};
 ghost use Rattle.guest_script.specs.Inside.Scanning.{words_until};
 ghost use Rattle.guest_script.specs.declared.wrong.Wrong.TheVariants.{UnknownOperation, WordMissing};
-ghost use Rattle.guest_script.specs.Values.{actor_in, after_arrow, before_arrow, first_number, line_in, made_by, named_in, op_in, ret_in, said_in, step_in, words_in};
+ghost use Rattle.guest_script.specs.Values.{doing_in, actor_in, after_arrow, before_arrow, first_number, line_in, made_by, named_in, op_in, ret_in, said_in, words_in};
 
 use crate::number::{number, signed_number};
 use crate::numbers::arguments_in;
 use crate::words::{after_arrow, next_word, next_word_until};
 use crate::wrong::{Unread, Wrong, from_next, from_word};
 use board_terms::{Actor, Op};
-use script_lines::{LAST_HART, Line, OpName, Said, SaidName, any_numbers, number_at};
+use script_lines::{Doing, LAST_HART, Line, OpName, Said, SaidName, any_numbers, number_at};
 
-/// Line `n`: the actor that the first word is, and its operation, or a cut; and in a trace what that gave.
+/// Line `n`: what it does, by its first word and the rest; and in a trace what that gave.
 pub fn step_line(n: u64, in_trace: bool, first: &[u8], rest: &[u8]) -> Result<Line, Unread>
     ensures number { IfOk result (λ line. line.number ≡ n) }
-    ensures actor { IfOk result (λ line. StepFits line.step) }
+    ensures actor { IfOk result (λ line. DoingFits line.doing) }
     ensures read { told result
         ≡ tested (step_tests in_trace first.now (words_in rest.now))
         (line_in n in_trace first.now (words_in rest.now)) }
@@ -35,14 +36,14 @@ pub fn step_line(n: u64, in_trace: bool, first: &[u8], rest: &[u8]) -> Result<Li
 /// A schedule's line, whose first word this is, and the rest behind it.
 fn schedule_line(n: u64, first: &[u8], rest: &[u8]) -> Result<Line, Unread>
     ensures number { IfOk result (λ line. line.number ≡ n) }
-    ensures actor { IfOk result (λ line. StepFits line.step) }
+    ensures actor { IfOk result (λ line. DoingFits line.doing) }
     ensures read { told result
         ≡ tested (step_tests false first.now (words_in rest.now)) (line_in n false first.now (words_in rest.now)) }
 {
-    let step = doing(first, rest, false)?;
+    let doing = doing(first, rest, false)?;
     Ok(Line {
         number: n,
-        step,
+        doing,
         said: None,
     })
 }
@@ -50,59 +51,59 @@ fn schedule_line(n: u64, first: &[u8], rest: &[u8]) -> Result<Line, Unread>
 /// A trace's line, whose first word this is, and the rest behind it.
 fn trace_line(n: u64, first: &[u8], rest: &[u8]) -> Result<Line, Unread>
     ensures number { IfOk result (λ line. line.number ≡ n) }
-    ensures actor { IfOk result (λ line. StepFits line.step) }
+    ensures actor { IfOk result (λ line. DoingFits line.doing) }
     ensures read { told result
         ≡ tested (step_tests true first.now (words_in rest.now)) (line_in n true first.now (words_in rest.now)) }
 {
-    let told = told_step(first, rest)?;
+    let told = told_doing(first, rest)?;
     Ok(Line {
         number: n,
-        step: told.0,
+        doing: told.0,
         said: Some(told.1),
     })
 }
 
 /// What the words before the first arrow do, and what those after it say.
-fn told_step(first: &[u8], rest: &[u8]) -> Result<(Option<(Actor, Op)>, Said), Unread>
-    ensures actor { IfOk result (λ told. StepFits told.0) }
+fn told_doing(first: &[u8], rest: &[u8]) -> Result<(Doing, Said), Unread>
+    ensures actor { IfOk result (λ told. DoingFits told.0) }
     ensures read { told result
         ≡ tested (step_tests true first.now (words_in rest.now))
-        (step_in first.now (before_arrow (words_in rest.now)), said_in (after_arrow (words_in rest.now))) }
+        (doing_in first.now (before_arrow (words_in rest.now)), said_in (after_arrow (words_in rest.now))) }
 {
-    let step = doing(first, rest, true)?;
+    let doing = doing(first, rest, true)?;
     let said = said(after_arrow(rest))?;
-    Ok((step, said))
+    Ok((doing, said))
 }
 
-/// What a line does whose first word this is: nothing but a cut, or an actor's operation. Words may end at the first arrow.
-fn doing(first: &[u8], rest: &[u8], until_arrow: bool) -> Result<Option<(Actor, Op)>, Unread>
-    ensures actor { IfOk result (λ step. StepFits step) }
+/// What a line does whose first word this is: a cut, or an actor's step. Words may end at the first arrow.
+fn doing(first: &[u8], rest: &[u8], until_arrow: bool) -> Result<Doing, Unread>
+    ensures actor { IfOk result (λ doing. DoingFits doing) }
     ensures read { told result
         ≡ tested (doing_tests first.now (words_until until_arrow (words_in rest.now)))
-        (step_in first.now (words_until until_arrow (words_in rest.now))) }
+        (doing_in first.now (words_until until_arrow (words_in rest.now))) }
 {
     if first != b"cut".as_slice() {
-        acting(first, rest, until_arrow)
+        step(first, rest, until_arrow)
     } else if let Some((extra, after)) = next_word_until(rest, until_arrow) {
         Err(Unread {
             left: from_word(extra, after),
             wrong: Wrong::WordTooMany,
         })
     } else {
-        Ok(None)
+        Ok(Doing::Cut)
     }
 }
 
-/// The actor that the first word is, and its operation.
-fn acting(first: &[u8], rest: &[u8], until_arrow: bool) -> Result<Option<(Actor, Op)>, Unread>
-    ensures actor { IfOk result (λ step. StepFits step) }
+/// The step of the actor that the first word is.
+fn step(first: &[u8], rest: &[u8], until_arrow: bool) -> Result<Doing, Unread>
+    ensures actor { IfOk result (λ doing. DoingFits doing) }
     ensures read { told result
         ≡ tested (acting_tests first.now (words_until until_arrow (words_in rest.now)))
-        (Some (actor_in first.now, op_in (words_until until_arrow (words_in rest.now)))) }
+        (Step (actor_in first.now) (op_in (words_until until_arrow (words_in rest.now)))) }
 {
     let actor = actor(first, from_word(first, rest))?;
     let op = op(rest, until_arrow)?;
-    Ok(Some((actor, op)))
+    Ok(Doing::Step { actor, op })
 }
 
 /// The actor that a word names, from which on there are so many bytes.

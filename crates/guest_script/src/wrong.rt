@@ -4,7 +4,7 @@ ghost use Rattle.guest_script.specs.FirstFault.{fault_of, script_fault};
 ghost use Rattle.guest_script.specs.Reading.{located_fault};
 ghost use Rattle.guest_script.specs.declared.wrong.Wrong.TheVariants.{NoMemory};
 
-use crate::fault::{Fault, ScriptFault};
+use crate::fault::{FaultKind, ScriptFault};
 use crate::text::is_allowed;
 use crate::words::next_word;
 use std::alloc::{AllocError, AllocFailed};
@@ -38,19 +38,19 @@ pub enum Wrong {
 
 impl Wrong {
     /// The fault that it is (profile).
-    pub fn fault(self) -> Fault
+    pub fn fault(self) -> FaultKind
         ensures { result ≡ fault_of self }
     {
         match self {
-            Wrong::BadByte => Fault::BadByte,
-            Wrong::NoBoardLine => Fault::NoBoardLine,
-            Wrong::UnknownOperation | Wrong::UnknownReply => Fault::UnknownWord,
-            Wrong::BadNumber => Fault::BadNumber,
-            Wrong::WordMissing | Wrong::WordTooMany => Fault::WordCount,
-            Wrong::OtherKind => Fault::OtherKind,
-            Wrong::SecondBlock => Fault::SecondBlock,
-            Wrong::TooLong => Fault::TooLong,
-            Wrong::NoMemory => Fault::NoMemory,
+            Wrong::BadByte => FaultKind::BadByte,
+            Wrong::NoBoardLine => FaultKind::NoBoardLine,
+            Wrong::UnknownOperation | Wrong::UnknownReply => FaultKind::UnknownWord,
+            Wrong::BadNumber => FaultKind::BadNumber,
+            Wrong::WordMissing | Wrong::WordTooMany => FaultKind::WordCount,
+            Wrong::OtherKind => FaultKind::OtherKind,
+            Wrong::SecondBlock => FaultKind::SecondBlock,
+            Wrong::TooLong => FaultKind::TooLong,
+            Wrong::NoMemory => FaultKind::NoMemory,
         }
     }
 }

@@ -3,7 +3,7 @@
 use crate::scripts::SCHEDULE;
 use crate::telling::{begin, is_made, show};
 use board_core::{Board, BuildFault, Config, Totals, USUAL_ASID_LEN, USUAL_WIDTH};
-use guest_script::{Body, Lines, parse};
+use guest_script::{Doing, Body, Lines, parse};
 use std::alloc::Global;
 
 /// A board of three harts and two pages.
@@ -46,7 +46,7 @@ pub fn busy(alloc: Global) -> Option<Board> {
 fn after(board: Board, lines: &Lines) -> Board {
     let mut board = board;
     for line in lines.iter() {
-        if let Some((actor, op)) = line.step() {
+        if let Doing::Step { actor, op } = line.doing() {
             let _ = board.step(actor, op);
         }
     }

@@ -5,6 +5,7 @@ ghost use Rattle.printed_lines.specs.Words.{event_words, as_line};
 
 use board_core::Event;
 use printed_lines::{Failed, Sink, print_line};
+use script_lines::Doing;
 
 /// Prints the line of an accepted step.
 pub fn print_event<W: Sink>(event: &Event, sink: &mut W) -> Result<(), Failed>
@@ -12,6 +13,9 @@ pub fn print_event<W: Sink>(event: &Event, sink: &mut W) -> Result<(), Failed>
     ensures { Puts W.written W.failures sink.old sink.new result
         (as_line (event_words event.now.actor event.now.op (Ok event.now.reply))) }
 {
-    let step = (event.actor(), event.op());
-    print_line(Some(step), Ok(event.reply()), sink)
+    let step = Doing::Step {
+        actor: event.actor(),
+        op: event.op(),
+    };
+    print_line(step, Ok(event.reply()), sink)
 }

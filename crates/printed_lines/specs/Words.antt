@@ -1,9 +1,7 @@
 -- The printed lines as words, which one blank parts (profile).
-use Rattle.std.specs.Prelude.{ℕ, List, [], ◌∷◌, ◌++◌, map, codes, decimal, Bool, false, if◌then◌else◌, Option, Some, None, Result, Ok, Err}
+use Rattle.std.specs.Prelude.{ℕ, List, [], ◌∷◌, ◌++◌, map, codes, decimal, Bool, false, if◌then◌else◌, Option, Some, None, Result}
 use Rattle.std.specs.Fmt.{digits, signed_decimal}
 use Rattle.std.specs.List.{join_with_byte}
-use Rattle.sv39.specs.Causes.{cause_number}
-use Rattle.hsm.specs.States.{state_number}
 use Rattle.board_terms.specs.declared.config.Config.{Config}
 use Rattle.board_terms.specs.declared.op.Actor.{Actor}
 use Rattle.board_terms.specs.declared.op.Actor.TheVariants.{Hart, Clock}
@@ -11,9 +9,13 @@ use Rattle.board_terms.specs.declared.op.Op.{Op}
 use Rattle.board_terms.specs.declared.op.Op.TheVariants.{Ecall, Load, Store, Fetch, WriteSatp, WriteSie, WriteSstatusSie, ReadSip, ClearSsip, Sfence, FenceI, Wfi, Poll, Serve, Advance, Tick}
 use Rattle.board_terms.specs.declared.reply.Refusal.{Refusal}
 use Rattle.board_terms.specs.declared.reply.Reply.{Reply}
-use Rattle.board_terms.specs.declared.reply.Reply.TheVariants.{Ret, Waiting, Gone, Entry, Value, Fault, Served, Moved, Done}
 use Rattle.board_terms.specs.Limits.{has_usual_spaces}
-use Rattle.board_terms.specs.Refusals.{refusal_number}
+use Rattle.script_lines.specs.declared.said.Said.{Said}
+use Rattle.script_lines.specs.declared.said.Said.TheVariants as says
+use Rattle.script_lines.specs.declared.script.Doing.{Doing}
+use Rattle.script_lines.specs.declared.script.Doing.TheVariants.{Step, Cut}
+use Rattle.script_lines.specs.Agreeing.{said_of}
+use Rattle.script_lines.specs.Names.{name_of, name_of_said, op_word, said_word}
 
 -- `0x` and lower case hexadecimal digits with no leading zero
 abbrev pub hex : ℕ → List ℕ
@@ -32,36 +34,49 @@ abbrev pub hex_or_dash : Option ℕ → List ℕ
 hex_or_dash (Some n) = hex n
 hex_or_dash None = codes "-"
 
+-- the words behind an operation's name
+abbrev pub argument_words : Op → List (List ℕ)
+argument_words (Ecall regs) = hex regs.eid ∷ hex regs.fid ∷ map hex regs.a
+argument_words (Load va) = hex va ∷ []
+argument_words (Store va value) = hex va ∷ hex value ∷ []
+argument_words (Fetch va) = hex va ∷ []
+argument_words (WriteSatp value) = hex value ∷ []
+argument_words (WriteSie value) = hex value ∷ []
+argument_words (WriteSstatusSie value) = decimal (bit_of value) ∷ []
+argument_words ReadSip = []
+argument_words ClearSsip = []
+argument_words (Sfence va asid) = hex_or_dash va ∷ hex_or_dash asid ∷ []
+argument_words FenceI = []
+argument_words Wfi = []
+argument_words Poll = []
+argument_words Serve = []
+argument_words Advance = []
+argument_words (Tick n) = hex n ∷ []
+
+-- an operation's name, and the words behind it
 abbrev pub op_words : Op → List (List ℕ)
-op_words (Ecall regs) = codes "ecall" ∷ hex regs.eid ∷ hex regs.fid ∷ map hex regs.a
-op_words (Load va) = codes "load" ∷ hex va ∷ []
-op_words (Store va value) = codes "store" ∷ hex va ∷ hex value ∷ []
-op_words (Fetch va) = codes "fetch" ∷ hex va ∷ []
-op_words (WriteSatp value) = codes "satp" ∷ hex value ∷ []
-op_words (WriteSie value) = codes "sie" ∷ hex value ∷ []
-op_words (WriteSstatusSie value) = codes "sstatus" ∷ decimal (bit_of value) ∷ []
-op_words ReadSip = codes "sip" ∷ []
-op_words ClearSsip = codes "clearssip" ∷ []
-op_words (Sfence va asid) = codes "sfence" ∷ hex_or_dash va ∷ hex_or_dash asid ∷ []
-op_words FenceI = codes "fencei" ∷ []
-op_words Wfi = codes "wfi" ∷ []
-op_words Poll = codes "poll" ∷ []
-op_words Serve = codes "serve" ∷ []
-op_words Advance = codes "advance" ∷ []
-op_words (Tick n) = codes "tick" ∷ hex n ∷ []
+op_words op = op_word (name_of op) ∷ argument_words op
+
+-- the words behind the name of what is said
+abbrev pub said_argument_words : Said → List (List ℕ)
+said_argument_words (says.Ret error value) = signed_decimal error ∷ hex value ∷ []
+said_argument_words says.Waiting = []
+said_argument_words says.Gone = []
+said_argument_words (says.Entry addr hart opaque) = hex addr ∷ decimal hart ∷ hex opaque ∷ []
+said_argument_words (says.Value value) = hex value ∷ []
+said_argument_words (says.Fault cause) = decimal cause ∷ []
+said_argument_words says.Served = []
+said_argument_words (says.Moved state) = decimal state ∷ []
+said_argument_words says.Done = []
+said_argument_words (says.Refused n) = decimal n ∷ []
+
+-- the name of what is said, and the words behind it
+abbrev pub said_words : Said → List (List ℕ)
+said_words said = said_word (name_of_said said) ∷ said_argument_words said
 
 -- The words of a reply or a refusal, behind the arrow.
 abbrev pub reply_words : Result Reply Refusal → List (List ℕ)
-reply_words (Ok (Ret answer)) = codes "ret" ∷ signed_decimal answer.error ∷ hex answer.value ∷ []
-reply_words (Ok Waiting) = codes "waiting" ∷ []
-reply_words (Ok Gone) = codes "gone" ∷ []
-reply_words (Ok (Entry addr hart opaque)) = codes "entry" ∷ hex addr ∷ decimal hart ∷ hex opaque ∷ []
-reply_words (Ok (Value value)) = codes "value" ∷ hex value ∷ []
-reply_words (Ok (Fault cause)) = codes "fault" ∷ decimal (cause_number cause) ∷ []
-reply_words (Ok Served) = codes "served" ∷ []
-reply_words (Ok (Moved s)) = codes "moved" ∷ decimal (state_number s) ∷ []
-reply_words (Ok Done) = codes "done" ∷ []
-reply_words (Err refusal) = codes "refused" ∷ decimal (refusal_number refusal) ∷ []
+reply_words answer = said_words (said_of answer)
 
 -- the last two numbers of a board, which its line leaves out where they are the usual ones
 abbrev pub spaces_words : Config → List (List ℕ)
@@ -84,17 +99,17 @@ abbrev pub step_words : Actor → Op → List (List ℕ)
 step_words actor op = actor_word actor ∷ op_words op
 
 -- what a line does, up to the arrow: the step of an actor, or nothing but a cut of the history
-abbrev pub doing_words : Option (Actor × Op) → List (List ℕ)
-doing_words None = codes "cut" ∷ []
-doing_words (Some step) = step_words step.0 step.1
+abbrev pub doing_words : Doing → List (List ℕ)
+doing_words (Step actor op) = step_words actor op
+doing_words Cut = codes "cut" ∷ []
 
 -- The words of a step, or of a cut, with what it gave.
-abbrev pub line_words : Option (Actor × Op) → Result Reply Refusal → List (List ℕ)
-line_words step result = doing_words step ++ codes "->" ∷ reply_words result
+abbrev pub line_words : Doing → Result Reply Refusal → List (List ℕ)
+line_words doing result = doing_words doing ++ codes "->" ∷ reply_words result
 
 -- The words of an accepted or refused step.
 abbrev pub event_words : Actor → Op → Result Reply Refusal → List (List ℕ)
-event_words actor op result = line_words (Some (actor, op)) result
+event_words actor op result = line_words (Step actor op) result
 
 -- words as a line: one blank between each two, and a line feed at the end
 abbrev pub as_line : List (List ℕ) → List ℕ

@@ -1,18 +1,19 @@
 //! The line of a board, of a step, of a cut and of a reply.
-ghost use Rattle.std.specs.Prelude.{◌≡◌, ◌+◌, ◌*◌, ◌^◌, ◌<◌, ◌≤◌, ◌∷◌, ◌++◌, length, map, codes, decimal, None, Ok};
-ghost use Rattle.std.specs.Fmt.{signed_decimal};
+ghost use Rattle.std.specs.Prelude.{◌≡◌, ◌+◌, ◌*◌, ◌^◌, ◌<◌, ◌≤◌, ◌∷◌, ◌++◌, length, map, decimal};
 ghost use Rattle.std.specs.List.{join_with_byte};
-ghost use Rattle.printed_lines.specs.LineText.{arguments_room, decimal_room, hex_room, line_room, op_room, page_room, reply_room, signed_room, with_words};
+ghost use Rattle.printed_lines.specs.LineText.{arguments_room, decimal_room, hex_room, line_room, op_room, page_room, reply_room, with_words};
 ghost use Rattle.printed_lines.specs.Sinks.{Puts};
-ghost use Rattle.printed_lines.specs.Words.{bit_of, hex, hex_or_dash, actor_word, board_line_words, event_words, as_line, line_words, op_words, reply_words, spaces_words};
+ghost use Rattle.printed_lines.specs.Words.{bit_of, hex, hex_or_dash, actor_word, board_line_words, event_words, as_line, line_words, op_words, reply_words, said_words, spaces_words};
 ghost use Rattle.board_terms.specs.declared.op.Op.TheVariants.{Ecall};
-ghost use Rattle.board_terms.specs.declared.reply.Reply.TheVariants.{Entry};
+ghost use Rattle.script_lines.specs.declared.said.Said.TheVariants.{Entry, Ret, Value};
+ghost use Rattle.script_lines.specs.declared.script.Doing.TheVariants.{Cut};
 
 use crate::line_text::LineText;
 use crate::page::Page;
 use crate::sink::{Failed, Sink, write_all};
 use board_terms::{Actor, Config, Op, Refusal, Reply};
 use sbi_abi::Regs;
+use script_lines::{Doing, OpName, SaidName};
 
 /// Prints the board line.
 pub fn print_head<W: Sink>(config: &Config, sink: &mut W) -> Result<(), Failed>
@@ -43,17 +44,17 @@ fn spaces_onto(line: &mut LineText, config: &Config)
     }
 }
 
-/// Prints the line of a step, or of a cut where it is none, and of what was answered.
+/// Prints the line of a step or of a cut, and of what was answered.
 pub fn print_line<W: Sink>(
-    step: Option<(Actor, Op)>,
+    doing: Doing,
     answer: Result<Reply, Refusal>,
     sink: &mut W,
 ) -> Result<(), Failed>
     requires { W.failures sink.old < 2 ^ 63 }
-    ensures { Puts W.written W.failures sink.old sink.new result (as_line (line_words step answer)) }
+    ensures { Puts W.written W.failures sink.old sink.new result (as_line (line_words doing answer)) }
 {
     let mut page = Page::new();
-    page.print_line(step, answer, sink)?;
+    page.print_line(doing, answer, sink)?;
     page.put(sink)
 }
 
@@ -72,7 +73,7 @@ pub fn print_reply<W: Sink>(answer: Result<Reply, Refusal>, sink: &mut W) -> Res
 #[inline(never)]
 pub fn cut_onto(line: &mut LineText, answer: Result<Reply, Refusal>)
     requires { length line.old + line_room ≤ page_room }
-    ensures text { line.new ≡ line.old ++ as_line (line_words None answer) }
+    ensures text { line.new ≡ line.old ++ as_line (line_words Cut answer) }
     ensures len { length line.new ≤ length line.old + line_room }
 {
     line.text(b"cut ->");
@@ -116,28 +117,28 @@ fn op_onto(line: &mut LineText, op: &Op)
 {
     match op {
         Op::Ecall(regs) => ecall_onto(line, regs),
-        Op::Load(va) => hex_onto(line, b"load", *va),
+        Op::Load(va) => hex_onto(line, OpName::Load.word(), *va),
         Op::Store(va, value) => {
-            hex_onto(line, b"store", *va);
+            hex_onto(line, OpName::Store.word(), *va);
             line.hex(*value);
         }
-        Op::Fetch(va) => hex_onto(line, b"fetch", *va),
-        Op::WriteSatp(value) => hex_onto(line, b"satp", *value),
-        Op::WriteSie(value) => hex_onto(line, b"sie", *value),
-        Op::WriteSstatusSie(value) => decimal_onto(line, b"sstatus", bit_of(*value)),
-        Op::ReadSip => line.word(b"sip"),
-        Op::ClearSsip => line.word(b"clearssip"),
+        Op::Fetch(va) => hex_onto(line, OpName::Fetch.word(), *va),
+        Op::WriteSatp(value) => hex_onto(line, OpName::Satp.word(), *value),
+        Op::WriteSie(value) => hex_onto(line, OpName::Sie.word(), *value),
+        Op::WriteSstatusSie(value) => decimal_onto(line, OpName::Sstatus.word(), bit_of(*value)),
+        Op::ReadSip => line.word(OpName::Sip.word()),
+        Op::ClearSsip => line.word(OpName::Clearssip.word()),
         Op::Sfence(va, asid) => {
-            line.word(b"sfence");
+            line.word(OpName::Sfence.word());
             hex_or_dash_onto(line, *va);
             hex_or_dash_onto(line, *asid);
         }
-        Op::FenceI => line.word(b"fencei"),
-        Op::Wfi => line.word(b"wfi"),
-        Op::Poll => line.word(b"poll"),
-        Op::Serve => line.word(b"serve"),
-        Op::Advance => line.word(b"advance"),
-        Op::Tick(n) => hex_onto(line, b"tick", *n),
+        Op::FenceI => line.word(OpName::Fencei.word()),
+        Op::Wfi => line.word(OpName::Wfi.word()),
+        Op::Poll => line.word(OpName::Poll.word()),
+        Op::Serve => line.word(OpName::Serve.word()),
+        Op::Advance => line.word(OpName::Advance.word()),
+        Op::Tick(n) => hex_onto(line, OpName::Tick.word(), *n),
     }
 }
 
@@ -148,7 +149,7 @@ fn ecall_onto(line: &mut LineText, regs: &Regs)
     ensures text { line.new ≡ with_words line.old (op_words (Ecall regs.now)) }
     ensures len { length line.new ≤ length line.old + op_room }
 {
-    line.word(b"ecall");
+    line.word(OpName::Ecall.word());
     line.hex(regs.eid);
     line.hex(regs.fid);
     arguments_onto(line, &regs.a);
@@ -157,10 +158,10 @@ fn ecall_onto(line: &mut LineText, regs: &Regs)
 /// Appends a name and a number in hexadecimal digits.
 #[inline(always)]
 fn hex_onto(line: &mut LineText, name: &[u8], n: u64)
-    requires name { length name.now ≤ 8 }
-    requires room { length line.old + 9 + hex_room ≤ page_room }
+    requires name { length name.now ≤ 9 }
+    requires room { length line.old + 10 + hex_room ≤ page_room }
     ensures text { line.new ≡ (line.old ++ 32 ∷ name.now) ++ 32 ∷ hex n }
-    ensures len { length line.new ≤ length line.old + 9 + hex_room }
+    ensures len { length line.new ≤ length line.old + 10 + hex_room }
 {
     line.word(name);
     line.hex(n);
@@ -169,10 +170,10 @@ fn hex_onto(line: &mut LineText, name: &[u8], n: u64)
 /// Appends a name and a number in decimal digits.
 #[inline(always)]
 fn decimal_onto(line: &mut LineText, name: &[u8], n: u64)
-    requires name { length name.now ≤ 8 }
-    requires room { length line.old + 9 + decimal_room ≤ page_room }
+    requires name { length name.now ≤ 9 }
+    requires room { length line.old + 10 + decimal_room ≤ page_room }
     ensures text { line.new ≡ (line.old ++ 32 ∷ name.now) ++ 32 ∷ decimal n }
-    ensures len { length line.new ≤ length line.old + 9 + decimal_room }
+    ensures len { length line.new ≤ length line.old + 10 + decimal_room }
 {
     line.word(name);
     line.decimal(n);
@@ -200,26 +201,26 @@ fn reply_onto(line: &mut LineText, answer: Result<Reply, Refusal>)
 {
     match answer {
         Ok(Reply::Ret(answer)) => ret_onto(line, answer.error, answer.value),
-        Ok(Reply::Waiting) => line.word(b"waiting"),
-        Ok(Reply::Gone) => line.word(b"gone"),
+        Ok(Reply::Waiting) => line.word(SaidName::Waiting.word()),
+        Ok(Reply::Gone) => line.word(SaidName::Gone.word()),
         Ok(Reply::Entry { addr, hart, opaque }) => entry_onto(line, addr, hart, opaque),
         Ok(Reply::Value(value)) => value_onto(line, value),
-        Ok(Reply::Fault(cause)) => decimal_onto(line, b"fault", cause.number()),
-        Ok(Reply::Served) => line.word(b"served"),
-        Ok(Reply::Moved(state)) => decimal_onto(line, b"moved", state.number()),
-        Ok(Reply::Done) => line.word(b"done"),
-        Err(refusal) => decimal_onto(line, b"refused", refusal.number()),
+        Ok(Reply::Fault(cause)) => decimal_onto(line, SaidName::Fault.word(), cause.number()),
+        Ok(Reply::Served) => line.word(SaidName::Served.word()),
+        Ok(Reply::Moved(state)) => decimal_onto(line, SaidName::Moved.word(), state.number()),
+        Ok(Reply::Done) => line.word(SaidName::Done.word()),
+        Err(refusal) => decimal_onto(line, SaidName::Refused.word(), refusal.number()),
     }
 }
 
 /// Appends what a call returned. It is apart, as each reply of long numbers, so that the others are written in place.
 #[inline(never)]
 fn ret_onto(line: &mut LineText, error: i64, value: u64)
-    requires { length line.old + 4 + signed_room + hex_room ≤ page_room }
-    ensures text { line.new ≡ ((line.old ++ 32 ∷ codes "ret") ++ 32 ∷ signed_decimal error) ++ 32 ∷ hex value }
-    ensures len { length line.new ≤ length line.old + 4 + signed_room + hex_room }
+    requires { length line.old + reply_room ≤ page_room }
+    ensures text { line.new ≡ with_words line.old (said_words (Ret error value)) }
+    ensures len { length line.new ≤ length line.old + reply_room }
 {
-    line.word(b"ret");
+    line.word(SaidName::Ret.word());
     line.signed(error);
     line.hex(value);
 }
@@ -227,21 +228,21 @@ fn ret_onto(line: &mut LineText, error: i64, value: u64)
 /// Appends what was read.
 #[inline(never)]
 fn value_onto(line: &mut LineText, value: u64)
-    requires { length line.old + 9 + hex_room ≤ page_room }
-    ensures text { line.new ≡ (line.old ++ 32 ∷ codes "value") ++ 32 ∷ hex value }
-    ensures len { length line.new ≤ length line.old + 9 + hex_room }
+    requires { length line.old + reply_room ≤ page_room }
+    ensures text { line.new ≡ with_words line.old (said_words (Value value)) }
+    ensures len { length line.new ≤ length line.old + reply_room }
 {
-    hex_onto(line, b"value", value);
+    hex_onto(line, SaidName::Value.word(), value);
 }
 
 /// Appends an entry.
 #[inline(never)]
 fn entry_onto(line: &mut LineText, addr: u64, hart: u64, opaque: u64)
     requires { length line.old + reply_room ≤ page_room }
-    ensures text { line.new ≡ with_words line.old (reply_words (Ok (Entry addr hart opaque))) }
+    ensures text { line.new ≡ with_words line.old (said_words (Entry addr hart opaque)) }
     ensures len { length line.new ≤ length line.old + reply_room }
 {
-    line.word(b"entry");
+    line.word(SaidName::Entry.word());
     line.hex(addr);
     line.decimal(hart);
     line.hex(opaque);

@@ -1,13 +1,15 @@
 //! Lines on their way to a sink, some at a time.
-ghost use Rattle.std.specs.Prelude.{◌≡◌, ℕ, ◌+◌, ◌^◌, ◌<◌, ◌≤◌, List, [], None, OnOk, length};
+ghost use Rattle.std.specs.Prelude.{◌≡◌, ℕ, ◌+◌, ◌^◌, ◌<◌, ◌≤◌, List, [], OnOk, length};
 ghost use Rattle.printed_lines.specs.LineText.{line_room, page_room};
 ghost use Rattle.printed_lines.specs.Sinks.{Passes, Puts};
 ghost use Rattle.printed_lines.specs.Words.{event_words, as_line, line_words};
+ghost use Rattle.script_lines.specs.declared.script.Doing.TheVariants.{Cut};
 
 use crate::line_text::{CAPACITY, LineText};
 use crate::lines::{cut_onto, step_onto};
 use crate::sink::{Failed, Sink, write_all};
 use board_terms::{Actor, Op, Refusal, Reply};
+use script_lines::Doing;
 use std::marker::Model;
 
 /// The most bytes of a line.
@@ -60,24 +62,24 @@ impl Page {
         put_full(&mut self.text, sink)
     }
 
-    /// Prints the line of a step, or of a cut where it is none, and of what was answered, behind the lines that wait.
+    /// Prints the line of a step or of a cut, and of what was answered, behind the lines that wait.
     ///
     /// # Errors
     ///
     /// A write of the lines that waited failed.
     pub fn print_line<W: Sink>(
         &mut self,
-        step: Option<(Actor, Op)>,
+        doing: Doing,
         answer: Result<Reply, Refusal>,
         sink: &mut W,
     ) -> Result<(), Failed>
         requires { W.failures sink.old < 2 ^ 63 }
         ensures { Passes W.written W.failures sink.old sink.new result self.old self.new
-            (as_line (line_words step answer)) }
+            (as_line (line_words doing answer)) }
     {
-        match step {
-            Some((actor, op)) => self.print_step(actor, op, answer, sink),
-            None => self.print_cut(answer, sink),
+        match doing {
+            Doing::Step { actor, op } => self.print_step(actor, op, answer, sink),
+            Doing::Cut => self.print_cut(answer, sink),
         }
     }
 
@@ -93,7 +95,7 @@ impl Page {
     ) -> Result<(), Failed>
         requires { W.failures sink.old < 2 ^ 63 }
         ensures { Passes W.written W.failures sink.old sink.new result self.old self.new
-            (as_line (line_words None answer)) }
+            (as_line (line_words Cut answer)) }
     {
         cut_onto(&mut self.text, answer);
         put_full(&mut self.text, sink)

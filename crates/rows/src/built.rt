@@ -2,7 +2,7 @@
 
 use anyhow::Result;
 use board_core::{Actor, Op, Reply};
-use guest_script::{Body, Line, Lines, Said};
+use guest_script::{Doing, Body, Line, Lines, Said};
 use std::alloc::Global;
 
 /// The most that a line's number can be.
@@ -10,8 +10,11 @@ const MOST: u64 = (1 << 28) - 1;
 
 /// A line of hart `h` that says something, or nothing.
 fn advance(number: u64, h: u64, said: Option<Said>) -> Line {
-    let step = Some((Actor::Hart(h), Op::Advance));
-    Line { number, step, said }
+    let doing = Doing::Step {
+        actor: Actor::Hart(h),
+        op: Op::Advance,
+    };
+    Line { number, doing, said }
 }
 
 /// Adds lines one by one, and tells of each whether it could follow, and how many there are then.
@@ -22,7 +25,7 @@ fn show_added<R: AllocGlobal + Print>(rt: &R, added: &[Line]) -> Result<Lines> {
         println!(rt;
             "{} {:?} {answer:?}: {}",
             line.number,
-            line.step,
+            line.doing,
             lines.len()
         )?;
     }
@@ -57,7 +60,7 @@ fn told(body: &Body, alloc: Global) -> Result<String> {
     let mut text = String::new(alloc);
     if let Body::Schedule(lines) | Body::Trace(lines) = body {
         for line in lines.iter() {
-            text.push_str(&format!(in alloc; " ({} {:?})", line.number(), line.step())?)?;
+            text.push_str(&format!(in alloc; " ({} {:?})", line.number(), line.doing())?)?;
         }
     }
     Ok(text)

@@ -2,13 +2,13 @@
 //! and the numbers and texts of errors.
 
 use board_core::{BuildFault, Refusal};
-use guest_script::{Fault, ScriptFault};
+use guest_script::{FaultKind, ScriptFault};
 use hart_mask::{HartSet, InvalidParam};
 use hsm::AlreadyAvailable;
 use interrupts::{Ipis, TimeFull, Timers};
 use monitor::Failed;
 use sbi_abi::SbiError;
-use sbiboard::{Outcome, ReadFault, Stop, ended};
+use sbiboard::{Outcome, ReadFault, NoOutcome, ended};
 use std::alloc::AllocError;
 use std::io::{self, ErrorKind};
 
@@ -161,22 +161,22 @@ pub fn show_errors<R: Print>(rt: &R) -> io::Result<()> {
 /// The numbers and texts of the faults of scripts and of reading.
 pub fn show_faults<R: Print>(rt: &R) -> io::Result<()> {
     for fault in [
-        Fault::BadByte,
-        Fault::NoBoardLine,
-        Fault::UnknownWord,
-        Fault::BadNumber,
-        Fault::WordCount,
-        Fault::OtherKind,
-        Fault::SecondBlock,
-        Fault::TooLong,
-        Fault::NoMemory,
+        FaultKind::BadByte,
+        FaultKind::NoBoardLine,
+        FaultKind::UnknownWord,
+        FaultKind::BadNumber,
+        FaultKind::WordCount,
+        FaultKind::OtherKind,
+        FaultKind::SecondBlock,
+        FaultKind::TooLong,
+        FaultKind::NoMemory,
     ] {
         let found = ScriptFault { line: 3, fault };
         println!(rt; "{} {} {found}", fault.number(), found.number())?;
     }
     let fault = ReadFault::Script(ScriptFault {
         line: 3,
-        fault: Fault::BadByte,
+        fault: FaultKind::BadByte,
     });
     println!(rt; "{Failed}; {}; {fault}", ReadFault::Failed)
 }
@@ -206,8 +206,8 @@ pub fn show_endings<R: Print + Eprint>(rt: &R) -> io::Result<()> {
         ErrorKind::Interrupted,
         ErrorKind::OutOfMemory,
     ] {
-        let stop = Stop::from(io::Error::from(kind));
+        let stop = NoOutcome::from(io::Error::from(kind));
         println!(rt; "{} {kind:?}", ended(rt, Err(stop)))?;
     }
-    println!(rt; "{} refused memory", ended(rt, Err(Stop::from(AllocError))))
+    println!(rt; "{} refused memory", ended(rt, Err(NoOutcome::from(AllocError))))
 }

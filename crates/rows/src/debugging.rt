@@ -10,7 +10,7 @@ use board_lock::{HartNow, HartView, Rest};
 use conditions::conditions;
 use fence_queue::Request;
 use guest_programs::{End, Met, RunFault, Step};
-use guest_script::{Body, Fault, Lines, ScriptFault, parse};
+use guest_script::{Body, FaultKind, Lines, ScriptFault, parse};
 use hart_access::{Access, Accessed, Way};
 use hart_mask::{HartSet, InvalidParam};
 use hart_threads::Open;
@@ -19,7 +19,7 @@ use interrupts::{Ipis, TimeFull, Timers};
 use monitor::Failed;
 use sbi_abi::call::HsmCall;
 use sbi_abi::{Call, Regs, Reset, ResetKind, SbiError, Sbiret, SuspendKind};
-use sbiboard::{Device, Outcome, ReadFault, Stop, Task};
+use sbiboard::{Device, Outcome, ReadFault, NoOutcome, Subcommand};
 use std::alloc::Global;
 use std::fmt::Debug;
 use std::io;
@@ -181,7 +181,7 @@ pub fn show_board<R: Print>(rt: &R) -> io::Result<()> {
 /// Shows the types of scripts.
 pub fn show_scripts<R: AllocGlobal + Print>(rt: &R) -> Result<()> {
     println!(rt; "{:?}", parse(rt.alloc(), PROGRAM)?)?;
-    println!(rt; "{:?}", lines_of(rt.alloc(), TRACE)?.get(0))?;
+    println!(rt; "{:?}", lines_of(rt.alloc(), TRACE)?.first())?;
     Ok(())
 }
 
@@ -217,15 +217,15 @@ pub fn show_threads<R: Print>(rt: &R) -> io::Result<()> {
 pub fn show_ends<R: Print>(rt: &R) -> io::Result<()> {
     let fault = ScriptFault {
         line: 3,
-        fault: Fault::BadNumber,
+        fault: FaultKind::BadNumber,
     };
     println!(rt; "{fault:?}")?;
     println!(rt; "{:?} {:?} {Open:?}", End::GateLimit, RunFault::NoThread)?;
-    println!(rt; "{:?} {:?}", Task::Check("a"), Outcome::Stuck)?;
+    println!(rt; "{:?} {:?}", Subcommand::Check("a"), Outcome::Stuck)?;
     println!(rt; "{:?} {Failed:?}", ReadFault::Script(fault))?;
     println!(rt;
         "{:?}",
-        Stop::from(io::Error::from(io::ErrorKind::NotFound))
+        NoOutcome::from(io::Error::from(io::ErrorKind::NotFound))
     )
 }
 

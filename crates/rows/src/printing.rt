@@ -4,6 +4,7 @@ ghost use Rattle.std.specs.Prelude.{◌≡◌, ◌<◌, ◌^◌, OnOk};
 use crate::row::ROOM;
 use anyhow::{Context, Result};
 use board_core::{Actor, Board, Config, Op, Refusal, Reply, USUAL_ASID_LEN, USUAL_WIDTH};
+use guest_script::Doing;
 use monitor::{Failed, Sink, print_event, print_head, print_line, print_reply};
 use sbi_abi::{Regs, Sbiret};
 use sbiboard::Device;
@@ -22,6 +23,10 @@ const CONFIG: Config = Config {
 
 fn ecall(eid: u64, a: [u64; 6]) -> Op {
     Op::Ecall(Regs { eid, fid: 0, a })
+}
+
+fn step(actor: Actor, op: Op) -> Doing {
+    Doing::Step { actor, op }
 }
 
 fn ret(error: i64, value: u64) -> Reply {
@@ -79,12 +84,12 @@ fn put_replies<W: Sink>(out: &mut W) -> Result<(), Failed>
         hart: most,
         opaque: most,
     };
-    let ticks = Some((Actor::Clock, Op::Advance));
+    let ticks = step(Actor::Clock, Op::Advance);
     print_line(ticks, Err(Refusal::WrongPhase), out)?;
-    let calls = Some((Actor::Hart(most), long));
+    let calls = step(Actor::Hart(most), long);
     print_line(calls, Ok(ret(i64::MIN, most)), out)?;
-    let enters = Some((Actor::Hart(127), Op::Advance));
+    let enters = step(Actor::Hart(127), Op::Advance);
     print_line(enters, Ok(entry), out)?;
-    print_line(None, Ok(Reply::Done), out)?;
+    print_line(Doing::Cut, Ok(Reply::Done), out)?;
     print_reply(Ok(ret(-2, 0)), out)
 }

@@ -27,6 +27,8 @@ use Rattle.board_terms.specs.declared.reply.Reply.TheVariants as replies
 use Rattle.board_terms.specs.Limits.{first_numbers, has_usual_spaces, numbers_of}
 use Rattle.board_core.specs.Refusals.{refusal_number}
 use Rattle.script_lines.specs.declared.said.Said.{Said}
+use Rattle.script_lines.specs.declared.script.Doing.{Doing}
+use Rattle.script_lines.specs.declared.script.Doing.TheVariants.{Step, Cut}
 use Rattle.script_lines.specs.declared.script.Line.{Line}
 use Rattle.script_lines.specs.Agreeing.{said_of}
 use Rattle.guest_script.specs.Forms.{AreArguments, Form, form_of, IsArgument, IsNamed, IsSaid, number_at, regs_of, said_form_of}
@@ -166,13 +168,13 @@ step_is actor op fits_actor fits_op = record {
   is_op = (op_read_back op fits_op).is_named;
 }
 
-doing_is : (step : Option (Actor × Op)) → ActorFits step → OpFits step → IsDoing (doing_words step) step
-doing_is None actor op = refl
-doing_is (Some step) actor op = step_is step.0 step.1 actor op
+doing_is : (doing : Doing) → ActorFits doing → OpFits doing → IsDoing (doing_words doing) doing
+doing_is (Step actor op) fits_actor fits_op = step_is actor op fits_actor fits_op
+doing_is Cut fits_actor fits_op = refl
 
-doing_plain : (step : Option (Actor × Op)) → ActorFits step → OpFits step → AllByRecursion IsPlain (doing_words step)
-doing_plain None actor op = (name_plain (codes "cut") (λ e. cc) (omega arith), tt)
-doing_plain (Some step) actor op = (actor_plain step.0 actor, (op_read_back step.1 op).plain)
+doing_plain : (doing : Doing) → ActorFits doing → OpFits doing → AllByRecursion IsPlain (doing_words doing)
+doing_plain (Step actor op) fits_actor fits_op = (actor_plain actor fits_actor, (op_read_back op fits_op).plain)
+doing_plain Cut fits_actor fits_op = (name_plain (codes "cut") (λ e. cc) (omega arith), tt)
 
 -- ---- printed answers
 
@@ -273,20 +275,20 @@ arrow_plain = ((λ e. cc), (record { allowed = refl; solid = refl; no_hash = ref
 
 words_plain : (step : Answered) → FitsAnswered step → AllByRecursion IsPlain (answered_words step)
 words_plain step fits =
-    append_all IsPlain (doing_words step.step) (codes "->" ∷ reply_words step.answer)
-    (doing_plain step.step fits.actor fits.op) (arrow_plain, (answer_read_back step.answer fits.answer).plain)
+    append_all IsPlain (doing_words step.doing) (codes "->" ∷ reply_words step.answer)
+    (doing_plain step.doing fits.actor fits.op) (arrow_plain, (answer_read_back step.answer fits.answer).plain)
 
 pub line_read_back : LineReadsBack
 line_read_back n step fits = (
   joined_line (answered_words step) (words_plain step fits),
   (
-    doing_words step.step,
+    doing_words step.doing,
     reply_words step.answer,
     said_of step.answer,
     refl,
     refl,
     refl,
-    doing_is step.step fits.actor fits.op,
+    doing_is step.doing fits.actor fits.op,
     (answer_read_back step.answer fits.answer).is_said,
   ),
 )

@@ -11,6 +11,8 @@ use Rattle.board_terms.specs.declared.reply.Reply.{Reply}
 use Rattle.board_core.specs.Course.{Course}
 use Rattle.board_terms.specs.declared.config.Config.{Config}
 use Rattle.board_terms.specs.Limits.{IsGood, first_numbers, numbers_of}
+use Rattle.script_lines.specs.declared.script.Doing.{Doing}
+use Rattle.script_lines.specs.declared.script.Doing.TheVariants.{Step, Cut}
 use Rattle.script_lines.specs.declared.script.Line.{Line}
 use Rattle.guest_script.specs.Grammar.{AreLines, AreScript, Content, content_of, Draft, Empty, Nothing, Blocked, IsActor, IsDoing, IsNext, IsStepLine, HasUsualSpaces, IsBoard, Program, Reads, Schedule, Stepped, Trace, Traced, Written}
 use Rattle.guest_script.specs.Words.{AreNumbers, last_number}
@@ -26,13 +28,13 @@ actor_read : (word : List ℕ) (actor : Actor) → IsActor word actor → FitsAc
 actor_read word (Hart h) is = is.0
 actor_read word Clock is = tt
 
-doing_read : (words : List (List ℕ)) (step : Option (Actor × Op)) → IsDoing words step → ActorFits step
-doing_read words None is = tt
-doing_read words (Some step) is = actor_read is.first step.0 is.is_actor
+doing_read : (words : List (List ℕ)) (doing : Doing) → IsDoing words doing → ActorFits doing
+doing_read words Cut is = tt
+doing_read words (Step actor op) is = actor_read is.first actor is.is_actor
 
-step_read : (n : ℕ) (in_trace : Bool) (words : List (List ℕ)) (line : Line) → IsStepLine n in_trace words line → ActorFits line.step
-step_read n false words line is = doing_read words line.step is.2
-step_read n true words line is = doing_read is.0 line.step is.6
+step_read : (n : ℕ) (in_trace : Bool) (words : List (List ℕ)) (line : Line) → IsStepLine n in_trace words line → ActorFits line.doing
+step_read n false words line is = doing_read words line.doing is.2
+step_read n true words line is = doing_read is.0 line.doing is.6
 
 abbrev DraftFits : Draft → Type 0
 DraftFits Nothing = Unit {0}
@@ -40,8 +42,8 @@ DraftFits (Blocked p) = Unit {0}
 DraftFits (Stepped lines) = ActorsFit lines
 DraftFits (Traced lines) = ActorsFit lines
 
-more_read : (before lines : List Line) (line : Line) → lines ≡ before ++ line ∷ [] → ActorsFit before → ActorFits line.step → ActorsFit lines
-more_read before lines line are fits more = subst ActorsFit (sym are) (append_all (λ l. ActorFits l.step) before (line ∷ []) fits (more, tt))
+more_read : (before lines : List Line) (line : Line) → lines ≡ before ++ line ∷ [] → ActorsFit before → ActorFits line.doing → ActorsFit lines
+more_read before lines line are fits more = subst ActorsFit (sym are) (append_all (λ l. ActorFits l.doing) before (line ∷ []) fits (more, tt))
 
 next_read : (n : ℕ) (draft : Draft) (words : List (List ℕ)) (next : Draft) → DraftFits draft → IsNext n draft words next → DraftFits next
 next_read n draft words Nothing fits is = tt
@@ -117,6 +119,6 @@ are_read job bytes s found reads are good =
 
 -- the lines from a line on fit, if it and those after it do
 pub all_fit-more : (b next : Course) (others rest : List Line) (line : Line) → others ≡ line ∷ rest → next ≡ after_line b line
-    → (answer : Result Reply Refusal) → answer ≡ answer_of b line → OpFits line.step → FitsAnswer answer → AllFit next rest → AllFit b others
+    → (answer : Result Reply Refusal) → answer ≡ answer_of b line → OpFits line.doing → FitsAnswer answer → AllFit next rest → AllFit b others
 all_fit-more b next others rest line are next_is answer is op fits later =
     subst (AllFit b) (sym are) (op, subst FitsAnswer is fits, subst (λ c. AllFit c rest) next_is later)

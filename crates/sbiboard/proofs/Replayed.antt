@@ -1,16 +1,17 @@
 -- What a replay has done after some of the lines.
 use Rattle.std.proofs.Common.{◌≡◌, ℕ, Bool, true, false, List, [], ◌∷◌, ◌++◌, ◌||◌, refl, sym, ap, ◌∙◌, subst, append_assoc, append-nil}
-use Rattle.std.specs.Prelude.{Option, None, Result}
+use Rattle.std.specs.Prelude.{Option, Result}
 use Rattle.std.specs.Io.KnownBytes.{Appends, Keeps}
 use Rattle.std.proofs.KnownBytes.{Appends-kept, Appends-nil, Appends-trans}
 use Rattle.board_terms.specs.declared.config.Config.{Config}
-use Rattle.board_terms.specs.declared.op.Actor.{Actor}
-use Rattle.board_terms.specs.declared.op.Op.{Op}
 use Rattle.board_terms.specs.declared.reply.Refusal.{Refusal}
 use Rattle.board_terms.specs.declared.reply.Reply.{Reply}
 use Rattle.board_core.specs.Course.{Course}
+use Rattle.script_lines.specs.declared.script.Doing.{Doing}
+use Rattle.script_lines.specs.declared.script.Doing.TheVariants.{Cut}
 use Rattle.script_lines.specs.declared.script.Line.{Line}
 use Rattle.printed_lines.specs.Words.{board_line_words, as_line, line_words}
+use Rattle.sbiboard.specs.declared.replaying.Replayed.TheVariants.{UpToCut}
 use Rattle.sbiboard.specs.Replay.{AreDone, is_history_full, lines_text, meets_full, board_table, text_of}
 use Rattle.sbiboard.specs.Running.{after_line, answer_of, answer_to, course_after, course_with, new_course}
 
@@ -45,7 +46,7 @@ has_written-passed before middle after taken waiting later line others rest whol
     (ap (λ text. waiting ++ text) are ∙ sym (append_assoc waiting line rest) ∙ ap (λ text. text ++ rest) (sym passes) ∙ append_assoc taken later rest)
     so_far more
 
-module _ (b next : Course) (others rest : List Line) (line : Line) (are : others ≡ line ∷ rest) (course_is : next ≡ course_with b line.step) where
+module _ (b next : Course) (others rest : List Line) (line : Line) (are : others ≡ line ∷ rest) (course_is : next ≡ course_with b line.doing) where
   pub replaying-more : (first : Course) (lines : List Line) (met full : Bool) → full ≡ is_history_full (answer_of b line)
       → Replaying first b lines others met → Replaying first next lines rest (met || full)
   replaying-more first lines met full is so_far = record {
@@ -65,7 +66,7 @@ course_after-append b (line ∷ lines) more = course_after-append (after_line b 
 lines_text-append : (b : Course) (lines more : List Line) → lines_text b (lines ++ more) ≡ lines_text b lines ++ lines_text (course_after b lines) more
 lines_text-append b [] more = refl
 lines_text-append b (line ∷ lines) more =
-    let own = as_line (line_words line.step (answer_of b line)) in
+    let own = as_line (line_words line.doing (answer_of b line)) in
     ap (λ text. own ++ text) (lines_text-append (after_line b line) lines more)
     ∙ sym (append_assoc own (lines_text (after_line b line) lines) (lines_text (course_after (after_line b line) lines) more))
 
@@ -85,20 +86,20 @@ has_done-none b lines others known waiting all none = record { done = []; parts 
 pub replaying-none : (b : Course) (lines others : List Line) → others ≡ lines → Replaying b b lines others false
 replaying-none b lines others all = record { course = ap (course_after b) all; full = ap (meets_full b) all }
 
-module _ (first b next : Course) (lines others rest : List Line) (line : Line) (are : others ≡ line ∷ rest) (course_is : next ≡ course_with b line.step)
-    (step : Option (Actor × Op)) (step_is : step ≡ line.step) (answer : Result Reply Refusal) (answer_is : answer ≡ answer_to b line.step) where
+module _ (first b next : Course) (lines others rest : List Line) (line : Line) (are : others ≡ line ∷ rest) (course_is : next ≡ course_with b line.doing)
+    (doing : Doing) (doing_is : doing ≡ line.doing) (answer : Result Reply Refusal) (answer_is : answer ≡ answer_to b line.doing) where
   pub has_done-more : (old middle new : Option (List ℕ)) (waiting taken later : List ℕ) → Appends middle new taken
-      → taken ++ later ≡ waiting ++ as_line (line_words step answer) → HasDone first b lines others old middle waiting → HasDone first next lines rest old new later
+      → taken ++ later ≡ waiting ++ as_line (line_words doing answer) → HasDone first b lines others old middle waiting → HasDone first next lines rest old new later
   has_done-more old middle new waiting taken later more passes so_far =
-      let own = as_line (line_words step answer) in
+      let own = as_line (line_words doing answer) in
       let own_is : own ≡ lines_text (course_after first so_far.done) (line ∷ []) =
-      ap (λ s. as_line (line_words s answer)) step_is ∙ ap (λ a. as_line (line_words line.step a)) answer_is
-      ∙ ap (λ c. as_line (line_words line.step (answer_to c line.step))) so_far.course
-      ∙ sym (append-nil (as_line (line_words line.step (answer_to (course_after first so_far.done) line.step)))) in
+      ap (λ a. as_line (line_words a answer)) doing_is ∙ ap (λ a. as_line (line_words line.doing a)) answer_is
+      ∙ ap (λ c. as_line (line_words line.doing (answer_to c line.doing))) so_far.course
+      ∙ sym (append-nil (as_line (line_words line.doing (answer_to (course_after first so_far.done) line.doing)))) in
       record {
         done = so_far.done ++ line ∷ [];
         parts = so_far.parts ∙ ap (λ ls. so_far.done ++ ls) are ∙ sym (append_assoc so_far.done (line ∷ []) rest);
-        course = course_is ∙ ap (λ c. course_with c line.step) so_far.course ∙ sym (course_after-append first so_far.done (line ∷ []));
+        course = course_is ∙ ap (λ c. course_with c line.doing) so_far.course ∙ sym (course_after-append first so_far.done (line ∷ []));
         taken = so_far.taken ++ taken;
         written = Appends-trans old middle new so_far.taken taken so_far.written more;
         text = append_assoc so_far.taken taken later ∙ ap (λ t. so_far.taken ++ t) passes ∙ sym (append_assoc so_far.taken waiting own)
@@ -108,8 +109,8 @@ module _ (first b next : Course) (lines others rest : List Line) (line : Line) (
 -- Memory for a cut was refused: what waited is written.
 module _ (first b : Course) (lines others : List Line) (old middle new : Option (List ℕ)) (waiting : List ℕ) (so_far : HasDone first b lines others old middle waiting)
     (put : Appends middle new waiting) where
-  pub stopped_at_cut : (line : Line) (rest : List Line) → others ≡ line ∷ rest → line.step ≡ None
-      → (text : List ℕ) × AreDone first lines None text × Appends old new text
+  pub stopped_at_cut : (line : Line) (rest : List Line) → others ≡ line ∷ rest → line.doing ≡ Cut
+      → (text : List ℕ) × AreDone first lines UpToCut text × Appends old new text
   stopped_at_cut line rest are is_cut = (
     so_far.taken ++ waiting,
     (so_far.done, record { cut = line; after = rest; parts = so_far.parts ∙ ap (λ ls. so_far.done ++ ls) are; is_cut = is_cut }, so_far.text),

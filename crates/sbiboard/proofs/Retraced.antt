@@ -7,6 +7,7 @@ use Rattle.script_lines.specs.declared.script.Line.{Line}
 use Rattle.guest_script.specs.Grammar.{most_bytes}
 use Rattle.printed_lines.specs.Words.{board_line_words, as_line}
 use Rattle.sbiboard.specs.declared.outcome.Outcome.TheVariants.{Good, HistoryFull}
+use Rattle.sbiboard.specs.declared.replaying.Replayed.TheVariants.{ToTheEnd}
 use Rattle.sbiboard.specs.Check.{AllAgree, agrees_text, EndsCheck, traced}
 use Rattle.sbiboard.specs.Inside.Fitting.{ActorsFit, AllFit, AreRead}
 use Rattle.sbiboard.specs.PrintedScripts.{Answered, FitsAnswered, printed, trace_lines, trace_of, answered_words}
@@ -18,11 +19,11 @@ use Rattle.sbiboard.proofs.ReadBack.{trace_read_back}
 -- the lines with what they are answered
 abbrev answered : Course → List Line → List Answered
 answered b [] = []
-answered b (line ∷ lines) = record { step = line.step; answer = answer_of b line } ∷ answered (after_line b line) lines
+answered b (line ∷ lines) = record { doing = line.doing; answer = answer_of b line } ∷ answered (after_line b line) lines
 
 lines_answered : (b : Course) (lines : List Line) → lines_text b lines ≡ flat_map (λ step. as_line (answered_words step)) (answered b lines)
 lines_answered b [] = refl
-lines_answered b (line ∷ lines) = ap (λ text. as_line (answered_words (record { step = line.step; answer = answer_of b line })) ++ text) (lines_answered (after_line b line) lines)
+lines_answered b (line ∷ lines) = ap (λ text. as_line (answered_words (record { doing = line.doing; answer = answer_of b line })) ++ text) (lines_answered (after_line b line) lines)
 
 answered_fit : (b : Course) (lines : List Line) → ActorsFit lines → AllFit b lines → AllByRecursion FitsAnswered (answered b lines)
 answered_fit b [] actors fits = tt
@@ -66,8 +67,8 @@ is_replay : (c : Config) (lines : List Line) → AreRead c lines → AllFit (new
 is_replay c lines are fits = record { is_text = refl; accepted = accepted c lines are fits (text_of c lines) refl }
 
 module _ (c : Config) (lines : List Line) (are : AreRead c lines) (fits : AllFit (new_course c) lines) (text : List ℕ) where
-  pub replays_well : IsPrinted c lines (Some false) text → Replays c lines Good text
+  pub replays_well : IsPrinted c lines (ToTheEnd false) text → Replays c lines Good text
   replays_well (full, is) = (sym full, subst (IsReplay c lines) (sym is) (is_replay c lines are fits))
 
-  pub replays_full : IsPrinted c lines (Some true) text → Replays c lines HistoryFull text
+  pub replays_full : IsPrinted c lines (ToTheEnd true) text → Replays c lines HistoryFull text
   replays_full (full, is) = (sym full, subst (IsReplay c lines) (sym is) (is_replay c lines are fits))

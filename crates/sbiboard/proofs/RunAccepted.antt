@@ -18,6 +18,7 @@ use Rattle.board_core.specs.Opening.{Opening, opening_at}
 use Rattle.board_core.specs.Refusals.{first_that_holds, is_full, refusals_in, situation}
 use Rattle.board_core.specs.Replies.{IsLegal, answer, recorded, refused_or, reply, stepped}
 use Rattle.board_core.specs.Resets.{is_off}
+use Rattle.script_lines.specs.declared.script.Doing.TheVariants as doings
 use Rattle.script_lines.specs.Agreeing.{said_of}
 use Rattle.guest_script.specs.Grammar.{most_bytes}
 use Rattle.guest_programs.specs.declared.ends.End.{End}
@@ -58,7 +59,7 @@ actor-fits o good past (Hart h) op r is =
 -- ---- the board agrees
 
 abbrev step_of : Event → Answered
-step_of e = record { step = Some (e.actor, e.op); answer = Ok e.reply }
+step_of e = record { doing = doings.Step e.actor e.op; answer = Ok e.reply }
 
 abbrev at : Opening → List Event → Course
 at o past = record { opening = o; past = past }

@@ -4,8 +4,8 @@ use Rattle.std.specs.Prelude.{is_some}
 use Rattle.std.proofs.KnownBytes.{Appends-nil}
 use Rattle.board_terms.specs.declared.config.Config.{Config}
 use Rattle.board_terms.specs.Limits.{IsGood}
-use Rattle.guest_script.specs.declared.fault.Fault.{Fault}
-use Rattle.guest_script.specs.declared.fault.Fault.TheVariants.{BadByte, NoBoardLine, UnknownWord, BadNumber, WordCount, OtherKind, SecondBlock, TooLong, NoMemory}
+use Rattle.guest_script.specs.declared.fault.FaultKind.{FaultKind}
+use Rattle.guest_script.specs.declared.fault.FaultKind.TheVariants.{BadByte, NoBoardLine, UnknownWord, BadNumber, WordCount, OtherKind, SecondBlock, TooLong, NoMemory}
 use Rattle.script_lines.specs.declared.script.Script.{Script}
 use Rattle.guest_script.specs.FirstFault.{first_fault}
 use Rattle.guest_script.specs.Grammar.{Content, Reads, Written, written}
@@ -29,7 +29,7 @@ module _ {A : Type 0} (lines_of : Content → Option A) (bytes : List ℕ) where
   writes_stopped Ends known outcomes.NoMemory stops = ([], inr (stops, refl), Appends-nil known)
   writes_stopped Ends known outcomes.Io stops = tt
 
-  pub stops_at : (line : ℕ) (fault : Fault) → (fault ≢ NoMemory → first_fault bytes ≡ Some (record { line = line; fault = fault }))
+  pub stops_at : (line : ℕ) (fault : FaultKind) → (fault ≢ NoMemory → first_fault bytes ≡ Some (record { line = line; fault = fault }))
       → Stops lines_of bytes (ended_as line fault)
   stops_at line BadByte first = (record { line = line; fault = BadByte }, first (λ e. cc), refl, refl)
   stops_at line NoBoardLine first = (record { line = line; fault = NoBoardLine }, first (λ e. cc), refl, refl)

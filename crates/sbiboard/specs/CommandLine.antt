@@ -4,8 +4,8 @@ use Rattle.std.specs.Prelude.{◌==◌, ◌&&◌, ◌||◌, Bool, true, false, n
 use Rattle.std.specs.Str.{bytes_eq}
 use Rattle.clap.specs.Lexer.{long_of}
 use Rattle.clap.specs.Words.{App, Kinds, Row, Rule, Shape, Text, fault_of, first_of, new_app, new_rule, subcommand_of, with_rule, with_subcommand}
-use Rattle.sbiboard.specs.declared.command_line.Task.{Task}
-use Rattle.sbiboard.specs.declared.command_line.Task.TheVariants.{Run, Replay, Check}
+use Rattle.sbiboard.specs.declared.command_line.Subcommand.{Subcommand}
+use Rattle.sbiboard.specs.declared.command_line.Subcommand.TheVariants.{Run, Replay, Check}
 
 -- What is asked for: a subcommand, its FILE, and the file that a record is kept in.
 pub record Invocation : Type 0 where
@@ -66,7 +66,7 @@ abbrev pub asked : List Text → Option Invocation
 asked words = unless_faulty (fault_of sbiboard words) (option_and_then with_file (subcommand_of sbiboard words))
 
 -- What a task asks for.
-abbrev pub task_words : Task → Invocation
+abbrev pub task_words : Subcommand → Invocation
 task_words (Run path kept) = asking (codes "run") path.now (option_map (λ name. name.now) kept)
 task_words (Replay path) = asking (codes "replay") path.now None
 task_words (Check path) = asking (codes "check") path.now None

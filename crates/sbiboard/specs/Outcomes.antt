@@ -6,8 +6,8 @@ use Rattle.std.specs.declared.io.ErrorKind.TheVariants as io_kinds
 use Rattle.clap.specs.Values.{kind_of}
 use Rattle.clap.specs.declared.error.kind.ErrorKind as clap_kind
 use Rattle.clap.specs.declared.error.kind.ErrorKind.TheVariants as clap_kinds
-use Rattle.sbiboard.specs.declared.ending.Stop.{Stop}
-use Rattle.sbiboard.specs.declared.ending.Stop.TheVariants.{Usage, System}
+use Rattle.sbiboard.specs.declared.ending.NoOutcome.{NoOutcome}
+use Rattle.sbiboard.specs.declared.ending.NoOutcome.TheVariants.{Usage, System}
 use Rattle.sbiboard.specs.declared.outcome.Outcome.{Outcome}
 use Rattle.sbiboard.specs.declared.outcome.Outcome.TheVariants.{Good, Script, BadBoard, WrongKind, HistoryFull, Stuck, Differs, NoMemory, Io}
 
@@ -48,17 +48,17 @@ usage_status clap_kinds.OutOfMemory = 6
 usage_status kind = 2
 
 -- memory was refused
-abbrev pub IsMemory : Stop → Type 0
+abbrev pub IsMemory : NoOutcome → Type 0
 IsMemory (System error) = error_kind error ≡ io_kinds.OutOfMemory
 IsMemory (Usage error) = ⊥
 
 -- The status with which a run ends that came to no outcome. Of help, and of a fault of usage, the text may fail to be written.
-abbrev pub StopsWith : Stop → (status : ℕ) → Type 0
+abbrev pub StopsWith : NoOutcome → (status : ℕ) → Type 0
 StopsWith (System error) status = (outcome : Outcome) × FailsAs (error_kind error) outcome
     × (status ≡ status_of outcome)
 StopsWith (Usage error) status =
     (status ≡ usage_status (kind_of error)) ⊎ ((status ≡ status_of NoMemory) ⊎ (status ≡ status_of Io))
 
 -- The status with which a run ends.
-abbrev pub EndsWith : Result Outcome Stop → (status : ℕ) → Type 0
+abbrev pub EndsWith : Result Outcome NoOutcome → (status : ℕ) → Type 0
 EndsWith run status = MatchResult run (λ outcome. status ≡ status_of outcome) (λ stop. StopsWith stop status)

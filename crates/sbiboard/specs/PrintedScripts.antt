@@ -14,6 +14,8 @@ use Rattle.board_terms.specs.declared.reply.Refusal.{Refusal}
 use Rattle.board_terms.specs.declared.reply.Reply.{Reply}
 use Rattle.board_terms.specs.declared.reply.Reply.TheVariants.{Ret, Entry, Value}
 use Rattle.board_core.specs.History.{Event}
+use Rattle.script_lines.specs.declared.script.Doing.{Doing}
+use Rattle.script_lines.specs.declared.script.Doing.TheVariants.{Step, Cut}
 use Rattle.script_lines.specs.declared.script.Line.{Line}
 use Rattle.script_lines.specs.Agreeing.{said_of}
 use Rattle.guest_script.specs.Grammar.{Content, Empty, IsStepLine, most_bytes, Reads, Trace}
@@ -65,32 +67,32 @@ FitsAnswer (Ok (Value value)) = value ≤ last_number
 FitsAnswer answer = Unit {0}
 
 -- the same of a step, and of a cut, which has neither
-abbrev pub ActorFits : Option (Actor × Op) → Type 0
-ActorFits None = Unit {0}
-ActorFits (Some step) = FitsActor step.0
+abbrev pub ActorFits : Doing → Type 0
+ActorFits (Step actor op) = FitsActor actor
+ActorFits Cut = Unit {0}
 
-abbrev pub OpFits : Option (Actor × Op) → Type 0
-OpFits None = Unit {0}
-OpFits (Some step) = FitsOp step.1
+abbrev pub OpFits : Doing → Type 0
+OpFits (Step actor op) = FitsOp op
+OpFits Cut = Unit {0}
 
--- who did what, or a cut, and what it gave
+-- what was done, and what it gave
 pub record Answered : Type 0 where
-  pub step : Option (Actor × Op)
+  pub doing : Doing
   pub answer : Result Reply Refusal
 
 -- what can be written
 pub record FitsAnswered (line : Answered) : Type 0 where
-  pub actor : ActorFits line.step
-  pub op : OpFits line.step
+  pub actor : ActorFits line.doing
+  pub op : OpFits line.doing
   pub answer : FitsAnswer line.answer
 
 -- the words of a printed line
 abbrev pub answered_words : Answered → List (List ℕ)
-answered_words line = line_words line.step line.answer
+answered_words line = line_words line.doing line.answer
 
 -- it as line n of a trace
 abbrev pub trace_line : (n : ℕ) → Answered → Line
-trace_line n line = record { number = n; step = line.step; said = Some (said_of line.answer) }
+trace_line n line = record { number = n; doing = line.doing; said = Some (said_of line.answer) }
 
 -- a printed line, with a blank between each two words, is a line of these words, which are that step or a cut, and what it gave
 abbrev pub LineReadsBack : Type 0

@@ -11,6 +11,8 @@ use Rattle.monitor.specs.Table.{table}
 use Rattle.printed_lines.specs.Words.{board_line_words, as_line, line_words}
 use Rattle.sbiboard.specs.declared.outcome.Outcome.{Outcome}
 use Rattle.sbiboard.specs.declared.outcome.Outcome.TheVariants.{Good, HistoryFull, NoMemory}
+use Rattle.sbiboard.specs.declared.replaying.Replayed.{Replayed}
+use Rattle.sbiboard.specs.declared.replaying.Replayed.TheVariants.{ToTheEnd, UpToCut}
 use Rattle.sbiboard.specs.Check.{agrees_text, EndsCheck}
 use Rattle.sbiboard.specs.Running.{after_line, answer_of, course_after, EndsAs, new_course, StopsAtCut}
 
@@ -25,7 +27,7 @@ scheduled (Trace lines) = None
 abbrev pub lines_text : Course → List Line → List ℕ
 lines_text b [] = []
 lines_text b (line ∷ lines) =
-    as_line (line_words line.step (answer_of b line)) ++ lines_text (after_line b line) lines
+    as_line (line_words line.doing (answer_of b line)) ++ lines_text (after_line b line) lines
 
 abbrev pub is_history_full : Result Reply Refusal → Bool
 is_history_full (Ok reply) = false
@@ -54,22 +56,22 @@ pub record IsReplay (c : Config) (lines : List Line) (text : List ℕ) : Type 0 
   pub accepted : length text ≤ most_bytes → EndsCheck text Good (agrees_text (length lines))
 
 -- What was written of lines, and whether one met a full history. Where memory for a cut was refused, those before it were.
-abbrev pub AreDone : Course → List Line → (met_full : Option Bool) → List ℕ → Type 0
-AreDone b lines None text = (before : List Line) × StopsAtCut lines before × (text ≡ lines_text b before)
-AreDone b lines (Some met_full) text = (met_full ≡ meets_full b lines) × (text ≡ lines_text b lines)
+abbrev pub AreDone : Course → List Line → Replayed → List ℕ → Type 0
+AreDone b lines UpToCut text = (before : List Line) × StopsAtCut lines before × (text ≡ lines_text b before)
+AreDone b lines (ToTheEnd met_full) text = (met_full ≡ meets_full b lines) × (text ≡ lines_text b lines)
 
 -- the same of a schedule's replay as a whole
-abbrev pub IsPrinted : Config → List Line → (met_full : Option Bool) → List ℕ → Type 0
-IsPrinted c lines None text =
+abbrev pub IsPrinted : Config → List Line → Replayed → List ℕ → Type 0
+IsPrinted c lines UpToCut text =
     (before : List Line) × StopsAtCut lines before
     × (text ≡ as_line (board_line_words c) ++ lines_text (new_course c) before)
-IsPrinted c lines (Some met_full) text = (met_full ≡ meets_full (new_course c) lines) × (text ≡ text_of c lines)
+IsPrinted c lines (ToTheEnd met_full) text = (met_full ≡ meets_full (new_course c) lines) × (text ≡ text_of c lines)
 
 -- What the replay of these lines writes with each outcome. Where memory for a cut was refused, it has written what comes before.
 abbrev pub Replays : Config → List Line → Outcome → List ℕ → Type 0
 Replays c lines Good text = (meets_full (new_course c) lines ≡ false) × IsReplay c lines text
 Replays c lines HistoryFull text = (meets_full (new_course c) lines ≡ true) × IsReplay c lines text
-Replays c lines NoMemory text = IsPrinted c lines None text
+Replays c lines NoMemory text = IsPrinted c lines UpToCut text
 Replays c lines outcome text = ⊥
 
 -- What the replay of bytes writes with each outcome.

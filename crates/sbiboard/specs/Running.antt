@@ -2,8 +2,6 @@
 use Rattle.std.specs.Prelude.{◌≡◌, ◌⊎◌, ℕ, ◌<◌, Bool, true, List, [], ◌∷◌, ◌++◌, Option, Some, None, is_some, Result, Ok}
 use Rattle.std.specs.Io.KnownBytes.{Appends, IsAtEnd}
 use Rattle.board_terms.specs.declared.config.Config.{Config}
-use Rattle.board_terms.specs.declared.op.Actor.{Actor}
-use Rattle.board_terms.specs.declared.op.Op.{Op}
 use Rattle.board_terms.specs.declared.reply.Refusal.{Refusal}
 use Rattle.board_terms.specs.declared.reply.Reply.{Reply}
 use Rattle.board_terms.specs.declared.reply.Reply.TheVariants.{Done}
@@ -12,9 +10,11 @@ use Rattle.board_core.specs.Cuts.{opening_of}
 use Rattle.board_terms.specs.Limits.{IsGood}
 use Rattle.board_core.specs.Opening.{opening_at}
 use Rattle.board_core.specs.Replies.{answer, stepped}
-use Rattle.guest_script.specs.declared.fault.Fault.{Fault}
-use Rattle.guest_script.specs.declared.fault.Fault.TheVariants as faults
+use Rattle.guest_script.specs.declared.fault.FaultKind.{FaultKind}
+use Rattle.guest_script.specs.declared.fault.FaultKind.TheVariants as faults
 use Rattle.guest_script.specs.declared.fault.ScriptFault.{ScriptFault}
+use Rattle.script_lines.specs.declared.script.Doing.{Doing}
+use Rattle.script_lines.specs.declared.script.Doing.TheVariants.{Step, Cut}
 use Rattle.script_lines.specs.declared.script.Line.{Line}
 use Rattle.guest_script.specs.FirstFault.{fault_number, first_fault}
 use Rattle.guest_script.specs.Grammar.{Content, Reads, Written}
@@ -30,24 +30,24 @@ abbrev pub new_course : Config → Course
 new_course c = record { opening = opening_at c; past = [] }
 
 -- what is answered: to a step what the board answers, and a cut is done
-abbrev pub answer_to : Course → Option (Actor × Op) → Result Reply Refusal
-answer_to b None = Ok Done
-answer_to b (Some step) = answer b.opening b.past step.0 step.1
+abbrev pub answer_to : Course → Doing → Result Reply Refusal
+answer_to b (Step actor op) = answer b.opening b.past actor op
+answer_to b Cut = Ok Done
 
 abbrev pub answer_of : Course → Line → Result Reply Refusal
-answer_of b line = answer_to b line.step
+answer_of b line = answer_to b line.doing
 
 -- the course after a cut: the board goes on with what its history leaves, and nothing happened since
 abbrev pub after_cut : Course → Course
 after_cut b = record { opening = opening_of b.opening b.past; past = [] }
 
 -- the course after a step, whatever it was answered, or after a cut
-abbrev pub course_with : Course → Option (Actor × Op) → Course
-course_with b None = after_cut b
-course_with b (Some step) = stepped b step.0 step.1
+abbrev pub course_with : Course → Doing → Course
+course_with b (Step actor op) = stepped b actor op
+course_with b Cut = after_cut b
 
 abbrev pub after_line : Course → Line → Course
-after_line b line = course_with b line.step
+after_line b line = course_with b line.doing
 
 -- the course after a list of lines, whatever was refused
 abbrev pub course_after : Course → List Line → Course
@@ -59,7 +59,7 @@ pub record StopsAtCut (lines before : List Line) : Type 0 where
   pub cut : Line
   pub after : List Line
   pub parts : lines ≡ before ++ cut ∷ after
-  pub is_cut : cut.step ≡ None
+  pub is_cut : cut.doing ≡ Cut
 
 -- ---- the end of a task
 
@@ -116,7 +116,7 @@ abbrev pub CountsEnd : Outcome → (reader reader' writer writer' : ℕ) → Typ
 CountsEnd Io reader reader' writer writer' = (reader < reader') ⊎ (writer < writer')
 CountsEnd outcome reader reader' writer writer' = (reader' ≡ reader) × (writer' ≡ writer)
 
-abbrev pub ended_as : ℕ → Fault → Outcome
+abbrev pub ended_as : ℕ → FaultKind → Outcome
 ended_as line faults.NoMemory = NoMemory
 ended_as line fault = Script line (fault_number fault)
 

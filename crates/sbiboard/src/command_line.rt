@@ -13,7 +13,7 @@ use std::alloc::{AllocError, Global};
 
 /// What the program is asked to do.
 #[derive(Clone, Copy, Debug, PartialEq, Eq)]
-pub enum Task<'a> {
+pub enum Subcommand<'a> {
     /// Run the program in this file on threads.
     Run {
         /// The program's file.
@@ -96,7 +96,7 @@ Exit status:
 /// The task that the words of a command line name, the program's own name first, or what clap says of
 /// them: a fault of usage, or the help or the version that was asked for. Words that name a task are refused
 /// for want of memory alone.
-pub fn command<'a>(alloc: Global, words: &'a [String]) -> Result<Task<'a>, Error>
+pub fn command<'a>(alloc: Global, words: &'a [String]) -> Result<Subcommand<'a>, Error>
     ensures task { IfOk result (λ task. asked (map string_bytes words.entry.now) ≡ Some (task_words task)) }
     ensures refused { IfErr result (λ e. is_some (asked (map string_bytes words.entry.now)) ≡ true
         → kind_of e ≡ ErrorKind.OutOfMemory) }
@@ -107,12 +107,12 @@ pub fn command<'a>(alloc: Global, words: &'a [String]) -> Result<Task<'a>, Error
         && let Some(file) = found.get_str(FILE)
     {
         return Ok(match name {
-            RUN => Task::Run {
+            RUN => Subcommand::Run {
                 file,
                 keep: found.get_str(KEEP),
             },
-            CHECK => Task::Check(file),
-            _ => Task::Replay(file),
+            CHECK => Subcommand::Check(file),
+            _ => Subcommand::Replay(file),
         });
     }
     Err(sbiboard.error(

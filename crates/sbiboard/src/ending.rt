@@ -1,7 +1,7 @@
 //! How the program ends: what it tells, and its status.
 ghost use Rattle.std.specs.Prelude.{◌≡◌};
 ghost use Rattle.sbiboard.specs.Outcomes.{EndsWith, IsMemory, StopsWith, status_of, usage_status};
-ghost use Rattle.sbiboard.specs.declared.ending.Stop.TheVariants.{System, Usage};
+ghost use Rattle.sbiboard.specs.declared.ending.NoOutcome.TheVariants.{System, Usage};
 
 use crate::outcome::Outcome;
 use clap::error::ErrorKind;
@@ -11,7 +11,7 @@ use thiserror::Error;
 
 /// Why a run of the program came to no outcome of its task.
 #[derive(Debug, Drop, Error)]
-pub enum Stop {
+pub enum NoOutcome {
     /// The command line is no task: help or the version was asked for, or it is a fault of usage.
     #[error(transparent)]
     Usage(clap::Error),
@@ -20,40 +20,40 @@ pub enum Stop {
     System(io::Error),
 }
 
-impl From<clap::Error> for Stop {
+impl From<clap::Error> for NoOutcome {
     ghost from_gives = { λ error stop. stop ≡ Usage error };
 
-    fn from(error: clap::Error) -> Stop {
-        Stop::Usage(error)
+    fn from(error: clap::Error) -> NoOutcome {
+        NoOutcome::Usage(error)
     }
 }
 
-impl From<io::Error> for Stop {
+impl From<io::Error> for NoOutcome {
     ghost from_gives = { λ error stop. stop ≡ System error };
 
-    fn from(error: io::Error) -> Stop {
-        Stop::System(error)
+    fn from(error: io::Error) -> NoOutcome {
+        NoOutcome::System(error)
     }
 }
 
-impl From<AllocError> for Stop {
+impl From<AllocError> for NoOutcome {
     ghost from_gives = { λ _ stop. IsMemory stop };
 
-    fn from(refused: AllocError) -> Stop {
-        Stop::System(io::Error::from(refused))
+    fn from(refused: AllocError) -> NoOutcome {
+        NoOutcome::System(io::Error::from(refused))
     }
 }
 
 /// Says how a run of the program ended, and answers its exit status (profile). An outcome that isn't good is a line
 /// on standard error; of a command line that is no task clap's text is printed, help and the version on standard
 /// output.
-pub fn ended<R: Eprint + Print>(rt: &R, run: Result<Outcome, Stop>) -> u8
+pub fn ended<R: Eprint + Print>(rt: &R, run: Result<Outcome, NoOutcome>) -> u8
     ensures { EndsWith run result }
 {
     match run {
         Ok(outcome) => report(rt, outcome),
-        Err(Stop::System(error)) => report(rt, Outcome::from(error)),
-        Err(Stop::Usage(error)) => shown(rt, &error),
+        Err(NoOutcome::System(error)) => report(rt, Outcome::from(error)),
+        Err(NoOutcome::Usage(error)) => shown(rt, &error),
     }
 }
 

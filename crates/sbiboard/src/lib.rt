@@ -14,9 +14,9 @@ mod running;
 mod threaded;
 
 pub use checking::check;
-pub use command_line::{Task, asked_as_written, command};
+pub use command_line::{Subcommand, asked_as_written, command};
 pub use device::{Device, ReadFault, Source, read_script};
-pub use ending::{Stop, ended};
+pub use ending::{NoOutcome, ended};
 pub use keeping::KeepFault;
 pub use laws::read_back;
 pub use outcome::Outcome;

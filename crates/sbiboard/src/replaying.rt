@@ -1,9 +1,10 @@
 //! A schedule, replayed on a new board.
-ghost use Rattle.std.specs.Prelude.{◌≡◌, ◌^◌, ◌<◌, ℕ, true, IfOk, IfSome, List, MatchOption, MatchResult, None, Some, take};
+ghost use Rattle.std.specs.Prelude.{◌≡◌, ◌^◌, ◌<◌, ℕ, true, IfOk, IfSome, List, MatchResult, take};
 ghost use Rattle.std.specs.Io.KnownBytes.{Appends};
 ghost use Rattle.sbiboard.specs.Inside.Fitting.{AllFit, AreRead};
 ghost use Rattle.sbiboard.specs.Replay.{AreDone, EndsReplay, IsPrinted, Replays, is_history_full};
-ghost use Rattle.sbiboard.specs.Inside.Done.{IsDone, IsLeft};
+ghost use Rattle.script_lines.specs.declared.script.Doing.TheVariants.{Cut, Step};
+ghost use Rattle.sbiboard.specs.Inside.Done.{IfToTheEnd, IsDoneOrLeft};
 ghost use Rattle.sbiboard.specs.Running.{CountsEnd, EndsFlushed, EndsRead, Writes, course_after, new_course};
 ghost use Rattle.sbiboard.specs.Sources.{ReadsUpTo, read_limit};
 
@@ -11,10 +12,22 @@ use crate::device::Source;
 use crate::fitting::{answer_fits, op_fits};
 use crate::outcome::Outcome;
 use crate::running::{Job, cut, run};
-use board_core::{Board, Config, Refusal, Reply};
-use guest_script::{KeptLine, Lines};
+use board_core::{Actor, Board, Config, Op, Refusal, Reply};
+use guest_script::{Doing, KeptLine, Lines};
 use monitor::{Failed, Page, Sink, print, print_head};
 use std::alloc::Global;
+
+/// How far lines were replayed.
+#[derive(Clone, Copy)]
+pub enum Replayed {
+    /// To the end.
+    ToTheEnd {
+        /// Whether one was refused since the history was full.
+        met_full: bool,
+    },
+    /// Up to a cut, for which memory was refused.
+    UpToCut,
+}
 
 /// Reads a schedule to its end, makes its board, and writes the board line, each line with its reply, and
 /// the board's table. At a line `cut` the board's history is cut. Where this has at most 16,777,216 bytes, it is a trace with which `check` agrees. Nothing is
@@ -52,71 +65,70 @@ pub fn replay_lines<W: Sink>(
     ensures failed { CountsEnd result 0 0 (W.failures writer.old) (W.failures writer.new) }
 {
     match print_replay(alloc, config, lines, board, writer) {
-        Ok(Some(false)) => Outcome::Good,
-        Ok(Some(true)) => Outcome::HistoryFull,
-        Ok(None) => Outcome::NoMemory,
+        Ok(Replayed::ToTheEnd { met_full: false }) => Outcome::Good,
+        Ok(Replayed::ToTheEnd { met_full: true }) => Outcome::HistoryFull,
+        Ok(Replayed::UpToCut) => Outcome::NoMemory,
         Err(Failed) => Outcome::Io,
     }
 }
 
-/// Writes all that a schedule's replay prints, and answers whether a line met a full history; or where memory for a cut
-/// was refused, writes what comes before.
+/// Writes all that a schedule's replay prints; or where memory for a cut was refused, what comes before.
 fn print_replay<W: Sink>(
     alloc: Global,
     config: &Config,
     lines: &Lines,
     board: &mut Board,
     writer: &mut W,
-) -> Result<Option<bool>, Failed>
+) -> Result<Replayed, Failed>
     requires at_opening { board.old ≡ new_course config.now }
     requires counts { W.failures writer.old < 2 ^ 63 }
     ensures text { MatchResult result
         (λ found. (text : List ℕ) × IsPrinted config.now lines.now found text
         × Appends (W.written writer.old) (W.written writer.new) text × (W.failures writer.new ≡ W.failures writer.old))
         (λ _. W.failures writer.old < W.failures writer.new) }
-    ensures fits { IfOk result (λ found. IfSome found (λ _. AllFit (new_course config.now) lines.now)) }
-    ensures flushed { IfOk result (λ found. IfSome found (λ _. W.is_flushed writer.new ≡ true)) }
+    ensures fits { IfOk result (λ found. IfToTheEnd found (AllFit (new_course config.now) lines.now)) }
+    ensures flushed { IfOk result (λ found. IfToTheEnd found (W.is_flushed writer.new ≡ true)) }
 {
     print_head(config, writer)?;
-    let Some(met_full) = print_lines(alloc, lines, board, writer)? else {
-        return Ok(None);
+    let Replayed::ToTheEnd { met_full } = print_lines(alloc, lines, board, writer)? else {
+        return Ok(Replayed::UpToCut);
     };
     print(board, writer)?;
     writer.flush()?;
-    Ok(Some(met_full))
+    Ok(Replayed::ToTheEnd { met_full })
 }
 
-/// Takes the board through the lines, writes each with its reply, and answers whether one met a full history; or where
-/// memory for a cut was refused, writes those before it.
+/// Takes the board through the lines, and writes each with its reply; or where memory for a cut was refused, those before
+/// it.
 fn print_lines<W: Sink>(
     alloc: Global,
     lines: &Lines,
     board: &mut Board,
     writer: &mut W,
-) -> Result<Option<bool>, Failed>
+) -> Result<Replayed, Failed>
     requires { W.failures writer.old < 2 ^ 63 }
     ensures text { MatchResult result
         (λ found. (text : List ℕ) × AreDone board.old lines.now found text
         × Appends (W.written writer.old) (W.written writer.new) text × (W.failures writer.new ≡ W.failures writer.old))
         (λ _. W.failures writer.old < W.failures writer.new) }
-    ensures fits { IfOk result (λ found. IfSome found (λ _. AllFit board.old lines.now)) }
-    ensures course { IfOk result (λ found. IfSome found (λ _. board.new ≡ course_after board.old lines.now)) }
+    ensures fits { IfOk result (λ found. IfToTheEnd found (AllFit board.old lines.now)) }
+    ensures course { IfOk result (λ found. IfToTheEnd found (board.new ≡ course_after board.old lines.now)) }
 {
-    let mut met_full = false;
+    let mut any_full = false;
     let mut page = Page::new();
     for line in lines.iter() {
-        let Some(is_full) = print_done(alloc, &line, board, &mut page, writer)? else {
+        let Replayed::ToTheEnd { met_full } = print_done(alloc, &line, board, &mut page, writer)?
+        else {
             page.put(writer)?;
-            return Ok(None);
+            return Ok(Replayed::UpToCut);
         };
-        met_full |= is_full;
+        any_full |= met_full;
     }
     page.put(writer)?;
-    Ok(Some(met_full))
+    Ok(Replayed::ToTheEnd { met_full: any_full })
 }
 
-/// Takes the board through a line, prints it with its reply, and answers whether it met a full history; or none where memory
-/// for a cut was refused, and nothing changed.
+/// Takes the board through a line, and prints it with its reply; or where memory for a cut was refused, nothing changed.
 #[inline(always)]
 fn print_done<W: Sink>(
     alloc: Global,
@@ -124,29 +136,45 @@ fn print_done<W: Sink>(
     board: &mut Board,
     page: &mut Page,
     writer: &mut W,
-) -> Result<Option<bool>, Failed>
+) -> Result<Replayed, Failed>
     requires { W.failures writer.old < 2 ^ 63 }
     ensures done { MatchResult result
-        (λ found. MatchOption found
-        (IsLeft line.now.step page.old page.new (W.written writer.old) (W.written writer.new) (W.failures writer.old)
-        (W.failures writer.new))
-        (λ full. IsDone board.old board.new line.now.step full page.old page.new
-        (W.written writer.old) (W.written writer.new) (W.failures writer.old) (W.failures writer.new)))
+        (λ found. IsDoneOrLeft board.old board.new line.now.doing found page.old page.new
+        (W.written writer.old) (W.written writer.new) (W.failures writer.old) (W.failures writer.new))
         (λ _. W.failures writer.old < W.failures writer.new) }
 {
-    if line.is_cut() {
-        return print_cut(alloc, board, page, writer);
+    match line.doing() {
+        Doing::Step { actor, op } => print_made(actor, op, board, page, writer),
+        Doing::Cut => print_cut(alloc, board, page, writer),
     }
-    let op = line.op();
-    let answer = board.step(line.actor(), op);
-    op_fits(op);
-    answer_fits(answer);
-    page.print_step(line.actor(), op, answer, writer)?;
-    Ok(Some(is_history_full(&answer)))
 }
 
-/// Cuts the board's history, and prints that; or none where memory was refused, and nothing changed. It is apart, so that a
-/// step has no room of its own for what a cut takes.
+/// Has the board make a step, and prints it with its reply.
+#[inline(always)]
+fn print_made<W: Sink>(
+    actor: Actor,
+    op: Op,
+    board: &mut Board,
+    page: &mut Page,
+    writer: &mut W,
+) -> Result<Replayed, Failed>
+    requires { W.failures writer.old < 2 ^ 63 }
+    ensures done { MatchResult result
+        (λ found. IsDoneOrLeft board.old board.new (Step actor op) found page.old page.new
+        (W.written writer.old) (W.written writer.new) (W.failures writer.old) (W.failures writer.new))
+        (λ _. W.failures writer.old < W.failures writer.new) }
+{
+    let answer = board.step(actor, op);
+    op_fits(op);
+    answer_fits(answer);
+    page.print_step(actor, op, answer, writer)?;
+    Ok(Replayed::ToTheEnd {
+        met_full: is_history_full(&answer),
+    })
+}
+
+/// Cuts the board's history, and prints that; or where memory was refused, nothing changed. It is apart, so that a step has no
+/// room of its own for what a cut takes.
 #[cold]
 #[inline(never)]
 fn print_cut<W: Sink>(
@@ -154,22 +182,21 @@ fn print_cut<W: Sink>(
     board: &mut Board,
     page: &mut Page,
     writer: &mut W,
-) -> Result<Option<bool>, Failed>
+) -> Result<Replayed, Failed>
     requires { W.failures writer.old < 2 ^ 63 }
     ensures done { MatchResult result
-        (λ found. MatchOption found
-        (IsLeft None page.old page.new (W.written writer.old) (W.written writer.new) (W.failures writer.old)
-        (W.failures writer.new))
-        (λ full. IsDone board.old board.new None full page.old page.new
-        (W.written writer.old) (W.written writer.new) (W.failures writer.old) (W.failures writer.new)))
+        (λ found. IsDoneOrLeft board.old board.new Cut found page.old page.new
+        (W.written writer.old) (W.written writer.new) (W.failures writer.old) (W.failures writer.new))
         (λ _. W.failures writer.old < W.failures writer.new) }
 {
     let Ok(answer) = cut(alloc, board) else {
-        return Ok(None);
+        return Ok(Replayed::UpToCut);
     };
     answer_fits(answer);
     page.print_cut(answer, writer)?;
-    Ok(Some(is_history_full(&answer)))
+    Ok(Replayed::ToTheEnd {
+        met_full: is_history_full(&answer),
+    })
 }
 
 /// Whether an answer is that the history is full.

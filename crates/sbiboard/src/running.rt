@@ -1,7 +1,8 @@
 //! What a replay and a check share: a script is read, and its lines are run on a new board.
 
-ghost use Rattle.std.specs.Prelude.{◌≡◌, ◌^◌, ◌<◌, ℕ, IfOk, IfSome, List, None, OnErr, OnOk, take};
+ghost use Rattle.std.specs.Prelude.{◌≡◌, ◌^◌, ◌<◌, ℕ, IfOk, IfSome, List, OnErr, OnOk, take};
 ghost use Rattle.guest_script.specs.Grammar.{Reads, content, written};
+ghost use Rattle.script_lines.specs.declared.script.Doing.TheVariants.{Cut};
 ghost use Rattle.sbiboard.specs.Inside.Fitting.{AreRead};
 ghost use Rattle.sbiboard.specs.Inside.Jobs.{Does, lines_for};
 ghost use Rattle.sbiboard.specs.Running.{CountsEnd, EndsAs, EndsFlushed, EndsRead, Writes, answer_to, course_with, ended_as, new_course, unread_as};
@@ -12,7 +13,7 @@ use crate::device::{ReadFault, Source, read_script};
 use crate::outcome::Outcome;
 use crate::replaying::replay_lines;
 use board_core::{Board, BuildFault, Config, Refusal, Reply};
-use guest_script::{Body, Fault, KeptLine, Lines, Script, ScriptFault};
+use guest_script::{Doing, Body, FaultKind, KeptLine, Lines, Script, ScriptFault};
 use monitor::Sink;
 use std::alloc::{AllocError, Global};
 
@@ -91,7 +92,7 @@ pub fn outcome_of_fault(fault: ScriptFault) -> Outcome
     ensures { result ≡ ended_as fault.line fault.fault }
 {
     match fault.fault {
-        Fault::NoMemory => Outcome::NoMemory,
+        FaultKind::NoMemory => Outcome::NoMemory,
         found => Outcome::Script {
             line: fault.line,
             number: found.number(),
@@ -121,8 +122,8 @@ fn run_lines<W: Sink>(
     }
 }
 
-/// Has the board make a step, or where it is none cut its history, and answers what it answered: a cut is done. The
-/// part of the history that is cut off is dropped.
+/// Has the board do what a line does, and answers what it answered: a cut is done. The part of the history that is cut off
+/// is dropped.
 ///
 /// # Errors
 ///
@@ -134,15 +135,14 @@ pub fn answer_to(
     line: &KeptLine<'_>,
     board: &mut Board,
 ) -> Result<Result<Reply, Refusal>, AllocError>
-    ensures answer { IfOk result (λ answer. answer ≡ answer_to board.old line.now.step) }
-    ensures course { OnOk result (board.new ≡ course_with board.old line.now.step) }
-    ensures cut { OnErr result (line.now.step ≡ None) }
+    ensures answer { IfOk result (λ answer. answer ≡ answer_to board.old line.now.doing) }
+    ensures course { OnOk result (board.new ≡ course_with board.old line.now.doing) }
+    ensures cut { OnErr result (line.now.doing ≡ Cut) }
     ensures unchanged { OnErr result (board.new ≡ board.old) }
 {
-    if line.is_cut() {
-        cut(alloc, board)
-    } else {
-        Ok(board.step(line.actor(), line.op()))
+    match line.doing() {
+        Doing::Step { actor, op } => Ok(board.step(actor, op)),
+        Doing::Cut => cut(alloc, board),
     }
 }
 
@@ -150,8 +150,8 @@ pub fn answer_to(
 #[cold]
 #[inline(never)]
 pub fn cut(alloc: Global, board: &mut Board) -> Result<Result<Reply, Refusal>, AllocError>
-    ensures answer { IfOk result (λ answer. answer ≡ answer_to board.old None) }
-    ensures course { OnOk result (board.new ≡ course_with board.old None) }
+    ensures answer { IfOk result (λ answer. answer ≡ answer_to board.old Cut) }
+    ensures course { OnOk result (board.new ≡ course_with board.old Cut) }
     ensures unchanged { OnErr result (board.new ≡ board.old) }
 {
     match board.cut(alloc) {

@@ -11,7 +11,7 @@ ghost use Rattle.sbiboard.specs.Sources.{ReadsUpTo, read_limit};
 ghost use Rattle.sbiboard.specs.Threaded.{EndsRun, end_line, end_name, events_text, open_lets, outcome_of, programmed, run_text};
 
 use crate::device::{Device, Source, read_script};
-use crate::ending::Stop;
+use crate::ending::NoOutcome;
 use crate::fitting::{answer_fits, op_fits};
 use crate::keeping::{KeepFault, Keeper};
 use crate::outcome::Outcome;
@@ -89,7 +89,7 @@ pub fn run_and_keep<S: Source, W: Sink, R: AllocGlobal + Files + Threads + Wait 
     reader: &mut S,
     writer: &mut W,
     path: &str,
-) -> Result<KeptRun, Stop>
+) -> Result<KeptRun, NoOutcome>
 where
     R::File: Send,
     requires reader_counts { S.failures reader.old < 2 ^ 63 }

@@ -4,7 +4,7 @@
 
 use hart_threads::Open;
 use sbiboard::{
-    Device, Outcome, Stop, Task, check, command, ended, replay, run_and_keep, run_script,
+    Device, Outcome, NoOutcome, Subcommand, check, command, ended, replay, run_and_keep, run_script,
 };
 use std::fs::OpenFile;
 use std::io::{BufWriter, ErrorKind};
@@ -23,7 +23,7 @@ fn main(rt: HostRuntime) -> ExitCode {
 
 fn run<R: AllocGlobal + Env + Files + Print + Threads + Wait + Sync>(
     rt: &R,
-) -> Result<Outcome, Stop>
+) -> Result<Outcome, NoOutcome>
 where
     R::File: Send,
 {
@@ -34,16 +34,16 @@ where
 }
 
 /// Opens the script of a task, whose record must not be kept in the script's place.
-fn script_of<R: Files>(rt: &R, task: Task<'_>) -> Result<R::File, Stop> {
-    let (Task::Run { file, .. } | Task::Replay(file) | Task::Check(file)) = task;
+fn script_of<R: Files>(rt: &R, task: Subcommand<'_>) -> Result<R::File, NoOutcome> {
+    let (Subcommand::Run { file, .. } | Subcommand::Replay(file) | Subcommand::Check(file)) = task;
     let script = fs::open(rt, file)?;
-    if let Task::Run {
+    if let Subcommand::Run {
         keep: Some(path),
         ..
     } = task
         && is_of(rt, &script, path)
     {
-        return Err(Stop::System(io::Error::from(ErrorKind::InvalidInput)));
+        return Err(NoOutcome::System(io::Error::from(ErrorKind::InvalidInput)));
     }
     Ok(script)
 }
@@ -51,9 +51,9 @@ fn script_of<R: Files>(rt: &R, task: Task<'_>) -> Result<R::File, Stop> {
 /// Does a task on its script and standard output.
 fn done<R: AllocGlobal + Files + Print + Threads + Wait + Sync>(
     rt: &R,
-    task: Task<'_>,
+    task: Subcommand<'_>,
     script: R::File,
-) -> Result<Outcome, Stop>
+) -> Result<Outcome, NoOutcome>
 where
     R::File: Send,
 {
@@ -62,13 +62,13 @@ where
     let output = BufWriter::with_capacity(rt.alloc(), BUFFER, io::writer(rt))?;
     let mut writer = Device::new(output);
     Ok(match task {
-        Task::Run {
+        Subcommand::Run {
             keep: Some(path),
             ..
         } => run_and_keep(rt, &mut reader, &mut writer, path)?.reported(),
-        Task::Run { .. } => run_script(rt, &mut reader, &mut writer, &Open),
-        Task::Replay(_) => replay(rt.alloc(), &mut reader, &mut writer),
-        Task::Check(_) => check(rt.alloc(), &mut reader, &mut writer),
+        Subcommand::Run { .. } => run_script(rt, &mut reader, &mut writer, &Open),
+        Subcommand::Replay(_) => replay(rt.alloc(), &mut reader, &mut writer),
+        Subcommand::Check(_) => check(rt.alloc(), &mut reader, &mut writer),
     })
 }
 

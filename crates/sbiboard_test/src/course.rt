@@ -1,7 +1,7 @@
 //! A board under the lines of a schedule or a trace.
 use crate::stale::Expected;
 use board_core::{Board, Event, Refusal, Reply};
-use guest_script::KeptLine;
+use guest_script::{Doing, KeptLine};
 use std::alloc::{AllocError, Global};
 use test_report::{Note, RecordParts};
 
@@ -25,13 +25,13 @@ impl Course {
         }
     }
 
-    /// Has the board make a line's step, or where it is none cut its history, which is always done.
+    /// Has the board do what a line does. A cut is always done.
     pub(crate) fn answer(
         &mut self,
         alloc: Global,
         line: &KeptLine<'_>,
     ) -> Result<Result<Reply, Refusal>, AllocError> {
-        let Some((actor, op)) = line.step() else {
+        let Doing::Step { actor, op } = line.doing() else {
             let Ok(segment) = self.board.cut(alloc) else {
                 return Err(AllocError);
             };

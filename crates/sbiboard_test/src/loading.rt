@@ -1,7 +1,7 @@
 //! A file, read with its conditions, or why it can't be.
 use conditions::{Condition, Wrong, conditions};
 use diagnostics::{bad_board, bad_condition, faulty};
-use guest_script::{Fault, Script, locate};
+use guest_script::{FaultKind, Script, locate};
 use std::alloc::{AllocError, Global};
 use std::fs;
 use std::io::{self, ErrorKind, Read};
@@ -54,7 +54,7 @@ pub(crate) fn load<R: AllocGlobal + Files>(rt: &R, file: &str) -> Result<Loaded,
     };
     let script = match locate(alloc, &text) {
         Ok(script) => script,
-        Err(found) if found.wrong.fault() == Fault::NoMemory => return Err(Unloaded::NoMemory),
+        Err(found) if found.wrong.fault() == FaultKind::NoMemory => return Err(Unloaded::NoMemory),
         Err(found) => return Err(Unloaded::File(faulty(alloc, &text, found)?)),
     };
     if !script.config.is_good() {

@@ -59,7 +59,7 @@ fn compare<R: AllocGlobal>(
     for line in lines.iter() {
         let answer = course.answer(alloc, &line)?;
         if !line.said().is_some_and(|said| said.agrees(&answer)) {
-            let got = step_line(alloc, line.step(), answer)?;
+            let got = step_line(alloc, line.doing(), answer)?;
             let got = str::from_utf8(&got).unwrap_or("").trim();
             differences.push(Difference {
                 line: line.number(),

@@ -1,13 +1,10 @@
 -- A line that is kept is the line.
 use Rattle.std.proofs.Common.{false, ◌≡◌, ◌≢◌, ◌⊎◌, ℕ, zero, suc, ◌+◌, ◌-◌, ◌≤◌, ◌&&◌, eqb, List, [], ◌∷◌, ◌++◌, take, drop, length, get_or, Option, Some, None, refl, sym, ap, ◌∙◌, inl, inr, arith}
-use Rattle.std.proofs.lemmas.Bool.{cases_Bool, cases_lt, and_parts, eqb-true, ne_eqb}
-use Rattle.std.proofs.lemmas.List.{append_assoc, drop-append-le, get_or-take, length-append, length-drop, length-take, map-append, take-append-le, take_all}
+use Rattle.std.proofs.lemmas.Bool.{cases_Bool, cases_lt, and_parts, eqb-true}
+use Rattle.std.proofs.lemmas.List.{drop-append-le, get_or-take, length-append, length-drop, length-take, take-append-le, take_all}
 use Rattle.std.proofs.lemmas.List.FromFn.{fill_by_all}
 use Rattle.std.proofs.Math.Seq.{drop-append_seam, take-append_seam}
 use Rattle.sbi_abi.specs.declared.call.Regs.{Regs}
-use Rattle.board_terms.specs.declared.op.Actor.{Actor}
-use Rattle.board_terms.specs.declared.op.Actor.TheVariants.{Hart, Clock}
-use Rattle.board_terms.specs.declared.op.Op.{Op}
 use Rattle.board_terms.specs.declared.op.Op.TheVariants as ops
 use Rattle.script_lines.specs.declared.line_shape.LineShape.{LineShape}
 use Rattle.script_lines.specs.declared.op_shape.OpShape.{OpShape}
@@ -15,58 +12,31 @@ use Rattle.script_lines.specs.declared.op_shape.OpShape.TheVariants.{Ecall}
 use Rattle.script_lines.specs.declared.op_shape.OpShape.TheVariants as op_shapes
 use Rattle.script_lines.specs.declared.said.Said.{Said}
 use Rattle.script_lines.specs.declared.said.Said.TheVariants as says
-use Rattle.script_lines.specs.declared.said_shape.SaidShape.{SaidShape}
 use Rattle.script_lines.specs.declared.script.Line.{Line}
-use Rattle.script_lines.specs.KeptLines.{AreWithin, IsWithin, line_of, lines_of, part}
-use Rattle.script_lines.specs.Packing.{actor_made, actor_number, FitsKept, kept_count, number_from, op_made, op_numbers, said_count, said_made, said_numbers, said_shape_of, step_made, step_number, used}
-
--- ---- a part of longer lists
-
-pub part_more : (numbers more : List ℕ) (from count : ℕ) → from + count ≤ length numbers → part (numbers ++ more) from count ≡ part numbers from count
-part_more numbers more from count fits =
-    ap (take count) (drop-append-le from numbers more (omega arith))
-    ∙ take-append-le count (drop from numbers) more (omega (arith, length-drop from numbers))
-
-line_more : (numbers more : List ℕ) (kept : LineShape) → IsWithin (length numbers) kept → line_of (numbers ++ more) kept ≡ line_of numbers kept
-line_more numbers more kept within =
-    rw (part_more numbers more kept.from kept.op_count (omega arith), part_more numbers more (kept.from + kept.op_count) (said_count kept.said) (omega arith)) refl
-
-pub lines_more : (numbers more : List ℕ) (kept : List LineShape) → AreWithin (length numbers) kept → lines_of (numbers ++ more) kept ≡ lines_of numbers kept
-lines_more numbers more [] within = refl
-lines_more numbers more (first ∷ kept) within = rw (line_more numbers more first within.0, lines_more numbers more kept within.1) refl
-
-pub within_more : (n m : ℕ) (kept : List LineShape) → n ≤ m → AreWithin n kept → AreWithin m kept
-within_more n m [] le within = tt
-within_more n m (first ∷ kept) le within = (omega (arith, within.0), within_more n m kept le within.1)
+use Rattle.script_lines.specs.KeptLines.{line_of, lines_of, number_count, total_count}
+use Rattle.script_lines.specs.Packing.{doing_made, kept_count, number_from, op_made, op_numbers, said_count, said_made, said_numbers, said_shape_of, used}
 
 -- ---- a line more
 
-part_first : (numbers ns more : List ℕ) → part (numbers ++ (ns ++ more)) (length numbers) (length ns) ≡ ns
-part_first numbers ns more = ap (take (length ns)) (drop-append_seam numbers (ns ++ more)) ∙ take-append_seam ns more
+-- lines behind others, with their numbers behind those of the others
+lines_behind : (numbers more : List ℕ) (kept later : List LineShape) → length numbers ≡ total_count kept
+    → lines_of (numbers ++ more) (kept ++ later) ≡ lines_of numbers kept ++ lines_of more later
+lines_behind [] more [] later all = refl
+lines_behind (n ∷ numbers) more [] later all = absurd (omega (arith, all))
+lines_behind numbers more (first ∷ kept) later all =
+    let count : ℕ = number_count first in
+    rw (take-append-le count numbers more (omega (arith, all)), drop-append-le count numbers more (omega (arith, all)))
+    (ap (λ (ls : List Line). line_of first (take count numbers) ∷ ls) (lines_behind (drop count numbers) more kept later (omega (arith, all, length-drop count numbers))))
 
-part_second : (numbers ns more : List ℕ) → part (numbers ++ (ns ++ more)) (length numbers + length ns) (length more) ≡ more
-part_second numbers ns more =
-    ap (λ (n : ℕ). take (length more) (drop n (numbers ++ (ns ++ more)))) (sym (length-append numbers ns))
-    ∙ ap (λ (xs : List ℕ). take (length more) (drop (length (numbers ++ ns)) xs)) (sym (append_assoc numbers ns more))
-    ∙ ap (take (length more)) (drop-append_seam (numbers ++ ns) more)
-    ∙ take_all (length more) more (omega arith)
+counts_behind : (kept later : List LineShape) → total_count (kept ++ later) ≡ total_count kept + total_count later
+counts_behind [] later = omega arith
+counts_behind (first ∷ kept) later = omega (arith, counts_behind kept later)
 
-actor_kept : (actor : Actor) → FitsKept actor → actor_made (actor_number actor) ≡ actor
-actor_kept Clock fits = refl
-actor_kept (Hart h) fits = elim (cases_Bool (eqb h 128)) [
-  | inl same ↦ absurd (omega (arith, eqb-true h 128 same, fits))
-  | inr other ↦ rw other refl
-]
+pub length_lines : (numbers : List ℕ) (kept : List LineShape) → length (lines_of numbers kept) ≡ length kept
+length_lines numbers [] = refl
+length_lines numbers (first ∷ kept) = ap suc (length_lines (drop (number_count first) numbers) kept)
 
-number_kept : (actor : Actor) → FitsKept actor → eqb (actor_number actor) 129 ≡ false
-number_kept Clock fits = refl
-number_kept (Hart h) fits = ne_eqb h 129 (λ e. omega (arith, e, fits))
-
--- an actor's operation that is kept
-pub step_kept : (actor : Actor) (op : Op) (shape : OpShape) (ns : List ℕ) → FitsKept actor → op_made shape ns ≡ op → step_made (actor_number actor) shape ns ≡ Some (actor, op)
-step_kept actor op shape ns fits made = rw (number_kept actor fits, actor_kept actor fits, made) refl
-
-pub length_said : (said : Option Said) → length (said_numbers said) ≡ said_count (said_shape_of said)
+length_said : (said : Option Said) → length (said_numbers said) ≡ said_count (said_shape_of said)
 length_said None = refl
 length_said (Some (says.Ret error value)) = refl
 length_said (Some says.Waiting) = refl
@@ -79,35 +49,37 @@ length_said (Some (says.Moved state)) = refl
 length_said (Some says.Done) = refl
 length_said (Some (says.Refused n)) = refl
 
--- what is kept of a line behind so many numbers, by its operation's shape and numbers
-abbrev pub kept_as : (from : ℕ) → Line → OpShape → List ℕ → LineShape
-kept_as from line shape ns = record { number = line.number; from = from; actor = step_number line.step; op = shape; op_count = length ns; said = said_shape_of line.said }
+-- what is kept of a line, whose numbers these are with those of what it says behind them
+pub record IsKept (line : Line) (kept : LineShape) (ns : List ℕ) : Type 0 where
+  pub number : kept.number ≡ line.number
+  pub doing : doing_made kept.doing ns ≡ line.doing
+  pub count : kept.op_count ≡ length ns
+  pub shape : kept.said ≡ said_shape_of line.said
+  pub said : said_made kept.said (said_numbers line.said) ≡ line.said
 
-module _ (numbers : List ℕ) (line : Line) (shape : OpShape) (ns : List ℕ) where
-  kept_within : IsWithin (length (numbers ++ (ns ++ said_numbers line.said))) (kept_as (length numbers) line shape ns)
-  kept_within = omega (arith, length-append numbers (ns ++ said_numbers line.said), length-append ns (said_numbers line.said), length_said line.said)
+module _ {line : Line} {first : LineShape} {ns : List ℕ} (is : IsKept line first ns) where
+  all_counted : number_count first ≡ length (ns ++ said_numbers line.said)
+  all_counted =
+      let said : said_count first.said ≡ length (said_numbers line.said) = ap said_count is.shape ∙ sym (length_said line.said) in
+      omega (arith, is.count, said, length-append ns (said_numbers line.said))
 
-  line_kept : step_made (step_number line.step) shape ns ≡ line.step → said_made (said_shape_of line.said) (said_numbers line.said) ≡ line.said
-      → line_of (numbers ++ (ns ++ said_numbers line.said)) (kept_as (length numbers) line shape ns) ≡ line
-  line_kept step said =
-      rw (
-        part_first numbers ns (said_numbers line.said),
-        ← length_said line.said,
-        part_second numbers ns (said_numbers line.said),
-        step,
-        said,
-      ) refl
+  line_kept : line_of first (ns ++ said_numbers line.said) ≡ line
+  line_kept =
+      rw (is.count, take-append_seam ns (said_numbers line.said), drop-append_seam ns (said_numbers line.said), is.doing, is.said, is.number) refl
 
-  lines_pushed : (kept : List LineShape) → AreWithin (length numbers) kept → step_made (step_number line.step) shape ns ≡ line.step
-      → said_made (said_shape_of line.said) (said_numbers line.said) ≡ line.said
-      → lines_of (numbers ++ (ns ++ said_numbers line.said)) (kept ++ kept_as (length numbers) line shape ns ∷ []) ≡ lines_of numbers kept ++ line ∷ []
-  lines_pushed kept within step said =
-      map-append (line_of (numbers ++ (ns ++ said_numbers line.said))) kept (kept_as (length numbers) line shape ns ∷ [])
-      ∙ rw (lines_more numbers (ns ++ said_numbers line.said) kept within, line_kept step said) refl
+  alone : lines_of (ns ++ said_numbers line.said) (first ∷ []) ≡ line ∷ []
+  alone =
+      rw (take_all (number_count first) (ns ++ said_numbers line.said) (omega (arith, all_counted))) (ap (λ (l : Line). l ∷ []) line_kept)
 
-pub within_both : (n : ℕ) (kept more : List LineShape) → AreWithin n kept → AreWithin n more → AreWithin n (kept ++ more)
-within_both n [] more within later = later
-within_both n (first ∷ kept) more within later = (within.0, within_both n kept more within.1 later)
+  pub put_lines : (old new : List ℕ) (kept : List LineShape) → length old ≡ total_count kept → new ≡ old ++ (ns ++ said_numbers line.said)
+      → lines_of new (kept ++ first ∷ []) ≡ lines_of old kept ++ line ∷ []
+  put_lines old new kept all more =
+      rw (more, lines_behind old (ns ++ said_numbers line.said) kept (first ∷ []) all) (ap (λ (ls : List Line). lines_of old kept ++ ls) alone)
+
+  pub put_counts : (old new : List ℕ) (kept : List LineShape) → length old ≡ total_count kept → new ≡ old ++ (ns ++ said_numbers line.said)
+      → length new ≡ total_count (kept ++ first ∷ [])
+  put_counts old new kept all more =
+      omega (arith, ap length more, length-append old (ns ++ said_numbers line.said), all, all_counted, counts_behind kept (first ∷ []))
 
 -- ---- calls
 
@@ -144,41 +116,6 @@ call_made regs six =
     ∷ number_from (take (used regs.a) regs.a) 4 ∷ number_from (take (used regs.a) regs.a) 5 ∷ [] ≡ regs.a =
     sym (fill_by_all (λ k. number_from (take (used regs.a) regs.a) k) regs.a 6 0 six (λ k h. sym (taken regs.a k))) in
     ap (λ (xs : List ℕ). ops.Ecall (record { eid = regs.eid; fid = regs.fid; a = xs })) a
-
--- a line that is put behind others
-pub record IsPut (old new : List ℕ) (line : Line) (kept : LineShape) : Type 0 where
-  pub shape : OpShape
-  pub ns : List ℕ
-  pub numbers : new ≡ old ++ (ns ++ said_numbers line.said)
-  pub is : kept ≡ kept_as (length old) line shape ns
-  pub step : step_made (step_number line.step) shape ns ≡ line.step
-  pub said : said_made (said_shape_of line.said) (said_numbers line.said) ≡ line.said
-
-pub put_from : (old middle new : List ℕ) (line : Line) (shape : OpShape) (ns : List ℕ) (said : SaidShape) (actor from count : ℕ) → middle ≡ old ++ ns → new ≡ middle ++ said_numbers line.said
-    → said ≡ said_shape_of line.said → actor ≡ step_number line.step → from ≡ length old → count ≡ length middle - length old
-    → step_made (step_number line.step) shape ns ≡ line.step → said_made said (said_numbers line.said) ≡ line.said
-    → IsPut old new line (record { number = line.number; from = from; actor = actor; op = shape; op_count = count; said = said })
-put_from old middle new line shape ns said actor from count first second is_said is_actor is_from is_count step said_is =
-    let counted : count ≡ length ns = omega (arith, is_count, ap length first, length-append old ns) in
-    record {
-      shape = shape;
-      ns = ns;
-      numbers = second ∙ rw first (append_assoc old ns (said_numbers line.said));
-      is = rw (is_said, is_actor, is_from, counted) refl;
-      step = step;
-      said = rw is_said at said_is;
-    }
-
-module _ {old new : List ℕ} {line : Line} {first : LineShape} (put : IsPut old new line first) (kept : List LineShape) (within : AreWithin (length old) kept) where
-  pub put_lines : lines_of new (kept ++ first ∷ []) ≡ lines_of old kept ++ line ∷ []
-  put_lines = rw (put.numbers, put.is) (lines_pushed old line put.shape put.ns kept within put.step put.said)
-
-  pub put_within : AreWithin (length new) (kept ++ first ∷ [])
-  put_within =
-      let more : List ℕ = put.ns ++ said_numbers line.said in
-      rw (put.numbers, put.is)
-      (within_both (length (old ++ more)) kept (kept_as (length old) line put.shape put.ns ∷ []) (within_more (length old) _ kept (omega (arith, length-append old more)) within)
-      (kept_within old line put.shape put.ns, tt))
 
 -- ---- zeros at the end
 

@@ -1,38 +1,38 @@
 -- Lines as they are kept.
-use Rattle.std.specs.Prelude.{◌≡◌, ℕ, ◌+◌, ◌<◌, ◌≤◌, List, [], ◌∷◌, take, drop, length, map, Some, is_some}
-use Rattle.std.specs.List.{AllByRecursion}
+use Rattle.std.specs.Prelude.{◌≡◌, ℕ, ◌+◌, ◌<◌, List, [], ◌∷◌, take, drop, length, is_some}
 use Rattle.script_lines.specs.declared.line_shape.LineShape.{LineShape}
 use Rattle.script_lines.specs.declared.lines.TheConstants.{MOST_LINES}
 use Rattle.script_lines.specs.declared.plain.Plain.{Plain}
+use Rattle.script_lines.specs.declared.script.Doing.TheVariants.{Step}
 use Rattle.script_lines.specs.declared.script.Line.{Line}
-use Rattle.script_lines.specs.Packing.{op_made, said_count, said_made, step_made, StepFits}
+use Rattle.script_lines.specs.Packing.{DoingFits, doing_made, op_made, said_count, said_made}
 
--- so many numbers from a place on
-abbrev pub part : List ℕ → (from count : ℕ) → List ℕ
-part numbers from count = take count (drop from numbers)
+-- how many numbers a line has, and how many lines have
+abbrev pub number_count : LineShape → ℕ
+number_count kept = kept.op_count + said_count kept.said
 
--- the line that is kept so
-abbrev pub line_of : (numbers : List ℕ) → LineShape → Line
-line_of numbers kept = record {
+abbrev pub total_count : List LineShape → ℕ
+total_count [] = 0
+total_count (first ∷ kept) = number_count first + total_count kept
+
+-- the line of a shape and its numbers
+abbrev pub line_of : LineShape → (numbers : List ℕ) → Line
+line_of kept numbers = record {
   number = kept.number;
-  step = step_made kept.actor kept.op (part numbers kept.from kept.op_count);
-  said = said_made kept.said (part numbers (kept.from + kept.op_count) (said_count kept.said));
+  doing = doing_made kept.doing (take kept.op_count numbers);
+  said = said_made kept.said (drop kept.op_count numbers);
 }
 
+-- lines, whose numbers stand one behind the other
 abbrev pub lines_of : (numbers : List ℕ) → List LineShape → List Line
-lines_of numbers kept = map (line_of numbers) kept
-
--- a line's numbers stand among so many
-abbrev pub IsWithin : (count : ℕ) → LineShape → Type 0
-IsWithin count kept = kept.from + (kept.op_count + said_count kept.said) ≤ count
-
-abbrev pub AreWithin : (count : ℕ) → List LineShape → Type 0
-AreWithin count kept = AllByRecursion (IsWithin count) kept
+lines_of numbers [] = []
+lines_of numbers (first ∷ kept) =
+    line_of first (take (number_count first) numbers) ∷ lines_of (drop (number_count first) numbers) kept
 
 -- the line that parts make
 abbrev pub plain_line : (number : ℕ) → Plain → (numbers : List ℕ) → Line
 plain_line number plain
-    numbers = record { number = number; step = Some (plain.actor, op_made plain.op numbers); said = plain.said }
+    numbers = record { number = number; doing = Step plain.actor (op_made plain.op numbers); said = plain.said }
 
 -- The line says what was given where the first of these lines does, and there alone: a trace's lines all do, and a schedule's
 -- none.
@@ -45,5 +45,5 @@ IsLike (first ∷ lines) line = is_some first.said ≡ is_some line.said
 pub record CanFollow (lines : List Line) (line : Line) : Type 0 where
   pub few : length lines < MOST_LINES
   pub number : line.number < MOST_LINES
-  pub actor : StepFits line.step
+  pub actor : DoingFits line.doing
   pub like : IsLike lines line

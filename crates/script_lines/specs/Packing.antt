@@ -5,6 +5,10 @@ use Rattle.board_terms.specs.declared.op.Actor.{Actor}
 use Rattle.board_terms.specs.declared.op.Actor.TheVariants.{Hart, Clock}
 use Rattle.board_terms.specs.declared.op.Op.{Op}
 use Rattle.board_terms.specs.declared.op.Op.TheVariants as ops
+use Rattle.script_lines.specs.declared.line_shape.DoingShape.{DoingShape}
+use Rattle.script_lines.specs.declared.line_shape.DoingShape.TheVariants as doings
+use Rattle.script_lines.specs.declared.line_shape.ActorShape.{ActorShape}
+use Rattle.script_lines.specs.declared.line_shape.ActorShape.TheVariants as actors
 use Rattle.script_lines.specs.declared.op_name.OpName.{OpName}
 use Rattle.script_lines.specs.declared.op_name.OpName.TheVariants as names
 use Rattle.script_lines.specs.declared.op_shape.OpShape.{OpShape}
@@ -15,6 +19,8 @@ use Rattle.script_lines.specs.declared.said_name.SaidName.{SaidName}
 use Rattle.script_lines.specs.declared.said_name.SaidName.TheVariants as saids
 use Rattle.script_lines.specs.declared.said_shape.SaidShape.{SaidShape}
 use Rattle.script_lines.specs.declared.said_shape.SaidShape.TheVariants as shapes
+use Rattle.script_lines.specs.declared.script.Doing.{Doing}
+use Rattle.script_lines.specs.declared.script.Doing.TheVariants.{Step, Cut}
 
 -- the number in a place, which is 0 past the end
 abbrev pub number_from : List ℕ → ℕ → ℕ
@@ -199,34 +205,27 @@ said_count shapes.Refused = 1
 
 -- ---- a line
 
--- an actor as a number: a hart's, or 128 for the clock
-abbrev pub actor_number : Actor → ℕ
-actor_number (Hart h) = h
-actor_number Clock = 128
-
-abbrev pub actor_made : ℕ → Actor
-actor_made n = if n == 128 then Clock else Hart n
+-- the actor of a shape
+abbrev pub actor_made : ActorShape → Actor
+actor_made (actors.Hart h) = Hart h
+actor_made actors.Clock = Clock
 
 -- a hart's number is at most 127
 abbrev pub FitsKept : Actor → Type 0
 FitsKept (Hart h) = h < 128
 FitsKept Clock = Unit {0}
 
--- what a line does as a number: its actor's, or 129 for a cut
-abbrev pub step_number : Option (Actor × Op) → ℕ
-step_number None = 129
-step_number (Some step) = actor_number step.0
+-- the numbers of what a line does: its operation's, and a cut has none
+abbrev pub doing_numbers : Doing → List ℕ
+doing_numbers (Step actor op) = op_numbers op
+doing_numbers Cut = []
 
--- its numbers: those of its operation, and none of a cut
-abbrev pub step_numbers : Option (Actor × Op) → List ℕ
-step_numbers None = []
-step_numbers (Some step) = op_numbers step.1
+-- what a line does, made of its shape and its numbers
+abbrev pub doing_made : DoingShape → List ℕ → Doing
+doing_made (doings.Step actor op) ns = Step (actor_made actor) (op_made op ns)
+doing_made doings.Cut ns = Cut
 
--- A cut's shape says nothing.
-abbrev pub step_made : ℕ → OpShape → List ℕ → Option (Actor × Op)
-step_made n shape ns = if n == 129 then None else Some (actor_made n, op_made shape ns)
-
--- the actor of a step can be kept
-abbrev pub StepFits : Option (Actor × Op) → Type 0
-StepFits None = Unit {0}
-StepFits (Some step) = FitsKept step.0
+-- what a line does can be kept
+abbrev pub DoingFits : Doing → Type 0
+DoingFits (Step actor op) = FitsKept actor
+DoingFits Cut = Unit {0}

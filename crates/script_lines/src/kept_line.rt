@@ -1,12 +1,11 @@
 //! A line where it is kept: its parts are made when they are asked for.
-ghost use Rattle.std.specs.Prelude.{◌≡◌, ◌↔◌, true, IfSome, None, length};
+ghost use Rattle.std.specs.Prelude.{◌≡◌, length};
 ghost use Rattle.script_lines.specs.declared.script.Line.{Line};
-ghost use Rattle.script_lines.specs.KeptLines.{IsWithin, line_of};
+ghost use Rattle.script_lines.specs.KeptLines.{line_of, number_count};
 
-use crate::line_shape::{CUT, LineShape, actor};
+use crate::line_shape::LineShape;
 use crate::said::Said;
-use crate::script::Line;
-use board_terms::{Actor, Op};
+use crate::script::{Doing, Line};
 use std::marker::Model;
 
 /// A line of a schedule or of a trace, where it is kept: each of its parts is made when it is asked for.
@@ -19,9 +18,9 @@ pub struct KeptLine<'a> {
 impl<'a> Model for KeptLine<'a> {
     ghost Value = { Line };
 
-    ghost view = { λ l. line_of l.numbers.now l.kept.now };
+    ghost view = { λ l. line_of l.kept.now l.numbers.now };
 
-    ghost invariant = { λ l. IsWithin (length l.numbers.now) l.kept.now };
+    ghost invariant = { λ l. length l.numbers.now ≡ number_count l.kept.now };
 }
 
 impl<'a> KeptLine<'a> {
@@ -32,48 +31,21 @@ impl<'a> KeptLine<'a> {
         u64::from(self.kept.number)
     }
 
-    /// Whether the line is `cut`, which has no actor.
+    /// What it does.
     #[inline(always)]
-    pub fn is_cut(&self) -> bool
-        ensures { (result ≡ true) ↔ (self.now.step ≡ None) }
+    pub fn doing(&self) -> Doing
+        ensures { result ≡ self.now.doing }
     {
-        self.kept.actor == CUT
-    }
-
-    /// Who makes the step, where the line isn't `cut`.
-    pub fn actor(&self) -> Actor
-        ensures { IfSome self.now.step (λ step. result ≡ step.0) }
-    {
-        actor(self.kept.actor)
-    }
-
-    /// What it does, where the line isn't `cut`.
-    #[inline(always)]
-    pub fn op(&self) -> Op
-        ensures { IfSome self.now.step (λ step. result ≡ step.1) }
-    {
-        let from = self.kept.from as usize;
-        let end = from + self.kept.op_count as usize;
-        self.kept.op.op(&self.numbers[from..end])
-    }
-
-    /// Who makes the step, and what it does; none where the line is `cut`.
-    pub fn step(&self) -> Option<(Actor, Op)>
-        ensures { result ≡ self.now.step }
-    {
-        if self.is_cut() {
-            return None;
-        }
-        Some((self.actor(), self.op()))
+        let end = self.kept.op_count as usize;
+        self.kept.doing.doing(&self.numbers[..end])
     }
 
     /// What it gave: in a trace, and there alone.
     pub fn said(&self) -> Option<Said>
         ensures { result ≡ self.now.said }
     {
-        let from = self.kept.from as usize + self.kept.op_count as usize;
-        let end = from + self.kept.said.count();
-        self.kept.said.said(&self.numbers[from..end])
+        let from = self.kept.op_count as usize;
+        self.kept.said.said(&self.numbers[from..])
     }
 
     /// The whole line.
@@ -82,7 +54,7 @@ impl<'a> KeptLine<'a> {
     {
         Line {
             number: self.number(),
-            step: self.step(),
+            doing: self.doing(),
             said: self.said(),
         }
     }

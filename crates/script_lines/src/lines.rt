@@ -1,19 +1,19 @@
 //! The lines of a schedule or a trace, packed.
-ghost use Rattle.std.specs.Prelude.{◌≡◌, ◌↔◌, ◌==◌, ◌++◌, ◌∷◌, [], ◌*◌, ◌+◌, ◌<◌, ◌≤◌, true, IsErrOf, List, OnErr, OnOk, length, slice_get, vec_len};
+ghost use Rattle.std.specs.Prelude.{◌≡◌, ◌↔◌, ◌==◌, ◌++◌, ◌∷◌, [], ◌<◌, ◌≤◌, true, IsErrOf, List, OnErr, OnOk, length, slice_get};
 ghost use Rattle.std.specs.Iterator.{YieldsFirst, item_count};
 ghost use Rattle.script_lines.specs.declared.script.Line.{Line};
 ghost use Rattle.script_lines.specs.declared.lines.LineFault.TheVariants.{BadLine, NoMemory};
-ghost use Rattle.script_lines.specs.KeptLines.{AreWithin, CanFollow, IsLike, lines_of, plain_line};
-ghost use Rattle.script_lines.specs.Packing.{FitsKept, StepFits};
+ghost use Rattle.script_lines.specs.KeptLines.{CanFollow, IsLike, lines_of, plain_line, total_count};
+ghost use Rattle.script_lines.specs.Packing.{DoingFits, FitsKept};
 
 use crate::kept_line::KeptLine;
-use crate::line_shape::{LineShape, actor_number, step_number};
-use crate::op_shape::{OP_NUMBERS, put_all, put_step};
+use crate::line_shape::{DoingShape, ActorShape, LineShape};
+use crate::op_shape::{OP_NUMBERS, put_all};
 use crate::places::LAST_HART;
 use crate::plain::Plain;
 use crate::said_shape::{SAID_NUMBERS, SaidShape};
-use crate::script::Line;
-use board_terms::{Actor, Op};
+use crate::script::{Doing, Line};
+use board_terms::Actor;
 use std::alloc::{AllocError, Global};
 use std::marker::Model;
 use thiserror::Error;
@@ -26,6 +26,8 @@ const MANY_BYTES: usize = 1 << 16;
 
 /// How many bytes a short line has.
 const LINE_BYTES: usize = 8;
+
+const _: () = prove!(size_of::<LineShape>() == 12);
 
 /// How many lines there are at most, and below which their numbers are: 2^28 (profile).
 pub const MOST_LINES: usize = 1 << 28;
@@ -50,12 +52,15 @@ impl From<AllocError> for LineFault {
 }
 
 /// Whether a line is a cut, or a step of the clock or of a hart up to 127.
-fn fits(step: Option<(Actor, Op)>) -> bool
-    ensures { (result ≡ true) ↔ StepFits step }
+fn fits(doing: Doing) -> bool
+    ensures { (result ≡ true) ↔ DoingFits doing }
 {
-    match step {
-        Some((Actor::Hart(hart), _)) => hart <= LAST_HART,
-        Some((Actor::Clock, _)) | None => true,
+    match doing {
+        Doing::Step { actor, op: _ } => match actor {
+            Actor::Hart(hart) => hart <= LAST_HART,
+            Actor::Clock => true,
+        },
+        Doing::Cut => true,
     }
 }
 
@@ -71,8 +76,7 @@ impl Model for Lines {
 
     ghost view = { λ l. lines_of l.numbers.items l.kept.items };
 
-    ghost invariant = { λ l. AreWithin (length l.numbers.items) l.kept.items
-        × (vec_len l.numbers ≤ 11 * vec_len l.kept) };
+    ghost invariant = { λ l. length l.numbers.items ≡ total_count l.kept.items };
 }
 
 impl Lines {
@@ -109,7 +113,7 @@ impl Lines {
     {
         self.len() < MOST_LINES
             && line.number < MOST_LINES as u64
-            && fits(line.step)
+            && fits(line.doing)
             && self.is_like(line)
     }
 
@@ -117,7 +121,7 @@ impl Lines {
     fn is_like(&self, line: &Line) -> bool
         ensures { (result ≡ true) ↔ IsLike self.now line.now }
     {
-        match self.get(0) {
+        match self.first() {
             None => true,
             Some(first) => first.said.is_some() == line.said.is_some(),
         }
@@ -144,23 +148,20 @@ impl Lines {
     /// Memory was refused.
     pub fn push(&mut self, line: &Line) -> Result<(), AllocError>
         requires number { line.now.number < MOST_LINES }
-        requires actor { StepFits line.now.step }
-        requires few { length self.old < MOST_LINES }
+        requires actor { DoingFits line.now.doing }
         ensures pushed { OnOk result (self.new ≡ self.old ++ line.now ∷ []) }
         ensures refused { OnErr result (self.new ≡ self.old) }
     {
         self.kept.reserve(1)?;
         self.numbers.reserve(LINE_NUMBERS)?;
-        let from = self.numbers.len();
-        let op = put_step(line.step, &mut self.numbers);
-        let middle = self.numbers.len();
+        let before = self.numbers.len();
+        let doing = DoingShape::put(line.doing, &mut self.numbers);
+        let op_count = self.numbers.len() - before;
         let said = SaidShape::put(line.said, &mut self.numbers);
         self.kept.push_reserved(LineShape {
             number: line.number as u32,
-            from: from as u32,
-            actor: step_number(line.step),
-            op,
-            op_count: (middle - from) as u8,
+            doing,
+            op_count: op_count as u8,
             said,
         });
         Ok(())
@@ -181,20 +182,19 @@ impl Lines {
         requires number { number < MOST_LINES }
         requires actor { FitsKept plain.actor }
         requires numbers { length numbers.now ≤ OP_NUMBERS }
-        requires few { length self.old < MOST_LINES }
         ensures { OnOk result (self.new ≡ self.old ++ plain_line number plain numbers.now ∷ []) }
     {
         self.kept.reserve(1)?;
         self.numbers.reserve(LINE_NUMBERS)?;
-        let from = self.numbers.len();
         let count = plain.op.kept_count(numbers);
         put_all(&numbers[..count], &mut self.numbers);
         let said = SaidShape::put(plain.said, &mut self.numbers);
         self.kept.push_reserved(LineShape {
             number: number as u32,
-            from: from as u32,
-            actor: actor_number(plain.actor),
-            op: plain.op,
+            doing: DoingShape::Step {
+                actor: ActorShape::of(plain.actor),
+                op: plain.op,
+            },
             op_count: count as u8,
             said,
         });
@@ -202,6 +202,7 @@ impl Lines {
     }
 
     /// How many lines there are.
+    #[tactic(auto, using(crate::proofs::Packed::length_lines))]
     pub fn len(&self) -> usize
         ensures { result ≡ length self.now }
     {
@@ -212,21 +213,15 @@ impl Lines {
     pub fn is_empty(&self) -> bool
         ensures { result ≡ (length self.now == 0) }
     {
-        self.kept.is_empty()
+        self.len() == 0
     }
 
-    /// The line in a place, from 0, if there is one.
-    pub fn get(&self, place: usize) -> Option<Line>
-        ensures { result ≡ slice_get self.now place }
+    /// The first line, if there is one.
+    pub fn first(&self) -> Option<Line>
+        ensures { result ≡ slice_get self.now 0 }
     {
-        match self.kept.get(place) {
-            Some(kept) => {
-                let found = KeptLine {
-                    kept,
-                    numbers: &self.numbers,
-                };
-                Some(found.line())
-            }
+        match self.iter().next() {
+            Some(found) => Some(found.line()),
             None => None,
         }
     }
@@ -254,7 +249,7 @@ impl<'a> Model for LinesIter<'a> {
 
     ghost view = { λ l. lines_of l.numbers.now l.left.now };
 
-    ghost invariant = { λ l. AreWithin (length l.numbers.now) l.left.now };
+    ghost invariant = { λ l. length l.numbers.now ≡ total_count l.left.now };
 }
 
 impl<'a> Iterator for LinesIter<'a> {
@@ -266,10 +261,9 @@ impl<'a> Iterator for LinesIter<'a> {
 
     fn next(&mut self) -> Option<KeptLine<'a>> {
         let (kept, left) = self.left.split_first()?;
+        let (numbers, others) = self.numbers.split_at(kept.number_count());
         self.left = left;
-        Some(KeptLine {
-            kept,
-            numbers: self.numbers,
-        })
+        self.numbers = others;
+        Some(KeptLine { kept, numbers })
     }
 }

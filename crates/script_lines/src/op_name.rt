@@ -1,5 +1,5 @@
 //! Operations by their names: the word of each, the numbers that may follow it, and whether a guest may do it.
-ghost use Rattle.std.specs.Prelude.{◌≡◌, ◌≤◌, MatchOption, None};
+ghost use Rattle.std.specs.Prelude.{◌≡◌, ◌≤◌, MatchOption, None, length};
 ghost use Rattle.script_lines.specs.Names.{is_guests, name_of, op_from, op_named, op_places, op_word, regs_of};
 ghost use Rattle.script_lines.specs.Packing.{named_shape};
 
@@ -75,7 +75,8 @@ impl OpName {
     /// The word that names it.
     #[inline(always)]
     pub fn word(self) -> &'static [u8]
-        ensures { result.now ≡ op_word self }
+        ensures word { result.now ≡ op_word self }
+        ensures len { length result.now ≤ 9 }
     {
         match self {
             OpName::Ecall => b"ecall",

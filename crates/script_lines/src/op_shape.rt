@@ -1,8 +1,8 @@
 //! Operations without their numbers.
 ghost use Rattle.std.specs.Prelude.{◌≡◌, ◌+◌, ◌≤◌, ◌++◌, ◌∷◌, [], take, length, vec_len, vec_capacity};
-ghost use Rattle.script_lines.specs.Packing.{kept_count, number_from, op_made, op_numbers, shape_of, step_made, step_number, step_numbers, used, StepFits};
+ghost use Rattle.script_lines.specs.Packing.{kept_count, number_from, op_made, op_numbers, shape_of, used};
 
-use board_terms::{Actor, Op};
+use board_terms::Op;
 use sbi_abi::Regs;
 
 /// How many numbers an operation has at most.
@@ -136,23 +136,6 @@ impl OpShape {
             OpShape::Advance => Op::Advance,
             OpShape::Tick => Op::Tick(number_from(numbers, 0)),
         }
-    }
-}
-
-/// The shape of what a line does, of which a cut's says nothing. The numbers are put behind the others.
-#[tactic(auto, using(crate::proofs::Packed::step_kept))]
-pub fn put_step(step: Option<(Actor, Op)>, numbers: &mut Vec<u64>) -> OpShape
-    requires room { vec_len numbers.old + OP_NUMBERS ≤ vec_capacity numbers.old }
-    requires actor { StepFits step }
-    ensures numbers { numbers.new.items ≡ numbers.old.items ++ step_numbers step }
-    ensures made { step_made (step_number step) result (step_numbers step) ≡ step }
-    ensures len { vec_len numbers.new ≤ vec_len numbers.old + OP_NUMBERS }
-    ensures more { vec_len numbers.old ≤ vec_len numbers.new }
-    ensures capacity { vec_capacity numbers.new ≡ vec_capacity numbers.old }
-{
-    match step {
-        Some((_, op)) => OpShape::put(op, numbers),
-        None => OpShape::Advance,
     }
 }
 

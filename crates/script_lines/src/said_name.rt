@@ -1,5 +1,5 @@
 //! Replies and refusals by their names: the word of each, and the numbers that may follow it.
-ghost use Rattle.std.specs.Prelude.{◌≡◌, ◌≤◌, MatchOption, None};
+ghost use Rattle.std.specs.Prelude.{◌≡◌, ◌≤◌, MatchOption, None, length};
 ghost use Rattle.script_lines.specs.Names.{name_of_said, said_from, said_named, said_places, said_word};
 ghost use Rattle.script_lines.specs.Packing.{named_said_shape};
 
@@ -56,7 +56,8 @@ impl SaidName {
     /// The word that names it.
     #[inline(always)]
     pub fn word(self) -> &'static [u8]
-        ensures { result.now ≡ said_word self }
+        ensures word { result.now ≡ said_word self }
+        ensures len { length result.now ≤ 7 }
     {
         match self {
             SaidName::Ret => b"ret",

@@ -39,13 +39,27 @@ pub struct Block {
     pub ops: Vec<Op>,
 }
 
+/// What a line does (profile).
+#[derive(Clone, Copy, Debug, PartialEq, Eq)]
+pub enum Doing {
+    /// An actor makes a step.
+    Step {
+        /// Who makes it.
+        actor: Actor,
+        /// What it does.
+        op: Op,
+    },
+    /// `cut`: the board's history is cut.
+    Cut,
+}
+
 /// A line of a schedule or of a trace (profile).
 #[derive(Clone, Copy, Debug, PartialEq, Eq)]
 pub struct Line {
     /// The line's number, from 1.
     pub number: u64,
-    /// Who makes the step, and what it does; none where the line is `cut`, at which the board's history is cut.
-    pub step: Option<(Actor, Op)>,
+    /// What it does.
+    pub doing: Doing,
     /// What it gave: in a trace, and there alone.
     pub said: Option<Said>,
 }

@@ -1,8 +1,9 @@
 //! Steps and records as text.
 ghost use Rattle.std.specs.Prelude.{◌≡◌};
 
-use board_core::{Actor, Board, Event, Op, Refusal, Reply};
+use board_core::{Board, Event, Refusal, Reply};
 use guest_programs::End;
+use guest_script::Doing;
 use monitor::{Failed, Sink, print, print_event, print_head, print_line};
 use std::alloc::{AllocError, Global};
 
@@ -98,14 +99,14 @@ impl<'a> RecordParts<'a> {
     }
 }
 
-/// The line of a step, or of a cut where it is none, and its answer, as a trace has it.
+/// The line of a step or of a cut, and its answer, as a trace has it.
 pub fn step_line(
     alloc: Global,
-    step: Option<(Actor, Op)>,
+    doing: Doing,
     answer: Result<Reply, Refusal>,
 ) -> Result<Vec<u8>, AllocError> {
     let mut text = Text::new(alloc);
-    let put = print_line(step, answer, &mut text);
+    let put = print_line(doing, answer, &mut text);
     text.taken(put)
 }
 
@@ -116,7 +117,7 @@ pub fn record(alloc: Global, told: RecordParts<'_>) -> Result<Vec<u8>, AllocErro
     let mut bytes = head.taken(put)?;
     for segment in told.segments {
         put_events(alloc, segment, &mut bytes)?;
-        let line = step_line(alloc, None, Ok(Reply::Done))?;
+        let line = step_line(alloc, Doing::Cut, Ok(Reply::Done))?;
         bytes.extend_from_slice(&line)?;
     }
     put_events(alloc, told.board.history(), &mut bytes)?;

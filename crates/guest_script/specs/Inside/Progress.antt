@@ -1,15 +1,13 @@
 -- How far a script is read, as a reader keeps it.
-use Rattle.std.specs.Prelude.{ℕ, ◌+◌, min, List, [], Result}
+use Rattle.std.specs.Prelude.{ℕ, ◌+◌, min, List, Result}
 use Rattle.guest_script.specs.declared.fault.ScriptFault.{ScriptFault}
 use Rattle.guest_script.specs.declared.progress.Progress.{Progress}
 use Rattle.guest_script.specs.declared.progress.Stage.{Stage}
 use Rattle.guest_script.specs.declared.progress.Stage.TheVariants.{Nothing, Lines, Faulty}
-use Rattle.script_lines.specs.declared.script.Line.{Line}
 use Rattle.guest_script.specs.FirstFault.{script_fault}
 use Rattle.guest_script.specs.Inside.Drafts.{draft_of}
 use Rattle.guest_script.specs.Grammar.{Written, most_bytes}
 use Rattle.guest_script.specs.Pieces.{OnBoard, Part, Saying, Untold, Wrong, told_after}
-use Rattle.guest_script.specs.Values.{lines_in}
 
 abbrev pub told_of : Stage → Saying
 told_of Nothing = Untold
@@ -26,15 +24,6 @@ stage_after stage n texts = told_after (told_of stage) n texts
 -- the script, where these lines follow
 abbrev pub script_after : Progress → List (List ℕ) → Result Written ScriptFault
 script_after p texts = stage_after p.stage p.next texts
-
--- the lines of a schedule or a trace so far
-abbrev pub lines_of_stage : Stage → List Line
-lines_of_stage Nothing = []
-lines_of_stage (Lines config draft) = lines_in (draft_of draft)
-lines_of_stage (Faulty misread) = []
-
-abbrev pub lines_so_far : Progress → List Line
-lines_so_far p = lines_of_stage p.stage
 
 -- the size with so many bytes more; of one that is too large no more is known
 abbrev pub grown : ℕ → ℕ → ℕ

@@ -11,7 +11,7 @@ use Rattle.sbiboard.specs.Running.{after_line, answer_of}
 
 -- each actor may be written
 abbrev pub ActorsFit : List Line → Type 0
-ActorsFit lines = AllByRecursion (λ line. ActorFits line.step) lines
+ActorsFit lines = AllByRecursion (λ line. ActorFits line.doing) lines
 
 -- a board that can be made, and lines, as they are read of a script
 pub record AreRead (c : Config) (lines : List Line) : Type 0 where
@@ -27,4 +27,4 @@ pub record EventFits (e : Event) : Type 0 where
 -- the numbers of each operation and of each answer fit registers
 abbrev pub AllFit : Course → List Line → Type 0
 AllFit b [] = Unit {0}
-AllFit b (line ∷ lines) = OpFits line.step × FitsAnswer (answer_of b line) × AllFit (after_line b line) lines
+AllFit b (line ∷ lines) = OpFits line.doing × FitsAnswer (answer_of b line) × AllFit (after_line b line) lines

@@ -9,7 +9,7 @@ ghost use Rattle.sbiboard.specs.declared.device.pieces.ReadFault.TheVariants.{Fa
 ghost use Rattle.guest_script.specs.FirstFault.{no_memory};
 
 use super::source::Source;
-use guest_script::{Fault, Reader, Script, ScriptFault};
+use guest_script::{FaultKind, Reader, Script, ScriptFault};
 use monitor::Failed;
 use std::alloc::{AllocError, Global};
 use thiserror::Error;
@@ -53,7 +53,7 @@ impl From<AllocError> for ReadFault {
     fn from(_refused: AllocError) -> ReadFault {
         ReadFault::Script(ScriptFault {
             line: 0,
-            fault: Fault::NoMemory,
+            fault: FaultKind::NoMemory,
         })
     }
 }

@@ -1,4 +1,4 @@
-use Rattle.std.proofs.Common.{◌∷◌, [], ◌∙◌, arith, length-append}
+use Rattle.std.proofs.Common.{◌∙◌, arith}
 use Rattle.guest_script.proofs.PlainRead.{step_read}
 use Rattle.guest_script.proofs.plain.read_plain_lines.Goals as goal
 
@@ -9,5 +9,4 @@ loop-after-preserved c =
           ∙ step_read c.loop-after.number c.args.in_trace c.loop-after.steps c.read_plain_line.new.lines c.loop-after.rest.now c.in-Some.after.now (line, begins, grown) more,
       omega (arith, shorter, c.loop-after.invariant.1),
       omega (arith, shorter, c.loop-after.invariant.2),
-      rw grown (omega (arith, length-append c.loop-after.steps (line ∷ []), c.loop-after.invariant.3)),
     )

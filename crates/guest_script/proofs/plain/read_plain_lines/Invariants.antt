@@ -8,7 +8,6 @@ invariant-loop-after l =
     GoesOn l.first (steps_of l.in_trace l.fn.steps) l.bytes l.number (steps_of l.in_trace l.steps) l.rest
     × (l.number + length l.rest ≤ l.first + length l.bytes)
     × (length l.rest ≤ length l.bytes)
-    × (length l.steps ≤ l.number)
 
 abbrev pub decreases-loop-after : goal.decreases-loop-after
 decreases-loop-after l = length l.rest

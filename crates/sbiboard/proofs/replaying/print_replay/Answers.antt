@@ -8,13 +8,13 @@ use Rattle.sbiboard.proofs.replaying.print_replay.Goals as goal
 
 pub returns-clause-text : goal.returns-clause-text
 returns-clause-text g c =
-    let (text, (full, is), body, body_failures) = (rw c.in-Some.is at c.in_ok-met_full.ensures.text) in
+    let (text, (full, is), body, body_failures) = (rw c.in-ToTheEnd.is at c.in_ok-met_full.ensures.text) in
     let flushed = c.in_ok-flush.ensures in
     let printed = c.in_ok-print.ensures in
     let head = c.in_ok-print_head.ensures in (
       text_of c.args.config.now c.args.lines.now,
       (full ∙ ap (λ (b : Course). meets_full b c.args.lines.now) c.requires.at_opening, refl),
-      text_of-printed c.args.config.now c.args.board.now _ c.args.lines.now text is c.requires.at_opening (rw c.in-Some.is at c.in_ok-met_full.ensures.course)
+      text_of-printed c.args.config.now c.args.board.now _ c.args.lines.now text is c.requires.at_opening (rw c.in-ToTheEnd.is at c.in_ok-met_full.ensures.course)
           _ _ _ _ _ head.0 body printed.0 flushed.bytes,
       flushed.failed ∙ printed.1 ∙ body_failures ∙ head.1,
     )

@@ -1,8 +1,7 @@
-use Rattle.std.proofs.Common.{◌∙◌, arith}
+use Rattle.std.proofs.Common.{◌∙◌}
 use Rattle.std.proofs.lemmas.Result.{err_from_is_err_and}
 use Rattle.guest_script.specs.FirstFault.{script_fault}
 use Rattle.guest_script.specs.Inside.Drafts.{draft_of}
-use Rattle.guest_script.proofs.Drafted.{lines_grow}
 use Rattle.guest_script.proofs.LinesFrom.{bad_behind, bad_line, goes_on}
 use Rattle.guest_script.proofs.draft.BodyDraft.read_some.Goals as goal
 
@@ -19,7 +18,3 @@ returns-clause-read c =
     λ more. c.in-Ok.ensures.read more
     ∙ goes_on c.in-Ok.next (draft_of c.read_printed.new.self) c.in-Ok.rest.now c.next_line.result.0.now c.next_line.result.1.now c.next_line.ensures.lines
     (draft_of c.read_line.new.self) c.in_ok-read_line.ensures more
-
-pub returns-clause-few : goal.returns-clause-few
-returns-clause-few c =
-    omega (arith, lines_grow c.in-Ok.next (draft_of c.read_printed.new.self) c.next_line.result.0.now (draft_of c.read_line.new.self) c.in_ok-read_line.ensures, c.in-Ok.ensures.few)
