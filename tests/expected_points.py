@@ -3,17 +3,20 @@ import os
 import re
 from collections import Counter
 
-from board_model import STARTED, SUSPENDED, number, words_of
+from board_model import GUEST, STARTED, SUSPENDED, number, words_of
 
 from . import judge
 from .all_orders import Program
 from .fixtures import must, read
 from .judge import Followed, NoOrder, Verdicts, broken_at
+from .replays import spelled
 
 # How many steps are shown before the one at which a record fails, and behind it.
 AROUND = 6
 # A program has few states up to so many, and on a board of many pages as many as have so many pages together.
 FEW, FEW_PAGES = 500, 4_000
+# Up to so many orders are counted.
+MOST_COUNTED = (1 << 128) - 1
 
 
 class Told:
@@ -40,6 +43,17 @@ class Told:
         return found
 
 
+def block_places(lines):
+    """Of each line that has an operation of a block the block's address, its place there, and the line."""
+    found, addr, place = {}, 0, 0
+    for line, words in enumerate(map(words_of, lines), 1):
+        if words[:1] == ["at"]:
+            addr, place = number(words[1]), 0
+        elif words and words[0] not in ("board", "clock"):
+            found[line], place = (addr, place, line), place + 1
+    return found
+
+
 class Case:
     """A program's file, and all that holds of its orders."""
 
@@ -49,6 +63,14 @@ class Case:
         self.lines = text.split("\n")
         self.numbers = next([number(word) for word in words[1:]] for words in map(words_of, self.lines) if words)
         self.limit, self.states = self.numbers[2], None
+        self.blocks = block_places(self.lines)
+        self.lined = {self.lined_step(orders.points[place], step[:3]) for place, steps in enumerate(orders.edges) for step in steps}
+
+    def lined_step(self, point, step):
+        """A step, with its block's address, its place there and its line, where it is a guest's."""
+        actor, op, _ = step
+        left = point.left[actor] if actor is not None else ()
+        return (self.blocks[left[0][0]] if left and op[0] in GUEST else None), step
 
     def said(self, line):
         return self.lines[line - 1].partition("#")[0].strip()
@@ -97,6 +119,22 @@ class Case:
         told.records.add(path)
         return self.followed(text, limit, is_whole)
 
+    # ---- what a condition says nothing of
+
+    def vacuous(self, asked, lined, tried=""):
+        """What is said of a condition that needs a step which none of these is, each with the line of its operation; None: it is about some."""
+        lacks = None if asked is None or asked.maybe else judge.lacking(asked, [step for _, step in lined])
+        if lacks is None:
+            return None
+        wanted, with_reply = lacks
+        return f": vacuous: no step is '{self.pattern_text(asked, asked.patterns.index(wanted), with_reply)}'{tried}{instead(wanted, lined)}"
+
+    def pattern_text(self, asked, place, with_reply):
+        """What is written of a pattern."""
+        rule = asked.text.split(None, 1)[1] if asked.maybe else asked.text
+        text = re.split(r"\bafter\b|,", rule.split(None, 1)[1])[place]
+        return " ".join((text if with_reply else text.partition("->")[0]).split())
+
     # ---- what is odd
 
     def odd_lines(self, steps):
@@ -117,6 +155,50 @@ class Case:
         return found + [f"# a hart was entered at {it:#x}, where no block is" for it in missing]
 
 
+# What one does by an operation that has numbers.
+DOES = {"ecall": "calls", "load": "loads", "store": "stores", "fetch": "fetches", "satp": "writes satp", "sie": "writes sie", "sstatus": "writes sstatus", "sfence": "does sfence", "tick": "ticks"}
+# How many different numbers are told of an actor, and how many lines of each.
+MOST_TOLD = 8
+
+
+def instead(wanted, lined):
+    """What the same actors do by the same operation, in which lines."""
+    if any(judge.fits(wanted, *step[:2]) for _, step in lined):
+        return "; such a step has another reply"
+    if len(wanted.step) < 3 or wanted.step[1] is None:
+        return ""
+    like, found = judge.Pattern(wanted.step[:2], ()), {}
+    # (the clock comes first, then hart by hart, and each by its blocks' addresses and their lines)
+    for place, (actor, op, answer) in sorted(lined, key=lambda it: (-1 if it[1][0] is None else it[1][0], it[0] or (0, 0, 0), it[1][1])):
+        if judge.fits(like, actor, op):
+            numbers = spelled(actor, op, answer).partition(" -> ")[0].split(" ", 2)[2]
+            lines = found.setdefault(actor, {}).setdefault(numbers, [])
+            if place and place[2] not in lines:
+                lines.append(place[2])
+    texts = []
+    for actor, used in found.items():
+        told = [numbers + lines_told(sorted(lines)) for numbers, lines in [*used.items()][:MOST_TOLD]] + [".."] * (len(used) > MOST_TOLD)
+        texts.append(f"{'the clock' if actor is None else f'hart {actor}'} {DOES[wanted.step[1]]} {', '.join(told)}")
+    return "; " + ", ".join(texts) if texts else ""
+
+
+def lines_told(lines):
+    told = ", ".join(map(str, lines[:MOST_TOLD])) + ", .." * (len(lines) > MOST_TOLD)
+    return f" (line{'s' if len(lines) > 1 else ''} {told})" if lines else ""
+
+
+def grouped(number):
+    return f"{number:,}" if number < MOST_COUNTED else f"{MOST_COUNTED:,} or more"
+
+
+def said_of(holds, is_some, reach=None):
+    """What is said of a condition, by how far was looked; without that as by `explore`."""
+    found = "holds" if holds else "fails"
+    if holds != is_some:
+        return f": {found} in {reach or 'all orders'}"
+    return f": {found} in some of {reach}" if reach else f": {found}"
+
+
 def lines_of_steps(point_of, steps):
     """Steps of guests with the lines of their operations: `point_of` has where each hart is before it."""
     found = []
@@ -133,12 +215,16 @@ def about(case, asked):
 # ---- all orders
 
 
-def take_verdict(case, told, point, asked, folder):
+def take_verdict(case, told, point, asked, folder, reach):
     """The point of a condition in all orders, and what stands below it. Answers whether it holds."""
+    name = about(case, asked) or f"{case.name}: no order ends stuck"
     fewest, is_some = case.verdicts.fewest(asked), asked is not None and asked.word == "some"
+    empty = says_nothing(case, asked, fewest is not None and not is_some)
+    if empty is not None:
+        told.take(f"not ok {point} - {name}{empty}")
+        return False
     holds = (fewest is None) != is_some
-    said = ("holds" if is_some else "holds in all orders") if holds else "fails in all orders" if is_some else "fails"
-    told.take(f"{'' if holds else 'not '}ok {point} - {about(case, asked) or f'{case.name}: no order ends stuck'}: {said}")
+    told.take(f"{'' if holds else 'not '}ok {point} - {name}{said_of(holds, is_some, reach)}")
     if fewest is not None:
         told.take("  ---", f"  length: {fewest}", *([f"  limit: {fewest}"] if fewest > case.limit else []))
         label = f"{asked.line if asked else 0}.{'reached' if is_some else 'failed'}"
@@ -151,6 +237,17 @@ def take_verdict(case, told, point, asked, folder):
     return holds
 
 
+def says_nothing(case, asked, fails):
+    """What is said of a condition in all orders that says nothing of them."""
+    if asked is not None and (why := judge.misfit(asked, case.numbers[0])):
+        return f": {why}"
+    if fails:
+        return None
+    if asked is None or asked.word == "end":
+        return None if case.orders.ends or asked and asked.maybe else ": no order ends"
+    return case.vacuous(asked, case.lined)
+
+
 def must_show(case, asked, record, fewest):
     """A record of all orders breaks its condition by its last step, or by its end, or is the one that `some` wants."""
     if asked is None or asked.word == "end":
@@ -160,13 +257,27 @@ def must_show(case, asked, record, fewest):
     must(f"{case.name}: {asked}: the record is {record.lines}, {record.end}, of {fewest} steps", len(record.steps) == fewest and is_shown)
 
 
+def never_met(asked):
+    return f"# line {asked.line}: never met: no step has this actor and operation"
+
+
+def is_each_met(asked, steps):
+    """Whether each pattern has a step: that behind `after` with its reply."""
+    return all(any(fits_so(it, step) for step in steps) for it in [(pattern, asked.word == "after" and place == 1) for place, pattern in enumerate(asked.patterns)])
+
+
+def fits_so(wanted, step):
+    pattern, with_reply = wanted
+    return judge.matches(pattern, *step) if with_reply else judge.fits(pattern, *step[:2])
+
+
 def take_findings(case, told):
     """What is told of all orders, up to the outcomes."""
-    told.take(*(f"# line {asked.line}: never met: no step has this actor and operation" for asked in case.asked if not case.verdicts.is_met(asked)))
+    told.take(*(never_met(asked) for asked in case.asked if not is_each_met(asked, case.verdicts.steps) and says_nothing(case, asked, False) is None))
     ends = case.orders.ends
     names = [end for end in ("off", "quiet", "stuck") if end in ends]
     if case.orders.ways() is None:
-        told.take("# orders: some without end" + "".join(f", some {end}" for end in names))
+        told.take(f"# orders: {'some' if names else 'all'} without end" + "".join(f", some {end}" for end in names))
     else:
         told.take(f"# orders: {sum(ends.values())}" + "".join(f", {end} {ends[end]}" for end in names))
     found = told.match(r"# states: (\d+), steps: (\d+)")
@@ -201,14 +312,15 @@ def given_by(word):
 def take_explored(case, told, point, folder, with_outcomes):
     """All that `explore` tells of a program, or `test` of one of few states. Answers how many points fail of how many."""
     asked = case.asked or [None]
-    failed = sum(not take_verdict(case, told, point + at, it, folder) for at, it in enumerate(asked))
+    counted = case.orders.ways() is not None
+    reach = None if with_outcomes else "all orders" + (f": {grouped(sum(case.orders.ends.values()))}" if counted else "")
+    failed = sum(not take_verdict(case, told, point + at, it, folder, reach) for at, it in enumerate(asked))
     are_all = take_findings(case, told)
     if with_outcomes:
         take_outcomes(case, told, are_all)
-    else:
-        steps = [step for steps in case.orders.edges for step in steps]
-        points = [case.orders.points[place] for place, steps in enumerate(case.orders.edges) for _ in steps]
-        told.take(*case.odd_lines(lines_of_steps(points, [step[:3] for step in steps])))
+    steps = [step for steps in case.orders.edges for step in steps]
+    points = [case.orders.points[place] for place, steps in enumerate(case.orders.edges) for _ in steps]
+    told.take(*case.odd_lines(lines_of_steps(points, [step[:3] for step in steps])))
     return len(asked), failed, are_all
 
 
@@ -225,6 +337,7 @@ class Order:
             points.append(point)
             point = next(after for *step, after in program.steps_of(point, actor) if step == [actor, op, answer])
         self.odd = lines_of_steps(points, self.record.steps)
+        self.lined = {case.lined_step(point, step) for point, step in zip(points, self.record.steps)}
 
     def holds(self, asked):
         return self.record.end != "stuck" if asked is None else judge.holds(asked, self.record.steps, self.record.end)
@@ -243,24 +356,46 @@ def failing_place(asked, record):
 def take_tried(case, told, point, folder, seed, orders):
     """All that `test` tells of a program by orders of a seed, whose records are these. Answers how many points fail of how many."""
     failed, asked = 0, case.asked or [None]
+    lined = set().union(*(order.lined for order in orders))
+    ends = [order.record.end for order in orders]
     for at, it in enumerate(asked):
         failing = [number for number, order in enumerate(orders) if not order.holds(it)]
         is_some = it is not None and it.word == "some"
         holds = len(failing) < len(orders) if is_some else not failing
-        failed += not holds
-        told.take(f"{'' if holds else 'not '}ok {point + at} - {about(case, it) or f'{case.name} ({len(orders)} orders)'}")
-        if not holds:
+        name = about(case, it) or f"{case.name}: no order ends stuck"
+        empty = says_nothing_of_tried(case, it, holds, lined, ends, f" in the {len(orders):,} orders tried")
+        failed += not holds or empty is not None
+        reach = f"{len(orders):,} orders of unknown many, seed {seed}{cut_of(it, ends)}"
+        told.take(f"{'' if holds and empty is None else 'not '}ok {point + at} - {name}{said_of(holds, is_some, reach) if empty is None else empty}")
+        if not holds and empty is None:
             told.take("  ---", f"  seed: {seed}", f"  failing: {len(failing)}", f"  orders: {len(orders)}")
             if not is_some:
                 take_first(case, told, folder, seed, it, failing[0], orders[failing[0]].record)
             told.take("  ...")
-        if it is not None and not any(judge.is_met(it, order.record.steps) for order in orders):
-            line = f"# line {it.line}: never met: no step has this actor and operation"
-            # (of patterns that were met, each in another order, it may be said, too)
-            if told.next() == line or not judge.is_met(it, [step for order in orders for step in order.record.steps]):
-                told.take(line)
+        if it is not None and not is_each_met(it, [step for _, step in lined]) and (empty is None or "vacuous" not in empty and "no order ends" in empty):
+            told.take(never_met(it))
     told.take(*case.odd_lines([step for order in orders for step in order.odd]))
     return len(asked), failed
+
+
+def asks_of_ends(asked):
+    return asked is None or asked.word == "end" and "history-full" not in asked.ends
+
+
+def cut_of(asked, ends):
+    """How many orders a limit cut off is told of those that are asked how they end."""
+    cut = ends.count("history-full") if asks_of_ends(asked) else 0
+    return f", of which the limit cut off {cut:,}" if cut else ""
+
+
+def says_nothing_of_tried(case, asked, holds, lined, ends, tried):
+    """What is said of a condition that says nothing of the orders that were tried."""
+    if asked is not None and (why := judge.misfit(asked, case.numbers[0])):
+        return f": {why}"
+    if holds and asks_of_ends(asked):
+        is_open = set(ends) == {"history-full"} and not (asked and asked.maybe)
+        return f": no order ends: the limit cut off all {len(ends):,}" if is_open else None
+    return case.vacuous(asked, lined, tried) if holds or asked is not None and asked.word == "some" else None
 
 
 def take_first(case, told, folder, seed, asked, number, wanted):
@@ -277,7 +412,14 @@ def take_runs(case, told, point, folder, runs):
     """What is told of runs on threads. Answers how many points fail of how many."""
     failed, asked = 0, case.asked or [None]
     for at, it in enumerate(asked):
-        found = told.match(rf"(not )?ok {point + at} - {re.escape(about(case, it) + ', on threads' if it else f'{case.name} ({runs} runs on threads)')}")
+        name, is_some = re.escape(about(case, it) or f"{case.name}: no order ends stuck"), it is not None and it.word == "some"
+        judged = r"(holds|fails) in (some of )?" + f"{runs:,} runs on threads" + r"(?:, of which the limit cut off [\d,]+)?"
+        found = told.match(rf"(not )?ok {point + at} - {name}: (?:{judged}|(vacuous: no step is '.*' in the {runs:,} runs.*|no order ends: the limit cut off all {runs:,}|the board has no hart \d+|no \w+ has .*))")
+        if found[4]:
+            failed += 1
+            must(f"{found[0]}", found[1] and must_be_empty(case, it, found[4]))
+            continue
+        must(f"{found[0]}", (found[2] == "fails") == bool(found[1]) and (found[2] == "holds") == (is_some == bool(found[3])))
         if not found[1]:
             continue
         failed += 1
@@ -290,6 +432,14 @@ def take_runs(case, told, point, folder, runs):
             take_run(case, told, folder, it, failing, runs)
         told.take("  ...")
     return len(asked), failed
+
+
+def must_be_empty(case, asked, said):
+    """Whether a condition may say nothing of runs, for this reason: runs may lack what some order has."""
+    why = judge.misfit(asked, case.numbers[0]) if asked is not None else None
+    if why or not said.startswith(("vacuous", "no order ends")):
+        return said == why
+    return asks_of_ends(asked) if said.startswith("no order ends") else not asked.maybe and bool(judge.needs(asked))
 
 
 def take_run(case, told, folder, asked, failing, runs):

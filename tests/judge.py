@@ -10,8 +10,9 @@ import board_model
 
 from .replays import spelled
 
-# What a condition asks: its line, its text, its first word (`after` is a `never` with an `after`), its patterns, and its ends.
-Condition = namedtuple("Condition", "line text word patterns ends")
+# What a condition asks: its line, its text, its first word (`after` is a `never` with an `after`), its patterns, its ends, and whether
+# `maybe` stands in front of it.
+Condition = namedtuple("Condition", "line text word patterns ends maybe")
 Pattern = namedtuple("Pattern", "step reply")
 
 # What a condition has seen so far of a record. BROKEN is where no record goes on that is as it asks, MET what `some` wants.
@@ -39,16 +40,18 @@ def pattern(words):
 
 def condition(line, text):
     """The condition that a text is, which has no fault."""
-    word, *words = text.split()
+    is_maybe = text.split()[0] == "maybe"
+    rule = text.partition("maybe")[2] if is_maybe else text
+    word, *words = rule.split()
     if word == "end":
-        return Condition(line, text, word, (), frozenset(words))
+        return Condition(line, text, word, (), frozenset(words), is_maybe)
     if word == "before":
-        first, _, second = text.partition(" ")[2].partition(",")
-        return Condition(line, text, word, (pattern(first.split()), pattern(second.split())), None)
+        first, _, second = rule.partition("before")[2].partition(",")
+        return Condition(line, text, word, (pattern(first.split()), pattern(second.split())), None, is_maybe)
     if word == "never" and "after" in words:
         at = words.index("after")
-        return Condition(line, text, "after", (pattern(words[:at]), pattern(words[at + 1 :])), None)
-    return Condition(line, text, word, (pattern(words),), None)
+        return Condition(line, text, "after", (pattern(words[:at]), pattern(words[at + 1 :])), None, is_maybe)
+    return Condition(line, text, word, (pattern(words),), None, is_maybe)
 
 
 def conditions(text):
@@ -83,6 +86,54 @@ def fits(pattern, actor, op):
 
 def matches(pattern, actor, op, answer):
     return fits(pattern, actor, op) and are_fitting(pattern.reply, answer)
+
+
+# ---- conditions that say nothing
+
+
+def needs(asked):
+    """The patterns of which a condition needs a step, each with whether the step's reply must fit, too."""
+    if asked.word == "end":
+        return []
+    first = asked.patterns[0]
+    is_exempt = asked.word in ("never", "after", "some") and not first.reply or asked.word in ("never", "after") and first.step[1:2] == ("ecall",)
+    return [(first, False)] * (not is_exempt) + [(second, asked.word == "after") for second in asked.patterns[1:]]
+
+
+def lacking(asked, steps):
+    """The pattern that makes a condition vacuous among these steps, and whether its reply counts; None: it says something of them."""
+    for wanted, with_reply in needs(asked):
+        if not any(fits(wanted, *step[:2]) and (not with_reply or matches(wanted, *step)) for step in steps):
+            return wanted, with_reply
+    return None
+
+
+# The most that a number can be behind the name of an operation or a reply; others hold each number from 0 on.
+MOST = {"sstatus": 1, "moved": 6, "fault": 15}
+
+
+def misfit(asked, harts):
+    """Which word of a condition no step of a board with so many harts has, in the words of the documents; None: each can be there."""
+    for step, reply in asked.patterns:
+        if isinstance(step[0], int) and step[0] >= harts:
+            return f"the board has no hart {step[0]}"
+        for name, places in ((step[1:2], step[2:]), (reply[:1], reply[1:])):
+            for place, word in enumerate(places):
+                if name[0] is None or word is None:
+                    continue
+                if name[0] == "entry" and place == 1 and isinstance(word, int) and word >= harts:
+                    return f"the board has no hart {word}"
+                if not can_be(name[0], place, word):
+                    return f"no {name[0]} has {word}"
+    return None
+
+
+def can_be(name, place, word):
+    if word == "-":
+        return name == "sfence"
+    if name == "ret" and place == 0:
+        return word < 1 << 63
+    return 0 <= word <= MOST.get(name, word)
 
 
 # ---- conditions, step by step

@@ -34,9 +34,9 @@ BOUNDS = (
 )
 
 
-def point_of(number, about, said):
+def point_of(number, about, said, why):
     if said is None:
-        return f"ok {number} - a.program: {about}: not all orders were seen # SKIP not tried"
+        return f"not ok {number} - a.program: {about}: not judged: {why}"
     return f"{'not ok' if said.startswith('fails') else 'ok'} {number} - a.program: {about}: {said}"
 
 
@@ -102,7 +102,8 @@ class BoundsOfTime(Test):
             status, lines = explored(self.room, "".join(f"#! {it}\n" for it, _ in asked) + LOADS_AND_STORES, "--no-outcomes", *words)
             points = [it for it in lines if it.startswith(("ok ", "not ok "))]
             abouts = [(f"line {at}: {it}", said) for at, (it, said) in enumerate(asked, 1)] or [("no order ends stuck", None)]
-            expected = [point_of(at, about, said) for at, (about, said) in enumerate(abouts, 1)]
+            why = "no time" if words[:2] == ["--seconds", "0"] else f"more than {words[1]} states, none of those seen breaks it"
+            expected = [point_of(at, about, said, why) for at, (about, said) in enumerate(abouts, 1)]
             is_cut = lines[-1] == "# cut short: not all orders were seen"
             if status != wanted or points != expected or not any(it.startswith(line) for it in lines) or is_cut != (line != SEEN or None in [said for _, said in asked]):
                 wrong.append((words, asked, status, points, lines[-3:]))
@@ -112,12 +113,12 @@ class BoundsOfTime(Test):
         """Where nothing was tried, nothing is said of blocks, calls and patterns; each point says that it wasn't."""
         asked = ("never 0 poll", "some 1 load", "end quiet")
         for text in (ODD, "".join(f"#! {it}\n" for it in asked) + ODD):
-            abouts = [f"race.program: line {at}: {it}" for at, it in enumerate(asked, 1)] if text.startswith("#!") else ["race.program (0 orders)"]
-            wanted = ["TAP version 14", *(f"ok {at} - {it} # SKIP not tried" for at, it in enumerate(abouts, 1)), f"1..{len(abouts)}", f"# {len(abouts)} points, 0 failed"]
+            abouts = [f"race.program: line {at}: {it}" for at, it in enumerate(asked, 1)] if text.startswith("#!") else ["race.program: no order ends stuck"]
+            wanted = ["TAP version 14", *(f"not ok {at} - {it}: not judged: no time" for at, it in enumerate(abouts, 1)), f"1..{len(abouts)}", f"# {len(abouts)} points, 0 failed, {len(abouts)} not judged"]
             wanted += ["# 1 files, 0 orders, 0 different records", "# ends: 0 off, 0 history-full, 0 quiet, 0 stuck", "# cut short: not all orders were tried"]
             for words in (["--seconds", "0"], ["--seconds", "0", "--times", "9"], ["--seconds", "0", "--seed", "3"]):
-                _, lines = told(self.room, text, *words)
-                must(f"{words}: {lines}", lines == wanted)
+                status, lines = told(self.room, text, *words)
+                must(f"{words}: status {status}, {lines}", status == 8 and lines == wanted)
 
     def test_points_of_explore_are_written_into_a_file_too(self):
         """`explore --tap` writes the points into a file, those that fail and those of files that can't be tested too."""

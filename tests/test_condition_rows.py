@@ -4,6 +4,7 @@ import os
 from board_model import spelled_answer, spelled_step
 
 from . import judge, replays
+from .expected_points import said_of
 from .fixtures import PROGRAM, TESTER, Test, must, tester, told_of, write
 from .grammar import COUNTS, REPLIES
 
@@ -54,11 +55,18 @@ def must_hold(room, rows):
     for at, (steps, asked) in enumerate(rows):
         text = "".join(f"#! {it}\n" for it, _ in asked) + (steps if steps.startswith("board") else HEAD + steps)
         texts[f"{at}.sched"] = text
-        wanted |= {f"{at}.sched: line {line}: {it}": holds for line, (it, holds) in enumerate(asked, 1)}
+        harts = int(text.split("\nboard ")[1].split()[0])
+        wanted |= dict(point_of(f"{at}.sched: line {line}: {it}", judge.condition(line, it), harts, holds) for line, (it, holds) in enumerate(asked, 1))
     found = points(room, texts)
     if found != wanted:
         wrong = [it for it in wanted.keys() | found.keys() if wanted.get(it) != found.get(it)]
         raise AssertionError(f"{sorted(wrong)[:9]} of {len(wanted)} conditions are judged otherwise: {[found.get(it) for it in sorted(wrong)[:9]]}")
+
+
+def point_of(name, asked, harts, holds):
+    """What is told of a condition, and whether it holds; one with a word that no step of the board has doesn't."""
+    why = judge.misfit(asked, harts)
+    return (f"{name}: {why}", False) if why else (name, holds)
 
 
 def replayed(text):
@@ -92,11 +100,17 @@ GOOD, BAD = "never 0 load -> value 0x1", "never 0 load -> value 0x0"
 STEPS = "board 1 1 10 0 0x80000000 0x0\n0 advance\n0 load 0x80000000\n0 sip\n"
 TRACED = replays.traced(STEPS)
 
+
+
+def in_some(reach):
+    return said_of(True, False, reach), said_of(False, False, reach)
+
+
 # How a file is judged: its name, its text, the program's own name, and its words; what is said behind a condition that holds and that fails.
 WAYS = {
-    "seeds": ("a.program", ONE, "sbiboard", ["--times", "9"], ("", "")),
-    "threads": ("a.program", ONE, "sbiboard", ["--times", "4", "--threads"], ("", "")),
-    "few states": ("a.program", ONE, "sbiboard", [], (": holds in all orders", ": fails")),
+    "seeds": ("a.program", ONE, "sbiboard", ["--times", "9"], in_some("9 orders of unknown many, seed 0")),
+    "threads": ("a.program", ONE, "sbiboard", ["--times", "4", "--threads"], in_some("4 orders of unknown many, seed 0")),
+    "few states": ("a.program", ONE, "sbiboard", [], in_some("all orders: 1")),
     "explore": ("a.program", ONE, "sbiboard explore", [], (": holds in all orders", ": fails")),
     "a schedule": ("a.sched", STEPS, "sbiboard", [], ("", "")),
     "a trace": ("a.trace", TRACED, "sbiboard", [], ("", "")),
@@ -110,7 +124,7 @@ def points_of(way, file, first, asked):
     about = [f"{'not ok' if it == BAD else 'ok'} - {file}: line {line}: {it}{said[it == BAD]}" for line, it in asked]
     points += about
     if way == "threads":
-        points += [f"{it}, on threads" for it in about]
+        points += [it.replace("4 orders of unknown many, seed 0", "4 runs on threads") for it in about]
     return [it.replace(" - ", f" {number} - ", 1) for number, it in enumerate(points, first)]
 
 

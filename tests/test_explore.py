@@ -64,7 +64,8 @@ def ends_told(lines):
     line = next((it for it in lines if it.startswith("# orders: ")), None)
     must(f"no orders are told: {lines}", line is not None)
     all_of, *ends = line[len("# orders: ") :].split(", ")
-    if all_of == "some without end":
+    if all_of in ("some without end", "all without end"):
+        must(line, (all_of == "all without end") == (not ends))
         return {end.removeprefix("some "): None for end in ends}
     ends = dict(it.split() for it in ends)
     must(line, sum(map(int, ends.values())) == int(all_of))
@@ -159,7 +160,7 @@ class Explore(Test):
             must(f"{asked}: an order of {steps} steps, not {fewest}: {lines}", steps == fewest)
 
     def test_ends_are_asked_of_all_orders(self):
-        for asked, text, status in (("end quiet", RACE, 0), ("end quiet", WAKE, 1), ("end quiet stuck", WAKE, 0), ("end stuck", SUSPENDED, 0), ("end off", REBOOTS, 0), ("before 0 store, 1 load", RACE, 1)):
+        for asked, text, status in (("end quiet", RACE, 0), ("end quiet", WAKE, 1), ("end quiet stuck", WAKE, 0), ("end stuck", SUSPENDED, 0), ("end off", REBOOTS, 1), ("maybe end off", REBOOTS, 0), ("before 0 store, 1 load", RACE, 1)):
             found, lines = explored(self.room, f"#! {asked}\n{text}")
             must(f"{asked}: status {found}, {lines}", found == status)
         for text, status in ((RACE, 0), (WAKE, 1), (SUSPENDED, 1)):
@@ -171,8 +172,9 @@ class Explore(Test):
     def test_what_no_order_meets_is_told(self):
         """A condition is told of which no step of any order has the actor and the operation; one that meets such steps isn't."""
         for asked, met in (
-            ("never 1 load 0x80002008 -> value 1", False), ("never 1 load 0x80002000 -> value 7", True), ("each 9 poll -> ret 0", False), ("end quiet", True),
-            ("never 1 load after 0 store", True), ("never 1 load after 1 store", False), ("never 1 store after 0 store", False), ("before 0 store, 1 load 0x9000", False), ("some 0 store 0x80002000 1", True),
+            ("maybe never 1 load 0x80002008 -> value 1", False), ("never 1 load 0x80002000 -> value 7", True), ("maybe each 1 poll -> ret 0", False), ("end quiet", True),
+            ("never 1 load after 0 store", True), ("maybe never 1 load after 1 store", False), ("never 1 store after 0 store", False), ("maybe before 0 store, 1 load 0x9000", False),
+            ("some 0 store 0x80002000 1", True), ("never 1 sip", False),
         ):  # fmt: skip
             _, lines = explored(self.room, f"#! {asked}\n{RACE}")
             must(f"{asked}: {lines}", ("# line 1: never met: no step has this actor and operation" in lines) != met)

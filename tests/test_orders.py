@@ -8,6 +8,7 @@ import threading
 from unittest import SkipTest
 
 from . import programs
+from .expected_points import said_of
 from .fixtures import HANG, NO_MEMORY, PROGRAM, ROOT, TESTER, Test, allocating, must, named, ran, read, shim, tester, told, told_of, write
 
 # Hart 1 loads twice while hart 0, which started it, stores once.
@@ -95,6 +96,8 @@ FAULTS = (
     ("\t#!  never  x load", 13, "not a number"), ("#! never 0x80 load", 10, "not a number"), ("#! some 1 ecall 1 2 3 4 5 6 7 8 9", 33, "too few or too many words"),
     ("#! some 1 load -> valu 1", 19, "unknown word"), ("#! each 1 load -> value 1 2", 27, "too few or too many words"), ("#! some 1 load 0x8000000000000000000", 16, "not a number"),
     ("#! some 1 poll -> ret -9223372036854775809", 23, "not a number"), ("#! before 0 store,", 19, "too few or too many words"), ("#! before 0 store, 1 laod", 22, "unknown word"),
+    ("#! never * load", 10, "any word is '_'"), ("#! some 1 *", 11, "any word is '_'"), ("#! before 0 store *, 1 load", 19, "any word is '_'"), ("#! each 1 load * -> value 1", 16, "any word is '_'"),
+    ("#! maybe", 9, "too few or too many words"), ("#! maybe maybe never 1 load", 10, "unknown condition"), ("#! perhaps never 1 load", 4, "unknown condition"),
     ("#!/usr/bin/env sbiboard", 3, "unknown condition"), ("#! NEVER 1 load", 4, "unknown condition"), ("#! end quiet, off", 8, "unknown word"),
 )  # fmt: skip
 
@@ -206,7 +209,8 @@ class Orders(Test):
         """Each condition of the table is met, or isn't."""
         for asked, holds in ROWS:
             status, lines = told(self.room, f"#! {asked} # as it is\n{RACE}", "--times", "200")
-            point = f"{'' if holds else 'not '}ok 1 - race.program: line 1: {asked}"
+            said = said_of(holds, asked.startswith("some"), "200 orders of unknown many, seed 0")
+            point = f"{'' if holds else 'not '}ok 1 - race.program: line 1: {asked}{said}"
             must(f"{asked}: {status}, {lines[:3]}", status == (0 if holds else 1) and lines[0] == "TAP version 14" and lines[1] == point)
         # (a dash stands for itself alone)
         for asked, holds in (("- 5", False), ("0x1000 -", False), ("- -", True), ("0x1000 5", True), ("_ 5", False), ("- _", False)):
@@ -218,8 +222,9 @@ class Orders(Test):
         """Each condition is a point, then come the plan and the summary; a pattern that met no step is told."""
         status, lines = told(self.room, f"#! never 0 sip\n{RACE}#! some 1 load -> value 1\n", "--times", "50")
         wanted = [
-            "TAP version 14", "ok 1 - race.program: line 1: never 0 sip", "# line 1: never met: no step has this actor and operation",
-            "ok 2 - race.program: line 9: some 1 load -> value 1", "1..2", "# 2 points, 0 failed", "# 1 files, 50 orders, 4 different records",
+            "TAP version 14", "ok 1 - race.program: line 1: never 0 sip: holds in 50 orders of unknown many, seed 0",
+            "# line 1: never met: no step has this actor and operation",
+            "ok 2 - race.program: line 9: some 1 load -> value 1: holds in some of 50 orders of unknown many, seed 0", "1..2", "# 2 points, 0 failed", "# 1 files, 50 orders, 4 different records",
             "# ends: 0 off, 0 history-full, 50 quiet, 0 stuck",
         ]  # fmt: skip
         must(f"{lines}", status == 0 and lines == wanted)
@@ -236,7 +241,7 @@ class Orders(Test):
             must(f"{line}: {lines}", status == 1 and lines[1] == f"not ok 1 - race.program:8:{column}: {why}{word}")
         # (on the first line it makes a script that can be executed, and says nothing)
         status, lines = told(self.room, f"#!/usr/bin/env -S sbiboard test\n{RACE}", "--times", "3")
-        must(f"{lines}", status == 0 and lines[1] == "ok 1 - race.program (3 orders)")
+        must(f"{lines}", status == 0 and lines[1] == "ok 1 - race.program: no order ends stuck: holds in 3 orders of unknown many, seed 0")
 
     def test_names_are_escaped(self):
         """No letter of a file's name means something in a point, or in a quoted value."""
@@ -252,7 +257,7 @@ class Orders(Test):
         for text, why in UNTESTED:
             write(os.path.join(self.room, "a.sched"), text)
             status, lines = told_of(self.room, "--times", "3", "a.sched", "race.program")
-            must(f"{text!r}: {lines}", status == 1 and lines[1:3] == [f"not ok 1 - a.sched{why}", "ok 2 - race.program (3 orders)"])
+            must(f"{text!r}: {lines}", status == 1 and lines[1:3] == [f"not ok 1 - a.sched{why}", "ok 2 - race.program: no order ends stuck: holds in 3 orders of unknown many, seed 0"])
         status, lines = told_of(self.room, "none", "folder")
         must(f"{lines}", status == 1 and lines[1:3] == ["not ok 1 - none: no such file", "not ok 2 - folder: is a directory"])
 
@@ -364,18 +369,20 @@ class Orders(Test):
     def test_orders_that_end_stuck_fail(self):
         """Without conditions a program fails where an order ends stuck; with some, these alone are judged."""
         status, lines = told(self.room, WAKE, "--times", "1000")
-        must(f"{lines}", status == 1 and lines[1] == "not ok 1 - race.program (1000 orders)")
+        must(f"{lines}", status == 1 and lines[1] == "not ok 1 - race.program: no order ends stuck: fails in some of 1,000 orders of unknown many, seed 0")
         must(f"{lines}", "    - \"hart 1: line 8 'wfi': SSIP is 0, STIP is 0, SSIE is 1, STIE is 0\"" in lines)
         status, lines = told(self.room, SUSPENDED, "--times", "1000")
         must(f"{lines}", "    - \"hart 1: line 5 'ecall 0x48534d 3 0': SSIP is 1, STIP is 0, SSIE is 0, STIE is 0\"" in lines)
         status, lines = told(self.room, "#! end quiet stuck\n" + WAKE, "--times", "1000")
-        must(f"{lines}", status == 0 and lines[1] == "ok 1 - race.program: line 1: end quiet stuck")
+        must(f"{lines}", status == 0 and lines[1] == "ok 1 - race.program: line 1: end quiet stuck: holds in 1,000 orders of unknown many, seed 0")
 
     def test_orders_that_the_limit_cut_off_are_spared(self):
         """An order that the limit cut off is judged by its end only where the condition names that."""
         text = RACE.replace(" 100 ", " 5 ")
         status, lines = told(self.room, "#! end quiet\n#! end off history-full\n#! end history-full\n" + text, "--times", "30")
-        must(f"{lines}", status == 0 and lines[-1] == "# ends: 0 off, 30 history-full, 0 quiet, 0 stuck")
+        must(f"{lines}", status == 1 and lines[-1] == "# ends: 0 off, 30 history-full, 0 quiet, 0 stuck")
+        points = ["not ok 1 - race.program: line 1: end quiet: no order ends: the limit cut off all 30", *(f"ok {at} - race.program: line {at}: {it}: holds in 30 orders of unknown many, seed 0" for at, it in ((2, "end off history-full"), (3, "end history-full")))]
+        must(f"{lines}", lines[1:4] == points)
         must("a full history ends off", told(self.room, "#! end history-full\n" + RACE, "--times", "1000")[0] == 1)
 
     def test_all_differences_of_a_trace_are_told(self):
@@ -395,10 +402,10 @@ class Orders(Test):
         """A schedule's own record is judged by its conditions; an end is a program's alone."""
         text = "board 1 1 10 0 0x80000000 0x0\n0 advance\n0 poll\n0 ecall 0x10 0\n"
         status, lines = told(self.room, text, name="a.sched")
-        must(f"{lines}", status == 0 and lines[1] == "ok 1 - a.sched (3 lines)")
+        must(f"{lines}", status == 0 and lines[1:3] == ["ok 1 - a.sched (3 lines)", "# line 3: refused 3"])
         status, lines = told(self.room, "#! each 0 ecall -> ret 0 0x1000001\n#! some 0 advance\n#! end quiet\n" + text, name="a.sched")
         wanted = [
-            "not ok 1 - a.sched: line 1: each 0 ecall -> ret 0 0x1000001", "  ---", '  record: "./a.sched.failed"', "  place: 1", "  steps: |",
+            "# line 6: refused 3", "not ok 1 - a.sched: line 1: each 0 ecall -> ret 0 0x1000001", "  ---", '  record: "./a.sched.failed"', "  place: 1", "  steps: |",
             "    0 0 advance -> entry 0x80000000 0 0x0", "    1 0 ecall 0x10 0x0 0x0 0x0 0x0 0x0 0x0 0x0 -> ret 0 0x1000000", "  ...",
             "ok 2 - a.sched: line 2: some 0 advance", "not ok 3 - a.sched: line 3: end quiet", "  ---", '  reason: "only a program has an end"', "  ...",
         ]  # fmt: skip
@@ -447,7 +454,7 @@ class Orders(Test):
             found = tester(self.room, "--tap", path, "race.program")
             must(f"{found}", found.returncode == 7 and found.stderr.startswith(f"sbiboard: {path}: "))
         status, lines = told(self.room, f"#! end off\n{RACE}", "--seconds", "0")
-        must(f"{lines}", status == 0 and lines[1] == "ok 1 - race.program: line 1: end off # SKIP not tried" and "1..1" in lines)
+        must(f"{lines}", status == 8 and lines[1] == "not ok 1 - race.program: line 1: end off: not judged: no time" and "1..1" in lines)
 
     @named("records that can't be written are told")
     def test_records_that_can_t_be_written_are_told(self):
@@ -502,22 +509,23 @@ class Orders(Test):
     def test_runs_on_threads_are_judged_too(self):
         """With --threads a program is run as often on real threads, and each condition is judged by these runs, too."""
         status, lines = told(self.room, "#! end quiet\n#! never 1 load -> value 2\n" + RACE, "--times", "20", "--threads")
-        points = [f"ok {n} - race.program: line {line}" for n, line in ((1, "1: end quiet"), (2, "2: never 1 load -> value 2"))]
-        points += ["ok 3 - race.program: line 1: end quiet, on threads", "ok 4 - race.program: line 2: never 1 load -> value 2, on threads"]
+        asked, reaches = ("1: end quiet", "2: never 1 load -> value 2"), ("20 orders of unknown many, seed 0", "20 runs on threads")
+        points = [f"ok {n} - race.program: line {line}: holds in {reach}" for n, (reach, line) in enumerate(((reach, line) for reach in reaches for line in asked), 1)]
         must(f"{lines}", status == 0 and [line for line in lines if line.startswith("ok ")] == points and "# ends: 0 off, 0 history-full, 40 quiet, 0 stuck" in lines)
         status, lines = told(self.room, "#! end off\n" + RACE, "--times", "3", "--threads")
         must(f"{lines}", status == 1 and "  runs: 3" in lines and '  record: "./race.program.threads-0.failed"' in lines)
         checked = ran(["check", os.path.join(self.room, "race.program.threads-0.failed")])
         must(f"{checked}", checked.returncode == 0)
         status, lines = told(self.room, RACE, "--times", "3", "--threads")
-        must(f"{lines}", status == 0 and lines[2] == "ok 2 - race.program (3 runs on threads)")
+        must(f"{lines}", status == 0 and lines[2] == "ok 2 - race.program: no order ends stuck: holds in 3 runs on threads")
 
     def test_a_terminal_is_told_plainly(self):
         """At a terminal there is a plain text in place of points, and the progress where it takes long; --tap writes points all the same."""
         told(self.room, "#! end quiet # as it is\n#! end off\n" + RACE)
         status, text = at_a_terminal(self.room, "--times", "10", "--tap", "points.tap", "race.program")
         lines = text.split("\n")
-        must(f"{text}", status == 1 and lines[0] == "ok    race.program: line 1: end quiet" and lines[1] == "FAIL  race.program: line 2: end off")
+        must(f"{text}", status == 1 and lines[0] == "ok    race.program: line 1: end quiet: holds in 10 orders of unknown many, seed 0")
+        must(f"{text}", lines[1] == "FAIL  race.program: line 2: end off: fails in some of 10 orders of unknown many, seed 0")
         must(f"{text}", not any(it.strip().startswith("1..") for it in lines))
         must(f"{text}", "      failing: 10" in lines and "2 points, 1 failed" in lines and "TAP" not in text and "---" not in text and lines[-2].startswith("time: "))
         must("no points", read(os.path.join(self.room, "points.tap")).startswith("TAP version 14\nok 1 - "))

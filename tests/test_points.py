@@ -2,7 +2,7 @@
 import os
 import re
 
-from . import all_orders, random_programs, replays
+from . import all_orders, judge, random_programs, replays
 from .expected_points import Case
 from .fixtures import PROGRAM, TESTER, Test, must, ran, read, tester, told, told_of, write
 from .test_few_states import EDGES, are_all
@@ -230,13 +230,17 @@ class Points(Test):
             status, lines = told(self.room, text + asked, name=name)
             record = ran(["replay", write(os.path.join(self.room, "steps"), CUT)]).stdout.decode()
             first = text.count("\n") + 1
-            wanted = ["TAP version 14"] + [f"ok 1 - {name} ({len(answers)} lines)"] * (name == "a.trace")
-            points = len(wanted)
+            refused = [f"# line {at}: {line.partition(' -> ')[2]}" for at, line in enumerate(answers, 2) if " -> refused " in line]
+            wanted = ["TAP version 14", *([f"ok 1 - {name} ({len(answers)} lines)"] if name == "a.trace" else refused)]
+            points = 2 if name == "a.trace" else 1
             for at, (it, place, is_met) in enumerate(OF_CUT):
-                wanted.append(f"{'ok' if place is None else 'not ok'} {points + at} - {name}: line {first + at}: {it}")
+                why = judge.misfit(judge.condition(1, it), 2)
+                wanted.append(f"{'ok' if place is None else 'not ok'} {points + at} - {name}: line {first + at}: {it}{f': {why}' if why else ''}")
+                if why:
+                    continue
                 wanted += below(name, place, [line for line in answers if line != "cut -> done"])
                 wanted += [f"# line {first + at}: never met: no step has this actor and operation"] * (not is_met)
-            count, failed = points + len(OF_CUT) - 1, sum(place is not None for _, place, _ in OF_CUT)
+            count, failed = points - 1 + len(OF_CUT), sum(place is not None for _, place, _ in OF_CUT)
             wanted += [f"1..{count}", f"# {count} points, {failed} failed", "# 1 files, 0 orders, 0 different records", "# ends: 0 off, 0 history-full, 0 quiet, 0 stuck"]
             must_be_lines(name, lines, wanted)
             kept = read(os.path.join(self.room, f"{name}.failed"))
@@ -268,7 +272,7 @@ class Points(Test):
         for line in lines:
             if match := re.fullmatch(r"(?:not )?ok \d+ - (\d+)\.sched .*", line):
                 told_by[int(match[1])] = found = []
-            elif line.startswith("# line "):
+            elif line.startswith("# line ") and ": stale: " in line:
                 found.append(line)
         for at, text in enumerate(texts):
             wanted = stale_lines(text)
@@ -286,7 +290,7 @@ class Points(Test):
                 numbers[place] = number
                 _, lines = told(self.room, f"board {' '.join(map(str, numbers))}\n", "--times", "1", name="a.sched")
                 is_good = least <= number <= most
-                wanted = "ok 1 - a.sched (1 orders)" if is_good else f"not ok 1 - a.sched: bad board: {name} is {number}, {above if number > most else under}"
+                wanted = "ok 1 - a.sched: no order ends stuck: holds in 1 orders of unknown many, seed 0" if is_good else f"not ok 1 - a.sched: bad board: {name} is {number}, {above if number > most else under}"
                 must(f"{name} {number}: {lines}", lines[1] == wanted)
 
     def test_files_of_all_lengths_are_tested(self):

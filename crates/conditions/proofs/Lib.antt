@@ -1,3 +1,4 @@
-pub mod Places
-pub mod Fitting
+mod Saying
 pub mod Firsts
+pub mod Fitting
+pub mod Places

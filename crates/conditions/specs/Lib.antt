@@ -3,3 +3,4 @@ pub mod Items
 pub mod Patterns
 pub mod Reading
 pub mod Rules
+pub mod Vacuity

@@ -20,6 +20,9 @@ pub enum Wrong {
     /// `before` has no comma behind its first pattern.
     #[error("no comma")]
     NoComma,
+    /// A star, where `_` stands for any word.
+    #[error("any word is '_'")]
+    Star,
     /// Conditions are about accepted steps, and none is refused.
     #[error("no accepted step is refused")]
     Refused,

@@ -16,6 +16,8 @@ use std::alloc::Global;
 pub struct Condition {
     /// Its line's number, from 1.
     pub line: u64,
+    /// It may be about steps that no order has.
+    pub is_maybe: bool,
     /// What it asks.
     pub rule: Rule,
 }
@@ -44,8 +46,12 @@ pub fn conditions(alloc: Global, text: &[u8]) -> Result<Vec<Condition>, Fault> {
 
 /// Reads a condition of a line, and puts it behind those before.
 fn put(alloc: Global, found: &mut Vec<Condition>, line: u64, from: &[u8]) -> Result<(), Unread> {
-    let rule = rule(alloc, from)?;
-    found.push(Condition { line, rule })?;
+    let (is_maybe, rule) = asked_rule(alloc, from)?;
+    found.push(Condition {
+        line,
+        is_maybe,
+        rule,
+    })?;
     Ok(())
 }
 
@@ -101,6 +107,14 @@ impl<'a> Words<'a> {
         Some(Word { text, left })
     }
 
+    /// The next word, which must be there.
+    fn word(&mut self) -> Result<Word<'a>, Unread> {
+        match self.next() {
+            Some(word) => Ok(word),
+            None => Err(self.miscounted()),
+        }
+    }
+
     /// Words are missing here, or are too many.
     fn miscounted(&self) -> Unread {
         Unread {
@@ -110,18 +124,25 @@ impl<'a> Words<'a> {
     }
 }
 
-/// The condition that a text is.
-fn rule(alloc: Global, text: &[u8]) -> Result<Rule, Unread> {
+/// The condition that a text is, and whether `maybe` stands in front of it.
+fn asked_rule(alloc: Global, text: &[u8]) -> Result<(bool, Rule), Unread> {
     let mut words = Words { rest: text };
-    let Some(name) = words.next() else {
-        return Err(words.miscounted());
-    };
+    let first = words.word()?;
+    if first.text != b"maybe".as_slice() {
+        return Ok((false, rule(alloc, first, &mut words)?));
+    }
+    let name = words.word()?;
+    Ok((true, rule(alloc, name, &mut words)?))
+}
+
+/// The condition of this name, whose other words follow.
+fn rule(alloc: Global, name: Word<'_>, words: &mut Words<'_>) -> Result<Rule, Unread> {
     match name.text {
-        b"never" => never(alloc, &mut words),
-        b"some" => Ok(Rule::OfSome(pattern(alloc, &mut words, b"")?.0)),
-        b"each" => each(alloc, &mut words),
-        b"end" => ends(alloc, &mut words),
-        b"before" => before(alloc, &mut words),
+        b"never" => never(alloc, words),
+        b"some" => Ok(Rule::OfSome(pattern(alloc, words, b"")?.0)),
+        b"each" => each(alloc, words),
+        b"end" => ends(alloc, words),
+        b"before" => before(alloc, words),
         _ => Err(name.is(Wrong::UnknownCondition)),
     }
 }
@@ -241,6 +262,9 @@ fn item(
 ) -> Result<(Option<Item>, usize), Wrong>
     ensures { IfOk result (λ found. AsksAt place is_reply word.now found.0 last found.1) }
 {
+    if word == b"*".as_slice() {
+        return Err(Wrong::Star);
+    }
     match place {
         0 => Ok((actor(word)?, last)),
         1 => name(word, is_reply),

@@ -1,6 +1,7 @@
 //! A script's text beside what was read of it.
 use conditions::Condition;
 use guest_script::{next_word, unsigned_number, without_return};
+use std::alloc::{AllocError, Global};
 use std::str;
 
 /// A file under test.
@@ -15,14 +16,6 @@ pub struct Case<'a> {
 }
 
 impl<'a> Case<'a> {
-    /// The file's own name, without its folders.
-    pub fn name(&self) -> &'a str {
-        match self.file.rsplit_once('/') {
-            Some((_, name)) => name,
-            None => self.file,
-        }
-    }
-
     /// What a line says, without its comment.
     pub fn said_at(&self, line: u64) -> &'a str {
         said(self.line(line))
@@ -33,6 +26,40 @@ impl<'a> Case<'a> {
         let text = self.line(line).trim();
         let (asked, _) = parted(text.strip_prefix("#!").unwrap_or(text));
         asked.trim()
+    }
+
+    /// What the condition of a line says of a step, in its first pattern or in its second one, with its reply where that is asked for.
+    pub fn pattern_at(
+        &self,
+        alloc: Global,
+        line: u64,
+        is_second: bool,
+        with_reply: bool,
+    ) -> Result<String, AllocError> {
+        let mut found = String::new(alloc);
+        let mut is_here = !is_second;
+        let mut is_left_out = false;
+        let mut rest = behind_name(self.asked_at(line).as_bytes());
+        while let Some((word, after)) = next_word(rest) {
+            rest = after;
+            let (said, is_last) = match word.strip_suffix(b",") {
+                Some(said) => (said, true),
+                None if word == b"after".as_slice() => (b"".as_slice(), true),
+                None => (word, false),
+            };
+            is_left_out = is_left_out || !with_reply && said == b"->".as_slice();
+            if is_here && !is_left_out && !said.is_empty() {
+                if !found.is_empty() {
+                    found.push(' ')?;
+                }
+                found.push_str(str::from_utf8(said).unwrap_or(""))?;
+            }
+            if is_last {
+                is_here = is_second;
+                is_left_out = false;
+            }
+        }
+        Ok(found)
     }
 
     /// The line of an operation in the block at an address, which has so many before it, and what it says.
@@ -106,6 +133,18 @@ impl<'a> Walk<'a> {
                 line
             }
         }
+    }
+}
+
+/// What stands behind the name of a condition.
+fn behind_name(asked: &[u8]) -> &[u8] {
+    match next_word(asked) {
+        Some((b"maybe", after)) => match next_word(after) {
+            Some((_, behind)) => behind,
+            None => after,
+        },
+        Some((_, after)) => after,
+        None => asked,
     }
 }
 

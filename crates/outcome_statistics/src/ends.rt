@@ -55,6 +55,11 @@ impl Ends {
         self.stuck = self.stuck.saturating_add(later.stuck);
     }
 
+    /// Whether some order ended that the limit didn't cut off.
+    pub fn some_ended(&self) -> bool {
+        self.off > 0 || self.quiet > 0 || self.stuck > 0
+    }
+
     /// How many orders were tried.
     pub fn orders(&self) -> u64 {
         self.off

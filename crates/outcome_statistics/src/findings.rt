@@ -7,11 +7,10 @@ ghost use Rattle.outcome_statistics.specs.Findings.{AreFound, EachTells};
 
 use crate::ends::{Ends, is};
 use crate::judging::judge;
-use crate::matched::is_met;
 use crate::tally::Tally;
 use crate::visits::Visits;
 use board_core::{Board, Event};
-use conditions::{Condition, Ending, ending};
+use conditions::{Condition, Ending, Met, ending};
 use guest_programs::End;
 use seeded_orders::choices;
 use std::alloc::{AllocError, Global};
@@ -22,8 +21,8 @@ use std::collections::BTreeSet;
 pub struct Judged {
     /// How many records are as it asks.
     pub tally: Tally,
-    /// Whether in some record each of its patterns met a step, whatever its reply.
-    pub is_met: bool,
+    /// Which of the steps that it needs were met in some record.
+    pub met: Met,
 }
 
 /// What was found of orders of a program.
@@ -52,7 +51,7 @@ impl Findings {
     {
         let none = Judged {
             tally: Tally::new(),
-            is_met: false,
+            met: Met::none(),
         };
         Ok(Findings {
             judged: vec![in alloc; none; conditions]?,
@@ -88,7 +87,11 @@ impl Findings {
         self.ends.see(end);
         let kept = choices(alloc, events)?;
         self.records.insert(kept)?;
-        self.visits.see(alloc, board.config().harts, events)
+        let harts = board.config().harts;
+        if some_lacks(conditions, &self.judged) {
+            self.visits.see_deeds(alloc, harts, events)?;
+        }
+        self.visits.see(alloc, harts, events)
     }
 
     /// Orders were tried behind these.
@@ -125,7 +128,7 @@ fn judge_each(
         let rule = &conditions[i].rule;
         let of_it = &mut judged[i];
         judge(rule, &mut of_it.tally, number, events, end);
-        of_it.is_met = of_it.is_met || is_met(rule, events);
+        of_it.met.see(rule, events);
     }
 }
 
@@ -139,6 +142,17 @@ fn add_each(judged: &mut [Judged], later: &[Judged])
     for i in 0..judged.len().min(later.len()) {
         let of_it = &mut judged[i];
         of_it.tally.add(later[i].tally);
-        of_it.is_met = of_it.is_met || later[i].is_met;
+        of_it.met.add(later[i].met);
     }
+}
+
+/// Whether some condition needs a step that wasn't met yet.
+fn some_lacks(conditions: &[Condition], judged: &[Judged]) -> bool {
+    for (condition, of_it) in conditions.iter().zip(judged) {
+        let rule = &condition.rule;
+        if of_it.met.lacks_first(rule) || of_it.met.lacks_second(rule) {
+            return true;
+        }
+    }
+    false
 }

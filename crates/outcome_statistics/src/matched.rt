@@ -1,17 +1,17 @@
 //! Whether the patterns of a condition meet steps.
 use board_core::Event;
-use conditions::Rule;
+use conditions::{Met, Rule};
 
 /// Whether each pattern of a condition has met a step, whatever its reply; one that it hasn't is met.
 #[derive(Clone, Copy, Debug)]
-pub struct Matched {
+struct Matched {
     first: bool,
     second: bool,
 }
 
 impl Matched {
     /// Before any step.
-    pub fn new(rule: &Rule) -> Matched {
+    fn new(rule: &Rule) -> Matched {
         let (first, second) = match rule {
             Rule::Never(_) | Rule::OfSome(_) | Rule::Each(_) => (false, true),
             Rule::NeverAfter(..) | Rule::Before(..) => (false, false),
@@ -21,7 +21,7 @@ impl Matched {
     }
 
     /// A step was taken.
-    pub fn see(&mut self, rule: &Rule, event: &Event) {
+    fn see(&mut self, rule: &Rule, event: &Event) {
         match rule {
             Rule::Never(p) | Rule::OfSome(p) | Rule::Each(p) => {
                 self.first = self.first || p.fits_step(event);
@@ -35,7 +35,7 @@ impl Matched {
     }
 
     /// Whether each has.
-    pub fn is_each(self) -> bool {
+    fn is_each(self) -> bool {
         self.first && self.second
     }
 }
@@ -50,4 +50,13 @@ pub fn is_met(rule: &Rule, events: &[Event]) -> bool {
         matched.see(rule, event);
     }
     matched.is_each()
+}
+
+/// Whether each pattern of a condition has what it asks for, also one that needs none.
+pub fn is_each_met(rule: &Rule, met: Met) -> bool {
+    match rule {
+        Rule::Never(_) | Rule::OfSome(_) | Rule::Each(_) => met.first,
+        Rule::NeverAfter(..) | Rule::Before(..) => met.first && met.second,
+        Rule::End(_) => true,
+    }
 }

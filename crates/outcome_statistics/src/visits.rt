@@ -13,6 +13,36 @@ pub struct Spot {
     pub before: u64,
 }
 
+/// A step by who makes it and where it stands: a guest's in its block, the firmware's by its operation, the clock's by its ticks.
+#[derive(Clone, Copy, Debug, PartialEq, Eq, PartialOrd, Ord)]
+pub struct Deed {
+    /// The hart; none for the clock.
+    pub hart: Option<u64>,
+    /// Where it stands, where it is a guest's.
+    pub spot: Option<Spot>,
+    /// What tells it from others that stand nowhere.
+    other: u64,
+}
+
+impl Deed {
+    /// A step that was made while the guest of its hart was here.
+    fn of(guest: Option<Spot>, event: &Event) -> Deed {
+        let hart = match event.actor() {
+            Actor::Hart(h) => Some(h),
+            Actor::Clock => None,
+        };
+        let spot = if is_guest(event.op()) { guest } else { None };
+        let other = match event.op() {
+            Op::Poll => 1,
+            Op::Serve => 2,
+            Op::Advance => 3,
+            Op::Tick(n) => n,
+            _ => 0,
+        };
+        Deed { hart, spot, other }
+    }
+}
+
 /// What the guests of orders met.
 #[derive(Drop)]
 pub struct Visits {
@@ -20,6 +50,8 @@ pub struct Visits {
     pub entered: BTreeSet<u64>,
     /// The calls that were answered, each with whether an answer was no error.
     pub calls: BTreeMap<Spot, bool>,
+    /// The different steps, each as it was made once, of orders that lacked one that a condition needs.
+    pub deeds: BTreeMap<Deed, Event>,
 }
 
 impl Visits {
@@ -28,6 +60,7 @@ impl Visits {
         Visits {
             entered: BTreeSet::new(alloc),
             calls: BTreeMap::new(alloc),
+            deeds: BTreeMap::new(alloc),
         }
     }
 
@@ -51,6 +84,45 @@ impl Visits {
         Ok(())
     }
 
+    /// The different steps of an order of so many harts.
+    ///
+    /// # Errors
+    ///
+    /// Memory was refused.
+    pub fn see_deeds(
+        &mut self,
+        alloc: Global,
+        harts: u64,
+        events: &[Event],
+    ) -> Result<(), AllocError> {
+        let mut guests: Vec<Option<Spot>> = vec![in alloc; None; harts as usize]?;
+        for event in events {
+            let Actor::Hart(h) = event.actor() else {
+                self.see_deed(None, event)?;
+                continue;
+            };
+            let guest = guests.get(h as usize).copied().flatten();
+            self.see_deed(guest, event)?;
+            if (h as usize) < guests.len() {
+                guests[h as usize] = guest_after(guest, event);
+            }
+        }
+        Ok(())
+    }
+
+    /// A step that was made while the guest of its hart was here.
+    ///
+    /// # Errors
+    ///
+    /// Memory was refused.
+    pub fn see_deed(&mut self, guest: Option<Spot>, event: &Event) -> Result<(), AllocError> {
+        let deed = Deed::of(guest, event);
+        if !self.deeds.contains_key(&deed) {
+            self.deeds.insert(deed, *event)?;
+        }
+        Ok(())
+    }
+
     /// A hart took a step while its guest was here, if it was in a block: where it is then.
     ///
     /// # Errors
@@ -63,21 +135,13 @@ impl Visits {
     ) -> Result<Option<Spot>, AllocError> {
         if let Reply::Entry { addr, .. } = event.reply() {
             self.entered.insert(addr)?;
-            return Ok(Some(Spot { addr, before: 0 }));
         }
-        let Some(spot) = guest else {
-            return Ok(None);
-        };
-        if !is_guest(event.op()) {
-            return Ok(guest);
-        }
-        if let Op::Ecall(_) = event.op() {
+        if let Some(spot) = guest
+            && let Op::Ecall(_) = event.op()
+        {
             self.see_call(spot, !is_error(event.reply()))?;
         }
-        Ok(Some(Spot {
-            addr: spot.addr,
-            before: spot.before.saturating_add(1),
-        }))
+        Ok(guest_after(guest, event))
     }
 
     /// A call was answered.
@@ -97,11 +161,27 @@ impl Visits {
     /// Memory was refused.
     pub fn add(&mut self, later: &mut Visits) -> Result<(), AllocError> {
         self.entered.append(&mut later.entered)?;
+        self.deeds.append(&mut later.deeds)?;
         for (spot, is_good) in later.calls.iter() {
             self.see_call(*spot, *is_good)?;
         }
         Ok(())
     }
+}
+
+/// Where a guest is after a step of its hart.
+fn guest_after(guest: Option<Spot>, event: &Event) -> Option<Spot> {
+    if let Reply::Entry { addr, .. } = event.reply() {
+        return Some(Spot { addr, before: 0 });
+    }
+    let spot = guest?;
+    if !is_guest(event.op()) {
+        return guest;
+    }
+    Some(Spot {
+        addr: spot.addr,
+        before: spot.before.saturating_add(1),
+    })
 }
 
 /// Whether a reply is a call's error.

@@ -5,11 +5,10 @@ use crate::early::Early;
 use clap::parser::ValueSource;
 use clap::{Arg, ArgAction, ArgMatches, Command, value_parser};
 use std::alloc::{AllocError, Global};
-use std::ops::Range;
 use std::rt::Clock;
 use std::thread::{self, Threads};
 use test_report::Mode;
-use test_terms::{Limit, Options, Screen};
+use test_terms::{Limit, Options, Orders, Screen};
 
 const TIMES: &str = "times";
 
@@ -46,14 +45,14 @@ docs/FORMATS.md has all of them. What is told are points of the Test Anything Pr
 Of a program with few states all orders are looked at, as by `explore`; of another one, and where --times, --seed, --order or
 --threads is given, orders that the seed picks are tried.
 
-Exit status: 0 all hold, 1 some don't, 2 usage, 6 no memory, 7 input or output failed.";
+Exit status: 0 all hold, 1 some don't, 2 usage, 6 no memory, 7 input or output failed, 8 not all was judged.";
 
 const AFTER_EXPLORE: &str = "\
 A condition is a comment of a script that begins with `#!`, as `#! never 2 load 0x1000 -> value 0x11`; docs/FORMATS.md has all.
 What holds in all orders of steps, of any length that the program allows, is proved to hold in all histories of it.
 A state takes some 2 KB for three harts, of whose RAM most words are 0.
 
-Exit status: 0 all hold, 1 some don't, 2 usage, 6 no memory, 7 input or output failed, 8 not all orders were seen.";
+Exit status: 0 all hold, 1 some don't, 2 usage, 6 no memory, 7 input or output failed, 8 not all was judged or seen.";
 
 /// What the words of a command line ask for, the program's own name first.
 ///
@@ -77,8 +76,8 @@ pub(crate) fn options_of<'a, R: AllocGlobal + Clock + Threads>(
     Ok(Options {
         mode,
         orders: match matches.get_one(ORDER) {
-            Some(order) => one_order(order),
-            None => 0..times,
+            Some(order) => Orders::One(order),
+            None => Orders::First(times),
         },
         seed: matches.get_one(SEED).unwrap_or(0),
         jobs: jobs_of(rt, matches.get_one(JOBS)),
@@ -100,11 +99,6 @@ fn mode_of(words: &[String]) -> Mode {
         Some(name) if name.as_str() == EXPLORE => Mode::Explore,
         _ => Mode::Test,
     }
-}
-
-/// The numbers of one order alone.
-fn one_order(order: u64) -> Range<u64> {
-    order..order.saturating_add(1)
 }
 
 /// Whether they ask for orders of a seed, or for runs on threads.

@@ -11,8 +11,8 @@ pub(crate) struct Course {
     board: Board,
     /// The events before each cut, since the one before.
     segments: Vec<Vec<Event>>,
-    /// Where it used what isn't there any more.
-    pub(crate) stale: Vec<Note>,
+    /// Where it used what isn't there any more, or refused a step.
+    pub(crate) noted: Vec<Note>,
 }
 
 impl Course {
@@ -21,7 +21,7 @@ impl Course {
         Course {
             board,
             segments: Vec::new(alloc),
-            stale: Vec::new(alloc),
+            noted: Vec::new(alloc),
         }
     }
 
@@ -45,7 +45,7 @@ impl Course {
             && let Some(event) = self.board.history().last()
             && let Some(stale) = expected.stale(&self.board, event)
         {
-            self.stale.push(Note::Stale(line.number(), stale))?;
+            self.noted.push(Note::Stale(line.number(), stale))?;
         }
         Ok(answer)
     }

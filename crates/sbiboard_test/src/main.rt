@@ -8,6 +8,7 @@ mod course;
 mod early;
 mod loading;
 mod output;
+mod record_names;
 mod stale;
 mod steps;
 mod testing;
@@ -15,6 +16,7 @@ mod testing;
 use command_line::options_of;
 use early::{Early, told};
 use output::Output;
+use record_names::record_names;
 use std::env;
 use std::io::IsTerminal;
 use std::process::ExitCode;
@@ -31,9 +33,9 @@ fn main(rt: HostRuntime) -> ExitCode {
         is_watched: rt.stderr().is_terminal(),
     };
     ExitCode::from(match run(&rt, screen) {
-        Ok(Status::NoneFails) => 0,
+        Ok(Status::AllHold) => 0,
         Ok(Status::SomeFail) => 1,
-        Ok(Status::NotAllSeen) => 8,
+        Ok(Status::NotJudged) => 8,
         Err(early) => told(&rt, &early),
     })
 }
@@ -55,8 +57,9 @@ fn test_all<R: AllocGlobal + Clock + Eprint + Files + Print + Sync + Threads + W
 ) -> Result<Status, Stop> {
     let mut output = Output::begin(rt, options)?;
     let mut report = Report::new(rt.alloc(), options.mode);
-    for file in &options.files {
-        let found = test_file(rt, options, file)?;
+    let names = record_names(rt.alloc(), &options.files)?;
+    for (file, record) in options.files.iter().zip(names.iter()) {
+        let found = test_file(rt, options, file, record.as_str())?;
         output.tell_file(&found)?;
         report.files.push(found)?;
     }

@@ -38,12 +38,16 @@ fn replay<R: AllocGlobal>(
     file: &mut FileReport,
 ) -> Result<(), AllocError> {
     for line in lines.iter() {
-        let _ = course.answer(trial.rt.alloc(), &line)?;
+        if let Err(refusal) = course.answer(trial.rt.alloc(), &line)? {
+            course
+                .noted
+                .push(Note::Refused(line.number(), refusal.number()))?;
+        }
     }
     if trial.case.conditions.is_empty() {
         file.push(point_of_lines(trial, lines, Verdict::Holds)?)?;
     }
-    note_stale(course, file)
+    note_lines(course, file)
 }
 
 /// Compares each line of a trace with the board's own answer, goes on with that, and tells all lines that differ.
@@ -75,12 +79,12 @@ fn compare<R: AllocGlobal>(
         point.details.push(Detail::Lines(differences))?;
     }
     file.push(point)?;
-    note_stale(course, file)
+    note_lines(course, file)
 }
 
-/// Notes where the board used what isn't there any more.
-fn note_stale(course: &mut Course, file: &mut FileReport) -> Result<(), AllocError> {
-    for note in course.stale.drain(..) {
+/// Notes what is odd about lines.
+fn note_lines(course: &mut Course, file: &mut FileReport) -> Result<(), AllocError> {
+    for note in course.noted.drain(..) {
         file.note(note)?;
     }
     Ok(())
@@ -108,19 +112,23 @@ fn judge<R: AllocGlobal + Files>(
 ) -> Result<(), AllocError> {
     let alloc = trial.rt.alloc();
     let rule = &condition.rule;
-    let verdict = Verdict::of(meets(rule, record.events, None));
+    let verdict = match rule.misfit(trial.script.config.harts) {
+        Some(misfit) => Verdict::Misfit(misfit),
+        None => Verdict::of(meets(rule, record.events, None)),
+    };
+    let is_failing = matches!(verdict, Verdict::Fails);
     let name = named(alloc, &trial.case, Some(condition), "")?;
     let mut point = Point::new(alloc, name, verdict);
     if matches!(rule, Rule::End(_)) {
         point
             .details
             .push(Detail::Reason("only a program has an end"))?;
-    } else if verdict == Verdict::Fails {
+    } else if is_failing {
         let place = failing_step(Some(rule), record.events);
         keep(trial, "failed", record, place, &mut point.details)?;
     }
     file.push(point)?;
-    if !is_met(rule, record.events) {
+    if rule.misfit(trial.script.config.harts).is_none() && !is_met(rule, record.events) {
         file.note(Note::NeverMet(condition.line))?;
     }
     Ok(())

@@ -12,7 +12,7 @@ use std::alloc::{AllocError, Global};
 use std::rt::{Clock, Files};
 use std::sync::Wait;
 use std::thread::Threads;
-use test_report::{FileReport, Mode, Point, Verdict, comments, named};
+use test_report::{FileReport, Mode, Point, Verdict, comments, named, unread};
 use test_terms::{Options, Stop, Trial};
 use tried_orders::{test_orders, test_runs};
 
@@ -21,6 +21,7 @@ pub(crate) fn test_file<R: AllocGlobal + Clock + Eprint + Files + Sync + Threads
     rt: &R,
     options: &Options<'_>,
     file: &str,
+    record: &str,
 ) -> Result<FileReport, Stop> {
     let alloc = rt.alloc();
     let loaded = match load(rt, file) {
@@ -39,10 +40,17 @@ pub(crate) fn test_file<R: AllocGlobal + Clock + Eprint + Files + Sync + Threads
             text: &loaded.text,
             conditions: &loaded.conditions,
         },
+        record,
         script: &loaded.script,
     };
     let mut found = test_script(&trial)?;
     found.note_all(comments(alloc, &trial.case)?)?;
+    for (line, asked) in unread(alloc, &trial.case)? {
+        let name = format!(in alloc;
+            "{file}: line {line}: '# !{asked}' is a comment, and no condition"
+        )?;
+        found.push(Point::new(alloc, name, Verdict::Fails))?;
+    }
     Ok(found)
 }
 

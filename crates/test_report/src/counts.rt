@@ -72,6 +72,29 @@ impl fmt::Display for Counts {
     }
 }
 
+/// A number whose digits stand in threes: `1,284`; the greatest has more behind it.
+#[derive(Clone, Copy, Debug)]
+pub(crate) struct Grouped(pub(crate) u128);
+
+impl fmt::Display for Grouped {
+    fn fmt<W: fmt::Write>(&self, f: &mut fmt::Formatter<W>) -> fmt::Result {
+        let Grouped(number) = *self;
+        // (a number of 128 bits has 39 digits at most)
+        let mut is_begun = false;
+        for place in 0..13u32 {
+            let unit = 1000u128.saturating_pow(12 - place);
+            let three = number / unit % 1000;
+            if is_begun {
+                write!(f, ",{three:03}")?;
+            } else if three > 0 || place == 12 {
+                is_begun = true;
+                write!(f, "{three}")?;
+            }
+        }
+        write!(f, "{}", or_more(number))
+    }
+}
+
 /// What is said behind a count: that there may be more.
 pub(crate) fn or_more(many: u128) -> &'static str {
     if many == u128::MAX { " or more" } else { "" }
@@ -82,15 +105,26 @@ pub(crate) fn or_more(many: u128) -> &'static str {
 pub enum AllOrders {
     /// They are so many.
     Counted(Counts),
-    /// Some come back to a state, and so have no end; others end at so many states.
+    /// Some come back to a state, and so have no end; others end at so many states, if any do.
     Endless(Counts),
 }
 
-/// `35, quiet 30, stuck 5`, or `some without end, some quiet`.
+impl AllOrders {
+    /// How many they are, where they were counted.
+    pub(crate) fn many(&self) -> Option<u128> {
+        match self {
+            AllOrders::Counted(orders) => Some(orders.all()),
+            AllOrders::Endless(_) => None,
+        }
+    }
+}
+
+/// `35, quiet 30, stuck 5`, or `some without end, some quiet`, or `all without end`.
 impl fmt::Display for AllOrders {
     fn fmt<W: fmt::Write>(&self, f: &mut fmt::Formatter<W>) -> fmt::Result {
         match self {
             AllOrders::Counted(orders) => write!(f, "{orders}"),
+            AllOrders::Endless(states) if states.all() == 0 => write!(f, "all without end"),
             AllOrders::Endless(states) => {
                 write!(f, "some without end")?;
                 for (end, many) in states.ends() {

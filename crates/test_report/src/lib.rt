@@ -4,6 +4,7 @@
 
 mod counts;
 mod details;
+mod missing;
 mod notes;
 mod odd;
 mod page;
@@ -14,13 +15,16 @@ mod report;
 mod stuck;
 mod summary;
 mod tap;
+mod verdict;
 
 pub use counts::{AllOrders, Counts};
 pub use details::{Detail, Difference, Unwritten};
+pub use missing::Missing;
 pub use notes::{Given, LoadGave, Note, Outcome, Stale};
-pub use odd::{comments, oddities};
+pub use odd::{comments, oddities, unread};
 pub use page::{Page, Style};
-pub use point::{Point, Verdict, named};
+pub use point::{Point, named};
 pub use records::{RecordParts, record, step_line};
 pub use report::{FileReport, Mode, Report, Status};
 pub use stuck::{StuckHart, stuck_harts};
+pub use verdict::{Reach, Unjudged, Verdict};

@@ -54,6 +54,8 @@ pub enum Note {
     Stale(u64, Stale),
     /// Behind other words of a line `#!` is a comment.
     NoCondition(u64),
+    /// The step of a schedule's line was refused, by this number.
+    Refused(u64, u64),
     /// No order entered the block of a line, at this address.
     NotEntered(u64, u64),
     /// Each answer to the call of a line was an error.
@@ -93,6 +95,7 @@ impl fmt::Display for Note {
                 f,
                 "line {line}: behind other words '#!' begins a comment, and no condition"
             ),
+            Note::Refused(line, refusal) => write!(f, "line {line}: refused {refusal}"),
             Note::NotEntered(line, addr) => {
                 write!(f, "line {line}: no order entered the block at {addr:#x}")
             }

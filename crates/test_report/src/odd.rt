@@ -103,3 +103,35 @@ fn comment_of(line: &[u8]) -> &[u8] {
     }
     b""
 }
+
+/// The lines whose comment is a condition but for blanks behind its sign, each with the word there.
+pub fn unread<'a>(alloc: Global, case: &Case<'a>) -> Result<Vec<(u64, &'a str)>, AllocError> {
+    let mut found = Vec::new(alloc);
+    for (i, text) in case.text.split(|b| *b == b'\n').enumerate() {
+        let text = without_return(text);
+        if next_word(text).is_none()
+            && let Some(asked) = asked_behind_blanks(comment_of(text))
+        {
+            found.push((i as u64 + 1, str::from_utf8(asked).unwrap_or("")))?;
+        }
+    }
+    Ok(found)
+}
+
+/// The word of a condition that stands in a comment behind a sign and blanks.
+fn asked_behind_blanks(comment: &[u8]) -> Option<&[u8]> {
+    let (sign, after) = next_word(comment.strip_prefix(b"#")?)?;
+    if !matches!(comment.get(1), Some(b' ' | b'\t')) {
+        return None;
+    }
+    let asked = sign.strip_prefix(b"!")?;
+    let word = if asked.is_empty() {
+        next_word(after)?.0
+    } else {
+        asked
+    };
+    match word {
+        b"never" | b"some" | b"each" | b"end" | b"before" | b"maybe" => Some(word),
+        _ => None,
+    }
+}

@@ -1,21 +1,21 @@
 //! Points for a person who reads them on a terminal.
 use crate::details::shown;
-use crate::point::{Point, Verdict};
+use crate::point::Point;
+use crate::verdict::Verdict;
 use std::alloc::{AllocError, Global};
 
 /// Puts a point, and what stands below it.
 pub(crate) fn put_point(alloc: Global, point: &Point, text: &mut String) -> Result<(), AllocError> {
     text.push_str(match point.verdict {
-        Verdict::Holds | Verdict::NotTried => "ok    ",
-        Verdict::Fails => "FAIL  ",
+        Verdict::Holds => "ok    ",
+        Verdict::Fails | Verdict::Vacuous(_) | Verdict::NoEnd | Verdict::Misfit(_) => "FAIL  ",
+        Verdict::NotJudged(_) => "OPEN  ",
     })?;
-    for letter in point.name.chars() {
+    let said = format!(in alloc; "{}", point.said())?;
+    for letter in point.name.chars().chain(said.chars()) {
         text.push(shown(letter))?;
     }
-    text.push_str(match point.verdict {
-        Verdict::NotTried => " # SKIP not tried\n",
-        Verdict::Holds | Verdict::Fails => "\n",
-    })?;
+    text.push('\n')?;
     for detail in &point.details {
         detail.put(alloc, "      ", text)?;
     }

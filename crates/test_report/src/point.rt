@@ -1,39 +1,22 @@
 //! A point, and what belongs to it.
 use crate::details::{Detail, Unwritten};
 use crate::notes::Note;
-use conditions::Condition;
+use crate::verdict::{Reach, Said, Verdict};
+use conditions::{Condition, Rule};
 use diagnostics::Case;
 use std::alloc::{AllocError, Global};
-
-/// What was found of what a point asks.
-#[derive(Clone, Copy, Debug, PartialEq, Eq)]
-pub enum Verdict {
-    /// It holds.
-    Holds,
-    /// It doesn't.
-    Fails,
-    /// Nothing was tried.
-    NotTried,
-}
-
-impl Verdict {
-    /// Whether it holds, as far as was tried.
-    pub fn of(holds: bool) -> Verdict {
-        if holds {
-            Verdict::Holds
-        } else {
-            Verdict::Fails
-        }
-    }
-}
 
 /// What was asked of a file, and what was found.
 #[derive(Debug, Drop)]
 pub struct Point {
     /// What it is about.
     pub name: String,
+    /// One order is asked for, and not each.
+    is_some: bool,
     /// What was found.
     pub verdict: Verdict,
+    /// How far was looked.
+    pub reach: Reach,
     /// What stands below it.
     pub details: Vec<Detail>,
     /// What is noted behind it, of the file.
@@ -41,14 +24,51 @@ pub struct Point {
 }
 
 impl Point {
-    /// A point of which nothing more is told.
+    /// A point about a file's lines, or about what is wrong with it, of which nothing more is told.
     pub fn new(alloc: Global, name: String, verdict: Verdict) -> Point {
         Point {
             name,
+            is_some: false,
             verdict,
+            reach: Reach::Lines,
             details: Vec::new(alloc),
             notes: Vec::new(alloc),
         }
+    }
+
+    /// The point of a condition of a program, or of one without any: that no order ends stuck.
+    pub fn of_orders(
+        alloc: Global,
+        case: &Case<'_>,
+        condition: Option<&Condition>,
+        verdict: Verdict,
+        reach: Reach,
+    ) -> Result<Point, AllocError> {
+        let said = match condition {
+            Some(_) => "",
+            None => ": no order ends stuck",
+        };
+        let mut point = Point::new(alloc, named(alloc, case, condition, said)?, verdict);
+        point.reach = reach;
+        point.is_some = match condition {
+            Some(condition) => matches!(condition.rule, Rule::OfSome(_)),
+            None => false,
+        };
+        Ok(point)
+    }
+
+    /// What is said of it behind its name.
+    pub(crate) fn said(&self) -> Said<'_> {
+        Said {
+            verdict: &self.verdict,
+            reach: self.reach,
+            is_some: self.is_some,
+        }
+    }
+
+    /// Whether it is as it should be.
+    pub(crate) fn holds(&self) -> bool {
+        matches!(self.verdict, Verdict::Holds)
     }
 
     /// Its record that could not be written, if there is one.

@@ -2,7 +2,8 @@
 use crate::counts::AllOrders;
 use crate::details::Unwritten;
 use crate::notes::Note;
-use crate::point::{Point, Verdict};
+use crate::point::Point;
+use crate::verdict::Verdict;
 use outcome_statistics::Ends;
 use std::alloc::{AllocError, Global};
 
@@ -68,27 +69,40 @@ impl FileReport {
         Ok(())
     }
 
-    /// How many points fail.
-    pub(crate) fn failed(&self) -> u64 {
-        let mut many: u64 = 0;
+    /// Whether the point in a place says itself which step there isn't.
+    pub fn tells_what_is_missing(&self, place: usize) -> bool {
+        match self.points.get(place) {
+            Some(point) => matches!(point.verdict, Verdict::Vacuous(_) | Verdict::Misfit(_)),
+            None => false,
+        }
+    }
+
+    /// How many points fail, and how many weren't judged.
+    pub(crate) fn counted(&self) -> (u64, u64) {
+        let mut failed: u64 = 0;
+        let mut unjudged: u64 = 0;
         for point in &self.points {
-            if point.verdict == Verdict::Fails {
-                many = many.saturating_add(1);
+            match point.verdict {
+                Verdict::Holds => {}
+                Verdict::NotJudged(_) => unjudged = unjudged.saturating_add(1),
+                Verdict::Fails | Verdict::Vacuous(_) | Verdict::NoEnd | Verdict::Misfit(_) => {
+                    failed = failed.saturating_add(1);
+                }
             }
         }
-        many
+        (failed, unjudged)
     }
 }
 
 /// What is found of all points together.
 #[derive(Clone, Copy, Debug, PartialEq, Eq)]
 pub enum Status {
-    /// None fails.
-    NoneFails,
+    /// Each holds.
+    AllHold,
     /// Some fail.
     SomeFail,
-    /// None is known to fail, and not all orders were seen where that was asked for.
-    NotAllSeen,
+    /// None fails, and not all was judged or seen.
+    NotJudged,
 }
 
 /// What is found of all files.
@@ -111,12 +125,18 @@ impl Report {
 
     /// What is found of all points together.
     pub fn status(&self) -> Status {
-        if self.files.iter().any(|file| file.failed() > 0) {
-            Status::SomeFail
-        } else if self.mode == Mode::Explore && self.is_cut() {
-            Status::NotAllSeen
+        let mut is_judged = !(self.mode == Mode::Explore && self.is_cut());
+        for file in &self.files {
+            let (failed, unjudged) = file.counted();
+            if failed > 0 {
+                return Status::SomeFail;
+            }
+            is_judged = is_judged && unjudged == 0 && !file.points.is_empty();
+        }
+        if is_judged {
+            Status::AllHold
         } else {
-            Status::NoneFails
+            Status::NotJudged
         }
     }
 

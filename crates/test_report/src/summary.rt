@@ -13,6 +13,7 @@ pub(crate) struct Summary {
     /// How many points there are.
     pub(crate) points: u64,
     failed: u64,
+    unjudged: u64,
     /// How the orders and runs ended that were tried, and how many different records these have.
     ends: Ends,
     records: u64,
@@ -32,6 +33,7 @@ impl Summary {
             files: report.files.len() as u64,
             points: 0,
             failed: 0,
+            unjudged: 0,
             ends: Ends::new(),
             records: 0,
             counted: 0,
@@ -41,7 +43,9 @@ impl Summary {
         };
         for file in &report.files {
             sum.points = sum.points.saturating_add(file.points.len() as u64);
-            sum.failed = sum.failed.saturating_add(file.failed());
+            let (failed, unjudged) = file.counted();
+            sum.failed = sum.failed.saturating_add(failed);
+            sum.unjudged = sum.unjudged.saturating_add(unjudged);
             sum.ends.add(file.ends);
             sum.records = sum.records.saturating_add(file.records);
             sum.see_orders(file.orders);
@@ -66,10 +70,15 @@ impl Summary {
         let Summary {
             points,
             failed,
+            unjudged,
             files,
             ..
         } = *self;
-        writeln!(text, "{sign}{points} points, {failed} failed")?;
+        write!(text, "{sign}{points} points, {failed} failed")?;
+        if unjudged > 0 {
+            write!(text, ", {unjudged} not judged")?;
+        }
+        text.push('\n')?;
         let are_all_seen = self.ends.orders() == 0 && (self.counted > 0 || self.endless > 0);
         if self.mode == Mode::Explore || are_all_seen {
             writeln!(text, "{sign}{files} files")?;

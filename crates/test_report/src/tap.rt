@@ -1,24 +1,23 @@
 //! Points of the Test Anything Protocol, version 14.
 use crate::details::shown;
-use crate::point::{Point, Verdict};
+use crate::point::Point;
 use std::alloc::{AllocError, Global};
 use std::fmt::Write;
 
-/// Puts the point of this number, and what stands below it.
+/// Puts the point of this number, and what stands below it. One that wasn't judged has no directive: a reader of points takes each
+/// for a success.
 pub(crate) fn put_point(
     alloc: Global,
     number: u64,
     point: &Point,
     text: &mut String,
 ) -> Result<(), AllocError> {
-    let (not, directive) = match point.verdict {
-        Verdict::Holds => ("", ""),
-        Verdict::Fails => ("not ", ""),
-        Verdict::NotTried => ("", " # SKIP not tried"),
-    };
+    let not = if point.holds() { "" } else { "not " };
     write!(text, "{not}ok {number} - ")?;
     put_escaped(point.name.as_str(), text)?;
-    writeln!(text, "{directive}")?;
+    let said = format!(in alloc; "{}", point.said())?;
+    put_escaped(said.as_str(), text)?;
+    text.push('\n')?;
     if point.details.is_empty() {
         return Ok(());
     }

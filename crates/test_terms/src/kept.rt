@@ -25,7 +25,7 @@ pub fn keep<R: AllocGlobal + Files>(
 ) -> Result<(), AllocError> {
     let alloc = trial.rt.alloc();
     let folder = trial.options.failed;
-    let name = trial.case.name();
+    let name = trial.record;
     let path = format!(in alloc; "{folder}/{name}.{label}")?;
     let bytes = record(alloc, kept)?;
     let unwritten = match fs::write(trial.rt, path.as_str(), &bytes) {

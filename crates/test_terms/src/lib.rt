@@ -10,6 +10,6 @@ mod trial;
 
 pub use kept::keep;
 pub use limit::Limit;
-pub use options::{Options, Screen};
+pub use options::{Options, Orders, Screen};
 pub use stop::Stop;
 pub use trial::Trial;

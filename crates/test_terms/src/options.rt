@@ -1,6 +1,5 @@
 //! What is asked for.
 use crate::limit::Limit;
-use std::ops::Range;
 use test_report::Mode;
 
 /// What stands where the program prints.
@@ -12,13 +11,22 @@ pub struct Screen {
     pub is_watched: bool,
 }
 
+/// Which orders of a seed are tried.
+#[derive(Clone, Copy, Debug, PartialEq, Eq)]
+pub enum Orders {
+    /// The first so many.
+    First(u64),
+    /// The one of this number alone.
+    One(u64),
+}
+
 /// What a test is asked for (profile).
 #[derive(Debug, Drop)]
 pub struct Options<'a> {
     /// Whether orders are tried, or all are looked at.
     pub mode: Mode,
-    /// The numbers of the orders that are tried of each program.
-    pub orders: Range<u64>,
+    /// Which orders of each program are tried.
+    pub orders: Orders,
     /// The seed of the orders.
     pub seed: u64,
     /// How many orders are tried at a time.

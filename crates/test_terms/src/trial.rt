@@ -12,6 +12,8 @@ pub struct Trial<'a, R> {
     pub options: &'a Options<'a>,
     /// The file's text and conditions.
     pub case: Case<'a>,
+    /// What the names of its records begin with: no other file's do.
+    pub record: &'a str,
     /// What the text says.
     pub script: &'a Script,
 }

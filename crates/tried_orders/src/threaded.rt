@@ -98,7 +98,7 @@ fn keep_failing<R: AllocGlobal + Files>(
             .conditions
             .get(i)
             .map(|condition| &condition.rule);
-        if judged(found, i).tally.first == Some(number) && tells_first(rule) {
+        if judged(found, i).tally.first == Some(number) && tells_first(trial, rule) {
             let record = RecordParts::of(&ended.board, Some(ended.end));
             *details = keep_first(trial, Source::Threads, rule, number, record)?;
         }

@@ -40,7 +40,7 @@ execute 'syntax match sbiboardEnd ' . s:Words(s:ends, '') . ' contained'
 execute 'syntax match sbiboardPatternOperation ' . s:Words(s:operations . ' cut', ',') . ' contained'
 execute 'syntax match sbiboardPatternReply ' . s:Words(s:replies, ',') . ' contained'
 execute 'syntax match sbiboardPatternNumber "\%(^\|[[:blank:],]\)\@1<=' . s:number . '\ze\%([[:blank:]#,]\|$\)" contained'
-syntax match sbiboardAfter "[[:blank:]]\@1<=after\ze\%([[:blank:]#]\|$\)" contained
+syntax match sbiboardAfter "[[:blank:]!]\@1<=\%(after\|maybe\)\ze\%([[:blank:]#]\|$\)" contained
 syntax match sbiboardClock "[[:blank:],]\@1<=c\ze\%([[:blank:]#,]\|$\)" contained
 syntax match sbiboardAny "[[:blank:],]\@1<=_\ze\%([[:blank:]#,]\|$\)" contained
 syntax match sbiboardDash "[[:blank:]]\@1<=-\ze\%([[:blank:]#,]\|$\)" contained

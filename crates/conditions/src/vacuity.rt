@@ -1,0 +1,154 @@
+//! Whether a condition says anything of records: whether some of them has the steps that it needs.
+ghost use Rattle.std.specs.Prelude.{◌≡◌, ◌≢◌, ◌↔◌, ◌⊎◌, [], List, Option, Some, true, false};
+ghost use Rattle.board_core.specs.History.{Event as Step};
+ghost use Rattle.conditions.specs.declared.rules.Ending.{Ending as HowEnded};
+ghost use Rattle.conditions.specs.declared.rules.Rule.{Rule as Asked};
+ghost use Rattle.conditions.specs.Vacuity.{HasFitting, HasMatching, IsOfCall, IsVacuous, MeetsFirst, MeetsSecond, NeedsFirst, NeedsSecond, SaysNothing};
+
+use crate::items::Item;
+use crate::names::Name;
+use crate::patterns::Pattern;
+use crate::rules::{Rule, first_from};
+use board_core::Event;
+use script_lines::OpName;
+
+/// Which of the steps that a condition needs were met in some record.
+#[derive(Clone, Copy, Debug, PartialEq, Eq)]
+pub struct Met {
+    /// That of its first pattern.
+    pub first: bool,
+    /// That of its second one.
+    pub second: bool,
+}
+
+impl Met {
+    /// Before any record.
+    pub fn none() -> Met
+        ensures first { result.first ≡ false }
+        ensures second { result.second ≡ false }
+    {
+        Met {
+            first: false,
+            second: false,
+        }
+    }
+
+    /// A record was made.
+    pub fn see(&mut self, rule: &Rule, events: &[Event])
+        ensures first { (self.new.first ≡ true) ↔ ((self.old.first ≡ true) ⊎ MeetsFirst rule.now events.now) }
+        ensures second { (self.new.second ≡ true) ↔ ((self.old.second ≡ true) ⊎ MeetsSecond rule.now events.now) }
+    {
+        self.first = self.first || meets_first(rule, events);
+        self.second = self.second || meets_second(rule, events);
+    }
+
+    /// What was met of other records, too.
+    pub fn add(&mut self, other: Met)
+        ensures first { (self.new.first ≡ true) ↔ ((self.old.first ≡ true) ⊎ (other.first ≡ true)) }
+        ensures second { (self.new.second ≡ true) ↔ ((self.old.second ≡ true) ⊎ (other.second ≡ true)) }
+    {
+        self.first = self.first || other.first;
+        self.second = self.second || other.second;
+    }
+
+    /// Whether a condition's first pattern has no step that it needs.
+    pub fn lacks_first(self, rule: &Rule) -> bool
+        ensures { (result ≡ true) ↔ (NeedsFirst rule.now × (self.first ≡ false)) }
+    {
+        !self.first && needs_first(rule)
+    }
+
+    /// Whether its second pattern has none.
+    pub fn lacks_second(self, rule: &Rule) -> bool
+        ensures { (result ≡ true) ↔ (NeedsSecond rule.now × (self.second ≡ false)) }
+    {
+        !self.second && needs_second(rule)
+    }
+}
+
+/// A vacuous condition says nothing: each of those records meets it, and none meets `some`. A law: there is nothing to run.
+pub fn vacuous_conditions_say_nothing()
+    ensures { (rule : Asked) (Record : List Step → Type 0) → IsVacuous rule Record
+        → (events : List Step) (end : Option HowEnded) → Record events → SaysNothing rule events end }
+{}
+
+/// Whether a record has the step that the first pattern needs.
+fn meets_first(rule: &Rule, events: &[Event]) -> bool
+    ensures { (result ≡ true) ↔ MeetsFirst rule.now events.now }
+{
+    match rule {
+        Rule::Never(p) => has_fitting(p, events),
+        Rule::NeverAfter(p, _) => has_fitting(p, events),
+        Rule::OfSome(p) => has_fitting(p, events),
+        Rule::Each(p) => has_fitting(p, events),
+        Rule::Before(p, _) => has_fitting(p, events),
+        Rule::End(_) => false,
+    }
+}
+
+/// Whether it has the step that the second one needs.
+fn meets_second(rule: &Rule, events: &[Event]) -> bool
+    ensures { (result ≡ true) ↔ MeetsSecond rule.now events.now }
+{
+    match rule {
+        Rule::NeverAfter(_, q) => has_matching(q, events),
+        Rule::Before(_, q) => has_fitting(q, events),
+        Rule::Never(_) | Rule::OfSome(_) | Rule::Each(_) | Rule::End(_) => false,
+    }
+}
+
+/// Whether some step has an actor and an operation that fit, whatever its reply.
+fn has_fitting(p: &Pattern, events: &[Event]) -> bool
+    ensures { (result ≡ true) ↔ HasFitting p.now events.now }
+{
+    for event in events {
+        if p.fits_step(event) {
+            return true;
+        }
+    }
+    false
+}
+
+/// Whether some step is one that a pattern means.
+fn has_matching(q: &Pattern, events: &[Event]) -> bool
+    ensures { (result ≡ true) ↔ HasMatching q.now events.now }
+{
+    first_from(q, events, 0).is_some()
+}
+
+/// Whether a condition needs a step of its first pattern.
+fn needs_first(rule: &Rule) -> bool
+    ensures { (result ≡ true) ↔ NeedsFirst rule.now }
+{
+    match rule {
+        Rule::Never(p) => has_reply(p) && !is_of_call(p),
+        Rule::NeverAfter(p, _) => has_reply(p) && !is_of_call(p),
+        Rule::OfSome(p) => has_reply(p),
+        Rule::Each(_) | Rule::Before(_, _) => true,
+        Rule::End(_) => false,
+    }
+}
+
+/// Whether it needs one of its second pattern.
+fn needs_second(rule: &Rule) -> bool
+    ensures { (result ≡ true) ↔ NeedsSecond rule.now }
+{
+    match rule {
+        Rule::NeverAfter(_, _) | Rule::Before(_, _) => true,
+        Rule::Never(_) | Rule::OfSome(_) | Rule::Each(_) | Rule::End(_) => false,
+    }
+}
+
+/// Whether a pattern has a reply.
+fn has_reply(p: &Pattern) -> bool
+    ensures { (result ≡ true) ↔ (p.now.reply.items ≢ []) }
+{
+    !p.reply.is_empty()
+}
+
+/// Whether a pattern's operation is a call.
+fn is_of_call(p: &Pattern) -> bool
+    ensures { (result ≡ true) ↔ IsOfCall p.now }
+{
+    p.step.get(1) == Some(&Some(Item::Word(Name::Op(OpName::Ecall))))
+}

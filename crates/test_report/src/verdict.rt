@@ -1,0 +1,203 @@
+//! What was found of what a point asks, and how far was looked for that.
+use crate::counts::{AllOrders, Grouped};
+use crate::missing::Missing;
+use conditions::{Item, Misfit, Name};
+use std::{fmt, str};
+
+/// Why something wasn't judged.
+#[derive(Clone, Copy, Debug, PartialEq, Eq)]
+pub enum Unjudged {
+    /// The time was over.
+    NoTime,
+    /// No order was asked for.
+    NoOrder,
+    /// There are more states than so many, and none of those that were seen breaks it.
+    TooMany(u64),
+}
+
+impl fmt::Display for Unjudged {
+    fn fmt<W: fmt::Write>(&self, f: &mut fmt::Formatter<W>) -> fmt::Result {
+        match self {
+            Unjudged::NoTime => write!(f, "no time"),
+            Unjudged::NoOrder => write!(f, "no order tried"),
+            Unjudged::TooMany(most) => {
+                let most = Grouped(u128::from(*most));
+                write!(f, "more than {most} states, none of those seen breaks it")
+            }
+        }
+    }
+}
+
+/// What was found of what a point asks.
+#[derive(Debug, Drop)]
+pub enum Verdict {
+    /// It holds.
+    Holds,
+    /// It doesn't.
+    Fails,
+    /// It says nothing, since no order has a step that it needs.
+    Vacuous(Missing),
+    /// It says nothing, since no order ends.
+    NoEnd,
+    /// A word of it is in no step of the board.
+    Misfit(Misfit),
+    /// It wasn't judged.
+    NotJudged(Unjudged),
+}
+
+impl Verdict {
+    /// Whether it holds.
+    pub fn of(holds: bool) -> Verdict {
+        if holds {
+            Verdict::Holds
+        } else {
+            Verdict::Fails
+        }
+    }
+}
+
+/// How far was looked.
+#[derive(Clone, Copy, Debug)]
+pub enum Reach {
+    /// At what a file has: its lines, or what is wrong with it.
+    Lines,
+    /// At all orders, which was asked for.
+    Explored,
+    /// At all orders of a program of few states.
+    All(AllOrders),
+    /// At so many orders that a seed picks.
+    Tried {
+        /// How many.
+        orders: u64,
+        /// The seed.
+        seed: u64,
+        /// How many of them the limit cut off, where ends are asked for.
+        cut: u64,
+    },
+    /// At so many runs on threads.
+    Runs {
+        /// How many.
+        runs: u64,
+        /// How many of them the limit cut off, where ends are asked for.
+        cut: u64,
+    },
+}
+
+/// `all orders: 1,284`, or `1,000 orders of unknown many, seed 0`.
+impl fmt::Display for Reach {
+    fn fmt<W: fmt::Write>(&self, f: &mut fmt::Formatter<W>) -> fmt::Result {
+        match self {
+            Reach::Lines => Ok(()),
+            Reach::Explored => write!(f, "all orders"),
+            Reach::All(orders) => {
+                write!(f, "all orders")?;
+                match orders.many() {
+                    Some(many) => write!(f, ": {}", Grouped(many)),
+                    None => Ok(()),
+                }
+            }
+            Reach::Tried { orders, seed, cut } => {
+                let many = Grouped(u128::from(*orders));
+                write!(f, "{many} orders of unknown many, seed {seed}")?;
+                write_cut(f, *cut)
+            }
+            Reach::Runs { runs, cut } => {
+                write!(f, "{} runs on threads", Grouped(u128::from(*runs)))?;
+                write_cut(f, *cut)
+            }
+        }
+    }
+}
+
+/// How many orders the limit cut off.
+fn write_cut<W: fmt::Write>(f: &mut fmt::Formatter<W>, cut: u64) -> fmt::Result {
+    if cut == 0 {
+        return Ok(());
+    }
+    write!(
+        f,
+        ", of which the limit cut off {}",
+        Grouped(u128::from(cut))
+    )
+}
+
+/// What is said of a verdict behind what a point is about.
+#[derive(Clone, Copy)]
+pub(crate) struct Said<'a> {
+    pub(crate) verdict: &'a Verdict,
+    pub(crate) reach: Reach,
+    /// One order is asked for, and not each.
+    pub(crate) is_some: bool,
+}
+
+impl fmt::Display for Said<'_> {
+    fn fmt<W: fmt::Write>(&self, f: &mut fmt::Formatter<W>) -> fmt::Result {
+        match self.verdict {
+            Verdict::Holds => self.write_judged(f, "holds", !self.is_some),
+            Verdict::Fails => self.write_judged(f, "fails", self.is_some),
+            Verdict::Vacuous(missing) => {
+                write!(f, ": vacuous: no step is '{}'", missing.said)?;
+                match self.reach {
+                    Reach::Tried { orders, .. } => {
+                        write!(f, " in the {} orders tried", Grouped(u128::from(orders)))?;
+                    }
+                    Reach::Runs { runs, .. } => {
+                        write!(f, " in the {} runs", Grouped(u128::from(runs)))?;
+                    }
+                    Reach::Lines | Reach::Explored | Reach::All(_) => {}
+                }
+                write!(f, "{missing}")
+            }
+            Verdict::NoEnd => {
+                write!(f, ": no order ends")?;
+                match self.reach {
+                    Reach::Tried { orders: cut, .. } | Reach::Runs { runs: cut, .. } => {
+                        write!(f, ": the limit cut off all {}", Grouped(u128::from(cut)))
+                    }
+                    Reach::Lines | Reach::Explored | Reach::All(_) => Ok(()),
+                }
+            }
+            Verdict::Misfit(misfit) => write_misfit(f, *misfit),
+            Verdict::NotJudged(why) => write!(f, ": not judged: {why}"),
+        }
+    }
+}
+
+impl Said<'_> {
+    /// What was found of each order that was looked at, or of some.
+    fn write_judged<W: fmt::Write>(
+        &self,
+        f: &mut fmt::Formatter<W>,
+        found: &str,
+        of_each: bool,
+    ) -> fmt::Result {
+        let reach = self.reach;
+        match (reach, of_each) {
+            (Reach::Lines, _) => Ok(()),
+            (Reach::Explored, false) => write!(f, ": {found}"),
+            (_, true) => write!(f, ": {found} in {reach}"),
+            (_, false) => write!(f, ": {found} in some of {reach}"),
+        }
+    }
+}
+
+/// Which word of a condition no step of the board has.
+fn write_misfit<W: fmt::Write>(f: &mut fmt::Formatter<W>, misfit: Misfit) -> fmt::Result {
+    match misfit {
+        Misfit::NoHart(hart) => write!(f, ": the board has no hart {hart}"),
+        Misfit::Unheld(name, item) => {
+            let word = match name {
+                Name::Clock => b"c".as_slice(),
+                Name::Op(op) => op.word(),
+                Name::Said(said) => said.word(),
+            };
+            write!(f, ": no {} has ", str::from_utf8(word).unwrap_or(""))?;
+            match item {
+                Item::Number(n) => write!(f, "{n}"),
+                Item::Below(n) => write!(f, "-{n}"),
+                Item::Absent => write!(f, "-"),
+                Item::Word(_) => Ok(()),
+            }
+        }
+    }
+}
