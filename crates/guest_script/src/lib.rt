@@ -23,7 +23,9 @@ pub use laws::{faults_are_first, one_reading};
 pub use number::{number as unsigned_number, signed_number};
 pub use parsing::{locate, parse};
 pub use reader::Reader;
-pub use script_lines::{Doing, Block, Body, KeptLine, Line, LineFault, Lines, LinesIter, Said, Script};
+pub use script_lines::{
+    Block, Body, Doing, KeptLine, Line, LineFault, Lines, LinesIter, Said, Script,
+};
 pub use text::without_return;
 pub use words::next_word;
 pub use wrong::{Misread, Wrong};

@@ -22,4 +22,4 @@ pub use plain::Plain;
 pub use said::Said;
 pub use said_name::SaidName;
 pub use said_shape::{SAID_NUMBERS, SaidShape};
-pub use script::{Doing, Block, Body, Line, Script};
+pub use script::{Block, Body, Doing, Line, Script};

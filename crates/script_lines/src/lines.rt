@@ -7,7 +7,7 @@ ghost use Rattle.script_lines.specs.KeptLines.{CanFollow, IsLike, lines_of, plai
 ghost use Rattle.script_lines.specs.Packing.{DoingFits, FitsKept};
 
 use crate::kept_line::KeptLine;
-use crate::line_shape::{DoingShape, ActorShape, LineShape};
+use crate::line_shape::{ActorShape, DoingShape, LineShape};
 use crate::op_shape::{OP_NUMBERS, put_all};
 use crate::places::LAST_HART;
 use crate::plain::Plain;
