@@ -157,7 +157,10 @@ fn run_to<R: AllocGlobal + Threads + Wait + Sync>(
 
 /// How many reads a task makes, each of which failed in turn: nothing is written then, and no more is read. A read of
 /// nothing is the end.
-pub fn check_reads<R: AllocGlobal + Threads + Wait + Sync>(rt: &R, task: LibraryTask) -> Result<u64> {
+pub fn check_reads<R: AllocGlobal + Threads + Wait + Sync>(
+    rt: &R,
+    task: LibraryTask,
+) -> Result<u64> {
     let mut reads = 0;
     for behind in BEHIND {
         let (outcome, calls, printed) = run_from(rt, task, behind, u64::MAX, Answer::Moves);
@@ -190,7 +193,10 @@ fn check_read<R: AllocGlobal + Threads + Wait + Sync>(
 
 /// How many writes a task makes, with the flush at the end, each of which failed or took nothing in turn: no call is made
 /// after it. A flush moves no bytes, so it ends well where it answers so.
-pub fn check_writes<R: AllocGlobal + Threads + Wait + Sync>(rt: &R, task: LibraryTask) -> Result<u64> {
+pub fn check_writes<R: AllocGlobal + Threads + Wait + Sync>(
+    rt: &R,
+    task: LibraryTask,
+) -> Result<u64> {
     let mut writes = 0;
     for behind in BEHIND {
         let (outcome, last, printed) = run_to(rt, task, behind, u64::MAX, Answer::Moves);

@@ -3,7 +3,7 @@
 use crate::scripts::SCHEDULE;
 use crate::telling::{begin, is_made, show};
 use board_core::{Board, BuildFault, Config, Totals, USUAL_ASID_LEN, USUAL_WIDTH};
-use guest_script::{Doing, Body, Lines, parse};
+use guest_script::{Body, Doing, Lines, parse};
 use std::alloc::Global;
 
 /// A board of three harts and two pages.

@@ -2,7 +2,7 @@
 
 use anyhow::Result;
 use board_core::{Actor, Op, Reply};
-use guest_script::{Doing, Body, Line, Lines, Said};
+use guest_script::{Body, Doing, Line, Lines, Said};
 use std::alloc::Global;
 
 /// The most that a line's number can be.
@@ -14,7 +14,11 @@ fn advance(number: u64, h: u64, said: Option<Said>) -> Line {
         actor: Actor::Hart(h),
         op: Op::Advance,
     };
-    Line { number, doing, said }
+    Line {
+        number,
+        doing,
+        said,
+    }
 }
 
 /// Adds lines one by one, and tells of each whether it could follow, and how many there are then.

@@ -8,7 +8,7 @@ use hsm::AlreadyAvailable;
 use interrupts::{Ipis, TimeFull, Timers};
 use monitor::Failed;
 use sbi_abi::SbiError;
-use sbiboard::{Outcome, ReadFault, NoOutcome, ended};
+use sbiboard::{NoOutcome, Outcome, ReadFault, ended};
 use std::alloc::AllocError;
 use std::io::{self, ErrorKind};
 
@@ -209,5 +209,8 @@ pub fn show_endings<R: Print + Eprint>(rt: &R) -> io::Result<()> {
         let stop = NoOutcome::from(io::Error::from(kind));
         println!(rt; "{} {kind:?}", ended(rt, Err(stop)))?;
     }
-    println!(rt; "{} refused memory", ended(rt, Err(NoOutcome::from(AllocError))))
+    println!(rt;
+        "{} refused memory",
+        ended(rt, Err(NoOutcome::from(AllocError)))
+    )
 }

@@ -19,7 +19,7 @@ use interrupts::{Ipis, TimeFull, Timers};
 use monitor::Failed;
 use sbi_abi::call::HsmCall;
 use sbi_abi::{Call, Regs, Reset, ResetKind, SbiError, Sbiret, SuspendKind};
-use sbiboard::{Device, Outcome, ReadFault, NoOutcome, Subcommand};
+use sbiboard::{Device, NoOutcome, Outcome, ReadFault, Subcommand};
 use std::alloc::Global;
 use std::fmt::Debug;
 use std::io;

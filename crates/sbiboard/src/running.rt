@@ -13,7 +13,7 @@ use crate::device::{ReadFault, Source, read_script};
 use crate::outcome::Outcome;
 use crate::replaying::replay_lines;
 use board_core::{Board, BuildFault, Config, Refusal, Reply};
-use guest_script::{Doing, Body, FaultKind, KeptLine, Lines, Script, ScriptFault};
+use guest_script::{Body, Doing, FaultKind, KeptLine, Lines, Script, ScriptFault};
 use monitor::Sink;
 use std::alloc::{AllocError, Global};
 

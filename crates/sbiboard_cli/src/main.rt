@@ -4,7 +4,7 @@
 
 use hart_threads::Open;
 use sbiboard::{
-    Device, Outcome, NoOutcome, Subcommand, check, command, ended, replay, run_and_keep, run_script,
+    Device, NoOutcome, Outcome, Subcommand, check, command, ended, replay, run_and_keep, run_script,
 };
 use std::fs::OpenFile;
 use std::io::{BufWriter, ErrorKind};
