@@ -10,7 +10,7 @@ ghosts-run_in-K-Ledger g a = record { name = a.room.ledger; parts = a.room.parts
 abbrev pub ghosts-run_in-K-Plan : goal.ghosts-run_in-K-Plan
 ghosts-run_in-K-Plan g a = record {
   ticks = ticks_of (content a.body.now);
-  blocks = blocks_of (content a.body.now);
+  guests = blocks_of (content a.body.now);
   lets = λ number ordinal answer. g.G.Gate.lets a.gate.now number ordinal answer;
 }
 
