@@ -1,7 +1,7 @@
 use Rattle.board_core.specs.Opening.{opening_at}
 use Rattle.guest_script.specs.Grammar.{content}
 use Rattle.guest_programs.specs.Programs.{blocks_of, ticks_of}
-use Rattle.hart_threads.proofs.running.run.Given as goal
+use Rattle.hart_threads.proofs.program_run.run.Given as goal
 
 -- the room that was just made
 abbrev pub ghosts-run_in-K-Ledger : goal.ghosts-run_in-K-Ledger

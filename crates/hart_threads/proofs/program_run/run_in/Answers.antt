@@ -5,7 +5,7 @@ use Rattle.guest_programs.specs.Guests.{Next}
 use Rattle.guest_programs.specs.Ends.{IsEndBy}
 use Rattle.hart_threads.specs.Shares.{AreThreads}
 use Rattle.hart_threads.proofs.Ending.{is-run}
-use Rattle.hart_threads.proofs.running.run_in.Goals as goal
+use Rattle.hart_threads.proofs.program_run.run_in.Goals as goal
 
 pub returns-clause-threads : goal.returns-clause-threads
 returns-clause-threads g c =

@@ -11,7 +11,7 @@ use Rattle.hart_threads.specs.Shares.{AreThreads}
 use Rattle.hart_threads.proofs.NewSeats.{back_again, new-seats}
 use Rattle.hart_threads.proofs.Ticked.{clock-ticked, seats-fresh}
 use Rattle.hart_threads.proofs.Whole.{are-threads, settle-all}
-use Rattle.hart_threads.proofs.running.run_on.Goals as goal
+use Rattle.hart_threads.proofs.program_run.run_on.Goals as goal
 
 no-way : false ≡ true → ⊥
 no-way e = let t = e in cc
