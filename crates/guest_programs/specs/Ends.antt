@@ -6,26 +6,27 @@ use Rattle.board_core.specs.History.{Event}
 use Rattle.board_core.specs.Opening.{Opening}
 use Rattle.board_core.specs.Resets.{is_off}
 use Rattle.board_core.specs.States.{state}
-use Rattle.guest_script.specs.Grammar.{Guest}
 use Rattle.guest_programs.specs.declared.ends.End.{End}
 use Rattle.guest_programs.specs.declared.ends.End.TheVariants.{GateLimit, Off, HistoryFull, Quiet, Stuck}
 use Rattle.guest_programs.specs.declared.met.Met.{Met}
 use Rattle.guest_programs.specs.declared.met.Met.TheVariants.{FullHistory, ClosedGate}
-use Rattle.guest_programs.specs.Guests.{block_of, done, last_entry}
+use Rattle.guest_programs.specs.Guests.{HasFollowed, Next, next_op}
 
--- A hart is STARTED, outside of a fence call, and since its last entry its guest did the whole block of that entry, in order.
-pub record IsThrough (o : Opening) (past : List Event) (blocks : List Guest) (h : ℕ) : Type 0 where
+-- A hart is STARTED, outside of a fence call, and since its last entry its guest did nothing but its next operations, up to
+-- where it has none.
+pub record IsThrough (o : Opening) (past : List Event) (guests : Next) (h : ℕ) : Type 0 where
   pub started : state o past h ≡ Started
   pub outside : outstanding o past h ≡ None
-  pub whole : done past h ≡ block_of blocks (last_entry past h)
+  pub followed : HasFollowed guests past h
+  pub over : next_op guests past h ≡ None
 
 -- A hart that is STOPPED, or through, is quiet.
-abbrev pub IsQuiet : Opening → List Event → List Guest → ℕ → Type 0
-IsQuiet o past blocks h = (state o past h ≡ Stopped) ⊎ IsThrough o past blocks h
+abbrev pub IsQuiet : Opening → List Event → Next → ℕ → Type 0
+IsQuiet o past guests h = (state o past h ≡ Stopped) ⊎ IsThrough o past guests h
 
 -- Each hart is quiet.
-abbrev pub AreQuiet : Opening → List Event → List Guest → Type 0
-AreQuiet o past blocks = (h : ℕ) → h < o.config.harts → IsQuiet o past blocks h
+abbrev pub AreQuiet : Opening → List Event → Next → Type 0
+AreQuiet o past guests = (h : ℕ) → h < o.config.harts → IsQuiet o past guests h
 
 -- An actor met a full history, and it is full.
 abbrev pub IsFull : Met → Opening → List Event → Type 0
@@ -33,20 +34,20 @@ IsFull met o past = (met ≡ FullHistory) × (length past ≡ o.config.limit)
 
 -- How a run ended, by what its actors met together and its record: a closed gate comes first, then the power, then a history
 -- that was full, and else the harts tell.
-abbrev pub IsEndBy : Met → Opening → List Event → List Guest → End → Type 0
-IsEndBy met o past blocks GateLimit = met ≡ ClosedGate
-IsEndBy met o past blocks Off = (met ≢ ClosedGate) × (is_off o past ≡ true)
-IsEndBy met o past blocks HistoryFull = (met ≡ FullHistory) × (is_off o past ≡ false) × (length past ≡ o.config.limit)
-IsEndBy met o past blocks Quiet = (met ≢ ClosedGate) × (is_off o past ≡ false) × ¬ IsFull met o past
-    × AreQuiet o past blocks
-IsEndBy met o past blocks Stuck =
+abbrev pub IsEndBy : Met → Opening → List Event → Next → End → Type 0
+IsEndBy met o past guests GateLimit = met ≡ ClosedGate
+IsEndBy met o past guests Off = (met ≢ ClosedGate) × (is_off o past ≡ true)
+IsEndBy met o past guests HistoryFull = (met ≡ FullHistory) × (is_off o past ≡ false) × (length past ≡ o.config.limit)
+IsEndBy met o past guests Quiet = (met ≢ ClosedGate) × (is_off o past ≡ false) × ¬ IsFull met o past
+    × AreQuiet o past guests
+IsEndBy met o past guests Stuck =
     (met ≢ ClosedGate) × (is_off o past ≡ false) × ¬ IsFull met o past
-    × ((h : ℕ) × (h < o.config.harts) × ¬ IsQuiet o past blocks h)
+    × ((h : ℕ) × (h < o.config.harts) × ¬ IsQuiet o past guests h)
 
 -- What holds of the record with each end. Of a gate's answers a record says nothing.
-abbrev pub IsEnd : End → Opening → List Event → List Guest → Type 0
-IsEnd GateLimit o past blocks = Unit {0}
-IsEnd Off o past blocks = is_off o past ≡ true
-IsEnd HistoryFull o past blocks = (is_off o past ≡ false) × (length past ≡ o.config.limit)
-IsEnd Quiet o past blocks = (is_off o past ≡ false) × AreQuiet o past blocks
-IsEnd Stuck o past blocks = (is_off o past ≡ false) × ((h : ℕ) × (h < o.config.harts) × ¬ IsQuiet o past blocks h)
+abbrev pub IsEnd : End → Opening → List Event → Next → Type 0
+IsEnd GateLimit o past guests = Unit {0}
+IsEnd Off o past guests = is_off o past ≡ true
+IsEnd HistoryFull o past guests = (is_off o past ≡ false) × (length past ≡ o.config.limit)
+IsEnd Quiet o past guests = (is_off o past ≡ false) × AreQuiet o past guests
+IsEnd Stuck o past guests = (is_off o past ≡ false) × ((h : ℕ) × (h < o.config.harts) × ¬ IsQuiet o past guests h)

@@ -1,5 +1,6 @@
-pub mod Programs
 pub mod Guests
+pub mod Blocks
+pub mod Programs
 pub mod Met
 pub mod Ends
 pub mod Faults

@@ -2,7 +2,9 @@
 use Rattle.std.specs.Prelude.{◌≡◌, ℕ, List, [], length, map, take}
 use Rattle.board_terms.specs.declared.op.Op.{Op}
 use Rattle.board_terms.specs.declared.op.Op.TheVariants.{Tick}
-use Rattle.guest_script.specs.Grammar.{Content, Guest, Empty, Program, Schedule, Trace}
+use Rattle.guest_script.specs.Grammar.{Content, Empty, Program, Schedule, Trace}
+use Rattle.guest_programs.specs.Blocks.{in_blocks}
+use Rattle.guest_programs.specs.Guests.{Next}
 
 -- A script is a program, or an empty script, which serves as one.
 abbrev pub IsProgram : Content → Type 0
@@ -22,9 +24,9 @@ ticks_of (Trace lines) = []
 abbrev pub AreFirst : List ℕ → List Op → Type 0
 AreFirst ticks ops = ops ≡ map Tick (take (length ops) ticks)
 
--- what guests do, by the address of their entry
-abbrev pub blocks_of : Content → List Guest
-blocks_of Empty = []
-blocks_of (Program blocks clock) = blocks
-blocks_of (Schedule lines) = []
-blocks_of (Trace lines) = []
+-- what guests do, by their blocks
+abbrev pub blocks_of : Content → Next
+blocks_of Empty = in_blocks []
+blocks_of (Program blocks clock) = in_blocks blocks
+blocks_of (Schedule lines) = in_blocks []
+blocks_of (Trace lines) = in_blocks []

@@ -1,5 +1,5 @@
 -- The steps that the actors of a program can take of themselves (profile).
-use Rattle.std.specs.Prelude.{◌≡◌, ◌⊎◌, ℕ, zero, suc, ◌+◌, Bool, true, false, not, ◌&&◌, nat_le, nat_lt, if◌then◌else◌, List, [], ◌∷◌, ◌++◌, length, map, slice_get, Option, Some, None, option_map}
+use Rattle.std.specs.Prelude.{◌≡◌, ◌⊎◌, ℕ, zero, suc, ◌+◌, Bool, true, false, not, ◌&&◌, nat_le, nat_lt, if◌then◌else◌, List, [], ◌∷◌, ◌++◌, map, slice_get, Option, Some, None, option_map}
 use Rattle.std.specs.List.{Contains}
 use Rattle.interrupts.specs.Timing.{last_time}
 use Rattle.board_core.specs.Opening.{Opening}
@@ -7,33 +7,32 @@ use Rattle.board_terms.specs.declared.op.Actor.{Actor}
 use Rattle.board_terms.specs.declared.op.Actor.TheVariants as actors
 use Rattle.board_terms.specs.declared.op.Op.{Op}
 use Rattle.board_terms.specs.declared.op.Op.TheVariants as ops
+use Rattle.board_terms.specs.declared.reply.Refusal.{Refusal}
+use Rattle.board_terms.specs.declared.reply.Refusal.TheVariants as refusals
 use Rattle.board_core.specs.History.{Event}
 use Rattle.board_core.specs.Interrupts.{time}
 use Rattle.board_core.specs.Refusals.{has_nothing_to_do, is_out_of_phase, situation, Situation}
 use Rattle.board_core.specs.Resets.{is_off}
-use Rattle.guest_script.specs.Grammar.{Content, guest, Guest}
+use Rattle.guest_script.specs.Grammar.{Content, guest}
 use Rattle.guest_programs.specs.declared.blocks.Program.{Program}
-use Rattle.guest_programs.specs.Guests.{block_of, done, last_entry}
+use Rattle.guest_programs.specs.Blocks.{in_blocks}
+use Rattle.guest_programs.specs.Guests.{Next, next_op}
 use Rattle.guest_programs.specs.Programs.{blocks_of, ticks_of}
 use Rattle.guest_programs.specs.declared.steps.Step.{Step}
 use Rattle.guest_programs.specs.declared.steps.Step.TheVariants as takes
 
--- what a program has its actors do: guests by the address of their entry, and the clock
+-- what a program has its actors do: guests, and the clock
 pub record Task : Type 0 where
-  pub blocks : List Guest
+  pub guests : Next
   pub ticks : List ℕ
 
 -- What a script has its actors do.
 abbrev pub task_of : Content → Task
-task_of content = record { blocks = blocks_of content; ticks = ticks_of content }
+task_of content = record { guests = blocks_of content; ticks = ticks_of content }
 
 -- What a program has its actors do.
 abbrev pub task_in : Program → Task
-task_in program = record { blocks = map guest program.blocks.now; ticks = program.ticks.now }
-
--- What the guest of hart h does next: the operation of its entry's block behind those that it did.
-abbrev pub next_op : List Guest → List Event → ℕ → Option Op
-next_op blocks past h = slice_get (block_of blocks (last_entry past h)) (length (done past h))
+task_in program = record { guests = in_blocks (map guest program.blocks.now); ticks = program.ticks.now }
 
 abbrev pub is_clock : Actor → Bool
 is_clock (actors.Hart h) = false
@@ -54,7 +53,7 @@ IsOwn guest op = (op ≡ ops.Serve) ⊎ (op ≡ ops.Poll) ⊎ (op ≡ ops.Advanc
 
 -- An operation is an actor's own: of a hart the firmware's or the next one of its guest, of the clock its next tick.
 abbrev pub IsActorsOwn : Task → List Event → Actor → Op → Type 0
-IsActorsOwn p past (actors.Hart h) op = IsOwn (next_op p.blocks past h) op
+IsActorsOwn p past (actors.Hart h) op = IsOwn (next_op p.guests past h) op
 IsActorsOwn p past actors.Clock op = option_map ops.Tick (next_tick p.ticks past) ≡ Some op
 
 -- Each event of the past was its actor's own then: each hart's operations follow its blocks, and the clock's its ticks.
@@ -72,6 +71,12 @@ abbrev pub accepts_next : Situation → Option Op → Bool
 accepts_next s None = false
 accepts_next s (Some op) = accepts s op
 
+-- whether an operation that is refused so, if it is, could happen if the history had room
+abbrev pub happens_with_room : Option Refusal → Bool
+happens_with_room None = true
+happens_with_room (Some refusals.HistoryFull) = true
+happens_with_room (Some r) = false
+
 -- a step, if it can be taken
 abbrev pub if_so : Bool → Step → List Step
 if_so can step = if can then step ∷ [] else []
@@ -85,10 +90,10 @@ hart_steps s guest h =
     ++ if_so (accepts_next s guest) (takes.Guest h)
 
 -- the steps of the harts below n
-abbrev pub harts_steps : Opening → List Guest → List Event → (n : ℕ) → List Step
-harts_steps o blocks past zero = []
-harts_steps o blocks past (suc h) =
-    harts_steps o blocks past h ++ hart_steps (situation o past h) (next_op blocks past h) h
+abbrev pub harts_steps : Opening → Next → List Event → (n : ℕ) → List Step
+harts_steps o guests past zero = []
+harts_steps o guests past (suc h) =
+    harts_steps o guests past h ++ hart_steps (situation o past h) (next_op guests past h) h
 
 -- whether there is a next tick, and the time has room for it
 abbrev pub can_tick : Opening → List Event → Option ℕ → Bool
@@ -99,7 +104,7 @@ can_tick o past (Some n) = nat_le (time o past + n) last_time
 unfoldable pub steps : Opening → Task → List Event → List Step
 steps o p past =
     if is_off o past then []
-    else harts_steps o p.blocks past o.config.harts ++ if_so (can_tick o past (next_tick p.ticks past)) takes.Tick
+    else harts_steps o p.guests past o.config.harts ++ if_so (can_tick o past (next_tick p.ticks past)) takes.Tick
 
 -- who takes a step
 abbrev pub actor_of : Step → Actor
@@ -114,7 +119,7 @@ abbrev pub op_of : Opening → Task → List Event → Step → Option Op
 op_of o p past (takes.Serve h) = Some ops.Serve
 op_of o p past (takes.Poll h) = Some ops.Poll
 op_of o p past (takes.Advance h) = Some ops.Advance
-op_of o p past (takes.Guest h) = if nat_lt h o.config.harts then next_op p.blocks past h else None
+op_of o p past (takes.Guest h) = if nat_lt h o.config.harts then next_op p.guests past h else None
 op_of o p past takes.Tick = option_map ops.Tick (next_tick p.ticks past)
 
 -- A step of this actor that does this operation is one of those that can be taken.

@@ -3,12 +3,11 @@ ghost use Rattle.std.specs.Prelude.{◌≡◌, ℕ, [], IfOk, map};
 ghost use Rattle.std.specs.BTreeMap.{get};
 ghost use Rattle.std.specs.Option.{option_map, unwrap_or};
 ghost use Rattle.std.specs.Ordering.{nat_cmp};
-ghost use Rattle.guest_script.specs.Grammar.{content, guest};
-ghost use Rattle.guest_programs.specs.Guests.{block_at};
-ghost use Rattle.guest_programs.specs.Programs.{IsProgram, blocks_of, ticks_of};
+ghost use Rattle.guest_script.specs.Grammar.{guest};
+ghost use Rattle.guest_programs.specs.Blocks.{block_at};
 
 use board_core::Op;
-use guest_script::{Block, Body};
+use guest_script::Block;
 use std::alloc::{AllocError, Global};
 use std::collections::BTreeMap;
 
@@ -56,25 +55,8 @@ fn first_blocks<'a>(
     Ok(first)
 }
 
-/// The program that a script is.
-///
-/// # Errors
-///
-/// Memory was refused.
-pub fn program_in(alloc: Global, body: &Body) -> Result<Program<'_>, AllocError>
-    requires { IsProgram (content body.now) }
-    ensures blocks { IfOk result (λ program. map guest program.blocks.now ≡ blocks_of (content body.now)) }
-    ensures ticks { IfOk result (λ program. program.ticks.now ≡ ticks_of (content body.now)) }
-{
-    match body {
-        Body::Empty => indexed(alloc, &[], &[]),
-        Body::Program { blocks, clock } => indexed(alloc, blocks, clock),
-        Body::Schedule(_) | Body::Trace(_) => unreachable!(),
-    }
-}
-
 /// A program of these blocks and ticks.
-fn indexed<'a>(
+pub(crate) fn indexed<'a>(
     alloc: Global,
     blocks: &'a [Block],
     ticks: &'a [u64],

@@ -1,14 +1,17 @@
 //! How a run ended, found from its record.
-ghost use Rattle.std.specs.Prelude.{◌≡◌, ◌∷◌, ◌<◌, ◌↔◌, true, IfOk, List, MatchOption, length, map};
-ghost use Rattle.guest_script.specs.Grammar.{guest};
+ghost use Rattle.std.specs.Prelude.{◌≡◌, ◌∷◌, ◌<◌, ◌↔◌, ℕ, true, IfOk, List, MatchOption, None, Option, length};
+ghost use Rattle.board_terms.specs.declared.op.Actor.TheVariants.{Hart};
+ghost use Rattle.board_core.specs.History.{Event};
 ghost use Rattle.guest_programs.specs.Ends.{AreQuiet, IsEnd, IsEndBy, IsQuiet};
-ghost use Rattle.guest_programs.specs.Guests.{AllLeft, IsLeft, left_of};
+ghost use Rattle.guest_programs.specs.Guests.{AreNext, Did, Entered, Next, next_for};
+ghost use Rattle.guest_programs.specs.Places.{AllFollowed, IsFollowed, IsFollowedTo};
+ghost use Rattle.guest_programs.specs.Steps.{task_in};
 
 use crate::blocks::Program;
 use crate::ends::End;
-use crate::guests::Guest;
+use crate::guests::{Place, is_guest};
 use crate::met::Met;
-use board_core::{Actor, Board, Event, HartState};
+use board_core::{Actor, Board, Event, HartState, Op, Reply};
 use std::alloc::{AllocError, Global};
 
 /// How the run of a board ended, by its history and what its guests had to do; of its actors' word only what can't be seen
@@ -19,9 +22,9 @@ pub fn end_of(
     program: &Program<'_>,
     met: Met,
 ) -> Result<End, AllocError>
-    ensures end { IfOk result (λ end. IsEnd end board.now.opening board.now.past (map guest program.now.blocks.now)) }
+    ensures end { IfOk result (λ end. IsEnd end board.now.opening board.now.past (task_in program.now).guests) }
     ensures by { IfOk result
-        (λ end. IsEndBy met board.now.opening board.now.past (map guest program.now.blocks.now) end) }
+        (λ end. IsEndBy met board.now.opening board.now.past (task_in program.now).guests end) }
 {
     if met == Met::ClosedGate {
         return Ok(End::GateLimit);
@@ -39,42 +42,103 @@ pub fn end_of(
     })
 }
 
-/// How far the guest of each hart is in its block.
+/// What a history shows of a hart's guest.
+#[derive(Clone, Copy)]
+enum Followed<'a> {
+    /// Since its last entry it did nothing but its next operations, and is here.
+    To(Place<'a>),
+    /// It did something else.
+    Strayed,
+}
+
+impl<'a> Followed<'a> {
+    /// An operation of its hart was accepted.
+    fn sees(&mut self, program: &Program<'a>, op: Op, reply: Reply)
+        ensures { (past : List Event) (h : ℕ) (e : Event) → e.actor ≡ Hart h → e.op ≡ op → e.reply ≡ reply
+            → IsFollowed (task_in program.now).guests past h self.old
+            → IsFollowed (task_in program.now).guests (e ∷ past) h self.new }
+    {
+        if let Reply::Entry { addr, .. } = reply {
+            *self = Followed::To(Place::entered(program, addr));
+        } else if is_guest(op) {
+            *self = self.behind(&op);
+        }
+    }
+
+    /// What is shown behind an operation of the guest, however it was answered.
+    #[tactic(auto, using(crate::proofs::Following::strayed_before))]
+    fn behind(self, op: &Op) -> Followed<'a>
+        ensures { (guests : Next) (entry : Option Entered) (before : Did) (reply : _)
+            → IsFollowedTo guests entry before self.entry → IsFollowedTo guests entry ((op.now, reply) ∷ before) result }
+    {
+        let Followed::To(place) = self else {
+            return Followed::Strayed;
+        };
+        let Some(next) = place.next() else {
+            return Followed::Strayed;
+        };
+        if !is_same(next, op) {
+            return Followed::Strayed;
+        }
+        Followed::To(place.behind())
+    }
+
+    /// Whether the guest did nothing but its next operations, and has none.
+    fn is_through(&self) -> bool
+        ensures { (guests : Next) (entry : Option Entered) (before : Did) → IsFollowedTo guests entry before self.now
+            → (result ≡ true) ↔ (AreNext guests entry before × (next_for guests entry before ≡ None)) }
+    {
+        match self {
+            Followed::To(place) => place.next().is_none(),
+            Followed::Strayed => false,
+        }
+    }
+}
+
+/// Whether two operations are the same.
+fn is_same(a: &Op, b: &Op) -> bool
+    ensures { (result ≡ true) ↔ (a.now ≡ b.now) }
+{
+    a == b
+}
+
+/// What the history shows of each hart's guest.
 fn guests_after<'a>(
     alloc: Global,
     board: &Board,
     program: &Program<'a>,
-) -> Result<Vec<Guest<'a>>, AllocError>
+) -> Result<Vec<Followed<'a>>, AllocError>
     ensures many { IfOk result (λ v. length v.items ≡ board.now.opening.config.harts) }
-    ensures left { IfOk result (λ v. AllLeft (map guest program.now.blocks.now) v.items board.now.past) }
+    ensures followed { IfOk result (λ v. AllFollowed (task_in program.now).guests v.items board.now.past) }
 {
-    let mut guests = vec![in alloc; Guest::new(); board.config().harts as usize]?;
+    let start = Followed::To(Place::new());
+    let mut guests = vec![in alloc; start; board.config().harts as usize]?;
     for event in board.history() {
         see(&mut guests, program, event);
     }
     Ok(guests)
 }
 
-/// The guest of the event's hart goes on by it.
-fn see<'a>(guests: &mut [Guest<'a>], program: &Program<'a>, event: &Event)
+/// What is shown behind an event.
+fn see<'a>(guests: &mut [Followed<'a>], program: &Program<'a>, event: &Event)
     ensures many { length guests.new ≡ length guests.old }
-    ensures left { (past : List _) → AllLeft (map guest program.now.blocks.now) guests.old past
-        → AllLeft (map guest program.now.blocks.now) guests.new (event.now ∷ past) }
+    ensures followed { (past : List _) → AllFollowed (task_in program.now).guests guests.old past
+        → AllFollowed (task_in program.now).guests guests.new (event.now ∷ past) }
 {
     if let Actor::Hart(h) = event.actor()
         && (h as usize) < guests.len()
     {
-        guests[h as usize].sees(program, &event.op(), event.reply(), false);
+        guests[h as usize].sees(program, event.op(), event.reply());
     }
 }
 
 /// The first hart that isn't quiet, if there is one.
-fn first_unquiet(board: &Board, program: &Program<'_>, guests: &[Guest<'_>]) -> Option<u64>
+fn first_unquiet(board: &Board, program: &Program<'_>, guests: &[Followed<'_>]) -> Option<u64>
     requires many { length guests.now ≡ board.now.opening.config.harts }
-    requires left { AllLeft (map guest program.now.blocks.now) guests.now board.now.past }
-    ensures { MatchOption result (AreQuiet board.now.opening board.now.past (map guest program.now.blocks.now))
+    requires followed { AllFollowed (task_in program.now).guests guests.now board.now.past }
+    ensures { MatchOption result (AreQuiet board.now.opening board.now.past (task_in program.now).guests)
         (λ h. (h < board.now.opening.config.harts)
-        × ¬ IsQuiet board.now.opening board.now.past (map guest program.now.blocks.now) h) }
+        × ¬ IsQuiet board.now.opening board.now.past (task_in program.now).guests h) }
 {
     for (h, found) in guests.iter().enumerate() {
         if !is_quiet(board, program, h as u64, found) {
@@ -84,15 +148,15 @@ fn first_unquiet(board: &Board, program: &Program<'_>, guests: &[Guest<'_>]) -> 
     None
 }
 
-/// Whether a hart is STOPPED, or STARTED, outside of a fence call and with its block done.
-fn is_quiet(board: &Board, program: &Program<'_>, h: u64, found: &Guest<'_>) -> bool
+/// Whether a hart is STOPPED, or STARTED, outside of a fence call and with its guest through.
+fn is_quiet(board: &Board, program: &Program<'_>, h: u64, found: &Followed<'_>) -> bool
     requires hart { h < board.now.opening.config.harts }
-    requires left { IsLeft (map guest program.now.blocks.now) (left_of found.now) board.now.past h }
-    ensures { (result ≡ true) ↔ IsQuiet board.now.opening board.now.past (map guest program.now.blocks.now) h }
+    requires followed { IsFollowed (task_in program.now).guests board.now.past h found.now }
+    ensures { (result ≡ true) ↔ IsQuiet board.now.opening board.now.past (task_in program.now).guests h }
 {
     match board.state(h) {
         HartState::Stopped => true,
-        HartState::Started => board.outstanding(h).is_none() && found.has_done(),
+        HartState::Started => board.outstanding(h).is_none() && found.is_through(),
         _ => false,
     }
 }

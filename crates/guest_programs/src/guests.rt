@@ -1,72 +1,70 @@
-//! Where a guest is in its block.
-ghost use Rattle.std.specs.Prelude.{◌≡◌, ◌↔◌, ◌∷◌, ◌++◌, ℕ, true, List, [], Some, map};
+//! Where a guest is.
+ghost use Rattle.std.specs.Prelude.{◌≡◌, ◌∷◌, ◌++◌, ℕ, List, []};
 ghost use Rattle.std.specs.Option.{option_map};
 ghost use Rattle.board_terms.specs.declared.op.Actor.TheVariants.{Hart};
+ghost use Rattle.board_terms.specs.declared.op.Op.{Op};
+ghost use Rattle.board_terms.specs.declared.reply.Reply.{Reply};
 ghost use Rattle.board_core.specs.History.{Event};
-ghost use Rattle.guest_script.specs.Grammar.{guest};
-ghost use Rattle.guest_programs.specs.Guests.{AreLeft, IsLeft, is_guest, left_of, next_of};
+ghost use Rattle.guest_programs.specs.Blocks.{rest_at};
+ghost use Rattle.guest_programs.specs.Guests.{Did, IsAt, Next, is_guest};
+ghost use Rattle.guest_programs.specs.Steps.{task_in};
 
 use crate::blocks::Program;
 use board_core::{Op, Reply};
 
 /// How far a hart's guest is in its block.
 #[derive(Clone, Copy)]
-pub struct Guest<'a> {
-    /// The operations of its block that it hasn't done; None where it did others than its block's.
-    left: Option<&'a [Op]>,
+pub struct Place<'a> {
+    /// The operations of its block that it hasn't done.
+    left: &'a [Op],
 }
 
-impl<'a> Guest<'a> {
-    /// The guest of a hart that wasn't entered yet.
-    pub fn new() -> Guest<'a>
-        ensures { left_of result ≡ Some [] }
+impl<'a> Place<'a> {
+    /// The place of a guest whose hart wasn't entered yet.
+    pub fn new() -> Place<'a>
+        ensures { (guests : Next) (h : ℕ) → IsAt (rest_at result) guests [] h }
     {
-        Guest { left: Some(&[]) }
+        Place { left: &[] }
     }
 
-    /// The next operation of its block, if there is one.
+    /// The place of a guest that was entered at an address.
+    pub(crate) fn entered(program: &Program<'a>, addr: u64) -> Place<'a>
+        ensures { (hart opaque : ℕ) (more : Did)
+            → rest_at result more ≡ (task_in program.now).guests (record { addr = addr; hart = hart; opaque = opaque }) more }
+    {
+        Place {
+            left: program.block_at(addr),
+        }
+    }
+
+    /// The place behind one operation more, whichever it was and however it was answered.
+    pub(crate) fn behind(self) -> Place<'a>
+        ensures { (one : Op × Reply) (more : Did) → rest_at result more ≡ rest_at self.entry (more ++ one ∷ []) }
+    {
+        match self.left.split_first() {
+            Some((_, left)) => Place { left },
+            None => self,
+        }
+    }
+
+    /// What the guest does next, if there is something.
     pub fn next(&self) -> Option<&'a Op>
-        ensures { option_map (λ op. op.now) result ≡ next_of (left_of self.now) }
+        ensures { option_map (λ op. op.now) result ≡ rest_at self.now [] }
     {
-        self.left?.first()
+        self.left.first()
     }
 
-    /// Whether it did its whole block.
-    pub fn has_done(&self) -> bool
-        ensures { (result ≡ true) ↔ (left_of self.now ≡ Some []) }
-    {
-        matches!(self.left, Some([]))
-    }
-
-    /// An operation of its hart was accepted. Where it is known to be the next of its block, or no guest's, the two aren't
-    /// compared.
-    pub fn sees(&mut self, program: &Program<'a>, op: &Op, reply: Reply, is_next: bool)
-        requires next { is_next ≡ true → is_guest op.now ≡ true → next_of (left_of self.old) ≡ Some op.now }
-        ensures { (past : List Event) (h : ℕ) (e : Event) → e.actor ≡ Hart h → e.op ≡ op.now → e.reply ≡ reply
-            → IsLeft (map guest program.now.blocks.now) (left_of self.old) past h
-            → IsLeft (map guest program.now.blocks.now) (left_of self.new) (e ∷ past) h }
+    /// An operation of its hart was accepted.
+    pub fn sees(&mut self, program: &Program<'a>, op: Op, reply: Reply)
+        ensures { (past : List Event) (h : ℕ) (e : Event) → e.actor ≡ Hart h → e.op ≡ op → e.reply ≡ reply
+            → IsAt (rest_at self.old) (task_in program.now).guests past h
+            → IsAt (rest_at self.new) (task_in program.now).guests (e ∷ past) h }
     {
         if let Reply::Entry { addr, .. } = reply {
-            self.left = Some(program.block_at(addr));
-        } else if is_guest(*op) {
-            self.left = self.without(op, is_next);
+            *self = Place::entered(program, addr);
+        } else if is_guest(op) {
+            *self = self.behind();
         }
-    }
-
-    /// What is left after an operation of the guest.
-    #[tactic(auto, using(crate::proofs::Following::left_next, crate::proofs::Following::left_other, crate::proofs::Following::left_over, crate::proofs::Following::left_never))]
-    fn without(&self, op: &Op, is_next: bool) -> Option<&'a [Op]>
-        requires { is_next ≡ true → next_of (left_of self.now) ≡ Some op.now }
-        ensures { (done whole : List _) → AreLeft (left_of self.now) done whole
-            → AreLeft (option_map (λ ops. ops.now) result) (done ++ op.now ∷ []) whole }
-    {
-        let Some((next, rest)) = self.left?.split_first() else {
-            return None;
-        };
-        if !is_next && !is_same(next, op) {
-            return None;
-        }
-        Some(rest)
     }
 }
 
@@ -75,11 +73,4 @@ pub fn is_guest(op: Op) -> bool
     ensures { result ≡ is_guest op }
 {
     !matches!(op, Op::Poll | Op::Serve | Op::Advance | Op::Tick(_))
-}
-
-/// Whether two operations are the same.
-fn is_same(a: &Op, b: &Op) -> bool
-    ensures { (result ≡ true) ↔ (a.now ≡ b.now) }
-{
-    a == b
 }

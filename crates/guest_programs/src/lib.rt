@@ -9,13 +9,15 @@ mod found_end;
 mod guests;
 mod met;
 mod places;
+mod programs;
 mod steps;
 
-pub use blocks::{Program, program_in};
+pub use blocks::Program;
 pub use boards::new_board;
 pub use ends::{End, RunEnd, RunFault};
 pub use found_end::end_of;
-pub use guests::{Guest, is_guest};
+pub use guests::{Place, is_guest};
 pub use met::Met;
 pub use places::Places;
+pub use programs::{blocks_in_order, program_in};
 pub use steps::{Step, steps_are_all};

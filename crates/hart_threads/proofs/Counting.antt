@@ -1,19 +1,17 @@
 -- Events of one actor, in what came later.
 use Rattle.std.proofs.Common.{◌≡◌, ℕ, ◌+◌, ◌≤◌, true, false, List, [], ◌∷◌, ◌++◌, length, refl, sym, ap, subst, ◌∙◌, arith, inl, inr}
-use Rattle.std.specs.Prelude.{reverse, if◌then◌else◌, Option}
+use Rattle.std.specs.Prelude.{reverse, if◌then◌else◌}
 use Rattle.std.proofs.lemmas.Bool.{cases_Bool}
 use Rattle.std.proofs.lemmas.List.{reverse-append}
 use mathlib.Core.List.{IsPrefix, IsSuffix}
 use Rattle.board_terms.specs.declared.op.Actor.{Actor}
 use Rattle.board_terms.specs.declared.op.Actor.TheVariants.{Hart, Clock}
-use Rattle.board_terms.specs.declared.op.Op.{Op}
 use Rattle.board_core.specs.Course.{is_hart}
 use Rattle.board_core.specs.History.{Event}
 use Rattle.board_lock.specs.Events.{events_from, events_of, is_same}
-use Rattle.guest_script.specs.Grammar.{Guest}
-use Rattle.guest_programs.specs.Guests.{AreLeft, IsLeft, Meaning, Still, block_of, done, done_after, entry_after, last_entry, meaning_by}
+use Rattle.guest_programs.specs.Guests.{IsAt, IsBehind, Meaning, Next, Rest, Still, did, did_after, entry_after, last_entry, meaning_by}
 use Rattle.hart_threads.specs.Shares.{EachOf, many_of}
-use Rattle.hart_threads.specs.Inside.Works.{IsLeftTo}
+use Rattle.hart_threads.specs.Inside.Works.{IsAtSeat}
 
 abbrev one : Actor → Event → ℕ
 one a e = if is_same a e.actor then 1 else 0
@@ -51,19 +49,19 @@ still : (h : ℕ) (a : Actor) (t : Meaning) → is_same (Hart h) a ≡ false →
 still h (Hart n) t other = rw other refl
 still h Clock t other = refl
 
-left-one : (blocks : List Guest) (left : Option (List Op)) (h : ℕ) (e : Event) (past : List Event) → is_same (Hart h) e.actor ≡ false
-    → IsLeft blocks left past h → IsLeft blocks left (e ∷ past) h
-left-one blocks left h e past other is =
-    subst (λ (t : Meaning). AreLeft left (done_after t (done past h)) (block_of blocks (entry_after t (last_entry past h)))) (sym (still h e.actor (meaning_by e.op e.reply) other)) is
+rest-one : (guests : Next) (rest : Rest) (h : ℕ) (e : Event) (past : List Event) → is_same (Hart h) e.actor ≡ false
+    → IsAt rest guests past h → IsAt rest guests (e ∷ past) h
+rest-one guests rest h e past other is =
+    subst (λ (t : Meaning). IsBehind rest guests (entry_after t (last_entry past h)) (did_after t (did past h))) (sym (still h e.actor (meaning_by e.op e.reply) other)) is
 
--- a guest's block is as far, where its hart did nothing since
-pub left-still : (blocks : List Guest) (left : Option (List Op)) (a : Actor) (since past : List Event) → many_of a since ≡ 0
-    → IsLeftTo blocks left past a → IsLeftTo blocks left (since ++ past) a
-left-still blocks left Clock since past none is = tt
-left-still blocks left (Hart h) [] past none is = is
-left-still blocks left (Hart h) (e ∷ since) past none is =
-    left-one blocks left h e (since ++ past) (not-own (Hart h) e (many_of (Hart h) since) none)
-    (left-still blocks left (Hart h) since past (let t = none in omega arith) is)
+-- a guest is as far, where its hart did nothing since
+pub rest-still : (guests : Next) (rest : Rest) (a : Actor) (since past : List Event) → many_of a since ≡ 0
+    → IsAtSeat guests rest past a → IsAtSeat guests rest (since ++ past) a
+rest-still guests rest Clock since past none is = tt
+rest-still guests rest (Hart h) [] past none is = is
+rest-still guests rest (Hart h) (e ∷ since) past none is =
+    rest-one guests rest h e (since ++ past) (not-own (Hart h) e (many_of (Hart h) since) none)
+    (rest-still guests rest (Hart h) since past (let t = none in omega arith) is)
 
 -- what a seat saw before, newest first
 pub earlier-of : (before now : List Event) → IsPrefix before now → IsSuffix (reverse before) (reverse now)

@@ -14,7 +14,7 @@ use Rattle.board_core.specs.Opening.{Opening}
 use Rattle.board_core.specs.Refusals.{first_that_holds, has_nothing_to_do, is_full, is_out_of_phase, is_tick, situation}
 use Rattle.board_core.specs.Replies.{answer, refused_or, reply}
 use Rattle.board_core.specs.Resets.{is_off}
-use Rattle.guest_script.specs.Grammar.{Guest}
+use Rattle.guest_programs.specs.Guests.{Next}
 use Rattle.guest_programs.specs.declared.ends.End.{End}
 use Rattle.guest_programs.specs.declared.ends.End.TheVariants.{GateLimit, Off, HistoryFull, Quiet, Stuck}
 use Rattle.guest_programs.specs.declared.met.Met.{Met}
@@ -56,29 +56,29 @@ full-met ClosedGate part still = absurd (still refl)
 full-met FullHistory part still = refl
 full-met Nothing part still = absurd (let t = part in cc)
 
-module _ (lets : ℕ → ℕ → Bool → Type 0) (o : Opening) (blocks : List Guest) (ticks : List ℕ) (past : List Event) (met : Met) where
-  with-closed : (end : End) → met ≡ ClosedGate → IsEndBy met o past blocks end → end ≡ GateLimit
+module _ (lets : ℕ → ℕ → Bool → Type 0) (o : Opening) (guests : Next) (ticks : List ℕ) (past : List Event) (met : Met) where
+  with-closed : (end : End) → met ≡ ClosedGate → IsEndBy met o past guests end → end ≡ GateLimit
   with-closed GateLimit is by = refl
   with-closed Off is by = absurd (by.0 is)
   with-closed HistoryFull is by = absurd (let t = sym is ∙ by.0 in cc)
   with-closed Quiet is by = absurd (by.0 is)
   with-closed Stuck is by = absurd (by.0 is)
 
-  was-closed : (end : End) → end ≡ GateLimit → IsEndBy met o past blocks end → met ≡ ClosedGate
+  was-closed : (end : End) → end ≡ GateLimit → IsEndBy met o past guests end → met ≡ ClosedGate
   was-closed GateLimit is by = by
   was-closed Off is by = absurd (let t = is in cc)
   was-closed HistoryFull is by = absurd (let t = is in cc)
   was-closed Quiet is by = absurd (let t = is in cc)
   was-closed Stuck is by = absurd (let t = is in cc)
 
-  was-full : (end : End) → end ≡ HistoryFull → IsEndBy met o past blocks end → met ≡ FullHistory
+  was-full : (end : End) → end ≡ HistoryFull → IsEndBy met o past guests end → met ≡ FullHistory
   was-full GateLimit is by = absurd (let t = is in cc)
   was-full Off is by = absurd (let t = is in cc)
   was-full HistoryFull is by = by.0
   was-full Quiet is by = absurd (let t = is in cc)
   was-full Stuck is by = absurd (let t = is in cc)
 
-  is-at-limit : (a : Actor) → length past ≤ o.config.limit → HasMetFull o blocks ticks past a → length past ≡ o.config.limit
+  is-at-limit : (a : Actor) → length past ≤ o.config.limit → HasMetFull o guests ticks past a → length past ≡ o.config.limit
   is-at-limit a within (op, met_full) =
       let seen : List Event = met_full.seen in
       let since = met_full.earlier in
@@ -86,23 +86,23 @@ module _ (lets : ℕ → ℕ → Bool → Type 0) (o : Opening) (blocks : List G
       let long : length since.0 + length seen ≡ length past = sym (length-append since.0 seen) ∙ ap length since.1 in
       omega arith
 
-  full-over : (end : End) → met_by_both FullHistory met ≡ met → length past ≡ o.config.limit → IsEndBy met o past blocks end → IsOverFull end
+  full-over : (end : End) → met_by_both FullHistory met ≡ met → length past ≡ o.config.limit → IsEndBy met o past guests end → IsOverFull end
   full-over GateLimit part full by = ((λ e. let t = e in cc), (λ e. let t = e in cc))
   full-over Off part full by = ((λ e. let t = e in cc), (λ e. let t = e in cc))
   full-over HistoryFull part full by = ((λ e. let t = e in cc), (λ e. let t = e in cc))
   full-over Quiet part full by = absurd (by.2 (full-met met part by.0, full))
   full-over Stuck part full by = absurd (by.2 (full-met met part by.0, full))
 
-  why : (a : Actor) (m : Met) (end : End) → length past ≤ o.config.limit → met_by_both m met ≡ met → HasStopped lets o blocks ticks past a m → IsEndBy met o past blocks end
-      → (IsClosed lets o past a × (end ≡ GateLimit)) ⊎ ((HasMetFull o blocks ticks past a × IsOverFull end) ⊎ HasNoMore o blocks ticks past a)
+  why : (a : Actor) (m : Met) (end : End) → length past ≤ o.config.limit → met_by_both m met ≡ met → HasStopped lets o guests ticks past a m → IsEndBy met o past guests end
+      → (IsClosed lets o past a × (end ≡ GateLimit)) ⊎ ((HasMetFull o guests ticks past a × IsOverFull end) ⊎ HasNoMore o guests ticks past a)
   why a ClosedGate end within part stopped by = inl (stopped, with-closed end (sym part) by)
   why a FullHistory end within part stopped by = inr (inl (stopped, full-over end part (is-at-limit a within stopped) by))
   why a Nothing end within part stopped by = inr (inr stopped)
 
-  pub is-run : (end : End) → length past ≤ o.config.limit → AreThreads lets o blocks ticks past met → IsEndBy met o past blocks end → IsRun lets o blocks ticks past end
+  pub is-run : (end : End) → length past ≤ o.config.limit → AreThreads lets o guests ticks past met → IsEndBy met o past guests end → IsRun lets o guests ticks past end
   is-run end within threads by = record {
     due = threads.due;
     stopped = λ a acting. let s = threads.stopped a acting in why a s.0 end within s.1 s.2 by;
-    closed = λ is. let s = threads.met_by in (s.0, s.1, subst (HasStopped lets o blocks ticks past s.0) (was-closed end is by) s.2);
-    full = λ is. let s = threads.met_by in (s.0, s.1, subst (HasStopped lets o blocks ticks past s.0) (was-full end is by) s.2);
+    closed = λ is. let s = threads.met_by in (s.0, s.1, subst (HasStopped lets o guests ticks past s.0) (was-closed end is by) s.2);
+    full = λ is. let s = threads.met_by in (s.0, s.1, subst (HasStopped lets o guests ticks past s.0) (was-full end is by) s.2);
   }

@@ -1,53 +1,49 @@
 -- What seats' threads know after each of their steps.
-use Rattle.std.proofs.Common.{◌≡◌, ◌≢◌, ℕ, ◌+◌, Bool, true, false, cond, ◌&&◌, List, [], ◌∷◌, length, refl, sym, ap, subst, ◌∙◌, inl, inr, arith}
-use Rattle.std.specs.Prelude.{nat_lt, reverse, slice_get, Option, Some, None, is_some}
+use Rattle.std.proofs.Common.{◌≡◌, ◌≢◌, ℕ, ◌+◌, true, false, List, [], length, refl, sym, ap, subst, ◌∙◌, inl, inr, arith}
+use Rattle.std.specs.Prelude.{reverse, slice_get, Option, Some, None}
 use mathlib.Core.List.{IsPrefix, IsSuffix}
 use Rattle.board_terms.specs.declared.op.Actor.{Actor}
 use Rattle.board_terms.specs.declared.op.Actor.TheVariants.{Hart, Clock}
 use Rattle.board_terms.specs.declared.op.Op.{Op}
-use Rattle.board_terms.specs.declared.op.Op.TheVariants.{Advance, Poll, Serve, Tick}
+use Rattle.board_terms.specs.declared.op.Op.TheVariants.{Tick}
 use Rattle.board_terms.specs.declared.reply.Refusal.{Refusal}
 use Rattle.board_terms.specs.declared.reply.Refusal.TheVariants as refusals
 use Rattle.board_terms.specs.declared.reply.Refusal.TheVariants.{Off, WrongPhase, HistoryFull, TimeFull}
 use Rattle.board_terms.specs.declared.reply.Reply.{Reply}
-use Rattle.hsm.specs.States.{goes_on, is_interruptible, is_started}
 use Rattle.board_core.specs.History.{Event}
-use Rattle.board_core.specs.Refusals.{first_that_holds}
-use Rattle.board_lock.specs.declared.views.HartNow.{HartNow}
 use Rattle.board_lock.specs.declared.views.HartView.{HartView}
 use Rattle.board_lock.specs.Events.{IsActor}
 use Rattle.board_lock.specs.Seats.{Sitting, seeing, sitting}
 use Rattle.board_lock.specs.Views.{IsDone, IsRefused, IsView}
 use Rattle.guest_programs.specs.declared.met.Met.{Met}
 use Rattle.guest_programs.specs.declared.met.Met.TheVariants.{Nothing, FullHistory, ClosedGate}
-use Rattle.board_lock.specs.Coming.{chosen, waits_for_none}
-use Rattle.hart_threads.specs.Choices.{choice_of, first_choice, is_going, next_choice}
-use Rattle.guest_programs.specs.Guests.{is_guest, next_of}
+use Rattle.hart_threads.specs.Choices.{next_choice}
+use Rattle.guest_programs.specs.Guests.{IsAt, Rest}
 use Rattle.guest_programs.specs.Met.{met_by_refusal}
 use Rattle.hart_threads.specs.Shares.{Refuses, gate_number}
-use Rattle.hart_threads.specs.Inside.Works.{At, Goes, HasTurn, HasWorked, IsAtWork, IsGoing, IsLeftTo, Stops, Task, WorkedAt}
+use Rattle.hart_threads.specs.Inside.Works.{At, Goes, HasTurn, HasWorked, IsAtWork, IsGoing, IsAtSeat, Stops, Task, WorkedAt}
 use Rattle.hart_threads.proofs.Counting.{earlier-of}
 use Rattle.hart_threads.proofs.Working.{event, going-later, none-by, refused-at, saw-then, stops-later, turn-by, work-later, work-more}
 
 -- ---- any seat
 
-left-fresh : (t : Task) (a : Actor) → IsLeftTo t.blocks (Some []) [] a
-left-fresh t (Hart h) = refl
-left-fresh t Clock = tt
+rest-fresh : (t : Task) (a : Actor) (rest : Rest) → ((h : ℕ) → IsAt rest t.guests [] h) → IsAtSeat t.guests rest [] a
+rest-fresh t (Hart h) rest is = is h
+rest-fresh t Clock rest is = tt
 
 work-fresh : (t : Task) (a : Actor) → IsAtWork t a 0 []
 work-fresh t a = record { no_fewer = omega arith; due = λ same. tt }
 
 -- at first
-pub fresh-going : (t : Task) (s : Sitting) (left : Option (List Op)) → s ≡ sitting s.actor 0 [] [] → left ≡ Some [] → Goes t s left Nothing
-fresh-going t s left fresh is =
-    subst (λ (x : Sitting). Goes t x left Nothing) (sym fresh)
-    (subst (λ (l : Option (List Op)). IsGoing t s.actor 0 [] l Nothing) (sym is) (record { work = work-fresh t s.actor; left_is = λ same. left-fresh t s.actor; met_is = tt }))
+pub fresh-going : (t : Task) (s : Sitting) (rest : Rest) → s ≡ sitting s.actor 0 [] [] → ((h : ℕ) → IsAt rest t.guests [] h) → Goes t s rest Nothing
+fresh-going t s rest fresh is =
+    subst (λ (x : Sitting). Goes t x rest Nothing) (sym fresh)
+    (let at : IsGoing t s.actor 0 [] rest Nothing = record { work = work-fresh t s.actor; rest_is = λ same. rest-fresh t s.actor rest is; met_is = tt } in at)
 
 -- after a look
-pub looked : (t : Task) (s s' : Sitting) (left : Option (List Op)) (met : Met) → s' ≡ seeing s s'.saw → IsPrefix s.saw s'.saw → Goes t s left met → Goes t s' left met
-looked t s s' left met same later going =
-    subst (λ (x : Sitting). Goes t x left met) (sym same) (going-later t s.actor s.count (reverse s.saw) (reverse s'.saw) left met (earlier-of s.saw s'.saw later) going)
+pub looked : (t : Task) (s s' : Sitting) (rest : Rest) (met : Met) → s' ≡ seeing s s'.saw → IsPrefix s.saw s'.saw → Goes t s rest met → Goes t s' rest met
+looked t s s' rest met same later going =
+    subst (λ (x : Sitting). Goes t x rest met) (sym same) (going-later t s.actor s.count (reverse s.saw) (reverse s'.saw) rest met (earlier-of s.saw s'.saw later) going)
 
 pub worked-later : (t : Task) (s s' : Sitting) (met : Met) → s' ≡ seeing s s'.saw → IsPrefix s.saw s'.saw → WorkedAt t s met → WorkedAt t s' met
 worked-later t s s' met same later worked =
@@ -65,74 +61,50 @@ met-nothing v Nothing guest op is = refl
 met-nothing v FullHistory guest op is = absurd (let e = is in cc)
 met-nothing v ClosedGate guest op is = absurd (let e = is in cc)
 
--- the operation of a guest that it chose is its guest's next
-first-next : (now : HartNow) (guest : Option Op) (op : Op) → first_choice now guest ≡ Some op → is_guest op ≡ true → guest ≡ Some op
-first-next now guest op is own =
-    by_rows (nat_lt 0 now.waiting && is_interruptible now.state) (waits_for_none now.outstanding) (is_some now.outstanding) (goes_on now.wake now.state) (is_started now.state && is_going guest now.wake) is
-  where
-    by_rows : (serves polls rests advances goes : Bool)
-        → chosen (first_that_holds ((serves, Some Serve) ∷ (polls, Some Poll) ∷ (rests, None) ∷ (advances, Some Advance) ∷ (goes, guest) ∷ [])) ≡ Some op → guest ≡ Some op
-    by_rows true polls rests advances goes is = absurd (let e : Serve ≡ op = cc in let no = rw (← e) at own in cc)
-    by_rows false true rests advances goes is = absurd (let e : Poll ≡ op = cc in let no = rw (← e) at own in cc)
-    by_rows false false true advances goes is = absurd (let e = is in cc)
-    by_rows false false false true goes is = absurd (let e : Advance ≡ op = cc in let no = rw (← e) at own in cc)
-    by_rows false false false false true is = is
-    by_rows false false false false false is = absurd (let e = is in cc)
-
-pub own-next : (v : HartView) (met : Met) (guest : Option Op) (op : Op) → next_choice v met guest ≡ Some op → is_guest op ≡ true → guest ≡ Some op
-own-next v Nothing guest op is own = by_power v.is_off v.hart is
-  where
-    by_power : (off : Bool) (now : Option HartNow) → cond off None (choice_of now guest) ≡ Some op → guest ≡ Some op
-    by_power true now is = absurd (let e = is in cc)
-    by_power false None is = absurd (let e = is in cc)
-    by_power false (Some now) is = first-next now guest op is own
-own-next v FullHistory guest op is own = absurd (let e = is in cc)
-own-next v ClosedGate guest op is own = absurd (let e = is in cc)
-
 -- what it chose by its view is its turn
-pub view-turn : (t : Task) (s : Sitting) (v : HartView) (met : Met) (left : Option (List Op)) (op : Op) → IsView t.opening s v → Goes t s left met
-    → next_choice v met (next_of left) ≡ Some op → HasTurn t s.actor s.count (reverse s.saw) op
-view-turn t s v Nothing left op view going is =
-    turn-by t (reverse s.saw) left s.count s.actor v.is_off v.hart op view.hart view.power is going.work.no_fewer going.left_is
-view-turn t s v FullHistory left op view going is = absurd (let e = is in cc)
-view-turn t s v ClosedGate left op view going is = absurd (let e = is in cc)
+pub view-turn : (t : Task) (s : Sitting) (v : HartView) (met : Met) (rest : Rest) (op : Op) → IsView t.opening s v → Goes t s rest met
+    → next_choice v met (rest []) ≡ Some op → HasTurn t s.actor s.count (reverse s.saw) op
+view-turn t s v Nothing rest op view going is =
+    turn-by t (reverse s.saw) rest s.count s.actor v.is_off v.hart op view.hart view.power is going.work.no_fewer going.rest_is
+view-turn t s v FullHistory rest op view going is = absurd (let e = is in cc)
+view-turn t s v ClosedGate rest op view going is = absurd (let e = is in cc)
 
 -- it chose nothing by its view, and every seat rests
-stops-by : (t : Task) (s : Sitting) (v : HartView) (met : Met) (left : Option (List Op)) → s.actor ≢ Clock → IsView t.opening s v → Goes t s left met
-    → next_choice v met (next_of left) ≡ None → Stops t s.actor s.count (reverse s.saw) met
-stops-by t s v Nothing left hart view going is =
-    none-by t (reverse s.saw) left s.count s.actor v.is_off v.hart hart view.hart view.power is going.work.no_fewer going.left_is
-stops-by t s v FullHistory left hart view going is = going.met_is
-stops-by t s v ClosedGate left hart view going is = going.met_is
+stops-by : (t : Task) (s : Sitting) (v : HartView) (met : Met) (rest : Rest) → s.actor ≢ Clock → IsView t.opening s v → Goes t s rest met
+    → next_choice v met (rest []) ≡ None → Stops t s.actor s.count (reverse s.saw) met
+stops-by t s v Nothing rest hart view going is =
+    none-by t (reverse s.saw) rest s.count s.actor v.is_off v.hart hart view.hart view.power is going.work.no_fewer going.rest_is
+stops-by t s v FullHistory rest hart view going is = going.met_is
+stops-by t s v ClosedGate rest hart view going is = going.met_is
 
-pub rested : (t : Task) (s s' : Sitting) (v : HartView) (met : Met) (left : Option (List Op)) → s.actor ≢ Clock → IsActor t.opening.config s.actor → IsView t.opening s v
-    → Goes t s left met → next_choice v met (next_of left) ≡ None → s' ≡ seeing s s'.saw → IsPrefix s.saw s'.saw → WorkedAt t s' met
-rested t s s' v met left hart acting view going is same later =
-    worked-later t s s' met same later (record { acting = acting; work = going.work; stopped = stops-by t s v met left hart view going is })
+pub rested : (t : Task) (s s' : Sitting) (v : HartView) (met : Met) (rest : Rest) → s.actor ≢ Clock → IsActor t.opening.config s.actor → IsView t.opening s v
+    → Goes t s rest met → next_choice v met (rest []) ≡ None → s' ≡ seeing s s'.saw → IsPrefix s.saw s'.saw → WorkedAt t s' met
+rested t s s' v met rest hart acting view going is same later =
+    worked-later t s s' met same later (record { acting = acting; work = going.work; stopped = stops-by t s v met rest hart view going is })
 
 -- its gate closed
-pub closed-going : (t : Task) (s : Sitting) (left : Option (List Op)) → Goes t s left Nothing → t.lets (gate_number t.opening.config s.actor) s.count false → Goes t s left ClosedGate
-closed-going t s left going told = record { work = going.work; left_is = going.left_is; met_is = told }
+pub closed-going : (t : Task) (s : Sitting) (rest : Rest) → Goes t s rest Nothing → t.lets (gate_number t.opening.config s.actor) s.count false → Goes t s rest ClosedGate
+closed-going t s rest going told = record { work = going.work; rest_is = going.rest_is; met_is = told }
 
 -- its call is refused, since the history is full
-full-going : (t : Task) (s s' : Sitting) (left : Option (List Op)) (op : Op) → Goes t s left Nothing → HasTurn t s.actor s.count (reverse s.saw) op
-    → s' ≡ seeing s s'.saw → IsPrefix s.saw s'.saw → IsRefused t.opening s' op HistoryFull → Goes t s' left FullHistory
-full-going t s s' left op going turn same later refused =
+full-going : (t : Task) (s s' : Sitting) (rest : Rest) (op : Op) → Goes t s rest Nothing → HasTurn t s.actor s.count (reverse s.saw) op
+    → s' ≡ seeing s s'.saw → IsPrefix s.saw s'.saw → IsRefused t.opening s' op HistoryFull → Goes t s' rest FullHistory
+full-going t s s' rest op going turn same later refused =
     let since = earlier-of s.saw s'.saw later in
-    let after = looked t s s' left Nothing same later going in
-    let at : At s.actor s.count (reverse s'.saw) (Refuses t.opening t.blocks t.ticks s.actor op HistoryFull) =
+    let after = looked t s s' rest Nothing same later going in
+    let at : At s.actor s.count (reverse s'.saw) (Refuses t.opening t.guests t.ticks s.actor op HistoryFull) =
     refused-at t (seeing s s'.saw) (reverse s.saw) op HistoryFull (subst (λ (x : Sitting). IsRefused t.opening x op HistoryFull) same refused) since going.work.no_fewer turn in
-    subst (λ (x : Sitting). Goes t x left FullHistory) (sym same)
-    (let now = subst (λ (x : Sitting). Goes t x left Nothing) same after in record { work = now.work; left_is = now.left_is; met_is = (op, at) })
+    subst (λ (x : Sitting). Goes t x rest FullHistory) (sym same)
+    (let now = subst (λ (x : Sitting). Goes t x rest Nothing) same after in record { work = now.work; rest_is = now.rest_is; met_is = (op, at) })
 
 -- its call is refused
-pub refused-going : (t : Task) (s s' : Sitting) (left : Option (List Op)) (op : Op) (r : Refusal) → Goes t s left Nothing
-    → HasTurn t s.actor s.count (reverse s.saw) op → s' ≡ seeing s s'.saw → IsPrefix s.saw s'.saw → IsRefused t.opening s' op r → Goes t s' left (met_by_refusal r)
-refused-going t s s' left op HistoryFull going turn same later refused = full-going t s s' left op going turn same later refused
-refused-going t s s' left op Off going turn same later refused = looked t s s' left Nothing same later going
-refused-going t s s' left op WrongPhase going turn same later refused = looked t s s' left Nothing same later going
-refused-going t s s' left op refusals.Nothing going turn same later refused = looked t s s' left Nothing same later going
-refused-going t s s' left op TimeFull going turn same later refused = looked t s s' left Nothing same later going
+pub refused-going : (t : Task) (s s' : Sitting) (rest : Rest) (op : Op) (r : Refusal) → Goes t s rest Nothing
+    → HasTurn t s.actor s.count (reverse s.saw) op → s' ≡ seeing s s'.saw → IsPrefix s.saw s'.saw → IsRefused t.opening s' op r → Goes t s' rest (met_by_refusal r)
+refused-going t s s' rest op HistoryFull going turn same later refused = full-going t s s' rest op going turn same later refused
+refused-going t s s' rest op Off going turn same later refused = looked t s s' rest Nothing same later going
+refused-going t s s' rest op WrongPhase going turn same later refused = looked t s s' rest Nothing same later going
+refused-going t s s' rest op refusals.Nothing going turn same later refused = looked t s s' rest Nothing same later going
+refused-going t s s' rest op TimeFull going turn same later refused = looked t s s' rest Nothing same later going
 
 -- ---- the clock's
 
@@ -160,7 +132,7 @@ clock-closed t s clock work told = clock-is t s ClosedGate clock
 pub clock-all : (t : Task) (s : Sitting) → s.actor ≡ Clock → IsAtWork t Clock s.count (reverse s.saw) → s.count ≡ length t.ticks → WorkedAt t s Nothing
 clock-all t s clock work all = clock-is t s Nothing clock (record { acting = tt; work = work; stopped = inl all })
 
-tick-refused : (t : Task) (n : ℕ) (past : List Event) (op : Op) (r : Refusal) → At Clock n past (Refuses t.opening t.blocks t.ticks Clock op r)
+tick-refused : (t : Task) (n : ℕ) (past : List Event) (op : Op) (r : Refusal) → At Clock n past (Refuses t.opening t.guests t.ticks Clock op r)
     → Stops t Clock n past (met_by_refusal r)
 tick-refused t n past op HistoryFull at = (op, at)
 tick-refused t n past op Off at = inr (op, Off, (λ e. let no = e in cc), at)
@@ -177,7 +149,7 @@ module _ (t : Task) (s s' : Sitting) (n : ℕ) (clock : s.actor ≡ Clock) (work
   is-now : s' ≡ sitting Clock s.count s.ops s'.saw
   is-now = same ∙ ap (λ (a : Actor). sitting a s.count s.ops s'.saw) clock
 
-  at : At Clock s.count (reverse s'.saw) (Refuses t.opening t.blocks t.ticks Clock (Tick n) r)
+  at : At Clock s.count (reverse s'.saw) (Refuses t.opening t.guests t.ticks Clock (Tick n) r)
   at = refused-at t (sitting Clock s.count s.ops s'.saw) (reverse s.saw) (Tick n) r (subst (λ (x : Sitting). IsRefused t.opening x (Tick n) r) is-now refused) since work.no_fewer
       (tick-turn t s.count n (reverse s.saw) next)
 

@@ -27,25 +27,25 @@ module _ (t : Task) (a : Actor) (n : ℕ) (past whole : List Event) (since : IsS
       let same : many_of a at.seen ≡ n = same-then a n at.seen whole earlier at.no_fewer all in
       record { seen = at.seen; earlier = earlier; still = same ∙ sym all; holds = at.holds same }
 
-no-more-whole : (t : Task) (a : Actor) (n : ℕ) (past whole : List Event) → IsSuffix past whole → many_of a whole ≡ n → SeesNoMore t a n past → HasNoMore t.opening t.blocks t.ticks whole a
-no-more-whole t (Hart h) n past whole since all sees = at-whole t (Hart h) n past whole since all (ChoosesNone t.opening t.blocks h) sees
+no-more-whole : (t : Task) (a : Actor) (n : ℕ) (past whole : List Event) → IsSuffix past whole → many_of a whole ≡ n → SeesNoMore t a n past → HasNoMore t.opening t.guests t.ticks whole a
+no-more-whole t (Hart h) n past whole since all sees = at-whole t (Hart h) n past whole since all (ChoosesNone t.opening t.guests h) sees
 no-more-whole t Clock n past whole since all (inl did) = inl (all ∙ did)
-no-more-whole t Clock n past whole since all (inr (op, r, other, at)) = inr (op, r, other, at-whole t Clock n past whole since all (Refuses t.opening t.blocks t.ticks Clock op r) at)
+no-more-whole t Clock n past whole since all (inr (op, r, other, at)) = inr (op, r, other, at-whole t Clock n past whole since all (Refuses t.opening t.guests t.ticks Clock op r) at)
 
 stopped-whole : (t : Task) (a : Actor) (n : ℕ) (past whole : List Event) (met : Met) → IsSuffix past whole → many_of a whole ≡ n → Stops t a n past met
-    → HasStopped t.lets t.opening t.blocks t.ticks whole a met
+    → HasStopped t.lets t.opening t.guests t.ticks whole a met
 stopped-whole t a n past whole ClosedGate since all stops = subst (λ (k : ℕ). t.lets (gate_number t.opening.config a) k false) (sym all) stops
-stopped-whole t a n past whole FullHistory since all (op, at) = (op, at-whole t a n past whole since all (Refuses t.opening t.blocks t.ticks a op HistoryFull) at)
+stopped-whole t a n past whole FullHistory since all (op, at) = (op, at-whole t a n past whole since all (Refuses t.opening t.guests t.ticks a op HistoryFull) at)
 stopped-whole t a n past whole Nothing since all stops = no-more-whole t a n past whole since all stops
 
 -- what holds of an actor whose thread met this
 pub record Share (t : Task) (whole : List Event) (a : Actor) (met : Met) : Type 0 where
-  pub due : EachOf (IsDue t.lets t.opening t.blocks t.ticks a) a whole
-  pub stopped : HasStopped t.lets t.opening t.blocks t.ticks whole a met
+  pub due : EachOf (IsDue t.lets t.opening t.guests t.ticks a) a whole
+  pub stopped : HasStopped t.lets t.opening t.guests t.ticks whole a met
 
 pub share : (t : Task) (a : Actor) (n : ℕ) (past whole : List Event) (met : Met) → IsSuffix past whole → many_of a whole ≡ n → HasWorked t a n past met → Share t whole a met
 share t a n past whole met since all worked = record {
-  due = each-later a n past whole since worked.work.no_fewer all (IsDue t.lets t.opening t.blocks t.ticks a) worked.work.due;
+  due = each-later a n past whole since worked.work.no_fewer all (IsDue t.lets t.opening t.guests t.ticks a) worked.work.due;
   stopped = stopped-whole t a n past whole met since all worked.stopped;
 }
 
@@ -133,7 +133,7 @@ module _ (t : Task) (es : List Event) {A : Type 0} (seat : A → Sitting) (met :
   some-of (x ∷ xs) one all = some x xs all
 
   pub are-threads : (xs : List A) → ((a : Actor) → IsActor t.opening.config a → seats_of a (map seat xs) ≡ 1) → AllByRecursion Settled xs
-      → AreThreads t.lets t.opening t.blocks t.ticks (reverse es) (together xs)
+      → AreThreads t.lets t.opening t.guests t.ticks (reverse es) (together xs)
   are-threads xs one all = record {
     due = λ a acting. (found a xs (one a acting) all).2.due;
     stopped = λ a acting. let f = found a xs (one a acting) all in (f.0, f.1, f.2.stopped);

@@ -1,5 +1,5 @@
 -- What a run's record says of its threads: each did what was due, and why it did no more (profile).
-use Rattle.std.specs.Prelude.{◌≡◌, ◌≢◌, ◌⊎◌, ℕ, ◌+◌, Bool, true, false, if◌then◌else◌, List, [], ◌∷◌, ◌++◌, length, slice_get, Option, Some, None, Err}
+use Rattle.std.specs.Prelude.{◌≡◌, ◌≢◌, ◌⊎◌, ℕ, ◌+◌, Bool, true, false, if◌then◌else◌, List, [], ◌∷◌, length, slice_get, Option, Some, None, Err}
 use mathlib.Core.List.{IsSuffix}
 use Rattle.board_terms.specs.declared.config.Config.{Config}
 use Rattle.board_terms.specs.declared.op.Actor.{Actor}
@@ -15,14 +15,13 @@ use Rattle.board_core.specs.Resets.{is_off}
 use Rattle.board_lock.specs.declared.views.HartNow.{HartNow}
 use Rattle.board_lock.specs.Events.{IsActor, is_same}
 use Rattle.board_lock.specs.Views.{Shows}
-use Rattle.guest_script.specs.Grammar.{Guest}
 use Rattle.guest_programs.specs.declared.ends.End.{End}
 use Rattle.guest_programs.specs.declared.ends.End.TheVariants as ends
 use Rattle.guest_programs.specs.declared.ends.End.TheVariants.{GateLimit}
 use Rattle.guest_programs.specs.declared.met.Met.{Met}
 use Rattle.guest_programs.specs.declared.met.Met.TheVariants.{Nothing, FullHistory, ClosedGate}
 use Rattle.hart_threads.specs.Choices.{first_choice}
-use Rattle.guest_programs.specs.Guests.{block_of, done, last_entry}
+use Rattle.guest_programs.specs.Guests.{Next, next_op}
 use Rattle.guest_programs.specs.Met.{met_by_both}
 
 -- how many of the events are the actor's
@@ -37,19 +36,12 @@ EachOf P a (e ∷ past) = (is_same a e.actor ≡ true → P e past) × EachOf P 
 
 -- ---- what a thread may do
 
--- The next operation of a guest is the one of its block that stands behind those that it did.
-abbrev pub IsNext : Option Op → (done whole : List Op) → Type 0
-IsNext (Some op) done whole = (rest : List Op) × (done ++ op ∷ rest ≡ whole)
-IsNext None done whole = (op : Op) (rest : List Op) → done ++ op ∷ rest ≢ whole
-
--- After these events a thread that looks at hart h chooses this, or nothing: the first row that holds, where its guest is as far
--- in the block of its last entry as its own events have brought it.
-pub record Chooses (o : Opening) (blocks : List Guest) (h : ℕ) (seen : List Event) (choice : Option Op) : Type 0 where
+-- After these events a thread that looks at hart h chooses this, or nothing: the first row that holds, where its guest does next
+-- what it does behind these events.
+pub record Chooses (o : Opening) (guests : Next) (h : ℕ) (seen : List Event) (choice : Option Op) : Type 0 where
   pub now : HartNow
-  pub guest : Option Op
   pub shows : Shows (record { opening = o; past = seen }) h now
-  pub next : IsNext guest (done seen h) (block_of blocks (last_entry seen h))
-  pub first : first_choice now guest ≡ choice
+  pub first : first_choice now (next_op guests seen h) ≡ choice
 
 -- After a beginning of these events, since which the actor did nothing, this holds.
 pub record Earlier (a : Actor) (past : List Event) (P : List Event → Type 0) : Type 0 where
@@ -59,13 +51,13 @@ pub record Earlier (a : Actor) (past : List Event) (P : List Event → Type 0) :
   pub holds : P seen
 
 -- after these events a hart's thread chooses an operation, with the power on
-abbrev pub Picks : Opening → List Guest → ℕ → Op → List Event → Type 0
-Picks o blocks h op seen = (is_off o seen ≡ false) × Chooses o blocks h seen (Some op)
+abbrev pub Picks : Opening → Next → ℕ → Op → List Event → Type 0
+Picks o guests h op seen = (is_off o seen ≡ false) × Chooses o guests h seen (Some op)
 
 -- An operation is its actor's turn: a hart chose it when it looked last, and the clock's is the next of its ticks.
-abbrev pub IsTurn : Opening → List Guest → (ticks : List ℕ) → Actor → Op → List Event → Type 0
-IsTurn o blocks ticks (Hart h) op past = Earlier (Hart h) past (Picks o blocks h op)
-IsTurn o blocks ticks Clock op past = (n : ℕ) × (slice_get ticks (many_of Clock past) ≡ Some n) × (op ≡ Tick n)
+abbrev pub IsTurn : Opening → Next → (ticks : List ℕ) → Actor → Op → List Event → Type 0
+IsTurn o guests ticks (Hart h) op past = Earlier (Hart h) past (Picks o guests h op)
+IsTurn o guests ticks Clock op past = (n : ℕ) × (slice_get ticks (many_of Clock past) ≡ Some n) × (op ≡ Tick n)
 
 -- an actor's number, as a gate is told: a hart's id, and after those the clock's
 abbrev pub gate_number : Config → Actor → ℕ
@@ -73,52 +65,52 @@ gate_number c (Hart h) = h
 gate_number c Clock = c.harts
 
 -- An event was let by the gate, and was its actor's turn.
-abbrev pub IsDue : (lets : ℕ → ℕ → Bool → Type 0) → Opening → List Guest → (ticks : List ℕ) → Actor → Event
+abbrev pub IsDue : (lets : ℕ → ℕ → Bool → Type 0) → Opening → Next → (ticks : List ℕ) → Actor → Event
     → List Event → Type 0
-IsDue lets o blocks ticks a e past = lets (gate_number o.config a) (many_of a past) true
-    × IsTurn o blocks ticks a e.op past
+IsDue lets o guests ticks a e past = lets (gate_number o.config a) (many_of a past) true
+    × IsTurn o guests ticks a e.op past
 
 -- ---- why it did no more
 
 -- an operation that was its actor's turn was refused after these events
-abbrev pub Refuses : Opening → List Guest → (ticks : List ℕ) → Actor → Op → Refusal → List Event → Type 0
-Refuses o blocks ticks a op r seen = IsTurn o blocks ticks a op seen × (answer o seen a op ≡ Err r)
+abbrev pub Refuses : Opening → Next → (ticks : List ℕ) → Actor → Op → Refusal → List Event → Type 0
+Refuses o guests ticks a op r seen = IsTurn o guests ticks a op seen × (answer o seen a op ≡ Err r)
 
 -- after these events a hart's thread chooses nothing, or the power is off
-abbrev pub ChoosesNone : Opening → List Guest → ℕ → List Event → Type 0
-ChoosesNone o blocks h seen = (is_off o seen ≡ true) ⊎ Chooses o blocks h seen None
+abbrev pub ChoosesNone : Opening → Next → ℕ → List Event → Type 0
+ChoosesNone o guests h seen = (is_off o seen ≡ true) ⊎ Chooses o guests h seen None
 
 -- The gate answered the actor's last question false.
 abbrev pub IsClosed : (lets : ℕ → ℕ → Bool → Type 0) → Opening → List Event → Actor → Type 0
 IsClosed lets o past a = lets (gate_number o.config a) (many_of a past) false
 
 -- An operation that was the actor's turn was refused, since the history was full.
-abbrev pub HasMetFull : Opening → List Guest → (ticks : List ℕ) → List Event → Actor → Type 0
-HasMetFull o blocks ticks past a = (op : Op) × Earlier a past (Refuses o blocks ticks a op HistoryFull)
+abbrev pub HasMetFull : Opening → Next → (ticks : List ℕ) → List Event → Actor → Type 0
+HasMetFull o guests ticks past a = (op : Op) × Earlier a past (Refuses o guests ticks a op HistoryFull)
 
 -- A hart's thread chose nothing when it looked last. The clock's did all ticks, or the next one was refused for another cause than
 -- a full history.
-abbrev pub HasNoMore : Opening → List Guest → (ticks : List ℕ) → List Event → Actor → Type 0
-HasNoMore o blocks ticks past (Hart h) = Earlier (Hart h) past (ChoosesNone o blocks h)
-HasNoMore o blocks ticks past Clock =
+abbrev pub HasNoMore : Opening → Next → (ticks : List ℕ) → List Event → Actor → Type 0
+HasNoMore o guests ticks past (Hart h) = Earlier (Hart h) past (ChoosesNone o guests h)
+HasNoMore o guests ticks past Clock =
     (many_of Clock past ≡ length ticks)
-    ⊎ ((op : Op) × (r : Refusal) × (r ≢ HistoryFull) × Earlier Clock past (Refuses o blocks ticks Clock op r))
+    ⊎ ((op : Op) × (r : Refusal) × (r ≢ HistoryFull) × Earlier Clock past (Refuses o guests ticks Clock op r))
 
 -- Why an actor's thread did no more, by what it met.
-abbrev pub HasStopped : (lets : ℕ → ℕ → Bool → Type 0) → Opening → List Guest → (ticks : List ℕ) → List Event → Actor
+abbrev pub HasStopped : (lets : ℕ → ℕ → Bool → Type 0) → Opening → Next → (ticks : List ℕ) → List Event → Actor
     → Met → Type 0
-HasStopped lets o blocks ticks past a ClosedGate = IsClosed lets o past a
-HasStopped lets o blocks ticks past a FullHistory = HasMetFull o blocks ticks past a
-HasStopped lets o blocks ticks past a Nothing = HasNoMore o blocks ticks past a
+HasStopped lets o guests ticks past a ClosedGate = IsClosed lets o past a
+HasStopped lets o guests ticks past a FullHistory = HasMetFull o guests ticks past a
+HasStopped lets o guests ticks past a Nothing = HasNoMore o guests ticks past a
 
 -- What threads did that met this together: each event was due, each thread stopped for what it met, and one of them met what
 -- all met together.
-pub record AreThreads (lets : ℕ → ℕ → Bool → Type 0) (o : Opening) (blocks : List Guest) (ticks : List ℕ)
+pub record AreThreads (lets : ℕ → ℕ → Bool → Type 0) (o : Opening) (guests : Next) (ticks : List ℕ)
     (past : List Event) (met : Met) : Type 0 where
-  pub due : (a : Actor) → IsActor o.config a → EachOf (IsDue lets o blocks ticks a) a past
+  pub due : (a : Actor) → IsActor o.config a → EachOf (IsDue lets o guests ticks a) a past
   pub stopped : (a : Actor) → IsActor o.config a
-      → (m : Met) × (met_by_both m met ≡ met) × HasStopped lets o blocks ticks past a m
-  pub met_by : (a : Actor) × IsActor o.config a × HasStopped lets o blocks ticks past a met
+      → (m : Met) × (met_by_both m met ≡ met) × HasStopped lets o guests ticks past a m
+  pub met_by : (a : Actor) × IsActor o.config a × HasStopped lets o guests ticks past a met
 
 -- A run in which the history was full for a thread ends neither quiet nor stuck: with that, or with what comes before it.
 abbrev pub IsOverFull : End → Type 0
@@ -126,12 +118,12 @@ IsOverFull end = (end ≢ ends.Quiet) × (end ≢ ends.Stuck)
 
 -- What threads did whose run ended so: each event of an actor was due; it did no more since its gate closed, which ends the
 -- run, or since the history was full, or since there was no more; and a run that ended with either has a thread that met it.
-pub record IsRun (lets : ℕ → ℕ → Bool → Type 0) (o : Opening) (blocks : List Guest) (ticks : List ℕ)
+pub record IsRun (lets : ℕ → ℕ → Bool → Type 0) (o : Opening) (guests : Next) (ticks : List ℕ)
     (past : List Event) (end : End) : Type 0 where
-  pub due : (a : Actor) → IsActor o.config a → EachOf (IsDue lets o blocks ticks a) a past
+  pub due : (a : Actor) → IsActor o.config a → EachOf (IsDue lets o guests ticks a) a past
   pub stopped : (a : Actor) → IsActor o.config a →
       (IsClosed lets o past a × (end ≡ GateLimit))
-      ⊎ (HasMetFull o blocks ticks past a × IsOverFull end)
-      ⊎ HasNoMore o blocks ticks past a
+      ⊎ (HasMetFull o guests ticks past a × IsOverFull end)
+      ⊎ HasNoMore o guests ticks past a
   pub closed : end ≡ GateLimit → (a : Actor) × IsActor o.config a × IsClosed lets o past a
-  pub full : end ≡ ends.HistoryFull → (a : Actor) × IsActor o.config a × HasMetFull o blocks ticks past a
+  pub full : end ≡ ends.HistoryFull → (a : Actor) × IsActor o.config a × HasMetFull o guests ticks past a

@@ -23,7 +23,7 @@ pub(crate) fn tick<K: Plan, G: Gate, R: Wait>(
     requires fresh { seat ≡ sitting Clock 0 [] [] }
     requires gate { IsGate (G.lets work.now.gate.now) K.lets }
     ensures actor { result.seat.actor ≡ seat.actor }
-    ensures worked { WorkedAt (task K.lets K.opening K.blocks K.ticks) result.seat result.met }
+    ensures worked { WorkedAt (task K.lets K.opening K.guests K.ticks) result.seat result.met }
 {
     let mut seat = seat;
     let met = tick_all(rt, work, &mut seat);
@@ -37,7 +37,7 @@ fn tick_all<K: Plan, G: Gate, R: Wait>(rt: &R, work: &Work<'_, '_, K, G>, seat: 
     requires gate { IsGate (G.lets work.now.gate.now) K.lets }
     ensures actor { seat.new.actor ≡ Clock }
     ensures ticks { AreFirst K.ticks seat.new.ops }
-    ensures worked { WorkedAt (task K.lets K.opening K.blocks K.ticks) seat.new result }
+    ensures worked { WorkedAt (task K.lets K.opening K.guests K.ticks) seat.new result }
 {
     for n in work.program.ticks {
         if !work.is_let(seat) {

@@ -1,12 +1,12 @@
 //! A hart's thread: its firmware's work, and its guest's.
-ghost use Rattle.std.specs.Prelude.{◌≡◌, ◌≢◌, true, [], Some, reverse};
+ghost use Rattle.std.specs.Prelude.{◌≡◌, ◌≢◌, [], Some, reverse};
 ghost use Rattle.std.specs.Option.{option_map};
 ghost use Rattle.board_terms.specs.declared.op.Actor.TheVariants.{Clock};
 ghost use Rattle.board_lock.specs.Events.{IsActor};
 ghost use Rattle.board_lock.specs.Seats.{sitting};
 ghost use Rattle.board_lock.specs.Views.{IsView};
 ghost use Rattle.hart_threads.specs.Choices.{awaited, next_choice};
-ghost use Rattle.guest_programs.specs.Guests.{is_guest, left_of, next_of};
+ghost use Rattle.guest_programs.specs.Blocks.{rest_at};
 ghost use Rattle.hart_threads.specs.Inside.Works.{Goes, HasTurn, IsGate, WorkedAt, task};
 ghost use Rattle.guest_programs.specs.declared.met.Met.TheVariants.{Nothing};
 
@@ -16,10 +16,10 @@ use crate::plans::Plan;
 use crate::work::{Work, Worked};
 use board_core::Op;
 use board_lock::{Awaits, HartView, Seat};
-use guest_programs::{Guest, Met};
+use guest_programs::{Met, Place};
 use std::sync::Wait;
 
-/// A hart's thread: by what it sees it serves, polls, advances, does the next operation of its guest's block, or rests, until
+/// A hart's thread: by what it sees it serves, polls, advances, does its guest's next operation, or rests, until
 /// every seat rests.
 pub(crate) fn follow<K: Plan, G: Gate, R: Wait>(
     rt: &R,
@@ -31,10 +31,10 @@ pub(crate) fn follow<K: Plan, G: Gate, R: Wait>(
     requires fresh { seat ≡ sitting seat.actor 0 [] [] }
     requires gate { IsGate (G.lets work.now.gate.now) K.lets }
     ensures actor { result.seat.actor ≡ seat.actor }
-    ensures worked { WorkedAt (task K.lets K.opening K.blocks K.ticks) result.seat result.met }
+    ensures worked { WorkedAt (task K.lets K.opening K.guests K.ticks) result.seat result.met }
 {
     let mut seat = seat;
-    let mut guest = Guest::new();
+    let mut guest = Place::new();
     let mut met = Met::Nothing;
     let mut view = work.board.view(rt, &mut seat);
     for _ in rt.forever() {
@@ -53,8 +53,8 @@ pub(crate) fn follow<K: Plan, G: Gate, R: Wait>(
 }
 
 /// What a hart's thread does by what it sees, if there is something: nothing without power, nor after it met something.
-fn next<'a>(view: &HartView, met: Met, guest: &Guest<'a>) -> Option<&'a Op>
-    ensures { option_map (λ op. op.now) result ≡ next_choice view.now met (next_of (left_of guest.now)) }
+fn next<'a>(view: &HartView, met: Met, guest: &Place<'a>) -> Option<&'a Op>
+    ensures { option_map (λ op. op.now) result ≡ next_choice view.now met (rest_at guest.now []) }
 {
     match met {
         Met::FullHistory | Met::ClosedGate => None,
@@ -67,8 +67,8 @@ fn next<'a>(view: &HartView, met: Met, guest: &Guest<'a>) -> Option<&'a Op>
 }
 
 /// What a hart's thread waits for that does nothing by what it sees: nothing without power, nor after it met something.
-fn awaited(view: &HartView, met: Met, guest: &Guest<'_>) -> Awaits
-    ensures { result ≡ awaited view.now met (next_of (left_of guest.now)) }
+fn awaited(view: &HartView, met: Met, guest: &Place<'_>) -> Awaits
+    ensures { result ≡ awaited view.now met (rest_at guest.now []) }
 {
     match met {
         Met::FullHistory | Met::ClosedGate => Awaits::End,
@@ -85,18 +85,17 @@ fn attempt<'a, K: Plan, G: Gate, R: Wait>(
     rt: &R,
     work: &Work<'_, 'a, K, G>,
     seat: &mut Seat<K>,
-    guest: &mut Guest<'a>,
+    guest: &mut Place<'a>,
     view: &mut HartView,
     op: &'a Op,
 ) -> Met
     requires gate { IsGate (G.lets work.now.gate.now) K.lets }
-    requires going { Goes (task K.lets K.opening K.blocks K.ticks) seat.old (left_of guest.old) Nothing }
-    requires turn { HasTurn (task K.lets K.opening K.blocks K.ticks) seat.old.actor seat.old.count
+    requires going { Goes (task K.lets K.opening K.guests K.ticks) seat.old (rest_at guest.old) Nothing }
+    requires turn { HasTurn (task K.lets K.opening K.guests K.ticks) seat.old.actor seat.old.count
         (reverse seat.old.saw) op.now }
     requires view { IsView K.opening seat.old view.old }
-    requires next { is_guest op.now ≡ true → next_of (left_of guest.old) ≡ Some op.now }
     ensures actor { seat.new.actor ≡ seat.old.actor }
-    ensures going { Goes (task K.lets K.opening K.blocks K.ticks) seat.new (left_of guest.new) result }
+    ensures going { Goes (task K.lets K.opening K.guests K.ticks) seat.new (rest_at guest.new) result }
     ensures view { IsView K.opening seat.new view.new }
 {
     if !work.is_let(seat) {
@@ -105,7 +104,7 @@ fn attempt<'a, K: Plan, G: Gate, R: Wait>(
     match work.board.call_and_view(rt, seat, *op) {
         Ok((receipt, now)) => {
             work.tell(&receipt);
-            guest.sees(work.program, op, receipt.reply(), true);
+            guest.sees(work.program, *op, receipt.reply());
             *view = now;
             Met::Nothing
         }

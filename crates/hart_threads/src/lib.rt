@@ -6,10 +6,10 @@ mod clock;
 mod gate;
 mod harts;
 mod plans;
-mod running;
+mod program_run;
 mod starting;
 mod work;
 
 pub use gate::{Gate, Open};
 pub use guest_programs::{End, RunEnd, RunFault};
-pub use running::run;
+pub use program_run::run;

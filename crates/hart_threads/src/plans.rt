@@ -5,22 +5,22 @@ use std::marker::Brand;
 /// A room whose threads have these things to do. As a room, it is a type that has values in proofs alone.
 pub(crate) trait Plan: Room {
     ghost use Rattle.std.specs.Prelude.{ℕ, Bool, List};
-    ghost use Rattle.guest_script.specs.Grammar.{Guest};
+    ghost use Rattle.guest_programs.specs.Guests.{Next};
 
     // The clock's ticks, in order.
     ghost ticks: { List ℕ };
-    // What guests do, by the address of their entry.
-    ghost blocks: { List Guest };
+    // What guests do.
+    ghost guests: { Next };
     // What the gate may answer an actor, by its number and how many of its operations were accepted.
     ghost lets: { ℕ → ℕ → Bool → Type 0 };
 }
 
 impl Plan for Brand {
-    ghost use Rattle.std.specs.Prelude.{[]};
+    ghost use Rattle.std.specs.Prelude.{[], None};
 
     ghost ticks = { [] };
 
-    ghost blocks = { [] };
+    ghost guests = { λ _ _. None };
 
     ghost lets = { λ _ _ _. Unit {0} };
 }

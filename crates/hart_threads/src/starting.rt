@@ -21,7 +21,7 @@ struct SeatOf(Actor);
 
 impl<K: Plan> Promise<Worked<K>> for SeatOf {
     ghost kept_by = { λ p worked. (worked.seat.actor ≡ p.0)
-        × WorkedAt (task K.lets K.opening K.blocks K.ticks) worked.seat worked.met };
+        × WorkedAt (task K.lets K.opening K.guests K.ticks) worked.seat worked.met };
 }
 
 /// Runs a thread for each seat, and gives back what they did once all have ended. Where a thread is refused, those that run are
@@ -36,7 +36,7 @@ pub(crate) fn work_all<
     ensures seats { IfOk result
         (λ all. map (λ worked. worked.seat.actor) all.items ≡ map (λ seat. seat.actor) seats.items) }
     ensures worked { IfOk result (λ all.
-        All (λ worked. WorkedAt (task K.lets K.opening K.blocks K.ticks) worked.seat worked.met) all.items) }
+        All (λ worked. WorkedAt (task K.lets K.opening K.guests K.ticks) worked.seat worked.met) all.items) }
     ensures board { ¬ IsErrOf result BadConfig }
 {
     thread::scope(
@@ -49,7 +49,7 @@ pub(crate) fn work_all<
             ensures seats { IfOk result
                 (λ all. map (λ worked. worked.seat.actor) all.items ≡ map (λ seat. seat.actor) seats.items) }
             ensures worked { IfOk result (λ all.
-                All (λ worked. WorkedAt (task K.lets K.opening K.blocks K.ticks) worked.seat worked.met) all.items) }
+                All (λ worked. WorkedAt (task K.lets K.opening K.guests K.ticks) worked.seat worked.met) all.items) }
         {
             let mut threads = Vec::new(rt.alloc());
             for seat in seats {
@@ -81,7 +81,7 @@ fn work_at<K: Plan, G: Gate, R: Wait>(rt: &R, work: &Work<'_, '_, K, G>, seat: S
     requires fresh { IsFresh K.opening.config seat }
     requires gate { IsGate (G.lets work.now.gate.now) K.lets }
     ensures actor { result.seat.actor ≡ seat.actor }
-    ensures worked { WorkedAt (task K.lets K.opening K.blocks K.ticks) result.seat result.met }
+    ensures worked { WorkedAt (task K.lets K.opening K.guests K.ticks) result.seat result.met }
 {
     match seat.actor() {
         Actor::Hart(_) => follow(rt, work, seat),

@@ -1,8 +1,8 @@
 //! What a thread is given, and what it hands back.
-ghost use Rattle.std.specs.Prelude.{◌≡◌, map};
+ghost use Rattle.std.specs.Prelude.{◌≡◌};
 ghost use Rattle.board_terms.specs.declared.op.Actor.TheVariants.{Clock};
-ghost use Rattle.guest_script.specs.Grammar.{guest};
 ghost use Rattle.guest_programs.specs.Programs.{AreFirst};
+ghost use Rattle.guest_programs.specs.Steps.{task_in};
 ghost use Rattle.hart_threads.specs.Shares.{gate_number};
 ghost use Rattle.hart_threads.specs.Inside.Works.{IsGate};
 
@@ -21,7 +21,7 @@ pub(crate) struct Work<'a, 'p, K: Plan, G: Gate> {
     /// How many harts the board has.
     pub(crate) harts: u64,
     ghost planned: { program.now.ticks.now ≡ K.ticks },
-    ghost blocked: { map guest program.now.blocks.now ≡ K.blocks },
+    ghost guided: { (task_in program.now).guests ≡ K.guests },
     ghost counted: { harts ≡ K.opening.config.harts },
 }
 

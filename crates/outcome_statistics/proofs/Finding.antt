@@ -1,11 +1,11 @@
 -- What was found of orders, and of orders behind others.
-use Rattle.std.proofs.Common.{◌≡◌, ℕ, ◌+◌, List, [], ◌∷◌, ◌++◌, map, refl, sym, subst}
+use Rattle.std.proofs.Common.{◌≡◌, ℕ, ◌+◌, List, [], ◌∷◌, ◌++◌, refl, sym, subst}
 use Rattle.std.specs.Prelude.{reverse}
 use Rattle.std.proofs.lemmas.List.{reverse-reverse}
 use Rattle.board_terms.specs.declared.config.Config.{Config}
 use Rattle.board_core.specs.History.{Event}
 use Rattle.conditions.specs.declared.reading.Condition.{Condition}
-use Rattle.guest_script.specs.Grammar.{Content, guest}
+use Rattle.guest_script.specs.Grammar.{Content}
 use Rattle.guest_programs.specs.declared.blocks.Program.{Program}
 use Rattle.guest_programs.specs.declared.ends.End.{End}
 use Rattle.guest_programs.specs.Programs.{blocks_of, ticks_of}
@@ -22,8 +22,8 @@ orders-behind c content seed from mid to xs [] here there = subst (λ (n : ℕ).
 orders-behind c content seed from mid to xs (y ∷ ys) here there = (there.0, there.1, orders-behind c content seed from mid y.number xs ys here there.2)
 
 -- what a program has its actors do is what its script says
-pub same-task : (program : Program) (content : Content) → map guest program.blocks.now ≡ blocks_of content → program.ticks.now ≡ ticks_of content → task_in program ≡ task_of content
-same-task program content blocks ticks = λ i. record { blocks = blocks i; ticks = ticks i }
+pub same-task : (program : Program) (content : Content) → (task_in program).guests ≡ blocks_of content → program.ticks.now ≡ ticks_of content → task_in program ≡ task_of content
+same-task program content guests ticks = λ i. record { guests = guests i; ticks = ticks i }
 
 -- before any order
 pub found-none : (c : Config) (content : Content) (conditions : List Condition) (seed from : ℕ) (found : Findings) → AreFound conditions [] found → AreFoundOf c content conditions seed from from found

@@ -6,10 +6,12 @@ use Rattle.board_core.specs.History.{Event}
 use Rattle.board_core.specs.Opening.{Opening, opening_at}
 use Rattle.board_core.specs.Replies.{IsLegal}
 use Rattle.board_lock.specs.Events.{ops_of}
-use Rattle.guest_script.specs.Grammar.{Content, Empty, Guest, most_bytes, Program, Schedule, Trace}
+use Rattle.guest_script.specs.Grammar.{Content, Empty, most_bytes, Program, Schedule, Trace}
+use Rattle.guest_programs.specs.Blocks.{in_blocks}
 use Rattle.guest_programs.specs.declared.ends.End.{End}
 use Rattle.guest_programs.specs.declared.ends.End.TheVariants as ends
 use Rattle.guest_programs.specs.Ends.{IsEnd}
+use Rattle.guest_programs.specs.Guests.{Next}
 use Rattle.guest_programs.specs.Programs.{AreFirst}
 use Rattle.hart_threads.specs.Shares.{IsRun}
 use Rattle.monitor.specs.Table.{table}
@@ -19,15 +21,15 @@ use Rattle.sbiboard.specs.declared.outcome.Outcome.TheVariants.{Good, HistoryFul
 use Rattle.sbiboard.specs.Check.{EndsCheck, agrees_text}
 use Rattle.sbiboard.specs.Running.{EndsAs}
 
--- what a run takes of a program: its guests' blocks, and the clock's ticks
+-- what a run takes of a program: what its guests do by their blocks, and the clock's ticks
 pub record Tasks : Type 0 where
-  pub blocks : List Guest
+  pub blocks : Next
   pub ticks : List ℕ
 
 -- the tasks of a program; an empty script is one without any
 abbrev pub programmed : Content → Option Tasks
-programmed Empty = Some (record { blocks = []; ticks = [] })
-programmed (Program blocks clock) = Some (record { blocks = blocks; ticks = clock })
+programmed Empty = Some (record { blocks = in_blocks []; ticks = [] })
+programmed (Program blocks clock) = Some (record { blocks = in_blocks blocks; ticks = clock })
 programmed (Schedule lines) = None
 programmed (Trace lines) = None
 

@@ -17,7 +17,8 @@ use Rattle.board_core.specs.History.{Event}
 use Rattle.board_terms.specs.Limits.{IsGood}
 use Rattle.board_core.specs.Replies.{answer, IsLegal, refused_or}
 use Rattle.board_core.specs.Resets.{is_off}
-use Rattle.guest_programs.specs.Steps.{IsOwn, AreOwn, IsActorsOwn, next_op, Task}
+use Rattle.guest_programs.specs.Guests.{next_op}
+use Rattle.guest_programs.specs.Steps.{IsOwn, AreOwn, IsActorsOwn, Task}
 use Rattle.seeded_orders.specs.Choices.{choice, choice_of, own_number}
 
 -- the firmware's operation of a number
@@ -103,7 +104,7 @@ same-actor o past actors.Clock actors.Clock op next reply told good here there s
 
 same-op : (p : Task) (past : List Event) (actor : Actor) (op next : Op) → IsActorsOwn p past actor op → IsActorsOwn p past actor next
     → ((h : ℕ) → actor ≡ actors.Hart h → own_number op ≡ own_number next) → op ≡ next
-same-op p past (actors.Hart h) op next own owns same = same-own (next_op p.blocks past h) op next own owns (same h refl)
+same-op p past (actors.Hart h) op next own owns same = same-own (next_op p.guests past h) op next own owns (same h refl)
 same-op p past actors.Clock op next own owns same = let t : Some op ≡ Some next = sym own ∙ owns in cc
 
 -- what an event is that is accepted

@@ -1,5 +1,5 @@
 -- What a picked order is.
-use Rattle.std.proofs.Common.{◌≡◌, ℕ, zero, suc, ◌+◌, ◌-◌, ◌%◌, ◌<◌, if◌then◌else◌, List, [], ◌∷◌, refl, sym, ap, ◌∙◌, inl, inr, length, map, get_or, subst, arith}
+use Rattle.std.proofs.Common.{◌≡◌, ℕ, zero, suc, ◌+◌, ◌-◌, ◌%◌, ◌<◌, if◌then◌else◌, List, [], ◌∷◌, refl, sym, ap, ◌∙◌, inl, inr, length, get_or, subst, arith}
 use Rattle.std.specs.Prelude.{Option, Some, None, Result, Ok, Err, IfOk, Bool, true, false, slice_get}
 use Rattle.std.proofs.lemmas.Option.{slice_get-get_or}
 use Rattle.rand_pcg.specs.Pcg.{pcg64_dxsm}
@@ -11,7 +11,7 @@ use Rattle.board_terms.specs.declared.reply.Refusal.{Refusal}
 use Rattle.board_terms.specs.declared.reply.Reply.{Reply}
 use Rattle.board_core.specs.History.{Event}
 use Rattle.board_core.specs.Replies.{answer, recorded}
-use Rattle.guest_script.specs.Grammar.{Content, guest}
+use Rattle.guest_script.specs.Grammar.{Content}
 use Rattle.guest_programs.specs.declared.blocks.Program.{Program}
 use Rattle.guest_programs.specs.declared.ends.End.{End}
 use Rattle.guest_programs.specs.declared.met.Met.TheVariants.{Nothing}
@@ -23,7 +23,8 @@ use Rattle.seeded_orders.specs.declared.pickers.Picker.{Picker}
 use Rattle.seeded_orders.specs.declared.pickers.Picker.TheVariants.{Even, Ranked}
 use Rattle.seeded_orders.specs.Orders.{IsTried, met_before, ordered, order_of, past_after, past_with, pick, picked, picker_of}
 use Rattle.seeded_orders.specs.Ranks.{higher, highest, reranked}
-use Rattle.guest_programs.specs.Steps.{actor_of, AreOwn, IsActorsOwn, next_op, op_of, steps, Task, task_in, task_of}
+use Rattle.guest_programs.specs.Steps.{actor_of, AreOwn, IsActorsOwn, op_of, steps, Task, task_in, task_of}
+use Rattle.guest_programs.specs.Guests.{next_op}
 
 -- of no steps none is picked
 nothing-picked : (picker : Picker) (turn : ℕ) → (pick picker turn []).0 ≡ None
@@ -72,7 +73,7 @@ pub own-step : (o : Opening) (p : Task) (past : List Event) (step : Step) (op : 
 own-step o p past (takes.Serve h) op found = inl (some-is _ op found)
 own-step o p past (takes.Poll h) op found = inr (inl (some-is _ op found))
 own-step o p past (takes.Advance h) op found = inr (inr (inl (some-is _ op found)))
-own-step o p past (takes.Guest h) op found = inr (inr (inr (guarded _ (next_op p.blocks past h) op found)))
+own-step o p past (takes.Guest h) op found = inr (inr (inr (guarded _ (next_op p.guests past h) op found)))
 own-step o p past takes.Tick op found = found
 
 own-with : (o : Opening) (p : Task) (past : List Event) (found : Option Step) → AreOwn p past → AreOwn p (past_with o p past found)
@@ -139,8 +140,8 @@ goes o p most i picker next past after whole found picks step below is by some t
     ∙ ap (λ (now : List Event). ordered o p (most - (i + 1)) (i + 1) (pick picker i (steps o p past)).1 now) (taken ∙ ap (λ (x : Option Step). past_with o p past x) (sym chosen))
     ∙ sym (ordered-next o p most i i picker past below) ∙ keeps
 
-pub same-task : (program : Program) (body : Content) → map guest program.blocks.now ≡ blocks_of body → program.ticks.now ≡ ticks_of body → task_in program ≡ task_of body
-same-task program body blocks ticks = λ i. record { blocks = blocks i; ticks = ticks i }
+pub same-task : (program : Program) (body : Content) → (task_in program).guests ≡ blocks_of body → program.ticks.now ≡ ticks_of body → task_in program ≡ task_of body
+same-task program body guests ticks = λ i. record { guests = guests i; ticks = ticks i }
 
 pub if-both : {T E : Type 0} (found : Result T E) (P Q R : T → Type 0) → ((x : T) → P x → Q x → R x) → IfOk found P → IfOk found Q → IfOk found R
 if-both (Ok x) P Q R gives one other = gives x one other
@@ -148,8 +149,8 @@ if-both (Err e) P Q R gives one other = one
 
 -- What is followed from the opening on is the order, if its picker is.
 pub order-is-tried : (c : Config) (p : Task) (seed order : ℕ) (past : List Event) (picker : Picker) (end : End) → picker ≡ picker_of c.harts seed order
-    → past ≡ ordered (opening_at c) p c.limit 0 picker [] → IsEnd end (opening_at c) past p.blocks
-    → IsEndBy (met_before (steps (opening_at c) p past)) (opening_at c) past p.blocks end → IsTried c p seed order past end
+    → past ≡ ordered (opening_at c) p c.limit 0 picker [] → IsEnd end (opening_at c) past p.guests
+    → IsEndBy (met_before (steps (opening_at c) p past)) (opening_at c) past p.guests end → IsTried c p seed order past end
 order-is-tried c p seed order past picker end picks follows ended by =
     let same : past ≡ order_of c p seed order = follows ∙ ap (λ (g : Picker). ordered (opening_at c) p c.limit 0 g []) picks in
     let Q : List Event → Type 0 = λ xs. AreOwn p xs in

@@ -70,5 +70,5 @@ met_before (step ∷ left) = FullHistory
 pub record IsTried (c : Config) (p : Task) (seed order : ℕ) (past : List Event) (end : End) : Type 0 where
   pub same : past ≡ order_of c p seed order
   pub own : AreOwn p past
-  pub ended : IsEnd end (opening_at c) past p.blocks
-  pub by : IsEndBy (met_before (steps (opening_at c) p past)) (opening_at c) past p.blocks end
+  pub ended : IsEnd end (opening_at c) past p.guests
+  pub by : IsEndBy (met_before (steps (opening_at c) p past)) (opening_at c) past p.guests end

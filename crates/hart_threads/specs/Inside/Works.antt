@@ -1,6 +1,6 @@
 -- What a thread knows of its actor while it works: private. A seat's count is that of its actor's events in the whole record, so
 -- what is known where as many were seen holds of the record.
-use Rattle.std.specs.Prelude.{◌≡◌, ◌≢◌, ◌⊎◌, ℕ, ◌≤◌, Bool, false, List, [], ◌∷◌, length, reverse, Option}
+use Rattle.std.specs.Prelude.{◌≡◌, ◌≢◌, ◌⊎◌, ℕ, ◌≤◌, Bool, false, List, [], ◌∷◌, length, reverse}
 use mathlib.Core.List.{IsSuffix}
 use Rattle.board_terms.specs.declared.config.Config.{Config}
 use Rattle.board_terms.specs.declared.op.Actor.{Actor}
@@ -12,22 +12,21 @@ use Rattle.board_core.specs.History.{Event}
 use Rattle.board_core.specs.Opening.{Opening}
 use Rattle.board_lock.specs.Events.{IsActor}
 use Rattle.board_lock.specs.Seats.{Sitting, sitting}
-use Rattle.guest_script.specs.Grammar.{Guest}
 use Rattle.guest_programs.specs.declared.met.Met.{Met}
 use Rattle.guest_programs.specs.declared.met.Met.TheVariants.{Nothing, FullHistory, ClosedGate}
-use Rattle.guest_programs.specs.Guests.{IsLeft}
+use Rattle.guest_programs.specs.Guests.{IsAt, Next, Rest}
 use Rattle.guest_programs.specs.Met.{met_by_both}
 use Rattle.hart_threads.specs.Shares.{ChoosesNone, EachOf, IsDue, IsTurn, Refuses, gate_number, many_of}
 
--- what a run has its threads do: its gate's answers, its board's opening, its guests' blocks and its clock's ticks
+-- what a run has its threads do: its gate's answers, its board's opening, its guests and its clock's ticks
 pub record Task : Type 1 where
   pub lets : ℕ → ℕ → Bool → Type 0
   pub opening : Opening
-  pub blocks : List Guest
+  pub guests : Next
   pub ticks : List ℕ
 
-abbrev pub task : (ℕ → ℕ → Bool → Type 0) → Opening → List Guest → List ℕ → Task
-task lets opening blocks ticks = record { lets = lets; opening = opening; blocks = blocks; ticks = ticks }
+abbrev pub task : (ℕ → ℕ → Bool → Type 0) → Opening → Next → List ℕ → Task
+task lets opening guests ticks = record { lets = lets; opening = opening; guests = guests; ticks = ticks }
 
 -- A seat counts n events of actor a, and saw this past: after a beginning of it with no fewer of them, this holds if there are
 -- as many.
@@ -39,15 +38,15 @@ pub record At (a : Actor) (n : ℕ) (past : List Event) (P : List Event → Type
 
 -- why its thread did no more, where it met nothing
 abbrev pub SeesNoMore : Task → Actor → (n : ℕ) → List Event → Type 0
-SeesNoMore t (Hart h) n past = At (Hart h) n past (ChoosesNone t.opening t.blocks h)
+SeesNoMore t (Hart h) n past = At (Hart h) n past (ChoosesNone t.opening t.guests h)
 SeesNoMore t Clock n past =
     (n ≡ length t.ticks)
-    ⊎ ((op : Op) × (r : Refusal) × (r ≢ HistoryFull) × At Clock n past (Refuses t.opening t.blocks t.ticks Clock op r))
+    ⊎ ((op : Op) × (r : Refusal) × (r ≢ HistoryFull) × At Clock n past (Refuses t.opening t.guests t.ticks Clock op r))
 
 -- and by what it met
 abbrev pub Stops : Task → Actor → (n : ℕ) → List Event → Met → Type 0
 Stops t a n past ClosedGate = t.lets (gate_number t.opening.config a) n false
-Stops t a n past FullHistory = (op : Op) × At a n past (Refuses t.opening t.blocks t.ticks a op HistoryFull)
+Stops t a n past FullHistory = (op : Op) × At a n past (Refuses t.opening t.guests t.ticks a op HistoryFull)
 Stops t a n past Nothing = SeesNoMore t a n past
 
 -- what is known of what it met so far
@@ -59,18 +58,18 @@ HasMet t a n past ClosedGate = Stops t a n past ClosedGate
 -- Each event of the seat's actor that the seat saw was due.
 pub record IsAtWork (t : Task) (a : Actor) (n : ℕ) (past : List Event) : Type 0 where
   pub no_fewer : n ≤ many_of a past
-  pub due : many_of a past ≡ n → EachOf (IsDue t.lets t.opening t.blocks t.ticks a) a past
+  pub due : many_of a past ≡ n → EachOf (IsDue t.lets t.opening t.guests t.ticks a) a past
 
--- what is left of a guest's block, at a hart's seat
-abbrev pub IsLeftTo : List Guest → Option (List Op) → List Event → Actor → Type 0
-IsLeftTo blocks left past (Hart h) = IsLeft blocks left past h
-IsLeftTo blocks left past Clock = Unit {0}
+-- what a guest does from here on, at a hart's seat
+abbrev pub IsAtSeat : Next → Rest → List Event → Actor → Type 0
+IsAtSeat guests rest past (Hart h) = IsAt rest guests past h
+IsAtSeat guests rest past Clock = Unit {0}
 
--- The thread is at work, met this so far, and knows what is left of its guest's block.
-pub record IsGoing (t : Task) (a : Actor) (n : ℕ) (past : List Event) (left : Option (List Op))
+-- The thread is at work, met this so far, and knows what its guest does from here on.
+pub record IsGoing (t : Task) (a : Actor) (n : ℕ) (past : List Event) (rest : Rest)
     (met : Met) : Type 0 where
   pub work : IsAtWork t a n past
-  pub left_is : many_of a past ≡ n → IsLeftTo t.blocks left past a
+  pub rest_is : many_of a past ≡ n → IsAtSeat t.guests rest past a
   pub met_is : HasMet t a n past met
 
 -- The thread has done its work, and stopped for what it met.
@@ -80,8 +79,8 @@ pub record HasWorked (t : Task) (a : Actor) (n : ℕ) (past : List Event) (met :
   pub stopped : Stops t a n past met
 
 -- so of a seat
-abbrev pub Goes : Task → Sitting → Option (List Op) → Met → Type 0
-Goes t s left met = IsGoing t s.actor s.count (reverse s.saw) left met
+abbrev pub Goes : Task → Sitting → Rest → Met → Type 0
+Goes t s rest met = IsGoing t s.actor s.count (reverse s.saw) rest met
 
 abbrev pub WorkedAt : Task → Sitting → Met → Type 0
 WorkedAt t s met = HasWorked t s.actor s.count (reverse s.saw) met
@@ -89,7 +88,7 @@ WorkedAt t s met = HasWorked t s.actor s.count (reverse s.saw) met
 -- an operation is its actor's turn, as long as no event of that actor comes
 abbrev pub HasTurn : Task → Actor → (n : ℕ) → (seen : List Event) → Op → Type 0
 HasTurn t a n seen op = (past : List Event) → IsSuffix seen past → many_of a past ≡ n
-    → IsTurn t.opening t.blocks t.ticks a op past
+    → IsTurn t.opening t.guests t.ticks a op past
 
 -- what all threads met together
 abbrev pub met_by_all : List Met → Met

@@ -3,7 +3,7 @@ use Rattle.std.specs.BTreeMap.{get}
 use Rattle.std.specs.Option.{option_map, unwrap_or}
 use Rattle.std.specs.Ordering.{nat_cmp}
 use Rattle.guest_script.specs.Grammar.{guest}
-use Rattle.guest_programs.specs.Guests.{block_at}
+use Rattle.guest_programs.specs.Blocks.{block_at}
 use Rattle.guest_programs.proofs.blocks.first_blocks.Given as goal
 
 abbrev pub invariant-loop-i : goal.invariant-loop-i

@@ -1,7 +1,7 @@
-use Rattle.std.specs.Prelude.{ℕ, ◌<◌, map}
-use Rattle.guest_script.specs.Grammar.{guest}
+use Rattle.std.specs.Prelude.{ℕ, ◌<◌}
 use Rattle.guest_programs.specs.Ends.{IsQuiet}
+use Rattle.guest_programs.specs.Steps.{task_in}
 use Rattle.guest_programs.proofs.found_end.first_unquiet.Given as goal
 
 abbrev pub invariant-loop-h : goal.invariant-loop-h
-invariant-loop-h l = (k : ℕ) → k < l.h → IsQuiet l.board.opening l.board.past (map guest l.program.blocks.now) k
+invariant-loop-h l = (k : ℕ) → k < l.h → IsQuiet l.board.opening l.board.past (task_in l.program).guests k

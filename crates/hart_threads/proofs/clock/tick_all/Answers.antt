@@ -8,7 +8,7 @@ use Rattle.hart_threads.proofs.clock.tick_all.Goals as goal
 
 pub returns-in-Err : goal.returns-in-Err
 returns-in-Err g c =
-    let t : Task = task g.K.Plan.lets g.K.Room.opening g.K.Plan.blocks g.K.Plan.ticks in
+    let t : Task = task g.K.Plan.lets g.K.Room.opening g.K.Plan.guests g.K.Plan.ticks in
     let e = c.in-Err.ensures in
     let program = c.args.work.now.program.now.ticks.now in
     let next = next-tick g.K.Plan.ticks program c.loop-n.seat.count c.loop-n.n-index c.args.work.now.planned c.loop-n.invariant.2 c.loop-n-test.true in
@@ -22,7 +22,7 @@ returns-in-Err g c =
 
 pub loop-n-preserved : goal.loop-n-preserved
 loop-n-preserved g c =
-    let t : Task = task g.K.Plan.lets g.K.Room.opening g.K.Plan.blocks g.K.Plan.ticks in
+    let t : Task = task g.K.Plan.lets g.K.Room.opening g.K.Plan.guests g.K.Plan.ticks in
     let e = c.in-Ok.ensures in
     let program = c.args.work.now.program.now.ticks.now in
     let next = next-tick g.K.Plan.ticks program c.loop-n.seat.count c.loop-n.n-index c.args.work.now.planned c.loop-n.invariant.2 c.loop-n-test.true in (

@@ -3,52 +3,49 @@ use Rattle.board_lock.specs.Events.{IsActor}
 use Rattle.board_lock.specs.Seats.{Sitting}
 use Rattle.guest_programs.specs.declared.met.Met.{Met}
 use Rattle.guest_programs.specs.declared.met.Met.TheVariants.{Nothing}
-use Rattle.guest_programs.specs.Guests.{left_of}
+use Rattle.guest_programs.specs.Blocks.{rest_at}
 use Rattle.hart_threads.specs.Inside.Works.{Goes, Task, WorkedAt, task}
-use Rattle.hart_threads.proofs.Steps.{fresh-going, looked, met-nothing, own-next, rested, view-turn}
+use Rattle.hart_threads.proofs.Steps.{fresh-going, looked, met-nothing, rested, view-turn}
 use Rattle.hart_threads.proofs.harts.follow.Goals as goal
 use Rattle.hart_threads.proofs.harts.follow.Goals.{in-None, in-Some+in_default+in_default-rest_for}
 
 pub attempt-met-requires-clause-going : goal.attempt-met-requires-clause-going
 attempt-met-requires-clause-going g c =
-    let t : Task = task g.K.Plan.lets g.K.Room.opening g.K.Plan.blocks g.K.Plan.ticks in
-    subst (λ (m : Met). Goes t c.loop.seat (left_of c.loop.guest) m) (met-nothing c.loop.view c.loop.met _ c.in-Some-next.op.now (sym (rw c.in-Some-next.is at c.next-in-loop.ensures))) c.loop.invariant.1
+    let t : Task = task g.K.Plan.lets g.K.Room.opening g.K.Plan.guests g.K.Plan.ticks in
+    subst (λ (m : Met). Goes t c.loop.seat (rest_at c.loop.guest) m) (met-nothing c.loop.view c.loop.met _ c.in-Some-next.op.now (sym (rw c.in-Some-next.is at c.next-in-loop.ensures))) c.loop.invariant.1
 
 pub attempt-met-requires-clause-turn : goal.attempt-met-requires-clause-turn
 attempt-met-requires-clause-turn g c =
-    let t : Task = task g.K.Plan.lets g.K.Room.opening g.K.Plan.blocks g.K.Plan.ticks in
-    view-turn t c.loop.seat c.loop.view c.loop.met (left_of c.loop.guest) c.in-Some-next.op.now c.loop.invariant.2 c.loop.invariant.1 (sym (rw c.in-Some-next.is at c.next-in-loop.ensures))
-
-pub attempt-met-requires-clause-next : goal.attempt-met-requires-clause-next
-attempt-met-requires-clause-next g c = own-next c.loop.view c.loop.met _ c.in-Some-next.op.now (sym (rw c.in-Some-next.is at c.next-in-loop.ensures))
+    let t : Task = task g.K.Plan.lets g.K.Room.opening g.K.Plan.guests g.K.Plan.ticks in
+    view-turn t c.loop.seat c.loop.view c.loop.met (rest_at c.loop.guest) c.in-Some-next.op.now c.loop.invariant.2 c.loop.invariant.1 (sym (rw c.in-Some-next.is at c.next-in-loop.ensures))
 
 pub loop-init : goal.loop-init
 loop-init g c =
-    let t : Task = task g.K.Plan.lets g.K.Room.opening g.K.Plan.blocks g.K.Plan.ticks in (
+    let t : Task = task g.K.Plan.lets g.K.Room.opening g.K.Plan.guests g.K.Plan.ticks in (
       ap (λ (s : Sitting). s.actor) c.view-view.ensures.seat,
-      looked t c.args.seat c.view-view.new.seat (left_of c.new-guest.result) Nothing c.view-view.ensures.seat c.view-view.ensures.later
-          (fresh-going t c.args.seat (left_of c.new-guest.result) c.requires.fresh c.new-guest.ensures),
+      looked t c.args.seat c.view-view.new.seat (rest_at c.new-guest.result) Nothing c.view-view.ensures.seat c.view-view.ensures.later
+          (fresh-going t c.args.seat (rest_at c.new-guest.result) c.requires.fresh (c.new-guest.ensures t.guests)),
       c.view-view.ensures.view,
     )
 
 pub loop-preserved : goal.loop-preserved
 loop-preserved g c =
-    let t : Task = task g.K.Plan.lets g.K.Room.opening g.K.Plan.blocks g.K.Plan.ticks in (
+    let t : Task = task g.K.Plan.lets g.K.Room.opening g.K.Plan.guests g.K.Plan.ticks in (
       ap (λ (s : Sitting). s.actor) c.rest_for.ensures.seat ∙ c.loop.invariant.0,
-      looked t c.loop.seat c.rest_for.new.seat (left_of c.loop.guest) c.loop.met c.rest_for.ensures.seat c.rest_for.ensures.later c.loop.invariant.1,
+      looked t c.loop.seat c.rest_for.new.seat (rest_at c.loop.guest) c.loop.met c.rest_for.ensures.seat c.rest_for.ensures.later c.loop.invariant.1,
       c.in-Some-rest_for.ensures.view,
     )
 
 pub returns-clause-worked : goal.returns-clause-worked
 returns-clause-worked g c =
-    let t : Task = task g.K.Plan.lets g.K.Room.opening g.K.Plan.blocks g.K.Plan.ticks in
+    let t : Task = task g.K.Plan.lets g.K.Room.opening g.K.Plan.guests g.K.Plan.ticks in
     elim c.match-next.branch [
       | in-None w ↦ absurd (let none = w.in-None.ensures.steps in cc)
       | in-Some+in_default+in_default-rest_for w ↦
           let seat : Sitting = c.loop.seat in
           let actor : seat.actor ≡ c.args.seat.actor = c.loop.invariant.0 in
           subst (λ (s : Sitting). WorkedAt t s c.loop.met) (sym w.seat-is)
-          (rested t seat w.rest_for.new.seat c.loop.view c.loop.met (left_of c.loop.guest) (λ clock. c.requires.hart (sym actor ∙ clock))
+          (rested t seat w.rest_for.new.seat c.loop.view c.loop.met (rest_at c.loop.guest) (λ clock. c.requires.hart (sym actor ∙ clock))
           (subst (IsActor g.K.Room.opening.config) (sym actor) c.requires.acting)
           c.loop.invariant.2 c.loop.invariant.1 (sym (rw w.in_default.is at w.next-in-loop.ensures)) w.rest_for.ensures.seat w.rest_for.ensures.later)
     ]

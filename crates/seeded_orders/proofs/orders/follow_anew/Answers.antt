@@ -34,8 +34,8 @@ returns-clause-tried c =
     let same : c.follow.new.board.opening ≡ opening_at k = c.follow.ensures.opening ∙ opening in
     let met : c.in_ok-met.met ≡ met_before (steps (opening_at k) p c.follow.new.board.past) =
     c.in_ok-met.ensures.met ∙ ap (λ (o : Opening). met_before (steps o p c.follow.new.board.past)) same in
-    let E : End → Opening → Type 0 = λ end o. IsEnd end o c.follow.new.board.past p.blocks in
-    let B : End → Met → Opening → Type 0 = λ end m o. IsEndBy m o c.follow.new.board.past p.blocks end in
+    let E : End → Opening → Type 0 = λ end o. IsEnd end o c.follow.new.board.past p.guests in
+    let B : End → Met → Opening → Type 0 = λ end m o. IsEndBy m o c.follow.new.board.past p.guests end in
     if-both c.end_of.result _ _ _
     (λ end is by. order-is-tried k p c.args.seed c.args.order c.follow.new.board.past c.in_ok-picker.picker end picks follows (subst (E end) same is)
     (subst (λ m. B end m (opening_at k)) met (subst (B end c.in_ok-met.met) same by)))

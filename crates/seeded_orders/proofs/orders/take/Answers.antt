@@ -3,8 +3,7 @@ use Rattle.board_terms.specs.declared.op.Actor.{Actor}
 use Rattle.board_core.specs.Course.{Course}
 use Rattle.board_core.specs.History.{Event}
 use Rattle.guest_programs.specs.Places.{AreAt}
-use Rattle.guest_programs.specs.Steps.{IsActorsOwn, task_in, Task}
-use Rattle.seeded_orders.proofs.Ordering.{own-step}
+use Rattle.guest_programs.specs.Steps.{task_in, Task}
 use Rattle.seeded_orders.proofs.Taking.{accepted-past, event_of}
 use Rattle.seeded_orders.proofs.orders.take.Goals as goal
 
@@ -15,9 +14,6 @@ returns-in-Ok-clause-places c =
     let by : Actor = c.actor-actor.result in
     let e : Event = event_of b by c.in-Some.op c.in-Ok.reply in
     let P : List Event → Type 0 = λ past. AreAt p b.opening.config.harts past c.see.new.self in
-    let Q : Actor → Type 0 = λ actor. IsActorsOwn p b.past actor c.in-Some.op in
     let past : c.step.new.self.past ≡ e ∷ b.past =
     ap (λ (x : Course). x.past) c.step.ensures.after ∙ accepted-past b by c.in-Some.op c.step.result c.in-Ok.reply c.step.ensures.answer c.in-Ok.is in
-    let own : IsActorsOwn p b.past by c.in-Some.op =
-    subst Q (sym c.actor-actor.ensures) (own-step b.opening p b.past c.args.step c.in-Some.op (sym (c.op.ensures b.opening p b.past c.requires) ∙ c.in-Some.is)) in
-    subst P (sym past) (c.see.ensures b.opening.config.harts b.past e refl refl refl own c.requires)
+    subst P (sym past) (c.see.ensures b.opening.config.harts b.past e refl refl refl c.requires)

@@ -8,7 +8,7 @@ use Rattle.guest_programs.specs.Met.{met_by_both}
 use Rattle.hart_threads.specs.Inside.Works.{met_by_all}
 use Rattle.hart_threads.proofs.MetTogether.{met_by_one_more}
 use Rattle.hart_threads.proofs.Ticked.{ticked-more}
-use Rattle.hart_threads.proofs.running.parted.Goals as goal
+use Rattle.hart_threads.proofs.program_run.parted.Goals as goal
 
 pub loop-worked-preserved : goal.loop-worked-preserved
 loop-worked-preserved g c =

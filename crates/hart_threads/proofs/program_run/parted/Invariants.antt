@@ -4,7 +4,7 @@ use Rattle.std.specs.Vec.Iter.{into_iter_items, into_iter_len}
 use Rattle.board_terms.specs.declared.op.Actor.TheVariants.{Clock}
 use Rattle.hart_threads.specs.Inside.Works.{met_by_all}
 use Rattle.guest_programs.specs.Programs.{AreFirst}
-use Rattle.hart_threads.proofs.running.parted.Given as goal
+use Rattle.hart_threads.proofs.program_run.parted.Given as goal
 
 abbrev pub invariant-loop-worked : goal.invariant-loop-worked
 invariant-loop-worked g l =

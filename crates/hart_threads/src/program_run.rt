@@ -7,10 +7,11 @@ ghost use Rattle.board_core.specs.Replies.{IsLegal};
 ghost use Rattle.board_laws.specs.Headline.{Headline};
 ghost use Rattle.board_lock.specs.Events.{events_in, ops_of};
 ghost use Rattle.board_lock.specs.Seats.{new_seats};
-ghost use Rattle.guest_script.specs.Grammar.{content, guest};
+ghost use Rattle.guest_script.specs.Grammar.{content};
 ghost use Rattle.guest_programs.specs.Ends.{IsEnd};
 ghost use Rattle.hart_threads.specs.Inside.Works.{met_by_all, IsGate};
 ghost use Rattle.guest_programs.specs.Programs.{AreFirst, IsProgram, blocks_of, ticks_of};
+ghost use Rattle.guest_programs.specs.Steps.{task_in};
 ghost use Rattle.hart_threads.specs.Shares.{AreThreads, IsRun};
 ghost use Rattle.guest_programs.specs.declared.ends.RunFault.TheVariants.{BadConfig};
 
@@ -62,15 +63,15 @@ fn run_in<K: Plan + Send + Sync, G: Gate + Sync, R: AllocGlobal + Threads + Wait
     requires room { (K.opening ≡ opening_at room.config) × (room.log ≡ K.log) }
     requires ledger { (room.ledger ≡ K.name) × (room.parts ≡ K.parts) × (K.all ≡ K.parts) }
     requires ticks { ticks_of (content body.now) ≡ K.ticks }
-    requires blocks { blocks_of (content body.now) ≡ K.blocks }
+    requires guests { blocks_of (content body.now) ≡ K.guests }
     requires gate { IsGate (G.lets gate.now) K.lets }
     ensures bad { IsErrOf result BadConfig ↔ ¬ IsGood K.opening.config }
     ensures opening { IfOk result (λ run. run.board.opening ≡ K.opening) }
     ensures legal { IfOk result (λ run. IsLegal run.board.opening run.board.past) }
     ensures headline { IfOk result (λ run. Headline run.board.opening run.board.past) }
     ensures ticks { IfOk result (λ run. AreFirst K.ticks (ops_of Clock (events_in run.board))) }
-    ensures end { IfOk result (λ run. IsEnd run.end run.board.opening run.board.past K.blocks) }
-    ensures threads { IfOk result (λ run. IsRun K.lets run.board.opening K.blocks K.ticks run.board.past run.end) }
+    ensures end { IfOk result (λ run. IsEnd run.end run.board.opening run.board.past K.guests) }
+    ensures threads { IfOk result (λ run. IsRun K.lets run.board.opening K.guests K.ticks run.board.past run.end) }
 {
     let (shared, seats) = opened::<K>(rt.alloc(), room)?;
     let program = program_in(rt.alloc(), body)?;
@@ -92,12 +93,12 @@ fn run_on<K: Plan + Send + Sync, G: Gate + Sync, R: AllocGlobal + Threads + Wait
     requires whole { K.all ≡ K.parts }
     requires seats { seats.items ≡ new_seats K.opening.config }
     requires ticks { program.now.ticks.now ≡ K.ticks }
-    requires blocks { map guest program.now.blocks.now ≡ K.blocks }
+    requires guests { (task_in program.now).guests ≡ K.guests }
     requires gate { IsGate (G.lets gate.now) K.lets }
     ensures board { ¬ IsErrOf result BadConfig }
     ensures opening { IfOk result (λ r. r.0.opening ≡ K.opening) }
     ensures ticks { IfOk result (λ r. AreFirst K.ticks (ops_of Clock (events_in r.0))) }
-    ensures threads { IfOk result (λ r. AreThreads K.lets K.opening K.blocks K.ticks r.0.past r.1) }
+    ensures threads { IfOk result (λ r. AreThreads K.lets K.opening K.guests K.ticks r.0.past r.1) }
 {
     let work = Work {
         board: &board,

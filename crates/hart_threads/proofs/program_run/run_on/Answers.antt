@@ -11,7 +11,7 @@ use Rattle.hart_threads.specs.Shares.{AreThreads}
 use Rattle.hart_threads.proofs.NewSeats.{back_again, new-seats}
 use Rattle.hart_threads.proofs.Ticked.{clock-ticked, seats-fresh}
 use Rattle.hart_threads.proofs.Whole.{are-threads, settle-all}
-use Rattle.hart_threads.proofs.running.run_on.Goals as goal
+use Rattle.hart_threads.proofs.program_run.run_on.Goals as goal
 
 no-way : false ≡ true → ⊥
 no-way e = let t = e in cc
@@ -38,7 +38,7 @@ returns-clause-ticks g c =
 
 pub returns-clause-threads : goal.returns-clause-threads
 returns-clause-threads g c =
-    let t : Task = task g.K.Plan.lets g.K.Room.opening g.K.Plan.blocks g.K.Plan.ticks in
+    let t : Task = task g.K.Plan.lets g.K.Room.opening g.K.Plan.guests g.K.Plan.ticks in
     let es : List Event = events_in c.in-Ok.record in
     let same = c.in_ok-seats.ensures.same in
     let all = c.in_ok-all.all.items in
@@ -49,4 +49,4 @@ returns-clause-threads g c =
     let threads = are-threads t es (λ worked. worked.seat) (λ worked. worked.met) all
     (λ a acting. subst (λ (seats : List Sitting). seats_of a seats ≡ 1) same (one a acting)) settled in
     rw c.into_board.ensures rw c.in_ok-seats.ensures.met
-    (subst (λ (past : List Event). AreThreads t.lets t.opening t.blocks t.ticks past (met_by_all (map (λ worked. worked.met) all))) (reverse-reverse c.in-Ok.record.past) threads)
+    (subst (λ (past : List Event). AreThreads t.lets t.opening t.guests t.ticks past (met_by_all (map (λ worked. worked.met) all))) (reverse-reverse c.in-Ok.record.past) threads)

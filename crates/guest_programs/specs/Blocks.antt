@@ -1,0 +1,38 @@
+-- Guests whose programs are blocks: lists of operations at the addresses of entries (profile).
+use Rattle.std.specs.Prelude.{ℕ, ◌==◌, if◌then◌else◌, List, [], ◌∷◌, ◌++◌, length, slice_get, Option, Some, None}
+use Rattle.board_terms.specs.declared.op.Op.{Op}
+use Rattle.board_core.specs.History.{Event}
+use Rattle.guest_script.specs.Grammar.{Guest}
+use Rattle.guest_programs.specs.declared.guests.Place.{Place}
+use Rattle.guest_programs.specs.Guests.{Did, Entered, Next, Rest, did}
+
+-- the operations of the block at an address; none where no block is
+abbrev pub block_at : List Guest → ℕ → List Op
+block_at [] addr = []
+block_at (block ∷ blocks) addr = if block.addr == addr then block.ops else block_at blocks addr
+
+-- What such guests do: of the block at the entry's address, the operation behind as many as were done.
+abbrev pub in_blocks : List Guest → Next
+in_blocks blocks = λ entry before. slice_get (block_at blocks entry.addr) (length before)
+
+-- ---- the same in terms of whole blocks
+
+-- The whole block of an entry's address.
+abbrev pub block_of : List Guest → Option Entered → List Op
+block_of blocks None = []
+block_of blocks (Some entry) = block_at blocks entry.addr
+
+-- these operations, oldest first
+abbrev pub ops_in : Did → List Op
+ops_in [] = []
+ops_in (one ∷ before) = ops_in before ++ one.0 ∷ []
+
+-- The operations of the guest of hart h since its last entry, in order.
+abbrev pub done : List Event → ℕ → List Op
+done past h = ops_in (did past h)
+
+-- ---- how far a guest is
+
+-- what a guest does with this left of its block
+abbrev pub rest_at : Place → Rest
+rest_at place = λ more. slice_get place.left.now (length more)
