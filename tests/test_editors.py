@@ -16,7 +16,7 @@ GRAMMAR = os.path.join(ROOT, "editors/sbiboard.tmLanguage.json")
 # Lines that no example has, and words of them that none of the formats has.
 ODD = (
     "0 sie 0x2#2", " \tc  tick 3 -> done\t# the clock", "0x7f sfence - 5", "1 sfence 0x1000 -", "cut", "cut -> done", "cut#", "0 poll -> ret -1 0x0", "#! before 1 serve, 1 load 0x1000 -> value 0x22",
-    "#! never _ load 0x1000 -> value 0x11 after c tick # and no other", "  #! end off history-full quiet stuck", "#! each _ sfence - _ -> done", "#!/usr/bin/env sbiboard", "#!some 0 sip", "# a#b", "clock # ticks",
+    "#! never _ load 0x1000 -> value 0x11 after c tick # and no other", "#! maybe never 1 load 0x10 -> value 1", "#!maybe end quiet", "  #! end off history-full quiet stuck", "#! each _ sfence - _ -> done", "#!/usr/bin/env sbiboard", "#!some 0 sip", "# a#b", "clock # ticks",
 )  # fmt: skip
 WRONG = (("0 ecal 0x10", "ecal"), ("laod 1", "laod"), ("0 sip -> valu 1", "valu"), ("0 load 0X10", "0X10"), ("bord 1", "bord"), ("#! nevr 1 load", "nevr"), ("#! never 1 laod", "laod"))
 
@@ -38,7 +38,7 @@ def words_of_formats():
     blocks = page.split("```")
     block = lambda begin: next(it for it in blocks if it.lstrip("\n").startswith(begin))
     heads = lambda text: {word for line in re.findall(r"^(\S.*?)(?:  |$)", text, re.M) for word in re.findall(r"(?:^|, )([a-z]+)", line)}
-    rules = block("condition = #! rule")
+    rules = block("condition = #! ")
     ends = re.search(r"^END +=(.*)$", rules, re.M)[1].replace("|", " ").split()
     return heads(block("ecall EID")), heads(block("ret ERROR")), set(re.findall(r"^(?:rule +=| +\|) ([a-z]+)", rules, re.M)), set(ends)
 
@@ -62,7 +62,7 @@ def kinds_of(line):
     kinds = {comment: "comment"} if comment >= 0 else {}
     if condition:
         kinds[begin - 2] = "sign"
-        known = {**dict.fromkeys(RULES, "rule"), **dict.fromkeys(ENDS, "end"), "after": "after", "_": "any", ",": "comma", "c": "actor", **dict.fromkeys(REPLIES, "reply")}
+        known = {**dict.fromkeys(RULES, "rule"), **dict.fromkeys(ENDS, "end"), "after": "after", "maybe": "after", "_": "any", ",": "comma", "c": "actor", **dict.fromkeys(REPLIES, "reply")}
         for found in re.finditer(r",|[^\s,]+", code[begin:]):
             kinds[begin + found.start()] = known.get(found[0]) or kind_of(found[0], False)
         return kinds

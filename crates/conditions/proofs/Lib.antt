@@ -1,4 +1,4 @@
-mod Saying
-pub mod Firsts
-pub mod Fitting
 pub mod Places
+pub mod Fitting
+pub mod Firsts
+pub mod Saying

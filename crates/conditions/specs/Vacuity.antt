@@ -60,11 +60,14 @@ MeetsSecond (Each p) events = ⊥
 MeetsSecond (Before p q) events = HasFitting q events
 MeetsSecond (End ends) events = ⊥
 
+-- none of these records is such
+abbrev pub NoneOf : (List Event → Type 0) → List (List Event) → Type 0
+NoneOf P records = (k : ℕ) (events : List Event) → slice_get records k ≡ Some events → ¬ P events
+
 -- A condition is vacuous among records where none of them has a step that it needs.
-abbrev pub IsVacuous : Rule → (List Event → Type 0) → Type 0
-IsVacuous rule Record =
-    (NeedsFirst rule × ((events : List Event) → Record events → ¬ MeetsFirst rule events))
-    ⊎ (NeedsSecond rule × ((events : List Event) → Record events → ¬ MeetsSecond rule events))
+abbrev pub IsVacuous : Rule → List (List Event) → Type 0
+IsVacuous rule records =
+    (NeedsFirst rule × NoneOf (MeetsFirst rule) records) ⊎ (NeedsSecond rule × NoneOf (MeetsSecond rule) records)
 
 -- It says nothing of a record, whatever its steps answered: the record meets it, and never meets `some`.
 abbrev pub SaysNothing : Rule → List Event → Option Ending → Type 0

@@ -1,5 +1,5 @@
 //! Whether a condition says anything of records: whether some of them has the steps that it needs.
-ghost use Rattle.std.specs.Prelude.{◌≡◌, ◌≢◌, ◌↔◌, ◌⊎◌, [], List, Option, Some, true, false};
+ghost use Rattle.std.specs.Prelude.{◌≡◌, ◌≢◌, ◌↔◌, ◌⊎◌, ℕ, [], List, Option, Some, slice_get, true, false};
 ghost use Rattle.board_core.specs.History.{Event as Step};
 ghost use Rattle.conditions.specs.declared.rules.Ending.{Ending as HowEnded};
 ghost use Rattle.conditions.specs.declared.rules.Rule.{Rule as Asked};
@@ -14,20 +14,20 @@ use script_lines::OpName;
 
 /// Which of the steps that a condition needs were met in some record.
 #[derive(Clone, Copy, Debug, PartialEq, Eq)]
-pub struct Met {
+pub struct NeedsMet {
     /// That of its first pattern.
     pub first: bool,
     /// That of its second one.
     pub second: bool,
 }
 
-impl Met {
+impl NeedsMet {
     /// Before any record.
-    pub fn none() -> Met
+    pub fn none() -> NeedsMet
         ensures first { result.first ≡ false }
         ensures second { result.second ≡ false }
     {
-        Met {
+        NeedsMet {
             first: false,
             second: false,
         }
@@ -43,7 +43,7 @@ impl Met {
     }
 
     /// What was met of other records, too.
-    pub fn add(&mut self, other: Met)
+    pub fn add(&mut self, other: NeedsMet)
         ensures first { (self.new.first ≡ true) ↔ ((self.old.first ≡ true) ⊎ (other.first ≡ true)) }
         ensures second { (self.new.second ≡ true) ↔ ((self.old.second ≡ true) ⊎ (other.second ≡ true)) }
     {
@@ -68,8 +68,9 @@ impl Met {
 
 /// A vacuous condition says nothing: each of those records meets it, and none meets `some`. A law: there is nothing to run.
 pub fn vacuous_conditions_say_nothing()
-    ensures { (rule : Asked) (Record : List Step → Type 0) → IsVacuous rule Record
-        → (events : List Step) (end : Option HowEnded) → Record events → SaysNothing rule events end }
+    ensures { (rule : Asked) (records : List (List Step)) → IsVacuous rule records
+        → (k : ℕ) (events : List Step) (end : Option HowEnded) → slice_get records k ≡ Some events
+        → SaysNothing rule events end }
 {}
 
 /// Whether a record has the step that the first pattern needs.

@@ -10,7 +10,7 @@ use crate::judging::judge;
 use crate::tally::Tally;
 use crate::visits::Visits;
 use board_core::{Board, Event};
-use conditions::{Condition, Ending, Met, ending};
+use conditions::{Condition, Ending, NeedsMet, ending};
 use guest_programs::End;
 use seeded_orders::choices;
 use std::alloc::{AllocError, Global};
@@ -22,7 +22,7 @@ pub struct Judged {
     /// How many records are as it asks.
     pub tally: Tally,
     /// Which of the steps that it needs were met in some record.
-    pub met: Met,
+    pub met: NeedsMet,
 }
 
 /// What was found of orders of a program.
@@ -51,7 +51,7 @@ impl Findings {
     {
         let none = Judged {
             tally: Tally::new(),
-            met: Met::none(),
+            met: NeedsMet::none(),
         };
         Ok(Findings {
             judged: vec![in alloc; none; conditions]?,

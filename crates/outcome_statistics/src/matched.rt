@@ -1,6 +1,6 @@
 //! Whether the patterns of a condition meet steps.
 use board_core::Event;
-use conditions::{Met, Rule};
+use conditions::{NeedsMet, Rule};
 
 /// Whether each pattern of a condition has met a step, whatever its reply; one that it hasn't is met.
 #[derive(Clone, Copy, Debug)]
@@ -53,7 +53,7 @@ pub fn is_met(rule: &Rule, events: &[Event]) -> bool {
 }
 
 /// Whether each pattern of a condition has what it asks for, also one that needs none.
-pub fn is_each_met(rule: &Rule, met: Met) -> bool {
+pub fn is_each_met(rule: &Rule, met: NeedsMet) -> bool {
     match rule {
         Rule::Never(_) | Rule::OfSome(_) | Rule::Each(_) => met.first,
         Rule::NeverAfter(..) | Rule::Before(..) => met.first && met.second,

@@ -12,7 +12,7 @@ use std::alloc::{AllocError, Global};
 use std::rt::{Clock, Files};
 use std::sync::Wait;
 use std::thread::Threads;
-use test_report::{FileReport, Mode, Point, Verdict, comments, named, unread};
+use test_report::{FileReport, Mode, Point, Verdict, comments, named, unasked};
 use test_terms::{Options, Stop, Trial};
 use tried_orders::{test_orders, test_runs};
 
@@ -45,7 +45,7 @@ pub(crate) fn test_file<R: AllocGlobal + Clock + Eprint + Files + Sync + Threads
     };
     let mut found = test_script(&trial)?;
     found.note_all(comments(alloc, &trial.case)?)?;
-    for (line, asked) in unread(alloc, &trial.case)? {
+    for (line, asked) in unasked(alloc, &trial.case)? {
         let name = format!(in alloc;
             "{file}: line {line}: '# !{asked}' is a comment, and no condition"
         )?;

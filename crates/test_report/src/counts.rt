@@ -82,8 +82,8 @@ impl fmt::Display for Grouped {
         // (a number of 128 bits has 39 digits at most)
         let mut is_begun = false;
         for place in 0..13u32 {
-            let unit = 1000u128.saturating_pow(12 - place);
-            let three = number / unit % 1000;
+            let unit = 1000u128.saturating_pow(12u32.saturating_sub(place));
+            let three = number.checked_div(unit).unwrap_or(0) % 1000;
             if is_begun {
                 write!(f, ",{three:03}")?;
             } else if three > 0 || place == 12 {

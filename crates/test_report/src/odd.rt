@@ -105,7 +105,7 @@ fn comment_of(line: &[u8]) -> &[u8] {
 }
 
 /// The lines whose comment is a condition but for blanks behind its sign, each with the word there.
-pub fn unread<'a>(alloc: Global, case: &Case<'a>) -> Result<Vec<(u64, &'a str)>, AllocError> {
+pub fn unasked<'a>(alloc: Global, case: &Case<'a>) -> Result<Vec<(u64, &'a str)>, AllocError> {
     let mut found = Vec::new(alloc);
     for (i, text) in case.text.split(|b| *b == b'\n').enumerate() {
         let text = without_return(text);

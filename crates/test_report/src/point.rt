@@ -1,7 +1,7 @@
 //! A point, and what belongs to it.
 use crate::details::{Detail, Unwritten};
 use crate::notes::Note;
-use crate::verdict::{Reach, Said, Verdict};
+use crate::verdict::{Extent, Said, Verdict};
 use conditions::{Condition, Rule};
 use diagnostics::Case;
 use std::alloc::{AllocError, Global};
@@ -16,7 +16,7 @@ pub struct Point {
     /// What was found.
     pub verdict: Verdict,
     /// How far was looked.
-    pub reach: Reach,
+    pub reach: Extent,
     /// What stands below it.
     pub details: Vec<Detail>,
     /// What is noted behind it, of the file.
@@ -30,7 +30,7 @@ impl Point {
             name,
             is_some: false,
             verdict,
-            reach: Reach::Lines,
+            reach: Extent::Lines,
             details: Vec::new(alloc),
             notes: Vec::new(alloc),
         }
@@ -42,7 +42,7 @@ impl Point {
         case: &Case<'_>,
         condition: Option<&Condition>,
         verdict: Verdict,
-        reach: Reach,
+        reach: Extent,
     ) -> Result<Point, AllocError> {
         let said = match condition {
             Some(_) => "",

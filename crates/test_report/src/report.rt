@@ -3,6 +3,7 @@ use crate::counts::AllOrders;
 use crate::details::Unwritten;
 use crate::notes::Note;
 use crate::point::Point;
+use crate::status::{Status, status_by};
 use crate::verdict::Verdict;
 use outcome_statistics::Ends;
 use std::alloc::{AllocError, Global};
@@ -94,17 +95,6 @@ impl FileReport {
     }
 }
 
-/// What is found of all points together.
-#[derive(Clone, Copy, Debug, PartialEq, Eq)]
-pub enum Status {
-    /// Each holds.
-    AllHold,
-    /// Some fail.
-    SomeFail,
-    /// None fails, and not all was judged or seen.
-    NotJudged,
-}
-
 /// What is found of all files.
 #[derive(Debug, Drop)]
 pub struct Report {
@@ -125,19 +115,7 @@ impl Report {
 
     /// What is found of all points together.
     pub fn status(&self) -> Status {
-        let mut is_judged = !(self.mode == Mode::Explore && self.is_cut());
-        for file in &self.files {
-            let (failed, unjudged) = file.counted();
-            if failed > 0 {
-                return Status::SomeFail;
-            }
-            is_judged = is_judged && unjudged == 0 && !file.points.is_empty();
-        }
-        if is_judged {
-            Status::AllHold
-        } else {
-            Status::NotJudged
-        }
+        status_by(&self.files, self.mode == Mode::Test || !self.is_cut())
     }
 
     /// Whether of some file not all orders were tried or seen.

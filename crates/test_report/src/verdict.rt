@@ -58,7 +58,7 @@ impl Verdict {
 
 /// How far was looked.
 #[derive(Clone, Copy, Debug)]
-pub enum Reach {
+pub enum Extent {
     /// At what a file has: its lines, or what is wrong with it.
     Lines,
     /// At all orders, which was asked for.
@@ -84,24 +84,24 @@ pub enum Reach {
 }
 
 /// `all orders: 1,284`, or `1,000 orders of unknown many, seed 0`.
-impl fmt::Display for Reach {
+impl fmt::Display for Extent {
     fn fmt<W: fmt::Write>(&self, f: &mut fmt::Formatter<W>) -> fmt::Result {
         match self {
-            Reach::Lines => Ok(()),
-            Reach::Explored => write!(f, "all orders"),
-            Reach::All(orders) => {
+            Extent::Lines => Ok(()),
+            Extent::Explored => write!(f, "all orders"),
+            Extent::All(orders) => {
                 write!(f, "all orders")?;
                 match orders.many() {
                     Some(many) => write!(f, ": {}", Grouped(many)),
                     None => Ok(()),
                 }
             }
-            Reach::Tried { orders, seed, cut } => {
+            Extent::Tried { orders, seed, cut } => {
                 let many = Grouped(u128::from(*orders));
                 write!(f, "{many} orders of unknown many, seed {seed}")?;
                 write_cut(f, *cut)
             }
-            Reach::Runs { runs, cut } => {
+            Extent::Runs { runs, cut } => {
                 write!(f, "{} runs on threads", Grouped(u128::from(*runs)))?;
                 write_cut(f, *cut)
             }
@@ -125,7 +125,7 @@ fn write_cut<W: fmt::Write>(f: &mut fmt::Formatter<W>, cut: u64) -> fmt::Result 
 #[derive(Clone, Copy)]
 pub(crate) struct Said<'a> {
     pub(crate) verdict: &'a Verdict,
-    pub(crate) reach: Reach,
+    pub(crate) reach: Extent,
     /// One order is asked for, and not each.
     pub(crate) is_some: bool,
 }
@@ -138,23 +138,23 @@ impl fmt::Display for Said<'_> {
             Verdict::Vacuous(missing) => {
                 write!(f, ": vacuous: no step is '{}'", missing.said)?;
                 match self.reach {
-                    Reach::Tried { orders, .. } => {
+                    Extent::Tried { orders, .. } => {
                         write!(f, " in the {} orders tried", Grouped(u128::from(orders)))?;
                     }
-                    Reach::Runs { runs, .. } => {
+                    Extent::Runs { runs, .. } => {
                         write!(f, " in the {} runs", Grouped(u128::from(runs)))?;
                     }
-                    Reach::Lines | Reach::Explored | Reach::All(_) => {}
+                    Extent::Lines | Extent::Explored | Extent::All(_) => {}
                 }
                 write!(f, "{missing}")
             }
             Verdict::NoEnd => {
                 write!(f, ": no order ends")?;
                 match self.reach {
-                    Reach::Tried { orders: cut, .. } | Reach::Runs { runs: cut, .. } => {
+                    Extent::Tried { orders: cut, .. } | Extent::Runs { runs: cut, .. } => {
                         write!(f, ": the limit cut off all {}", Grouped(u128::from(cut)))
                     }
-                    Reach::Lines | Reach::Explored | Reach::All(_) => Ok(()),
+                    Extent::Lines | Extent::Explored | Extent::All(_) => Ok(()),
                 }
             }
             Verdict::Misfit(misfit) => write_misfit(f, *misfit),
@@ -173,8 +173,8 @@ impl Said<'_> {
     ) -> fmt::Result {
         let reach = self.reach;
         match (reach, of_each) {
-            (Reach::Lines, _) => Ok(()),
-            (Reach::Explored, false) => write!(f, ": {found}"),
+            (Extent::Lines, _) => Ok(()),
+            (Extent::Explored, false) => write!(f, ": {found}"),
             (_, true) => write!(f, ": {found} in {reach}"),
             (_, false) => write!(f, ": {found} in some of {reach}"),
         }

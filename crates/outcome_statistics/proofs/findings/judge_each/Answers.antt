@@ -13,8 +13,8 @@ loop-i-preserved c =
     let at = c.loop-i in
     let many : length at.judged ≡ length c.args.conditions.now = at.invariant.0 ∙ c.requires in
     let below = c.loop-i-test.true in
-    let d : Judged = record { tally = record { holding = 0; failing = 0; first = None }; is_met = false } in
-    let v : Judged = record { tally = c.judge.new.tally; is_met = c.if-of_it.of_it } in (
+    let d : Judged = record { tally = record { holding = 0; failing = 0; first = None }; met = record { first = false; second = false } } in
+    let v : Judged = record { tally = c.judge.new.tally; met = c.see.new.self } in (
       length-set at.judged at.i v ∙ at.invariant.0,
       (λ tried x number events end each.
           let Q : Condition → Type 0 = λ r. Tells (IsSo (Some r.rule)) tried (get_or at.judged at.i d).tally → Tells (IsSo (Some r.rule)) (x ∷ tried) c.judge.new.tally in

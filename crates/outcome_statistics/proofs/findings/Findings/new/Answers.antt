@@ -8,7 +8,7 @@ use Rattle.outcome_statistics.proofs.findings.Findings.new.Goals as goal
 
 pub returns : goal.returns
 returns c asked many =
-    let blank : Judged = record { tally = c.new.result; is_met = false } in
+    let blank : Judged = record { tally = c.new.result; met = c.none.result } in
     let n : ℕ = c.args.conditions in
     let items : c.in_ok-vec.field-0.items ≡ replicate n blank = c.in_ok-vec.ensures.items_if_clones_equal (λ y is. is) in
     let size : length c.in_ok-vec.field-0.items ≡ n = ap (λ (xs : List Judged). length xs) items ∙ length-replicate n blank in

@@ -1,0 +1,32 @@
+-- What is found of all points together: nothing that wasn't judged is a success (profile).
+use Rattle.std.specs.Prelude.{◌≡◌, ◌≢◌, ℕ, List, [], slice_get, Some}
+use Rattle.test_report.specs.declared.point.Point.{Point}
+use Rattle.test_report.specs.declared.report.FileReport.{FileReport}
+use Rattle.test_report.specs.declared.verdict.Verdict.{Verdict}
+use Rattle.test_report.specs.declared.verdict.Verdict.TheVariants.{Holds, Fails, Vacuous, NoEnd, Misfit, NotJudged}
+
+-- something is wrong: it doesn't hold, says nothing, or can't be meant
+abbrev pub IsFailing : Verdict → Type 0
+IsFailing Holds = ⊥
+IsFailing Fails = Unit {0}
+IsFailing (Vacuous missing) = Unit {0}
+IsFailing NoEnd = Unit {0}
+IsFailing (Misfit misfit) = Unit {0}
+IsFailing (NotJudged why) = ⊥
+
+-- One of these points fails.
+abbrev pub HasFailing : List Point → Type 0
+HasFailing points = (k : ℕ) × (point : Point) × (slice_get points k ≡ Some point) × IsFailing point.verdict
+
+-- A point of some file does.
+abbrev pub SomeFails : List FileReport → Type 0
+SomeFails files = (k : ℕ) × (file : FileReport) × (slice_get files k ≡ Some file) × HasFailing file.points.items
+
+-- There are points, and each holds.
+pub record EachPointHolds (points : List Point) : Type 0 where
+  pub some : points ≢ []
+  pub each : (k : ℕ) (point : Point) → slice_get points k ≡ Some point → point.verdict ≡ Holds
+
+-- Each file has points, of which each holds.
+abbrev pub EachHolds : List FileReport → Type 0
+EachHolds files = (k : ℕ) (file : FileReport) → slice_get files k ≡ Some file → EachPointHolds file.points.items

@@ -1,0 +1,104 @@
+//! What is found of all points together.
+ghost use Rattle.std.specs.Prelude.{◌≡◌, ◌↔◌, true};
+ghost use Rattle.test_report.specs.Statuses.{EachHolds, EachPointHolds, HasFailing, IsFailing, SomeFails};
+ghost use Rattle.test_report.specs.declared.status.Status.TheVariants.{AllHold, SomeFail};
+ghost use Rattle.test_report.specs.declared.verdict.Verdict.TheVariants.{Holds};
+
+use crate::point::Point;
+use crate::report::FileReport;
+use crate::verdict::Verdict;
+
+/// What is found of all points together.
+#[derive(Clone, Copy, Debug, PartialEq, Eq)]
+pub enum Status {
+    /// Each holds.
+    AllHold,
+    /// Some fail.
+    SomeFail,
+    /// None fails, and not all was judged or seen.
+    NotJudged,
+}
+
+/// What is found of the points of all files, where all orders were seen that were asked for, or weren't.
+pub fn status_by(files: &[FileReport], are_seen: bool) -> Status
+    ensures fails { (result ≡ SomeFail) ↔ SomeFails files.now }
+    ensures seen { result ≡ AllHold → are_seen ≡ true }
+    ensures holds { result ≡ AllHold → EachHolds files.now }
+{
+    if some_fails(files) {
+        return Status::SomeFail;
+    }
+    if are_seen && each_holds(files) {
+        Status::AllHold
+    } else {
+        Status::NotJudged
+    }
+}
+
+/// Whether a point of some file fails.
+fn some_fails(files: &[FileReport]) -> bool
+    ensures { (result ≡ true) ↔ SomeFails files.now }
+{
+    for file in files {
+        if has_failing(&file.points) {
+            return true;
+        }
+    }
+    false
+}
+
+/// Whether one of these points fails.
+fn has_failing(points: &[Point]) -> bool
+    ensures { (result ≡ true) ↔ HasFailing points.now }
+{
+    for point in points {
+        if is_failing(&point.verdict) {
+            return true;
+        }
+    }
+    false
+}
+
+/// Whether each file has points, of which each holds.
+fn each_holds(files: &[FileReport]) -> bool
+    ensures { result ≡ true → EachHolds files.now }
+{
+    for file in files {
+        if !each_point_holds(&file.points) {
+            return false;
+        }
+    }
+    true
+}
+
+/// Whether there are points, and each holds.
+fn each_point_holds(points: &[Point]) -> bool
+    ensures { result ≡ true → EachPointHolds points.now }
+{
+    if points.is_empty() {
+        return false;
+    }
+    for point in points {
+        if !holds(&point.verdict) {
+            return false;
+        }
+    }
+    true
+}
+
+/// Whether a verdict says that something holds.
+fn holds(verdict: &Verdict) -> bool
+    ensures { (result ≡ true) ↔ (verdict.now ≡ Holds) }
+{
+    matches!(verdict, Verdict::Holds)
+}
+
+/// Whether a verdict says that something is wrong.
+fn is_failing(verdict: &Verdict) -> bool
+    ensures { (result ≡ true) ↔ IsFailing verdict.now }
+{
+    match verdict {
+        Verdict::Holds | Verdict::NotJudged(_) => false,
+        Verdict::Fails | Verdict::Vacuous(_) | Verdict::NoEnd | Verdict::Misfit(_) => true,
+    }
+}
