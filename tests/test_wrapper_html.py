@@ -100,7 +100,7 @@ class HtmlPages(Test):
             listed = rows(os.path.join(folder, "index.html"))
             failing = re.findall(r"^not ok \d+ - (.*)$", out, re.M)
             drawn = [it for it in listed if it[0]]
-            must(f"{words}: {listed}", [it[1] for it in listed] == failing and said == f"sbiboard: {folder}/index.html lists {len(listed)} points that fail, and draws {len(drawn)}\n")
+            must(f"{words}: {listed}", [it[1] for it in listed] == failing and said == f"sbiboard: {folder}/index.html lists the points that fail ({len(listed)}, and {len(drawn)} drawn)\n")
             must(f"{words}: {os.listdir(folder)}", sorted(os.listdir(folder)) == sorted([*(f"{it[0][0]}.html" for it in drawn), "index.html"]) and len(drawn) >= len(files))
             for page, point, *_ in drawn:
                 name = point.partition(":")[0]

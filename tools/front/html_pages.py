@@ -200,14 +200,14 @@ INDEX = """<!DOCTYPE html>
 <html lang="en">
 <head>
 <meta charset="utf-8">
-<title>sbiboard: {count} points fail</title>
+<title>sbiboard: points that fail</title>
 <style>
 body {{ font: 14px sans-serif; margin: 16px; color: #222; }}
 td, th {{ text-align: left; vertical-align: top; padding: 3px 14px 3px 0; border-bottom: 1px solid #ddd; }}
 </style>
 </head>
 <body>
-<h1>{count} points fail</h1>
+<h1>Points that fail: {count}</h1>
 <table>
 <tr><th>point<th>orders<th>record<th>drawn</tr>
 {rows}
@@ -253,4 +253,4 @@ def run_with_pages(program, words, given):
     except OSError as error:
         return 7, f"sbiboard: {error.filename or folder}: {error.strerror}\n"
     drawn = sum(name is not None for _, name, _, _ in pages.rows)
-    return status, f"sbiboard: {os.path.join(folder, 'index.html')} lists {len(points)} points that fail, and draws {drawn}\n"
+    return status, f"sbiboard: {os.path.join(folder, 'index.html')} lists the points that fail ({len(points)}, and {drawn} drawn)\n"
