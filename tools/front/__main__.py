@@ -125,6 +125,8 @@ def done_alone(option, words):
     if len(words) != bool(option.value) or option.choices and words[0] not in option.choices:
         wanted = " or ".join(option.choices) or ("a folder DIR" if option.value else "nothing else")
         raise usage.Fault(f"with --{option.name}, {wanted} is wanted", f"sbiboard {option}")
+    if option == INSTALL and os.path.exists(os.path.join(words[0], "crates.txt")):
+        raise usage.Fault("with --install, a folder DIR that is no clone is wanted", f"sbiboard {option}")
     if option == INSTALL:
         return installed(words[0])
     return printed(SHELLS[words[0]](ALL) if option == COMPLETIONS else man_page(ALL))

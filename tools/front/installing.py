@@ -17,13 +17,14 @@ NEEDED = ("timeline", "timeline.html")
 
 def install(folder):
     """Copies the programs, which are built first where that is needed. Where SBIBOARD_PROGRAM names one, nothing is built."""
+    # (what can't be a folder isn't worth a build)
+    os.makedirs(folder, exist_ok=True)
     program, tester = os.environ.get("SBIBOARD_PROGRAM") or program_of(PROGRAM), program_of(TESTER)
     for crate, task in ((PROGRAM, "run"), (TESTER, "test")):
         if program == program_of(PROGRAM) and not is_current(program_of(crate), crate):
             build(crate, task)
     if not (os.path.isfile(program) and os.access(program, os.X_OK)):
         raise NotBuilt(f"there is no program to install: {program}")
-    os.makedirs(folder, exist_ok=True)
     put(program, os.path.join(folder, "sbiboard-program"))
     put(os.path.join(HERE, "launcher"), os.path.join(folder, "sbiboard"))
     copy = os.path.join(folder, "sbiboard-tester")
