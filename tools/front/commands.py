@@ -157,7 +157,7 @@ EXPLORE = Command(
 )  # fmt: skip
 
 # What `./sbiboard` knows.
-TRY = Option("try", "Do the task that follows at once, unproved, by the toolchain's checked run")
+TRY = Option("try", "Do the task that follows at once, unproved, in the toolchain's checked run")
 INSTALL = Option("install", "Build both programs and copy them to DIR, with a script that does all tasks without these sources", value="DIR")
 COMPLETIONS = Option("completions", "Print the completions for a shell, bash or fish", value="SHELL", choices=("bash", "fish"))
 MAN = Option("man", "Print the manual page")
