@@ -281,7 +281,7 @@ c tick 5
     def test_timelines__pages_have_their_data(self):
         """The page of a trace has of each step its lane, its time, its mark and its text; names and comments are text and nothing else."""
         wanted = Wanted(PAGE_TRACE)
-        for name in ("a.trace", 'a <b>"&amp;</title><script>.trace'.replace("/", "|")):
+        for name in ("a.trace", 'a <b>"&amp;</title><script>.trace'.replace("/", "|"), "@TEXTS@ @DATA@ @ABOUT@.trace"):
             page, _ = printed_by([TIMELINE, write(os.path.join(self.room, name), PAGE_TRACE)])
             parts = Parts(page)
             scripts = dict(parts.all_of("script"))

@@ -1,5 +1,6 @@
 """Why an answer is stale: which translation or fetched word it used, which step filled it, which step changed the tables or the
 memory since, and which fences were asked of whom. It follows the board of a course, beside the model of the board."""
+import contextlib
 import re
 from bisect import bisect_left
 
@@ -26,6 +27,28 @@ class Fenced:
 
     def __init__(self, place, hart, fence, asked):
         self.place, self.hart, self.fence, self.asked = place, hart, fence, asked
+
+
+class Use:
+    """A stale use of what a hart holds: its step, the hart, the operation, the item, and the step of the change (None: unknown)."""
+
+    def __init__(self, place, hart, op, item):
+        self.place, self.hart, self.op, self.item, self.changed = place, hart, op, item, None
+
+    def is_of_kind(self, fence):
+        """Whether a fence is one of what was used: FENCE.I of words, and others of translations."""
+        return (fence is None) == (self.item.kind == WORD)
+
+    def is_covered(self, fence):
+        return self.is_of_kind(fence) and (fence is None or covers(fence, self.item.what))
+
+    def note(self):
+        """Notes in the item from when to when it is known to be stale."""
+        pieces = self.item.stale
+        if pieces and pieces[-1][0] == self.changed:
+            pieces[-1][1] = self.place
+        else:
+            pieces.append([self.changed, self.place])
 
 
 class Causes:
@@ -83,97 +106,85 @@ class Causes:
         return f"step {place + 1}" + (f" ({line[0]}: {done})" if line else f" ({done})" if done else "")
 
     def cause(self, place, actor, op):
-        hart, used, told = self.board.harts[actor], self.board.used, []
+        hart, used = self.board.harts[actor], self.board.used
         if used and self.is_other(actor, op, used, place - 1)[0]:
-            numbered = (it for it in reversed(hart.tlb) if it[1] == used and is_in(op[1], it[1]))
-            return self.of_translation(place, actor, op, self.holdings.open[actor][TRANSLATION][next(numbered)[0]])
-        if op[0] == "fetch":
-            address = used[4] + op[1] - used[0] if used else op[1]
-            number = next(it[0] for it in reversed(hart.words) if it[1] == address)
-            return self.of_word(place, actor, self.holdings.open[actor][WORD][number])
-        return told, None, None
+            number = next(it[0] for it in reversed(hart.tlb) if it[1] == used and is_in(op[1], it[1]))
+            use = Use(place, actor, op, self.holdings.open[actor][TRANSLATION][number])
+            return self.of_translation(use)
+        address = used[4] + op[1] - used[0] if used else op[1]
+        number = next(it[0] for it in reversed(hart.words) if it[1] == address)
+        return self.of_word(Use(place, actor, op, self.holdings.open[actor][WORD][number]))
 
     def is_other(self, h, op, entry, place):
         """Whether a walk behind this step wouldn't give an entry; the words that it read, and what it gave (None: a fault)."""
-        past, satp = Past(self.memory, place), self.holdings.satp_at(h, place)[1]
-        self.walker.ram, gives = past, None
+        past, satp, gives = Past(self.memory, place), self.holdings.satp_at(h, place)[1], None
+        self.walker.ram = past
         if not satp:
             return False, (), None
         is_other = self.walker.is_other(satp, op[0], op[1], entry)
-        try:
+        with contextlib.suppress(Fault):
             gives = self.walker.walk(satp, op[0], op[1])
-        except Fault:
-            pass
         return is_other, past.read, gives
 
-    def change_of_translation(self, h, op, item, place):
+    def of_translation(self, use):
+        gives = self.is_other(use.hart, use.op, use.item.what, use.place - 1)[2]
+        use.changed = self.change_of_translation(use)
+        now = f"the tables give {spelled_entry(gives)}" if gives else "the tables give no translation"
+        return self.told(use, f"used: hart {use.hart}'s translation {use.item.text}", now)
+
+    def change_of_translation(self, use):
         """The step that changed what a walk gives, the last before this one."""
-        at = place - 1
+        at, entry = use.place - 1, use.item.what
         for _ in range(MOST_CHANGES):
-            read = self.is_other(h, op, item.what, at)[1]
-            changes = [self.memory.last(it, at)[0] for it in read] + [self.holdings.satp_at(h, at)[0]]
-            at = max((it for it in changes if it is not None and it > item.begin), default=None)
-            if at is None or not self.is_other(h, op, item.what, at - 1)[0]:
+            read = self.is_other(use.hart, use.op, entry, at)[1]
+            changes = [self.memory.last(it, at)[0] for it in read] + [self.holdings.satp_at(use.hart, at)[0]]
+            at = max((it for it in changes if it is not None and it > use.item.begin), default=None)
+            if at is None or not self.is_other(use.hart, use.op, entry, at - 1)[0]:
                 return at
             at -= 1
         return None
 
-    def of_translation(self, place, h, op, item):
-        gives = self.is_other(h, op, item.what, place - 1)[2]
-        changed = self.change_of_translation(h, op, item, place)
-        now = f"the tables give {spelled_entry(gives)}" if gives else "the tables give no translation"
-        told = [(f"used: hart {h}'s translation {item.text}, filled by {self.step(item.begin)}", item.begin), self.since(now, changed)]
-        return self.ended(told, place, h, item, changed, lambda it: it is not None, lambda it: covers(it, item.what))
+    def of_word(self, use):
+        address, word = use.item.what
+        at = self.memory.last(address, use.place - 1)[0]
+        while at is not None and at > use.item.begin and self.memory.last(address, at - 1)[1] != word:
+            at = self.memory.last(address, at - 1)[0]
+        use.changed = at if at is not None and at > use.item.begin else None
+        now = self.memory.last(address, use.place - 1)[1]
+        return self.told(use, f"used: hart {use.hart}'s fetched word {use.item.text}", f"memory has {now:#x}")
 
-    def of_word(self, place, h, item):
-        address, word = item.what
-        at, changed = place - 1, None
-        now = self.memory.last(address, at)[1]
-        while changed is None:
-            changed = self.memory.last(address, at)[0]
-            if changed is None or changed <= item.begin:
-                changed = None
-                break
-            if self.memory.last(address, changed - 1)[1] != word:
-                at, changed = changed - 1, None
-        told = [(f"used: hart {h}'s fetched word {item.text}, filled by {self.step(item.begin)}", item.begin), self.since(f"memory has {now:#x}", changed)]
-        return self.ended(told, place, h, item, changed, lambda it: it is None, lambda it: True)
-
-    def since(self, now, changed):
-        return (f"but {now}" + ("" if changed is None else f", since {self.step(changed)}"), changed)
-
-    def ended(self, told, place, h, item, changed, is_kind, is_covering):
-        """The cause, with what is told of the fences since the change, and the piece of the item's life that is known to be stale."""
-        if changed is not None:
-            if item.stale and item.stale[-1][0] == changed:
-                item.stale[-1][1] = place
-            else:
-                item.stale.append([changed, place])
-            told += self.fences_told(place, h, changed, is_kind, is_covering)
-        return told, item.begin, changed
+    def told(self, use, used, now):
+        """The cause of a use. The piece of the item's life that is known to be stale is noted there."""
+        since = "" if use.changed is None else f", since {self.step(use.changed)}"
+        told = [(f"{used}, filled by {self.step(use.item.begin)}", use.item.begin), (f"but {now}{since}", use.changed)]
+        if use.changed is not None:
+            use.note()
+            told += self.fences_told(use)
+        return told, use.item.begin, use.changed
 
     # ---- fences
 
-    def fences_told(self, place, h, changed, is_kind, is_covering):
-        first = bisect_left(self.fences, changed, key=lambda it: it.place)
-        since = [it for it in self.fences[first:] if is_kind(it.fence)]
-        told = [(self.fence_told(it, h, is_covering(it.fence)), it.place) for it in since[-MOST_FENCES:]]
+    def fences_told(self, use):
+        first = bisect_left(self.fences, use.changed, key=lambda it: it.place)
+        since = [it for it in self.fences[first:] if use.is_of_kind(it.fence)]
+        told = [(self.fence_told(it, use), it.place) for it in since[-MOST_FENCES:]]
         if len(since) > MOST_FENCES:
             told.insert(0, (f"{len(since) - MOST_FENCES} more fences since then", None))
         if since:
             return told
-        before = next((it for it in reversed(self.fences[:first]) if is_kind(it.fence) and is_covering(it.fence) and it.asked and h in it.asked), None)
+        before = next((it for it in reversed(self.fences[:first]) if it.asked and use.hart in it.asked and use.is_covered(it.fence)), None)
         if before:
-            return [(f"no fence was asked since; {self.step(before.place)} asked hart {h} before the change", before.place)]
+            return [(f"no fence was asked since; {self.step(before.place)} asked hart {use.hart} before the change", before.place)]
         return [("no fence was asked since", None)]
 
-    def fence_told(self, it, h, does_cover):
+    def fence_told(self, it, use):
         """What a fence that came after the change did to this hart."""
         what = f"{self.step(it.place)}, {spelled_fence(it.fence)}"
         if it.asked is None:
-            return f"{what}: hart {it.hart}'s own, " + ("which does not cover it" if it.hart == h else f"not hart {h}'s")
+            return f"{what}: hart {it.hart}'s own, " + ("which does not cover it" if it.hart == use.hart else f"not hart {use.hart}'s")
         asked = "nobody" if not it.asked else ("hart " if len(it.asked) == 1 else "harts ") + ", ".join(map(str, sorted(it.asked)))
-        if h not in it.asked:
-            return f"{what}: asked {asked}, not hart {h}"
-        waits = any(one.begin == it.place for one in self.holdings.open[h][FENCE])
-        return f"{what}: asked {asked}; " + (f"it waits at hart {h}, not served yet" if waits else "it does not cover this" if not does_cover else "it was served")
+        if use.hart not in it.asked:
+            return f"{what}: asked {asked}, not hart {use.hart}"
+        waits = any(one.begin == it.place for one in self.holdings.open[use.hart][FENCE])
+        end = f"it waits at hart {use.hart}, not served yet" if waits else "it was served" if use.is_covered(it.fence) else "it does not cover this"
+        return f"{what}: asked {asked}; {end}"

@@ -2,6 +2,7 @@
 import html
 import json
 import os
+import re
 from collections import defaultdict
 
 from board_model import STATES
@@ -81,8 +82,5 @@ def page(courses, titles, name, about="", at=None):
     # (neither `</script` nor `<!--<script` may stand in a script)
     texts = "\n".join(text for course in courses for text in course.texts).replace("\\", "\\\\").replace("</", "<\\/").replace("<!", "<\\!")
     data = json.dumps(data, separators=(",", ":")).replace("<", "\\u003c")
-    parts = {"@TITLE@": html.escape(name), "@ABOUT@": html.escape(about), "@DATA@": data, "@TEXTS@": texts}
-    for mark, text in parts.items():
-        before, _, behind = template.partition(mark)
-        template = before + text + behind if mark != "@TITLE@" else template.replace(mark, text)
-    return template
+    parts = {"TITLE": html.escape(name), "ABOUT": html.escape(about), "DATA": data, "TEXTS": texts}
+    return re.sub("@(TITLE|ABOUT|DATA|TEXTS)@", lambda found: parts[found[1]], template)
