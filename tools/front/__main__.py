@@ -17,7 +17,6 @@ from builds import NotBuilt, build, is_current, program_of
 from checked_run import run_unproved
 from commands import ALL, ALONE, COMPLETIONS, HELP, HTML, INSTALL, IS_INSTALLED, KNOWN, PROGRAM, TESTER, VERSION, version
 from completions import SHELLS
-from html_pages import run_with_pages
 from installing import install
 from kinds import kind_of, why_unread
 from man_page import man_page
@@ -92,6 +91,9 @@ def done(words):
         if not is_tried:
             build(command.program, command.word)
     if HTML.name in given:
+        # (what draws is of use here alone)
+        from html_pages import run_with_pages
+
         task = lambda made: ended(*run_with_pages(made, [*own, *rest], given))
     else:
         task = lambda made: subprocess.run(call, executable=made, check=False).returncode

@@ -11,8 +11,15 @@ import sys
 import tempfile
 
 from commands import HTML
+from kinds import kind_of_text
 
 TOOLS = os.path.dirname(os.path.dirname(os.path.realpath(__file__)))
+sys.path.append(TOOLS)
+
+from course import Course, of_script, read_file  # noqa: E402
+from page import page  # noqa: E402
+from passing import Failing, near  # noqa: E402
+
 # By this a page is known for one of an earlier run, which is taken away.
 MARK = '<meta name="generator" content="sbiboard --html">'
 HEAD = '<meta charset="utf-8">\n'
@@ -84,7 +91,6 @@ class Pages:
     """The pages of one run in a folder."""
 
     def __init__(self, program, folder):
-        sys.path.insert(0, TOOLS)
         self.program, self.folder, self.rows, self.names = program, folder, [], {"index"}
 
     def write(self, points):
@@ -101,18 +107,15 @@ class Pages:
 
     def page_of(self, point, is_replaced):
         """The name of a point's page and the step at which it opens, and what is said of it; without a page no name."""
-        import course
-        from page import page
-
         # (a trace that differs is drawn itself, with its own answers)
         record = point.details.get("record") or (point.file if "differing" in point.details else None)
         if is_replaced or not is_file(record):
             return None, None, "its record was replaced by that of a point below" if is_replaced else NO_RECORD
         failing = self.failing(point, record)
-        board, steps, states, _ = course.read_file(record, None)
+        board, steps, states, _ = read_file(record, None)
         if failing:
             steps = self.with_lines(steps, failing, point.file)
-        courses, titles, said = [course.Course(board, steps, states)], [f"fails: {os.path.basename(record)}"], ""
+        courses, titles, said = [Course(board, steps, states)], [f"fails: {os.path.basename(record)}"], ""
         passing = failing and self.passing(point, failing)
         if passing:
             courses.append(self.course_of(passing, failing, point.file))
@@ -127,12 +130,9 @@ class Pages:
 
     def course_of(self, order, failing, file):
         """The course of an order of a program."""
-        import course
-        import passing
-
         trace = order.trace(failing.board_line, [])
-        board, steps, _, _ = course.of_script(trace.encode())
-        return course.Course(board, self.with_lines(steps, passing.Failing(read(file), trace, 0), file), {})
+        board, steps, _, _ = of_script(trace.encode())
+        return Course(board, self.with_lines(steps, Failing(read(file), trace, 0), file), {})
 
     def with_lines(self, steps, followed, file):
         """Steps of an order, each with its line of the program."""
@@ -150,21 +150,16 @@ class Pages:
 
     def failing(self, point, record):
         """The order of a point's program that fails; None: it is none of a program that is at hand."""
-        import passing
-        from kinds import kind_of_text
-
         if record == point.file or not is_file(point.file):
             return None
         text = read(point.file)
-        return passing.Failing(text, read(record), point.details.get("place", 0)) if kind_of_text(text.encode("latin-1")) == "program" else None
+        return Failing(text, read(record), point.details.get("place", 0)) if kind_of_text(text.encode("latin-1")) == "program" else None
 
     def passing(self, point, failing):
         """An order of the point's program that passes, near the one that fails."""
-        import passing
-
         lines = [it.strip() for it in read(point.file).splitlines()]
         conditions = [it for at, it in enumerate(lines) if it.startswith("#!") and not (at == 0 and it.startswith("#!/"))]
-        return passing.near(failing, conditions, lines[point.line - 1] if point.line else None, self.judge)
+        return near(failing, conditions, lines[point.line - 1] if point.line else None, self.judge)
 
     def judge(self, traces):
         """Of each trace the places of the conditions at its top that it breaks; None of one with which the board doesn't agree."""
