@@ -1,4 +1,5 @@
 """`--html DIR` of the script: a page for each point that fails, with its order and one that passes, and a page that lists them."""
+import glob
 import html
 import json
 import os
@@ -130,6 +131,19 @@ class HtmlPages(Test):
         must("pages", sorted(os.listdir(os.path.join(self.work, "pages"))) == ["a.sched.failed.html", "index.html", "own.html"])
         must_end(self.called("test", "good.sched", "--html", "pages"), *good)
         must("older pages", os.listdir(os.path.join(self.work, "pages")) == ["own.html"])
+
+    def test_html__points_that_are_cut_off(self):
+        """Where a run ends before it has told all points, it isn't said that none fails, and no older page is left."""
+        self.called("test", "--html", "pages", "a.sched")
+        unread = [self.front, "test", "--html", "pages", "lost-wakeup.program"]
+        status, _, said = ran(self.room, ["bash", "-c", 'cd work; "$@" | true; exit "${PIPESTATUS[0]}"', "-", *unread], seconds=300)
+        told = put(os.path.join(self.room, "old/points"), "1..1\nnot ok 1 - a.sched: line 1: x\n")
+        os.chmod(os.path.dirname(told), 0o500)
+        os.chmod(told, 0o400)
+        # (root may write all files)
+        if os.getuid():
+            must("older points", "no page is written" in self.called("test", "--html", "pages", "--tap", told, "a.sched")[2])
+        must(f"{status} {said}", status != 0 and "no point fails" not in said and not glob.glob(os.path.join(self.work, "pages/*")))
 
     def test_html__names_and_texts_are_escaped(self):
         """Whatever a file is called, its page is found by the list, and no name is read as a page's own text. A trace that differs is drawn with its own answers."""

@@ -221,6 +221,11 @@ def take_away(folder):
             os.remove(path)
 
 
+def written_at(path):
+    """When a file was written last; None: there is none."""
+    return os.stat(path).st_mtime_ns if os.path.isfile(path) else None
+
+
 def run_with_pages(program, words, given):
     """Runs `test` or `explore` by its words, the first of which is its name, and draws what fails. Returns the status, and what
     is said."""
@@ -230,17 +235,21 @@ def run_with_pages(program, words, given):
     taps = given.get("tap", [])
     if taps and os.path.exists(taps[0]) and not os.path.isfile(taps[0]):
         return 7, f"sbiboard: {taps[0]}: not a file, from which --html could read the points\n"
-    with tempfile.TemporaryDirectory(prefix="sbiboard-points.") as room:
-        tap = taps[0] if taps else os.path.join(room, "tap")
-        name, *rest = taken_out(words)
-        call = [name, *([] if taps else ["--tap", tap]), *rest]
-        status = subprocess.run(call, executable=program, check=False).returncode
-        if status not in TOLD or not os.path.isfile(tap):
-            return status, ""
-        points = failing_points(read(tap).encode("latin-1").decode("utf-8", "surrogateescape"), given[""])
     try:
         if os.path.isdir(folder):
             take_away(folder)
+        with tempfile.TemporaryDirectory(prefix="sbiboard-points.") as room:
+            tap = taps[0] if taps else os.path.join(room, "tap")
+            (name, *rest), before = taken_out(words), written_at(tap)
+            status = subprocess.run([name, *([] if taps else ["--tap", tap]), *rest], executable=program, check=False).returncode
+            # (an older file of points says nothing of this run)
+            text = read(tap) if written_at(tap) != before else ""
+        if status not in TOLD:
+            return status, ""
+        # (the plan stands behind all points)
+        if not re.search(r"^1\.\.\d+$", text, re.M):
+            return status, "sbiboard: not all points were told, so no page is written\n"
+        points = failing_points(text.encode("latin-1").decode("utf-8", "surrogateescape"), given[""])
         if not points:
             return status, "sbiboard: no point fails, so no page is written\n"
         pages = Pages(program, folder)
