@@ -137,13 +137,14 @@ class HtmlPages(Test):
         self.called("test", "--html", "pages", "a.sched")
         unread = [self.front, "test", "--html", "pages", "lost-wakeup.program"]
         status, _, said = ran(self.room, ["bash", "-c", 'cd work; "$@" | true; exit "${PIPESTATUS[0]}"', "-", *unread], seconds=300)
-        told = put(os.path.join(self.room, "old/points"), "1..1\nnot ok 1 - a.sched: line 1: x\n")
-        os.chmod(os.path.dirname(told), 0o500)
-        os.chmod(told, 0o400)
-        # (root may write all files)
-        if os.getuid():
-            must("older points", "no page is written" in self.called("test", "--html", "pages", "--tap", told, "a.sched")[2])
         must(f"{status} {said}", status != 0 and "no point fails" not in said and not glob.glob(os.path.join(self.work, "pages/*")))
+
+    def test_html__older_points(self):
+        """A file of points that this run hasn't written isn't taken for its own."""
+        put(os.path.join(self.work, "points"), "not ok 1 - a.sched: line 1: x\n1..1\n")
+        put(os.path.join(self.room, "clone/crates/sbiboard_test/out/sbiboard_test"), "#!/bin/bash\nexit 1\n")
+        must_end(self.called("test", "--html", "pages", "--tap", "points", "a.sched"), 1, "", "sbiboard: not all points were told, so no page is written\n")
+        must("a page was written", not os.path.exists(os.path.join(self.work, "pages")))
 
     def test_html__names_and_texts_are_escaped(self):
         """Whatever a file is called, its page is found by the list, and no name is read as a page's own text. A trace that differs is drawn with its own answers."""
