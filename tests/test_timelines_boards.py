@@ -100,30 +100,52 @@ def must_show(course, fields, h, place, board):
 # ---- why an answer is stale, by looking at every earlier board
 
 
-def gives(board, h, satp, op, entry):
-    """Whether this board's memory gives an entry by a walk, for this access."""
-    return not board.is_other(satp, op[0], op[1], entry)
+def is_of_space(satp, entry):
+    return satp and (entry[3] or entry[2] == satp >> 44 & 0xFFFF)
+
+
+def is_other_at(boards, h, entry, filled, place):
+    """Whether a walk behind a step wouldn't give an entry: by the last satp that the hart wrote with its address space."""
+    satp = next(it.harts[h].satp for it in reversed(boards.behind[: place + 1]) if is_of_space(it.harts[h].satp, entry))
+    return boards.behind[place].is_other(satp, boards.steps[filled][1][0], entry[0], entry)
+
+
+def changed_at(filled, place, is_other):
+    """The first step of those up to this one behind which it is another one, and stays one."""
+    return max((at for at in range(filled, place + 1) if not is_other(at)), default=filled - 1) + 1
 
 
 def wanted_cause(boards, place):
     """The steps that filled and changed what a stale access used."""
     h, op = boards.steps[place]
-    before = boards.behind[place - 1]
-    hart = before.harts[h]
-    asid = hart.satp >> 44 & 0xFFFF
-    used = lambda board: next(((n, it) for n, it in reversed(board.harts[h].tlb) if hart.satp and is_in(op[1], it) and (it[3] or it[2] == asid)), None)
-    entry = used(before)
-    if entry and not gives(before, h, hart.satp, op, entry[1]):
-        filled = next(at for at, it in enumerate(boards.behind) if entry in it.harts[h].tlb)
-        satp_of = lambda at: next(it.harts[h].satp for it in boards.behind[at:] if it.harts[h].satp)
-        agreed = [at for at in range(filled, place) if gives(boards.behind[at], h, satp_of(at), op, entry[1])]
-        return filled, agreed[-1] + 1
+    hart = boards.behind[place - 1].harts[h]
+    used = lambda board: next(((n, it) for n, it in reversed(board.harts[h].tlb) if hart.satp and is_in(op[1], it) and is_of_space(hart.satp, it)), None)
+    entry = used(boards.behind[place - 1])
+    if entry:
+        filled = filled_at(boards, h, "tlb", entry)
+        if is_other_at(boards, h, entry[1], filled, place - 1):
+            return filled, changed_at(filled, place - 1, lambda at: is_other_at(boards, h, entry[1], filled, at))
     entry = used(boards.behind[place])
     address = entry[1][4] + op[1] - entry[1][0] if entry else op[1]
     word = next(it for it in reversed(hart.words) if it[1] == address)
-    filled = next(at for at, it in enumerate(boards.behind) if word in it.harts[h].words)
-    agreed = [at for at in range(filled, place) if boards.behind[at].ram.get(address, 0) == word[2]]
-    return filled, agreed[-1] + 1
+    filled = filled_at(boards, h, "words", word)
+    return filled, changed_at(filled, place - 1, lambda at: boards.behind[at].ram.get(address, 0) != word[2])
+
+
+def filled_at(boards, h, name, item):
+    return next(at for at, it in enumerate(boards.behind) if item in getattr(it.harts[h], name))
+
+
+def must_mark(course, boards, place):
+    """What each hart holds behind a step is marked as stale where it is."""
+    board = boards.behind[place]
+    for h, hart in enumerate(board.harts):
+        held = lambda kind: [it for it in course["held"][h] if it[0] == kind and it[1] <= place and (it[2] is None or it[2] > place)]
+        marked = lambda it: next((a for a, b in (it[4] if len(it) > 4 else ()) if a <= place and (b is None or place <= b)), None)
+        for kind, items in ((0, [it for _, it in hart.tlb]), (1, hart.words)):
+            for it, item in zip(held(kind), items):
+                is_other = is_other_at(boards, h, item, it[1], place) if kind == 0 else board.ram.get(item[1], 0) != item[2]
+                must(f"step {place + 1}, hart {h}: {it}, and stale is {is_other}", (marked(it) is not None) == is_other)
 
 
 def must_tell(course, boards):
@@ -179,6 +201,8 @@ class TimelineBoards(Test):
             course, boards = self.course_of(text), Boards(text)
             stale += len(boards.stale)
             must_tell(course, boards)
+            for place in range(0, len(boards.behind), 3):
+                must_mark(course, boards, place)
         must(f"{stale} stale steps", stale > 10 * RANDOM)
 
     def test_timelines__what_is_told_of_fences(self):
@@ -248,7 +272,7 @@ class TimelinesBeside(Test):
         shown = json.loads(printed_by(["node", DRAWN, path, "1400", "700", "20"])[0])
         must(f"{shown['tops']}", [len(it) for it in shown["tops"]] == [4, 4] and shown["tops"][1][0] > shown["tops"][0][-1] + 26)
         stale = [text for kind, text in shown["board"][2] if kind == "stale"]
-        must(f"{shown['board']}", [it[0][1] for it in shown["board"]] == ["hart 0", "hart 1", "hart 2"] and stale == ["translation 0x1000 to 0x80004000 rw-d (ASID 5), filled at step 14, STALE"])
+        must(f"{shown['board']}", [it[0][1] for it in shown["board"]] == ["hart 0", "hart 1", "hart 2"] and stale == ["translation 0x1000 to 0x80004000 rw-d (ASID 5), filled at step 14, STALE since step 15"])
         must(f"{shown['why']}", len(shown["why"]) == 4 and shown["why"][2].endswith("asked hart 1, not hart 2") and shown["why"][3].startswith("beside: 21  2 load 0x1000 -> value 0x22"))
         asked = json.loads(printed_by(["node", DRAWN, path, "1400", "700", "16"])[0])["board"]
         must(f"{asked}", ["new", "fence from hart 0: sfence.vma of 0x1000 to 0x1fff, asked at step 16"] in asked[1] and ["new", "in a fence call, waits for: 1"] in asked[0])

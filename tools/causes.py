@@ -1,25 +1,27 @@
-"""Why an answer is stale: which translation or fetched word it used, which step filled it, which step changed the tables or the
-memory since, and which fences were asked of whom. It follows the board of a course, beside the model of the board."""
+"""What is stale of what harts hold, from step to step, and why an answer is: which translation or fetched word it used, which step
+filled it, which step changed the tables or the memory since, and which fences were asked of whom. It follows the board of a
+course, beside the model of the board."""
 import contextlib
 import re
 from bisect import bisect_left
+from collections import defaultdict
 
-from board_model import RFENCE, WAITING, Board, Fault, covers, is_full, is_in, is_valid, targets
-from holdings import FENCE, TRANSLATION, WORD, Memory, spelled_entry, spelled_fence
+from board_model import DONE, GONE, RFENCE, WAITING, Board, Fault, covers, is_full, is_in, is_valid, targets
+from holdings import FENCE, TRANSLATION, WORD, spelled_entry, spelled_fence
 
-# How many changes are undone, and how many fences are told.
-MOST_CHANGES, MOST_FENCES = 1_000, 4
+# How many fences are told.
+MOST_FENCES = 4
 
 
-class Past:
-    """The memory behind a step, which notes what is read."""
+class Noted:
+    """A memory that notes what is read."""
 
-    def __init__(self, memory, place):
-        self.memory, self.place, self.read = memory, place, []
+    def __init__(self, words):
+        self.words, self.read = words, set()
 
     def get(self, address, _=0):
-        self.read.append(address)
-        return self.memory.last(address, self.place)[1]
+        self.read.add(address)
+        return self.words.get(address, 0)
 
 
 class Fenced:
@@ -29,26 +31,23 @@ class Fenced:
         self.place, self.hart, self.fence, self.asked = place, hart, fence, asked
 
 
-class Use:
-    """A stale use of what a hart holds: its step, the hart, the operation, the item, and the step of the change (None: unknown)."""
+class Watched:
+    """A translation or a fetched word of a hart: for a translation also the access that filled it, and the satp by which a walk is
+    done: the last one that the hart wrote with its address space."""
 
-    def __init__(self, place, hart, op, item):
-        self.place, self.hart, self.op, self.item, self.changed = place, hart, op, item, None
+    def __init__(self, item, hart, op, satp):
+        self.item, self.hart, self.op, self.satp = item, hart, op, satp
 
     def is_of_kind(self, fence):
-        """Whether a fence is one of what was used: FENCE.I of words, and others of translations."""
+        """Whether a fence is one of what is held: FENCE.I of words, and others of translations."""
         return (fence is None) == (self.item.kind == WORD)
 
     def is_covered(self, fence):
         return self.is_of_kind(fence) and (fence is None or covers(fence, self.item.what))
 
-    def note(self):
-        """Notes in the item from when to when it is known to be stale."""
-        pieces = self.item.stale
-        if pieces and pieces[-1][0] == self.changed:
-            pieces[-1][1] = self.place
-        else:
-            pieces.append([self.changed, self.place])
+    def has_space(self, satp):
+        """Whether satp's address space is that of the translation."""
+        return satp and (self.item.what[3] or self.item.what[2] == satp >> 44 & 0xFFFF)
 
 
 class Causes:
@@ -56,9 +55,11 @@ class Causes:
     that of the change. `reasons` has where each step comes from."""
 
     def __init__(self, board, holdings):
-        self.board, self.holdings, self.memory = board, holdings, Memory()
+        self.board, self.holdings, self.ram = board, holdings, {}
         self.fences, self.reasons, self.of = [], [], {}
-        # A board for walks in the memory of earlier steps.
+        # What is watched, by the words of memory that decide it, and by its item.
+        self.watched, self.of_item = defaultdict(list), {}
+        # A board for walks in the memory that is behind the last step.
         self.walker = Board(*board.config)
         self.walker.asids, self.walker.width = board.asids, board.width
 
@@ -66,18 +67,20 @@ class Causes:
         """Behind a step that isn't refused."""
         self.reasons.append((f"{'c' if actor is None else actor} {op[0]}", why))
         if self.board.is_stale:
-            self.of[place] = self.cause(place, actor, op)
-        if op[0] == "store" and answer == ("done",):
+            self.of[place] = self.cause(actor, op)
+        if op[0] in ("load", "store", "fetch"):
+            self.watch(place, actor, op)
+        if op[0] == "store" and answer == DONE:
             used = self.board.used
-            self.memory.write(place, used[4] + op[1] - used[0] if used else op[1], op[2])
+            self.write(place, used[4] + op[1] - used[0] if used else op[1], op[2])
+        elif op[0] == "satp":
+            self.judge_all(place, [it for it in self.held(actor) if it.item.kind == TRANSLATION and it.has_space(self.board.harts[actor].satp)])
         elif op[0] == "ecall" and op[1] == RFENCE and answer == WAITING:
             self.fences.append(Fenced(place, actor, *self.asked(actor, *op[2:])))
-        elif op[0] == "sfence":
-            self.fences.append(Fenced(place, actor, self.own(*op[1:]), None))
-        elif op[0] == "fencei":
-            self.fences.append(Fenced(place, actor, None, None))
-        elif answer == ("gone",) and not self.board.ram:
-            self.memory.clear(place)
+        elif op[0] in ("sfence", "fencei"):
+            self.fences.append(Fenced(place, actor, self.own(*op[1:]) if op[0] == "sfence" else None, None))
+        elif answer == GONE and not self.board.ram:
+            self.ram = {}
 
     def pass_over(self):
         """Behind one that is refused, or a cut."""
@@ -97,75 +100,74 @@ class Causes:
             span = (va, va + 1) if is_valid(va, self.board.width) else (0, 0)
         return span, None if asid is None else asid & self.board.asids
 
+    # ---- what is stale
+
+    def held(self, hart):
+        """What is watched of what a hart holds now."""
+        return [self.of_item[it] for kind in (TRANSLATION, WORD) for it in self.holdings.open[hart][kind].values()]
+
+    def watch(self, place, actor, op):
+        """Begins to watch what an access has filled."""
+        for it in self.holdings.items[actor][-2:]:
+            if it.begin == place and it.kind != FENCE:
+                made = self.of_item[it] = Watched(it, actor, op, self.board.harts[actor].satp)
+                self.judge_all(place, [made])
+
+    def write(self, place, address, value):
+        self.ram[address] = value
+        self.watched[address] = [it for it in self.watched[address] if it.item.end is None]
+        self.judge_all(place, list(self.watched[address]))
+
+    def judge_all(self, place, watched):
+        """Tells which of these are stale behind a step."""
+        for it in watched:
+            if it.item.kind == WORD:
+                address, word = it.item.what
+                read, is_other = {address}, self.ram.get(address, 0) != word
+            else:
+                it.satp = self.board.harts[it.hart].satp if it.has_space(self.board.harts[it.hart].satp) else it.satp
+                noted = self.walker.ram = Noted(self.ram)
+                is_other = self.walker.is_other(it.satp, it.op[0], it.item.what[0], it.item.what)
+                read = noted.read
+            it.item.turn(place, is_other)
+            for address in read:
+                if it not in self.watched[address]:
+                    self.watched[address].append(it)
+
     # ---- causes
 
     def step(self, place):
         """A step, as it is named in a text."""
-        done, why = self.reasons[place] if 0 <= place < len(self.reasons) else ("", "")
+        done, why = self.reasons[place]
         line = re.match(r"line \d+(?: to \d+)?", why)
-        return f"step {place + 1}" + (f" ({line[0]}: {done})" if line else f" ({done})" if done else "")
+        return f"step {place + 1}" + (f" ({line[0]}: {done})" if line else f" ({done})")
 
-    def cause(self, place, actor, op):
+    def cause(self, actor, op):
+        """Why the last step is stale, by what was so before it."""
         hart, used = self.board.harts[actor], self.board.used
-        if used and self.is_other(actor, op, used, place - 1)[0]:
+        if used:
             number = next(it[0] for it in reversed(hart.tlb) if it[1] == used and is_in(op[1], it[1]))
-            use = Use(place, actor, op, self.holdings.open[actor][TRANSLATION][number])
-            return self.of_translation(use)
+            item = self.holdings.open[actor][TRANSLATION][number]
+            if item.is_stale():
+                self.walker.ram, gives = self.ram, None
+                with contextlib.suppress(Fault):
+                    gives = self.walker.walk(hart.satp, op[0], op[1])
+                now = f"the tables give {spelled_entry(gives)}" if gives else "the tables give no translation"
+                return self.told(self.of_item[item], f"used: hart {actor}'s translation {item.text}", now)
         address = used[4] + op[1] - used[0] if used else op[1]
         number = next(it[0] for it in reversed(hart.words) if it[1] == address)
-        return self.of_word(Use(place, actor, op, self.holdings.open[actor][WORD][number]))
-
-    def is_other(self, h, op, entry, place):
-        """Whether a walk behind this step wouldn't give an entry; the words that it read, and what it gave (None: a fault)."""
-        past, satp, gives = Past(self.memory, place), self.holdings.satp_at(h, place)[1], None
-        self.walker.ram = past
-        if not satp:
-            return False, (), None
-        is_other = self.walker.is_other(satp, op[0], op[1], entry)
-        with contextlib.suppress(Fault):
-            gives = self.walker.walk(satp, op[0], op[1])
-        return is_other, past.read, gives
-
-    def of_translation(self, use):
-        gives = self.is_other(use.hart, use.op, use.item.what, use.place - 1)[2]
-        use.changed = self.change_of_translation(use)
-        now = f"the tables give {spelled_entry(gives)}" if gives else "the tables give no translation"
-        return self.told(use, f"used: hart {use.hart}'s translation {use.item.text}", now)
-
-    def change_of_translation(self, use):
-        """The step that changed what a walk gives, the last before this one."""
-        at, entry = use.place - 1, use.item.what
-        for _ in range(MOST_CHANGES):
-            read = self.is_other(use.hart, use.op, entry, at)[1]
-            changes = [self.memory.last(it, at)[0] for it in read] + [self.holdings.satp_at(use.hart, at)[0]]
-            at = max((it for it in changes if it is not None and it > use.item.begin), default=None)
-            if at is None or not self.is_other(use.hart, use.op, entry, at - 1)[0]:
-                return at
-            at -= 1
-        return None
-
-    def of_word(self, use):
-        address, word = use.item.what
-        at = self.memory.last(address, use.place - 1)[0]
-        while at is not None and at > use.item.begin and self.memory.last(address, at - 1)[1] != word:
-            at = self.memory.last(address, at - 1)[0]
-        use.changed = at if at is not None and at > use.item.begin else None
-        now = self.memory.last(address, use.place - 1)[1]
-        return self.told(use, f"used: hart {use.hart}'s fetched word {use.item.text}", f"memory has {now:#x}")
+        item = self.holdings.open[actor][WORD][number]
+        return self.told(self.of_item[item], f"used: hart {actor}'s fetched word {item.text}", f"memory has {self.ram.get(address, 0):#x}")
 
     def told(self, use, used, now):
-        """The cause of a use. The piece of the item's life that is known to be stale is noted there."""
-        since = "" if use.changed is None else f", since {self.step(use.changed)}"
-        told = [(f"{used}, filled by {self.step(use.item.begin)}", use.item.begin), (f"but {now}{since}", use.changed)]
-        if use.changed is not None:
-            use.note()
-            told += self.fences_told(use)
-        return told, use.item.begin, use.changed
+        filled, changed = use.item.begin, use.item.stale[-1][0]
+        told = [(f"{used}, filled by {self.step(filled)}", filled), (f"but {now}, since {self.step(changed)}", changed)]
+        return told + self.fences_told(use, changed), filled, changed
 
     # ---- fences
 
-    def fences_told(self, use):
-        first = bisect_left(self.fences, use.changed, key=lambda it: it.place)
+    def fences_told(self, use, changed):
+        first = bisect_left(self.fences, changed, key=lambda it: it.place)
         since = [it for it in self.fences[first:] if use.is_of_kind(it.fence)]
         told = [(self.fence_told(it, use), it.place) for it in since[-MOST_FENCES:]]
         if len(since) > MOST_FENCES:

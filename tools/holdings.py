@@ -1,7 +1,5 @@
 """What each hart of a board has at each step of a course: its registers as they change, and the translations, fetched words and
-fences that it holds, each from the step that brings it to the one that takes it away. And what memory had at each step."""
-from bisect import bisect_right
-
+fences that it holds, each from the step that brings it to the one that takes it away."""
 from board_model import RESUME_PENDING, START_PENDING, SUSPEND_PENDING, SUSPENDED
 
 # The kinds of what is held.
@@ -29,34 +27,21 @@ def spelled_fence(fence):
 
 class Item:
     """What a hart holds: its kind, the steps that brought it (-1: before the first) and took it away (None: never), what it is,
-    and the pieces of its life in which it was seen to be stale."""
+    and the pieces of its life in which it is stale: from a step to another one (None: to its end)."""
 
     def __init__(self, kind, begin, what, text):
         self.kind, self.begin, self.end, self.what, self.text = kind, begin, None, what, text
         self.stale = []
 
+    def is_stale(self):
+        return bool(self.stale) and self.stale[-1][1] is None
 
-class Memory:
-    """Every word that was written, with its step: what a word was behind any step."""
-
-    def __init__(self):
-        self.places, self.values, self.cleared = {}, {}, []
-
-    def write(self, place, address, value):
-        self.places.setdefault(address, []).append(place)
-        self.values.setdefault(address, []).append(value)
-
-    def clear(self, place):
-        self.cleared.append(place)
-
-    def last(self, address, place):
-        """The last step up to this one that wrote the word, and the word; None and 0 where none did."""
-        places = self.places.get(address, ())
-        at = bisect_right(places, place) - 1
-        cleared = bisect_right(self.cleared, place) - 1
-        if at < 0 or cleared >= 0 and self.cleared[cleared] > places[at]:
-            return None, 0
-        return places[at], self.values[address][at]
+    def turn(self, place, is_stale):
+        """From this step on it is stale, or it isn't."""
+        if is_stale and not self.is_stale():
+            self.stale.append([place, None])
+        elif self.is_stale() and not is_stale:
+            self.stale[-1][1] = place - 1
 
 
 class Holdings:
@@ -135,10 +120,3 @@ class Holdings:
         for caller, fence in now[len(before) - gone :]:
             held.append(Item(FENCE, place, (caller, fence), f"from hart {caller}: {spelled_fence(fence)}"))
             self.items[h].append(held[-1])
-
-    def satp_at(self, h, place):
-        """The step that wrote satp last, and its value; where it has none, as in a stretch without translation, the next one."""
-        series = self.values[h]["satp"]
-        at = bisect_right(series[::2], place) - 1
-        value = next((it for it in series[2 * at + 1 :: 2] if it != "0x0"), "0x0")
-        return series[2 * at], int(value, 16)
