@@ -8,7 +8,7 @@ from unittest import SkipTest
 
 from board_model import board_of, is_in, step_of, words_of
 
-from . import replays
+from . import replays, test_modes
 from .fixtures import EXAMPLES, Test, every, must, read, script, write
 from .test_timelines import DRAWN, TIMELINE, Parts, data_of, tool
 from .test_to_trace import printed_by
@@ -46,6 +46,13 @@ def some_line(of):
 def random_text(seed):
     of = random.Random(seed)
     return "\n".join([*start(), *(some_line(of) for _ in range(STEPS))]) + "\n"
+
+
+def of_modes(seed, width):
+    """A schedule with pages of all sizes, of either mode, and short ASIDs."""
+    some = random.Random(seed)
+    steps = [*test_modes.ENTRIES.split("|"), *(" ".join(it) for it in test_modes.SETUP), *(" ".join(it) for _ in range(300) for it in test_modes.random_step(some))]
+    return "\n".join([f"board 3 {test_modes.PAGES} 1000 0 0x80000000 0x0 {some.choice((16, 9, 1, 0))} {width}", *steps]) + "\n"
 
 
 class Boards:
@@ -197,7 +204,9 @@ class TimelineBoards(Test):
     def test_timelines__why_an_answer_is_stale(self):
         """Of a stale access the translation or word that it used, its fill, what changed since, and the fences, in random schedules too."""
         stale = 0
-        for text in [read(os.path.join(EXAMPLES, "forgotten-hart.sched")), read(os.path.join(EXAMPLES, "short-asid.sched")), *(random_text(seed) for seed in range(RANDOM))]:
+        texts = [read(os.path.join(EXAMPLES, name)) for name in ("forgotten-hart.sched", "short-asid.sched")]
+        texts += [*(random_text(seed) for seed in range(RANDOM)), *(of_modes(seed, width) for seed in range(5) for width in (39, 48))]
+        for text in texts:
             course, boards = self.course_of(text), Boards(text)
             stale += len(boards.stale)
             must_tell(course, boards)
