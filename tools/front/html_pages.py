@@ -9,6 +9,7 @@ import re
 import subprocess
 import sys
 import tempfile
+from urllib.parse import quote
 
 from commands import HTML
 from kinds import kind_of_text
@@ -188,7 +189,7 @@ class Pages:
 
 
 def url_of(name):
-    return "".join(letter if re.match(r"[\w.-]", letter, re.A) else "".join(f"%{it:02x}" for it in letter.encode("utf-8", "surrogateescape")) for letter in name)
+    return quote(name.encode("utf-8", "surrogateescape"), safe="")
 
 
 INDEX = """<!DOCTYPE html>
