@@ -6,7 +6,7 @@ import re
 import shutil
 from unittest import SkipTest
 
-from board_model import board_of, is_in, step_of, words_of
+from board_model import WIDTHS, board_of, is_in, step_of, words_of
 
 from . import replays, test_modes
 from .fixtures import EXAMPLES, Test, every, must, read, script, write
@@ -205,7 +205,7 @@ class TimelineBoards(Test):
         """Of a stale access the translation or word that it used, its fill, what changed since, and the fences, in random schedules too."""
         stale = 0
         texts = [read(os.path.join(EXAMPLES, name)) for name in ("forgotten-hart.sched", "short-asid.sched")]
-        texts += [*(random_text(seed) for seed in range(RANDOM)), *(of_modes(seed, width) for seed in range(5) for width in (39, 48))]
+        texts += [*(random_text(seed) for seed in range(RANDOM)), *(of_modes(seed, width) for seed in range(5) for width in WIDTHS.values())]
         for text in texts:
             course, boards = self.course_of(text), Boards(text)
             stale += len(boards.stale)
