@@ -7,7 +7,7 @@ import re
 import shutil
 from urllib.parse import unquote
 
-from passing import Failing, near
+from passing import Failing, NoOrder, near
 from program_model import Program
 
 from . import judge
@@ -218,4 +218,6 @@ class NearOrders(Test):
         asked = []
         found = near(failing, ["#! never 0 wfi"], "#! never 0 wfi", lambda traces: asked.extend(traces) or [None if place % 2 == 0 else set() for place, _ in enumerate(traces)])
         must("the first that is good", found is not None and found.trace(failing.board_line, ["#! never 0 wfi"]) == asked[1])
+        with self.assertRaises(NoOrder):
+            Failing(text, record + "\n0 wfi -> done", 0)
         must("none is good", near(failing, ["#! never 0 wfi"], "#! never 0 wfi", lambda traces: [{0} for _ in traces]) is None)

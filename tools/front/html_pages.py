@@ -19,7 +19,7 @@ sys.path.append(TOOLS)
 
 from course import Course, of_script, read_file  # noqa: E402
 from page import page  # noqa: E402
-from passing import Failing, near  # noqa: E402
+from passing import Failing, NoOrder, near  # noqa: E402
 
 # By this a page is known for one of an earlier run, which is taken away.
 MARK = '<meta name="generator" content="sbiboard --html">'
@@ -154,7 +154,12 @@ class Pages:
         if record == point.file or not is_file(point.file):
             return None
         text = read(point.file)
-        return Failing(text, read(record), point.details.get("place", 0)) if kind_of_text(text.encode("latin-1")) == "program" else None
+        if kind_of_text(text.encode("latin-1")) != "program":
+            return None
+        # (a file that has changed meanwhile has no such order)
+        with contextlib.suppress(NoOrder):
+            return Failing(text, read(record), point.details.get("place", 0))
+        return None
 
     def passing(self, point, failing):
         """An order of the point's program that passes, near the one that fails."""
