@@ -259,6 +259,7 @@ c tick 5
         must(f"the arrows are {found}, the resets {data['resets']}", found == wanted and data["resets"] == [19])
         must(f"the times of the steps are {data['clock']}", data["clock"][:13] == [0] * 13 and data["clock"][13:] == [5] * 8)
         seen = data_of(tool([TIMELINE, script(self.room, text.replace("1 ecall 0x48534d 3 0 0\n1 advance\n0 ecall", "0 ecall", 1).encode())])[0])[0]
+        must("leading zeros", len(data_of(tool([TIMELINE, script(self.room, b"board 01 0x01 009 00 0x80000000 0\n00 advance\n0x00 sie 002\n")])[0])[1]) == 2)
         must("a call without arguments", len(data_of(tool([TIMELINE, script(self.room, b"board 1 1 9 0 0x80000000 0\n0 advance\n0 ecall 0x735049 0\n0 ecall 0x48534d 0\n")])[0])[1]) == 3)
         must(f"an IPI to a hart that is awake has the arrows {seen['arrows']}", [data["kinds"][arrow[4]] for arrow in seen["arrows"]][:2] == ["start", "ssip"])
         must(f"a reset leaves hart 1's lane as {data['segments'][1]}", data["names"][data["segments"][1][-1][2]] == "STOPPED" and data["segments"][1][-1][:2] == [20, 21])
