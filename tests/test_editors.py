@@ -128,6 +128,28 @@ def kind_of_scope(scope):
     kind = scope.split(".")[-2]
     return {"numeric": "number"}.get(kind, kind)
 
+    def test_the_commands_of_the_page_of_editors(self):
+        """The page's lines for shells have a shell complete `./sbiboard`, and those for vim and VS Code put there what these look for."""
+        page = read(os.path.join(ROOT, "docs/EDITORS.md"))
+        in_bash, in_fish, manual = page.split("```\n")[1].splitlines()
+        in_vim, in_code = (next(line.strip() for line in page.splitlines() if line.startswith("    mkdir ") and it in line) for it in ("vim", "vscode"))
+        run = lambda shell, text: subprocess.run([*shell, text], stdin=subprocess.DEVNULL, capture_output=True, text=True, timeout=60, cwd=ROOT, env={**os.environ, "HOME": self.room})
+        must("bash", "_sbiboard" in run(["bash", "--norc", "-c"], f"{in_bash}; complete -p sbiboard").stdout)
+        if shutil.which("fish"):
+            found = run(["fish", "--no-config", "-c"], f"{in_fish}; complete -C './sbiboard exp'")
+            must(f"{found}", found.stdout.startswith("explore"))
+        made = run(["bash", "-c"], manual.partition(";")[0].replace("> sbiboard.1", f"> {self.room}/sbiboard.1"))
+        must(f"{made}", made.returncode == 0 and read(os.path.join(self.room, "sbiboard.1")).startswith(".TH SBIBOARD 1"))
+        for line in (in_vim, in_code):
+            found = run(["bash", "-c"], line)
+            must(f"{found}", found.returncode == 0 and not found.stderr)
+        must("vim", os.path.isfile(os.path.join(self.room, ".vim/pack/sbiboard/start/sbiboard/syntax/sbiboard.vim")))
+        folder = os.path.join(self.room, ".vscode/extensions/sbiboard")
+        made = json.loads(read(os.path.join(folder, "package.json")))
+        (language,), (grammar,) = made["contributes"]["languages"], made["contributes"]["grammars"]
+        scope = json.loads(read(os.path.join(folder, grammar["path"])))["scopeName"]
+        must(f"{made}", grammar["language"] == language["id"] and grammar["scopeName"] == scope and {".sched", ".trace", ".program"} <= set(language["extensions"]))
+
 
 def words_of_pattern(grammar, place, scope):
     """The words that a rule of the grammar lists."""

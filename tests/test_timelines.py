@@ -31,7 +31,14 @@ def data_of(page):
     found = re.search(rb'<script id="data" type="application/json">(.*?)</script>', page, re.S)
     texts = re.search(rb'<script id="texts" type="text/plain">(.*?)</script>', page, re.S)
     must("the page has no data", found is not None and texts is not None and b"@" + b"DATA@" not in page)
-    return json.loads(found[1]), texts[1].decode().split("\n")
+    return of_one(found[1]), texts[1].decode().split("\n")
+
+
+def of_one(text):
+    """The data of a page of one course."""
+    data = json.loads(text)
+    (course,) = data.pop("courses")
+    return data | course
 
 
 def must_be_told_stale(path, data):
@@ -252,6 +259,8 @@ c tick 5
         must(f"the arrows are {found}, the resets {data['resets']}", found == wanted and data["resets"] == [19])
         must(f"the times of the steps are {data['clock']}", data["clock"][:13] == [0] * 13 and data["clock"][13:] == [5] * 8)
         seen = data_of(tool([TIMELINE, script(self.room, text.replace("1 ecall 0x48534d 3 0 0\n1 advance\n0 ecall", "0 ecall", 1).encode())])[0])[0]
+        must("leading zeros", len(data_of(tool([TIMELINE, script(self.room, b"board 01 0x01 009 00 0x80000000 0\n00 advance\n0x00 sie 002\n")])[0])[1]) == 2)
+        must("a call without arguments", len(data_of(tool([TIMELINE, script(self.room, b"board 1 1 9 0 0x80000000 0\n0 advance\n0 ecall 0x735049 0\n0 ecall 0x48534d 0\n")])[0])[1]) == 3)
         must(f"an IPI to a hart that is awake has the arrows {seen['arrows']}", [data["kinds"][arrow[4]] for arrow in seen["arrows"]][:2] == ["start", "ssip"])
         must(f"a reset leaves hart 1's lane as {data['segments'][1]}", data["names"][data["segments"][1][-1][2]] == "STOPPED" and data["segments"][1][-1][:2] == [20, 21])
 
@@ -273,14 +282,14 @@ c tick 5
     def test_timelines__pages_have_their_data(self):
         """The page of a trace has of each step its lane, its time, its mark and its text; names and comments are text and nothing else."""
         wanted = Wanted(PAGE_TRACE)
-        for name in ("a.trace", 'a <b>"&amp;</title><script>.trace'.replace("/", "|")):
+        for name in ("a.trace", 'a <b>"&amp;</title><script>.trace'.replace("/", "|"), "@TEXTS@ @DATA@ @ABOUT@.trace"):
             page, _ = printed_by([TIMELINE, write(os.path.join(self.room, name), PAGE_TRACE)])
             parts = Parts(page)
             scripts = dict(parts.all_of("script"))
             must(f"{name}: {parts.found}", [it[1] for it in parts.all_of("title") + parts.all_of("b")] == [name, name] and list(scripts) == ["data", "texts", None])
             # (where both stand, a script goes on behind its end)
             must(f"{name}: a comment's sign stands in a script", "<!--" not in scripts["texts"])
-            must_be_wanted(json.loads(scripts["data"]), unescaped(scripts["texts"]), wanted)
+            must_be_wanted(of_one(scripts["data"]), unescaped(scripts["texts"]), wanted)
 
     def test_timelines__options(self):
         """Each option of `timeline`: a page or a picture, addresses by --map, and what is refused with which status."""
@@ -296,8 +305,8 @@ c tick 5
         must("120 steps", printed_by([TIMELINE, "--svg", steps(120)])[0].count("<text ") > 120)
         _, said = printed_by([TIMELINE, "--svg", steps(121)], 1)
         must(said, said.endswith(": 121 steps are too many for a picture: at most 120\n"))
-        must("a page of 121 steps", len(json.loads(dict(Parts(printed_by([TIMELINE, steps(121)])[0]).all_of("script"))["data"])["actors"]) == 121)
-        for words, status in (([], 2), (["--fly", path], 2), ([path, path], 2), ([os.path.join(self.room, "none")], 1)):
+        must("a page of 121 steps", len(of_one(dict(Parts(printed_by([TIMELINE, steps(121)])[0]).all_of("script"))["data"])["actors"]) == 121)
+        for words, status in (([], 2), (["--fly", path], 2), ([path, path, path], 2), (["--svg", path, path], 2), ([os.path.join(self.room, "none")], 1), ([path, self.room], 1)):
             out, said = printed_by([TIMELINE, *words], status)
             must(f"{words}: {out!r}, {said!r}", not out and said)
 
@@ -307,7 +316,7 @@ c tick 5
             path = script(self.room, TWO.replace("1 entry 0x80000000 1 0", f"1 entry 0x80000000 1 0 {note}").encode())
             page, _ = printed_by([TIMELINE, path])
             scripts = dict(Parts(page).all_of("script"))
-            data, texts = json.loads(scripts["data"]), unescaped(scripts["texts"])
+            data, texts = of_one(scripts["data"]), unescaped(scripts["texts"])
             place = next(at for at, it in enumerate(texts) if it.startswith("1 advance -> entry"))
             must(f"{name}: {data['other']}, {texts}", place in data["other"] and f": here {here}, there {there}" in texts[place])
 
@@ -320,7 +329,8 @@ c tick 5
             scripts = dict(Parts(page).all_of("script"))
             drawn = json.loads(printed_by(["node", DRAWN, write(os.path.join(self.room, "page.html"), page), "2000", "600"])[0])
             must(f"the page reads its texts as {drawn['texts']}", drawn["texts"] == unescaped(scripts["texts"]))
-            must_draw(drawn, Wanted(text), json.loads(scripts["data"]))
+            (drawn["tops"],) = drawn["tops"]
+            must_draw(drawn, Wanted(text), of_one(scripts["data"]))
 
 
 add(Timelines, "timelines: a picture", picture)

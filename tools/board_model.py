@@ -495,7 +495,7 @@ def step_of(words):
     """The actor and the operation of a step's words."""
     if words == ["cut"]:
         return CUT
-    return None if words[0] == "c" else int(words[0], 0), (words[1], *(number(word) for word in words[2:]))
+    return None if words[0] == "c" else number(words[0]), (words[1], *(number(word) for word in words[2:]))
 
 
 HEX = {"ecall", "load", "store", "fetch", "satp", "sfence", "sie", "tick"}

@@ -8,13 +8,14 @@ script of another kind. What is said of them is what the program says, where it 
 import contextlib
 import os
 import signal
+import subprocess
 import sys
 from dataclasses import replace
 
 import usage
 from builds import NotBuilt, build, is_current, program_of
 from checked_run import run_unproved
-from commands import ALL, ALONE, COMPLETIONS, HELP, INSTALL, PROGRAM, TESTER, VERSION, version
+from commands import ALL, ALONE, COMPLETIONS, HELP, HTML, INSTALL, IS_INSTALLED, KNOWN, PROGRAM, TESTER, VERSION, version
 from completions import SHELLS
 from installing import install
 from kinds import kind_of, why_unread
@@ -73,22 +74,33 @@ def done(words):
     if not words:
         raise Ended(USAGE, overview())
     first, has_value, value = words[0].partition("=")
-    alone = next((it for it in ALONE if first == f"--{it.name}"), None)
+    alone = next((it for it in ALONE if it in KNOWN.options and first == f"--{it.name}"), None)
     if alone:
         return done_alone(alone, [*([value] if has_value else []), *words[1:]])
-    known, is_tried = ALL, words[0] == "--try"
+    known, is_tried = KNOWN, words[0] == "--try" and not IS_INSTALLED
     if is_tried:
         known, words = replace(ALL, name="sbiboard --try", options=(HELP, VERSION)), words[1:]
     command, given, rest = usage.read(known, words)
     own = ["sbiboard", command.word] if command.program == PROGRAM else [command.name]
     call = [it.encode() for it in [*own, *rest]]
     program = program_of(command.program, "tried" if is_tried else None)
-    if not is_current(program, command.program):
+    if IS_INSTALLED:
+        must_be_installed(program)
+    elif not is_current(program, command.program):
         look_at(command, given)
         if not is_tried:
             build(command.program, command.word)
+    if HTML.name in given:
+        # (what draws is of use here alone)
+        from html_pages import run_with_pages
+
+        task = lambda made: ended(*run_with_pages(made, [*own, *rest], given))
+    else:
+        task = lambda made: subprocess.run(call, executable=made, check=False).returncode
     if is_tried:
-        return run_unproved(command, call)
+        return run_unproved(command, task)
+    if HTML.name in given:
+        return as_ended(task(program))
     # (Python passes this signal over, and so would the program)
     signal.signal(signal.SIGPIPE, signal.SIG_DFL)
     try:
@@ -97,11 +109,26 @@ def done(words):
         raise NotBuilt(f"{program} can't be run: {error.strerror}") from None
 
 
+def must_be_installed(program):
+    if not os.access(program, os.X_OK):
+        raise NotBuilt(f"this copy has no program {os.path.basename(program)}")
+
+
+def as_ended(status):
+    """The status of a program that was run; where a signal ended it, that one ends the script too."""
+    if status < 0:
+        signal.signal(-status, signal.SIG_DFL)
+        os.kill(os.getpid(), -status)
+    return status
+
+
 def done_alone(option, words):
     """Does the task of an option, whose value and nothing else comes behind it."""
     if len(words) != bool(option.value) or option.choices and words[0] not in option.choices:
         wanted = " or ".join(option.choices) or ("a folder DIR" if option.value else "nothing else")
         raise usage.Fault(f"with --{option.name}, {wanted} is wanted", f"sbiboard {option}")
+    if option == INSTALL and os.path.exists(os.path.join(words[0], "crates.txt")):
+        raise usage.Fault("with --install, a folder DIR that is no clone is wanted", f"sbiboard {option}")
     if option == INSTALL:
         return installed(words[0])
     return printed(SHELLS[words[0]](ALL) if option == COMPLETIONS else man_page(ALL))
@@ -112,7 +139,7 @@ def installed(folder):
         install(os.fsdecode(folder.encode()))
     except OSError:
         raise Ended(BAD_FILE, FAILED_IO) from None
-    return ended(0, f"sbiboard: {folder}/sbiboard runs the program beside it, which needs the C library alone\n")
+    return ended(0, f"sbiboard: {folder}/sbiboard runs the programs beside it, which need the C library alone; help and --html also Python 3\n")
 
 
 # ---- FILEs
@@ -152,15 +179,16 @@ def is_kept_over(file, kept):
 
 def overview():
     """What there is, for who says nothing."""
-    rows = [*((it.word, it.about) for it in ALL.commands), *((str(it), it.about) for it in ALL.options)]
+    rows = [*((it.word, it.about) for it in KNOWN.commands), *((str(it), it.about) for it in KNOWN.options)]
     width = max(len(name) for name, _ in rows)
-    return "".join(["usage: ./sbiboard [--try] COMMAND [OPTIONS] FILE..\n\n", *(f"  {name:{width}}  {about}\n" for name, about in rows)])
+    call = "sbiboard" if IS_INSTALLED else "./sbiboard [--try]"
+    return "".join([f"usage: {call} COMMAND [OPTIONS] FILE..\n\n", *(f"  {name:{width}}  {about}\n" for name, about in rows)])
 
 
 def help_of(command):
     if command is None:
         return version()
-    return command.help() + (OWN_HELP if command.word in ("sbiboard", "--try") else "")
+    return command.help() + (OWN_HELP if command.word in ("sbiboard", "--try") and not IS_INSTALLED else "")
 
 
 def printed(text):

@@ -7,7 +7,7 @@ import sys
 import tempfile
 import time
 
-from commands import PROGRAM, ROOT
+from commands import IS_INSTALLED, PROGRAM, ROOT, TESTER
 
 # What a program is made of, in each crate.
 PARTS = ("src", "specs", "proofs")
@@ -74,7 +74,13 @@ def made_of(top):
     return found
 
 
+# The programs of an installed copy.
+INSTALLED = {PROGRAM: "sbiboard-program", TESTER: "sbiboard-tester"}
+
+
 def program_of(crate, name=None):
+    if IS_INSTALLED:
+        return os.path.join(ROOT, INSTALLED[crate])
     return os.path.join(ROOT, "crates", crate, "out", name or crate)
 
 
@@ -261,17 +267,24 @@ def remove(path):
 
 # ---- the whole
 
-# What a first build takes, by what is known of it.
-LONG = {PROGRAM: "about 20 minutes on four processors, 26 on two"}
-LONG_TESTER = "about 18 minutes on four processors once the program of `run` is built, 35 before"
+# The minutes of a first build on four processors: of the program of `run`, of the tester behind it, and of the tester alone. On two
+# they are so many times as many.
+MINUTES, BEHIND, ALONE, ON_TWO = 20, 18, 35, 1.3
+
+
+def takes(crate):
+    """How long a first build takes here, by what is known of it."""
+    cores = processors()
+    minutes = MINUTES if crate == PROGRAM else BEHIND if os.path.exists(program_of(PROGRAM)) else ALONE
+    about = f"about {minutes}" if cores >= 4 else f"{'about' if cores > 1 else 'more than'} {round(minutes * ON_TWO)}"
+    return f"{about} minutes here, on {cores} processor{'s' if cores > 1 else ''}"
 
 
 def build(crate, task):
     """Builds a program, once it is said how long that takes."""
     must_have_toolchain()
-    takes = LONG.get(crate, LONG_TESTER)
-    takes = f"at most as long as at first ({takes})" if os.path.exists(program_of(crate)) else takes
-    print(f"sbiboard: the program is proved and built first, {takes}; `./sbiboard --try {task} ..` runs it unproved, within two minutes", file=sys.stderr, flush=True)
+    long = f"at most as long as at first ({takes(crate)})" if os.path.exists(program_of(crate)) else takes(crate)
+    print(f"sbiboard: the program is proved and built first, {long}; `./sbiboard --try {task} ..` runs it unproved, within two minutes", file=sys.stderr, flush=True)
     try:
         Build(crate).make()
     except OSError as error:

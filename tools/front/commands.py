@@ -2,11 +2,17 @@
 
 The words are those of the programs, whose sources have the long texts below a help; tests compare each with the program's own.
 """
+import json
 import os
 import re
 from dataclasses import dataclass, replace
 
-ROOT = os.path.dirname(os.path.dirname(os.path.dirname(os.path.realpath(__file__))))
+HERE = os.path.dirname(os.path.realpath(__file__))
+# The top of the clone, or the folder of an installed copy.
+ROOT = os.path.dirname(os.path.dirname(HERE))
+# What an installed copy has in place of the sources: the texts of their constants.
+TEXTS = os.path.join(os.path.dirname(HERE), "texts.json")
+IS_INSTALLED = os.path.exists(TEXTS)
 
 # The crates of the two programs.
 PROGRAM, TESTER = "sbiboard_cli", "sbiboard_test"
@@ -17,6 +23,9 @@ OF_PROGRAM, OF_TESTER = "sbiboard/src/command_line.rt", "sbiboard_test/src/comma
 
 def constant(source, name):
     """The text of a constant of a crate's source, in which no character is escaped."""
+    if IS_INSTALLED:
+        with open(TEXTS, encoding="utf-8") as file:
+            return json.load(file)[f"{source} {name}"]
     with open(os.path.join(ROOT, "crates", source), encoding="utf-8") as file:
         found = re.search(rf'^const {name}: &str = "(?:\\\n)?([^"\\]*)";$', file.read(), re.MULTILINE)
     if found is None:
@@ -114,6 +123,8 @@ def number(name, value, about, **more):
 SECONDS = number("seconds", "N", "Look at orders for so many seconds at most")
 FAILED = Option("failed", "Where records are written: of each condition that fails, of each `some` that is met", value="DIR", default=".")
 TAP = Option("tap", "Write the points into FILE, too", value="FILE")
+# (what the script does behind the program)
+HTML = Option("html", "Draw the order of each point that fails as a page in DIR, with a list of these pages", value="DIR")
 
 RUN = of_file(
     "run", "Run a program's blocks on threads, one for each hart and one for the clock, and print the record, the board and how it ended",
@@ -131,7 +142,7 @@ TEST = Command(
         number("jobs", "J", "How many orders are tried at a time; as many as there are processors where nothing is said"),
         Option("threads", "Run each program as often on real threads, too"),
         number("seconds", "N", "Try orders for so many seconds at most"),
-        FAILED, TAP, HELP,
+        FAILED, TAP, HTML, HELP,
     ),
     (OF_TESTER, "AFTER"), Option("", "Programs, schedules and traces, with their conditions", value="FILE", is_many=True), TESTER, ("program", "schedule", "trace"),
 )  # fmt: skip
@@ -140,14 +151,14 @@ EXPLORE = Command(
     (
         number("states", "N", "How many states may be found", default="1000000"),
         Option("no-outcomes", "Don't tell what each load gave last"),
-        SECONDS, FAILED, TAP, HELP,
+        SECONDS, FAILED, TAP, HTML, HELP,
     ),
     (OF_TESTER, "AFTER_EXPLORE"), Option("", "Programs, with their conditions", value="FILE", is_many=True), TESTER, ("program",),
 )  # fmt: skip
 
 # What `./sbiboard` knows.
 TRY = Option("try", "Do the task that follows at once, unproved, in the toolchain's checked run")
-INSTALL = Option("install", "Copy the built programs to DIR, with a script that runs them without these sources", value="DIR")
+INSTALL = Option("install", "Build both programs and copy them to DIR, with a script that does all tasks without these sources", value="DIR")
 COMPLETIONS = Option("completions", "Print the completions for a shell, bash or fish", value="SHELL", choices=("bash", "fish"))
 MAN = Option("man", "Print the manual page")
 # Those that are a task of their own: nothing comes before one, nor behind its value.
@@ -156,9 +167,16 @@ ALL = Command(
     "sbiboard", "Test and run programs, replay schedules and check traces on a proved SBI 1.0 firmware of a modelled RV64 board",
     (TRY, *ALONE, HELP, VERSION), (OF_PROGRAM, "EXAMPLE"), commands=(TEST, EXPLORE, RUN, REPLAY, CHECK),
 )  # fmt: skip
-# What an installed copy knows, which has no sources.
+# What an installed copy knows, which has no sources; and what is known here.
 INSTALLED = replace(ALL, options=(HELP, VERSION))
+KNOWN = INSTALLED if IS_INSTALLED else ALL
 
 
 def version():
     return f"sbiboard {constant(OF_PROGRAM, 'VERSION')}\n"
+
+
+def constants():
+    """All texts of sources that are shown, by the source and the name."""
+    named = {it.after for it in (ALL, *ALL.commands)} | {(OF_PROGRAM, "VERSION")}
+    return {f"{source} {name}": constant(source, name) for source, name in sorted(named)}

@@ -1,0 +1,95 @@
+"""The workflow files of docs/MANY_RUNS.md: their commands, as they stand in the page, in a repository that has scripts, with what
+stands for the toolchain of an image."""
+import os
+import re
+import shutil
+import subprocess
+from unittest import SkipTest
+
+from .fixtures import EXAMPLES, ROOT, TESTER, Test, must, read
+from .test_wrapper import called, clone, put
+
+PAGE = os.path.join(ROOT, "docs/MANY_RUNS.md")
+SERVICES = ("GitHub Actions", "GitLab CI")
+ITEM = re.compile(r"( *)- (?:(\w+): )?(.*)")
+
+
+def workflows():
+    """The text of the workflow file of each service."""
+    section = read(PAGE).partition("\n## Hosted CI\n")[2].partition("\n## ")[0]
+    found = {name: section.partition(f"{name}, `")[2].partition("```yaml\n")[2].partition("```")[0] for name in SERVICES}
+    must(f"{found}", all(found.values()))
+    return found
+
+
+def blocks(text):
+    """Of each item of a list that is a block of lines its key, if it has one, and the block."""
+    found, depth = [], None
+    for line in text.splitlines():
+        begin = ITEM.fullmatch(line)
+        if depth is not None and len(line) - len(line.lstrip()) > depth:
+            found[-1][1].append(line.strip())
+            continue
+        depth = len(begin[1]) if begin and begin[3] == "|" else None
+        if depth is not None:
+            found.append((begin[2], []))
+    return found
+
+
+def commands(text):
+    """The commands of a workflow, one for each step."""
+    return ["\n".join(lines) for key, lines in blocks(text) if key in ("run", None)]
+
+
+class Workflows(Test):
+    programs = (TESTER,)
+
+    def setUp(self):
+        super().setUp()
+        if shutil.which("git") is None:
+            raise SkipTest("git is missing")
+        source = os.path.dirname(clone(self.room))
+        for name in os.listdir(os.path.join(source, "crates")):
+            put(os.path.join(source, "crates", name, "src/lib.rt"), "")
+        for words in (["init", "--quiet"], ["add", "--all"], ["-c", "user.name=a", "-c", "user.email=a@b", "commit", "--quiet", "--message", "all"]):
+            subprocess.run(["git", "-C", source, *words], check=True, timeout=60, capture_output=True)
+        commit = subprocess.run(["git", "-C", source, "rev-parse", "HEAD"], check=True, timeout=60, capture_output=True, text=True).stdout.strip()
+        path = os.path.join(self.room, "bin") + ":" + os.environ.get("PATH", "")
+        # (git has settings of the user, which say nothing of this)
+        own = {"GIT_CONFIG_GLOBAL": "/dev/null", "RT_LOG": os.path.join(self.room, "rt.log"), "RT_PROGRAM": TESTER, "TMPDIR": self.room}
+        self.given = {"PATH": path, "SOURCE": source, "COMMIT": commit, **own}
+
+    def job(self, work, steps):
+        """The steps of a job as a service runs them, up to the first that fails. Returns its status."""
+        for it in steps:
+            found = subprocess.run(["bash", "-eo", "pipefail", "-c", it], cwd=work, env=self.given, stdin=subprocess.DEVNULL, capture_output=True, text=True, timeout=300)
+            if found.returncode:
+                return found
+        return found
+
+    def test_workflows_of_hosted_ci(self):
+        """Both services do the same steps: the first job builds and tests, later ones test what is kept; a bug fails the job and leaves its pages."""
+        steps = {name: commands(text) for name, text in workflows().items()}
+        must(f"{steps}", len(steps["GitLab CI"]) == 2 and steps["GitHub Actions"] == steps["GitLab CI"])
+        for name, text in workflows().items():
+            must(f"{name}: what a user names", all(it in text for it in ("IMAGE", "CLONE-URL", "COMMIT-ID")) and "sbiboard-$" in text)
+            kept = set(re.findall(r"path: (\w+), key|paths: \[(\w+)\], when: always", text))
+            must(f"{name}: kept is {kept}", [any(it) and "".join(it) for it in kept] == ["built"])
+            must(f"{name}: the artifact", all(re.search(rf"(?s)(upload-artifact|artifacts).*\b{it}\b", text) for it in ("pages", "failed")))
+        work = os.path.join(self.room, "repository")
+        os.makedirs(os.path.join(work, "sbi"))
+        bug = os.path.join(work, "sbi/lost-wakeup.program")
+        shutil.copy(os.path.join(EXAMPLES, "orders/lost-wakeup.program"), bug)
+        found = self.job(work, steps["GitLab CI"])
+        must(f"{found}", found.returncode == 1 and "not ok 1 - sbi/lost-wakeup.program: line 2" in found.stdout)
+        pages = sorted(os.listdir(os.path.join(work, "pages")))
+        must(f"{pages}", pages == ["index.html", "lost-wakeup.program.2.failed.html"] and "lost-wakeup.program.2.failed" in os.listdir(os.path.join(work, "failed")))
+        # (the next job has what was kept, and nothing else)
+        count = len(called(self.room))
+        shutil.rmtree(os.path.join(work, "sbiboard"))
+        shutil.rmtree(self.given["SOURCE"])
+        lines = read(bug).splitlines(keepends=True)
+        at = next(place for place, line in enumerate(lines) if "belongs in front of the line above" in line)
+        put(bug, "".join([*lines[: at - 1], lines[at], lines[at - 1], *lines[at + 1 :]]))
+        found = self.job(work, steps["GitHub Actions"])
+        must(f"{found}", found.returncode == 0 and "# 2 points, 0 failed" in found.stdout and len(called(self.room)) == count)

@@ -1,0 +1,223 @@
+"""`--html DIR` of the script: a page for each point that fails, with its order and one that passes, and a page that lists them."""
+import glob
+import html
+import json
+import os
+import re
+import shutil
+from urllib.parse import unquote
+
+from passing import Failing, NoOrder, near
+from program_model import Program
+
+from . import judge
+from .fixtures import EXAMPLES, PROGRAM, TESTER, Test, must, read, tester
+from .test_timelines import Parts
+from .test_wrapper import clone, must_end, put, ran
+
+ORDERS = ("forgotten-hart.program", "lost-wakeup.program")
+TRACE = "board 1 1 9 0 0x80000000 0x0\n0 advance -> entry 0x80000000 0 0x0\n0 sip -> value 0x2\n"
+SCHEDULE = "#! each _ sip -> value 0x2\nboard 1 1 9 0 0x80000000 0x0\n0 advance\n0 sip\n"
+# Of the calls that are drawn: the words, and which points have a page, with an order that passes (None: with none).
+FAILS = {"forgotten-hart.program": {4: True, 3: None}, "lost-wakeup.program": {2: True}, "bare.program": {None: True}, "stuck.program": {None: None}, "a.sched": {1: None}, "a.trace": {None: None}}
+
+
+class Drawn:
+    """A page: its titles, what stands below them, and of each course its steps as lines of a trace."""
+
+    def __init__(self, path):
+        parts = Parts(read(path))
+        scripts = dict(parts.all_of("script"))
+        self.data, texts = json.loads(scripts["data"]), re.sub(r"\\(.)", r"\1", scripts["texts"]).split("\n")
+        self.titles, self.lines, self.whys = [it["title"] for it in self.data["courses"]], [], []
+        for course in self.data["courses"]:
+            own, texts = texts[: len(course["actors"])], texts[len(course["actors"]) :]
+            self.lines.append([it.partition("   ")[0] for it in own])
+            self.whys.append([it.partition("   # ")[2] for it in own])
+
+
+def rows(path):
+    """Of each row of the list: the page that it leads to and the step (None: none), the point, and what is said."""
+    found = []
+    for row in re.findall(r"<tr><td>(.*)</tr>", read(path)):
+        point, orders, record, said = row.split("<td>")
+        link = re.fullmatch(r'<a href="([^"]*)\.html#(\d+)">(.*)</a>', point)
+        page = (unquote(link[1]), int(link[2])) if link else None
+        found.append((page, html.unescape(link[3] if link else point), orders, html.unescape(record), said))
+    return found
+
+
+def ends_of(text, lines):
+    """The steps of an order of a program, and how it ends."""
+    followed = judge.Followed(Program(text), "\n".join(["", *lines]))
+    return followed.steps, followed.end
+
+
+class HtmlPages(Test):
+    programs = (TESTER,)
+
+    def setUp(self):
+        super().setUp()
+        self.front = clone(self.room)
+        self.work = os.path.join(self.room, "work")
+        os.mkdir(self.work)
+        out = os.path.join(self.room, "clone/crates/sbiboard_test/out")
+        os.makedirs(out)
+        shutil.copy(TESTER, out)
+        for name in ORDERS:
+            shutil.copy(os.path.join(EXAMPLES, "orders", name), self.work)
+        shutil.copy(os.path.join(EXAMPLES, "stuck.program"), self.work)
+        put(os.path.join(self.work, "bare.program"), re.sub(r"(?m)^#!.*$", "", read(os.path.join(EXAMPLES, "orders/lost-wakeup.program"))))
+        put(os.path.join(self.work, "a.trace"), TRACE)
+        put(os.path.join(self.work, "a.sched"), SCHEDULE)
+
+    def called(self, *words, front=None, **more):
+        """What the script does in the folder of the scripts."""
+        return ran(self.room, ["bash", "-c", 'cd work; exec "$@"', "-", front or self.front, *words], seconds=300, **more)
+
+    def must_be_drawn(self, folder, text, point, page):
+        """A point's page has the record, and below it an order of the program that is as it asks, and begins alike."""
+        drawn = Drawn(os.path.join(folder, f"{page[0]}.html"))
+        record = [it for it in read(os.path.join(self.work, page[0])).splitlines() if " -> " in it]
+        must(f"{point}: {drawn.lines[0]}", drawn.lines[0] == record and page[1] == drawn.data["at"] + 1 and drawn.titles[0] == f"fails: {page[0]}")
+        line = re.search(r": line (\d+): ", point)
+        asked = next((it for it in judge.conditions(text) if line and it.line == int(line[1])), None)
+        is_so = lambda steps, end: judge.holds(asked, steps, end) if asked else end in ("quiet", "off")
+        must(f"{point}: the record is good", not is_so(*ends_of(text, drawn.lines[0])))
+        if len(drawn.lines) < 2:
+            return None
+        must(f"{point}: {drawn.lines[1]}", is_so(*ends_of(text, drawn.lines[1])) and drawn.lines[1][: drawn.data["parting"]] == record[: drawn.data["parting"]])
+        return drawn
+
+    def test_html__pages_of_points_that_fail(self):
+        """`test` and `explore` draw each point that fails: its record, opened at the step at which it fails, and an order that passes below."""
+        for place, (words, files) in enumerate((
+            (["test"], list(FAILS)), (["explore"], [it for it in FAILS if it.endswith(".program")]), (["test", "--times", "60"], ["forgotten-hart.program"]),
+        )):  # fmt: skip
+            folder = os.path.join(self.work, f"pages{place}")
+            status, out, said = self.called(*words, "--html", folder, *files)
+            own = tester(self.work, *words[1:], *files, name="sbiboard" if words[0] == "test" else "sbiboard explore", timeout=200)
+            must(f"{words}: {out}, and not {own.stdout}", (status, out) == (own.returncode, own.stdout) == (1, own.stdout))
+            listed = rows(os.path.join(folder, "index.html"))
+            failing = re.findall(r"^not ok \d+ - (.*)$", out, re.M)
+            drawn = [it for it in listed if it[0]]
+            must(f"{words}: {listed}", [it[1] for it in listed] == failing and said == f"sbiboard: {folder}/index.html lists the points that fail ({len(listed)}, and {len(drawn)} drawn)\n")
+            must(f"{words}: {os.listdir(folder)}", sorted(os.listdir(folder)) == sorted([*(f"{it[0][0]}.html" for it in drawn), "index.html"]) and len(drawn) >= len(files))
+            for page, point, *_ in drawn:
+                name = point.partition(":")[0]
+                if name.endswith(".program"):
+                    line = re.search(r": line (\d+): ", point)
+                    both = self.must_be_drawn(folder, read(os.path.join(self.work, name)), point, page)
+                    must(f"{words}, {point}: with an order that passes: {both is not None}", (both is not None) == bool(FAILS[name][int(line[1]) if line else None]))
+
+    def test_html__an_order_that_passes_is_near(self):
+        """The order that passes parts from the one that fails where the bug is: the clear that came too late comes before the IPI."""
+        self.called("test", "--html", "pages", "lost-wakeup.program")
+        drawn = Drawn(os.path.join(self.work, "pages/lost-wakeup.program.2.failed.html"))
+        one, other = drawn.lines
+        must(f"{one} {other}", drawn.data["parting"] == 9 and one[9].startswith("0 ecall 0x735049") and other[9] == "1 clearssip -> done" == one[10] and other[10] == one[9])
+        must(f"{drawn.whys}", drawn.whys[0][0] == "the firmware" and drawn.whys[0][7] == "line 9" and drawn.whys[1][9].startswith("line 15: this belongs in front of the line above"))
+        text = read(os.path.join(self.work, "pages/lost-wakeup.program.2.failed.html"))
+        must("what it waits for", "stuck: hart 1: line 16 &#x27;wfi&#x27;: SSIP is 0" in text and "whose first 9 steps are the same" in text)
+
+    def test_html__nothing_fails(self):
+        """Where nothing fails it says so and writes no page; those of an earlier run are taken away, and no others."""
+        put(os.path.join(self.work, "good.sched"), "board 1 1 9 0 0x80000000 0x0\n0 advance\n")
+        good = (0, None, "sbiboard: no point fails, so no page is written\n")
+        must_end(self.called("test", "--html", "pages", "good.sched"), *good)
+        must("a folder was made", not os.path.exists(os.path.join(self.work, "pages")))
+        self.called("test", "--html=pages", "a.sched")
+        put(os.path.join(self.work, "pages/own.html"), "<html></html>")
+        must("pages", sorted(os.listdir(os.path.join(self.work, "pages"))) == ["a.sched.failed.html", "index.html", "own.html"])
+        must_end(self.called("test", "good.sched", "--html", "pages"), *good)
+        must("older pages", os.listdir(os.path.join(self.work, "pages")) == ["own.html"])
+
+    def test_html__points_that_are_cut_off(self):
+        """Where a run ends before it has told all points, it isn't said that none fails, and no older page is left."""
+        self.called("test", "--html", "pages", "a.sched")
+        unread = [self.front, "test", "--html", "pages", "lost-wakeup.program"]
+        status, _, said = ran(self.room, ["bash", "-c", 'cd work; "$@" | true; exit "${PIPESTATUS[0]}"', "-", *unread], seconds=300)
+        must(f"{status} {said}", status != 0 and "no point fails" not in said and not glob.glob(os.path.join(self.work, "pages/*")))
+
+    def test_html__older_points(self):
+        """A file of points that this run hasn't written isn't taken for its own."""
+        put(os.path.join(self.work, "points"), "not ok 1 - a.sched: line 1: x\n1..1\n")
+        put(os.path.join(self.room, "clone/crates/sbiboard_test/out/sbiboard_test"), "#!/bin/bash\nexit 1\n")
+        must_end(self.called("test", "--html", "pages", "--tap", "points", "a.sched"), 1, "", "sbiboard: not all points were told, so no page is written\n")
+        must("a page was written", not os.path.exists(os.path.join(self.work, "pages")))
+
+    def test_html__names_and_texts_are_escaped(self):
+        """Whatever a file is called, its page is found by the list, and no name is read as a page's own text. A trace that differs is drawn with its own answers."""
+        name = "a <b>&% \"c'.program"
+        shutil.copy(os.path.join(self.work, "lost-wakeup.program"), os.path.join(self.work, name))
+        self.called("test", "--html", "new/pages", name, "a.trace", "none")
+        folder = os.path.join(self.work, "new/pages")
+        (page, point, *_), (trace, *_), (none, *_, said) = rows(os.path.join(folder, "index.html"))
+        must(f"{page} {point}", page == (f"{name}.2.failed", 11) and point.startswith(f"{name}: line 2") and none is None and said == "no order of it is kept")
+        parts = Parts(read(os.path.join(folder, f"{name}.2.failed.html")))
+        must(f"{parts.found}", [it[1] for it in parts.all_of("title") + parts.all_of("b")] == [f"{name}.2.failed"] * 2)
+        drawn = Drawn(os.path.join(folder, "a.trace.html"))
+        must(f"{trace} {drawn.lines}", trace == ("a.trace", 2) and drawn.lines == [TRACE.splitlines()[1:]] and drawn.data["courses"][0]["other"] == [1])
+
+    def test_html__records_of_one_name(self):
+        """Of two points that have one record, the first has lost its order, and isn't drawn with that of the other."""
+        os.mkdir(os.path.join(self.work, "below"))
+        put(os.path.join(self.work, "below/a.sched"), SCHEDULE.replace("0 sip", "0 sie 2\n0 sip"))
+        self.called("test", "--html", "pages", "a.sched", "below/a.sched")
+        (first, *_, said), (second, *_) = rows(os.path.join(self.work, "pages/index.html"))
+        must(f"{first} {said} {second}", first is None and "replaced" in said and second == ("a.sched.failed", 3))
+
+    def test_html__words(self):
+        """--html has a folder, once, of `test` and `explore` alone; what it can't write or read is said before a test begins."""
+        for words, end in ((["--html"], "a value is required for '--html <DIR>' but none was supplied"), (["--html", "a", "--html", "b", "a.sched"], "cannot be used multiple times"), (["--html", "--", "a.sched"], "none was supplied")):
+            status, out, said = self.called("test", *words)
+            must(f"{words}: {out!r} {said!r}", (status, out) == (2, "") and end in said)
+        must_end(self.called("replay", "--html", "x", "a.sched")[:2], 2, "")
+        must_end(self.called("test", "--html", "a.trace", "a.sched"), 7, "", "sbiboard: a.trace: not a folder\n")
+        must_end(self.called("test", "--html", "pages", "--tap", "/dev/null", "a.sched"), 7, "", "sbiboard: /dev/null: not a file, from which --html could read the points\n")
+        status, out, _ = self.called("test", "--html", "pages", "--tap", "points", "a.sched")
+        must("the points", status == 1 and read(os.path.join(self.work, "points")) == out)
+        must_end(self.called("test", "--html", "pages", "--", "--html"), 1, None)
+        must_end(self.called("test", "--failed", "none", "--html", "pages", "a.sched")[:1], 7)
+        status, out, said = self.called("explore", "--html", "pages", "--times", "3", "a.sched")
+        must(f"{said}", (status, out) == (2, "") and "unexpected argument '--times' found" in said)
+
+    def test_html__of_try_and_of_an_installed_copy(self):
+        """--try draws the same pages, and so does an installed copy, which needs no source."""
+        self.called("test", "--html", "pages", "lost-wakeup.program")
+        wanted = {name: read(os.path.join(self.work, "pages", name)) for name in os.listdir(os.path.join(self.work, "pages"))}
+        must(f"{list(wanted)}", len(wanted) == 2)
+        made = {"RT_PROGRAM": TESTER}
+        must_end(self.called("--install", os.path.join(self.room, "copy"), SBIBOARD_PROGRAM=PROGRAM if os.path.exists(PROGRAM) else TESTER)[:1], 0)
+        os.remove(os.path.join(self.room, "clone/crates/sbiboard_test/out/sbiboard_test"))
+        must_end(self.called("--try", "test", "--html", "tried", "lost-wakeup.program", **made)[:1], 1)
+        shutil.rmtree(os.path.join(self.room, "clone"))
+        must_end(self.called("test", "--html", "copied", "lost-wakeup.program", front=os.path.join(self.room, "copy/sbiboard"))[:1], 1)
+        for folder in ("tried", "copied"):
+            must(folder, {name: read(os.path.join(self.work, folder, name)) for name in os.listdir(os.path.join(self.work, folder))} == wanted)
+
+
+class NearOrders(Test):
+    programs = ()
+
+    def test_html__orders_near_one_that_fails(self):
+        """Each order that is tried is one of the program, up to an end, and has the steps in common that are told; the first that is good is chosen."""
+        text = read(os.path.join(EXAMPLES, "orders/forgotten-hart.program"))
+        program, point, steps = Program(text), Program(text).start(), []
+        while found := [*program.steps(point)]:
+            *step, point = found[-1]
+            steps.append(tuple(step))
+        record = "\n".join(["board 3 6 100 0 0x80000000 0x0", *(f"{judge.spelled(*it)}" for it in steps)])
+        failing, tried = Failing(text, record, len(steps) - 1), 0
+        for order in failing.others():
+            lines = order.trace(failing.board_line, []).splitlines()
+            followed = judge.Followed(program, "\n".join(lines))
+            must(f"{lines}", followed.end == order.end and followed.steps == order.steps and order.steps[: order.same] == steps[: order.same] and order.steps[order.same] != steps[order.same])
+            tried += 1
+        must(f"{tried} orders", tried >= 20)
+        asked = []
+        found = near(failing, ["#! never 0 wfi"], "#! never 0 wfi", lambda traces: asked.extend(traces) or [None if place % 2 == 0 else set() for place, _ in enumerate(traces)])
+        must("the first that is good", found is not None and found.trace(failing.board_line, ["#! never 0 wfi"]) == asked[1])
+        with self.assertRaises(NoOrder):
+            Failing(text, record + "\n0 wfi -> done", 0)
+        must("none is good", near(failing, ["#! never 0 wfi"], "#! never 0 wfi", lambda traces: [{0} for _ in traces]) is None)

@@ -1,0 +1,266 @@
+"""`--html DIR`: a page for each point that fails, which draws its order as tools/timeline does, below it one that passes where one
+is found near it, and a page that lists them."""
+import contextlib
+import glob
+import html
+import json
+import os
+import re
+import subprocess
+import sys
+import tempfile
+from urllib.parse import quote
+
+from commands import HTML
+from kinds import kind_of_text
+
+TOOLS = os.path.dirname(os.path.dirname(os.path.realpath(__file__)))
+sys.path.append(TOOLS)
+
+from course import Course, of_script, read_file  # noqa: E402
+from page import page  # noqa: E402
+from passing import Failing, NoOrder, near  # noqa: E402
+
+# By this a page is known for one of an earlier run, which is taken away.
+MARK = '<meta name="generator" content="sbiboard --html">'
+HEAD = '<meta charset="utf-8">\n'
+# The statuses behind which there are points.
+TOLD = (0, 1, 7, 8)
+NO_RECORD = "no order of it is kept"
+
+
+class Point:
+    """A point that fails: its text, its file and the line of its condition (None: it has none), and what stands below it."""
+
+    def __init__(self, text, files):
+        self.text, self.details, self.stuck = text, {}, []
+        self.file = max((it for it in files if text.startswith(it)), key=len, default=None)
+        line = re.match(r": line (\d+): ", text[len(self.file or "") :])
+        self.line = int(line[1]) if line else None
+
+    @property
+    def orders(self):
+        """How many of its orders fail, where that is told."""
+        of = self.details.get("orders") or self.details.get("runs")
+        return f"{self.details['failing']} of {of}" if of and "failing" in self.details else ""
+
+
+def failing_points(text, files):
+    """The points of a text of TAP that fail."""
+    found, is_below = [], False
+    for line in text.splitlines():
+        begin = re.match(r"(not )?ok \d+ - (.*)", line)
+        if begin:
+            is_below = bool(begin[1]) and " # SKIP" not in line
+            if is_below:
+                found.append(Point(re.sub(r"\\([\\#])", r"\1", begin[2]), files))
+        elif is_below and (row := re.match(r"  (\w+): (.*)", line)):
+            with contextlib.suppress(ValueError):
+                found[-1].details[row[1]] = json.loads(row[2])
+        elif is_below and (row := re.match(r'    - ("hart .*)', line)):
+            with contextlib.suppress(ValueError):
+                found[-1].stuck.append(json.loads(row[1]))
+        elif is_below and line == "  ...":
+            is_below = False
+    return found
+
+
+def taken_out(words):
+    """The words without --html and its value, as the program takes them."""
+    name, left, words = str(HTML).split()[0], [], list(words)
+    while words:
+        word = words.pop(0)
+        if word == "--":
+            return [*left, word, *words]
+        if word == name:
+            words.pop(0)
+        elif not word.startswith(f"{name}="):
+            left.append(word)
+    return left
+
+
+def is_file(path):
+    return path is not None and os.path.isfile(path)
+
+
+def read(path):
+    with open(path, encoding="latin-1") as file:
+        return file.read()
+
+
+class Pages:
+    """The pages of one run in a folder."""
+
+    def __init__(self, program, folder):
+        self.program, self.folder, self.rows, self.names = program, folder, [], {"index"}
+
+    def write(self, points):
+        os.makedirs(self.folder, exist_ok=True)
+        kept = [it.details.get("record") for it in points]
+        for place, point in enumerate(points):
+            is_replaced = point.details.get("record") in [it for it in kept[place + 1 :] if it]
+            self.rows.append((point, *self.page_of(point, is_replaced)))
+        self.put("index", self.index())
+
+    def put(self, name, text):
+        with open(os.path.join(self.folder, f"{name}.html"), "w", encoding="utf-8") as file:
+            file.write(text.replace(HEAD, HEAD + MARK + "\n", 1))
+
+    def page_of(self, point, is_replaced):
+        """The name of a point's page and the step at which it opens, and what is said of it; without a page no name."""
+        # (a trace that differs is drawn itself, with its own answers)
+        record = point.details.get("record") or (point.file if "differing" in point.details else None)
+        if is_replaced or not is_file(record):
+            return None, None, "its record was replaced by that of a point below" if is_replaced else NO_RECORD
+        failing = self.failing(point, record)
+        board, steps, states, _ = read_file(record, None)
+        if failing:
+            steps = self.with_lines(steps, failing, point.file)
+        courses, titles, said = [Course(board, steps, states)], [f"fails: {os.path.basename(record)}"], ""
+        passing = failing and self.passing(point, failing)
+        if passing:
+            courses.append(self.course_of(passing, failing, point.file))
+            titles.append("passes: an order near it")
+            said = f"beside an order that passes, whose first {passing.same} steps are the same"
+        elif failing:
+            said = "no order that passes was found near it"
+        name, at = self.named(os.path.basename(record)), point.details.get("place", min(courses[0].other, default=0))
+        about = [point.text, *([f"{point.orders} orders fail"] if point.orders else []), *(f"stuck: {it}" for it in point.stuck), *([said] if said else [])]
+        self.put(name, page(courses, titles, os.path.basename(record), "\n".join(about), at))
+        return name, at, said
+
+    def course_of(self, order, failing, file):
+        """The course of an order of a program."""
+        trace = order.trace(failing.board_line, [])
+        board, steps, _, _ = of_script(trace.encode())
+        return Course(board, self.with_lines(steps, Failing(read(file), trace, 0), file), {})
+
+    def with_lines(self, steps, followed, file):
+        """Steps of an order, each with its line of the program."""
+        source = read(file).splitlines()
+        comments = [it.partition("#")[2].strip() for it in source]
+        whys = [f"line {it}" + (f": {comments[it - 1]}" if comments[it - 1] else "") if it else "the firmware" for it in followed.lines()]
+        return [(actor, op, said, why if actor is not None else "the clock") for (actor, op, said, _), why in zip(steps, whys)]
+
+    def named(self, name):
+        free = next(it for it in (name, *(f"{name}-{number}" for number in range(2, 1_000_000))) if it not in self.names)
+        self.names.add(free)
+        return free
+
+    # ---- an order that passes
+
+    def failing(self, point, record):
+        """The order of a point's program that fails; None: it is none of a program that is at hand."""
+        if record == point.file or not is_file(point.file):
+            return None
+        text = read(point.file)
+        if kind_of_text(text.encode("latin-1")) != "program":
+            return None
+        # (a file that has changed meanwhile has no such order)
+        with contextlib.suppress(NoOrder):
+            return Failing(text, read(record), point.details.get("place", 0))
+        return None
+
+    def passing(self, point, failing):
+        """An order of the point's program that passes, near the one that fails."""
+        lines = [it.strip() for it in read(point.file).splitlines()]
+        conditions = [it for at, it in enumerate(lines) if it.startswith("#!") and not (at == 0 and it.startswith("#!/"))]
+        return near(failing, conditions, lines[point.line - 1] if point.line else None, self.judge)
+
+    def judge(self, traces):
+        """Of each trace the places of the conditions at its top that it breaks; None of one with which the board doesn't agree."""
+        with tempfile.TemporaryDirectory(prefix="sbiboard-near.") as room:
+            names = [f"{place}.trace" for place in range(len(traces))]
+            for name, text in zip(names, traces):
+                with open(os.path.join(room, name), "w", encoding="latin-1") as file:
+                    file.write(text)
+            words = ["sbiboard", "--failed", room, "--tap", os.path.join(room, "tap"), *names]
+            how = {"stdin": subprocess.DEVNULL, "stdout": subprocess.DEVNULL, "stderr": subprocess.DEVNULL, "cwd": room}
+            subprocess.run(words, executable=os.path.abspath(self.program), check=False, **how)
+            points = failing_points(read(os.path.join(room, "tap")), names)
+        broken = {name: [it.line for it in points if it.file == name] for name in names}
+        return [None if None in broken[name] else {line - 1 for line in broken[name]} for name in names]
+
+    # ---- the list
+
+    def index(self):
+        rows = []
+        for point, name, at, said in self.rows:
+            text = html.escape(point.text)
+            link = f'<a href="{html.escape(url_of(name))}.html#{at + 1}">{text}</a>' if name else text
+            record = html.escape(point.details.get("record", "")).replace("\n", " ")
+            rows.append(f"<tr><td>{link}<td>{html.escape(point.orders)}<td>{record}<td>{html.escape(said)}</tr>")
+        return INDEX.format(count=len(rows), rows="\n".join(rows))
+
+
+def url_of(name):
+    return quote(name.encode("utf-8", "surrogateescape"), safe="")
+
+
+INDEX = """<!DOCTYPE html>
+<html lang="en">
+<head>
+<meta charset="utf-8">
+<title>sbiboard: points that fail</title>
+<style>
+body {{ font: 14px sans-serif; margin: 16px; color: #222; }}
+td, th {{ text-align: left; vertical-align: top; padding: 3px 14px 3px 0; border-bottom: 1px solid #ddd; }}
+</style>
+</head>
+<body>
+<h1>Points that fail: {count}</h1>
+<table>
+<tr><th>point<th>orders<th>record<th>drawn</tr>
+{rows}
+</table>
+</body>
+</html>
+"""
+
+
+def take_away(folder):
+    """Takes the pages of an earlier run out of a folder."""
+    for path in glob.glob(os.path.join(glob.escape(folder), "*.html")):
+        with open(path, "rb") as file:
+            is_own = MARK.encode() in file.read(400)
+        if is_own:
+            os.remove(path)
+
+
+def written_at(path):
+    """When a file was written last; None: there is none."""
+    return os.stat(path).st_mtime_ns if os.path.isfile(path) else None
+
+
+def run_with_pages(program, words, given):
+    """Runs `test` or `explore` by its words, the first of which is its name, and draws what fails. Returns the status, and what
+    is said."""
+    folder = given[HTML.name][0]
+    if os.path.exists(folder) and not os.path.isdir(folder):
+        return 7, f"sbiboard: {folder}: not a folder\n"
+    taps = given.get("tap", [])
+    if taps and os.path.exists(taps[0]) and not os.path.isfile(taps[0]):
+        return 7, f"sbiboard: {taps[0]}: not a file, from which --html could read the points\n"
+    try:
+        if os.path.isdir(folder):
+            take_away(folder)
+        with tempfile.TemporaryDirectory(prefix="sbiboard-points.") as room:
+            tap = taps[0] if taps else os.path.join(room, "tap")
+            (name, *rest), before = taken_out(words), written_at(tap)
+            status = subprocess.run([name, *([] if taps else ["--tap", tap]), *rest], executable=program, check=False).returncode
+            # (an older file of points says nothing of this run)
+            text = read(tap) if written_at(tap) != before else ""
+        if status not in TOLD:
+            return status, ""
+        # (the plan stands behind all points)
+        if not re.search(r"^1\.\.\d+$", text, re.M):
+            return status, "sbiboard: not all points were told, so no page is written\n"
+        points = failing_points(text.encode("latin-1").decode("utf-8", "surrogateescape"), given[""])
+        if not points:
+            return status, "sbiboard: no point fails, so no page is written\n"
+        pages = Pages(program, folder)
+        pages.write(points)
+    except OSError as error:
+        return 7, f"sbiboard: {error.filename or folder}: {error.strerror}\n"
+    drawn = sum(name is not None for _, name, _, _ in pages.rows)
+    return status, f"sbiboard: {os.path.join(folder, 'index.html')} lists the points that fail ({len(points)}, and {drawn} drawn)\n"
