@@ -144,8 +144,8 @@ class EmptyVerdicts(Test):
             for asked, found in (("", "no order ends stuck: holds in {}"), ("#! end off quiet\n", "line 1: end off quiet: holds in {}"), ("#! some 0 advance\n", "line 1: some 0 advance: holds in some of {}")):
                 status, lines = told(self.room, asked + text)
                 must(f"{lines}", status == 0 and lines[1] == f"ok 1 - race.program: {found.format(reach)}")
-        status, lines = told(self.room, RACE, "--times", "12345", "--seed", "18446744073709551615", "--seconds", "100")
-        must(f"{lines}", lines[1] == "ok 1 - race.program: no order ends stuck: holds in 12,345 orders of unknown many, seed 18446744073709551615")
+        status, lines = told(self.room, RACE, "--times", "2345", "--seed", "18446744073709551615")
+        must(f"{lines}", lines[1] == "ok 1 - race.program: no order ends stuck: holds in 2,345 orders of unknown many, seed 18446744073709551615")
         counts = "board 2 1 1000 0 0x80000000 0x0\nat 0x80000000\necall 0x48534d 0 1 0x80000800\n" + "sip\n" * 12 + "at 0x80000800\n" + "sip\n" * 12
         many = sum(all_orders.Orders(counts).ends.values())
         _, lines = told(self.room, counts)

@@ -87,11 +87,9 @@ impl Findings {
         self.ends.see(end);
         let kept = choices(alloc, events)?;
         self.records.insert(kept)?;
-        let harts = board.config().harts;
-        if some_lacks(conditions, &self.judged) {
-            self.visits.see_deeds(alloc, harts, events)?;
-        }
-        self.visits.see(alloc, harts, events)
+        let some_lacks = is_some_lacking(conditions, &self.judged);
+        self.visits
+            .see(alloc, board.config().harts, events, some_lacks)
     }
 
     /// Orders were tried behind these.
@@ -147,7 +145,7 @@ fn add_each(judged: &mut [Judged], later: &[Judged])
 }
 
 /// Whether some condition needs a step that wasn't met yet.
-fn some_lacks(conditions: &[Condition], judged: &[Judged]) -> bool {
+fn is_some_lacking(conditions: &[Condition], judged: &[Judged]) -> bool {
     for (condition, of_it) in conditions.iter().zip(judged) {
         let rule = &condition.rule;
         if of_it.met.lacks_first(rule) || of_it.met.lacks_second(rule) {

@@ -64,12 +64,21 @@ impl Visits {
         }
     }
 
-    /// An order of so many harts was tried.
+    /// An order of so many harts was tried, of which the different steps are kept or not.
     ///
     /// # Errors
     ///
     /// Memory was refused.
-    pub fn see(&mut self, alloc: Global, harts: u64, events: &[Event]) -> Result<(), AllocError> {
+    pub fn see(
+        &mut self,
+        alloc: Global,
+        harts: u64,
+        events: &[Event],
+        with_deeds: bool,
+    ) -> Result<(), AllocError> {
+        if with_deeds {
+            self.see_deeds(alloc, harts, events)?;
+        }
         let mut guests: Vec<Option<Spot>> = vec![in alloc; None; harts as usize]?;
         for event in events {
             if let Actor::Hart(h) = event.actor()
@@ -89,12 +98,7 @@ impl Visits {
     /// # Errors
     ///
     /// Memory was refused.
-    pub fn see_deeds(
-        &mut self,
-        alloc: Global,
-        harts: u64,
-        events: &[Event],
-    ) -> Result<(), AllocError> {
+    fn see_deeds(&mut self, alloc: Global, harts: u64, events: &[Event]) -> Result<(), AllocError> {
         let mut guests: Vec<Option<Spot>> = vec![in alloc; None; harts as usize]?;
         for event in events {
             let Actor::Hart(h) = event.actor() else {
