@@ -1,4 +1,5 @@
 """Proves and builds a program: the crates that it is made of, lowest first, two side by side where neither stands on the other."""
+import contextlib
 import os
 import shutil
 import signal
@@ -13,6 +14,8 @@ from commands import IS_INSTALLED, PROGRAM, ROOT, TESTER
 PARTS = ("src", "specs", "proofs")
 # So many crates are made one after the other as quickly as two at a time.
 FEW = 4
+# For so many seconds at most what was ended is waited for.
+MOMENT = 2
 # The most processors that the toolchain is asked to use.
 MOST_JOBS = 4
 
@@ -123,7 +126,8 @@ class Lane:
         with open(self.log, "wb") as said:
             # (a session of its own, so that it can be ended with all that it starts)
             how = {"stdin": subprocess.DEVNULL, "stdout": said, "stderr": subprocess.STDOUT, "start_new_session": True}
-            self.run = subprocess.Popen(words, cwd=os.path.join(self.root, "crates", name), **how)
+            with unbroken():
+                self.run = subprocess.Popen(words, cwd=os.path.join(self.root, "crates", name), **how)
         self.name = name
 
     def end(self):
@@ -132,12 +136,31 @@ class Lane:
         self.run = self.name = None
 
 
-def end_group(run):
-    """Ends a process that leads a group, with all others of it."""
+@contextlib.contextmanager
+def unbroken():
+    """Signals that come meanwhile are taken at its end: whoever begins a process here knows it, and can end it."""
+    came, handlers = [], {it: signal.getsignal(it) for it in (signal.SIGINT, signal.SIGTERM, signal.SIGHUP)}
+    handlers = {it: handler for it, handler in handlers.items() if callable(handler)}
+    for it in handlers:
+        signal.signal(it, lambda *given: came.append(given))
     try:
+        yield
+    finally:
+        for it, handler in handlers.items():
+            signal.signal(it, handler)
+        if came:
+            handlers[came[0][0]](*came[0])
+
+
+def end_group(run):
+    """Ends a process that leads a group, with all others of it, which may take a moment longer."""
+    until = time.monotonic() + MOMENT
+    with contextlib.suppress(ProcessLookupError):
         os.killpg(run.pid, signal.SIGTERM)
-    except ProcessLookupError:
-        pass
+        run.wait()
+        while time.monotonic() < until:
+            os.killpg(run.pid, 0)
+            time.sleep(0.01)
     run.wait()
 
 
