@@ -11,7 +11,7 @@ returns-then-has_failing c =
     let Q : List Point → Type 0 = λ ps. (c.has_failing.result ≡ true) ↔ HasFailing ps in
     let tells = subst Q c.deref.ensures.value c.has_failing.ensures in (
       (λ good. some-here (λ (x : FileReport). HasFailing x.points.items) c.args.files.now c.loop-file.file-index c.file-item.result (let below = c.loop-file-test.true in omega arith)
-        c.file-item.is (tells.0 c.if-has_failing.true)),
+          c.file-item.is (tells.0 c.if-has_failing.true)),
       (λ has. refl),
     )
 
@@ -26,5 +26,5 @@ pub returns : goal.returns
 returns c = (
   (λ bad. absurd (let t = bad in cc)),
   (λ has. absurd (each-whole (λ (x : FileReport). ¬ HasFailing x.points.items) c.args.files.now c.loop-file.file-index (let over = c.loop-file-test.false in omega arith)
-    c.loop-file.invariant has.0 has.1 has.2 has.3)),
+      c.loop-file.invariant has.0 has.1 has.2 has.3)),
 )
