@@ -40,7 +40,10 @@ impl<'a> Case<'a> {
         let mut is_here = !is_second;
         let mut is_left_out = false;
         let mut rest = behind_name(self.asked_at(line).as_bytes());
-        while let Some((word, after)) = next_word(rest) {
+        for _ in 0..rest.len() {
+            let Some((word, after)) = next_word(rest) else {
+                break;
+            };
             rest = after;
             let (said, is_last) = match word.strip_suffix(b",") {
                 Some(said) => (said, true),

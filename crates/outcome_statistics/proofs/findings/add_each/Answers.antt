@@ -12,7 +12,7 @@ loop-i-preserved c =
     let many = at.invariant.0 in
     let below = c.loop-i-test.true in
     let least = c.min-i-end.ensures in
-    let v : Judged = record { tally = c.add.new.self; met = c.add-2.new.self } in (
+    let v : Judged = record { tally = c.add.new.self; met = c.add-in-loop-i.new.self } in (
       length-set at.judged at.i v ∙ many,
       (λ asked tried more here there.
           tally-next asked at.judged c.args.judged.now at.i _ v tried (more ++ tried) (grind arith) here at.invariant.2
