@@ -2,7 +2,7 @@
 it excuses. Each sentence stands in docs/FIRMWARE.md, in the first column of a table of the section named (tests/test_to_trace.py looks)."""
 from board_model import (
     ALREADY_AVAILABLE, BASE, EXTENSIONS, FAILED, GONE, HSM, INVALID_ADDRESS, INVALID_PARAM, IPI, LOW, NOT_SUPPORTED, RFENCE, SRST, SSI, STARTED,
-    SUSPENDED, WAITING, suspend_error,
+    SUSPEND_PENDING, SUSPENDED, WAITING, suspend_error,
 )  # fmt: skip
 from standard import BREAKS, LATER, LEGACY, OPEN, OWN, PMU, UNEXPLAINED, UNJUDGED, Verdict, by_arguments, by_itself, by_state
 
@@ -29,6 +29,7 @@ class Rule:
 
 CALLS, LISTS, FENCES, HARTS = "Calls", "Hart lists", "Remote fences", "Starts, stops and suspends"
 TIMES, RESETS, MEMORY, BOARD = "Time and interrupts", "System resets", "Memory, translation and caches", "The board"
+EFFECTS = "What a payload looks at itself"
 RULES = {
     "extensions": Rule("the legacy extensions, PMU, the debug console and all later ones are unknown: -2, and 0 from the probe", CALLS, OWN, "4.4", "value"),
     "their calls": Rule("a call of an extension that is left out answers -2, and does nothing", CALLS, UNJUDGED, "3", "any"),
@@ -70,6 +71,11 @@ RULES = {
     "accessed, dirty": Rule("A and D are never set by the hardware: 0 is a page fault", MEMORY, OPEN, "Priv 4.3.1", "any"),
     "aligned": Rule("an access has 8 bytes and is aligned to 8; misalignment is looked at first", MEMORY, OWN, "Priv 3.7", "any"),
     "user pages": Rule("a page with U is a page fault, and so is an entry with one of bits 63 to 54", MEMORY, OWN, "Priv 4.3.1", "any"),
+    "ipis": Rule("an IPI that succeeds makes SSIP 1 at each hart that it names, and at no other", EFFECTS, BREAKS, "7.1", "any"),
+    "fences": Rule("a remote fence that succeeds is carried out at each hart that it names", EFFECTS, BREAKS, "8.2, 8.3", "any"),
+    "timers": Rule("STIP is 1 once the time of the last set_timer has come, and 0 before", EFFECTS, BREAKS, "6.1", "any"),
+    "registers": Rule("a call changes no register but a0 and a1", EFFECTS, BREAKS, "3", "any"),
+    "no satp": Rule("satp is 0 at an entry", EFFECTS, BREAKS, "9.1, 9.4", "any"),
     "boot hart": Rule(
         "at the opening, and after a reboot, the firmware starts one hart, the boot hart, and the others are STOPPED", BOARD, OWN, "10.1", "any",
     ),  # fmt: skip
@@ -78,7 +84,7 @@ RULES = {
 # A kernel tells what an access saw by calls of this extension, which nobody has: the FID is the rule's place here, a0 what
 # the rule gives, a1 what was seen.
 TELLS = 0x08000001
-TOLD = ("kept", "own rights", "accessed, dirty", "aligned", "user pages")
+TOLD = ("kept", "own rights", "accessed, dirty", "aligned", "user pages", "ipis", "fences", "timers", "registers", "no satp")
 
 
 def extension_name(eid):
@@ -219,7 +225,7 @@ def rule_of_entry(name, is_start, here, there):
 def rule_of_wake(state, hart):
     """A suspended hart went on there, and has nothing to wake it here."""
     it = state.board.harts[hart]
-    if it.state != SUSPENDED:
+    if it.state not in (SUSPENDED, SUSPEND_PENDING):
         return None
     if state.board.sip(hart):
         return "wake"
