@@ -242,8 +242,8 @@ static void some_start(u64 hart, struct dice *dice)
     begin(hart, target, address, 1 + below(dice, 1000));
 }
 
-/* Two harts never stop, and suspend with a deadline alone: one of them is there to wake the others, and to print. */
-static int stays(u64 hart) { return hart == boot || hart == (boot + 1) % asked.harts; }
+/* Most harts never stop, and suspend with a deadline alone: one of them is there to wake the others, and to print. */
+static int stays(u64 hart) { return hart == boot || (hart + asked.harts - boot) % asked.harts % 2; }
 
 static void some_suspend(u64 hart, struct dice *dice)
 {
