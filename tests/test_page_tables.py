@@ -145,6 +145,12 @@ class PageTables(Test):
             kinds = [it.kind for it in stale.findings]
             must(f"{what}: {list(stale.lines())}", {kind: kinds.count(kind) for kind in set(kinds)} == wanted)
 
+    def test_page_tables__costs(self):
+        """Fences before which nothing had changed are counted, by their kinds."""
+        for text, wanted in ((BEGIN, []), (BEGIN + "1 sfence - -\n", ["sfence"]), (BEGIN + fence(3), ["call"]), (BEGIN + page(1, 0x80200) + fence(3), []), (BEGIN + page(1, 0) + "1 sfence 0x1000 -\n", [])):
+            found = [line.kind for line in Stale(read_record(text.encode())).needless]
+            must(f"{found}, not {wanted}, of {text}", found == wanted)
+
     def test_page_tables__the_stored_record(self):
         """The kernel of the examples forgets two harts, once: the report names them, the fence, and its function; and by its status."""
         path = os.path.join(RECORDS, "kernel-tables.record")

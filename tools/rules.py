@@ -1,7 +1,7 @@
 """Which rule of this board a difference from a recorded answer is, its class, the section of SBI 1.0.0, and the answers that
 it excuses. Each sentence stands in docs/FIRMWARE.md, in the first column of a table of the section named (tests/test_to_trace.py looks)."""
 from board_model import (
-    ALREADY_AVAILABLE, BASE, EXTENSIONS, FAILED, GONE, HSM, INVALID_ADDRESS, INVALID_PARAM, IPI, LOW, NOT_SUPPORTED, RFENCE, SRST, SSI, STARTED,
+    ALREADY_AVAILABLE, BASE, EXTENSIONS, FAILED, GONE, HSM, INVALID_ADDRESS, INVALID_PARAM, IPI, LOW, NOT_SUPPORTED, RFENCE, SRST, SSI, STARTED, STOPPED,
     SUSPEND_PENDING, SUSPENDED, WAITING, suspend_error,
 )  # fmt: skip
 from standard import BREAKS, LATER, LEGACY, OPEN, OWN, PMU, UNEXPLAINED, UNJUDGED, Verdict, by_arguments, by_itself, by_state
@@ -46,7 +46,7 @@ RULES = {
     "whole hart ids": Rule("a hart id is all 64 bits", LISTS, BREAKS, "9.1, 9.3", 0, INVALID_ADDRESS, ALREADY_AVAILABLE),
     "ranges": Rule("start + size above 2^64 is INVALID_ADDRESS, and no other range is", FENCES, OPEN, "8.2, 8.3", 0),
     "fences don't wake": Rule("a fence waits at a suspended hart and doesn't wake it", FENCES, OPEN, "9.4", 0),
-    "already available": Rule("in each state but STOPPED a start answers ALREADY_AVAILABLE, -6", HARTS, OPEN, "9.1", INVALID_PARAM),
+    "already available": Rule("in each state but STOPPED a start answers ALREADY_AVAILABLE, -6", HARTS, OPEN, "9.1", INVALID_PARAM, ALREADY_AVAILABLE),
     "addresses": Rule("an address of a start or a resume is even, and in RAM", HARTS, OWN, "9.1, 9.4", 0, FAILED, "gone"),
     "open stops": Rule("hart_stop fails, -1, while sstatus.SIE is 1", HARTS, OPEN, "9.2", "gone"),
     "stops fail": Rule("hart_stop fails for no other reason", HARTS, OPEN, "9.2", FAILED),
@@ -173,7 +173,10 @@ def of_start(board, a, here, there):
     if error == INVALID_PARAM and a[0] & LOW < len(board.harts) <= a[0]:
         return "whole hart ids"
     if error == INVALID_ADDRESS:
-        return "addresses"
+        # (of several errors the standard leaves open which one comes)
+        state, said = board.harts[a[0]].state if a[0] < len(board.harts) else STOPPED, there[:2]
+        is_other = said == ("ret", ALREADY_AVAILABLE) and state != STOPPED or said == ("ret", INVALID_PARAM) and state not in (STARTED, STOPPED)
+        return "already available" if is_other else "addresses"
     if error == ALREADY_AVAILABLE and there[:2] == ("ret", INVALID_PARAM) and board.harts[a[0]].state != STARTED:
         return "already available"
     return {FAILED: "unknown reasons", NOT_SUPPORTED: "optional"}.get(there[1] if there[0] == "ret" else 0)

@@ -35,7 +35,7 @@ LEFT_OUT, MAPPED_ANEW = "left out of a fence", "mapped anew"
 
 
 class Stale:
-    """names: of an address the function, or None. `findings`, and `needless`: lines of fences that nobody needed."""
+    """names: of an address the function, or None. `findings`, and `needless`: lines of fences before which nothing had changed."""
 
     def __init__(self, record, names=lambda address: None):
         self.record, self.names = record, names
@@ -43,6 +43,8 @@ class Stale:
         # Of each hart what it may still hold, and of each satp what it maps.
         self.held, self.maps = {h: [] for h in range(record.harts)}, {}
         self.findings, self.needless, self.changes = [], [], 0
+        # Of each hart whether anything has changed since its last fence: its satp, or an entry of tables that it used.
+        self.has_news = dict.fromkeys(range(record.harts), False)
         self.calls = {record.lines[call.reply].number: call for call in record.lines if call.reply is not None}
         # A firmware whose own fences are recorded isn't taken by its word.
         self.is_trusted = not any("firmware" in line.notes for line in record.tables)
@@ -78,6 +80,8 @@ class Stale:
 
     def compare(self, satp, begin, end):
         before, after = self.maps.get(satp, {}), mappings(satp, self.table_at)
+        if before.keys() != after.keys() or any(before[key].pte != after[key].pte for key in after):
+            self.has_news |= {hart: True for hart, used in self.used.items() if satp in used}
         self.maps[satp] = after
         for key, mapping in after.items():
             if key not in before or before[key].pa != mapping.pa:
@@ -109,29 +113,32 @@ class Stale:
     def do_call(self, line):
         if is_reset(line.numbers) and line.reply is None:
             self.do_reset(line)
+        if line.numbers[0] == RFENCE and line.numbers[1] in (1, 2) and not any(self.has_news[hart] for hart in self.named(*line.numbers[2:4])):
+            self.needless.append(line)
 
     def do_satp(self, line):
         self.satp[line.hart] = satp = line.numbers[0]
+        self.has_news[line.hart] = True
         if levels_of(satp):
             self.used[line.hart].add(satp)
             self.maps.setdefault(satp, mappings(satp, self.table_at))
 
     def do_sfence(self, line):
         va, asid = line.numbers
-        dropped = self.fenced(line.hart, None if va is None else (va, va + 1), asid, line.number, line.number)
-        if not dropped and "firmware" not in line.notes:
+        if not self.has_news[line.hart] and "firmware" not in line.notes:
             self.needless.append(line)
+        self.fenced(line.hart, None if va is None else (va, va + 1), asid, line.number, line.number)
         if va is None:
             self.used[line.hart] = {it for it in self.used[line.hart] if it == self.satp.get(line.hart) or asid is not None and asid_of(it) != asid}
 
     def fenced(self, hart, span, asid, since, at):
         """Drops what is covered and was taken away before a line."""
+        self.has_news[hart] = False
         dropped = [change for change in self.held[hart] if change.end <= since and change.is_covered(span, asid)]
         self.held[hart] = [change for change in self.held[hart] if change not in dropped]
         for finding in self.findings:
             if finding.hart == hart and finding.change in dropped and finding.until is None:
                 finding.until = at
-        return dropped
 
     def do_ret(self, line):
         call = self.calls.get(line.number)

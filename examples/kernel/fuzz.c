@@ -597,8 +597,13 @@ void resume_main(u64 hart, u64 opaque)
     live(hart);
 }
 
+/* A firmware may begin a hart at the address of another entry: then it is as told, and nothing is cleared. */
+static volatile u64 has_booted __attribute__((section(".data.asked"))) = 0;
+
 void boot_main(u64 hart, u64 opaque)
 {
+    if (__atomic_exchange_n(&has_booted, 1, __ATOMIC_SEQ_CST) && !(asked.flags & REBOOTS && LIVES[0] == MAGIC))
+        live(entered((u64)boot_entry, hart, opaque));
     clear_bss();
     boot = hart = entered((u64)boot_entry, hart, opaque);
     made(hart, BASE, 0, 0, 0, 0, 0, 0);
