@@ -109,10 +109,10 @@ PLAYS = [
 ]  # fmt: skip
 
 
-def recorded(room, play):
+def recorded(room, play, data="an image"):
     """What tools/record makes of a play: its run, and the lines without notes and head."""
     image, stops, out = (os.path.join(room, name) for name in ("image", "play", "out"))
-    write(image, "an image")
+    write(image, data)
     with open(stops, "w", encoding="ascii") as file:
         json.dump(play.stops, file)
     given = os.environ | {"PATH": f"{STAND_IN}:{os.environ.get('PATH', '')}", "STAND_IN_PLAY": stops}
@@ -152,6 +152,28 @@ class Recorders(Test):
                 raise AssertionError(f"with {words} status {found.returncode}, and it said {shown(found.stderr)}")
         found, lines = recorded(self.room, Play("", [{"ends": "no machine"}], []))
         must(f"of nothing: status {found.returncode}, and it said {shown(found.stderr)}", found.returncode == 1 and b"record: nothing was recorded; gdb said: no machine" in found.stderr and not lines)
+
+    def test_recorder__page_tables(self):
+        """Fences and writes of satp in the image, and the changes of tables between stops; of A and D none, and of the firmware's fences a note."""
+        first, second = {"0x80001000": 0x20000801, "0x80002000": 0x20000C01, "0x80003008": 0x20040047}, {"0x80001000": 0x20000801, "0x80002000": 0x20000C01}
+        code, satp = 0x80200100, 8 << 60 | 0x80001
+        image = b"\x13\x00\x00\x00" * 64 + b"".join(word.to_bytes(4, "little") for word in (0x18051073, 0x12B50073, 0x0000100F))
+        firmware = {"0x80000800": 0x12050073}
+        stops = [
+            {**enters(0), "ram": firmware}, {"hart": 0, "pc": code, "x10": satp, "ram": first}, {"hart": 0, "pc": code + 4, "satp": satp, "x10": 0x1000, "x11": 7, "ram": first},
+            {"hart": 0, "pc": code + 8, "satp": satp, "ram": {**first, "0x80003008": 0x200400C7}},
+            {"hart": 0, "pc": 0x80000800, "satp": satp, "x10": 0x2000, "ram": {**second, "0x80003008": 0x20080047}},
+            {**calls(0, TIME, 0, 5), "satp": satp, "ra": 0x80201100, "ram": {**second, "0x80003008": 0}}, {**is_back(0), "satp": satp, "ram": second}, OFF,
+        ]  # fmt: skip
+        wanted = [
+            BOOT, f"0 satp {satp:#x}", "m store 0x80001000 0x20000801", "m store 0x80002000 0x20000c01", "m store 0x80003008 0x20040047",
+            "0 sfence 0x1000 0x7", "0 fencei", "m store 0x80003008 0x20080047", "0 sfence 0x2000 -", "m store 0x80003008 0x0",
+            call(0, TIME, 0, 5), "0 ret 0 0x0", "m end off",
+        ]  # fmt: skip
+        found, lines = recorded(self.room, Play("", stops, [], harts=1, words=("--tables",)), image)
+        plain = [" ".join(word for word in line.split(" ") if "=" not in word) for line in lines]
+        must(f"status {found.returncode}, lines {plain}, not {wanted}; it said {found.stderr.decode()}", plain == wanted and not found.returncode)
+        must(f"{lines}", "firmware=1" in lines[8] and "firmware" not in lines[5] and f"pc={AT:#x} ra=0x80201100" in lines[10])
 
     def test_a_fresh_record__interrupts(self):
         """A supervisor whose timers come right behind returns, built and recorded here and now: no return is lost, and all agree."""

@@ -99,6 +99,7 @@ WRONG = [
     ("a reboot with another a1", TWO + "m reset\n0 entry 0x80200000 0 0x87e00001\n", "otherwise", 7),
     ("a resume at another address", TWO + call(HSM, 3, 1 << 31, 0x80200100, 9, hart=1) + "1 entry 0x80200108 1 9\n", "otherwise", 7),
     ("a resume of the system at another address", BOOT + call(0x53555350, 0, 0, 0x80200100, 9) + "0 entry 0x80200108 0 9\n", "otherwise", 4),
+    *((f"what a payload tells by {fid}", TWO + answered(0x08000001, fid, 1, 0, ret="-2 0"), "breaks", 6) for fid in range(5, 10)),
     ("a return behind a reset", TWO + call(TIME, 0, 5, hart=1) + "m reset\n0 entry 0x80200000 0 0x87e00000\n1 ret 0 0\n", UNEXPLAINED, 9),
 ]  # fmt: skip
 

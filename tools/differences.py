@@ -1,7 +1,7 @@
 """Differences between what was recorded and what the board answers: what is compared, and by which verdict they are told."""
 from bisect import bisect_right
 
-from board_model import BASE, GONE, HSM, INVALID_ADDRESS, IPI, LOW, RFENCE, SSI, STI, WAITING, spelled_answer
+from board_model import BASE, GONE, HSM, INVALID_ADDRESS, IPI, LOW, RESUME_PENDING, RFENCE, SSI, STARTED, STI, WAITING, spelled_answer
 from liveness import shown as spelled_call
 from records import UNSEEN, is_reset, is_suspend
 from rules import TELLS, TOLD, UNEXPLAINED_VERDICT, by_this_state, certain, rule_of_entry, rule_of_wake, verdict_of
@@ -82,7 +82,7 @@ class Differences:
         line = self.lines[call.place]
         verdict = certain(state.board, call.op, line.numbers, answer, shown, self.version, line.numbers[0] in self.offered)
         if verdict is None and not self.origin(state, line, answer):
-            verdict = by_this_state(state.board, call.op, answer, shown)
+            verdict = self.of_woken(state, call.op, shown) or by_this_state(state.board, call.op, answer, shown)
         self.found(state, line, self.name(line), answer, self.said(call.place), verdict, self.touched(hart, call.op))
         if call.op[1:3] == (IPI, 0):
             state.missed |= {h: line.number for h in self.named(line.numbers[2:4])}
@@ -159,6 +159,13 @@ class Differences:
                 rule = rule_of_entry(name, is_start, value, there)
                 verdict = verdict_of(rule) if rule else SSTATUS
                 state.put(Difference(line.number, f"{self.id(hart)} entry: {name}", f"{value:#x}", f"{there:#x}", verdict, None))
+
+    def of_woken(self, state, op, shown):
+        """A hart that sleeps here has the state of one that goes on: there something woke it that doesn't wake it here."""
+        if op[1:3] != (HSM, 2) or op[3] >= self.record.harts or shown not in (("ret", 0, STARTED), ("ret", 0, RESUME_PENDING)):
+            return None
+        rule = rule_of_wake(state, op[3])
+        return verdict_of(rule) if rule else None
 
     def of_wake(self, state, hart, answer):
         rule = rule_of_wake(state, hart) if answer[0] == "refused" else None

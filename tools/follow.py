@@ -3,8 +3,8 @@ wrote), orders calls that overlap so that the board answers what was recorded, a
 from bisect import bisect_right
 
 from board_model import (
-    ALL, GONE, HSM, IPI, RESUME_PENDING, RFENCE, SRST, SSI, START_PENDING, STARTED, STI, STOP_PENDING, STOPPED, SUSPEND_PENDING, SUSPENDED, TIME,
-    WAITING, Board, spelled_answer,
+    ALL, ALREADY_AVAILABLE, GONE, HSM, INVALID_PARAM, IPI, RESUME_PENDING, RFENCE, SRST, SSI, START_PENDING, STARTED, STI, STOP_PENDING, STOPPED,
+    SUSPEND_PENDING, SUSPENDED, TIME, WAITING, Board, spelled_answer,
 )  # fmt: skip
 from differences import READ_SIE, Differences, is_system_suspend
 from numbers_here import Numbers
@@ -230,11 +230,11 @@ class Follower(Differences):
             done = self.opened(state.copy(), place)
             if self.effect(done, hart) != shown:
                 return
+            yield done
             if done.board.harts[hart].state in (STOP_PENDING, SUSPEND_PENDING):
                 further = done.copy()
                 self.advance(further, hart)
                 yield further
-            yield done
         yield self.opened(state.copy(), place)
         # (where its SSIP is 0, an IPI that hasn't returned may have come before, and was cleared)
         if not self.lines[place].notes.get("sip", SSI) & SSI:
@@ -262,8 +262,9 @@ class Follower(Differences):
             state.fenced -= {hart}
         answer = state.do(hart, call.op, line.number, why, self.said(call.place))
         state.calls[hart] = Open(call.place, call.op, answer)
-        if answer == WAITING and call.op[1] == RFENCE:
-            state.fenced |= {t for t in before.harts[hart].outstanding or () if before.harts[t].state in (SUSPENDED, SUSPEND_PENDING)}
+        if call.op[1] == RFENCE and (answer == WAITING or shown in (WAITING, ("ret", 0, 0))):
+            # (also one that is refused here, or a hypervisor's)
+            state.fenced |= {t for t in self.named(line.numbers[2:4]) if t != hart and before.harts[t].state in (SUSPENDED, SUSPEND_PENDING)}
         if answer == GONE and is_reset(call.op[1:]):
             state.forget()
         if shown is not None and answer != shown:
@@ -325,7 +326,8 @@ class Follower(Differences):
         for hart, call in state.calls.items():
             if call.answer is None and (hart != self.lines[place].hart or self.lines[place].kind == "entry"):
                 moved, shown = state.copy(), self.shown(call.place)
-                if self.effect(moved, hart) == shown or shown is None:
+                answer = self.effect(moved, hart)
+                if shown is None or self.is_alike(moved, call.op, answer, shown):
                     yield moved
         for hart, it in enumerate(state.board.harts):
             if it.state in (STOP_PENDING, SUSPEND_PENDING):
@@ -377,15 +379,22 @@ class Follower(Differences):
             answer = self.polled(state, line) if call.op[1] == RFENCE else self.woken(state, line)
             if answer != (self.returns(place) or ("ret", 0, 0)):
                 return None
-        elif call.answer != (self.shown(call.place) or call.answer):
+        elif not self.is_alike(state, call.op, call.answer, self.shown(call.place)):
             return None
         self.values(state, place)
         del state.calls[line.hart]
         return state
 
     def effect_agrees(self, state, hart):
-        shown = self.shown(state.calls[hart].place)
-        return state if self.effect(state, hart) == (shown or state.calls[hart].answer) else None
+        shown, op = self.shown(state.calls[hart].place), state.calls[hart].op
+        answer = self.effect(state, hart)
+        return state if self.is_alike(state, op, answer, shown) else None
+
+    def is_alike(self, state, op, answer, shown):
+        """Whether the order of the lines stands with this answer. A start of a hart in a pending state may have either error."""
+        if op[1:3] == (HSM, 0) and (answer, shown) == (("ret", ALREADY_AVAILABLE, 0), ("ret", INVALID_PARAM, 0)):
+            return state.board.harts[op[3]].state in (START_PENDING, STOP_PENDING, SUSPEND_PENDING, RESUME_PENDING, SUSPENDED)
+        return shown is None or answer == shown
 
     def polled(self, state, line):
         """The fence is applied where it waits, and the call returns."""
@@ -510,7 +519,9 @@ class Follower(Differences):
         answer = early[0] if early else state.do(hart, ("advance",), line.number, f"line {line.number}", said)
         if answer != said:
             verdict = self.of_wake(state, hart, answer) if is_asleep else None
-            self.found(state, line, f"{self.id(hart)} entry", answer, said, verdict, {hart})
+            self.found(state, line, f"{self.id(hart)} entry", answer, said, verdict, set() if verdict else {hart})
+            if verdict:
+                self.wake_as_there(state, hart)
 
     def forced_return(self, state, line):
         hart = line.hart
@@ -534,6 +545,8 @@ class Follower(Differences):
             call = state.calls.get(other)
             if call is not None and other != hart and call.answer is None and self.shown(call.place) in (WAITING, ("ret", 0, 0)):
                 self.effect(state, other)
+            elif call is not None and other != hart and call.op[1] == RFENCE and hart in self.named(self.lines[call.place].numbers[2:4]):
+                state.fenced |= {hart}
 
     def forced_wake(self, state, line):
         hart, said = line.hart, self.returned_as(line) or ("ret", 0, 0)
@@ -544,4 +557,17 @@ class Follower(Differences):
             self.advance(state, hart)
         answer = state.do(hart, ("advance",), line.number, f"line {line.number}", said)
         if answer[:2] != said[:2]:
-            self.found(state, line, f"{self.id(hart)} resumes", answer, said, self.of_wake(state, hart, answer), {hart})
+            verdict = self.of_wake(state, hart, answer)
+            self.found(state, line, f"{self.id(hart)} resumes", answer, said, verdict, set() if verdict else {hart})
+            if verdict:
+                self.wake_as_there(state, hart)
+
+    def wake_as_there(self, state, hart):
+        """What woke the hart there doesn't wake it here: the board goes on as if it did. (Its trace is checked up to here alone.)"""
+        it = state.board.mine(hart)
+        was = it.sie, it.ssip
+        it.sie, it.ssip = SSI, 1
+        while state.board.harts[hart].state in (SUSPENDED, RESUME_PENDING):
+            state.board.step(hart, ("advance",))
+        it = state.board.mine(hart)
+        it.sie, it.ssip = was

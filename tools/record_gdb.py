@@ -4,8 +4,13 @@ Each line is written at once. Where a call has returned and its answer isn't see
 return of call N, and `@N HART ret A0 A1` is that return; the last line is `@end HOW`. tools/record puts them together.
 """
 import os
+import sys
 
 import gdb
+
+sys.path.insert(0, os.path.dirname(os.path.realpath(os.environ["RECORD_SCRIPT"])))
+
+from record_tables import Tables  # noqa: E402
 
 SRST, HSM, SUSP = 0x53525354, 0x48534D, 0x53555350
 FROM_S_MODE = 9
@@ -26,6 +31,14 @@ def time_now():
     return int.from_bytes(bytes(gdb.selected_inferior().read_memory(MTIME, 8)), "little")
 
 
+def memory(address, count):
+    """Physical memory, or None where there is none."""
+    try:
+        return bytes(gdb.selected_inferior().read_memory(address, count))
+    except gdb.error:
+        return None
+
+
 class Call:
     """A call that is open: its hart, its registers and number, and the address and stack pointer at which it goes on.
     The stack pointer tells apart calls of several tasks that all call from one place."""
@@ -41,6 +54,8 @@ class Recorder:
         self.vectors = set()
         self.has_begun = False
         self.calls = 0
+        image = os.environ.get("RECORD_TABLES")
+        self.tables = Tables(image, ENTRY, HARTS, memory, self.put) if image else None
         self.fresh()
 
     def fresh(self):
@@ -61,10 +76,16 @@ class Recorder:
 
     def write(self, hart, *words):
         notes = [f"time={time_now():#x}", f"sie={register('sie'):#x}", f"sip={register('sip'):#x}", f"sstatus={register('sstatus') >> 1 & 1}"]
+        if self.tables and words[0] == "call":
+            notes += [f"pc={register('mepc'):#x}", f"ra={register('ra'):#x}"]
         self.put(hart, *words, *notes)
 
     def stopped(self):
         hart, pc = gdb.selected_thread().num - 1, register("pc")
+        if self.tables:
+            self.tables.look(hart, register)
+            if pc in self.tables.stops:
+                self.tables.instruction(hart, pc, register)
         if pc in self.vectors:
             if register("mcause") == FROM_S_MODE:
                 self.called(hart)
@@ -139,12 +160,20 @@ class Recorder:
                 self.put("m reset")
             self.has_begun = True
             self.fresh()
+            self.look_for_fences()
         self.awaited[hart] = {}
         self.open.pop(hart, None)
         vector = register("mtvec") & ~3
         self.vectors.add(vector)
         self.stop_at(vector)
         self.write(hart, "entry", f"{pc:#x}", f"{register('a0'):#x}", f"{register('a1'):#x}")
+
+    def look_for_fences(self):
+        """Where the supervisor and the firmware fence: both are in memory now."""
+        if self.tables:
+            self.tables.look_for_the_firmware()
+            for address in self.tables.stops:
+                self.stop_at(address)
 
 
 def watch(recorder):

@@ -1,5 +1,6 @@
 """From what gdb wrote (record_gdb.py), the lines of a record: returns that were seen late are put in their places."""
 from board_model import HSM, SRST
+from records import OF_TABLES
 
 SUSP = 0x53555350
 # Calls that needn't return.
@@ -29,6 +30,8 @@ def pending(lines):
     calls, started, entered = {}, {}, {}
     for place, line in enumerate(lines):
         hart, kind, *words = line.split()
+        if kind in OF_TABLES:
+            continue
         if hart == "m":
             calls, started, entered = {}, {}, {}
         elif kind == "call":

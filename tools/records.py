@@ -1,8 +1,10 @@
 """Records of calls and entries, as docs/RECORDS.md describes them: read, and told where one is broken."""
 from board_model import ALL, HSM, IPI, RFENCE, SRST
 
-NOTES = ("time", "sie", "sip", "sstatus")
-COUNTS = {"call": 8, "ret": 2, "entry": 3}
+NOTES = ("time", "sie", "sip", "sstatus", "pc", "ra", "firmware")
+COUNTS = {"call": 8, "ret": 2, "entry": 3, "satp": 1, "sfence": 2, "fencei": 0}
+# Lines of page tables, which a trace has nothing of.
+OF_TABLES = ("satp", "sfence", "fencei", "store")
 ENDS = ("limit", "off", "closed")
 # How records without a line `m end` say it.
 ENDED = {"# ended: the limit of ": "limit", "# ended: the machine was switched off": "off"}
@@ -34,7 +36,7 @@ class Record:
 
     def __init__(self, ids, lines, end, is_guessed):
         self.harts, self.ids, self.lines, self.end, self.is_guessed = len(ids), ids, lines, end, is_guessed
-        self.conditions = []
+        self.conditions, self.tables = [], []
         self.place_of = {number: place for place, number in enumerate(ids)}
         self.has_times = any("time" in line.notes for line in lines)
         self.has_sie = any("sie" in line.notes for line in lines)
@@ -70,8 +72,10 @@ def line_of(words, at):
         return Line(at, None, "reset", (), {})
     if words[:2] == ["m", "end"] and len(words) == 3 and words[2] in ENDS:
         return Line(at, None, "end", (words[2],), {})
+    if words[:2] == ["m", "store"] and len(words) == 4:
+        return Line(at, None, "store", tuple(number_of(word, at) for word in words[2:]), {})
     if words[0] == "m":
-        raise Broken(at, f"the machine's lines are 'm reset' and 'm end {'|'.join(ENDS)}'")
+        raise Broken(at, f"the machine's lines are 'm reset', 'm store ADDRESS VALUE' and 'm end {'|'.join(ENDS)}'")
     hart = number_of(words[0], at)
     if len(words) < 2 or words[1] not in COUNTS:
         raise Broken(at, "a line is HART call, HART ret or HART entry" + (f", and not '{words[1]}'" if len(words) > 1 else ""))
@@ -82,6 +86,8 @@ def line_of(words, at):
         raise Broken(at, f"'{kind}' has {COUNTS[kind]} numbers, and here are {len(plain)}{cut}")
     if kind == "ret" and plain == ["-", "-"]:
         numbers = UNSEEN
+    elif kind == "sfence":
+        numbers = tuple(None if word == "-" else number_of(word, at) for word in plain)
     else:
         numbers = tuple(number_of(word, at, kind == "ret" and i == 0) for i, word in enumerate(plain))
     return Line(at, hart, kind, numbers, notes_of(words[2 + len(plain) :], at))
@@ -122,8 +128,15 @@ def read(data):
         raise Broken(1, "the first line is 'record HARTS'")
     if lines and lines[-1].kind == "end":
         end = lines.pop().numbers[0]
+    found = [line for line in lines if line.kind in OF_TABLES]
+    lines = [line for line in lines if line.kind not in OF_TABLES]
     join(lines)
     record = numbered(head, lines, end)
+    record.tables = found
+    for line in found:
+        if line.hart is not None and line.hart not in record.place_of:
+            raise Broken(line.number, f"there is no hart {line.hart}: the record has {' '.join(map(str, record.ids))}")
+        line.hart = None if line.hart is None else record.place_of[line.hart]
     record.conditions = conditions(text)
     return record
 

@@ -1,8 +1,8 @@
 """Which rule of this board a difference from a recorded answer is, its class, the section of SBI 1.0.0, and the answers that
 it excuses. Each sentence stands in docs/FIRMWARE.md, in the first column of a table of the section named (tests/test_to_trace.py looks)."""
 from board_model import (
-    ALREADY_AVAILABLE, BASE, EXTENSIONS, FAILED, GONE, HSM, INVALID_ADDRESS, INVALID_PARAM, IPI, LOW, NOT_SUPPORTED, RFENCE, SRST, SSI, STARTED,
-    SUSPENDED, WAITING, suspend_error,
+    ALREADY_AVAILABLE, BASE, EXTENSIONS, FAILED, GONE, HSM, INVALID_ADDRESS, INVALID_PARAM, IPI, LOW, NOT_SUPPORTED, RFENCE, SRST, SSI, STARTED, STOPPED,
+    SUSPEND_PENDING, SUSPENDED, WAITING, suspend_error,
 )  # fmt: skip
 from standard import BREAKS, LATER, LEGACY, OPEN, OWN, PMU, UNEXPLAINED, UNJUDGED, Verdict, by_arguments, by_itself, by_state
 
@@ -29,6 +29,7 @@ class Rule:
 
 CALLS, LISTS, FENCES, HARTS = "Calls", "Hart lists", "Remote fences", "Starts, stops and suspends"
 TIMES, RESETS, MEMORY, BOARD = "Time and interrupts", "System resets", "Memory, translation and caches", "The board"
+EFFECTS = "What a payload looks at itself"
 RULES = {
     "extensions": Rule("the legacy extensions, PMU, the debug console and all later ones are unknown: -2, and 0 from the probe", CALLS, OWN, "4.4", "value"),
     "their calls": Rule("a call of an extension that is left out answers -2, and does nothing", CALLS, UNJUDGED, "3", "any"),
@@ -45,7 +46,7 @@ RULES = {
     "whole hart ids": Rule("a hart id is all 64 bits", LISTS, BREAKS, "9.1, 9.3", 0, INVALID_ADDRESS, ALREADY_AVAILABLE),
     "ranges": Rule("start + size above 2^64 is INVALID_ADDRESS, and no other range is", FENCES, OPEN, "8.2, 8.3", 0),
     "fences don't wake": Rule("a fence waits at a suspended hart and doesn't wake it", FENCES, OPEN, "9.4", 0),
-    "already available": Rule("in each state but STOPPED a start answers ALREADY_AVAILABLE, -6", HARTS, OPEN, "9.1", INVALID_PARAM),
+    "already available": Rule("in each state but STOPPED a start answers ALREADY_AVAILABLE, -6", HARTS, OPEN, "9.1", INVALID_PARAM, ALREADY_AVAILABLE),
     "addresses": Rule("an address of a start or a resume is even, and in RAM", HARTS, OWN, "9.1, 9.4", 0, FAILED, "gone"),
     "open stops": Rule("hart_stop fails, -1, while sstatus.SIE is 1", HARTS, OPEN, "9.2", "gone"),
     "stops fail": Rule("hart_stop fails for no other reason", HARTS, OPEN, "9.2", FAILED),
@@ -70,6 +71,11 @@ RULES = {
     "accessed, dirty": Rule("A and D are never set by the hardware: 0 is a page fault", MEMORY, OPEN, "Priv 4.3.1", "any"),
     "aligned": Rule("an access has 8 bytes and is aligned to 8; misalignment is looked at first", MEMORY, OWN, "Priv 3.7", "any"),
     "user pages": Rule("a page with U is a page fault, and so is an entry with one of bits 63 to 54", MEMORY, OWN, "Priv 4.3.1", "any"),
+    "ipis": Rule("an IPI that succeeds makes SSIP 1 at each hart that it names, and at no other", EFFECTS, BREAKS, "7.1", "any"),
+    "fences": Rule("a remote fence that succeeds is carried out at each hart that it names", EFFECTS, BREAKS, "8.2, 8.3", "any"),
+    "timers": Rule("STIP is 1 once the time of the last set_timer has come, and 0 before", EFFECTS, BREAKS, "6.1", "any"),
+    "registers": Rule("a call changes no register but a0 and a1", EFFECTS, BREAKS, "3", "any"),
+    "no satp": Rule("satp is 0 at an entry", EFFECTS, BREAKS, "9.1, 9.4", "any"),
     "boot hart": Rule(
         "at the opening, and after a reboot, the firmware starts one hart, the boot hart, and the others are STOPPED", BOARD, OWN, "10.1", "any",
     ),  # fmt: skip
@@ -78,7 +84,7 @@ RULES = {
 # A kernel tells what an access saw by calls of this extension, which nobody has: the FID is the rule's place here, a0 what
 # the rule gives, a1 what was seen.
 TELLS = 0x08000001
-TOLD = ("kept", "own rights", "accessed, dirty", "aligned", "user pages")
+TOLD = ("kept", "own rights", "accessed, dirty", "aligned", "user pages", "ipis", "fences", "timers", "registers", "no satp")
 
 
 def extension_name(eid):
@@ -167,7 +173,10 @@ def of_start(board, a, here, there):
     if error == INVALID_PARAM and a[0] & LOW < len(board.harts) <= a[0]:
         return "whole hart ids"
     if error == INVALID_ADDRESS:
-        return "addresses"
+        # (of several errors the standard leaves open which one comes)
+        state, said = board.harts[a[0]].state if a[0] < len(board.harts) else STOPPED, there[:2]
+        is_other = said == ("ret", ALREADY_AVAILABLE) and state != STOPPED or said == ("ret", INVALID_PARAM) and state not in (STARTED, STOPPED)
+        return "already available" if is_other else "addresses"
     if error == ALREADY_AVAILABLE and there[:2] == ("ret", INVALID_PARAM) and board.harts[a[0]].state != STARTED:
         return "already available"
     return {FAILED: "unknown reasons", NOT_SUPPORTED: "optional"}.get(there[1] if there[0] == "ret" else 0)
@@ -219,7 +228,7 @@ def rule_of_entry(name, is_start, here, there):
 def rule_of_wake(state, hart):
     """A suspended hart went on there, and has nothing to wake it here."""
     it = state.board.harts[hart]
-    if it.state != SUSPENDED:
+    if it.state not in (SUSPENDED, SUSPEND_PENDING):
         return None
     if state.board.sip(hart):
         return "wake"

@@ -5,7 +5,10 @@
 typedef unsigned long u64;
 
 enum { BASE = 0x10, TIME = 0x54494D45, IPI = 0x735049, RFENCE = 0x52464E43, HSM = 0x48534D, SRST = 0x53525354 };
-enum { HARTS = 4, STARTED = 0, STOPPED = 1, SUSPENDED = 4 };
+#ifndef HARTS
+#define HARTS 4
+#endif
+enum { STARTED = 0, STOPPED = 1, SUSPENDED = 4 };
 enum { SSIE = 1 << 1, STIE = 1 << 5 };
 
 struct answer {

@@ -20,7 +20,13 @@ class Inferior:
         self.pid = pid
 
     def read_memory(self, address, count):
-        return memoryview(NOW["time"].to_bytes(count, "little"))
+        """The time; or a page of what the stop says of memory, by addresses of 8 bytes. Elsewhere there is nothing."""
+        if count == 8:
+            return memoryview(NOW["time"].to_bytes(count, "little"))
+        ram = {int(at, 0): value for at, value in NOW.get("ram", {}).items() if address <= int(at, 0) < address + count}
+        if not ram:
+            raise error("no memory")
+        return memoryview(b"".join(ram.get(at, 0).to_bytes(8, "little") for at in range(address, address + count, 8)))
 
 
 class Thread:

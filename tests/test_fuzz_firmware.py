@@ -1,0 +1,180 @@
+"""tools/fuzz-firmware: stored records of its payload, each wrong answer that would have to be seen, its words, and a run under QEMU."""
+import os
+import re
+import shutil
+import subprocess
+from unittest import SkipTest
+
+import fuzzing
+from reports import FAULTS
+from rules import TOLD
+from standard import FUNCTIONS
+
+from .fixtures import RECORDS, ROOT, Test, must, read, read_bytes, shown, write
+
+TOOL = os.path.join(ROOT, "tools/fuzz-firmware")
+# Stored records of whole runs, whose one fault is that ids are cut; and of one in which a fence hangs.
+WHOLE, HANGS = ("fuzz-whole", "fuzz-two-harts"), "fuzz-hangs"
+CUT, HANGING, BREAKS = "a hart id is all 64 bits", "calls that don't return", "breaks the standard"
+TELL = 0x8000001
+
+
+def asked_of(text):
+    seed, operations = (int(word, 16) for word in re.search(r"# fuzz: seed (0x\w+), operations (0x\w+)", text).groups())
+    harts = int(re.search(r"^record (0x\w+)", text, re.M)[1], 16)
+    return fuzzing.Asked(seed, harts, operations // harts, 6)
+
+
+def verdict(text):
+    return fuzzing.Verdict(text, asked_of(text))
+
+
+def without_cuts(found):
+    return {key for key in found.faults if CUT not in key[1]}
+
+
+# ---- wrong answers, put into a stored record of a whole run
+
+
+def replies(text, eid, fid, error="0x0"):
+    """The calls of a function that returned so, each with its return: as texts."""
+    lines = text.split("\n")
+    for at, line in enumerate(lines):
+        if re.match(rf"\d call {eid:#x} {fid:#x} ", line):
+            hart = line[0]
+            reply = next((it for it in lines[at + 1 :] if it.startswith(f"{hart} ")), "")
+            if reply.startswith(f"{hart} ret {error} "):
+                yield line, reply
+
+
+def with_reply(text, pair, words):
+    line, reply = pair
+    return text.replace(f"{line}\n", f"{line}\n", 1).replace(f"{reply}\n", f"{' '.join([*words, *reply.split()[4:]])}\n" if words else "", 1)
+
+
+def first(text, *function):
+    return next(replies(text, *function))
+
+
+def hangs(text):
+    """A hart's last call doesn't return: the payload gives up."""
+    line, reply = list(replies(text, 0x52464E43, 1))[-1]
+    hart, lines = line[0], text.split("\n")
+    at = lines.index(line)
+    kept = lines[: at + 1] + [it for it in lines[at + 1 :] if not it.startswith(f"{hart} ") and "0x53525354 0x0 0x0 0x0" not in it]
+    return "\n".join(kept).replace("m end off", "m end limit").replace(", whole", ", given up")
+
+
+def half_served(text, number):
+    """One hart of those that were named sees nothing: it tells another value."""
+    found = next(it for it in re.findall(rf"^\d call {TELL:#x} {number:#x} (\S+) \S+ .*$", text, re.M) if it != "0x0")
+    line = re.search(rf"^\d call {TELL:#x} {number:#x} {found} {found} .*$", text, re.M)[0]
+    return text.replace(line, line.replace(f" {found} {found} ", f" {found} 0x0 ", 1), 1)
+
+
+def told_otherwise(text, number):
+    """A hart tells a 1 where a 0 is right: an IPI too many, a register that changed, a satp."""
+    line = re.search(rf"^\d call {TELL:#x} {number:#x} 0x0 0x0 .*$", text, re.M)[0]
+    return text.replace(line, line.replace(f" {number:#x} 0x0 0x0 ", f" {number:#x} 0x0 0x1 ", 1), 1)
+
+
+def never_enters(text):
+    """A hart that was started doesn't enter, and does nothing more."""
+    line = re.findall(r"^\d entry 0x80200100 .*$", text, re.M)[-1]
+    entry, lines = line[0], text.split("\n")
+    at = lines.index(line)
+    return "\n".join(it for place, it in enumerate(lines) if place < at or not it.startswith(f"{entry} "))
+
+
+def wrong_answers(text):
+    """Each: what is wrong, the record, and words of the fault by which it must be seen."""
+    ipi, status, timer, start = (first(text, *it) for it in ((0x735049, 0), (0x48534D, 2), (0x54494D45, 0), (0x48534D, 0)))
+    hart = ipi[0][0]
+    yield "a garbage error", with_reply(text, ipi, [hart, "ret", "-0x4d", "0x0"]), "an error is one of the list"
+    yield "an error of another function", with_reply(text, ipi, [hart, "ret", "-0x6", "0x0"]), "one of those that the function's section names"
+    yield "a state that isn't one", with_reply(text, status, [status[0][0], "ret", "0x0", "0x9"]), "a state is 0 to 6"
+    yield "another state", with_reply(text, status, [status[0][0], "ret", "0x0", "0x1"]), "hart_get_status"
+    yield "an error of the timer", with_reply(text, timer, [timer[0][0], "ret", "-0x3", "0x0"]), "set_timer"
+    yield "a start that is refused", with_reply(text, start, [start[0][0], "ret", "-0x3", "0x0"]), "hart_start"
+    yield "a hang", hangs(text), "remote_sfence_vma"
+    yield "an IPI that reaches half of its mask", half_served(text, TOLD.index("ipis")), "an IPI that succeeds"
+    yield "a fence that reaches half of its mask", half_served(text, TOLD.index("fences")), "a remote fence that succeeds"
+    yield "a timer that doesn't come", half_served(text, TOLD.index("timers")), "STIP is 1"
+    yield "an IPI that reaches another hart", told_otherwise(text, TOLD.index("ipis")), "an IPI that succeeds"
+    yield "a timer's interrupt that stays", told_otherwise(text, TOLD.index("timers")), "STIP is 1"
+    yield "a register that changes", told_otherwise(text, TOLD.index("registers")), "changes no register"
+    yield "a satp at an entry", told_otherwise(text, TOLD.index("no satp")), "satp is 0"
+    yield "another a0 at an entry", re.sub(r"^(\d entry \S+) 0x\w+ (0x\w*5eed\w+)", r"\1 0x7 \2", text, 1, re.M), "an entry"
+    yield "another a1 at an entry", re.sub(r"^(\d entry \S+ \S+) 0x(\w*)5eed0(\w)", r"\1 0x9\g<2>5eed0\3", text, 1, re.M), "an entry"
+    yield "SIE at an entry", re.sub(r"^(\d entry .*5eed.*sstatus=)0", r"\g<1>1", text, 1, re.M), "sstatus.SIE is 0"
+    yield "a hart that never enters", never_enters(text), "hart_start"
+    yield "a run that was cut", text[: text.index("\n", len(text) // 2) + 1] + "m end off\n", "harts that didn't come to the end"
+    yield "a run that says that it was given up", text.replace(", whole", ", given up"), "harts that didn't come to the end"
+    yield "nothing", "", "the payload"
+
+
+class FuzzFirmware(Test):
+    programs = ()
+
+    def test_fuzz__stored_records(self):
+        """Of a firmware that cuts ids nothing else is told, and all was compared that can be; of one that hangs the fences are."""
+        for name in WHOLE:
+            text = read(os.path.join(RECORDS, f"{name}.record"))
+            found = verdict(text)
+            must(f"{name}: {found.faults}", not without_cuts(found) and found.compared > 0.9 * found.total > 60)
+        text = read(os.path.join(RECORDS, f"{HANGS}.record"))
+        must(f"{verdict(text).faults}", any(kind == HANGING and "fence" in what for kind, what in verdict(text).faults))
+
+    def test_fuzz__each_wrong_answer_is_seen(self):
+        """With each of these wrong answers in a stored record it isn't green any more, and by the right fault."""
+        text = read(os.path.join(RECORDS, "fuzz-whole.record"))
+        before = without_cuts(verdict(text))
+        must(f"{before}", not before)
+        for what, wrong, words in wrong_answers(text):
+            must(f"{what}: the record is the same", wrong != text)
+            found = without_cuts(fuzzing.Verdict(wrong, asked_of(text)))
+            must(f"{what}: {found}", any(words in sentence for _, sentence in found))
+
+    def test_fuzz__the_image(self):
+        """Its numbers stand where the payload has them, and another image is refused."""
+        image = b"x" * 10 + fuzzing.MARK + bytes(8 * len(fuzzing.FIELDS) + fuzzing.MOST_HARTS * fuzzing.MOST_OPERATIONS // 8) + b"y"
+        made = fuzzing.image_of(image, fuzzing.Asked(0x1234, 3, 7, kept=[(2, 65)]))
+        must("another length, or another end", len(made) == len(image) and made[:26] == image[:26] and made[-1:] == b"y")
+        at = 26 + 8 * len(fuzzing.FIELDS) + 8 * (2 * 4 + 1)
+        must("the seed, or what is kept", made[26:28] == b"\x34\x12" and made[at] == 2 and sum(made[at - 72 : -1]) == 2)
+        for wrong in (b"none", image + image):
+            try:
+                fuzzing.image_of(wrong, fuzzing.Asked(1))
+            except fuzzing.Broken:
+                continue
+            raise AssertionError("an image without its mark, or with two, passes")
+        source = read(os.path.join(ROOT, "examples/kernel/fuzz.c"))
+        must("the fields are others", ", ".join(fuzzing.FIELDS) + ", kept[HARTS]" in source and f"OPERATIONS = {fuzzing.MOST_OPERATIONS}" in source)
+
+    def test_fuzz__words(self):
+        """What it refuses; what it says of a console's text, and of one without a record."""
+        console = os.path.join(self.room, "console")
+        text = read(os.path.join(RECORDS, "fuzz-whole.record"))
+        asked = asked_of(text)
+        words = ["--seeds", str(asked.seed), "--operations", str(asked.operations), "--read", console]
+        for printed, status, said in ((b"OpenSBI v1.1\r\n\r\n" + text.replace("\n", "\r\n").encode(), 0, "faults: 0"), (b"OpenSBI v1.1\n", 5, "faults: 1")):
+            write(console, printed)
+            found = subprocess.run([TOOL, *words], stdin=subprocess.DEVNULL, capture_output=True, text=True, timeout=60)
+            must(f"status {found.returncode}, and it said {found.stdout} {found.stderr}", found.returncode == status and f"\n{said}\n" in found.stdout)
+        for wrong in (["--seeds", "5-4"], ["--seeds", "1", "--harts", "9"], ["--seeds", "1", "--operations", "0"]):
+            found = subprocess.run([TOOL, *wrong], stdin=subprocess.DEVNULL, capture_output=True, text=True, timeout=60)
+            must(f"{wrong}: {found}", found.returncode == 1 and found.stderr.startswith("fuzz-firmware: "))
+
+    def test_fuzz__a_fresh_run(self):
+        """Two seeds under QEMU, here and now, with small images for fewer operations: whole but for what the page tells."""
+        for name in ("qemu-system-riscv64", "riscv64-linux-gnu-gcc", "/usr/lib/riscv64-linux-gnu/opensbi/generic/fw_dynamic.bin"):
+            if shutil.which(name) is None and not os.path.isfile(name):
+                raise SkipTest(f"{name} is missing")
+        found = subprocess.run([TOOL, "--seeds", "2-3", "--operations", "10", "--runs", "0", "--keep", self.room], stdin=subprocess.DEVNULL, capture_output=True, timeout=200)
+        must(f"status {found.returncode}, and it said {shown(found.stderr)}", found.returncode in (3, 5) and b"\nfaults: " in b"\n" + found.stdout)
+        told = re.findall(r"^  \d+ seeds: ([^:]*): (\w+)", found.stdout.decode(), re.M)
+        must(f"{told}", not any(kind in ("unexplained", "the record can't be read") for kind, _ in told))
+        must("nothing was compared", int(re.search(rb"of which (\d+) were compared", found.stdout)[1]) > 50)
+
+
+must("a fault has no title", len(FAULTS) == 5 and len(FUNCTIONS) == 21 and read_bytes(TOOL)[:2] == b"#!")

@@ -1,0 +1,46 @@
+"""What the tools read of an ELF file: its segments, and the names of its functions."""
+import struct
+from bisect import bisect_right
+
+EXECUTABLE, LOADED, SYMBOLS, FUNCTION = 1, 1, 2, 2
+
+
+class Elf:
+    """A file for RV64, little-endian: `segments`, as (physical address, virtual address, bytes, whether it is code); None of it
+    where the file is another one: a raw image."""
+
+    def __init__(self, path):
+        with open(path, "rb") as file:
+            self.data = file.read()
+        self.is_elf = self.data[:6] == b"\x7fELF\x02\x01"
+        self.segments = list(self.read_segments()) if self.is_elf else []
+        self.names = sorted(self.read_names()) if self.is_elf else []
+
+    def read_segments(self):
+        at, size, count = struct.unpack_from("<Q", self.data, 32)[0], *struct.unpack_from("<HH", self.data, 54)
+        for place in range(count):
+            kind, flags, offset, virtual, physical, length = struct.unpack_from("<IIQQQQ", self.data, at + place * size)
+            if kind == LOADED:
+                yield physical, virtual, self.data[offset : offset + length], bool(flags & EXECUTABLE)
+
+    def read_names(self):
+        at, size, count = struct.unpack_from("<Q", self.data, 40)[0], *struct.unpack_from("<HH", self.data, 58)
+        heads = [struct.unpack_from("<IIQQQQII", self.data, at + place * size) for place in range(count)]
+        for _, kind, _, _, offset, length, link, _ in heads:
+            if kind != SYMBOLS:
+                continue
+            texts = heads[link][4]
+            for place in range(offset, offset + length, 24):
+                name, info, _, _, value, _ = struct.unpack_from("<IBBHQQ", self.data, place)
+                if info & 15 in (0, FUNCTION) and value and self.data[texts + name]:
+                    end = self.data.index(b"\0", texts + name)
+                    yield value, self.data[texts + name : end].decode(errors="replace")
+
+    def function(self, address):
+        """The function in which an address is, virtual or physical; or None."""
+        for there in (address, *(address - physical + virtual for physical, virtual, code, _ in self.segments if physical <= address < physical + len(code))):
+            at = bisect_right(self.names, (there, "\U0010ffff"))
+            inside = any(virtual <= there < virtual + len(code) for _, virtual, code, _ in self.segments)
+            if at and inside:
+                return self.names[at - 1][1]
+        return None
