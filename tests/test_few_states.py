@@ -108,7 +108,8 @@ class FewStates(Test):
             plan = next(place for place, line in enumerate(wanted) if line.startswith("1.."))
             must(f"{text}: status {status}, {lines}, and explored {found}, {wanted}", status == found and lines[: plan + 3] == [*wanted[: plan + 2], "# 1 files"])
             ends = all_orders.Orders(text).ends
-            told_ends = ends_told([line.replace("# all orders of 1 programs: ", "# orders: ") for line in summary(lines)])
+            # (a summary of several programs names no ends of those that have orders without end)
+            told_ends = {} if "# all orders of 1 programs: some without end" in lines else ends_told([line.replace("# all orders of 1 programs: ", "# orders: ") for line in summary(lines)])
             must(f"{text}: told are {told_ends}, and counted {ends}", not (told_ends != ends and not (None in ends.values() and told_ends == {})))
             must(f"{text}: {lines}", len(summary(lines)) == 3)
         must(f"only {few} programs have few states", few >= 20)

@@ -402,10 +402,10 @@ class Orders(Test):
         """A schedule's own record is judged by its conditions; an end is a program's alone."""
         text = "board 1 1 10 0 0x80000000 0x0\n0 advance\n0 poll\n0 ecall 0x10 0\n"
         status, lines = told(self.room, text, name="a.sched")
-        must(f"{lines}", status == 0 and lines[1:3] == ["ok 1 - a.sched (3 lines)", "# line 3: refused 3"])
+        must(f"{lines}", status == 0 and lines[1:3] == ["ok 1 - a.sched (3 lines)", "# line 3: refused 2"])
         status, lines = told(self.room, "#! each 0 ecall -> ret 0 0x1000001\n#! some 0 advance\n#! end quiet\n" + text, name="a.sched")
         wanted = [
-            "# line 6: refused 3", "not ok 1 - a.sched: line 1: each 0 ecall -> ret 0 0x1000001", "  ---", '  record: "./a.sched.failed"', "  place: 1", "  steps: |",
+            "# line 6: refused 2", "not ok 1 - a.sched: line 1: each 0 ecall -> ret 0 0x1000001", "  ---", '  record: "./a.sched.failed"', "  place: 1", "  steps: |",
             "    0 0 advance -> entry 0x80000000 0 0x0", "    1 0 ecall 0x10 0x0 0x0 0x0 0x0 0x0 0x0 0x0 -> ret 0 0x1000000", "  ...",
             "ok 2 - a.sched: line 2: some 0 advance", "not ok 3 - a.sched: line 3: end quiet", "  ---", '  reason: "only a program has an end"', "  ...",
         ]  # fmt: skip
