@@ -17,11 +17,11 @@ use test_terms::{Options, Stop, Trial};
 use tried_orders::{test_orders, test_runs};
 
 /// Tests a file. One that can't be read, or has a fault, is a point that fails.
-pub(crate) fn test_file<R: AllocGlobal + Clock + Eprint + Files + Sync + Threads + Wait>(
+pub(crate) fn test_file<'a, R: AllocGlobal + Clock + Eprint + Files + Sync + Threads + Wait>(
     rt: &R,
     options: &Options<'_>,
-    file: &str,
-    record: &str,
+    file: &'a str,
+    record: &'a str,
 ) -> Result<FileReport, Stop> {
     let alloc = rt.alloc();
     let loaded = match load(rt, file) {
