@@ -18,8 +18,8 @@ use tried_orders::{test_orders, test_runs};
 
 /// Tests a file. One that can't be read, or has a fault, is a point that fails.
 pub(crate) fn test_file<'a, R: AllocGlobal + Clock + Eprint + Files + Sync + Threads + Wait>(
-    rt: &R,
-    options: &Options<'_>,
+    rt: &'a R,
+    options: &'a Options<'a>,
     file: &'a str,
     record: &'a str,
 ) -> Result<FileReport, Stop> {
