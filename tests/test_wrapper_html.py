@@ -160,12 +160,12 @@ class HtmlPages(Test):
         must(f"{trace} {drawn.lines}", trace == ("a.trace", 2) and drawn.lines == [TRACE.splitlines()[1:]] and drawn.data["courses"][0]["other"] == [1])
 
     def test_html__records_of_one_name(self):
-        """Of two points that have one record, the first has lost its order, and isn't drawn with that of the other."""
+        """Of two files of one name each point has a record and a page of its own."""
         os.mkdir(os.path.join(self.work, "below"))
         put(os.path.join(self.work, "below/a.sched"), SCHEDULE.replace("0 sip", "0 sie 2\n0 sip"))
         self.called("test", "--html", "pages", "a.sched", "below/a.sched")
-        (first, *_, said), (second, *_) = rows(os.path.join(self.work, "pages/index.html"))
-        must(f"{first} {said} {second}", first is None and "replaced" in said and second == ("a.sched.failed", 3))
+        (first, *_), (second, *_) = rows(os.path.join(self.work, "pages/index.html"))
+        must(f"{first} {second}", (first, second) == (("a.sched.failed", 2), ("a.sched~2.failed", 3)))
 
     def test_html__words(self):
         """--html has a folder, once, of `test` and `explore` alone; what it can't write or read is said before a test begins."""
