@@ -127,7 +127,7 @@ class Case:
         if lacks is None:
             return None
         wanted, with_reply = lacks
-        return f": vacuous: no step is '{self.pattern_text(asked, asked.patterns.index(wanted), with_reply)}'{tried}{instead(wanted, lined)}"
+        return f": vacuous: no step is '{self.pattern_text(asked, [it is wanted for it in asked.patterns].index(True), with_reply)}'{tried}{instead(wanted, lined)}"
 
     def pattern_text(self, asked, place, with_reply):
         """What is written of a pattern."""
