@@ -12,7 +12,8 @@ is_ram_address pages a = nat_le RAM_START a && nat_lt a (RAM_START + PAGE_BYTES 
 unfoldable pub is_in_ram : (pages : ℕ) → ℕ → Bool
 is_in_ram pages a = is_ram_address pages a && (a % 8 == 0)
 
--- The word at an address, of the RAM's words from its start on.
+-- The word at an address of a RAM whose words, from RAM_START on, are this list: none outside it, nor at an address that isn't
+-- aligned to 8.
 unfoldable pub word_in : List ℕ → ℕ → Option ℕ
 word_in words a =
     if nat_le RAM_START a && nat_lt a (2 ^ 64) && (a % 8 == 0) then slice_get words ((a - RAM_START) / 8) else None
