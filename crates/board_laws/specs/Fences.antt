@@ -78,7 +78,7 @@ pub record OpenedReached (o : Opening) (past : List Event) (c t : ℕ) (call : F
   pub succeeded : Succeeded o past c call.place
 
 -- A fence that the event of a place asks of hart t was applied there once, or waits there once; one that it doesn't ask
--- neither was applied there nor waits there.
+-- neither was applied there nor waits there. A stop of t and a system reset apply what waits at t (profile).
 abbrev pub AppliedOnce : Opening → List Event → (t place : ℕ) → Event → Type 0
 AppliedOnce o past t place event =
     times_met o.fences place (turns o past) t

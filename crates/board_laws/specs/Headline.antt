@@ -1,4 +1,4 @@
--- What holds of every board, whatever steps were made, in five parts.
+-- What holds of every board, whatever steps were made.
 use Rattle.std.specs.Prelude.{ℕ, ◌<◌, List, ◌++◌, length}
 use Rattle.tlb_model.specs.declared.fence.Flush.{Flush}
 use Rattle.rfence.specs.declared.opened.FenceCall.{FenceCall}
@@ -14,11 +14,11 @@ use Rattle.board_laws.specs.Places.{IsAtPlace}
 
 -- What holds of every board's history, whatever steps were made.
 pub record Headline (o : Opening) (past : List Event) : Type 0 where
-  -- The kept history is what the written rules answer, each event by those before it. (Each look-up of a board is its
-  -- definition on that history: this says its clause.)
+  -- The kept history is what the written rules answer, each event by the opening and the events before it. (Each look-up of a
+  -- board is its definition on that history: this says its clause.)
   pub by_the_rules : IsLegal o past
-  -- Since the last reset the accepted starts of a hart are its entries and its pending start, each entered with its own
-  -- address and opaque value (SBI 9).
+  -- Since the last reset, or else the opening, the accepted starts of a hart, with one that was pending at the opening, are its
+  -- entries and its pending start, each entered with its own address and opaque value (SBI 9).
   pub starts_are_entered : StartsAreEntered o past
   -- Each fence that is asked of a hart was applied there once or waits there once, and no other (SBI 8).
   pub applied_once : (t place : ℕ) (event : Event) → IsAtPlace o past place event → AppliedOnce o past t place event

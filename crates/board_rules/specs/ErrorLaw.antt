@@ -22,7 +22,7 @@ abbrev pub is_error : Reply → Bool
 is_error (Ret answer) = not (is_success answer)
 is_error reply = false
 
--- every look-up of a board answers the same after both pasts
+-- every look-up of a board, but its history and the number of its events, answers the same after both pasts
 pub record LooksSame (o : Opening) (past later : List Event) : Type 0 where
   pub state : (h : ℕ) → states.state o later h ≡ states.state o past h
   pub kept : (h : ℕ) → starts.kept o later h ≡ starts.kept o past h
