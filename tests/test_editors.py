@@ -21,7 +21,7 @@ ODD = (
 WRONG = (("0 ecal 0x10", "ecal"), ("laod 1", "laod"), ("0 sip -> valu 1", "valu"), ("0 load 0X10", "0X10"), ("bord 1", "bord"), ("#! nevr 1 load", "nevr"), ("#! never 1 laod", "laod"))
 
 # What `sbiboard` writes, with the file, the line, the column (0: none) and the text that an editor makes of it.
-FAULTS = "TAP version 14\nok 1 - b.sched (3 lines)\n# line 3: stale: a walk gives another translation\n"
+FAULTS = "TAP version 13\nok 1 - b.sched (3 lines)\n# line 3: stale: a walk gives another translation\n"
 TOLD = (
     ("not ok 2 - a.sched:2:3: unknown operation 'ecal' (fault 3)", ("a.sched", 2, 3, "unknown operation 'ecal' (fault 3)")), ("not ok 3 - a.program:8:12: unknown word: 'laod'", ("a.program", 8, 12, "unknown word: 'laod'")),
     ("not ok 4 - a.program: line 2: end quiet: fails", ("a.program", 2, 0, "end quiet: fails")), ("not ok 5 - a.sched: bad board: HARTS is 200, at most 128", ("a.sched", 0, 0, "bad board: HARTS is 200, at most 128")),
