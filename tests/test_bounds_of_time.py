@@ -114,7 +114,7 @@ class BoundsOfTime(Test):
         asked = ("never 0 poll", "some 1 load", "end quiet")
         for text in (ODD, "".join(f"#! {it}\n" for it in asked) + ODD):
             abouts = [f"race.program: line {at}: {it}" for at, it in enumerate(asked, 1)] if text.startswith("#!") else ["race.program: no order ends stuck"]
-            wanted = ["TAP version 14", *(f"not ok {at} - {it}: not judged: no time" for at, it in enumerate(abouts, 1)), f"1..{len(abouts)}", f"# {len(abouts)} points, 0 failed, {len(abouts)} not judged"]
+            wanted = ["TAP version 13", *(f"not ok {at} - {it}: not judged: no time" for at, it in enumerate(abouts, 1)), f"1..{len(abouts)}", f"# {len(abouts)} points, 0 failed, {len(abouts)} not judged"]
             wanted += ["# 1 files, 0 orders, 0 different records", "# ends: 0 off, 0 history-full, 0 quiet, 0 stuck", "# cut short: not all orders were tried"]
             for words in (["--seconds", "0"], ["--seconds", "0", "--times", "9"], ["--seconds", "0", "--seed", "3"]):
                 status, lines = told(self.room, text, *words)
@@ -169,7 +169,7 @@ class BoundsOfTime(Test):
             _, out, said = watched(self.room, "sbiboard", words, False, True)
             if name == "runs" and " runs, " not in said:
                 raise SkipTest("orders take all the time here")
-            must(f"{out}", out.startswith("TAP version 14\n"))
+            must(f"{out}", out.startswith("TAP version 13\n"))
             lines = [re.fullmatch(rf"(\d+) of (\d+) (orders|runs), (\d+) a second, (\d+) s to go", it) for it in must_be_taken_back(said)]
             must(f"{said!r}", all(lines) and name in [it[3] for it in lines])
             for it in lines:
@@ -182,7 +182,7 @@ class BoundsOfTime(Test):
         words = ["--states", "100000000", "--seconds", "3", "wide.program"]
         _, out, said = watched(self.room, "sbiboard explore", words, False, True)
         lines = must_be_taken_back(said)
-        must(f"{lines}", all(re.fullmatch(r"\d+ states, \d+ that wait, \d+ a second", it) for it in lines) and out.startswith("TAP version 14\n"))
+        must(f"{lines}", all(re.fullmatch(r"\d+ states, \d+ that wait, \d+ a second", it) for it in lines) and out.startswith("TAP version 13\n"))
 
     def test_no_progress_but_at_a_terminal(self):
         """Where standard error is no terminal, nothing goes there, also where standard output is one; and nothing is told of what is soon done."""
@@ -192,4 +192,4 @@ class BoundsOfTime(Test):
             ("sbiboard", long, True, False), ("sbiboard", long, False, False), ("sbiboard", ["race.program"], False, True), ("sbiboard explore", ["race.program"], False, True),
         ):  # fmt: skip
             _, out, said = watched(self.room, name, words, out_is_one, err_is_one)
-            must(f"{words}: {said!r}", said == "" and "\x1b" not in out and out.startswith("TAP version 14\n") != out_is_one)
+            must(f"{words}: {said!r}", said == "" and "\x1b" not in out and out.startswith("TAP version 13\n") != out_is_one)

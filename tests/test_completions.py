@@ -64,7 +64,7 @@ class Completions(Test):
         """In bash a number has no completion, a folder is one, and a file any; a FILE is one of a kind that the task takes."""
         made, (_, rows) = write(os.path.join(self.room, "made"), said("--completions", "bash")), helped()
         files = sorted([*FILES, "folder", "made"])
-        wanted = {"DIR": ["folder"], "FILE": files, "FILE2": files, "SHELL": ["bash", "fish"]}
+        wanted = {"DIR": ["folder"], "FILE": files, "FILE2": files, "SHELL": ["bash", "fish"], "VERSION": ["13", "14"]}
         for task, options in rows.items():
             for _, name, value in options:
                 for given in (["--" + name, ""], ["--" + name, "="]) if value else ():

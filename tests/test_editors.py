@@ -21,13 +21,15 @@ ODD = (
 WRONG = (("0 ecal 0x10", "ecal"), ("laod 1", "laod"), ("0 sip -> valu 1", "valu"), ("0 load 0X10", "0X10"), ("bord 1", "bord"), ("#! nevr 1 load", "nevr"), ("#! never 1 laod", "laod"))
 
 # What `sbiboard` writes, with the file, the line, the column (0: none) and the text that an editor makes of it.
-FAULTS = "TAP version 14\nok 1 - b.sched (3 lines)\n# line 3: stale: a walk gives another translation\n"
+FAULTS = "TAP version 13\nok 1 - b.sched (3 lines)\n# line 3: stale: a walk gives another translation\n"
 TOLD = (
     ("not ok 2 - a.sched:2:3: unknown operation 'ecal' (fault 3)", ("a.sched", 2, 3, "unknown operation 'ecal' (fault 3)")), ("not ok 3 - a.program:8:12: unknown word: 'laod'", ("a.program", 8, 12, "unknown word: 'laod'")),
     ("not ok 4 - a.program: line 2: end quiet: fails", ("a.program", 2, 0, "end quiet: fails")), ("not ok 5 - a.sched: bad board: HARTS is 200, at most 128", ("a.sched", 0, 0, "bad board: HARTS is 200, at most 128")),
     ("not ok 6 - none: no such file", ("none", 0, 0, "no such file")),
 )  # fmt: skip
 DIFFERS = 'not ok 7 - a.trace (4 lines)\n  ---\n  differing: 2\n  lines:\n    - line: 2\n      wanted: "0 poll -> gone"\n      got: "0 poll -> refused 2"\n    - line: 4\n      wanted: "0 sip -> value 0x2"\n      got: "0 sip -> value 0x0"\n  ...\n'
+# What --explain says.
+EXPLAINED = (("a.sched:4:8: not a number, or too large: '0X1' (fault 4): did you mean '0x1'?", ("a.sched", 4, 8, "not a number, or too large: '0X1' (fault 4): did you mean '0x1'?")),)
 # What is said of the one script at hand, without its name.
 UNNAMED = (("sbiboard: line 3: fault 4", 3, "fault 4"), ("differs at line 9: refused 3", 9, "refused 3"))
 
@@ -254,10 +256,10 @@ class Editors(Test):
         """`:make` finds the place of all that `test`, `replay` and `check` say of a script."""
         for name in ("a.sched", "b.sched", "a.program", "a.trace"):
             write(os.path.join(self.room, name), "board 1 1 10 0 0x80000000 0x0\n" * 20)
-        write(os.path.join(self.room, "said"), FAULTS + "".join(line + "\n" for line, _ in TOLD) + DIFFERS + "1..7\n" + "".join(line + "\n" for line, _, _ in UNNAMED))
+        write(os.path.join(self.room, "said"), FAULTS + "".join(line + "\n" for line, _ in TOLD) + DIFFERS + "1..7\n" + "".join(line + "\n" for line, *_ in (*UNNAMED, *EXPLAINED)))
         found = [json.loads(it) for it in self.vim(READS)]
         differing = [["a.trace", 2, 0, '\n"0 poll -> gone"\n"0 poll -> refused 2"'], ["a.trace", 4, 0, '\n"0 sip -> value 0x2"\n"0 sip -> value 0x0"']]
-        wanted = [["", 3, 0, "stale: a walk gives another translation"], *(list(it) for _, it in TOLD), *differing, *(["", line, 0, text] for _, line, text in UNNAMED)]
+        wanted = [["", 3, 0, "stale: a walk gives another translation"], *(list(it) for _, it in TOLD), *differing, *(["", line, 0, text] for _, line, text in UNNAMED), *(list(it) for _, it in EXPLAINED)]
         must(f"{found}, and not {wanted}", found == wanted)
         must("it makes", read(os.path.join(self.room, "makes")).startswith("sbiboard test "))
 

@@ -15,11 +15,12 @@ from dataclasses import replace
 import usage
 from builds import NotBuilt, build, is_current, program_of
 from checked_run import run_unproved
-from commands import ALL, ALONE, COMPLETIONS, HELP, HTML, INSTALL, IS_INSTALLED, KNOWN, PROGRAM, TESTER, VERSION, version
+from commands import ALL, ALONE, COMPLETIONS, EXPLAIN, HELP, INSTALL, IS_INSTALLED, KNOWN, PROGRAM, TESTER, VERSION, version
 from completions import SHELLS
 from installing import install
 from kinds import kind_of, why_unread
 from man_page import man_page
+from reading import is_asked, run_read
 
 # The statuses of the program, and that of a program that couldn't be built.
 BAD_SCRIPT, USAGE, BAD_FILE, NO_BUILD = 1, 2, 7, 70
@@ -90,16 +91,13 @@ def done(words):
         look_at(command, given)
         if not is_tried:
             build(command.program, command.word)
-    if HTML.name in given:
-        # (what draws is of use here alone)
-        from html_pages import run_with_pages
-
-        task = lambda made: ended(*run_with_pages(made, [*own, *rest], given))
+    if is_asked(command, given):
+        task = lambda made: ended(*run_read(made, command, [*own, *rest], given))
     else:
         task = lambda made: subprocess.run(call, executable=made, check=False).returncode
     if is_tried:
         return run_unproved(command, task)
-    if HTML.name in given:
+    if is_asked(command, given):
         return as_ended(task(program))
     # (Python passes this signal over, and so would the program)
     signal.signal(signal.SIGPIPE, signal.SIG_DFL)
@@ -139,7 +137,7 @@ def installed(folder):
         install(os.fsdecode(folder.encode()))
     except OSError:
         raise Ended(BAD_FILE, FAILED_IO) from None
-    return ended(0, f"sbiboard: {folder}/sbiboard runs the programs beside it, which need the C library alone; help and --html also Python 3\n")
+    return ended(0, f"sbiboard: {folder}/sbiboard runs the programs beside it, which need the C library alone; help, and options that these programs don't have, also Python 3\n")
 
 
 # ---- FILEs
@@ -149,14 +147,23 @@ def look_at(command, given):
     """Looks at the FILEs of a task before its program is made. What the program can't do with them isn't worth a build."""
     files = given[""]
     if command.program == TESTER:
+        files = [it for it in files if it != "-"]
         wrong = [f"sbiboard: {it}: {why}\n" for it in files if (why := why_untested(command, it))]
         if wrong:
             raise Ended(BAD_SCRIPT, "".join([*wrong, "sbiboard: so nothing is built\n"]))
         return
-    if why_unread(files[0].encode()) or is_kept_over(files[0], given.get("keep")):
-        raise Ended(BAD_FILE, FAILED_IO)
+    why, is_explained = why_unread(files[0].encode()), EXPLAIN.name in given
+    if why or is_kept_over(files[0], given.get("keep")):
+        raise Ended(BAD_FILE, f"sbiboard: {files[0]}: {why or 'the record would be kept in its place'}\n" if is_explained else FAILED_IO)
     if kind_of(files[0].encode()) not in (None, *command.kinds):
-        raise Ended(BAD_SCRIPT, WRONG_KIND)
+        raise Ended(BAD_SCRIPT, explained_kind(command, files[0]) if is_explained else WRONG_KIND)
+
+
+def explained_kind(command, file):
+    from explain import of_kind, said_of
+
+    with open(file.encode(), "rb") as script:
+        return said_of(file, of_kind(command, script.read()))
 
 
 def why_untested(command, file):

@@ -48,6 +48,8 @@ class Option:
     excludes: str = ""
     # The values that it may have, where these are few.
     choices: tuple = ()
+    # What the script does with what the program reads and prints; the program doesn't know it.
+    is_own: bool = False
 
     def __str__(self):
         if not self.name:
@@ -78,14 +80,20 @@ class Command:
     def word(self):
         return self.name.split()[-1]
 
-    def usage(self, used=()):
-        """How it is called: with its options as one word, or with those alone that are used."""
-        has_options = not used and self.file and self.options not in ((), (HELP,))
+    @property
+    def own(self):
+        """The options that the program doesn't know."""
+        return [it for it in self.options if it.is_own]
+
+    def usage(self, used=(), with_own=False):
+        """How it is called: with its options as one word, or with those alone that are used. A fault is told as the program does,
+        which has no option of the script's own."""
+        has_options = not used and self.file and any(it != HELP and (with_own or not it.is_own) for it in self.options)
         last = str(self.file) if self.file else "<COMMAND>"
         return " ".join([self.name, *(["[OPTIONS]"] if has_options else []), *(str(it) for it in used if it.name), last])
 
     def help(self):
-        parts = [self.about, f"Usage: {self.usage()}"]
+        parts = [self.about, f"Usage: {self.usage(with_own=True)}"]
         if self.commands:
             parts.append(table("Commands", [(it.word, it.about) for it in (*self.commands, HELP_COMMAND)]))
         if self.file:
@@ -123,16 +131,28 @@ def number(name, value, about, **more):
 SECONDS = number("seconds", "N", "Look at orders for so many seconds at most")
 FAILED = Option("failed", "Where records are written: of each condition that fails, of each `some` that is met", value="DIR", default=".")
 TAP = Option("tap", "Write the points into FILE, too", value="FILE")
-# (what the script does behind the program)
-HTML = Option("html", "Draw the order of each point that fails as a page in DIR, with a list of these pages", value="DIR")
+
+
+def own(name, about, **more):
+    return Option(name, about, is_own=True, **more)
+
+
+TAP_VERSION = own("tap-version", "The version of the Test Anything Protocol", value="VERSION", default="13", choices=("13", "14"))
+JUNIT = own("junit", "Write the points into FILE as JUnit XML, too", value="FILE")
+HTML = own("html", "Draw the order of each point that fails as a page in DIR, with a list of these pages", value="DIR")
+JSON = own("json", "Print JSON lines instead, which are read from what the program prints")
+AT = own("at", "Print the board's table behind this line of FILE alone", value="LINE", is_number=True)
+DIFF = own("diff", "Print below each step what it changed in the board's table")
+EXPLAIN = own("explain", "Say where each fault of a file stands, and what may be meant")
+OF_POINTS = (TAP_VERSION, JUNIT, HTML, JSON, EXPLAIN)
 
 RUN = of_file(
     "run", "Run a program's blocks on threads, one for each hart and one for the clock, and print the record, the board and how it ended",
     "The file of the program, such as examples/three-harts.program", ("program",),
-    Option("keep", "Write the record into FILE2 while it grows: what a killed run leaves there is a trace", value="FILE2"),
+    Option("keep", "Write the record into FILE2 while it grows: what a killed run leaves there is a trace", value="FILE2"), EXPLAIN,
 )  # fmt: skip
-REPLAY = of_file("replay", "Replay a schedule on a new board, and print each reply and the board", "The file of the schedule, such as examples/version.sched", ("schedule",))
-CHECK = of_file("check", "Check a trace on a new board, and print the first reply that differs", "The file of the trace, such as examples/version.trace", ("trace",))
+REPLAY = of_file("replay", "Replay a schedule on a new board, and print each reply and the board", "The file of the schedule, such as examples/version.sched", ("schedule",), JSON, AT, DIFF, EXPLAIN)
+CHECK = of_file("check", "Check a trace on a new board, and print the first reply that differs", "The file of the trace, such as examples/version.trace", ("trace",), JSON, EXPLAIN)
 TEST = Command(
     "sbiboard test", "Look at orders of programs, replay schedules and compare traces, and judge their conditions",
     (
@@ -142,7 +162,7 @@ TEST = Command(
         number("jobs", "J", "How many orders are tried at a time; as many as there are processors where nothing is said"),
         Option("threads", "Run each program as often on real threads, too"),
         number("seconds", "N", "Try orders for so many seconds at most"),
-        FAILED, TAP, HTML, HELP,
+        FAILED, TAP, *OF_POINTS, HELP,
     ),
     (OF_TESTER, "AFTER"), Option("", "Programs, schedules and traces, with their conditions", value="FILE", is_many=True), TESTER, ("program", "schedule", "trace"),
 )  # fmt: skip
@@ -151,7 +171,7 @@ EXPLORE = Command(
     (
         number("states", "N", "How many states may be found", default="1000000"),
         Option("no-outcomes", "Don't tell what each load gave last"),
-        SECONDS, FAILED, TAP, HTML, HELP,
+        SECONDS, FAILED, TAP, *OF_POINTS, HELP,
     ),
     (OF_TESTER, "AFTER_EXPLORE"), Option("", "Programs, with their conditions", value="FILE", is_many=True), TESTER, ("program",),
 )  # fmt: skip

@@ -3,16 +3,14 @@ is found near it, and a page that lists them."""
 import contextlib
 import glob
 import html
-import json
 import os
-import re
 import subprocess
 import sys
 import tempfile
 from urllib.parse import quote
 
-from commands import HTML
 from kinds import kind_of_text
+from points import failing_points
 
 TOOLS = os.path.dirname(os.path.dirname(os.path.realpath(__file__)))
 sys.path.append(TOOLS)
@@ -24,59 +22,7 @@ from passing import Failing, NoOrder, near  # noqa: E402
 # By this a page is known for one of an earlier run, which is taken away.
 MARK = '<meta name="generator" content="sbiboard --html">'
 HEAD = '<meta charset="utf-8">\n'
-# The statuses behind which there are points.
-TOLD = (0, 1, 7, 8)
 NO_RECORD = "no order of it is kept"
-
-
-class Point:
-    """A point that fails: its text, its file and the line of its condition (None: it has none), and what stands below it."""
-
-    def __init__(self, text, files):
-        self.text, self.details, self.stuck = text, {}, []
-        self.file = max((it for it in files if text.startswith(it)), key=len, default=None)
-        line = re.match(r": line (\d+): ", text[len(self.file or "") :])
-        self.line = int(line[1]) if line else None
-
-    @property
-    def orders(self):
-        """How many of its orders fail, where that is told."""
-        of = self.details.get("orders") or self.details.get("runs")
-        return f"{self.details['failing']} of {of}" if of and "failing" in self.details else ""
-
-
-def failing_points(text, files):
-    """The points of a text of TAP that fail."""
-    found, is_below = [], False
-    for line in text.splitlines():
-        begin = re.match(r"(not )?ok \d+ - (.*)", line)
-        if begin:
-            is_below = bool(begin[1]) and " # SKIP" not in line
-            if is_below:
-                found.append(Point(re.sub(r"\\([\\#])", r"\1", begin[2]), files))
-        elif is_below and (row := re.match(r"  (\w+): (.*)", line)):
-            with contextlib.suppress(ValueError):
-                found[-1].details[row[1]] = json.loads(row[2])
-        elif is_below and (row := re.match(r'    - ("hart .*)', line)):
-            with contextlib.suppress(ValueError):
-                found[-1].stuck.append(json.loads(row[1]))
-        elif is_below and line == "  ...":
-            is_below = False
-    return found
-
-
-def taken_out(words):
-    """The words without --html and its value, as the program takes them."""
-    name, left, words = str(HTML).split()[0], [], list(words)
-    while words:
-        word = words.pop(0)
-        if word == "--":
-            return [*left, word, *words]
-        if word == name:
-            words.pop(0)
-        elif not word.startswith(f"{name}="):
-            left.append(word)
-    return left
 
 
 def is_file(path):
@@ -175,8 +121,8 @@ class Pages:
             words = ["sbiboard", "--failed", room, "--tap", os.path.join(room, "tap"), *names]
             how = {"stdin": subprocess.DEVNULL, "stdout": subprocess.DEVNULL, "stderr": subprocess.DEVNULL, "cwd": room}
             subprocess.run(words, executable=os.path.abspath(self.program), check=False, **how)
-            points = failing_points(read(os.path.join(room, "tap")), names)
-        broken = {name: [it.line for it in points if it.file == name] for name in names}
+            points = failing_points(read(os.path.join(room, "tap")).splitlines(), names)
+        broken = {name: [it.line if it.column is None else None for it in points if it.file == name] for name in names}
         return [None if None in broken[name] else {line - 1 for line in broken[name]} for name in names]
 
     # ---- the list
@@ -225,40 +171,12 @@ def take_away(folder):
             os.remove(path)
 
 
-def written_at(path):
-    """When a file was written last; None: there is none."""
-    return os.stat(path).st_mtime_ns if os.path.isfile(path) else None
-
-
-def run_with_pages(program, words, given):
-    """Runs `test` or `explore` by its words, the first of which is its name, and draws what fails. Returns the status, and what
-    is said."""
-    folder = given[HTML.name][0]
-    if os.path.exists(folder) and not os.path.isdir(folder):
-        return 7, f"sbiboard: {folder}: not a folder\n"
-    taps = given.get("tap", [])
-    if taps and os.path.exists(taps[0]) and not os.path.isfile(taps[0]):
-        return 7, f"sbiboard: {taps[0]}: not a file, from which --html could read the points\n"
-    try:
-        if os.path.isdir(folder):
-            take_away(folder)
-        with tempfile.TemporaryDirectory(prefix="sbiboard-points.") as room:
-            tap = taps[0] if taps else os.path.join(room, "tap")
-            (name, *rest), before = taken_out(words), written_at(tap)
-            status = subprocess.run([name, *([] if taps else ["--tap", tap]), *rest], executable=program, check=False).returncode
-            # (an older file of points says nothing of this run)
-            text = read(tap) if written_at(tap) != before else ""
-        if status not in TOLD:
-            return status, ""
-        # (the plan stands behind all points)
-        if not re.search(r"^1\.\.\d+$", text, re.M):
-            return status, "sbiboard: not all points were told, so no page is written\n"
-        points = failing_points(text.encode("latin-1").decode("utf-8", "surrogateescape"), given[""])
-        if not points:
-            return status, "sbiboard: no point fails, so no page is written\n"
-        pages = Pages(program, folder)
-        pages.write(points)
-    except OSError as error:
-        return 7, f"sbiboard: {error.filename or folder}: {error.strerror}\n"
+def draw(program, folder, points):
+    """Draws the points that fail. Returns what is said of that."""
+    failing = [it for it in points if not it.is_ok]
+    if not failing:
+        return "sbiboard: no point fails, so no page is written\n"
+    pages = Pages(program, folder)
+    pages.write(failing)
     drawn = sum(name is not None for _, name, _, _ in pages.rows)
-    return status, f"sbiboard: {os.path.join(folder, 'index.html')} lists the points that fail ({len(points)}, and {drawn} drawn)\n"
+    return f"sbiboard: {os.path.join(folder, 'index.html')} lists the points that fail ({len(failing)}, and {drawn} drawn)\n"

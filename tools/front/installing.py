@@ -1,5 +1,6 @@
 """`--install`: copies both programs to a folder, with a script that does all tasks without the sources, its completions and its manual
 page, and what it needs of the tools."""
+import glob
 import json
 import os
 import re
@@ -55,8 +56,8 @@ def put_tools(folder):
 
 
 def imported():
-    """The modules of tools/ that these tools import, and those that these import."""
-    left, found = [os.path.join(HERE, "html_pages.py"), os.path.join(TOOLS, "timeline")], set()
+    """The modules of tools/ that the script imports, and those that these import."""
+    left, found = [*glob.glob(os.path.join(glob.escape(HERE), "*.py")), os.path.join(TOOLS, "timeline")], set()
     while left:
         with open(left.pop(), encoding="utf-8") as file:
             names = set(re.findall(r"^ *(?:from|import) (\w+)", file.read(), re.M))

@@ -13,20 +13,27 @@ NUMBER = "(?:0x0*[0-9A-Fa-f]{1,16}|0*[0-9]{1,19})"
 HART = "(?:0x0*[0-7]?[0-9A-Fa-f]|0*(?:[0-9]{1,2}|1[01][0-9]|12[0-7]))"
 
 
+# The words of scripts: how many numbers follow each operation, at least and at most, and each reply; what may stand in a condition.
+GUEST_WORDS = {
+    "ecall": (2, 8), "load": (1, 1), "store": (2, 2), "fetch": (1, 1), "satp": (1, 1), "sfence": (2, 2), "fencei": (0, 0), "sie": (1, 1),
+    "sstatus": (1, 1), "sip": (0, 0), "clearssip": (0, 0), "wfi": (0, 0),
+}  # fmt: skip
+FIRMWARE_WORDS = {"poll": (0, 0), "serve": (0, 0), "advance": (0, 0)}
+OPERATIONS = {**GUEST_WORDS, **FIRMWARE_WORDS, "tick": (1, 1)}
+REPLIES = {"ret": 2, "entry": 3, "waiting": 0, "gone": 0, "value": 1, "fault": 1, "served": 0, "moved": 1, "done": 0, "refused": 1}
+RULES, ENDS = ("never", "some", "each", "before", "end", "after", "maybe"), ("off", "history-full", "quiet", "stuck")
+
+
 def with_numbers(name, least, most=None):
     return f"{name}(?: {NUMBER}){{{least},{least if most is None else most}}}"
 
 
+# Those whose numbers aren't any.
+ODD = {"sstatus": "sstatus (?:0x)?0*[01]", "sfence": f"sfence (?:{NUMBER}|-) (?:{NUMBER}|-)", "ret": f"ret -?0*[0-9]{{1,18}} {NUMBER}"}
 TICK = with_numbers("tick", 1)
-GUEST = "|".join([
-    with_numbers("ecall", 2, 8), *(with_numbers(it, 1) for it in ("load", "fetch", "satp", "sie")), with_numbers("store", 2),
-    "sstatus (?:0x)?0*[01]", f"sfence (?:{NUMBER}|-) (?:{NUMBER}|-)", "sip", "clearssip", "fencei", "wfi",
-])  # fmt: skip
-STEP = f"(?:cut|(?:c|{HART}) (?:{GUEST}|{TICK}|poll|serve|advance))"
-REPLY = "|".join([
-    f"ret -?0*[0-9]{{1,18}} {NUMBER}", with_numbers("entry", 3), *(with_numbers(it, 1) for it in ("value", "fault", "moved", "refused")),
-    "waiting", "gone", "served", "done",
-])  # fmt: skip
+GUEST = "|".join(ODD.get(it) or with_numbers(it, *counts) for it, counts in GUEST_WORDS.items())
+STEP = f"(?:cut|(?:c|{HART}) (?:{GUEST}|{TICK}|{'|'.join(FIRMWARE_WORDS)}))"
+REPLY = "|".join(ODD.get(it) or with_numbers(it, count) for it, count in REPLIES.items())
 
 BOARD = re.compile(f"{with_numbers('board', 6)}|{with_numbers('board', 8)}")
 STEPS = {"schedule": re.compile(STEP), "trace": re.compile(f"{STEP} -> (?:{REPLY})")}
@@ -60,8 +67,14 @@ def kind_of(path):
         return None
 
 
+def lines_of(text):
+    """The lines of a script, without their ends."""
+    *ended, last = text.split(b"\n")
+    return [line[:-1] if line.endswith(b"\r") else line for line in ended] + [last]
+
+
 def kind_of_text(text):
-    lines = [line[:-1] if line.endswith(b"\r") else line for line in text.split(b"\n")[:-1]] + text.split(b"\n")[-1:]
+    lines = lines_of(text)
     if any(UNALLOWED.search(line) for line in lines):
         return None
     lines = [" ".join(line.partition(b"#")[0].decode("ascii").split()) for line in lines]

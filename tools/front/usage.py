@@ -129,9 +129,11 @@ class Reader:
         if not option.is_many and self.given.pop(option.name, None) is not None:
             raise self.fault(f"the argument '{option}' cannot be used multiple times")
         self.given.setdefault(option.name, []).extend(values)
-        for value in values if option.is_number else ():
-            if reason := why_no_number(value):
+        for value in values:
+            if option.is_number and (reason := why_no_number(value)):
                 raise Fault(f"invalid value '{value}' for '{option}': {reason}")
+            if option.choices and value not in option.choices:
+                raise Fault(f"invalid value '{value}' for '{option}'\n  [possible values: {', '.join(option.choices)}]")
 
     def check_all(self):
         if self.command.commands:
@@ -220,8 +222,9 @@ def why_no_number(word):
 
 
 def likest_option(command, name):
-    """The name of the option that is most like this one, if any is alike."""
-    return (most_alike(name, [it.name for it in command.options]) or [None])[-1]
+    """The name of the option that is most like this one, if any is alike. (The program doesn't know those of the script: these
+    must also begin alike, so that what is said of other words is what it says.)"""
+    return (most_alike(name, [it.name for it in command.options if not it.is_own or it.name[:1] == name[:1]]) or [None])[-1]
 
 
 def most_alike(word, names):

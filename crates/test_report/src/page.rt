@@ -41,7 +41,7 @@ impl Page {
     pub fn new(alloc: Global, style: Style) -> Result<Page, AllocError> {
         let mut text = String::new(alloc);
         if style == Style::Tap {
-            text.push_str("TAP version 14\n")?;
+            text.push_str("TAP version 13\n")?;
         }
         Ok(Page {
             text,

@@ -1,4 +1,4 @@
-//! Points of the Test Anything Protocol, version 14.
+//! Points of the Test Anything Protocol, version 13 (a reader of version 14 takes them, too).
 use crate::details::shown;
 use crate::point::Point;
 use std::alloc::{AllocError, Global};

@@ -14,6 +14,8 @@ CompilerSet errorformat+=%-Q\ \ ...
 CompilerSet errorformat+=not\ ok\ %*\\d\ -\ %f:%l:%c:\ %m
 CompilerSet errorformat+=not\ ok\ %*\\d\ -\ %f:\ line\ %l:\ %m
 CompilerSet errorformat+=not\ ok\ %*\\d\ -\ %f:\ %m
+" What --explain says.
+CompilerSet errorformat+=%f:%l:%c:\ %m
 " What is said of the script at hand, without its name.
 CompilerSet errorformat+=#\ line\ %l:\ %m
 CompilerSet errorformat+=sbiboard:\ line\ %l:\ %m
