@@ -1,4 +1,4 @@
-//! What the command lines of `test` and `explore` ask for.
+//! The command lines of `test` and `explore`.
 ghost use Rattle.std.specs.Prelude.{◌<◌};
 
 use crate::early::Early;
@@ -54,11 +54,11 @@ A state takes some 2 KB for three harts, of whose RAM most words are 0.
 
 Exit status: 0 all hold, 1 some don't, 2 usage, 6 no memory, 7 input or output failed, 8 not all was judged or seen.";
 
-/// What the words of a command line ask for, the program's own name first.
+/// Reads the words of a command line, the program's own name first.
 ///
 /// # Errors
 ///
-/// What clap says of them: a fault of usage, or the help or the version that was asked for; or want of memory.
+/// Clap's text: a fault of usage, help or the version; or an allocation failed.
 pub(crate) fn options_of<'a, R: AllocGlobal + Clock + Threads>(
     rt: &R,
     words: &'a [String],
@@ -93,7 +93,7 @@ pub(crate) fn options_of<'a, R: AllocGlobal + Clock + Threads>(
     })
 }
 
-/// What the files are asked for, by the program's own name.
+/// Whether to test or to explore, by the program's own name.
 fn mode_of(words: &[String]) -> Mode {
     match words.first() {
         Some(name) if name.as_str() == EXPLORE => Mode::Explore,

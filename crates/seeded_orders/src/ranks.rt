@@ -45,7 +45,7 @@ impl Ranks {
         })
     }
 
-    /// The step of the highest rank of these, if there is one. In the two turns the rank of the one that would go falls before.
+    /// The step of the highest rank, if there is one. In two turns, the kind that would go first falls in rank.
     pub(crate) fn pick(&mut self, turn: u64, steps: &[Step]) -> Option<Step>
         ensures ranks { self.new ≡ reranked self.old turn (highest self.old.ranks None steps.now) }
         ensures step { result ≡ highest self.new.ranks None steps.now }

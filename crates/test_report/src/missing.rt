@@ -1,4 +1,4 @@
-//! A step that a condition needs and no order has, and what there is in its place.
+//! A step that a condition needs and no order has, and what its actor does instead.
 use crate::records::event_line;
 use board_core::{Event, Op};
 use conditions::{Condition, Pattern, Rule};
@@ -28,7 +28,7 @@ struct Instead {
 /// A step that a condition needs and no order has.
 #[derive(Debug, Drop)]
 pub struct Missing {
-    /// What is written of it.
+    /// Its text in the condition.
     pub said: String,
     /// Such a step has another reply.
     has_other_reply: bool,
