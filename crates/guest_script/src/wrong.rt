@@ -9,7 +9,7 @@ use crate::text::is_allowed;
 use crate::words::next_word;
 use std::alloc::{AllocError, AllocFailed};
 
-/// What is wrong with a script, by the word where it is.
+/// What is wrong with a script, and at which kind of word.
 #[derive(Clone, Copy, Debug, PartialEq, Eq)]
 pub enum Wrong {
     /// A byte that may not stand in a script.
@@ -76,7 +76,7 @@ impl<T: Drop> From<AllocFailed<T>> for Wrong {
 pub struct Misread {
     /// The line.
     pub line: u64,
-    /// The column where the word begins that is wrong; behind the last word where one is missing at the end.
+    /// The column at which the wrong word begins; behind the last word if one is missing at the end.
     pub column: u64,
     /// What is wrong.
     pub wrong: Wrong,
@@ -93,7 +93,7 @@ impl Misread {
         }
     }
 
-    /// What is wrong with a line; the want of memory is none of a line's.
+    /// What is wrong with a line. A failed allocation belongs to no line.
     pub(crate) fn of(line: u64, text: &[u8], unread: Unread) -> Misread
         ensures { script_fault result ≡ located_fault line (fault_of unread.wrong) }
     {
@@ -146,7 +146,7 @@ impl<T: Drop> From<AllocFailed<T>> for Unread {
     }
 }
 
-/// The column of the byte from which on there are so many.
+/// The column of the byte with this many bytes from it to the end of the line.
 pub fn column(text: &[u8], left: usize) -> u64 {
     (text.len().saturating_sub(left) as u64).saturating_add(1)
 }

@@ -1,5 +1,5 @@
-//! Rows of programs on threads, some of which gates hold up. The program prints what holds of every schedule alone, and its
-//! file stdout has all that it must print.
+//! Rows of programs on threads, some of which a gate holds back. The program prints only what holds of every schedule, and must
+//! print its file stdout.
 #![tactic(auto)]
 
 mod gates;
