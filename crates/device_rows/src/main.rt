@@ -22,7 +22,7 @@ fn main(rt: HostRuntime) -> Result<()> {
     cuts::show_lengths(&rt)
 }
 
-/// Shows how many reads and writes a task makes, each of which failed in turn.
+/// Prints how many reads and writes a task makes, each of which failed in turn.
 fn show_failures<R: AllocGlobal + Print + Threads + Wait + Sync>(
     rt: &R,
     task: LibraryTask,

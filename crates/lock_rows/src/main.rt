@@ -44,7 +44,7 @@ enum Row {
     Repeat { harts: u64, calls: u64, op: Op },
 }
 
-/// Five parts of a board's history, of which the limit has room for one.
+/// Five parts of a board's history; the limit has room for one.
 const PARTS: Parts = Parts {
     parts: 5,
     harts: 4,
@@ -141,7 +141,7 @@ fn show<R: AllocGlobal + Clock + Print + Threads + Wait + Sync>(
     }
 }
 
-/// Has a board go on for so many parts, and prints what was seen.
+/// A board goes on for this many parts. Prints what was seen.
 fn show_parts<R: AllocGlobal + Print + Threads + Wait + Sync>(
     rt: &R,
     config: &Config,

@@ -1,4 +1,4 @@
-//! A board that goes on as long as one likes: it is behind one lock after another, and each part of its history is split off.
+//! A board that goes on as long as wanted: it is behind one lock after another, and each part of its history is split off.
 
 ghost use Rattle.std.specs.Prelude.{◌≡◌, [], IfOk};
 
