@@ -23,8 +23,8 @@ HasMatching q events = (k : ℕ) × IsAt q events k
 abbrev pub IsOfCall : Pattern → Type 0
 IsOfCall p = slice_get p.step.items 1 ≡ Some (Some (Word (Op Ecall)))
 
--- A condition needs a step for its first pattern if the pattern has a reply. `never P` without a reply forbids the step itself;
--- and a `never` about a call may forbid an argument, so it needs no such call.
+-- `each` and `before` need a step for their first pattern, `never` and `some` if the pattern has a reply. `never P` without a
+-- reply forbids the step itself; and a `never` about a call may forbid an argument, so it needs no such call.
 abbrev pub NeedsFirst : Rule → Type 0
 NeedsFirst (Never p) = (p.reply.items ≢ []) × ¬ IsOfCall p
 NeedsFirst (NeverAfter p q) = (p.reply.items ≢ []) × ¬ IsOfCall p
@@ -70,6 +70,7 @@ IsVacuous rule records =
     (NeedsFirst rule × NoneOf (MeetsFirst rule) records) ⊎ (NeedsSecond rule × NoneOf (MeetsSecond rule) records)
 
 -- The condition says nothing of a record, whatever its steps answered: the record meets it, or, for `some`, doesn't meet it.
+-- (`end` needs no step, and is never vacuous.)
 abbrev pub SaysNothing : Rule → List Event → Option Ending → Type 0
 SaysNothing (Never p) events end = Holds (Never p) events end
 SaysNothing (NeverAfter p q) events end = Holds (NeverAfter p q) events end

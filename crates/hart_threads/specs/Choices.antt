@@ -47,7 +47,7 @@ awaited_by (Some Wfi) = Wake
 awaited_by (Some op) = Firmware
 
 -- What an idle hart's thread waits for: its firmware's turn, or wake if its guest is at a Wfi; with the power off, or after it
--- met something, nothing.
+-- met something, only the end.
 abbrev pub awaited : HartView → Met → (guest : Option Op) → Awaits
 awaited view Nothing guest = if view.is_off then End else awaited_by guest
 awaited view met guest = End
