@@ -150,7 +150,7 @@ fn whole_lines(bytes: &[u8]) -> &[u8]
     front
 }
 
-/// So many bytes, all the same.
+/// This many equal bytes.
 fn filled(alloc: Global, size: usize, byte: u8) -> io::Result<Vec<u8>> {
     let mut bytes = Vec::new(alloc);
     bytes.resize(size, byte)?;

@@ -112,7 +112,7 @@ impl Reader {
     }
 }
 
-/// The size with so many bytes more, or one byte more than a script may have.
+/// The size with this many more bytes, at most one byte more than a script may have.
 fn grown(size: usize, more: usize) -> usize
     ensures { result ≡ grown size more }
 {

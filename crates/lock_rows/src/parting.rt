@@ -22,7 +22,7 @@ pub struct Parts {
     pub calls: u64,
 }
 
-/// A new board goes on for so many parts.
+/// A new board goes on for this many parts.
 pub fn go_on<R: AllocGlobal + Threads + Wait + Sync>(
     rt: &R,
     config: &Config,

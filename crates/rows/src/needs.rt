@@ -26,7 +26,7 @@ fn fence(mask: u64, base: u64) -> Op {
     ecall(RFENCE, 1, mask, base, 0)
 }
 
-/// A board of so many harts, all of them started by hart 0.
+/// A board of this many harts, all started by hart 0.
 fn started(alloc: Global, harts: u64) -> Result<Board> {
     let config = Config {
         harts,

@@ -49,7 +49,7 @@ abbrev pub past_with : Opening → Task → List Event → Option Step → List 
 past_with o p past None = past
 past_with o p past (Some step) = past_after o past (actor_of step) (op_of o p past step)
 
--- What at most so many turns make of a past, from this one on.
+-- The past after at most this many turns, from this one on.
 unfoldable pub ordered : Opening → Task → (most turn : ℕ) → Picker → List Event → List Event
 ordered o p zero turn picker past = past
 ordered o p (suc most) turn picker past =

@@ -39,12 +39,12 @@ reranked r turn (Some step) =
     if turn == r.first then record r { ranks = slice_set r.ranks (place_of step) 1 }
     else if turn == r.second then record r { ranks = slice_set r.ranks (place_of step) 0 } else r
 
--- so many ranks, each half of a word and 2 more, so that those that fall are below all others
+-- this many ranks, each half of a word plus 2, so that fallen ranks are below all others
 unfoldable pub ranks_from : ℕ → Lcg → List ℕ
 ranks_from zero words = []
 ranks_from (suc n) words = ((pcg64_dxsm words).0 / 2 + 2) ∷ ranks_from n (pcg64_dxsm words).1
 
--- the ranking with so many turns to fall in
+-- the ranking with this many turns in which ranks may fall
 abbrev pub ranking_within : (harts span : ℕ) → Lcg → Ranking
 ranking_within harts span words = record {
   ranks = ranks_from (4 * harts + 1) (pcg64_dxsm (pcg64_dxsm words).1).1;

@@ -18,7 +18,7 @@ pub(crate) enum Picker {
 }
 
 impl Picker {
-    /// What picks the steps of an order of a seed, for so many harts.
+    /// The picker of an order of a seed, for this many harts.
     ///
     /// # Errors
     ///

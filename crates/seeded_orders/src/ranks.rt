@@ -25,7 +25,7 @@ impl Model for Ranks {
 }
 
 impl Ranks {
-    /// The ranks that a generator gives so many harts and the clock, and two of the first turns, at most 2,048.
+    /// The ranks that a generator gives this many harts and the clock, and two of the first turns, at most 2,048.
     ///
     /// # Errors
     ///
@@ -82,7 +82,7 @@ fn span(word: u64) -> u64
     1 << (word % 12)
 }
 
-/// So many ranks, all above those of the changes.
+/// This many ranks, all above those after a fall.
 fn drawn(alloc: Global, many: u64, words: &mut Pcg64Dxsm) -> Result<Vec<u64>, AllocError>
     ensures { IfOk result (λ v. v.items ≡ ranks_from many words.old) }
 {

@@ -7,7 +7,7 @@ use outcome_statistics::{Deed, Visits};
 use std::alloc::{AllocError, Global};
 use std::{fmt, str};
 
-/// How many different numbers are told of a hart, and how many lines of each.
+/// How many different operands of a hart are listed, and how many lines of each.
 const MOST: usize = 8;
 
 /// What numbers an actor's operation has, and in which lines.

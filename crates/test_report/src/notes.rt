@@ -62,13 +62,13 @@ pub enum Note {
     OnlyErrors(u64, String),
     /// A hart was entered at this address, where no block is.
     NoBlock(u64),
-    /// Not all orders were seen: so many states and steps.
+    /// Not all orders were seen, but these numbers of states and steps.
     NotAllSeen(usize, usize),
     /// All orders.
     Orders(AllOrders),
     /// All states, and the steps between them.
     States(usize, usize),
-    /// So many outcomes, which follow.
+    /// The number of outcomes, which follow.
     Outcomes(usize),
     /// An outcome.
     Outcome(Outcome),

@@ -98,7 +98,7 @@ impl FileReport {
 /// The report about all files.
 #[derive(Debug, Drop)]
 pub struct Report {
-    /// What they were asked for.
+    /// Whether they were tested or explored.
     pub mode: Mode,
     /// The files, in the order in which they were named.
     pub files: Vec<FileReport>,

@@ -81,7 +81,7 @@ impl<'a> Holding<'a> {
         }
     }
 
-    /// Waits until the turn was asked for.
+    /// Waits until the turn's question was asked.
     fn waits_for(&self, turn: Turn) -> bool {
         match self.asked.get(turn.actor) {
             Some(asked) => asked.is_reached(turn.ordinal),
