@@ -31,8 +31,8 @@ EachTells conditions tried judged =
     (k : ℕ) (c : Condition) (j : Judged) → slice_get conditions k ≡ Some c → slice_get judged k ≡ Some j
     → Tells (IsSo (Some c.rule)) tried j.tally
 
--- The findings are right for these records: a tally for each condition, one for records that don't end stuck, and how many
--- ended in each way. What the findings say of different records and of visited blocks isn't specified.
+-- The findings are right for these records: a tally for each condition, one for records that don't end stuck, and how many ended
+-- in each way. Nothing is said here of the needed steps that were met, of the different records, and of visits.
 pub record AreFound (conditions : List Condition) (tried : List Tried) (found : Findings) : Type 0 where
   pub many : length found.judged.items ≡ length conditions
   pub each : EachTells conditions tried found.judged.items
