@@ -1,5 +1,5 @@
-"""What is stale of what harts hold, from step to step, and why an answer is: which translation or fetched word it used, which step
-filled it, which step changed the tables or the memory since, and which fences were asked of whom. It follows the board of a
+"""Which of the things that harts hold are stale, step by step, and why an answer is: which translation or fetched word it used,
+which step filled it, which step changed the tables or the memory since, and which harts were fenced. It follows the board of a
 course, beside the model of the board."""
 import contextlib
 import re

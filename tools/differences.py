@@ -1,4 +1,4 @@
-"""Differences between what was recorded and what the board answers: what is compared, and by which verdict they are told."""
+"""Differences between recorded answers and the board's: what is compared, and each difference's verdict."""
 from bisect import bisect_right
 
 from board_model import BASE, GONE, HSM, INVALID_ADDRESS, IPI, LOW, RESUME_PENDING, RFENCE, SSI, STARTED, STI, WAITING, spelled_answer

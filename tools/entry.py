@@ -1,4 +1,4 @@
-"""How every tool begins and ends: it answers --help, and dies quietly where nobody reads what it writes."""
+"""How every tool begins and ends: it answers --help, and exits quietly if its output's reader is gone."""
 import os
 import select
 import signal

@@ -1,5 +1,5 @@
-"""Follows a record on a board: puts in what the record shows only by its effects (the firmware's steps, ticks, what a guest
-wrote), orders calls that overlap so that the board answers what was recorded, and tells where it can't."""
+"""Follows a record on a board: inserts what the record shows only by its effects (the firmware's steps, ticks, a guest's writes),
+orders overlapping calls so that the board answers as recorded, and reports where it can't."""
 from bisect import bisect_right
 
 from board_model import (

@@ -1,4 +1,4 @@
-"""Runs of examples/kernel/fuzz.c: its image with a seed in it, the record that it prints, and what that says of the firmware."""
+"""Runs of examples/kernel/fuzz.c: its image with a seed, the record that it prints, and the faults that this shows."""
 import os
 import re
 import struct

@@ -1,5 +1,5 @@
-"""What a record shows by itself, whatever a board answers: calls that should have returned, harts that were started and never
-entered, and entries with other registers than those that were asked for."""
+"""Judges a record without a board: calls that should have returned, harts that were started and never entered, and entries with
+other registers than requested."""
 from bisect import bisect_left
 
 from board_model import HSM, LOW

@@ -1,4 +1,4 @@
-"""A program on the model of the board: which steps can be taken at a point of one of its orders, and how an order ends."""
+"""A program on the model of the board: which steps an order can take next, and how an order ends."""
 import board_model
 from board_model import Hart, number, words_of
 

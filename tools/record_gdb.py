@@ -1,7 +1,7 @@
-"""What tools/record has gdb do: it stops the harts where calls begin, return, and where harts enter, and writes the lines.
+"""The part of tools/record that runs in gdb: it stops harts where calls begin and return, and where harts enter, and writes the lines.
 
-Each line is written at once. Where a call has returned and its answer isn't seen yet, `@N HART` keeps the place of the
-return of call N, and `@N HART ret A0 A1` is that return; the last line is `@end HOW`. tools/record puts them together.
+Each line is written at once. If a call has returned and its answer isn't seen yet, `@N HART` keeps the place of the
+return of call N, and `@N HART ret A0 A1` is that return; the last line is `@end HOW`. tools/record combines them.
 """
 import os
 import sys

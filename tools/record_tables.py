@@ -1,5 +1,5 @@
-"""What tools/record --tables sees of page tables: it stops also where harts fence, and where they write satp, and compares the
-tables at each stop with those of the stop before. It runs in gdb (record_gdb.py)."""
+"""The part of tools/record --tables that runs in gdb (record_gdb.py): it also stops where harts fence or write satp, and compares
+the page tables at each stop with those at the stop before."""
 import struct
 
 from elf import Elf

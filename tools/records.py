@@ -1,4 +1,4 @@
-"""Records of calls and entries, as docs/RECORDS.md describes them: read, and told where one is broken."""
+"""Reads records of calls and entries, as docs/RECORDS.md describes them, and says where one is broken."""
 from board_model import ALL, HSM, IPI, RFENCE, SRST
 
 NOTES = ("time", "sie", "sip", "sstatus", "pc", "ra", "firmware")

@@ -1,4 +1,4 @@
-"""The report of a record: each call and entry in one class, what is told of it, and the share of what was compared."""
+"""The report of a record: each call and entry in one class, its line, and the share that was compared."""
 from collections import Counter
 
 import liveness

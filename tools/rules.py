@@ -29,7 +29,7 @@ class Rule:
 
 CALLS, LISTS, FENCES, HARTS = "Calls", "Hart lists", "Remote fences", "Starts, stops and suspends"
 TIMES, RESETS, MEMORY, BOARD = "Time and interrupts", "System resets", "Memory, translation and caches", "The board"
-EFFECTS = "What a payload looks at itself"
+EFFECTS = "Effects that no answer shows"
 RULES = {
     "extensions": Rule("the legacy extensions, PMU, the debug console and all later ones are unknown: -2, and 0 from the probe", CALLS, OWN, "4.4", "value"),
     "their calls": Rule("a call of an extension that is left out answers -2, and does nothing", CALLS, UNJUDGED, "3", "any"),

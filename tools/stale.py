@@ -1,6 +1,6 @@
-"""What a supervisor did wrong with its translations, from a record with page tables (tools/record --tables): which harts may still
-hold a translation that was taken away before a fence, and pages that are mapped anew meanwhile. It rests on the tools' own model
-of tables (page_tables.py) and of what a hart may hold: whatever the tables gave it since its last fence; not on the proof."""
+"""Finds a supervisor's missing fences in a record with page tables (tools/record --tables): harts that may still hold a translation
+that was removed before a fence, and pages that are remapped meanwhile. It rests on a model of page tables (page_tables.py), in
+which a hart may hold whatever the tables gave it since its last fence; not on the proof."""
 from board_model import ALL, RFENCE, is_full
 from page_tables import asid_of, levels_of, mappings, takes_away
 from records import UNSEEN, is_reset
@@ -46,7 +46,7 @@ class Stale:
         # Of each hart whether anything has changed since its last fence: its satp, or an entry of tables that it used.
         self.has_news = dict.fromkeys(range(record.harts), False)
         self.calls = {record.lines[call.reply].number: call for call in record.lines if call.reply is not None}
-        # A firmware whose own fences are recorded isn't taken by its word.
+        # If the firmware's own fences are recorded, they count instead of its answers.
         self.is_trusted = not any("firmware" in line.notes for line in record.tables)
         self.follow()
 

@@ -1,5 +1,5 @@
-"""What SBI 1.0.0 says of an answer, by hand: of each function its section and the errors that the section names, and answers
-that no board is needed for to see that they break the standard. Sections are of the RISC-V SBI Specification 1.0.0."""
+"""What SBI 1.0.0 says about answers: each function's section and the errors that it names, and answers that break the standard
+whatever the board's state. Sections are those of the RISC-V SBI Specification 1.0.0."""
 from board_model import (
     ALREADY_AVAILABLE, BASE, FAILED, GONE, HSM, INVALID_ADDRESS, INVALID_PARAM, IPI, LOW, NOT_SUPPORTED, RFENCE, SRST, STARTED, TIME, WAITING,
     reset_error, suspend_error, targets,

@@ -1,4 +1,4 @@
-"""What following a record keeps: the steps and differences that came of it, the calls that are open, and the board."""
+"""The state of following a record: the steps and differences so far, the open calls, and the board."""
 from board_model import spelled_answer, spelled_step
 
 

@@ -128,9 +128,9 @@ def number(name, value, about, **more):
     return Option(name, about, value=value, is_number=True, **more)
 
 
-SECONDS = number("seconds", "N", "Look at orders for so many seconds at most")
-FAILED = Option("failed", "Where records are written: of each condition that fails, of each `some` that is met", value="DIR", default=".")
-TAP = Option("tap", "Write the points into FILE, too", value="FILE")
+SECONDS = number("seconds", "N", "Explore orders for at most N seconds")
+FAILED = Option("failed", "The folder for records of conditions that fail, and of each `some` that is met", value="DIR", default=".")
+TAP = Option("tap", "Also write the points into FILE", value="FILE")
 
 
 def own(name, about, **more):
@@ -138,12 +138,12 @@ def own(name, about, **more):
 
 
 TAP_VERSION = own("tap-version", "The version of the Test Anything Protocol", value="VERSION", default="13", choices=("13", "14"))
-JUNIT = own("junit", "Write the points into FILE as JUnit XML, too", value="FILE")
+JUNIT = own("junit", "Also write the points into FILE as JUnit XML", value="FILE")
 HTML = own("html", "Draw the order of each point that fails as a page in DIR, with a list of these pages", value="DIR")
-JSON = own("json", "Print JSON lines instead, which are read from what the program prints")
-AT = own("at", "Print the board's table behind this line of FILE alone", value="LINE", is_number=True)
-DIFF = own("diff", "Print below each step what it changed in the board's table")
-EXPLAIN = own("explain", "Say where each fault of a file stands, and what may be meant")
+JSON = own("json", "Print JSON lines instead, read from the program's output")
+AT = own("at", "Print only the board's table behind line LINE of FILE", value="LINE", is_number=True)
+DIFF = own("diff", "Print below each step its changes to the board's table")
+EXPLAIN = own("explain", "Report each fault of a file by line and column, with suggestions")
 OF_POINTS = (TAP_VERSION, JUNIT, HTML, JSON, EXPLAIN)
 
 RUN = of_file(
@@ -156,12 +156,12 @@ CHECK = of_file("check", "Check a trace on a new board, and print the first repl
 TEST = Command(
     "sbiboard test", "Look at orders of programs, replay schedules and compare traces, and judge their conditions",
     (
-        number("times", "N", "How many orders of each program are tried", default="1000"),
+        number("times", "N", "How many orders of each program to try", default="1000"),
         number("seed", "S", "The seed of the orders", default="0"),
-        number("order", "K", "Try order K of the seed alone", excludes="times"),
-        number("jobs", "J", "How many orders are tried at a time; as many as there are processors where nothing is said"),
-        Option("threads", "Run each program as often on real threads, too"),
-        number("seconds", "N", "Try orders for so many seconds at most"),
+        number("order", "K", "Try only order K of the seed", excludes="times"),
+        number("jobs", "J", "How many orders to try at a time (default: one per processor)"),
+        Option("threads", "Also run each program as often on real threads"),
+        number("seconds", "N", "Try orders for at most N seconds"),
         FAILED, TAP, *OF_POINTS, HELP,
     ),
     (OF_TESTER, "AFTER"), Option("", "Programs, schedules and traces, with their conditions", value="FILE", is_many=True), TESTER, ("program", "schedule", "trace"),
@@ -169,16 +169,16 @@ TEST = Command(
 EXPLORE = Command(
     "sbiboard explore", "Look at all orders of a program, and judge its conditions",
     (
-        number("states", "N", "How many states may be found", default="1000000"),
-        Option("no-outcomes", "Don't tell what each load gave last"),
+        number("states", "N", "The limit of states", default="1000000"),
+        Option("no-outcomes", "Don't report what each load gave last"),
         SECONDS, FAILED, TAP, *OF_POINTS, HELP,
     ),
     (OF_TESTER, "AFTER_EXPLORE"), Option("", "Programs, with their conditions", value="FILE", is_many=True), TESTER, ("program",),
 )  # fmt: skip
 
 # What `./sbiboard` knows.
-TRY = Option("try", "Do the task that follows at once, unproved, in the toolchain's checked run")
-INSTALL = Option("install", "Build both programs and copy them to DIR, with a script that does all tasks without these sources", value="DIR")
+TRY = Option("try", "Do the following task at once, unproved, by the toolchain's checked run")
+INSTALL = Option("install", "Build both programs and copy them to DIR, with a script that does all tasks without the sources", value="DIR")
 COMPLETIONS = Option("completions", "Print the completions for a shell, bash or fish", value="SHELL", choices=("bash", "fish"))
 MAN = Option("man", "Print the manual page")
 # Those that are a task of their own: nothing comes before one, nor behind its value.

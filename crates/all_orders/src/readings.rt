@@ -1,4 +1,4 @@
-//! What the loads of a program give.
+//! The values that a program's loads give.
 use board_core::{Actor, Event, Op, Reply};
 use indexmap::IndexSet;
 use outcome_statistics::Spot;
@@ -12,14 +12,14 @@ pub(crate) struct Load {
     pub(crate) spot: Spot,
 }
 
-/// What one load gave; the load is told by its place among those that were met.
+/// What one load gave; the load is a place in the list of loads.
 #[derive(Clone, Copy, Debug, PartialEq, Eq, Hash)]
 pub(crate) struct Reading {
     pub(crate) load: usize,
     pub(crate) given: Given,
 }
 
-/// The loads that were met in any order, and all that they gave.
+/// The loads of all orders, and all values that they gave.
 #[derive(Drop)]
 pub(crate) struct Readings {
     pub(crate) loads: IndexSet<Load>,
@@ -35,7 +35,7 @@ impl Readings {
         }
     }
 
-    /// The number of what this step read, whose guest is here, from 1, or 0 where it read nothing.
+    /// The number, from 1, of what a step read whose guest is at this place; 0 if it read nothing.
     pub(crate) fn number(
         &mut self,
         event: &Event,

@@ -1,11 +1,11 @@
--- How runs end, by the names that conditions have for it (profile).
+-- How runs end, by the names that conditions use (profile).
 use Rattle.std.specs.Prelude.{Option, Some, None}
 use Rattle.conditions.specs.declared.rules.Ending.{Ending}
 use Rattle.conditions.specs.declared.rules.Ending.TheVariants as endings
 use Rattle.guest_programs.specs.declared.ends.End.{End}
 use Rattle.guest_programs.specs.declared.ends.End.TheVariants as ends
 
--- An end as conditions name it; none for a gate's, of which they ask nothing.
+-- The name of an end; none for a gate's, for which conditions have no name.
 abbrev pub ending : End → Option Ending
 ending ends.GateLimit = None
 ending ends.Off = Some endings.Off

@@ -25,7 +25,7 @@ abbrev pub bit : Bool → ℕ
 bit true = 1
 bit false = 0
 
--- an operation's numbers; of a call all of them
+-- an operation's numbers; for a call all of its registers
 abbrev pub op_arguments : Op → List Item
 op_arguments (ops.Ecall regs) = Number regs.eid ∷ Number regs.fid ∷ map Number regs.a
 op_arguments (ops.Load va) = Number va ∷ []
@@ -52,7 +52,7 @@ abbrev pub signed_item : ℤ → Item
 signed_item (pos n) = Number n
 signed_item (negsuc n) = Below (suc n)
 
--- the numbers of what a step gave
+-- a reply's numbers
 abbrev pub said_arguments : Saying → List Item
 said_arguments (says.Ret error value) = signed_item error ∷ Number value ∷ []
 said_arguments says.Waiting = []
@@ -65,11 +65,11 @@ said_arguments (says.Moved state) = Number state ∷ []
 said_arguments says.Done = []
 said_arguments (says.Refused refusal) = Number refusal ∷ []
 
--- what a step gave: its name, and its numbers
+-- a reply: its name, and its numbers
 abbrev pub said_items : Saying → List Item
 said_items said = Word (names.Said (name_of_said said)) ∷ said_arguments said
 
--- the words of a step up to its arrow, and those behind it
+-- the words of a step before its arrow, and those after it
 abbrev pub step_items : Event → List Item
 step_items e = actor_item e.actor ∷ op_items e.op
 

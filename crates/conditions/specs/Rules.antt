@@ -7,17 +7,17 @@ use Rattle.conditions.specs.declared.rules.Rule.{Rule}
 use Rattle.conditions.specs.declared.rules.Rule.TheVariants.{Never, NeverAfter, OfSome, Each, End, Before}
 use Rattle.conditions.specs.Patterns.{FitsReply, FitsStep, Matches}
 
--- step k of a record, from 0, the oldest first, is one that a pattern means
+-- the pattern matches step k of a record, from 0, the oldest first
 abbrev pub IsAt : Pattern → List Event → ℕ → Type 0
 IsAt p events k = (e : Event) × (slice_get events k ≡ Some e) × Matches p e
 
--- the first from a place on that is
+-- k is the first step from a place on that the pattern matches
 pub record IsFirstFrom (p : Pattern) (events : List Event) (from k : ℕ) : Type 0 where
   pub behind : from ≤ k
   pub here : IsAt p events k
   pub none_before : (j : ℕ) → j < k → from ≤ j → ¬ IsAt p events j
 
--- the first of all
+-- k is the first step of all that the pattern matches
 abbrev pub IsFirst : Pattern → List Event → ℕ → Type 0
 IsFirst p events k = IsFirstFrom p events 0 k
 
@@ -25,7 +25,7 @@ IsFirst p events k = IsFirstFrom p events 0 k
 abbrev pub RepliesFit : Pattern → List Event → Type 0
 RepliesFit p events = (k : ℕ) (e : Event) → slice_get events k ≡ Some e → FitsStep p e → FitsReply p e
 
--- A record meets a condition. Its end is known of programs alone.
+-- A record meets a condition. Only the record of a program has an end.
 abbrev pub Holds : Rule → List Event → Option Ending → Type 0
 Holds (Never p) events end = (k : ℕ) → ¬ IsAt p events k
 Holds (NeverAfter p q) events end = (j k : ℕ) → j < k → IsAt q events j → ¬ IsAt p events k

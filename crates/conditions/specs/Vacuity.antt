@@ -1,4 +1,4 @@
--- When a condition says nothing of records, since none has the steps that it needs (profile).
+-- When a condition is vacuous: no record has a step that it needs (profile).
 use Rattle.std.specs.Prelude.{◌≡◌, ◌≢◌, ◌⊎◌, ℕ, List, [], slice_get, Option, Some}
 use Rattle.board_core.specs.History.{Event}
 use Rattle.script_lines.specs.declared.op_name.OpName.TheVariants.{Ecall}
@@ -15,7 +15,7 @@ use Rattle.conditions.specs.Rules.{Holds, IsAt}
 abbrev pub HasFitting : Pattern → List Event → Type 0
 HasFitting p events = (k : ℕ) × (e : Event) × (slice_get events k ≡ Some e) × FitsStep p e
 
--- It has one that a pattern means.
+-- A record has a step that a pattern matches.
 abbrev pub HasMatching : Pattern → List Event → Type 0
 HasMatching q events = (k : ℕ) × IsAt q events k
 
@@ -23,8 +23,8 @@ HasMatching q events = (k : ℕ) × IsAt q events k
 abbrev pub IsOfCall : Pattern → Type 0
 IsOfCall p = slice_get p.step.items 1 ≡ Some (Some (Word (Op Ecall)))
 
--- A pattern with a reply says something of a step, which must be there. `never P` without one forbids the step itself; and of a
--- call it may ask that no argument of it is ever used.
+-- `each` and `before` need a step for their first pattern, `never` and `some` if the pattern has a reply. `never P` without a
+-- reply forbids the step itself; and a `never` about a call may forbid an argument, so it needs no such call.
 abbrev pub NeedsFirst : Rule → Type 0
 NeedsFirst (Never p) = (p.reply.items ≢ []) × ¬ IsOfCall p
 NeedsFirst (NeverAfter p q) = (p.reply.items ≢ []) × ¬ IsOfCall p
@@ -33,7 +33,7 @@ NeedsFirst (Each p) = Unit {0}
 NeedsFirst (Before p q) = Unit {0}
 NeedsFirst (End ends) = ⊥
 
--- Behind `after`, and behind the comma of `before`, stands one that must be there.
+-- A condition needs a step for the pattern behind `after`, or behind the comma of `before`.
 abbrev pub NeedsSecond : Rule → Type 0
 NeedsSecond (Never p) = ⊥
 NeedsSecond (NeverAfter p q) = Unit {0}
@@ -51,7 +51,7 @@ MeetsFirst (Each p) events = HasFitting p events
 MeetsFirst (Before p q) events = HasFitting p events
 MeetsFirst (End ends) events = ⊥
 
--- It has the one that the second needs: behind `after` with its reply, if it has one.
+-- A record has the step that the second pattern needs: behind `after` one with its reply, if it has a reply.
 abbrev pub MeetsSecond : Rule → List Event → Type 0
 MeetsSecond (Never p) events = ⊥
 MeetsSecond (NeverAfter p q) events = HasMatching q events
@@ -60,16 +60,17 @@ MeetsSecond (Each p) events = ⊥
 MeetsSecond (Before p q) events = HasFitting q events
 MeetsSecond (End ends) events = ⊥
 
--- none of these records is such
+-- no record has the property
 abbrev pub NoneOf : (List Event → Type 0) → List (List Event) → Type 0
 NoneOf P records = (k : ℕ) (events : List Event) → slice_get records k ≡ Some events → ¬ P events
 
--- A condition is vacuous among records where none of them has a step that it needs.
+-- A condition is vacuous for records if it needs a step that none of them has.
 abbrev pub IsVacuous : Rule → List (List Event) → Type 0
 IsVacuous rule records =
     (NeedsFirst rule × NoneOf (MeetsFirst rule) records) ⊎ (NeedsSecond rule × NoneOf (MeetsSecond rule) records)
 
--- It says nothing of a record, whatever its steps answered: the record meets it, and never meets `some`.
+-- The condition says nothing of a record, whatever its steps answered: the record meets it, or, for `some`, doesn't meet it.
+-- (`end` needs no step, and is never vacuous.)
 abbrev pub SaysNothing : Rule → List Event → Option Ending → Type 0
 SaysNothing (Never p) events end = Holds (Never p) events end
 SaysNothing (NeverAfter p q) events end = Holds (NeverAfter p q) events end

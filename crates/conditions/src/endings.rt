@@ -1,11 +1,11 @@
-//! How runs end, by the names that conditions have for it.
+//! How runs end, by the names that conditions use.
 ghost use Rattle.std.specs.Prelude.{◌≡◌};
 ghost use Rattle.conditions.specs.Endings.{ending};
 
 use crate::rules::Ending;
 use guest_programs::End;
 
-/// An end as conditions name it.
+/// The name of an end, if conditions have one.
 pub fn ending(end: End) -> Option<Ending>
     ensures { result ≡ ending end }
 {

@@ -11,7 +11,7 @@ pub enum Wrong {
     /// No operation, reply or end has this name.
     #[error("unknown word")]
     UnknownWord,
-    /// A word that should be a number, `_` or a dash, and isn't, or a number too large for its place.
+    /// A word that should be a number, `_` or a dash, but isn't, or a number too large for its place.
     #[error("not a number")]
     BadNumber,
     /// Too few or too many words.
@@ -23,7 +23,7 @@ pub enum Wrong {
     /// A star, where `_` stands for any word.
     #[error("any word is '_'")]
     Star,
-    /// Conditions are about accepted steps, and none is refused.
+    /// Conditions are about accepted steps, and no accepted step is refused.
     #[error("no accepted step is refused")]
     Refused,
     /// Memory was refused.

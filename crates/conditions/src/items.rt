@@ -88,7 +88,7 @@ fn item_of(items: &[Item], place: usize) -> Option<Item>
     items.get(place).copied()
 }
 
-/// The item in a place, of one number.
+/// The item at a place of a list with one number.
 fn one(number: u64, place: usize) -> Option<Item>
     ensures { result ≡ slice_get (words.Number number ∷ []) place }
 {
@@ -116,14 +116,14 @@ pub(crate) fn signed_item(error: i64) -> Item
     }
 }
 
-/// The word in a place of what a step gave, from 0.
+/// The word at a place of a step's reply, from 0.
 pub(crate) fn reply_item(event: &Event, place: usize) -> Option<Item>
     ensures { result ≡ slice_get (reply_items event.now) place }
 {
     said_item(Said::of(&Ok(event.reply())), place)
 }
 
-/// The word in a place of what is said of a step, of which the first is its name.
+/// The word at a place of a reply; the first is its name.
 fn said_item(said: Said, place: usize) -> Option<Item>
     ensures { result ≡ slice_get (said_items said) place }
 {
@@ -133,7 +133,7 @@ fn said_item(said: Said, place: usize) -> Option<Item>
     said_argument(said, place - 1)
 }
 
-/// The number in a place of what is said of a step.
+/// The number at a place of a reply.
 fn said_argument(said: Said, place: usize) -> Option<Item>
     ensures { result ≡ slice_get (said_arguments said) place }
 {

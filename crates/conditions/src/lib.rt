@@ -1,4 +1,4 @@
-//! Conditions of scripts: what the comments that begin with `#!` ask of each record (profile).
+//! Conditions of scripts: comments that begin with `#!`, and what they say of each record (profile).
 #![tactic(auto)]
 
 mod endings;

@@ -1,4 +1,4 @@
-//! Words of patterns that no step of a board has in their places.
+//! Words of patterns that no step of a board can have in their places.
 use crate::items::Item;
 use crate::names::Name;
 use crate::patterns::Pattern;
@@ -10,17 +10,17 @@ const LAST_STATE: u64 = 6;
 
 const LAST_CAUSE: u64 = 15;
 
-/// A word of a pattern that no step of a board has in its place.
+/// A word of a pattern that no step of a board can have in its place.
 #[derive(Clone, Copy, Debug, PartialEq, Eq)]
 pub enum Misfit {
     /// The board has no such hart.
     NoHart(u64),
-    /// Where this operation or reply stands, its place can't hold this.
+    /// This operation or reply can't have this value in this place.
     Unheld(Name, Item),
 }
 
 impl Rule {
-    /// The first word of its patterns that no step of a board with so many harts has in its place.
+    /// The first word of its patterns that no step of a board with this many harts can have in its place.
     pub fn misfit(&self, harts: u64) -> Option<Misfit> {
         match self {
             Rule::Never(p) | Rule::OfSome(p) | Rule::Each(p) => in_pattern(p, harts),
@@ -77,7 +77,7 @@ fn in_reply(p: &Pattern, said: SaidName, harts: u64) -> Option<Misfit> {
     None
 }
 
-/// Whether a number of an operation can be this.
+/// Whether an operation can have this number.
 fn holds_in_op(op: OpName, item: Item) -> bool {
     match item {
         Item::Number(n) => op != OpName::Sstatus || n <= 1,
@@ -86,7 +86,7 @@ fn holds_in_op(op: OpName, item: Item) -> bool {
     }
 }
 
-/// Whether a number of a reply, in this place behind its name, can be this.
+/// Whether a reply can have this number in this place behind its name.
 fn holds_in_reply(said: SaidName, place: usize, item: Item) -> bool {
     match (said, item) {
         (SaidName::Ret, Item::Below(_)) => place == 1,

@@ -1,15 +1,15 @@
-//! The words of a step that are no numbers, as the table of operations and replies has them.
+//! The words of a step that aren't numbers, from the table of operations and replies.
 use script_lines::{OpName, SaidName};
 use std::fmt::{Debug, Error, Formatter, Write};
 
-/// A word of a step that is no number: the clock's, an operation's name, or a reply's.
+/// A word of a step that isn't a number: the clock's, an operation's name, or a reply's.
 #[derive(Clone, Copy, PartialEq, Eq)]
 pub enum Name {
     /// `c`
     Clock,
     /// The word of an operation.
     Op(OpName),
-    /// The word of what is said of a step.
+    /// The word of a reply.
     Said(SaidName),
 }
 

@@ -1,11 +1,11 @@
-//! What a pattern means of a step.
+//! Which steps a pattern matches.
 ghost use Rattle.std.specs.Prelude.{◌↔◌, ◌≡◌, true};
 ghost use Rattle.conditions.specs.Patterns.{FitsReply, FitsStep, FitsWord, Matches};
 
 use crate::items::{Item, reply_item, step_item};
 use board_core::Event;
 
-/// A pattern of steps: what is written of an actor's line and its reply, None for `_`.
+/// A pattern of steps: the words of an actor's line and of its reply, None for `_`.
 #[derive(Debug, Drop)]
 pub struct Pattern {
     /// The actor, the operation, and its numbers.
@@ -15,7 +15,7 @@ pub struct Pattern {
 }
 
 impl Pattern {
-    /// Whether it means a step.
+    /// Whether it matches a step.
     pub fn matches(&self, event: &Event) -> bool
         ensures { (result ≡ true) ↔ Matches self.now event.now }
     {

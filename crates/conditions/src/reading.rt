@@ -16,9 +16,9 @@ use std::alloc::Global;
 pub struct Condition {
     /// Its line's number, from 1.
     pub line: u64,
-    /// It may be about steps that no order has.
+    /// `maybe`: it may be about steps that no order has.
     pub is_maybe: bool,
-    /// What it asks.
+    /// The condition itself.
     pub rule: Rule,
 }
 
@@ -26,7 +26,7 @@ pub struct Condition {
 ///
 /// # Errors
 ///
-/// The first of them that can't be read, or want of memory.
+/// The first condition that can't be read, or an allocation failed.
 pub fn conditions(alloc: Global, text: &[u8]) -> Result<Vec<Condition>, Fault> {
     let mut found = Vec::new(alloc);
     for (i, bytes) in text.split(|b| *b == b'\n').enumerate() {
@@ -44,7 +44,7 @@ pub fn conditions(alloc: Global, text: &[u8]) -> Result<Vec<Condition>, Fault> {
     Ok(found)
 }
 
-/// Reads a condition of a line, and puts it behind those before.
+/// Reads the condition of a line, and appends it.
 fn put(alloc: Global, found: &mut Vec<Condition>, line: u64, from: &[u8]) -> Result<(), Unread> {
     let (is_maybe, rule) = asked_rule(alloc, from)?;
     found.push(Condition {
@@ -55,7 +55,7 @@ fn put(alloc: Global, found: &mut Vec<Condition>, line: u64, from: &[u8]) -> Res
     Ok(())
 }
 
-/// What stands behind `#!`, where a line begins so, blanks aside.
+/// The text behind `#!`, if a line begins with it, blanks aside.
 fn asked(line: &[u8]) -> Option<&[u8]> {
     for (i, byte) in line.iter().enumerate() {
         if *byte != b' ' && *byte != b'\t' {
@@ -124,7 +124,7 @@ impl<'a> Words<'a> {
     }
 }
 
-/// The condition that a text is, and whether `maybe` stands in front of it.
+/// Reads a text as a condition, and whether it begins with `maybe`.
 fn asked_rule(alloc: Global, text: &[u8]) -> Result<(bool, Rule), Unread> {
     let mut words = Words { rest: text };
     let first = words.word()?;
@@ -135,7 +135,7 @@ fn asked_rule(alloc: Global, text: &[u8]) -> Result<(bool, Rule), Unread> {
     Ok((true, rule(alloc, name, &mut words)?))
 }
 
-/// The condition of this name, whose other words follow.
+/// Reads the condition of this name, whose other words follow.
 fn rule(alloc: Global, name: Word<'_>, words: &mut Words<'_>) -> Result<Rule, Unread> {
     match name.text {
         b"never" => never(alloc, words),
@@ -193,8 +193,8 @@ fn ends(alloc: Global, words: &mut Words<'_>) -> Result<Rule, Unread> {
     Ok(Rule::End(found))
 }
 
-/// The pattern that the words up to a certain one are, or up to a comma behind a word where that one is a comma; and
-/// whether it came.
+/// Reads a pattern up to a certain word; if that word is a comma, up to a comma behind a word. Returns the pattern, and whether
+/// that word came.
 fn pattern(alloc: Global, words: &mut Words<'_>, until: &[u8]) -> Result<(Pattern, bool), Unread> {
     let mut step = Vec::new(alloc);
     let (came, is_reply) = items(words, until, false, &mut step)?;
@@ -212,7 +212,7 @@ fn pattern(alloc: Global, words: &mut Words<'_>, until: &[u8]) -> Result<(Patter
     Ok((Pattern { step, reply }, came))
 }
 
-/// Reads the words of a step, or of a reply: whether the last one came, and whether an arrow did.
+/// Reads the words of a step or of a reply. Returns whether the last word came, and whether an arrow did.
 fn items(
     words: &mut Words<'_>,
     until: &[u8],
@@ -243,7 +243,7 @@ fn items(
     Ok((false, false))
 }
 
-/// A word without the comma at its end, where the last word is a comma; and whether it had one.
+/// A word without the comma at its end, if a comma ends the pattern; and whether it had one.
 fn without_comma<'a>(word: &'a [u8], until: &[u8]) -> (&'a [u8], bool) {
     if until == b",".as_slice()
         && let Some(text) = word.strip_suffix(b",")
@@ -253,7 +253,7 @@ fn without_comma<'a>(word: &'a [u8], until: &[u8]) -> (&'a [u8], bool) {
     (word, false)
 }
 
-/// The word of a pattern in a place: 0 the actor, 1 a name, and then numbers; and the last place that may be.
+/// The word of a pattern at a place (0 the actor, 1 a name, then numbers), and the last place that may follow.
 fn item(
     place: usize,
     is_reply: bool,
@@ -287,7 +287,7 @@ fn actor(word: &[u8]) -> Result<Option<Item>, Wrong>
     }
 }
 
-/// The name of an operation or of a reply, or any; and how many words may stand there, the name among them.
+/// The name of an operation or of a reply, or any; and how many words it may have, with the name.
 fn name(word: &[u8], is_reply: bool) -> Result<(Option<Item>, usize), Wrong>
     ensures { IfOk result (λ found. AsksName is_reply word.now found.0 found.1) }
 {

@@ -1,4 +1,4 @@
-//! What a condition asks of a record, and whether one meets it.
+//! What a condition says of a record, and whether the record meets it.
 ghost use Rattle.std.specs.Prelude.{◌↔◌, ◌≡◌, ◌<◌, ◌≤◌, ℕ, MatchOption, Some, length, slice_get, true};
 ghost use Rattle.conditions.specs.Rules.{Holds, IsAt, IsFirst, IsFirstFrom, RepliesFit};
 ghost use Rattle.conditions.specs.declared.rules.Ending.{Ending as HowEnded};
@@ -19,25 +19,25 @@ pub enum Ending {
     Stuck,
 }
 
-/// What a condition asks of a record.
+/// A condition on records.
 #[derive(Debug, Drop)]
 pub enum Rule {
-    /// `never P`: no step is one that P means.
+    /// `never P`: P matches no step.
     Never(Pattern),
-    /// `never P after Q`: no step that P means stands behind one that Q means.
+    /// `never P after Q`: no step that P matches comes later than one that Q matches.
     NeverAfter(Pattern, Pattern),
-    /// `some P`: one step is one that P means.
+    /// `some P`: P matches some step.
     OfSome(Pattern),
     /// `each P`: each step whose actor and operation fit P has a reply that fits.
     Each(Pattern),
     /// `end E ..`: the run ended in one of these ways.
     End(Vec<Ending>),
-    /// `before P, Q`: where both stand, the first step that P means stands before the first that Q means.
+    /// `before P, Q`: the first step that P matches comes before the first that Q matches, if both come.
     Before(Pattern, Pattern),
 }
 
 impl Rule {
-    /// Whether a record meets it: the accepted steps, oldest first, and of a program how the run ended.
+    /// Whether a record meets it: the accepted steps, oldest first, and, for a program, how the run ended.
     pub fn holds(&self, events: &[Event], end: Option<Ending>) -> bool
         ensures { (result ≡ true) ↔ Holds self.now events.now end }
     {
@@ -52,7 +52,7 @@ impl Rule {
     }
 }
 
-/// The first step from a place on that a pattern means, if there is one.
+/// The first step from a place on that a pattern matches, if there is one.
 pub fn first_from(p: &Pattern, events: &[Event], from: usize) -> Option<usize>
     ensures { MatchOption result ((k : ℕ) → from ≤ k → ¬ IsAt p.now events.now k) (IsFirstFrom p.now events.now from) }
 {
@@ -64,7 +64,7 @@ pub fn first_from(p: &Pattern, events: &[Event], from: usize) -> Option<usize>
     None
 }
 
-/// Whether no step that P means stands behind one that Q means.
+/// Whether no step that P matches comes later than one that Q matches.
 fn no_later(p: &Pattern, q: &Pattern, events: &[Event]) -> bool
     ensures { (result ≡ true) ↔ ((j k : ℕ) → j < k → IsAt q.now events.now j → ¬ IsAt p.now events.now k) }
 {
@@ -74,7 +74,7 @@ fn no_later(p: &Pattern, q: &Pattern, events: &[Event]) -> bool
     }
 }
 
-/// Whether the first step that P means stands before the first that Q means, where both stand.
+/// Whether the first step that P matches comes before the first that Q matches, if both come.
 fn is_before(p: &Pattern, q: &Pattern, events: &[Event]) -> bool
     ensures { (result ≡ true) ↔ ((j k : ℕ) → IsFirst p.now events.now j → IsFirst q.now events.now k → j < k) }
 {

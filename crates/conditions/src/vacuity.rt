@@ -1,4 +1,4 @@
-//! Whether a condition says anything of records: whether some of them has the steps that it needs.
+//! Whether a condition is vacuous: whether some record has the steps that it needs.
 ghost use Rattle.std.specs.Prelude.{◌≡◌, ◌≢◌, ◌↔◌, ◌⊎◌, ℕ, [], List, Option, Some, slice_get, true, false};
 ghost use Rattle.board_core.specs.History.{Event as Step};
 ghost use Rattle.conditions.specs.declared.rules.Ending.{Ending as HowEnded};
@@ -15,9 +15,9 @@ use script_lines::OpName;
 /// Which of the steps that a condition needs were met in some record.
 #[derive(Clone, Copy, Debug, PartialEq, Eq)]
 pub struct NeedsMet {
-    /// That of its first pattern.
+    /// The step of its first pattern.
     pub first: bool,
-    /// That of its second one.
+    /// The step of its second pattern.
     pub second: bool,
 }
 
@@ -33,7 +33,7 @@ impl NeedsMet {
         }
     }
 
-    /// A record was made.
+    /// Adds the steps of a record.
     pub fn see(&mut self, rule: &Rule, events: &[Event])
         ensures first { (self.new.first ≡ true) ↔ ((self.old.first ≡ true) ⊎ MeetsFirst rule.now events.now) }
         ensures second { (self.new.second ≡ true) ↔ ((self.old.second ≡ true) ⊎ MeetsSecond rule.now events.now) }
@@ -42,7 +42,7 @@ impl NeedsMet {
         self.second = self.second || meets_second(rule, events);
     }
 
-    /// What was met of other records, too.
+    /// Adds what other records met.
     pub fn add(&mut self, other: NeedsMet)
         ensures first { (self.new.first ≡ true) ↔ ((self.old.first ≡ true) ⊎ (other.first ≡ true)) }
         ensures second { (self.new.second ≡ true) ↔ ((self.old.second ≡ true) ⊎ (other.second ≡ true)) }
@@ -51,14 +51,14 @@ impl NeedsMet {
         self.second = self.second || other.second;
     }
 
-    /// Whether a condition's first pattern has no step that it needs.
+    /// Whether the condition's first pattern needs a step that no record has.
     pub fn lacks_first(self, rule: &Rule) -> bool
         ensures { (result ≡ true) ↔ (NeedsFirst rule.now × (self.first ≡ false)) }
     {
         !self.first && needs_first(rule)
     }
 
-    /// Whether its second pattern has none.
+    /// Whether its second pattern does.
     pub fn lacks_second(self, rule: &Rule) -> bool
         ensures { (result ≡ true) ↔ (NeedsSecond rule.now × (self.second ≡ false)) }
     {
@@ -66,7 +66,7 @@ impl NeedsMet {
     }
 }
 
-/// A vacuous condition says nothing: each of those records meets it, and none meets `some`. A law: there is nothing to run.
+/// A vacuous condition says nothing: each of these records meets it, and none meets `some`. A law: there is nothing to run.
 pub fn vacuous_conditions_say_nothing()
     ensures { (rule : Asked) (records : List (List Step)) → IsVacuous rule records
         → (k : ℕ) (events : List Step) (end : Option HowEnded) → slice_get records k ≡ Some events
@@ -110,14 +110,14 @@ fn has_fitting(p: &Pattern, events: &[Event]) -> bool
     false
 }
 
-/// Whether some step is one that a pattern means.
+/// Whether a pattern matches some step.
 fn has_matching(q: &Pattern, events: &[Event]) -> bool
     ensures { (result ≡ true) ↔ HasMatching q.now events.now }
 {
     first_from(q, events, 0).is_some()
 }
 
-/// Whether a condition needs a step of its first pattern.
+/// Whether a condition needs a step for its first pattern.
 fn needs_first(rule: &Rule) -> bool
     ensures { (result ≡ true) ↔ NeedsFirst rule.now }
 {
@@ -130,7 +130,7 @@ fn needs_first(rule: &Rule) -> bool
     }
 }
 
-/// Whether it needs one of its second pattern.
+/// Whether it needs one for its second pattern.
 fn needs_second(rule: &Rule) -> bool
     ensures { (result ≡ true) ↔ NeedsSecond rule.now }
 {

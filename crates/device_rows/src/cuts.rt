@@ -44,8 +44,8 @@ pub fn show_cuts<R: AllocGlobal + Print>(rt: &R) -> Result<()> {
     Ok(())
 }
 
-/// Shows what each beginning of a script answers, those that answer the same together. In whatever pieces of whole lines a
-/// reader is given one, it answers the same script or the same fault.
+/// Prints the answer to each beginning of a script, grouped by equal answers. In whatever pieces of whole lines a reader gets
+/// one, it answers the same script or the same fault.
 fn show_cut<R: AllocGlobal + Print>(rt: &R, name: &str, whole: &[u8]) -> Result<()> {
     let mut first = 0;
     for size in 0..=whole.len() {
@@ -82,7 +82,7 @@ fn told(alloc: Global, bytes: &[u8]) -> Result<String> {
     }
 }
 
-/// How a replay or a check of bytes ends, the same in every two pieces.
+/// How a replay or a check of bytes ends, the same for every two pieces.
 fn ended_in_two(alloc: Global, bytes: &[u8], is_replay: bool) -> Result<Outcome> {
     let (outcome, printed) = ended(alloc, b"", bytes, is_replay);
     for at in 1..bytes.len() {
@@ -108,7 +108,7 @@ fn ended(alloc: Global, front: &[u8], rest: &[u8], is_replay: bool) -> (Outcome,
     (outcome, writer.into_inner())
 }
 
-/// A reader answers the same of the bytes, whichever line feeds part its pieces.
+/// A reader answers the same, at whichever line feed its pieces are parted.
 fn check_pieces(alloc: Global, bytes: &[u8]) -> Result<()> {
     let whole = format!(in alloc; "{:?}", parse(alloc, bytes))?;
     let feeds = bytes.iter().filter(|byte| **byte == b'\n').count();
@@ -122,7 +122,7 @@ fn check_pieces(alloc: Global, bytes: &[u8]) -> Result<()> {
     Ok(())
 }
 
-/// What a reader answers that is given a piece up to each chosen line feed, and at the end the rest.
+/// What a reader answers to a piece up to each chosen line feed, and at the end the rest.
 fn read_in_pieces(alloc: Global, bytes: &[u8], chosen: u64) -> Result<String> {
     let mut reader = Reader::expecting(0);
     let mut piece = Vec::new(alloc);
@@ -150,7 +150,7 @@ fn whole_lines(bytes: &[u8]) -> &[u8]
     front
 }
 
-/// So many bytes, all the same.
+/// This many equal bytes.
 fn filled(alloc: Global, size: usize, byte: u8) -> io::Result<Vec<u8>> {
     let mut bytes = Vec::new(alloc);
     bytes.resize(size, byte)?;

@@ -37,7 +37,7 @@ fn flush_once(alloc: Global, answer: Answer) -> (Result<(), Failed>, u64, u64) {
     (answer, system.calls, system.flushes)
 }
 
-/// Shows what each call of a device answers, and how many calls of the system it makes.
+/// Prints what each call of a device answers, and how many calls of the system it makes.
 pub fn show_calls<R: AllocGlobal + Print>(rt: &R) -> io::Result<()> {
     let alloc = rt.alloc();
     for most in [0, 1, 3, 5, 64] {

@@ -1,4 +1,4 @@
-//! Each task of the library, with a reader or a writer of which each call in turn fails.
+//! Each task of the library, with a reader or a writer whose calls fail, each in turn.
 
 ghost use Rattle.std.specs.Prelude.{◌^◌, ◌<◌};
 

@@ -1,6 +1,5 @@
-//! Rows of the library's tasks over sources and sinks whose calls fail, each in its turn, and of scripts that are cut
-//! anywhere. The program prints how many calls there were and what is answered, and its file stdout has all that it
-//! must print.
+//! Rows of the library's tasks over sources and sinks whose calls fail, each in turn, and of scripts that are cut anywhere. The
+//! program prints how many calls there were and the answers, and must print its file stdout.
 #![tactic(auto)]
 
 mod cuts;
@@ -23,7 +22,7 @@ fn main(rt: HostRuntime) -> Result<()> {
     cuts::show_lengths(&rt)
 }
 
-/// Shows how many reads and writes a task makes, each of which failed in turn.
+/// Prints how many reads and writes a task makes, each of which failed in turn.
 fn show_failures<R: AllocGlobal + Print + Threads + Wait + Sync>(
     rt: &R,
     task: LibraryTask,

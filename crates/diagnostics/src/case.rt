@@ -1,4 +1,4 @@
-//! A script's text beside what was read of it.
+//! A script's text, with its conditions.
 use conditions::Condition;
 use guest_script::{next_word, unsigned_number, without_return};
 use std::alloc::{AllocError, Global};
@@ -7,7 +7,7 @@ use std::str;
 /// A file under test.
 #[derive(Clone, Copy, Debug)]
 pub struct Case<'a> {
-    /// Its name, as it was given.
+    /// Its name, as given.
     pub file: &'a str,
     /// Its bytes.
     pub text: &'a [u8],
@@ -16,19 +16,19 @@ pub struct Case<'a> {
 }
 
 impl<'a> Case<'a> {
-    /// What a line says, without its comment.
+    /// The text of a line, without its comment.
     pub fn said_at(&self, line: u64) -> &'a str {
         said(self.line(line))
     }
 
-    /// What the condition of a line asks, without the comment behind it.
+    /// The text of a line's condition, without the comment behind it.
     pub fn asked_at(&self, line: u64) -> &'a str {
         let text = self.line(line).trim();
         let (asked, _) = parted(text.strip_prefix("#!").unwrap_or(text));
         asked.trim()
     }
 
-    /// What the condition of a line says of a step, in its first pattern or in its second one, with its reply where that is asked for.
+    /// The text of a condition's first or second pattern, with its reply if that counts.
     pub fn pattern_at(
         &self,
         alloc: Global,
@@ -65,7 +65,7 @@ impl<'a> Case<'a> {
         Ok(found)
     }
 
-    /// The line of an operation in the block at an address, which has so many before it, and what it says.
+    /// The line of an operation in the block at an address, with this many before it, and its text.
     pub fn op_line(&self, addr: u64, before: u64) -> Option<(u64, &'a str)> {
         let mut is_inside = false;
         let mut left = before;
@@ -98,7 +98,7 @@ impl<'a> Case<'a> {
     }
 }
 
-/// What lines of a text say that are asked for in their order, so that the text is gone through once.
+/// The texts of lines that are requested in ascending order, so that the text is read once.
 #[derive(Drop)]
 pub struct Walk<'a> {
     rest: &'a [u8],
@@ -114,7 +114,7 @@ impl<'a> Walk<'a> {
         }
     }
 
-    /// What a line says, without its comment; nothing of one that was passed already.
+    /// The text of a line, without its comment; nothing for an earlier line than the last.
     pub fn said_at(&mut self, line: u64) -> &'a str {
         let mut found: &'a [u8] = b"";
         for _ in self.number..line {
@@ -139,7 +139,7 @@ impl<'a> Walk<'a> {
     }
 }
 
-/// What stands behind the name of a condition.
+/// The text behind the name of a condition.
 fn behind_name(asked: &[u8]) -> &[u8] {
     match next_word(asked) {
         Some((b"maybe", after)) => match next_word(after) {
@@ -151,19 +151,19 @@ fn behind_name(asked: &[u8]) -> &[u8] {
     }
 }
 
-/// The number that a text begins with, as the address behind `at`.
+/// The number at the beginning of a text, such as the address behind `at`.
 pub fn number_in(text: &[u8]) -> Option<u64> {
     let (word, _) = next_word(text)?;
     unsigned_number(word, u64::MAX)
 }
 
-/// What a line's text says, without its comment.
+/// The text of a line, without its comment.
 pub fn said(line: &str) -> &str {
     let (said, _) = parted(line);
     said.trim()
 }
 
-/// What stands before a comment, and behind its sign.
+/// The text before a comment, and the text behind its sign.
 fn parted(text: &str) -> (&str, &str) {
     text.split_once('#').unwrap_or((text, ""))
 }

@@ -1,7 +1,7 @@
-//! What stands at a column of a line.
+//! The word at a column of a line.
 use guest_script::{next_word, without_return};
 
-/// The word that begins at a column of a line; nothing where none does.
+/// The word that begins at a column of a line, or none.
 pub(crate) fn word_at(text: &[u8], line: u64, column: u64) -> &[u8] {
     match next_word(without_return(from_column(text, line, column))) {
         Some((word, _)) => word,

@@ -1,4 +1,4 @@
-//! Where in a script's text its conditions and its blocks' operations stand, and what is told of its faults.
+//! Messages about a script's faults, and where its text has conditions and operations of blocks.
 #![tactic(auto)]
 
 mod case;

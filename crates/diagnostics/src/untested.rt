@@ -1,4 +1,4 @@
-//! What is wrong with a text, in words.
+//! Messages about a text that can't be tested.
 use crate::columns::{from_column, word_at};
 use board_core::{Config, USUAL_ASID_LEN, USUAL_WIDTH};
 use conditions::Fault;
@@ -7,7 +7,7 @@ use script_lines::OpName;
 use std::alloc::{AllocError, Global};
 use std::str;
 
-/// Says where a script has its fault, by the line, the column and the word, and what it is.
+/// The message of a script's fault: line, column, what is wrong, and the word.
 pub fn faulty(alloc: Global, text: &[u8], found: Misread) -> Result<String, AllocError> {
     let Misread {
         line,
@@ -31,7 +31,7 @@ pub fn faulty(alloc: Global, text: &[u8], found: Misread) -> Result<String, Allo
     }
 }
 
-/// What is wrong with a word, or where none stands.
+/// What is wrong with a word, or that there is none.
 fn what_is_wrong(wrong: Wrong, word: &[u8]) -> &'static str {
     match wrong {
         Wrong::UnknownOperation if OpName::of(word).is_some() => "its block allows no operation",
@@ -48,7 +48,7 @@ fn what_is_wrong(wrong: Wrong, word: &[u8]) -> &'static str {
     }
 }
 
-/// What is wrong with the first of these bytes of a line, which may stand in no script.
+/// What is wrong with the first of these bytes of a line, which no script may have.
 fn bad_byte(text: &[u8]) -> &'static str {
     if text.starts_with(b"\xef\xbb\xbf") {
         "a byte order mark"
@@ -59,7 +59,7 @@ fn bad_byte(text: &[u8]) -> &'static str {
     }
 }
 
-/// Says where a condition can't be read, by the line, the column and the word, and why.
+/// The message of a condition's fault: line, column, why, and the word.
 pub fn bad_condition(alloc: Global, text: &[u8], found: Fault) -> Result<String, AllocError> {
     let Fault {
         line,
@@ -72,7 +72,7 @@ pub fn bad_condition(alloc: Global, text: &[u8], found: Fault) -> Result<String,
     }
 }
 
-/// Says which number of a board line is outside its limits, the first of them.
+/// The message of a board line's first number that is outside its limits.
 pub fn bad_board(alloc: Global, config: &Config) -> Result<String, AllocError> {
     let Config {
         harts,
@@ -101,7 +101,7 @@ pub fn bad_board(alloc: Global, config: &Config) -> Result<String, AllocError> {
     }
 }
 
-/// The board with the address spaces of one whose line leaves them out.
+/// The board with the default address spaces.
 fn with_usual_spaces(config: &Config) -> Config {
     Config {
         asid_len: USUAL_ASID_LEN,

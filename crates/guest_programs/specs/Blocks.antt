@@ -6,12 +6,12 @@ use Rattle.guest_script.specs.Grammar.{Guest}
 use Rattle.guest_programs.specs.declared.guests.Place.{Place}
 use Rattle.guest_programs.specs.Guests.{Did, Entered, Next, Rest, did}
 
--- the operations of the block at an address; none where no block is
+-- the operations of the block at an address; none without such a block
 abbrev pub block_at : List Guest → ℕ → List Op
 block_at [] addr = []
 block_at (block ∷ blocks) addr = if block.addr == addr then block.ops else block_at blocks addr
 
--- What such guests do: of the block at the entry's address, the operation behind as many as were done.
+-- What such guests do: the operation of the entry's block with as many before it as were done since the entry.
 abbrev pub in_blocks : List Guest → Next
 in_blocks blocks = λ entry before. slice_get (block_at blocks entry.addr) (length before)
 
@@ -33,6 +33,6 @@ done past h = ops_in (did past h)
 
 -- ---- how far a guest is
 
--- what a guest does with this left of its block
+-- what a guest does with this remainder of its block
 abbrev pub rest_at : Place → Rest
 rest_at place = λ more. slice_get place.left.now (length more)

@@ -12,8 +12,7 @@ use Rattle.guest_programs.specs.declared.met.Met.{Met}
 use Rattle.guest_programs.specs.declared.met.Met.TheVariants.{FullHistory, ClosedGate}
 use Rattle.guest_programs.specs.Guests.{HasFollowed, Next, next_op}
 
--- A hart is STARTED, outside of a fence call, and since its last entry its guest did nothing but its next operations, up to
--- where it has none.
+-- A hart is STARTED, outside a fence call; since its last entry its guest did only its next operations, and has none left.
 pub record IsThrough (o : Opening) (past : List Event) (guests : Next) (h : ℕ) : Type 0 where
   pub started : state o past h ≡ Started
   pub outside : outstanding o past h ≡ None
@@ -28,12 +27,12 @@ IsQuiet o past guests h = (state o past h ≡ Stopped) ⊎ IsThrough o past gues
 abbrev pub AreQuiet : Opening → List Event → Next → Type 0
 AreQuiet o past guests = (h : ℕ) → h < o.config.harts → IsQuiet o past guests h
 
--- An actor met a full history, and it is full.
+-- An actor met a full history, and the history is full.
 abbrev pub IsFull : Met → Opening → List Event → Type 0
 IsFull met o past = (met ≡ FullHistory) × (length past ≡ o.config.limit)
 
--- How a run ended, by what its actors met together and its record: a closed gate comes first, then the power, then a history
--- that was full, and else the harts tell.
+-- How a run ended, by what its actors met together and its record: by a closed gate; else by the power; else by a full history;
+-- else by the harts.
 abbrev pub IsEndBy : Met → Opening → List Event → Next → End → Type 0
 IsEndBy met o past guests GateLimit = met ≡ ClosedGate
 IsEndBy met o past guests Off = (met ≢ ClosedGate) × (is_off o past ≡ true)
@@ -44,7 +43,7 @@ IsEndBy met o past guests Stuck =
     (met ≢ ClosedGate) × (is_off o past ≡ false) × ¬ IsFull met o past
     × ((h : ℕ) × (h < o.config.harts) × ¬ IsQuiet o past guests h)
 
--- What holds of the record with each end. Of a gate's answers a record says nothing.
+-- What the record shows of each end. It shows nothing of a gate.
 abbrev pub IsEnd : End → Opening → List Event → Next → Type 0
 IsEnd GateLimit o past guests = Unit {0}
 IsEnd Off o past guests = is_off o past ≡ true

@@ -7,7 +7,7 @@ use Rattle.board_terms.specs.declared.reply.Reply.TheVariants.{Entry}
 use Rattle.board_core.specs.Course.{is_hart}
 use Rattle.board_core.specs.History.{Event}
 
--- A guest's operation is neither the firmware's own nor the clock's.
+-- A guest's operation: one that is neither the firmware's nor the clock's.
 abbrev pub is_guest : Op → Bool
 is_guest Poll = false
 is_guest Serve = false
@@ -17,7 +17,7 @@ is_guest op = true
 
 -- ---- what a history says of a guest
 
--- where a hart is entered, and what it is given there: its id and an opaque value (SBI 9, HSM start)
+-- the address at which a hart is entered, and its registers there: its id and an opaque value (SBI 9, HSM start)
 pub record Entered : Type 0 where
   pub addr : ℕ
   pub hart : ℕ
@@ -27,7 +27,7 @@ pub record Entered : Type 0 where
 abbrev pub Did : Type 0
 Did = List (Op × Reply)
 
--- what an event means for the guest of a hart: it is entered, it does an operation that is answered so, or neither
+-- what an event means for a hart's guest: an entry, an operation with its reply, or nothing
 pub data Meaning : Type 0 where
   Enters : Entered → Meaning
   Does : Op → Reply → Meaning
@@ -45,7 +45,7 @@ entry_after (Enters entry) before = Some entry
 entry_after (Does op reply) before = before
 entry_after Still before = before
 
--- Where hart h was entered last, if it was.
+-- The last entry of hart h, if there was one.
 abbrev pub last_entry : List Event → ℕ → Option Entered
 last_entry [] h = None
 last_entry (e ∷ past) h = entry_after (meaning_of h e) (last_entry past h)
@@ -62,11 +62,11 @@ did (e ∷ past) h = did_after (meaning_of h e) (did past h)
 
 -- ---- what guests do
 
--- What guests do: the next operation, if there is one, by the entry and what was done since.
+-- A program of guests: the next operation, if there is one, by the entry and the operations since.
 abbrev pub Next : Type 0
 Next = Entered → Did → Option Op
 
--- the next operation of a guest; none where its hart wasn't entered
+-- the next operation of a guest; none if its hart was never entered
 abbrev pub next_for : Next → Option Entered → Did → Option Op
 next_for guests None before = None
 next_for guests (Some entry) before = guests entry before
@@ -75,7 +75,7 @@ next_for guests (Some entry) before = guests entry before
 abbrev pub next_op : Next → List Event → ℕ → Option Op
 next_op guests past h = next_for guests (last_entry past h) (did past h)
 
--- Each of these operations was the next one then.
+-- Each of these operations was the guest's next one at its time.
 abbrev pub AreNext : Next → Option Entered → Did → Type 0
 AreNext guests entry [] = Unit {0}
 AreNext guests entry (one ∷ before) = (next_for guests entry before ≡ Some one.0) × AreNext guests entry before
@@ -86,14 +86,14 @@ HasFollowed guests past h = AreNext guests (last_entry past h) (did past h)
 
 -- ---- how far a guest is
 
--- what a guest does from somewhere on, by what it does more
+-- what a guest does from some moment on, by its operations since then
 abbrev pub Rest : Type 0
 Rest = Did → Option Op
 
--- That is what it does behind an entry and what it did since.
+-- `rest` is what a guest does after this entry and these operations.
 abbrev pub IsBehind : Rest → Next → Option Entered → Did → Type 0
 IsBehind rest guests entry before = (more : Did) → rest more ≡ next_for guests entry (more ++ before)
 
--- The guest of hart h is there.
+-- `rest` is what the guest of hart h does after this history.
 abbrev pub IsAt : Rest → Next → List Event → ℕ → Type 0
 IsAt rest guests past h = IsBehind rest guests (last_entry past h) (did past h)

@@ -4,12 +4,12 @@ use Rattle.board_terms.specs.declared.reply.Refusal.TheVariants.{HistoryFull}
 use Rattle.guest_programs.specs.declared.met.Met.{Met}
 use Rattle.guest_programs.specs.declared.met.Met.TheVariants.{Nothing, FullHistory, ClosedGate}
 
--- What an actor met whose operation was refused so: nothing, but for a history that was full.
+-- What an actor met whose operation was refused: a full history, or nothing for another refusal.
 abbrev pub met_by_refusal : Refusal → Met
 met_by_refusal HistoryFull = FullHistory
 met_by_refusal r = Nothing
 
--- What two met together: a gate that closed comes first, and then a history that was full.
+-- What two actors met together: a closed gate comes first, then a full history.
 abbrev pub met_by_both : Met → Met → Met
 met_by_both ClosedGate other = ClosedGate
 met_by_both FullHistory ClosedGate = ClosedGate

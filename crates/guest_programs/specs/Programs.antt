@@ -1,4 +1,4 @@
--- Programs: what a script has its board's guests and clock do (profile).
+-- Programs of scripts: what a board's guests and its clock do (profile).
 use Rattle.std.specs.Prelude.{◌≡◌, ℕ, List, [], length, map, take}
 use Rattle.board_terms.specs.declared.op.Op.{Op}
 use Rattle.board_terms.specs.declared.op.Op.TheVariants.{Tick}
@@ -6,7 +6,7 @@ use Rattle.guest_script.specs.Grammar.{Content, Empty, Program, Schedule, Trace}
 use Rattle.guest_programs.specs.Blocks.{in_blocks}
 use Rattle.guest_programs.specs.Guests.{Next}
 
--- A script is a program, or an empty script, which serves as one.
+-- A script is a program, or it is empty, which counts as a program without blocks.
 abbrev pub IsProgram : Content → Type 0
 IsProgram Empty = Unit {0}
 IsProgram (Program blocks clock) = Unit {0}

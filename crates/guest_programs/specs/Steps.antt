@@ -1,4 +1,4 @@
--- The steps that the actors of a program can take of themselves (profile).
+-- The steps that a program's actors can take on their own (profile).
 use Rattle.std.specs.Prelude.{◌≡◌, ◌⊎◌, ℕ, zero, suc, ◌+◌, Bool, true, false, not, ◌&&◌, nat_le, nat_lt, if◌then◌else◌, List, [], ◌∷◌, ◌++◌, map, slice_get, Option, Some, None, option_map}
 use Rattle.std.specs.List.{Contains}
 use Rattle.interrupts.specs.Timing.{last_time}
@@ -21,16 +21,16 @@ use Rattle.guest_programs.specs.Programs.{blocks_of, ticks_of}
 use Rattle.guest_programs.specs.declared.steps.Step.{Step}
 use Rattle.guest_programs.specs.declared.steps.Step.TheVariants as takes
 
--- what a program has its actors do: guests, and the clock
+-- what a program's actors do: the guests, and the clock
 pub record Task : Type 0 where
   pub guests : Next
   pub ticks : List ℕ
 
--- What a script has its actors do.
+-- What the actors of a script do.
 abbrev pub task_of : Content → Task
 task_of content = record { guests = blocks_of content; ticks = ticks_of content }
 
--- What a program has its actors do.
+-- What the actors of a program do.
 abbrev pub task_in : Program → Task
 task_in program = record { guests = in_blocks (map guest program.blocks.now); ticks = program.ticks.now }
 
@@ -43,27 +43,27 @@ abbrev pub ticked : List Event → ℕ
 ticked [] = 0
 ticked (e ∷ past) = if is_clock e.actor then suc (ticked past) else ticked past
 
--- What the clock does next: the tick behind those that it made.
+-- The clock's next tick: the one behind those that it made.
 abbrev pub next_tick : List ℕ → List Event → Option ℕ
 next_tick ticks past = slice_get ticks (ticked past)
 
--- An operation of a hart's own: the firmware's, or the next one of its guest.
+-- An operation of a hart's own: its firmware's, or its guest's next.
 abbrev pub IsOwn : Option Op → Op → Type 0
 IsOwn guest op = (op ≡ ops.Serve) ⊎ (op ≡ ops.Poll) ⊎ (op ≡ ops.Advance) ⊎ (guest ≡ Some op)
 
--- An operation is an actor's own: of a hart the firmware's or the next one of its guest, of the clock its next tick.
+-- An operation is an actor's own: a hart's firmware's or its guest's next, or the clock's next tick.
 abbrev pub IsActorsOwn : Task → List Event → Actor → Op → Type 0
 IsActorsOwn p past (actors.Hart h) op = IsOwn (next_op p.guests past h) op
 IsActorsOwn p past actors.Clock op = option_map ops.Tick (next_tick p.ticks past) ≡ Some op
 
--- Each event of the past was its actor's own then: each hart's operations follow its blocks, and the clock's its ticks.
+-- Each event was its actor's own at its time: each hart follows its guest, and the clock its ticks.
 abbrev pub AreOwn : Task → List Event → Type 0
 AreOwn p [] = Unit {0}
 AreOwn p (e ∷ past) = IsActorsOwn p past e.actor e.op × AreOwn p past
 
 -- ---- the set of steps
 
--- whether a hart's situation lets an operation happen
+-- whether a hart's situation allows an operation
 abbrev pub accepts : Situation → Op → Bool
 accepts s op = not (is_out_of_phase op s) && not (has_nothing_to_do op s)
 
@@ -71,7 +71,7 @@ abbrev pub accepts_next : Situation → Option Op → Bool
 accepts_next s None = false
 accepts_next s (Some op) = accepts s op
 
--- whether an operation that is refused so, if it is, could happen if the history had room
+-- whether an operation with this refusal, if any, would be accepted if the history had room
 abbrev pub happens_with_room : Option Refusal → Bool
 happens_with_room None = true
 happens_with_room (Some refusals.HistoryFull) = true
@@ -100,7 +100,7 @@ abbrev pub can_tick : Opening → List Event → Option ℕ → Bool
 can_tick o past None = false
 can_tick o past (Some n) = nat_le (time o past + n) last_time
 
--- All steps that can be taken behind a past: none without power. Room for one event more is no condition.
+-- All steps that can be taken after a history: none with the power off. They need no room in the history.
 unfoldable pub steps : Opening → Task → List Event → List Step
 steps o p past =
     if is_off o past then []
@@ -114,7 +114,7 @@ actor_of (takes.Advance h) = actors.Hart h
 actor_of (takes.Guest h) = actors.Hart h
 actor_of takes.Tick = actors.Clock
 
--- what is done by a step: a guest's next operation, of a hart that there is
+-- the operation of a step: for a guest's step its next operation, of an existing hart
 abbrev pub op_of : Opening → Task → List Event → Step → Option Op
 op_of o p past (takes.Serve h) = Some ops.Serve
 op_of o p past (takes.Poll h) = Some ops.Poll
@@ -122,7 +122,7 @@ op_of o p past (takes.Advance h) = Some ops.Advance
 op_of o p past (takes.Guest h) = if nat_lt h o.config.harts then next_op p.guests past h else None
 op_of o p past takes.Tick = option_map ops.Tick (next_tick p.ticks past)
 
--- A step of this actor that does this operation is one of those that can be taken.
+-- One of the steps that can be taken is this actor's, with this operation.
 abbrev pub IsAmong : Opening → Task → List Event → Actor → Op → Type 0
 IsAmong o p past actor op =
     (step : Step) × Contains (steps o p past) step × (actor_of step ≡ actor) × (op_of o p past step ≡ Some op)

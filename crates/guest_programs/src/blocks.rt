@@ -26,8 +26,8 @@ pub struct Program<'a> {
 }
 
 impl<'a> Program<'a> {
-    /// The operations of the block at an address; none where no block is. Where two blocks have the address, it is the first.
-    /// It takes as many comparisons as the number of blocks has bits, or a few times that, and no memory.
+    /// The operations of the block at an address; none without such a block. If two blocks have the address, it is the first.
+    /// It takes a few comparisons for each bit of the number of blocks, and no memory.
     pub fn block_at(&self, addr: u64) -> &'a [Op]
         ensures { result.now ≡ block_at (map guest self.now.blocks.now) addr }
     {

@@ -14,8 +14,8 @@ use crate::met::Met;
 use board_core::{Actor, Board, Event, HartState, Op, Reply};
 use std::alloc::{AllocError, Global};
 
-/// How the run of a board ended, by its history and what its guests had to do; of its actors' word only what can't be seen
-/// there is taken: whether a gate ended one, and whether one met a full history.
+/// How a board's run ended, by its history and what its guests had to do. It trusts actors on two points only, which the
+/// history doesn't show: whether a gate closed, and whether an actor met a full history.
 pub fn end_of(
     alloc: Global,
     board: &Board,
@@ -45,7 +45,7 @@ pub fn end_of(
 /// What a history shows of a hart's guest.
 #[derive(Clone, Copy)]
 enum Followed<'a> {
-    /// Since its last entry it did nothing but its next operations, and is here.
+    /// Since its last entry it did only its next operations, and is at this place.
     To(Place<'a>),
     /// It did something else.
     Strayed,
@@ -65,7 +65,7 @@ impl<'a> Followed<'a> {
         }
     }
 
-    /// What is shown behind an operation of the guest, however it was answered.
+    /// What the history shows after an operation of the guest, whatever its reply.
     #[tactic(auto, using(crate::proofs::Following::strayed_before))]
     fn behind(self, op: &Op) -> Followed<'a>
         ensures { (guests : Next) (entry : Option Entered) (before : Did) (reply : _)
@@ -83,7 +83,7 @@ impl<'a> Followed<'a> {
         Followed::To(place.behind())
     }
 
-    /// Whether the guest did nothing but its next operations, and has none.
+    /// Whether the guest did only its next operations, and has none left.
     fn is_through(&self) -> bool
         ensures { (guests : Next) (entry : Option Entered) (before : Did) → IsFollowedTo guests entry before self.now
             → (result ≡ true) ↔ (AreNext guests entry before × (next_for guests entry before ≡ None)) }
@@ -148,7 +148,7 @@ fn first_unquiet(board: &Board, program: &Program<'_>, guests: &[Followed<'_>]) 
     None
 }
 
-/// Whether a hart is STOPPED, or STARTED, outside of a fence call and with its guest through.
+/// Whether a hart is STOPPED; or STARTED, outside a fence call, with its guest through.
 fn is_quiet(board: &Board, program: &Program<'_>, h: u64, found: &Followed<'_>) -> bool
     requires hart { h < board.now.opening.config.harts }
     requires followed { IsFollowed (task_in program.now).guests board.now.past h found.now }

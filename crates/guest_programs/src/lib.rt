@@ -1,5 +1,5 @@
-//! Guests' programs, by whatever runs them: what each hart's guest does next and has done, which steps can be taken, and how a
-//! run ended.
+//! Guests' programs, for threads and for exploration: what each hart's guest did and does next, which steps can be taken, and
+//! how a run ended.
 #![tactic(auto)]
 
 mod blocks;

@@ -1,10 +1,10 @@
-//! What kept a run's actors from going on.
+//! What stopped a run's actors.
 ghost use Rattle.std.specs.Prelude.{◌≡◌};
 ghost use Rattle.guest_programs.specs.Met.{met_by_both, met_by_refusal};
 
 use board_core::Refusal;
 
-/// What kept an actor from going on, if something did.
+/// What stopped an actor, if anything.
 #[derive(Clone, Copy, Debug, PartialEq, Eq)]
 pub enum Met {
     /// Nothing.
@@ -16,7 +16,7 @@ pub enum Met {
 }
 
 impl Met {
-    /// What an actor met whose operation was refused: another refusal than that of a full history keeps none from going on.
+    /// What an actor met whose operation was refused. Only a full history stops an actor.
     pub fn by_refusal(refusal: Refusal) -> Met
         ensures { result ≡ met_by_refusal refusal }
     {
@@ -26,7 +26,7 @@ impl Met {
         }
     }
 
-    /// What two met: a gate's answer comes first.
+    /// What two actors met together: a closed gate comes first.
     pub fn and(self, other: Met) -> Met
         ensures { result ≡ met_by_both self other }
     {

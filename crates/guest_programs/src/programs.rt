@@ -33,8 +33,8 @@ pub fn program_in(alloc: Global, body: &Body) -> Result<Program<'_>, AllocError>
     }
 }
 
-/// What guests of blocks do, in terms of whole blocks: next comes the operation of the entry's block behind those that were done
-/// since the entry, and a hart is through exactly where these are the whole block, in order. A law: there is nothing to run.
+/// What guests of blocks do. The next operation is that of the entry's block behind those done since the entry; a hart is
+/// through if and only if these are the whole block, in order. A law: there is nothing to run.
 pub fn blocks_in_order()
     ensures next { (blocks : List Guest) (past : List Event) (h : ℕ) → next_op (in_blocks blocks) past h
         ≡ slice_get (block_of blocks (last_entry past h)) (length (done past h)) }

@@ -63,7 +63,7 @@ is_argument may_be_absent limit word = is_number limit word || (may_be_absent &&
 abbrev pub argument_tests : (may_be_absent : Bool) → (limit : ℕ) → List (List ℕ) → List (Bool × FaultKind)
 argument_tests may_be_absent limit words = map (λ word. (not (is_argument may_be_absent limit word), BadNumber)) words
 
--- so many arguments: their count, and then each from left to right
+-- this many arguments: their count, and then each from left to right
 abbrev pub arguments_tests : (least most : ℕ) → (may_be_absent : Bool) → (limit : ℕ) → List (List ℕ)
     → List (Bool × FaultKind)
 arguments_tests least most may_be_absent limit words =
@@ -125,7 +125,8 @@ in_block_tests (OfGuest guest) words = named_tests guest_form_of words
 in_block_tests (OfClock ticks) [] = []
 in_block_tests (OfClock ticks) (name ∷ words) = (not (bytes_eq name (op_word Tick)), UnknownWord) ∷ number_tests words
 
--- whether a line of this kind may follow: the first one may not be an operation alone, and the others are as the first
+-- whether a line of this kind may follow: the first may not be an operation without a block, and the others have the first
+-- one's kind
 abbrev pub may_follow : Draft → LineKind → Bool
 may_follow Nothing Operation = false
 may_follow Nothing kind = true
@@ -179,7 +180,7 @@ lines_tests n draft (text ∷ texts) =
     at_line n (byte_test text ∷ line_tests draft (words_in text))
     ++ lines_tests (n + 1) (next_in n draft (words_in text)) texts
 
--- the tests of the lines from line n on, of which the first with words is the board's
+-- the tests of the lines from line n on; the first with words is the board's
 abbrev pub board_first_tests : ℕ → List (List ℕ) → List (Bool × ScriptFault)
 board_first_tests n [] = (true, record { line = 0; fault = NoBoardLine }) ∷ []
 board_first_tests n (text ∷ texts) =
@@ -195,6 +196,6 @@ script_tests bytes =
 abbrev pub first_fault : List ℕ → Option ScriptFault
 first_fault bytes = first_that_holds (script_tests bytes)
 
--- the want of memory, which no byte shows
+-- a failed allocation, which no byte shows
 abbrev pub no_memory : ScriptFault
 no_memory = record { line = 0; fault = NoMemory }

@@ -42,7 +42,7 @@ script_with part bytes =
 abbrev pub HasRead : (reader : Part) → List ℕ → Type 0
 HasRead reader bytes = (more : List ℕ) → script_of (bytes ++ more) ≡ script_with reader more
 
--- What is answered of bytes.
+-- The answer to bytes: the script that they are, or their first fault, or that memory ran out.
 pub record IsAnswered (bytes : List ℕ) (answer : Result Script ScriptFault) : Type 0 where
   -- what is read is a script that the bytes are
   pub script : IfOk answer (λ script. Reads bytes (written script))

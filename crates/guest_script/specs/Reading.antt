@@ -1,4 +1,4 @@
--- What is read, where no test holds.
+-- The result of reading: a value if no test fails.
 use Rattle.std.specs.Prelude.{◌≡◌, ◌⊎◌, ℕ, List, ◌∷◌, ◌++◌, Option, Some, None, Result, Ok, Err, Bool}
 use Rattle.std.specs.Str.Lines.{lines}
 use Rattle.board_terms.specs.declared.config.Config.{Config}
@@ -14,12 +14,12 @@ use Rattle.guest_script.specs.Grammar.{content_of, Draft, Written}
 use Rattle.guest_script.specs.Values.{draft_in, next_in, script_in, words_in}
 use Rattle.guest_script.specs.FirstFault.{board_first_tests, byte_test, fault_of, line_tests, lines_tests, no_memory, script_fault, script_tests}
 
--- the value, where there is no fault
+-- the value, if there is no fault
 abbrev pub or_fault : {A F : Type 0} → Option F → A → Result A F
 or_fault None value = Ok value
 or_fault (Some fault) value = Err fault
 
--- the value, where none of the tests holds, and else the fault of the first that does
+-- the value if none of the tests fails, otherwise the fault of the first that does
 abbrev pub tested : {A F : Type 0} → List (Bool × F) → A → Result A F
 tested tests value = or_fault (first_that_holds tests) value
 
@@ -68,7 +68,7 @@ abbrev pub located : {A : Type 0} → ℕ → Result A FaultKind → Result A Sc
 located n (Ok value) = Ok value
 located n (Err fault) = Err (record { line = n; fault = fault })
 
--- a fault of line n; the want of memory is of no line
+-- a fault of line n; a failed allocation belongs to no line
 abbrev pub located_fault : ℕ → FaultKind → ScriptFault
 located_fault n NoMemory = no_memory
 located_fault n fault = record { line = n; fault = fault }

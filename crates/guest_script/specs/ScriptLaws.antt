@@ -9,14 +9,14 @@ use Rattle.guest_script.specs.Words.{IsLine}
 use Rattle.guest_script.specs.Grammar.{AreLines, Draft, IsBoard, Nothing, Reads, Written, most_bytes}
 use Rattle.guest_script.specs.FirstFault.{first_fault}
 
--- Bytes are one script at most, and they are one exactly where there is no first fault.
+-- Bytes are at most one script, and they are one if and only if there is no first fault.
 pub record HasOneReading (bytes : List ℕ) : Type 0 where
   pub at_most_one : (s t : Written) → Reads bytes s → Reads bytes t → s ≡ t
   pub script_or_fault : ((s : Written) × Reads bytes s) ↔ (first_fault bytes ≡ None)
 
 -- ---- where a first fault is
 
--- A line of those from line n on is the first that is none: those before it say something, and nothing is said with it.
+-- This is the first line, from line n on, after which the lines can't be a script's: those before it can be, but not with it.
 pub record IsFirstWrong (n : ℕ) (draft : Draft) (texts : List (List ℕ)) (wrong : ℕ) : Type 0 where
   pub before : List (List ℕ)
   pub text : List ℕ
@@ -27,13 +27,13 @@ pub record IsFirstWrong (n : ℕ) (draft : Draft) (texts : List (List ℕ)) (wro
   pub are_lines : AreLines n draft before said
   pub none_with_it : (next : Draft) → AreLines wrong said (text ∷ []) next → ⊥
 
--- The text has words, or a byte that no line has; and it is no board's line.
+-- The text has words, or a byte that no line has; and it is no board line.
 pub record IsNoBoard (text : List ℕ) : Type 0 where
   pub filled : IsLine text [] → ⊥
   pub other : (words : List (List ℕ)) (config : Config) → IsLine text words → IsBoard words config → ⊥
 
--- The fault is at the first line, from line n on, that is none of a script's, whose first line with words is the board's. Where
--- no line has words it is at none.
+-- The fault is at the first line, from line n on, after which the lines can't be a script's; the first line with words must be
+-- the board's. If no line has words, the fault is at none.
 abbrev pub IsAtFirstWrong : (n : ℕ) → List (List ℕ) → ScriptFault → Type 0
 IsAtFirstWrong n [] e = e ≡ record { line = 0; fault = NoBoardLine }
 IsAtFirstWrong n (text ∷ texts) e =

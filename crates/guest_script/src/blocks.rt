@@ -218,7 +218,7 @@ impl BlocksDraft {
     }
 }
 
-/// Puts a block that was open to the others.
+/// Adds a block that was open to the others.
 fn close(before: &mut Vec<Block>, clock: &mut Option<Vec<u64>>, closed: OpenBlock)
     requires { vec_len before.old < vec_capacity before.old }
     ensures before { map guest before.new.items ≡ guests_with (open_of closed) (map guest before.old.items) }

@@ -4,13 +4,13 @@ ghost use Rattle.guest_script.specs.declared.fault.ScriptFault.{ScriptFault};
 ghost use Rattle.guest_script.specs.FirstFault.{first_fault};
 ghost use Rattle.guest_script.specs.ScriptLaws.{HasOneReading, IsPlaced};
 
-/// Bytes are one script at most, and they are one exactly where there is no first fault.
+/// Bytes are at most one script, and they are one if and only if there is no first fault.
 pub fn one_reading()
     ensures { (bytes : List ℕ) → HasOneReading bytes }
 {}
 
-/// A first fault is at the first line that is none of a script's: the lines before it are lines of a script, and with it they
-/// are of none. Its line is 0 where the script is too long, or no line has words.
+/// A first fault is at the first line after which the lines can't be a script's: the lines before it can. Its line is 0 if the
+/// script is too long, or no line has words.
 pub fn faults_are_first()
     ensures { (bytes : List ℕ) (e : ScriptFault) → first_fault bytes ≡ Some e → IsPlaced bytes e }
 {}

@@ -1,4 +1,4 @@
-//! Scripts as text: a board line, and then a program, a schedule or a trace (profile).
+//! Reads scripts: a board line, and then a program, a schedule or a trace (profile).
 #![tactic(auto)]
 
 mod blocks;

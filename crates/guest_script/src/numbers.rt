@@ -64,7 +64,7 @@ fn first_bad(all_good: bool, before: usize, here: usize) -> usize {
     if all_good { here } else { before }
 }
 
-/// Whether a word is an argument: a number, which it is if it has a value, or a dash where one may be absent.
+/// Whether a word is an argument: a word with a number's value, or a dash if one may be absent.
 fn is_argument(value: Option<u64>, word: &[u8], may_be_absent: bool) -> bool
     ensures { result ≡ (is_some value || (may_be_absent && is_dash word.now)) }
 {

@@ -195,7 +195,7 @@ fn plain_guest<'a>(
     Some((op, after))
 }
 
-/// The one name of a guest's operation that may stand there, told by its letters.
+/// The only guest's operation that the letters allow.
 #[inline(always)]
 fn guest_by_letters(bytes: &[u8]) -> Option<OpName> {
     match bytes {
@@ -235,7 +235,7 @@ fn plain_actor(bytes: &[u8]) -> Option<(Actor, &[u8])>
     }
 }
 
-/// A blank, an operation's name, and its numbers, of which none has a limit of its own; of a fence those that are there.
+/// A blank, an operation's name, and its numbers, which have no limits of their own; a fence has those that are there.
 #[inline(always)]
 fn plain_op<'a>(
     bytes: &'a [u8],
@@ -419,7 +419,7 @@ fn after<'a>(bytes: &'a [u8], front: &[u8]) -> Option<&'a [u8]>
     bytes.strip_prefix(front)
 }
 
-/// Gathers the numbers that come next, a blank before each, at most so many.
+/// Reads the next numbers, each behind a blank, at most this many.
 #[inline(never)]
 #[tactic(auto, using(crate::proofs::PlainParts::no_numbers, crate::proofs::PlainParts::numbers_more))]
 fn plain_numbers<'a>(
@@ -568,7 +568,7 @@ fn plain_named_said(bytes: &[u8]) -> Option<(Said, &[u8])>
     }
 }
 
-/// The same of one name, of which `ret` is none: its error is a signed number.
+/// The same for one name. `ret` is none of these, since its error is a signed number.
 #[inline(always)]
 fn plain_said_as(name: SaidName, bytes: &[u8]) -> Option<(Said, &[u8])>
     requires { name ≢ SaidName.Ret }

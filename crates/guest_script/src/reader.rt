@@ -32,8 +32,8 @@ impl Model for Reader {
 }
 
 impl Reader {
-    /// Nothing was read. About so many bytes are to come, or any number, where that is 0; nothing rests on it but how much
-    /// memory is taken at once.
+    /// A reader that has read nothing. About this many bytes will come, or 0 if unknown: only a hint for how much memory to
+    /// reserve at once.
     pub fn expecting(bytes: usize) -> Reader
         ensures { HasRead result [] }
     {
@@ -47,8 +47,8 @@ impl Reader {
         }
     }
 
-    /// Reads the lines that come next, each with its line feed, and answers the reader of all lines so far. A fault is told
-    /// at the end.
+    /// Reads the next lines, each with its line feed, and returns the reader of all lines so far. A fault is reported at the
+    /// end.
     ///
     /// # Errors
     ///
@@ -112,7 +112,7 @@ impl Reader {
     }
 }
 
-/// The size with so many bytes more, or one byte more than a script may have.
+/// The size with this many more bytes, at most one byte more than a script may have.
 fn grown(size: usize, more: usize) -> usize
     ensures { result ≡ grown size more }
 {

@@ -107,7 +107,7 @@ fn step(first: &[u8], rest: &[u8], until_arrow: bool) -> Result<Doing, Unread>
     Ok(Doing::Step { actor, op })
 }
 
-/// The actor that a word names, from which on there are so many bytes.
+/// The actor that a word names; the word begins this many bytes before the line's end.
 #[tactic(auto, using(crate::proofs::ArgumentsIn::actor_read, crate::proofs::ArgumentsIn::actor_unread))]
 fn actor(word: &[u8], left: usize) -> Result<Actor, Unread>
     ensures fits { IfOk result (λ actor. FitsKept actor) }
@@ -227,7 +227,7 @@ fn ret(text: &[u8]) -> Result<Said, Unread>
     ret_of(error, from_word(error, behind), value, left)
 }
 
-/// The error and the value that two words are, from each of which on there are so many bytes.
+/// The error and the value that two words spell; each begins this many bytes before the line's end.
 #[tactic(auto, using(crate::proofs::Named::ret_good, crate::proofs::Named::ret_bad_error, crate::proofs::Named::ret_bad_value))]
 fn ret_of(error: &[u8], error_left: usize, value: &[u8], value_left: usize) -> Result<Said, Unread>
     ensures { told result ≡ tested (ret_tests (error.now ∷ value.now ∷ [])) (ret_in (error.now ∷ value.now ∷ [])) }

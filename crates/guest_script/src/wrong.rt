@@ -8,7 +8,7 @@ use crate::fault::{FaultKind, ScriptFault};
 use line_words::column;
 use std::alloc::{AllocError, AllocFailed};
 
-/// What is wrong with a script, by the word where it is.
+/// What is wrong with a script, and at which kind of word.
 #[derive(Clone, Copy, Debug, PartialEq, Eq)]
 pub enum Wrong {
     /// A byte that may not stand in a script.
@@ -75,7 +75,7 @@ impl<T: Drop> From<AllocFailed<T>> for Wrong {
 pub struct Misread {
     /// The line.
     pub line: u64,
-    /// The column where the word begins that is wrong; behind the last word where one is missing at the end.
+    /// The column at which the wrong word begins; behind the last word if one is missing at the end.
     pub column: u64,
     /// What is wrong.
     pub wrong: Wrong,
@@ -92,7 +92,7 @@ impl Misread {
         }
     }
 
-    /// What is wrong with a line; the want of memory is none of a line's.
+    /// What is wrong with a line. A failed allocation belongs to no line.
     pub(crate) fn of(line: u64, text: &[u8], unread: Unread) -> Misread
         ensures { script_fault result ≡ located_fault line (fault_of unread.wrong) }
     {

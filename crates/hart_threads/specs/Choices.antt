@@ -24,7 +24,7 @@ abbrev pub is_going : Option Op → (wake : Bool) → Bool
 is_going None wake = false
 is_going (Some op) wake = goes op wake
 
--- The rows of a hart's choices, in their order: its firmware's, which come first; and where it is STARTED, its guest goes on.
+-- The rows of a hart's choices, in order: its firmware's come first; then, if it is STARTED, its guest's next operation.
 abbrev pub choices : HartNow → (guest : Option Op) → List (Bool × Option Op)
 choices now guest = firmware_choices now ++ (is_started now.state && is_going guest now.wake, guest) ∷ []
 
@@ -36,7 +36,7 @@ abbrev pub choice_of : Option HartNow → (guest : Option Op) → Option Op
 choice_of None guest = None
 choice_of (Some now) guest = first_choice now guest
 
--- What a hart's thread does next: nothing without power, nor after it met something.
+-- What a hart's thread does next: nothing with the power off, nor after it met something.
 abbrev pub next_choice : HartView → Met → (guest : Option Op) → Option Op
 next_choice view Nothing guest = if view.is_off then None else choice_of view.hart guest
 next_choice view met guest = None
@@ -46,12 +46,12 @@ awaited_by None = Firmware
 awaited_by (Some Wfi) = Wake
 awaited_by (Some op) = Firmware
 
--- What a hart's thread waits for that does nothing: for its firmware's turn, and for wake where its guest is at a Wfi; and for
--- nothing without power, nor after it met something.
+-- What an idle hart's thread waits for: its firmware's turn, or wake if its guest is at a Wfi; with the power off, or after it
+-- met something, only the end.
 abbrev pub awaited : HartView → Met → (guest : Option Op) → Awaits
 awaited view Nothing guest = if view.is_off then End else awaited_by guest
 awaited view met guest = End
 
--- None of a hart's own operations happens in this situation.
+-- None of a hart's own operations is accepted in this situation.
 abbrev pub HasNothing : Option Op → Situation → Type 0
 HasNothing guest s = (op : Op) → IsOwn guest op → ¬ IsAccepted op s

@@ -1,4 +1,4 @@
--- What a run's record says of its threads: each did what was due, and why it did no more (profile).
+-- What a run's record shows of its threads: each event was due, and why each thread stopped (profile).
 use Rattle.std.specs.Prelude.{◌≡◌, ◌≢◌, ◌⊎◌, ℕ, ◌+◌, Bool, true, false, if◌then◌else◌, List, [], ◌∷◌, length, slice_get, Option, Some, None, Err}
 use mathlib.Core.List.{IsSuffix}
 use Rattle.board_terms.specs.declared.config.Config.{Config}
@@ -29,21 +29,21 @@ abbrev pub many_of : Actor → List Event → ℕ
 many_of a [] = 0
 many_of a (e ∷ past) = (if is_same a e.actor then 1 else 0) + many_of a past
 
--- Each event of the actor is as it should be, by what came before it.
+-- Each event of the actor has the property, by the events before it.
 abbrev pub EachOf : (Event → List Event → Type 0) → Actor → List Event → Type 0
 EachOf P a [] = Unit {0}
 EachOf P a (e ∷ past) = (is_same a e.actor ≡ true → P e past) × EachOf P a past
 
 -- ---- what a thread may do
 
--- After these events a thread that looks at hart h chooses this, or nothing: the first row that holds, where its guest does next
--- what it does behind these events.
+-- A thread that sees hart h after these events chooses this operation, or none: the first row that holds, with its guest's next
+-- operation then.
 pub record Chooses (o : Opening) (guests : Next) (h : ℕ) (seen : List Event) (choice : Option Op) : Type 0 where
   pub now : HartNow
   pub shows : Shows (record { opening = o; past = seen }) h now
   pub first : first_choice now (next_op guests seen h) ≡ choice
 
--- After a beginning of these events, since which the actor did nothing, this holds.
+-- P holds after some beginning of these events, since which the actor did nothing.
 pub record Earlier (a : Actor) (past : List Event) (P : List Event → Type 0) : Type 0 where
   pub seen : List Event
   pub earlier : IsSuffix seen past
@@ -54,23 +54,23 @@ pub record Earlier (a : Actor) (past : List Event) (P : List Event → Type 0) :
 abbrev pub Picks : Opening → Next → ℕ → Op → List Event → Type 0
 Picks o guests h op seen = (is_off o seen ≡ false) × Chooses o guests h seen (Some op)
 
--- An operation is its actor's turn: a hart chose it when it looked last, and the clock's is the next of its ticks.
+-- An operation is its actor's turn: a hart chose it when it last looked; for the clock it is the next tick.
 abbrev pub IsTurn : Opening → Next → (ticks : List ℕ) → Actor → Op → List Event → Type 0
 IsTurn o guests ticks (Hart h) op past = Earlier (Hart h) past (Picks o guests h op)
 IsTurn o guests ticks Clock op past = (n : ℕ) × (slice_get ticks (many_of Clock past) ≡ Some n) × (op ≡ Tick n)
 
--- an actor's number, as a gate is told: a hart's id, and after those the clock's
+-- an actor's number for a gate: a hart's id; the clock's is the number of harts
 abbrev pub gate_number : Config → Actor → ℕ
 gate_number c (Hart h) = h
 gate_number c Clock = c.harts
 
--- An event was let by the gate, and was its actor's turn.
+-- The gate allowed the event, and it was its actor's turn.
 abbrev pub IsDue : (lets : ℕ → ℕ → Bool → Type 0) → Opening → Next → (ticks : List ℕ) → Actor → Event
     → List Event → Type 0
 IsDue lets o guests ticks a e past = lets (gate_number o.config a) (many_of a past) true
     × IsTurn o guests ticks a e.op past
 
--- ---- why it did no more
+-- ---- why a thread stopped
 
 -- an operation that was its actor's turn was refused after these events
 abbrev pub Refuses : Opening → Next → (ticks : List ℕ) → Actor → Op → Refusal → List Event → Type 0
@@ -80,7 +80,7 @@ Refuses o guests ticks a op r seen = IsTurn o guests ticks a op seen × (answer 
 abbrev pub ChoosesNone : Opening → Next → ℕ → List Event → Type 0
 ChoosesNone o guests h seen = (is_off o seen ≡ true) ⊎ Chooses o guests h seen None
 
--- The gate answered the actor's last question false.
+-- The gate answered false to the actor's last question.
 abbrev pub IsClosed : (lets : ℕ → ℕ → Bool → Type 0) → Opening → List Event → Actor → Type 0
 IsClosed lets o past a = lets (gate_number o.config a) (many_of a past) false
 
@@ -88,23 +88,23 @@ IsClosed lets o past a = lets (gate_number o.config a) (many_of a past) false
 abbrev pub HasMetFull : Opening → Next → (ticks : List ℕ) → List Event → Actor → Type 0
 HasMetFull o guests ticks past a = (op : Op) × Earlier a past (Refuses o guests ticks a op HistoryFull)
 
--- A hart's thread chose nothing when it looked last. The clock's did all ticks, or the next one was refused for another cause than
--- a full history.
+-- A hart's thread had nothing to do when it last looked. The clock's thread did all ticks, or the next one was refused for
+-- another reason than a full history.
 abbrev pub HasNoMore : Opening → Next → (ticks : List ℕ) → List Event → Actor → Type 0
 HasNoMore o guests ticks past (Hart h) = Earlier (Hart h) past (ChoosesNone o guests h)
 HasNoMore o guests ticks past Clock =
     (many_of Clock past ≡ length ticks)
     ⊎ ((op : Op) × (r : Refusal) × (r ≢ HistoryFull) × Earlier Clock past (Refuses o guests ticks Clock op r))
 
--- Why an actor's thread did no more, by what it met.
+-- Why an actor's thread stopped, by what it met.
 abbrev pub HasStopped : (lets : ℕ → ℕ → Bool → Type 0) → Opening → Next → (ticks : List ℕ) → List Event → Actor
     → Met → Type 0
 HasStopped lets o guests ticks past a ClosedGate = IsClosed lets o past a
 HasStopped lets o guests ticks past a FullHistory = HasMetFull o guests ticks past a
 HasStopped lets o guests ticks past a Nothing = HasNoMore o guests ticks past a
 
--- What threads did that met this together: each event was due, each thread stopped for what it met, and one of them met what
--- all met together.
+-- The threads of a run that met this together: each event was due, each thread stopped for what it met, and one of them met
+-- what all met together.
 pub record AreThreads (lets : ℕ → ℕ → Bool → Type 0) (o : Opening) (guests : Next) (ticks : List ℕ)
     (past : List Event) (met : Met) : Type 0 where
   pub due : (a : Actor) → IsActor o.config a → EachOf (IsDue lets o guests ticks a) a past
@@ -112,12 +112,13 @@ pub record AreThreads (lets : ℕ → ℕ → Bool → Type 0) (o : Opening) (gu
       → (m : Met) × (met_by_both m met ≡ met) × HasStopped lets o guests ticks past a m
   pub met_by : (a : Actor) × IsActor o.config a × HasStopped lets o guests ticks past a met
 
--- A run in which the history was full for a thread ends neither quiet nor stuck: with that, or with what comes before it.
+-- The end of a run in which a thread met a full history: neither quiet nor stuck.
 abbrev pub IsOverFull : End → Type 0
 IsOverFull end = (end ≢ ends.Quiet) × (end ≢ ends.Stuck)
 
--- What threads did whose run ended so: each event of an actor was due; it did no more since its gate closed, which ends the
--- run, or since the history was full, or since there was no more; and a run that ended with either has a thread that met it.
+-- The threads of a run with this end. Each event of an actor was due. Each thread stopped because its gate closed, which is
+-- then the end; because the history was full; or because it had nothing more to do. If the run ended by a gate or a full
+-- history, some thread met it.
 pub record IsRun (lets : ℕ → ℕ → Bool → Type 0) (o : Opening) (guests : Next) (ticks : List ℕ)
     (past : List Event) (end : End) : Type 0 where
   pub due : (a : Actor) → IsActor o.config a → EachOf (IsDue lets o guests ticks a) a past

@@ -1,4 +1,4 @@
-//! What a hart's thread does next, as its view shows its hart.
+//! What a hart's thread does next, by its view.
 ghost use Rattle.std.specs.Prelude.{◌≡◌, ℕ, List, IfSome, None};
 ghost use Rattle.std.specs.Option.{option_map};
 ghost use Rattle.board_core.specs.History.{Event};
@@ -13,8 +13,8 @@ use board_laws::calls_are_made_started;
 use board_lock::HartNow;
 use guest_programs::is_guest;
 
-/// The next operation of a hart by what its thread sees and what its guest does next, if it has one: the firmware's comes
-/// first, and inside a fence call the guest does nothing.
+/// The next operation of a hart, if there is one, by its view and its guest's next operation. The firmware's comes first;
+/// inside a fence call the guest does nothing.
 pub(crate) fn choice<'a>(now: &HartNow, guest: Option<&'a Op>) -> Option<&'a Op>
     ensures exact { option_map (λ op. op.now) result ≡ first_choice now.now (option_map (λ op. op.now) guest.entry) }
     ensures happens { (s : Situation) → Sees s now.now → IfSome result (λ op. IsAccepted op.now s) }

@@ -14,7 +14,7 @@ use board_lock::{Awaits, Seat};
 use guest_programs::Met;
 use std::sync::Wait;
 
-/// The clock's thread: its ticks in order, up to one that is refused, and then rest.
+/// The clock's thread: it does its ticks in order, up to a refused one, and then rests.
 pub(crate) fn tick<K: Plan, G: Gate, R: Wait>(
     rt: &R,
     work: &Work<'_, '_, K, G>,
@@ -31,7 +31,7 @@ pub(crate) fn tick<K: Plan, G: Gate, R: Wait>(
     Worked { seat, met }
 }
 
-/// Ticks in order, up to one that is refused.
+/// Does the ticks in order, up to a refused one.
 fn tick_all<K: Plan, G: Gate, R: Wait>(rt: &R, work: &Work<'_, '_, K, G>, seat: &mut Seat<K>) -> Met
     requires fresh { seat.old ≡ sitting Clock 0 [] [] }
     requires gate { IsGate (G.lets work.now.gate.now) K.lets }

@@ -1,4 +1,4 @@
-//! A hart's thread: its firmware's work, and its guest's.
+//! A hart's thread: it does the firmware's and the guest's operations.
 ghost use Rattle.std.specs.Prelude.{◌≡◌, ◌≢◌, [], Some, reverse};
 ghost use Rattle.std.specs.Option.{option_map};
 ghost use Rattle.board_terms.specs.declared.op.Actor.TheVariants.{Clock};
@@ -19,8 +19,7 @@ use board_lock::{Awaits, HartView, Seat};
 use guest_programs::{Met, Place};
 use std::sync::Wait;
 
-/// A hart's thread: by what it sees it serves, polls, advances, does its guest's next operation, or rests, until
-/// every seat rests.
+/// A hart's thread. By its view it serves, polls, advances, does its guest's next operation, or rests, until all seats rest.
 pub(crate) fn follow<K: Plan, G: Gate, R: Wait>(
     rt: &R,
     work: &Work<'_, '_, K, G>,
@@ -52,7 +51,7 @@ pub(crate) fn follow<K: Plan, G: Gate, R: Wait>(
     Worked { seat, met }
 }
 
-/// What a hart's thread does by what it sees, if there is something: nothing without power, nor after it met something.
+/// What a hart's thread does by its view, if anything: nothing with the power off, nor after it met something.
 fn next<'a>(view: &HartView, met: Met, guest: &Place<'a>) -> Option<&'a Op>
     ensures { option_map (λ op. op.now) result ≡ next_choice view.now met (rest_at guest.now []) }
 {
@@ -66,7 +65,7 @@ fn next<'a>(view: &HartView, met: Met, guest: &Place<'a>) -> Option<&'a Op>
     }
 }
 
-/// What a hart's thread waits for that does nothing by what it sees: nothing without power, nor after it met something.
+/// What a hart's thread waits for if it does nothing by its view: nothing with the power off, nor after it met something.
 fn awaited(view: &HartView, met: Met, guest: &Place<'_>) -> Awaits
     ensures { result ≡ awaited view.now met (rest_at guest.now []) }
 {
@@ -80,7 +79,7 @@ fn awaited(view: &HartView, met: Met, guest: &Place<'_>) -> Awaits
     }
 }
 
-/// An operation whose turn it is, if the gate lets its hart go on; and what the thread met.
+/// The operation whose turn it is, if the gate allows it; and what the thread met.
 fn attempt<'a, K: Plan, G: Gate, R: Wait>(
     rt: &R,
     work: &Work<'_, 'a, K, G>,

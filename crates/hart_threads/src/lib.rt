@@ -1,4 +1,4 @@
-//! Guests' programs on threads: one for each hart of a board and one for its clock, round one lock.
+//! Runs guests' programs on threads behind one lock: one thread for each hart of a board, and one for its clock.
 #![tactic(auto)]
 
 mod choosing;

@@ -1,8 +1,8 @@
-//! What a run's threads have in common, for proofs.
+//! What a run's threads share, for proofs.
 use board_lock::Room;
 use std::marker::Brand;
 
-/// A room whose threads have these things to do. As a room, it is a type that has values in proofs alone.
+/// A room whose threads have this work. Like a room, it is a type whose values exist only in proofs.
 pub(crate) trait Plan: Room {
     ghost use Rattle.std.specs.Prelude.{ℕ, Bool, List};
     ghost use Rattle.guest_programs.specs.Guests.{Next};

@@ -29,8 +29,8 @@ use std::marker::Brand;
 use std::sync::Wait;
 use std::thread::Threads;
 
-/// Runs a program on a new board behind a lock: one thread for each hart, which follows the blocks of its entries, and one for
-/// the clock, which ticks. Each asks the gate before each of its operations, with no lock held. It ends when none goes on.
+/// Runs a program on a new board behind a lock: a thread for each hart does the blocks of its entries, and one for the clock
+/// does its ticks. Each asks the gate before each of its operations, and holds no lock then. The run ends when none can go on.
 pub fn run<G: Gate + Sync, R: AllocGlobal + Threads + Wait + Sync>(
     rt: &R,
     script: &Script,
@@ -82,7 +82,7 @@ fn run_in<K: Plan + Send + Sync, G: Gate + Sync, R: AllocGlobal + Threads + Wait
     Ok(RunEnd { end, board })
 }
 
-/// Runs a thread for each seat of a new board, and gives back the board, and what the threads met.
+/// Runs a thread for each seat of a new board. Returns the board, and what the threads met.
 fn run_on<K: Plan + Send + Sync, G: Gate + Sync, R: AllocGlobal + Threads + Wait + Sync>(
     rt: &R,
     board: SharedBoard<K>,

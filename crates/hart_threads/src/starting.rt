@@ -1,4 +1,4 @@
-//! Threads that are started, and waited for.
+//! Starts threads, and waits for them.
 ghost use Rattle.std.specs.Prelude.{◌≡◌, All, IfOk, IsErrOf, map};
 ghost use Rattle.hart_threads.specs.Inside.Works.{IsFresh, IsGate, WorkedAt, task};
 ghost use Rattle.guest_programs.specs.declared.ends.RunFault.TheVariants.{BadConfig};
@@ -15,7 +15,7 @@ use std::alloc::{AllocError, Global};
 use std::sync::Wait;
 use std::thread::{self, Promise, Threads};
 
-/// Whose seat a thread gives back, with its work done.
+/// The actor whose seat a thread returns, with its work done.
 #[derive(Clone, Copy)]
 struct SeatOf(Actor);
 
@@ -24,7 +24,7 @@ impl<K: Plan> Promise<Worked<K>> for SeatOf {
         × WorkedAt (task K.lets K.opening K.guests K.ticks) worked.seat worked.met };
 }
 
-/// Runs a thread for each seat, and gives back what they did once all have ended. Where a thread is refused, those that run are
+/// Runs a thread for each seat, and returns what they did once all have ended. If a thread is refused, those that run are
 /// ended.
 pub(crate) fn work_all<
     K: Plan + Send + Sync,

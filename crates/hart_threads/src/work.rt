@@ -1,4 +1,4 @@
-//! What a thread is given, and what it hands back.
+//! What a thread gets, and what it returns.
 ghost use Rattle.std.specs.Prelude.{◌≡◌};
 ghost use Rattle.board_terms.specs.declared.op.Actor.TheVariants.{Clock};
 ghost use Rattle.guest_programs.specs.Programs.{AreFirst};
@@ -26,7 +26,7 @@ pub(crate) struct Work<'a, 'p, K: Plan, G: Gate> {
 }
 
 impl<'a, 'p, K: Plan, G: Gate> Work<'a, 'p, K, G> {
-    /// Whether the gate lets the seat's actor go on. No lock is held.
+    /// Whether the gate allows the seat's actor an operation. No lock is held.
     pub(crate) fn is_let(&self, seat: &Seat<K>) -> bool
         requires { IsGate (G.lets self.now.gate.now) K.lets }
         ensures { K.lets (gate_number K.opening.config seat.now.actor) seat.now.count result }
@@ -38,7 +38,7 @@ impl<'a, 'p, K: Plan, G: Gate> Work<'a, 'p, K, G> {
         self.gate.turn(number as usize, seat.count() as usize)
     }
 
-    /// Tells the gate of the event of a receipt. No lock is held.
+    /// Passes the event of a receipt to the gate. No lock is held.
     pub(crate) fn tell(&self, receipt: &Receipt<K>) {
         self.gate.told(
             receipt.place(),
@@ -49,7 +49,7 @@ impl<'a, 'p, K: Plan, G: Gate> Work<'a, 'p, K, G> {
     }
 }
 
-/// A thread's seat after its work, and what it met. The clock did a beginning of its ticks, in order.
+/// A thread's seat after its work, and what it met. The clock's events are the first of its ticks, in order.
 #[derive(Drop)]
 pub(crate) struct Worked<K: Plan> {
     pub(crate) seat: Seat<K>,

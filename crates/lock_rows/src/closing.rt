@@ -24,8 +24,8 @@ fn hand<K: Room>(from: &mut Vec<Seat<K>>, to: &mut Vec<Seat<K>>) -> Result<(), W
     }
 }
 
-/// Closes, each refused, as long as seats are missing, of which the last is handed in after each: and how many seats came
-/// back of the first three.
+/// Closes that are refused while seats are missing; after each, the last missing seat is added. Returns how many seats came
+/// back from the first three.
 fn refusals<K: Room>(
     open: NotAll<K>,
     missing: &mut Vec<Seat<K>>,
@@ -44,8 +44,8 @@ fn refusals<K: Room>(
     Ok((open, back))
 }
 
-/// Closes that lack so many of the last seats, and fewer and fewer, from the last, and then the one with all: the record, and
-/// how many seats came back of the first three that were refused.
+/// Closes that lack fewer and fewer of the last seats, and then the one with all: the record, and how many seats came back from
+/// the first three refused ones.
 pub fn closed<K: Room>(
     shared: SharedBoard<K>,
     seats: Vec<Seat<K>>,

@@ -1,9 +1,9 @@
-//! Rows of boards behind a lock: real threads make calls by their seats, and keep their receipts. The program prints what
-//! holds of every schedule alone, and its file stdout has all that it must print.
+//! Rows of boards behind a lock: real threads make calls by their seats, and keep their receipts. The program prints only what
+//! holds of every schedule, and must print its file stdout.
 //!
-//! With the words `HARTS CALLS sip` or `HARTS CALLS ipi` it does no row: so many of eight harts read sip so often, or send
-//! IPIs to all, and it prints how long that took. `bench/lock.py` runs it so. With the words `HARTS CALLS parts PARTS` it does
-//! one row: so many harts read sip so often in each of so many parts of one board's history, which are split off.
+//! With the words `HARTS CALLS sip` or `HARTS CALLS ipi` it does no row: HARTS of eight harts each read sip CALLS times, or
+//! send IPIs to all, and it prints how long that took (`bench/lock.py`). With the words `HARTS CALLS parts PARTS` it does one
+//! row: HARTS harts each read sip CALLS times in each of PARTS parts of one board's history, which are split off.
 #![tactic(auto)]
 
 ghost use Rattle.std.specs.Prelude.{◌≡◌};
@@ -44,7 +44,7 @@ enum Row {
     Repeat { harts: u64, calls: u64, op: Op },
 }
 
-/// Five parts of a board's history, of which the limit has room for one.
+/// Five parts of a board's history; the limit has room for one.
 const PARTS: Parts = Parts {
     parts: 5,
     harts: 4,
@@ -141,7 +141,7 @@ fn show<R: AllocGlobal + Clock + Print + Threads + Wait + Sync>(
     }
 }
 
-/// Has a board go on for so many parts, and prints what was seen.
+/// A board goes on for this many parts. Prints what was seen.
 fn show_parts<R: AllocGlobal + Print + Threads + Wait + Sync>(
     rt: &R,
     config: &Config,

@@ -1,4 +1,4 @@
-//! A board that goes on as long as one likes: it is behind one lock after another, and each part of its history is split off.
+//! A board that goes on as long as wanted: it is behind one lock after another, and each part of its history is split off.
 
 ghost use Rattle.std.specs.Prelude.{◌≡◌, [], IfOk};
 
@@ -22,7 +22,7 @@ pub struct Parts {
     pub calls: u64,
 }
 
-/// A new board goes on for so many parts.
+/// A new board goes on for this many parts.
 pub fn go_on<R: AllocGlobal + Threads + Wait + Sync>(
     rt: &R,
     config: &Config,

@@ -1,4 +1,4 @@
-//! Rests that end: where there is another event, and where the end is called for.
+//! Rests that end: after another event, and when the end is called.
 
 use crate::many::at_once;
 use crate::seen::{Noted, Why};
@@ -7,7 +7,7 @@ use board_lock::{Receipt, Rest, Room, Seat, SharedBoard};
 use std::sync::Wait;
 use std::thread::Threads;
 
-/// A rest of the clock, which has seen so many events.
+/// A rest of the clock, which has seen this many events.
 fn rest<K: Room, R: Wait>(
     rt: &R,
     shared: &SharedBoard<K>,

@@ -35,7 +35,7 @@ pub enum Seen {
         kept: usize,
         looks: usize,
     },
-    /// How many events there were, and how long the calls took. (This alone is of the schedule.)
+    /// How many events there were, and how long the calls took. (Only this depends on the schedule.)
     Repeats {
         events: usize,
         nanoseconds: u128,
@@ -53,7 +53,7 @@ pub enum Noted {
     Closes,
     /// Nothing: the row is of its receipts.
     Receipts,
-    /// What rests were told.
+    /// What rests returned.
     Rests([Rest; 3]),
     /// How long the calls took.
     Nanoseconds(u128),

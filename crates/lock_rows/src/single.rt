@@ -1,4 +1,4 @@
-//! Row lock-receipts: what one thread is told by receipts, and the look of a receipt.
+//! Row lock-receipts: what the receipts of one thread say, and the look of a receipt.
 
 use crate::record::events_of;
 use crate::seen::{Noted, Seen, Told, Why};

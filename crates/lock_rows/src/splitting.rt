@@ -9,7 +9,7 @@ use board_lock::{NewRoom, Past, Receipt, Record, Room, Seat, SharedBoard};
 use std::marker::Brand;
 use std::sync::Wait;
 
-/// What the past of a record has, what is left of its board, and what a call on that is told.
+/// What the past of a record has, what is left of its board, and the answer to a call on that board.
 pub fn seen<K: Room, R: AllocGlobal + Wait>(
     rt: &R,
     record: Record<K>,
@@ -44,7 +44,8 @@ fn found<K: Room>(past: &Past<K>, receipts: &[Receipt<K>]) -> Result<Found, Why>
     Ok(Found::of(past.events(), past.look(receipt)))
 }
 
-/// Puts the board behind a lock again, in a room of its own: how many seats it has there, and what a call by the first is told.
+/// Puts the board behind a lock again, in a room of its own: how many seats it has there, and the answer to a call by the
+/// first.
 fn again<R: AllocGlobal + Wait>(rt: &R, board: Board) -> Result<(usize, Told), Why>
     requires { board.past ≡ [] }
 {
@@ -67,7 +68,7 @@ fn in_room<K: Room, R: AllocGlobal + Wait>(
     }
 }
 
-/// A call by the first seat, whose receipt is looked up: how many seats there are, and what it is told.
+/// A call by the first seat, whose receipt is looked up: how many seats there are, and the answer.
 fn called<K: Room, R: Wait>(
     rt: &R,
     shared: SharedBoard<K>,

@@ -20,9 +20,9 @@ pub enum Work {
     Fence,
     /// It rests until every rest is over. The clock ticks twice and calls for the end.
     Rest,
-    /// Each of so many harts reads sip so often.
+    /// Each of the first harts reads sip this often.
     Read { harts: u64, calls: u64 },
-    /// Each of so many harts makes the call so often, and drops its receipts.
+    /// Each of the first harts makes the call this often, and drops its receipts.
     Repeat { harts: u64, calls: u64, op: Op },
 }
 
@@ -43,7 +43,7 @@ pub fn ipi() -> Op {
     call(0x735049, 0, [0, u64::MAX, 0, 0, 0, 0])
 }
 
-/// Does a seat's work. Where there is no memory for its receipts, it ends the rests of the others.
+/// Does a seat's work. If there is no memory for its receipts, it ends the rests of the others.
 pub fn do_work<K: Room, R: Wait>(
     rt: &R,
     alloc: Global,
@@ -98,7 +98,7 @@ fn send<K: Room, R: Wait>(
     Ok(())
 }
 
-/// What a seat can do now, if there is something, of which so many fences or ticks are left.
+/// What a seat can do now, if anything, with this many fences or ticks left.
 fn next(view: &HartView, left: u64) -> Option<Op> {
     let Some(hart) = view.hart else {
         return if left > 0 { Some(Op::Tick(1)) } else { None };
@@ -178,7 +178,7 @@ fn read<K: Room, R: Wait>(
     Ok(())
 }
 
-/// Whether the actor is one of so many harts.
+/// Whether the actor is one of the first harts.
 fn is_asked(actor: Actor, harts: u64) -> bool {
     match actor {
         Actor::Hart(h) => h < harts,
@@ -186,7 +186,7 @@ fn is_asked(actor: Actor, harts: u64) -> bool {
     }
 }
 
-/// Makes the call so often, where its hart is one of so many.
+/// Makes the call this often, if its hart is one of the first.
 fn repeat<K: Room, R: Wait>(
     rt: &R,
     shared: &SharedBoard<K>,

@@ -61,7 +61,7 @@ pub fn cut<R: AllocGlobal + Print>(rt: &R) {
     }
 }
 
-/// Cuts the history of a board, and again where memory was refused.
+/// Cuts the history of a board, and again if an allocation failed.
 fn cut_off<R: AllocGlobal + Print>(rt: &R, call: &str, board: &mut Board) {
     for _ in 0..2 {
         show(rt, call, board);

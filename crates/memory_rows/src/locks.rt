@@ -15,7 +15,7 @@ const ADOPT: &str = "SharedBoard::adopt";
 
 const SPLIT: &str = "Record::split";
 
-/// Opens a board, and again where memory was refused; and splits its record.
+/// Opens a board, and again if an allocation failed; then splits its record.
 pub fn open<R: AllocGlobal + Print + Wait>(rt: &R) {
     for _ in 0..2 {
         if is_open::<Brand, R>(rt, NewRoom::new(&CONFIG)) {
@@ -24,7 +24,7 @@ pub fn open<R: AllocGlobal + Print + Wait>(rt: &R) {
     }
 }
 
-/// Opens a board in this room: whether there was memory. Then its record is split.
+/// Opens a board in this room, and returns whether there was memory. Then its record is split.
 fn is_open<K: Room, R: AllocGlobal + Print + Wait>(rt: &R, room: NewRoom) -> bool
     requires room { (K.opening ≡ opening_at room.config) × (room.log ≡ K.log) }
     requires ledger { (room.ledger ≡ K.name) × (room.parts ≡ K.parts) × (K.all ≡ K.parts) }
@@ -104,7 +104,7 @@ fn tell_parts<K: Room, R: Print>(rt: &R, past: &Past<K>, board: &Board) {
     is_made(rt, SPLIT, &Result::<(usize, u64), BuildFault>::Ok(parts));
 }
 
-/// Puts a board behind a lock whose history was cut, and again where memory was refused.
+/// Puts a board whose history was cut behind a lock, and again if an allocation failed.
 pub fn adopt<R: AllocGlobal + Print>(rt: &R) {
     if let Some(mut board) = busy(rt.alloc()) {
         if board.cut(rt.alloc()).is_ok() {
@@ -121,7 +121,7 @@ fn adopt_twice<R: AllocGlobal + Print>(rt: &R, board: Board)
     }
 }
 
-/// Puts a board behind a lock: the board, where memory was refused.
+/// Puts a board behind a lock. Returns the board if an allocation failed.
 fn not_adopted<R: AllocGlobal + Print>(rt: &R, board: Board) -> Option<Board>
     requires { board.past ≡ [] }
     ensures { IfSome result (λ b. b.past ≡ []) }

@@ -1,6 +1,6 @@
-//! Calls whose memory is refused. Each is made once; where it is refused, what it handed back is shown, and it is made again.
-//! A line that is the name of a call and no more stands directly before it: what takes memory from there to the next line is
-//! the call. With all memory the program prints its file stdout, and a line that could not be written is missing there;
+//! Calls whose allocations fail. Each call is made once; if it fails, the program prints what it returned, and makes it again.
+//! A line that is only the name of a call stands directly before it: allocations from there to the next line are the call's.
+//! With all memory the program prints its file stdout, and a line that could not be written is missing there;
 //! `tests/test_refused_calls.py` refuses each allocation of each call in turn.
 #![tactic(auto)]
 

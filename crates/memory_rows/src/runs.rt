@@ -7,7 +7,7 @@ use hart_threads::{End, Open, RunFault, run};
 use std::sync::Wait;
 use std::thread::Threads;
 
-/// Runs the program, and again where memory or a thread was refused.
+/// Runs the program, and again if memory or a thread was refused.
 pub fn run_program<R: AllocGlobal + Print + Threads + Wait + Sync>(rt: &R) {
     if let Ok(script) = parse(rt.alloc(), PROGRAM) {
         run_twice(rt, &script);

@@ -18,12 +18,12 @@ pub fn is_made<R: Print, T: Debug, E: Debug>(rt: &R, call: &str, answer: &Result
     answer.is_ok()
 }
 
-/// Tells what a call is given, and hands back where it is refused.
+/// Prints what a call gets, and returns if it fails.
 pub fn tell<R: Print, T: Debug>(rt: &R, call: &str, what: &T) {
     let _ = println!(rt; "{call} has {what:?}");
 }
 
-/// Tells all of a board that the call is given: its events, and what they left.
+/// Prints all of a board that a call gets: its events, and what they left.
 pub fn show<R: Print>(rt: &R, call: &str, board: &Board) {
     show_events(rt, call, board.history());
     for h in 0..board.config().harts {

@@ -41,7 +41,7 @@ state_name Suspended = codes "SUSPENDED"
 state_name SuspendPending = codes "SUSPEND_PENDING"
 state_name ResumePending = codes "RESUME_PENDING"
 
--- a deadline's hexadecimal digits, or as many dashes where there is none
+-- a deadline's hexadecimal digits, or as many dashes if there is none
 abbrev pub deadline_cell : Option ℕ → List ℕ
 deadline_cell (Some deadline) = hex16 deadline
 deadline_cell None = replicate 16 45
@@ -140,7 +140,7 @@ entry_line h None = []
 abbrev pub row : Opening → List Event → ℕ → List ℕ
 row o past h = as_line (hart_cells o past h)
 
--- a letter, or a dash where what it stands for is absent
+-- a letter, or a dash if it doesn't apply
 abbrev pub letter : Bool → (byte : ℕ) → ℕ
 letter present byte = if present then byte else 45
 
@@ -173,12 +173,12 @@ tlb_line h entry = as_line (tlb_cells h entry)
 abbrev pub word_line : ℕ → FetchWord → List ℕ
 word_line h fetched = as_line (word_cells h fetched)
 
--- the addresses that a fence is of: all, or a range by its start and its size
+-- the addresses of a fence: all, or a range by its start and its size
 abbrev pub shown_range : Option Range → List (List ℕ)
 shown_range None = codes "full" ∷ []
 shown_range (Some range) = hex16 range.start ∷ hex16 range.size ∷ []
 
--- the address space that a fence is of, where it is of one
+-- the address space of a fence, if it has one
 abbrev pub asid_words : Option ℕ → List (List ℕ)
 asid_words None = []
 asid_words (Some asid) = codes "asid" ∷ hex_column 4 asid ∷ []
@@ -206,7 +206,7 @@ details o past h =
     ++ (flat_map (word_line h) (words o past h)
     ++ flat_map (fence_line h) (waiting o past h)))
 
--- The table of the board whose opening and past these are: the time, the totals, the heads of the columns, a row for each hart, and
+-- The table of a board with this opening and past: the time, the totals, the heads of the columns, and a row for each hart;
 -- then, hart by hart, what is kept for it, what its caches have, and the fences that wait at it.
 abbrev pub table : Opening → List Event → List ℕ
 table o past =

@@ -1,4 +1,4 @@
-//! The printed table of a board, and the line of an event (profile).
+//! Prints a board's table, and the line of an event (profile).
 #![tactic(auto)]
 
 mod events;

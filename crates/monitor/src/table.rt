@@ -377,7 +377,7 @@ fn flush_onto(line: &mut LineText, flush: Flush)
     }
 }
 
-/// Appends the addresses that a fence is of.
+/// Appends the addresses of a fence.
 fn range_onto(line: &mut LineText, range: Option<Range>)
     requires { length line.old ≤ fence_room + 4 }
     ensures text { line.new ≡ with_words line.old (shown_range range) }
@@ -393,7 +393,7 @@ fn range_onto(line: &mut LineText, range: Option<Range>)
     }
 }
 
-/// Appends the address space that a fence is of, where it is of one.
+/// Appends the address space of a fence, if it has one.
 fn asid_onto(line: &mut LineText, asid: Option<u16>)
     requires { length line.old ≤ fence_room + 4 + 2 * hex_column_room }
     ensures text { line.new ≡ with_words line.old (asid_words asid) }

@@ -1,4 +1,4 @@
--- What was found of orders of a program (profile).
+-- What was found of the orders of a program (profile).
 use Rattle.std.specs.Prelude.{◌≡◌, ◌≢◌, ℕ, ◌+◌, List, [], ◌∷◌, length, reverse, slice_get, Some, None}
 use Rattle.board_terms.specs.declared.config.Config.{Config}
 use Rattle.conditions.specs.declared.reading.Condition.{Condition}
@@ -14,42 +14,43 @@ use Rattle.outcome_statistics.specs.declared.findings.Findings.{Findings}
 use Rattle.outcome_statistics.specs.declared.findings.Judged.{Judged}
 use Rattle.outcome_statistics.specs.Records.{IsCounted, IsSo, Tells, Tried}
 
--- So many of these ended so.
+-- n of these records ended in this way (counted up to 2^64-1).
 abbrev pub HaveEnded : Ending → List Tried → ℕ → Type 0
 HaveEnded ended tried n = IsCounted (λ x. x.end ≡ Some ended) (λ x. x.end ≢ Some ended) tried n
 
--- How many of these ended in which way.
+-- How many of these records ended in each way.
 pub record AreEnded (tried : List Tried) (ends : Ends) : Type 0 where
   pub off : HaveEnded endings.Off tried ends.off
   pub full : HaveEnded endings.HistoryFull tried ends.full
   pub quiet : HaveEnded endings.Quiet tried ends.quiet
   pub stuck : HaveEnded endings.Stuck tried ends.stuck
 
--- The tally of each condition tells of these.
+-- Each condition's tally counts these records by that condition.
 abbrev pub EachTells : List Condition → List Tried → List Judged → Type 0
 EachTells conditions tried judged =
     (k : ℕ) (c : Condition) (j : Judged) → slice_get conditions k ≡ Some c → slice_get judged k ≡ Some j
     → Tells (IsSo (Some c.rule)) tried j.tally
 
--- What was found tells of these records by these conditions.
+-- The findings are right for these records: a tally for each condition, one for records that don't end stuck, and how many ended
+-- in each way. Nothing is said here of the needed steps that were met, of the different records, and of visits.
 pub record AreFound (conditions : List Condition) (tried : List Tried) (found : Findings) : Type 0 where
   pub many : length found.judged.items ≡ length conditions
   pub each : EachTells conditions tried found.judged.items
   pub well : Tells (IsSo None) tried found.well
   pub ends : AreEnded tried found.ends
 
--- A record is the order of a program that a seed and its number pick, and it ended so.
+-- The record, with its end, is that of the order that the seed and its number pick.
 abbrev pub IsOrder : Config → Content → (seed : ℕ) → Tried → Type 0
 IsOrder c content seed x = (end : End) × (x.end ≡ ending end)
     × IsTried c (task_of content) seed x.number (reverse x.events) end
 
--- These are the orders of a seed from one number up to another, the last in front.
+-- These are the records of the seed's orders with the numbers from `from` to below `to`, the last in front.
 abbrev pub AreOrders : Config → Content → (seed from : ℕ) → List Tried → (to : ℕ) → Type 0
 AreOrders c content seed from [] to = to ≡ from
 AreOrders c content seed from (x ∷ tried) to =
     (to ≡ x.number + 1) × IsOrder c content seed x × AreOrders c content seed from tried x.number
 
--- This was found of the orders of a program from one number up to another: each was tried once.
+-- The findings are right for the program's orders with the numbers from `from` to below `to`, each tried once.
 abbrev pub AreFoundOf : Config → Content → List Condition → (seed from to : ℕ) → Findings → Type 0
 AreFoundOf c content conditions seed from to found =
     (tried : List Tried) × AreOrders c content seed from tried to × AreFound conditions tried found

@@ -1,4 +1,4 @@
--- What is asked of many records (profile).
+-- What conditions say of many records, and tallies of it (profile).
 use Rattle.std.specs.Prelude.{◌≡◌, ◌≢◌, ◌⊎◌, ℕ, suc, ◌-◌, ◌^◌, min, List, [], ◌∷◌, Option, Some, None}
 use Rattle.board_core.specs.History.{Event}
 use Rattle.conditions.specs.declared.rules.Ending.{Ending}
@@ -8,13 +8,13 @@ use Rattle.conditions.specs.declared.rules.Rule.TheVariants.{Never, NeverAfter, 
 use Rattle.conditions.specs.Rules.{Holds}
 use Rattle.outcome_statistics.specs.declared.tally.Tally.{Tally}
 
--- A record that was tried: its number, its accepted steps, the oldest first, and of a program how it ended.
+-- The record of an order: its number, its accepted steps, the oldest first, and, for a program, how it ended.
 pub record Tried : Type 0 where
   pub number : ℕ
   pub events : List Event
   pub end : Option Ending
 
--- The limit cut a record off, so that its end is still open, and a condition on ends asks nothing of it.
+-- The condition is about ends, and the limit cut the record off, so its end is open: the condition says nothing of it.
 abbrev pub IsSpared : Rule → Option Ending → Type 0
 IsSpared (End named) end = end ≡ Some endings.HistoryFull
 IsSpared (Never p) end = ⊥
@@ -23,30 +23,30 @@ IsSpared (OfSome p) end = ⊥
 IsSpared (Each p) end = ⊥
 IsSpared (Before p q) end = ⊥
 
--- A record is as a condition asks.
+-- A record meets a condition, or the condition says nothing of it.
 abbrev pub Meets : Rule → Tried → Type 0
 Meets rule tried = IsSpared rule tried.end ⊎ Holds rule tried.events tried.end
 
--- A program's record did not end stuck: this is asked where there is no condition.
+-- The record didn't end stuck: the test of a program without conditions.
 abbrev pub IsWell : Tried → Type 0
 IsWell tried = tried.end ≢ Some endings.Stuck
 
--- each of these is such; one of these is
+-- each of the list has the property
 abbrev pub EachIs : {X : Type 0} → (X → Type 0) → List X → Type 0
 EachIs P [] = Unit {0}
 EachIs P (x ∷ xs) = P x × EachIs P xs
 
--- One of a list is as a test asks.
+-- One of the list has the property.
 abbrev pub SomeIs : {X : Type 0} → (X → Type 0) → List X → Type 0
 SomeIs P [] = ⊥
 SomeIs P (x ∷ xs) = P x ⊎ SomeIs P xs
 
--- A record is as it should be: as a condition asks, or without one, well.
+-- A record passes: it meets the condition, or without one it didn't end stuck.
 abbrev pub IsSo : Option Rule → Tried → Type 0
 IsSo None tried = IsWell tried
 IsSo (Some rule) tried = Meets rule tried
 
--- What a condition asks of all records together: `some` that one is as it asks, another that each is.
+-- A condition holds of many records: for `some` one of them meets it, for any other condition each does.
 abbrev pub AllMeet : Rule → List Tried → Type 0
 AllMeet (OfSome p) tried = SomeIs (IsSo (Some (OfSome p))) tried
 AllMeet (Never p) tried = EachIs (IsSo (Some (Never p))) tried
@@ -57,23 +57,24 @@ AllMeet (Before p q) tried = EachIs (IsSo (Some (Before p q))) tried
 
 -- ---- counting
 
--- So many of these are such, and each of the others is otherwise.
+-- n of the list are `such`, and each of the others is `other`.
 unfoldable pub IsCount : {X : Type 0} → (such other : X → Type 0) → List X → ℕ → Type 0
 IsCount such other [] n = n ≡ 0
 IsCount such other (x ∷ xs) n =
     (such x × ((m : ℕ) × (n ≡ suc m) × IsCount such other xs m)) ⊎ (other x × IsCount such other xs n)
 
--- So many are, counted up to 2^64-1.
+-- The same, counted up to 2^64-1.
 abbrev pub IsCounted : {X : Type 0} → (such other : X → Type 0) → List X → ℕ → Type 0
 IsCounted such other xs n = (m : ℕ) × IsCount such other xs m × (n ≡ min m (2 ^ 64 - 1))
 
--- The number of the first that isn't such; the last stands in front.
+-- `first` is the number of the oldest record without the property, if there is one; the last record stands in front.
 unfoldable pub IsFirstOther : (Tried → Type 0) → List Tried → Option ℕ → Type 0
 IsFirstOther P [] first = first ≡ None
 IsFirstOther P (x ∷ xs) None = P x × IsFirstOther P xs None
 IsFirstOther P (x ∷ xs) (Some n) = IsFirstOther P xs (Some n) ⊎ (IsFirstOther P xs None × (¬ P x) × (n ≡ x.number))
 
--- A tally tells of these records, the last of them in front, how many are such, how many aren't, and which is the first of those.
+-- The tally is right for these records, the last in front: how many have the property, how many don't, and the number of the
+-- first that doesn't.
 pub record Tells (P : Tried → Type 0) (tried : List Tried) (t : Tally) : Type 0 where
   pub holding : IsCounted P (λ x. ¬ P x) tried t.holding
   pub failing : IsCounted (λ x. ¬ P x) P tried t.failing

@@ -2,7 +2,7 @@
 use conditions::Condition;
 use guest_script::Script;
 
-/// Orders of a program that a seed picks, from one number up to another, and the conditions that each record is judged by.
+/// Orders of a program with numbers of a range, picked from a seed, and the conditions on their records.
 #[derive(Clone, Copy, Debug)]
 pub struct Batch<'a> {
     /// The program.

@@ -1,4 +1,4 @@
-//! How many orders ended how.
+//! How many orders ended in which way.
 ghost use Rattle.std.specs.Prelude.{◌≡◌, ◌↔◌, ◌∷◌, ◌++◌, List, Some, true, []};
 ghost use Rattle.conditions.specs.declared.rules.Ending.{Ending as HowEnded};
 ghost use Rattle.conditions.specs.Endings.{ending};
@@ -33,7 +33,7 @@ impl Ends {
         }
     }
 
-    /// An order ended so.
+    /// Adds an order with this end.
     pub fn see(&mut self, end: End)
         ensures { (tried : List Tried) (x : Tried) → x.end ≡ ending end → AreEnded tried self.old
             → AreEnded (x ∷ tried) self.new }
@@ -44,7 +44,7 @@ impl Ends {
         self.stuck = counted(self.stuck, is(end, End::Stuck));
     }
 
-    /// Orders were tried behind these.
+    /// Adds the ends of other orders.
     pub fn add(&mut self, later: Ends)
         ensures { (tried more : List Tried) → AreEnded tried self.old → AreEnded more later
             → AreEnded (more ++ tried) self.new }
@@ -55,7 +55,7 @@ impl Ends {
         self.stuck = self.stuck.saturating_add(later.stuck);
     }
 
-    /// Whether some order ended that the limit didn't cut off.
+    /// Whether some order ended without being cut off by the limit.
     pub fn some_ended(&self) -> bool {
         self.off > 0 || self.quiet > 0 || self.stuck > 0
     }
@@ -69,7 +69,7 @@ impl Ends {
     }
 }
 
-/// A count with one more, where that is such.
+/// A count, one higher if the test holds.
 fn counted(count: u64, is_such: bool) -> u64
     ensures { (ended : HowEnded) (x : Tried) (xs : List Tried) → (is_such ≡ true) ↔ (x.end ≡ Some ended)
         → HaveEnded ended xs count → HaveEnded ended (x ∷ xs) result }

@@ -1,4 +1,4 @@
-//! What was found of many orders.
+//! Findings about many orders.
 ghost use Rattle.std.specs.Prelude.{◌≡◌, ◌∷◌, ◌++◌, List, [], IfOk, OnOk, length, reverse};
 ghost use Rattle.conditions.specs.declared.reading.Condition.{Condition as Asked};
 ghost use Rattle.conditions.specs.Endings.{ending};
@@ -16,32 +16,32 @@ use seeded_orders::choices;
 use std::alloc::{AllocError, Global};
 use std::collections::BTreeSet;
 
-/// What was found by a condition.
+/// Findings for one condition.
 #[derive(Clone, Copy, Debug)]
 pub struct Judged {
-    /// How many records are as it asks.
+    /// How many records meet it.
     pub tally: Tally,
     /// Which of the steps that it needs were met in some record.
     pub met: NeedsMet,
 }
 
-/// What was found of orders of a program.
+/// Findings about orders of a program.
 #[derive(Drop)]
 pub struct Findings {
-    /// By each condition.
+    /// For each condition.
     pub judged: Vec<Judged>,
     /// How many orders didn't end stuck.
     pub well: Tally,
     /// How they ended.
     pub ends: Ends,
-    /// The different records, as what is kept of them.
+    /// The different records, each as its choices.
     pub records: BTreeSet<Vec<u16>>,
-    /// What their guests met.
+    /// The entries, blocks and calls that guests met.
     pub visits: Visits,
 }
 
 impl Findings {
-    /// Before any order was tried, for so many conditions.
+    /// No order was tried yet.
     ///
     /// # Errors
     ///
@@ -62,7 +62,7 @@ impl Findings {
         })
     }
 
-    /// An order of this number was tried.
+    /// Adds the order of this number.
     ///
     /// # Errors
     ///
@@ -92,7 +92,7 @@ impl Findings {
             .see(alloc, board.config().harts, events, some_lacks)
     }
 
-    /// Orders were tried behind these.
+    /// Adds the findings of later orders.
     ///
     /// # Errors
     ///
@@ -130,7 +130,7 @@ fn judge_each(
     }
 }
 
-/// Puts what was found by each condition of later records behind what was found before.
+/// Adds the findings for each condition of later records.
 fn add_each(judged: &mut [Judged], later: &[Judged])
     ensures many { length judged.new ≡ length judged.old }
     ensures each { (asked : List Asked) (tried more : List Tried) → length judged.old ≡ length asked

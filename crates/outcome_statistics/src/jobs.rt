@@ -14,8 +14,8 @@ use guest_programs::RunFault;
 use std::alloc::{AllocError, Global};
 use std::thread::{self, Threads};
 
-/// Tries orders as `try_orders` does, by so many jobs at a time, each of which tries a share of them: what is found is the same,
-/// however many there are.
+/// Tries orders as `try_orders` does, in as many jobs at a time as given, each of which tries a share. The findings don't
+/// depend on the number of jobs.
 ///
 /// # Errors
 ///
@@ -43,7 +43,7 @@ pub fn try_in_jobs<R: Threads + Sync>(
     joined(batch, share, found, all)
 }
 
-/// Tries so many shares of the orders, as many at a time as there can be threads.
+/// Tries all shares of the orders, at most as many at a time as threads can be started.
 fn try_shares<R: Threads + Sync>(
     rt: &R,
     alloc: Global,
@@ -79,7 +79,7 @@ fn try_share(alloc: Global, batch: &Batch<'_>, share: u64, i: u64) -> Result<Fin
     try_orders(alloc, &Batch { from, to, ..*batch })
 }
 
-/// Where share `i` of the orders begins, and the one before ends.
+/// Where share `i` of the orders begins, and share `i - 1` ends.
 fn edge(from: u64, to: u64, share: u64, i: u64) -> u64
     requires { from ≤ to }
     ensures { result ≡ edge from to share i }
@@ -87,7 +87,7 @@ fn edge(from: u64, to: u64, share: u64, i: u64) -> u64
     from.saturating_add(share.saturating_mul(i)).min(to)
 }
 
-/// What was found of all shares, in their order.
+/// The findings of all shares, in their order.
 fn joined(
     batch: &Batch<'_>,
     share: u64,

@@ -1,27 +1,27 @@
-//! What orders that were tried say of a condition.
+//! The verdict of the tried orders on a condition.
 
 use crate::ends::Ends;
 use crate::findings::Judged;
 use conditions::{Condition, Ending, Rule};
 
-/// What orders that were tried say of a condition, or of a program without any.
+/// The verdict of the tried orders on a condition, or on a program without conditions.
 #[derive(Clone, Copy, Debug, PartialEq, Eq)]
 pub enum Judgement {
-    /// None was tried.
+    /// No order was tried.
     NotTried,
-    /// They aren't as it asks.
+    /// The condition fails.
     Fails,
-    /// It asks of ends, and the limit cut each of them off.
+    /// The condition is about ends, and the limit cut each order off.
     NoEnd,
-    /// None has the step that its first pattern needs.
+    /// No order has the step that the first pattern needs.
     LacksFirst,
-    /// None has the one that its second pattern needs.
+    /// No order has the step that the second pattern needs.
     LacksSecond,
-    /// They are as it asks.
+    /// The condition holds.
     Holds,
 }
 
-/// What orders say of a condition, or of a program without any, by what was found of them and how they ended.
+/// The verdict on a condition, or on a program without conditions, by its findings and the ends of all orders.
 pub fn judgement_of(asked: Option<&Condition>, judged: &Judged, ends: &Ends) -> Judgement {
     if judged.tally.tried() == 0 {
         return Judgement::NotTried;
@@ -42,7 +42,7 @@ pub fn judgement_of(asked: Option<&Condition>, judged: &Judged, ends: &Ends) -> 
     }
 }
 
-/// Whether the orders are as is asked: by a condition, or that none ends stuck.
+/// Whether the orders meet the condition, or without one, none ends stuck.
 fn all_meet(asked: Option<&Condition>, judged: &Judged) -> bool {
     match asked {
         Some(condition) => judged.tally.all_meet(&condition.rule),
@@ -50,7 +50,7 @@ fn all_meet(asked: Option<&Condition>, judged: &Judged) -> bool {
     }
 }
 
-/// They aren't, `some` perhaps since no order has such a step at all, whatever its reply.
+/// The orders fail: `some` may be vacuous, if no order has such a step, whatever its reply.
 fn fails(asked: Option<&Condition>, judged: &Judged) -> Judgement {
     match asked {
         Some(condition) if !condition.is_maybe && judged.met.lacks_first(&condition.rule) => {
@@ -60,7 +60,7 @@ fn fails(asked: Option<&Condition>, judged: &Judged) -> Judgement {
     }
 }
 
-/// They are as a condition asks, which may say nothing of them.
+/// The orders meet a condition, which may be vacuous.
 fn holds(condition: &Condition, judged: &Judged) -> Judgement {
     let rule = &condition.rule;
     if condition.is_maybe {
@@ -74,7 +74,7 @@ fn holds(condition: &Condition, judged: &Judged) -> Judgement {
     }
 }
 
-/// Whether a condition may say nothing.
+/// Whether a condition begins with `maybe`.
 fn is_maybe(asked: Option<&Condition>) -> bool {
     match asked {
         Some(condition) => condition.is_maybe,
@@ -82,7 +82,7 @@ fn is_maybe(asked: Option<&Condition>) -> bool {
     }
 }
 
-/// Whether is asked how orders end, and not whether a limit cuts them off.
+/// Whether the condition is about how orders end, and doesn't name the limit.
 pub fn asks_of_ends(asked: Option<&Condition>) -> bool {
     match asked {
         Some(condition) => match &condition.rule {

@@ -15,14 +15,14 @@ pub fn judge(rule: &Rule, tally: &mut Tally, number: u64, events: &[Event], end:
     tally.see(number, holds);
 }
 
-/// Whether a record is as a condition asks.
+/// Whether a record meets a condition.
 pub fn meets(rule: &Rule, events: &[Event], end: Option<Ending>) -> bool
     ensures { (x : Tried) → x.events ≡ events.now → x.end ≡ end → (result ≡ true) ↔ Meets rule.now x }
 {
     is_spared(rule, end) || rule.holds(events, end)
 }
 
-/// Whether a record is not judged: the limit cut it off, so that its end is still open.
+/// Whether a condition on ends says nothing of a record, since the limit cut it off.
 fn is_spared(rule: &Rule, end: Option<Ending>) -> bool
     ensures { (result ≡ true) ↔ IsSpared rule.now end }
 {
@@ -36,7 +36,7 @@ fn is_spared(rule: &Rule, end: Option<Ending>) -> bool
     }
 }
 
-/// The place of the step at which a record fails a condition: of an end the last one, of `some` none.
+/// The place of the step at which a record fails a condition: for `end` the last; for `some` there is none.
 pub fn failing_step(rule: Option<&Rule>, events: &[Event]) -> Option<usize> {
     match rule {
         Some(Rule::Never(p)) => first_from(p, events, 0),

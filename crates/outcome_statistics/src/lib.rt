@@ -1,4 +1,4 @@
-//! What was found of many records: how many are as each condition asks, how they ended, and how many are different.
+//! Findings about many records: how many meet each condition, how they ended, and how many are different.
 #![tactic(auto)]
 
 mod batch;

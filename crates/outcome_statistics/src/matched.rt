@@ -1,8 +1,8 @@
-//! Whether the patterns of a condition meet steps.
+//! Whether a record has steps for the patterns of a condition.
 use board_core::Event;
 use conditions::{NeedsMet, Rule};
 
-/// Whether each pattern of a condition has met a step, whatever its reply; one that it hasn't is met.
+/// Whether each pattern of a condition has met a step, whatever its reply; true for a pattern that the condition lacks.
 #[derive(Clone, Copy, Debug)]
 struct Matched {
     first: bool,
@@ -20,7 +20,7 @@ impl Matched {
         Matched { first, second }
     }
 
-    /// A step was taken.
+    /// Adds a step.
     fn see(&mut self, rule: &Rule, event: &Event) {
         match rule {
             Rule::Never(p) | Rule::OfSome(p) | Rule::Each(p) => {
@@ -34,13 +34,13 @@ impl Matched {
         }
     }
 
-    /// Whether each has.
+    /// Whether each pattern has met a step.
     fn is_each(self) -> bool {
         self.first && self.second
     }
 }
 
-/// Whether each pattern of a condition meets a step of a record, whatever its reply.
+/// Whether each pattern of a condition has a step in a record, whatever its reply.
 pub fn is_met(rule: &Rule, events: &[Event]) -> bool {
     let mut matched = Matched::new(rule);
     for event in events {
@@ -52,7 +52,7 @@ pub fn is_met(rule: &Rule, events: &[Event]) -> bool {
     matched.is_each()
 }
 
-/// Whether each pattern of a condition has what it asks for, also one that needs none.
+/// Whether each pattern of a condition has met its step, even if the condition doesn't need one.
 pub fn is_each_met(rule: &Rule, met: NeedsMet) -> bool {
     match rule {
         Rule::Never(_) | Rule::OfSome(_) | Rule::Each(_) => met.first,

@@ -31,7 +31,7 @@ pub fn try_orders(alloc: Global, batch: &Batch<'_>) -> Result<Findings, RunFault
     Ok(tried_on(alloc, batch, &mut board)?)
 }
 
-/// The same on this board, which begins anew in each order.
+/// The same on a given board, which begins anew for each order.
 fn tried_on(alloc: Global, batch: &Batch<'_>, board: &mut Board) -> Result<Findings, AllocError>
     requires program { IsProgram (content batch.now.script.now.body) }
     requires up { batch.now.from ≤ batch.now.to }
@@ -42,7 +42,7 @@ fn tried_on(alloc: Global, batch: &Batch<'_>, board: &mut Board) -> Result<Findi
     each_tried(alloc, &program, batch, board)
 }
 
-/// The same of this program.
+/// The same for a program.
 fn each_tried(
     alloc: Global,
     program: &Program<'_>,

@@ -1,18 +1,18 @@
-//! What was found of one condition.
+//! How many records meet a condition.
 ghost use Rattle.std.specs.Prelude.{◌≡◌, ◌↔◌, ◌∷◌, ◌++◌, ◌-◌, ◌^◌, List, Option, Some, length, min, true, []};
 ghost use Rattle.conditions.specs.declared.rules.Rule.{Rule as Asked};
 ghost use Rattle.outcome_statistics.specs.Records.{AllMeet, EachIs, IsSo, SomeIs, Tells, Tried};
 
 use conditions::Rule;
 
-/// How many of the records that were tried are as they should be.
+/// How many of the tried records pass.
 #[derive(Clone, Copy, Debug, PartialEq, Eq)]
 pub struct Tally {
-    /// How many are.
+    /// How many pass.
     pub holding: u64,
-    /// How many aren't.
+    /// How many fail.
     pub failing: u64,
-    /// The number of the first that isn't.
+    /// The number of the first that fails.
     pub first: Option<u64>,
 }
 
@@ -28,7 +28,7 @@ impl Tally {
         }
     }
 
-    /// A record of this number was tried.
+    /// Adds the record of this number.
     pub fn see(&mut self, number: u64, holds: bool)
         ensures { (asked : Option Asked) (tried : List Tried) (x : Tried) → x.number ≡ number
             → (holds ≡ true) ↔ IsSo asked x
@@ -44,7 +44,7 @@ impl Tally {
         }
     }
 
-    /// Records were tried behind these.
+    /// Adds the tally of later records.
     pub fn add(&mut self, later: Tally)
         ensures { (asked : Option Asked) (tried more : List Tried) → Tells (IsSo asked) tried self.old
             → Tells (IsSo asked) more later
@@ -65,7 +65,7 @@ impl Tally {
         self.holding.saturating_add(self.failing)
     }
 
-    /// Whether each record is as it should be.
+    /// Whether each record passes.
     pub fn is_each(&self) -> bool
         ensures { (asked : Option Asked) (tried : List Tried) → Tells (IsSo asked) tried self.now
             → (result ≡ true) ↔ EachIs (IsSo asked) tried }
@@ -73,7 +73,7 @@ impl Tally {
         self.failing == 0
     }
 
-    /// Whether some record is.
+    /// Whether some record passes.
     pub fn is_some(&self) -> bool
         ensures { (asked : Option Asked) (tried : List Tried) → Tells (IsSo asked) tried self.now
             → (result ≡ true) ↔ SomeIs (IsSo asked) tried }
@@ -81,7 +81,7 @@ impl Tally {
         self.holding > 0
     }
 
-    /// Whether all records together are as a condition asks.
+    /// Whether a condition holds of all records together: for `some` one meets it, otherwise each does.
     pub fn all_meet(&self, rule: &Rule) -> bool
         ensures { (tried : List Tried) → Tells (IsSo (Some rule.now)) tried self.now
             → (result ≡ true) ↔ AllMeet rule.now tried }

@@ -1,4 +1,4 @@
-//! What guests met: entries, blocks and calls.
+//! Which entries, blocks and calls guests met.
 use board_core::{Actor, Event, Op, Reply};
 use guest_programs::is_guest;
 use std::alloc::{AllocError, Global};
@@ -9,23 +9,24 @@ use std::collections::{BTreeMap, BTreeSet};
 pub struct Spot {
     /// The address.
     pub addr: u64,
-    /// How many.
+    /// The number of operations before it.
     pub before: u64,
 }
 
-/// A step by who makes it and where it stands: a guest's in its block, the firmware's by its operation, the clock's by its ticks.
+/// A step by its actor and its place in the script: a guest's in its block, the firmware's by its operation, the clock's by its
+/// ticks.
 #[derive(Clone, Copy, Debug, PartialEq, Eq, PartialOrd, Ord)]
 pub struct Deed {
     /// The hart; none for the clock.
     pub hart: Option<u64>,
-    /// Where it stands, where it is a guest's.
+    /// Its place in a block, if it is a guest's.
     pub spot: Option<Spot>,
-    /// What tells it from others that stand nowhere.
+    /// Distinguishes steps of the firmware and the clock.
     other: u64,
 }
 
 impl Deed {
-    /// A step that was made while the guest of its hart was here.
+    /// A step that was made while its hart's guest was at this place.
     fn of(guest: Option<Spot>, event: &Event) -> Deed {
         let hart = match event.actor() {
             Actor::Hart(h) => Some(h),
@@ -43,14 +44,14 @@ impl Deed {
     }
 }
 
-/// What the guests of orders met.
+/// What the guests of many orders met.
 #[derive(Drop)]
 pub struct Visits {
     /// The addresses at which harts were entered.
     pub entered: BTreeSet<u64>,
-    /// The calls that were answered, each with whether an answer was no error.
+    /// The calls that were answered, each with whether some answer was no error.
     pub calls: BTreeMap<Spot, bool>,
-    /// The different steps, each as it was made once, of orders that lacked one that a condition needs.
+    /// The different steps, each with one event, of orders without a step that a condition needs.
     pub deeds: BTreeMap<Deed, Event>,
 }
 
@@ -64,7 +65,7 @@ impl Visits {
         }
     }
 
-    /// An order of so many harts was tried, of which the different steps are kept or not.
+    /// Adds an order of this many harts; its different steps are kept or not.
     ///
     /// # Errors
     ///
@@ -93,7 +94,7 @@ impl Visits {
         Ok(())
     }
 
-    /// The different steps of an order of so many harts.
+    /// Adds the different steps of an order of this many harts.
     ///
     /// # Errors
     ///
@@ -114,7 +115,7 @@ impl Visits {
         Ok(())
     }
 
-    /// A step that was made while the guest of its hart was here.
+    /// Adds a step that was made while its hart's guest was at this place.
     ///
     /// # Errors
     ///
@@ -127,7 +128,7 @@ impl Visits {
         Ok(())
     }
 
-    /// A hart took a step while its guest was here, if it was in a block: where it is then.
+    /// Adds a step of a hart whose guest was at this place, if in a block. Returns the guest's place after it.
     ///
     /// # Errors
     ///
@@ -148,7 +149,7 @@ impl Visits {
         Ok(guest_after(guest, event))
     }
 
-    /// A call was answered.
+    /// Adds a call's answer.
     fn see_call(&mut self, spot: Spot, is_good: bool) -> Result<(), AllocError> {
         if let Some(good) = self.calls.get_mut(&spot) {
             *good = *good || is_good;
@@ -158,7 +159,7 @@ impl Visits {
         Ok(())
     }
 
-    /// Orders were tried behind these.
+    /// Adds what other orders met.
     ///
     /// # Errors
     ///

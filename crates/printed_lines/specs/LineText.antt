@@ -42,7 +42,7 @@ call_room = 6 + 2 * hex_room
 abbrev pub arguments_room : ℕ
 arguments_room = 6 * hex_room
 
--- an operation, of which a call is the longest
+-- the longest operation: a call
 abbrev pub op_room : ℕ
 op_room = call_room + arguments_room
 
@@ -58,10 +58,10 @@ reset_room = 2 * hex_column_room
 abbrev pub fence_room : ℕ
 fence_room = 13 + 2 * decimal_room
 
--- what a fence drops, of which `vma`, a range and an ASID are the longest
+-- the longest description of a fence: `vma`, a range and an ASID
 abbrev pub flush_room : ℕ
 flush_room = 9 + 3 * hex_column_room
 
--- an answer, of which `entry`, an address, a hart and an opaque value are the longest
+-- the longest answer: `entry`, an address, a hart and an opaque value
 abbrev pub reply_room : ℕ
 reply_room = 6 + hex_room + decimal_room + hex_room

@@ -1,25 +1,24 @@
--- What is known of a sink after writes (profile).
+-- What holds of a sink after writes (profile).
 use Rattle.std.specs.Prelude.{◌≡◌, ℕ, ◌<◌, List, ◌++◌, Option, Result, MatchResult, length}
 use Rattle.std.specs.Io.KnownBytes.{Appends}
 
--- What a write that took n bytes of a piece says of the failed calls: taking none of a piece that has some is one more.
+-- How a write that took n bytes of a piece counts: taking none of a non-empty piece is one more failed call.
 pub record CountsTaken (old new n : ℕ) (piece : List ℕ) : Type 0 where
   pub some : 0 < n → new ≡ old
   pub nothing_to_take : length piece ≡ 0 → new ≡ old
   pub none : n ≡ 0 → 0 < length piece → old < new
 
--- A write counts as failed where it is refused, and where it takes none of a piece that has bytes.
+-- A write counts as failed if it is refused, or takes none of a non-empty piece.
 abbrev pub CountsWrite : {E : Type 0} → (old new : ℕ) → Result ℕ E → List ℕ → Type 0
 CountsWrite old new result piece = MatchResult result (λ n. CountsTaken old new n piece) (λ _. old < new)
 
--- A text was put into a sink: it is what the sink took, and no call failed. Where it was not put, a call failed.
+-- A text was written to a sink: the sink took exactly it, and no call failed. Otherwise a call failed.
 abbrev pub Puts : {W T E : Type 0} → (W → Option (List ℕ)) → (W → ℕ) → W → W → Result T E → List ℕ → Type 0
 Puts written failures old new result text = MatchResult result
     (λ _. Appends (written old) (written new) text × (failures new ≡ failures old))
     (λ _. failures old < failures new)
 
--- A text came behind what waits for a sink: the sink took a beginning of both, and the rest waits. Where it didn't, a call
--- failed.
+-- A text was appended to what waits for a sink: the sink took a beginning of both, and the rest waits. Otherwise a call failed.
 abbrev pub Passes : {W T E : Type 0} → (W → Option (List ℕ)) → (W → ℕ) → W → W → Result T E
     → (waiting later text : List ℕ) → Type 0
 Passes written failures old new result waiting later text = MatchResult result
@@ -27,6 +26,6 @@ Passes written failures old new result waiting later text = MatchResult result
     × (failures new ≡ failures old))
     (λ _. failures old < failures new)
 
--- Another call counts as failed where it is refused.
+-- Any other call counts as failed if it is refused.
 abbrev pub CountsCall : {T E : Type 0} → (old new : ℕ) → Result T E → Type 0
 CountsCall old new result = MatchResult result (λ _. new ≡ old) (λ _. old < new)

@@ -1,4 +1,4 @@
-//! What is printed of a board, its table aside: sinks of bytes, and the lines that go into them (profile).
+//! Printed lines, without the board's table: sinks of bytes, and the text of board lines, steps and replies (profile).
 #![tactic(auto)]
 
 mod line_text;

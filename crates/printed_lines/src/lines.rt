@@ -58,7 +58,7 @@ pub fn print_line<W: Sink>(
     page.put(sink)
 }
 
-/// Prints the words of a reply or a refusal alone, with no line feed.
+/// Prints only the words of a reply or a refusal, without a line feed.
 pub fn print_reply<W: Sink>(answer: Result<Reply, Refusal>, sink: &mut W) -> Result<(), Failed>
     requires { W.failures sink.old < 2 ^ 63 }
     ensures { Puts W.written W.failures sink.old sink.new result
@@ -142,7 +142,7 @@ fn op_onto(line: &mut LineText, op: &Op)
     }
 }
 
-/// Appends a call. It is apart, so that the registers are read here alone.
+/// Appends a call. It is a function of its own, so that only it reads the registers.
 #[inline(never)]
 fn ecall_onto(line: &mut LineText, regs: &Regs)
     requires { length line.old + op_room ≤ page_room }

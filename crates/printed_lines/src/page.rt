@@ -115,7 +115,7 @@ impl Page {
     }
 }
 
-/// Writes the text, and leaves none of it, where it has no room for another line.
+/// Writes the text and empties it, if it has no room for another line.
 #[inline(always)]
 fn put_full<W: Sink>(text: &mut LineText, sink: &mut W) -> Result<(), Failed>
     requires { W.failures sink.old < 2 ^ 63 }
@@ -128,7 +128,7 @@ fn put_full<W: Sink>(text: &mut LineText, sink: &mut W) -> Result<(), Failed>
     Ok(())
 }
 
-/// Writes the text, and leaves none of it, also where a write failed.
+/// Writes the text and empties it, also if a write failed.
 #[cold]
 #[inline(never)]
 fn put_all<W: Sink>(text: &mut LineText, sink: &mut W) -> Result<(), Failed>

@@ -21,7 +21,7 @@ fn advance(number: u64, h: u64, said: Option<Said>) -> Line {
     }
 }
 
-/// Adds lines one by one, and tells of each whether it could follow, and how many there are then.
+/// Adds lines one by one, and prints for each whether it could follow, and how many there are then.
 fn show_added<R: AllocGlobal + Print>(rt: &R, added: &[Line]) -> Result<Lines> {
     let mut lines = Lines::new(rt.alloc());
     for line in added {

@@ -1,5 +1,5 @@
-//! What `Debug` writes of each public type that has it, in a line each. Of a type whose fields are private the line says
-//! whether the text begins with the type's name, and differs for two values that differ.
+//! What `Debug` writes for each public type that has it, a line each. If a type's fields are private, the line says whether the
+//! text begins with the type's name, and differs for two different values.
 
 use anyhow::{Context, Result, bail};
 use board_core::{
@@ -237,7 +237,7 @@ fn lines_of(alloc: Global, text: &[u8]) -> Result<Lines> {
     }
 }
 
-/// Says whether the text of a value begins with its type's name, and is another one than the other value's.
+/// Prints whether a value's text begins with its type's name, and differs from the other value's.
 fn tell<R: AllocGlobal + Print, T: Debug>(rt: &R, name: &str, one: &T, other: &T) -> Result<()> {
     let text = format!(in rt.alloc(); "{one:?}")?;
     let other = format!(in rt.alloc(); "{other:?}")?;

@@ -1,9 +1,8 @@
-//! The worked rows. The program shows what no script can (its file stdout has what must be shown), reads the files
-//! of rows that are named to it, replays each row, and prints what differs. All that a replay prints must be a trace
-//! that agrees when it is checked.
+//! The worked rows. The program prints what no script can show (its file stdout), reads the files of rows that its words name,
+//! replays each row, and prints what differs. All that a replay prints must be a trace with which `check` agrees.
 //!
-//! A line `row NAME` begins a row, and the lines after it are a schedule, written as a trace: what stands behind
-//! `->` is the reply that the board must give. Then one of these may follow:
+//! A line `row NAME` begins a row. The lines after it are a schedule, written as a trace: the reply behind `->` is the one that
+//! the board must give. Then one of these may follow:
 //! - `ends STATUS`, and whole lines that must be printed; `lacks TEXT` names a text that must not be.
 //! - `prints STATUS`, and all that must be printed. The schedule is replayed as it stands.
 //! - `says`, and lines `OUTCOME | TEXT`: the schedule with the text after it, where `\n` is a line feed, must end

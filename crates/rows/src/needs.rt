@@ -26,7 +26,7 @@ fn fence(mask: u64, base: u64) -> Op {
     ecall(RFENCE, 1, mask, base, 0)
 }
 
-/// A board of so many harts, all of them started by hart 0.
+/// A board of this many harts, all started by hart 0.
 fn started(alloc: Global, harts: u64) -> Result<Board> {
     let config = Config {
         harts,
@@ -83,7 +83,7 @@ fn show_need<R: Print>(rt: &R, board: &Board, caller: u64, t: u64) -> io::Result
     Ok(())
 }
 
-/// What calls need of harts, and of such as aren't there, while harts 0 and 2 fence hart 1, which then does this instead of
+/// What calls need of harts, and of harts that don't exist, while harts 0 and 2 fence hart 1, which then does this instead of
 /// its first serve.
 fn show_three<R: AllocGlobal + Print>(rt: &R, name: &str, instead: Op) -> Result<()> {
     let mut board = started(rt.alloc(), 3)?;
@@ -123,7 +123,7 @@ fn show_absent<R: Print>(rt: &R, board: &Board) -> io::Result<()> {
     println!(rt; "where no hart is")
 }
 
-/// Lets hart `t` serve as often as the call of hart `caller` needs of it: whether the call could be polled before a serve.
+/// Hart `t` serves as often as the call of hart `caller` needs of it. Returns whether the call could be polled before a serve.
 fn serve_all(board: &mut Board, caller: u64, t: u64) -> Result<bool> {
     let mut polled = false;
     for _ in 0..board.need(caller, t) {

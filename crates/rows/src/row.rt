@@ -42,7 +42,7 @@ pub fn checked(alloc: Global, trace: &[u8]) -> Result<(Outcome, Vec<u8>)> {
     Ok((outcome, writer.into_inner()))
 }
 
-/// Replays a row, and compares its replies, its status and what must be printed. It answers what was printed.
+/// Replays a row, and compares its replies, its status and its output. Returns the output.
 pub fn check(alloc: Global, row: Row) -> Result<String> {
     let schedule = schedule(alloc, row.lines)?;
     let printed = printed(alloc, &schedule, row.status)?;
@@ -90,8 +90,8 @@ fn check_case(alloc: Global, lines: &str, state: &str, case: &str) -> Result<()>
     Ok(())
 }
 
-/// Replays each text after the lines, and compares its outcome. A text that isn't good prints nothing. A fault is one
-/// whatever is done with the script, so it is also the outcome of the text's check.
+/// Replays each text after the lines, and compares its outcome. A text that isn't good prints nothing. Every task finds the
+/// same fault, so the text's check ends with it, too.
 pub fn check_outcomes(alloc: Global, lines: &str, cases: &str) -> Result<()> {
     for case in cases.split('\n').filter(|case| !case.is_empty()) {
         let (wanted, text) = case.split_once(" | ").context("no text")?;
@@ -147,7 +147,7 @@ fn check_trace(alloc: Global, script: &str, wanted: &str, case: &str) -> Result<
     Ok(())
 }
 
-/// What the check of a trace printed, or its outcome where it has printed nothing, and must not.
+/// What the check of a trace printed; if its outcome isn't good it must print nothing, and this is the outcome.
 fn said_of(alloc: Global, outcome: Outcome, printed: Vec<u8>, case: &str) -> Result<String> {
     if matches!(outcome, Outcome::Good | Outcome::Differs) {
         return String::from_utf8(printed).ok().context("no text");

@@ -20,16 +20,16 @@ traced (Program blocks clock) = None
 traced (Schedule lines) = None
 traced (Trace lines) = Some lines
 
--- a line says what the board answers
+-- a line has the board's answer
 abbrev pub Agrees : Course → Line → Type 0
 Agrees b line = line.said ≡ Some (said_of (answer_of b line))
 
--- each line says what the board answers that the lines before it led to
+-- each line has the board's answer after the lines before it
 abbrev pub AllAgree : Course → List Line → Type 0
 AllAgree b [] = Unit {0}
 AllAgree b (line ∷ lines) = Agrees b line × AllAgree (after_line b line) lines
 
--- The first line that says otherwise has this number, and this is the board's own answer to it.
+-- The first line that differs has this number, and this is the board's own answer to it.
 abbrev pub DiffersFirst : Course → List Line → (number : ℕ) → Result Reply Refusal → Type 0
 DiffersFirst b [] number answer = ⊥
 DiffersFirst b (line ∷ lines) number answer =
@@ -45,7 +45,7 @@ abbrev pub differs_text : (number : ℕ) → Result Reply Refusal → List ℕ
 differs_text number answer =
     (codes "differs at line " ++ decimal number) ++ (codes ": " ++ (join_with_byte 32 (reply_words answer) ++ 10 ∷ []))
 
--- What the check of these lines writes with each outcome. Where memory for a cut was refused, the lines before it agree.
+-- What the check of these lines writes with each outcome. If an allocation for a cut failed, the lines before it agree.
 abbrev pub Checks : Config → List Line → Outcome → List ℕ → Type 0
 Checks c lines Good text = AllAgree (new_course c) lines × (text ≡ agrees_text (length lines))
 Checks c lines Differs text =

@@ -7,7 +7,7 @@ use Rattle.clap.specs.Words.{App, Kinds, Row, Rule, Shape, Text, fault_of, first
 use Rattle.sbiboard.specs.declared.command_line.Subcommand.{Subcommand}
 use Rattle.sbiboard.specs.declared.command_line.Subcommand.TheVariants.{Run, Replay, Check}
 
--- What is asked for: a subcommand, its FILE, and the file that a record is kept in.
+-- A task: a subcommand, its FILE, and the file in which a record is kept.
 pub record Invocation : Type 0 where
   pub task : Text
   pub file : Text
@@ -55,7 +55,7 @@ keep_option met = if bytes_eq (codes "run") met.0 then first_of (codes "keep") m
 abbrev pub with_file : Text × List Row → Option Invocation
 with_file met = option_map (λ path. asking met.0 path (keep_option met)) (first_of (codes "FILE") met.1)
 
--- What is found, where there is no fault.
+-- The task, if there is no fault.
 abbrev pub unless_faulty : Kinds → Option Invocation → Option Invocation
 unless_faulty [] found = found
 unless_faulty (fault ∷ faults) found = None

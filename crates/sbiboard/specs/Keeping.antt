@@ -1,4 +1,4 @@
--- What a run's keeper appends to a record, and how a run is told whose record was kept in part (profile).
+-- What a run's keeper appends to a record, and the outcome of a run whose record was kept in part (profile).
 use Rattle.std.specs.Prelude.{ℕ, List, [], ◌∷◌, ◌++◌, Option, Result, Ok, Err}
 use Rattle.std.specs.Io.KnownBytes.{Appends}
 use Rattle.printed_lines.specs.Words.{event_words, as_line}
@@ -20,7 +20,7 @@ steps_text (s ∷ ss) = accepted_line s ++ steps_text ss
 abbrev pub AppendsLines : (old new : Option (List ℕ)) → Type 0
 AppendsLines old new = (steps : List Step) × Appends old new (steps_text steps)
 
--- The outcome that is told of a run: a record that was kept in part comes before how the run ended.
+-- The outcome of a run: a record that was kept in part comes before how the run ended.
 abbrev pub reported_as : Outcome → Result (Unit {0}) KeepFault → Outcome
 reported_as outcome (Ok done) = outcome
 reported_as outcome (Err Failed) = Io

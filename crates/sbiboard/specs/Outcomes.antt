@@ -23,7 +23,7 @@ status_of Differs = 5
 status_of NoMemory = 6
 status_of Io = 7
 
--- whether a line on standard error says how a run ended
+-- whether standard error gets a line about how a run ended
 abbrev pub is_reported : Outcome → Bool
 is_reported Good = false
 is_reported (Script line number) = true
@@ -40,7 +40,7 @@ pub record FailsAs (kind : ErrorKind) (outcome : Outcome) : Type 0 where
   pub memory : kind ≡ io_kinds.OutOfMemory → outcome ≡ NoMemory
   pub others : kind ≢ io_kinds.OutOfMemory → outcome ≡ Io
 
--- The status where the command line was not a task: 0 where help or the version was asked for, 6 where memory was refused, else 2.
+-- The status of a command line without a task: 0 for help or the version, 6 if an allocation failed, otherwise 2.
 abbrev pub usage_status : clap_kind.ErrorKind → ℕ
 usage_status clap_kinds.DisplayHelp = 0
 usage_status clap_kinds.DisplayVersion = 0
@@ -52,7 +52,7 @@ abbrev pub IsMemory : NoOutcome → Type 0
 IsMemory (System error) = error_kind error ≡ io_kinds.OutOfMemory
 IsMemory (Usage error) = ⊥
 
--- The status with which a run ends that came to no outcome. Of help, and of a fault of usage, the text may fail to be written.
+-- The status of a run without an outcome. Printing help, or a fault of usage, may itself fail.
 abbrev pub StopsWith : NoOutcome → (status : ℕ) → Type 0
 StopsWith (System error) status = (outcome : Outcome) × FailsAs (error_kind error) outcome
     × (status ≡ status_of outcome)

@@ -23,7 +23,7 @@ scheduled (Program blocks clock) = None
 scheduled (Schedule lines) = Some lines
 scheduled (Trace lines) = None
 
--- each line with its reply or refusal, which the accepted lines before it, since the last cut, and what that left give
+-- each line with its reply or refusal, by the accepted lines before it since the last cut, and what that cut left
 abbrev pub lines_text : Course → List Line → List ℕ
 lines_text b [] = []
 lines_text b (line ∷ lines) =
@@ -50,12 +50,13 @@ unfoldable pub text_of : Config → List Line → List ℕ
 text_of c lines =
     as_line (board_line_words c) ++ (lines_text (new_course c) lines ++ board_table (course_after (new_course c) lines))
 
--- The text of these lines' replay. Where it isn't too long, it is a trace, and its check says that as many lines agree.
+-- The text of these lines' replay. If it isn't too long, it is a trace, and its check says that as many lines agree.
 pub record IsReplay (c : Config) (lines : List Line) (text : List ℕ) : Type 0 where
   pub is_text : text ≡ text_of c lines
   pub accepted : length text ≤ most_bytes → EndsCheck text Good (agrees_text (length lines))
 
--- What was written of lines, and whether one met a full history. Where memory for a cut was refused, those before it were.
+-- What was written of lines, and whether one met a full history. If an allocation for a cut failed, those before it were
+-- written.
 abbrev pub AreDone : Course → List Line → Replayed → List ℕ → Type 0
 AreDone b lines UpToCut text = (before : List Line) × StopsAtCut lines before × (text ≡ lines_text b before)
 AreDone b lines (ToTheEnd met_full) text = (met_full ≡ meets_full b lines) × (text ≡ lines_text b lines)
@@ -67,7 +68,7 @@ IsPrinted c lines UpToCut text =
     × (text ≡ as_line (board_line_words c) ++ lines_text (new_course c) before)
 IsPrinted c lines (ToTheEnd met_full) text = (met_full ≡ meets_full (new_course c) lines) × (text ≡ text_of c lines)
 
--- What the replay of these lines writes with each outcome. Where memory for a cut was refused, it has written what comes before.
+-- What the replay of these lines writes with each outcome. If an allocation for a cut failed, it has written what comes before.
 abbrev pub Replays : Config → List Line → Outcome → List ℕ → Type 0
 Replays c lines Good text = (meets_full (new_course c) lines ≡ false) × IsReplay c lines text
 Replays c lines HistoryFull text = (meets_full (new_course c) lines ≡ true) × IsReplay c lines text

@@ -1,4 +1,4 @@
--- How a task over a script ends, whichever it is (profile).
+-- How a task over a script ends (profile).
 use Rattle.std.specs.Prelude.{◌≡◌, ◌⊎◌, ℕ, ◌<◌, Bool, true, List, [], ◌∷◌, ◌++◌, Option, Some, None, is_some, Result, Ok}
 use Rattle.std.specs.Io.KnownBytes.{Appends, IsAtEnd}
 use Rattle.board_terms.specs.declared.config.Config.{Config}
@@ -54,7 +54,7 @@ abbrev pub course_after : Course → List Line → Course
 course_after b [] = b
 course_after b (line ∷ lines) = course_after (after_line b line) lines
 
--- The lines before a cut: a task ends there, where memory for the cut is refused.
+-- The lines before a cut. A task ends there if an allocation for the cut fails.
 pub record StopsAtCut (lines before : List Line) : Type 0 where
   pub cut : Line
   pub after : List Line
@@ -63,7 +63,7 @@ pub record StopsAtCut (lines before : List Line) : Type 0 where
 
 -- ---- the end of a task
 
--- The bytes are a script of the kind that is wanted, with these lines or blocks, and its board can be made.
+-- The bytes are a script of the right kind, with these lines or blocks, and its board can be made.
 pub record Runs {A : Type 0} (lines_of : Content → Option A) (bytes : List ℕ) (config : Config)
     (lines : A) : Type 0 where
   pub script : Written
@@ -72,7 +72,8 @@ pub record Runs {A : Type 0} (lines_of : Content → Option A) (bytes : List ℕ
   pub lines_are : lines_of script.content ≡ Some lines
   pub good : IsGood config
 
--- Why no line was run: the bytes have a fault, or are a script of another kind, or its board can't be made; or memory was refused.
+-- Why no line was run: the bytes have a fault, or are a script of another kind, or its board can't be made, or an allocation
+-- failed.
 abbrev pub Stops : {A : Type 0} (lines_of : Content → Option A) → List ℕ → Outcome → Type 0
 Stops lines_of bytes (Script line number) = (f : ScriptFault) × (first_fault bytes ≡ Some f) × (f.line ≡ line)
     × (fault_number f.fault ≡ number)
@@ -82,8 +83,8 @@ Stops lines_of bytes BadBoard = (s : Written) × Reads bytes s × (is_some (line
 Stops lines_of bytes NoMemory = Unit {0}
 Stops lines_of bytes outcome = ⊥
 
--- What is written with each outcome, of the bytes that were read. Where the lines were run, `Ends` says it of the board and its lines;
--- else nothing is written.
+-- What is written with each outcome, by the bytes that were read. If the lines were run, `Ends` says it of the board and its
+-- lines; otherwise nothing is written.
 abbrev pub EndsAs : {A : Type 0} (lines_of : Content → Option A) (Ends : Config → A → Outcome → List ℕ → Type 0)
     → List ℕ → Outcome → List ℕ → Type 0
 EndsAs {A} lines_of Ends bytes outcome text =
@@ -95,7 +96,7 @@ abbrev pub Writes : (Ends : Outcome → List ℕ → Type 0) → Outcome → Opt
 Writes Ends Io old new = Unit {0}
 Writes Ends outcome old new = (text : List ℕ) × Ends outcome text × Appends old new text
 
--- a source whose script was run was read to its end
+-- if a source's script was run, the source was read to its end
 abbrev pub EndsRead : Outcome → Option (List ℕ) → Type 0
 EndsRead Good left = IsAtEnd left
 EndsRead HistoryFull left = IsAtEnd left
@@ -103,7 +104,7 @@ EndsRead Stuck left = IsAtEnd left
 EndsRead Differs left = IsAtEnd left
 EndsRead outcome left = Unit {0}
 
--- what the text was written to holds nothing of it back
+-- the writer holds none of the text back
 abbrev pub EndsFlushed : Outcome → (is_flushed : Bool) → Type 0
 EndsFlushed Good is_flushed = is_flushed ≡ true
 EndsFlushed HistoryFull is_flushed = is_flushed ≡ true
@@ -111,7 +112,7 @@ EndsFlushed Stuck is_flushed = is_flushed ≡ true
 EndsFlushed Differs is_flushed = is_flushed ≡ true
 EndsFlushed outcome is_flushed = Unit {0}
 
--- the counts of failed calls of a reader and of a writer: one is higher exactly where the outcome says so
+-- the counts of failed calls of a reader and of a writer: one is higher if and only if the outcome says so
 abbrev pub CountsEnd : Outcome → (reader reader' writer writer' : ℕ) → Type 0
 CountsEnd Io reader reader' writer writer' = (reader < reader') ⊎ (writer < writer')
 CountsEnd outcome reader reader' writer writer' = (reader' ≡ reader) × (writer' ≡ writer)

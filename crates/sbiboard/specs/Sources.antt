@@ -1,4 +1,4 @@
--- What is known of a source after reads, and of the script that was read (profile).
+-- What holds of a source after reads, and of the script that was read (profile).
 use Rattle.std.specs.Prelude.{◌≡◌, ℕ, ◌+◌, ◌<◌, ◌≤◌, List, ◌++◌, length, take, Option, Result, Ok, Err, IfSome, MatchResult}
 use Rattle.std.specs.Io.KnownBytes.{Consumes, IsAtEnd}
 use Rattle.script_lines.specs.declared.script.Script.{Script}
@@ -12,7 +12,7 @@ use Rattle.sbiboard.specs.declared.device.pieces.ReadFault.TheVariants.{Failed, 
 abbrev pub read_limit : ℕ
 read_limit = most_bytes + 1
 
--- A fault of reading is a call that failed, or a fault of the script while no call failed.
+-- A fault of reading is a failed call, or a fault of the script while no call failed.
 abbrev pub CountsFault : (old new : ℕ) → ReadFault → Type 0
 CountsFault old new Failed = old < new
 CountsFault old new (NoScript fault) = new ≡ old
@@ -21,18 +21,18 @@ CountsFault old new (NoScript fault) = new ≡ old
 abbrev pub CountsReading : {T : Type 0} → (old new : ℕ) → Result T ReadFault → Type 0
 CountsReading old new result = MatchResult result (λ _. new ≡ old) (CountsFault old new)
 
--- Of the bytes that were to come at most so many were read.
+-- At most this many of the coming bytes were read.
 abbrev pub ReadsUpTo : (limit : ℕ) → (old new : Option (List ℕ)) → Type 0
 ReadsUpTo limit old new = (bytes : List ℕ) × Consumes old new bytes × (length bytes ≤ limit)
 
--- A read took so many bytes, and put them behind the first ones.
+-- A read took this many bytes, and put them behind the first ones.
 pub record ReadsBehind (first : ℕ) (old new : Option (List ℕ)) (bytes bytes' : List ℕ) (count : ℕ) : Type 0 where
   pub got : List ℕ
   pub long : length got ≡ count
   pub taken : Consumes old new got
   pub behind : take (first + count) bytes' ≡ take first bytes ++ got
 
--- The bytes that were taken from a source, so many, are those that a reader was given, and then those that are pending.
+-- The bytes that were taken from a source are those that the reader got, and then those that are pending.
 pub record HasTaken (old new : Option (List ℕ)) (reader : Part) (pending : List ℕ) (count : ℕ) : Type 0 where
   pub given : List ℕ
   pub read : HasRead reader given
@@ -44,12 +44,13 @@ abbrev pub HasTakenAll : (old new : Option (List ℕ)) → (reader : Part) → (
 HasTakenAll old new reader pending =
     (count : ℕ) × HasTaken old new reader pending count × (count ≤ read_limit) × (count < read_limit → IsAtEnd new)
 
--- A fault of a call, or the want of memory.
+-- A failed call, or a failed allocation.
 abbrev pub Lacks : ReadFault → Type 0
 Lacks Failed = Unit {0}
 Lacks (NoScript fault) = fault ≡ no_memory
 
--- What is read of bytes: the script that they are, or their fault, or the want of memory. After a failed call nothing is said of them.
+-- The result of reading bytes: their script, or their fault, or a failed allocation. After a failed call nothing is said of
+-- them.
 abbrev pub IsRead : List ℕ → Result Script ReadFault → Type 0
 IsRead bytes (Ok script) = IsAnswered bytes (Ok script)
 IsRead bytes (Err (NoScript fault)) = IsAnswered bytes (Err fault)

@@ -62,10 +62,9 @@ outcome_of ends.HistoryFull = HistoryFull
 outcome_of ends.Quiet = Good
 outcome_of ends.Stuck = Stuck
 
--- What the run of a program writes with each outcome, whose gate may answer an actor so, by its number and how many of its
--- operations were accepted: a record that is a legal history, in which the clock did the first of its ticks in order, what its
--- threads did and why they did no more, and how it ended. Where the text isn't too long, it is a trace, and its check says that
--- as many lines agree as there are events.
+-- What the run of a program writes with each outcome, if its gate may give these answers. The record is a legal history, in
+-- which the clock did the first of its ticks in order; it shows what its threads did, why each stopped, and how the run ended.
+-- If the text isn't too long, it is a trace, and its check says that as many lines agree as there are events.
 pub record RunsOnThreads (lets : ℕ → ℕ → Bool → Type 0) (c : Config) (tasks : Tasks) (outcome : Outcome)
     (text : List ℕ) : Type 0 where
   pub past : List Event
@@ -78,7 +77,7 @@ pub record RunsOnThreads (lets : ℕ → ℕ → Bool → Type 0) (c : Config) (
   pub text_is : text ≡ run_text (opening_at c) past end
   pub accepted : length text ≤ most_bytes → EndsCheck text Good (agrees_text (length past))
 
--- A gate that is always open answers so.
+-- A gate that is always open gives these answers.
 abbrev pub open_lets : ℕ → ℕ → Bool → Type 0
 open_lets actor ordinal may = may ≡ true
 

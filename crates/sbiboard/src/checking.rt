@@ -16,11 +16,11 @@ use itoa::Buffer;
 use monitor::{Failed, Sink, print_reply, write_all};
 use std::alloc::{AllocError, Global};
 
-/// Reads a trace to its end, makes its board, runs the trace on it line by line, and writes whether each line says
-/// what the board answers: `agrees K` with the count of the lines, or `differs at line L: REPLY` with the board's own
-/// reply or refusal to the first that doesn't. At a line `cut` the board's history is cut. Nothing is written before the trace is read and the board made; at most
-/// 16,777,217 bytes are read, and after a failed read the writer is as it was. An empty script is a trace without lines;
-/// a program or a schedule is of the wrong kind.
+/// Reads a trace to its end, makes its board, does the trace's steps on it, and writes whether each line has the board's
+/// answer: `agrees K` with the number of lines, or `differs at line L: REPLY` with the board's own reply or refusal at the
+/// first line that differs. A line `cut` cuts the board's history. Nothing is written before the trace is read and the board
+/// made; at most 16,777,217 bytes are read, and after a failed read the writer is as it was. An empty script is a trace without
+/// lines; a program or a schedule is of the wrong kind.
 pub fn check<R: Source, W: Sink>(alloc: Global, reader: &mut R, writer: &mut W) -> Outcome
     requires reader_counts { R.failures reader.old < 2 ^ 63 }
     requires writer_counts { W.failures writer.old < 2 ^ 63 }
@@ -36,7 +36,7 @@ pub fn check<R: Source, W: Sink>(alloc: Global, reader: &mut R, writer: &mut W) 
     run(Job::Check, alloc, reader, writer)
 }
 
-/// The first line of a trace that says otherwise than the board.
+/// The first line of a trace that differs from the board's answer.
 #[derive(Clone, Copy)]
 struct Difference {
     /// The line's number.
@@ -72,11 +72,11 @@ pub fn check_lines<W: Sink>(
     }
 }
 
-/// Takes the board through the lines, up to the first that says otherwise.
+/// Does the lines on the board, up to the first that differs.
 ///
 /// # Errors
 ///
-/// Memory for a cut was refused, up to which all lines agree.
+/// An allocation for a cut failed; all lines before it agree.
 fn first_difference(
     alloc: Global,
     lines: &Lines,
@@ -99,7 +99,7 @@ fn first_difference(
     Ok(None)
 }
 
-/// Whether a line says this answer.
+/// Whether a line has this answer.
 fn agrees(line: &KeptLine, answer: &Result<Reply, Refusal>) -> bool
     ensures { (result ≡ true) ↔ (line.now.said ≡ Some (said_of answer.now)) }
 {

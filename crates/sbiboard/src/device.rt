@@ -13,9 +13,8 @@ pub use source::Source;
 use std::io::{self, Read, Write};
 use std::marker::Model;
 
-/// A reader or a writer of the system. Each call is one call of it, whose answer is handed on. Failed calls are
-/// counted, one that a signal interrupted among them, and so is whether a writer was flushed since it was last
-/// written to.
+/// A reader or a writer of the system. Each call makes one call of it, and returns its answer. It counts failed calls, also
+/// those that a signal interrupted, and knows whether a writer was flushed since the last write.
 #[derive(Debug, Drop)]
 pub struct Device<T> {
     inner: T,
@@ -31,14 +30,14 @@ impl<T> Model for Device<T> {
 }
 
 impl<T> Device<T> {
-    /// A reader or a writer with no failed call. Of what a writer was given before nothing is known to be flushed.
+    /// A reader or a writer without failed calls. Earlier writes aren't known to be flushed.
     pub fn new(inner: T) -> Device<T>
         ensures { result ≡ record { inner = inner; failures = 0; flushed = false } }
     {
         Device::expecting(inner, 0)
     }
 
-    /// The same, of a reader that has about so many bytes.
+    /// The same, for a reader that has about this many bytes.
     pub fn expecting(inner: T, expected: usize) -> Device<T>
         ensures { result ≡ record { inner = inner; failures = 0; flushed = false } }
     {
@@ -64,9 +63,9 @@ impl<T> Device<T> {
     }
 }
 
-/// What the calls of the reader or the writer answered is handed on by these alone.
+/// Only these functions return what calls of the reader or the writer answered.
 impl<T> Device<T> {
-    /// Hands on what a call answered.
+    /// Returns what a call answered.
     fn hand_on<A>(&mut self, answer: io::Result<A>) -> Result<A, Failed>
         requires { self.old.failures < 2 ^ 63 }
         ensures { HandsOn self.old self.new answer result }
@@ -80,7 +79,7 @@ impl<T> Device<T> {
         }
     }
 
-    /// Hands on what a write of a piece answered.
+    /// Returns what a write of a piece answered.
     fn hand_on_write(&mut self, answer: io::Result<usize>, piece: &[u8]) -> Result<usize, Failed>
         requires { self.old.failures < 2 ^ 63 }
         ensures { HandsOnWrite self.old self.new answer piece.now result }
@@ -92,7 +91,7 @@ impl<T> Device<T> {
         Ok(taken)
     }
 
-    /// Hands on what a flush answered.
+    /// Returns what a flush answered.
     fn hand_on_flush(&mut self, answer: io::Result<()>) -> Result<(), Failed>
         requires { self.old.failures < 2 ^ 63 }
         ensures handed { HandsOnFlush self.old self.new answer result }

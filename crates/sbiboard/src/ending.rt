@@ -1,4 +1,4 @@
-//! How the program ends: what it tells, and its status.
+//! How the program ends: its message, and its status.
 ghost use Rattle.std.specs.Prelude.{◌≡◌};
 ghost use Rattle.sbiboard.specs.Outcomes.{EndsWith, IsMemory, StopsWith, status_of, usage_status};
 ghost use Rattle.sbiboard.specs.declared.ending.NoOutcome.TheVariants.{System, Usage};
@@ -9,10 +9,10 @@ use std::alloc::AllocError;
 use std::io;
 use thiserror::Error;
 
-/// Why a run of the program came to no outcome of its task.
+/// Why the program ended without an outcome of its task.
 #[derive(Debug, Drop, Error)]
 pub enum NoOutcome {
-    /// The command line is no task: help or the version was asked for, or it is a fault of usage.
+    /// The command line names no task: it asks for help or the version, or has a fault of usage.
     #[error(transparent)]
     Usage(clap::Error),
     /// A call of the system failed.
@@ -44,9 +44,8 @@ impl From<AllocError> for NoOutcome {
     }
 }
 
-/// Says how a run of the program ended, and answers its exit status (profile). An outcome that isn't good is a line
-/// on standard error; of a command line that is no task clap's text is printed, help and the version on standard
-/// output.
+/// Prints how the program ended, and returns its exit status (profile). An outcome that isn't good is a line on standard error.
+/// For a command line without a task, clap's text is printed; help and the version go to standard output.
 pub fn ended<R: Eprint + Print>(rt: &R, run: Result<Outcome, NoOutcome>) -> u8
     ensures { EndsWith run result }
 {
@@ -57,7 +56,7 @@ pub fn ended<R: Eprint + Print>(rt: &R, run: Result<Outcome, NoOutcome>) -> u8
     }
 }
 
-/// Prints what clap says of a command line that is no task, and answers the status.
+/// Prints clap's text for a command line without a task, and returns the status.
 fn shown<R: Eprint + Print>(rt: &R, error: &clap::Error) -> u8
     ensures { StopsWith (Usage error.now) result }
 {
@@ -71,7 +70,7 @@ fn shown<R: Eprint + Print>(rt: &R, error: &clap::Error) -> u8
     }
 }
 
-/// Says an outcome on standard error, where there is a line to say, and answers its status.
+/// Prints an outcome on standard error if it has a line, and returns its status.
 fn report<R: Eprint>(rt: &R, outcome: Outcome) -> u8
     ensures { result ≡ status_of outcome }
 {
@@ -81,7 +80,7 @@ fn report<R: Eprint>(rt: &R, outcome: Outcome) -> u8
     outcome.status()
 }
 
-/// The status of what clap says of a command line that is no task.
+/// The status of clap's text for a command line without a task.
 fn usage_status(kind: ErrorKind) -> u8
     ensures { result ≡ usage_status kind }
 {

@@ -1,5 +1,5 @@
-//! The numbers of operations and answers fit registers, by their types. These functions do nothing: their clauses say
-//! it where a proof needs it.
+//! The numbers of operations and answers fit registers, by their types. These functions compute nothing: their clauses state it
+//! for proofs.
 
 ghost use Rattle.std.specs.Prelude.{◌≡◌, ◌≤◌, length};
 ghost use Rattle.std.specs.List.{AllByRecursion};
@@ -8,7 +8,7 @@ ghost use Rattle.sbiboard.specs.PrintedScripts.{FitsAnswer, FitsOp};
 
 use board_core::{Op, Refusal, Reply};
 
-/// A law: the numbers of an operation are such as a script can have.
+/// A law: a script can have the numbers of any operation.
 pub fn op_fits(op: Op)
     ensures { FitsOp op }
 {

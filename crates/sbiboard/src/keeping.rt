@@ -1,4 +1,4 @@
-//! A run's record is written while it grows.
+//! Writes a run's record while it grows.
 
 ghost use Rattle.std.specs.Prelude.{◌≡◌, ◌^◌, ◌<◌, true, [], Ok, OnOk};
 ghost use Rattle.printed_lines.specs.Sinks.{Passes};
@@ -44,20 +44,20 @@ pub(crate) struct Step {
     reply: Reply,
 }
 
-/// The lines of a record on their way into a sink, which takes them in their order.
+/// The lines of a record on their way into a sink, in their order.
 #[derive(Drop)]
 struct Lines<K: Sink> {
     sink: K,
     page: Page,
     /// The place of the next line.
     next: u64,
-    /// Steps that came before one that stands in front of them, by their places.
+    /// Steps that arrived before an earlier step, by their places.
     early: BTreeMap<u64, Step>,
 }
 
 impl<K: Sink> Lines<K> {
-    /// Takes the step of a place, and writes the lines of all steps that are there up to the first that isn't, with one call where
-    /// they have room on a page.
+    /// Takes the step of a place, and writes the lines of all steps up to the first that is missing, with one call if they fit
+    /// on a page.
     ///
     /// # Errors
     ///
@@ -80,7 +80,7 @@ impl<K: Sink> Lines<K> {
         Ok(self.page.put(&mut self.sink)?)
     }
 
-    /// Puts the next line behind those that wait on the page.
+    /// Appends the next line to those that wait on the page.
     fn put(&mut self, step: Step) -> Result<(), Failed>
         requires { K.failures self.old.sink < 2 ^ 63 }
         ensures line { Passes K.written K.failures self.old.sink self.new.sink result self.old.page self.new.page
@@ -93,7 +93,7 @@ impl<K: Sink> Lines<K> {
     }
 }
 
-/// The lines that were written, and what was met.
+/// The lines that were written, and the first fault.
 #[derive(Drop)]
 struct Growing<K: Sink> {
     lines: Lines<K>,
@@ -111,7 +111,7 @@ impl<K: Sink> Growing<K> {
     }
 }
 
-/// The gate that is always open, and writes the events that it is told of into a sink: whole lines, in the order of their places.
+/// A gate that is always open, and writes each event into a sink: whole lines, in the order of their places.
 #[derive(Drop)]
 pub(crate) struct Keeper<'r, R, K: Sink> {
     rt: &'r R,
@@ -129,7 +129,7 @@ impl<'r, R: Wait, K: Sink> Keeper<'r, R, K> {
         }
     }
 
-    /// What was met.
+    /// The first fault, if there was one.
     pub(crate) fn met(&self) -> Result<(), KeepFault> {
         self.growing.lock(self.rt).met
     }

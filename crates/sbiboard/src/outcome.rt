@@ -1,4 +1,4 @@
-//! What came of a task, by number.
+//! The outcome of a task, and its number.
 ghost use Rattle.std.specs.Prelude.{◌≡◌};
 ghost use Rattle.std.specs.IoError.{error_kind};
 ghost use Rattle.sbiboard.specs.Outcomes.{FailsAs, is_reported, status_of};

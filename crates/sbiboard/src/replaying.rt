@@ -29,10 +29,10 @@ pub enum Replayed {
     UpToCut,
 }
 
-/// Reads a schedule to its end, makes its board, and writes the board line, each line with its reply, and
-/// the board's table. At a line `cut` the board's history is cut. Where this has at most 16,777,216 bytes, it is a trace with which `check` agrees. Nothing is
-/// written before the schedule is read and the board made; at most 16,777,217 bytes are read, and after a failed read
-/// the writer is as it was. An empty script is a schedule without lines; a program or a trace is of the wrong kind.
+/// Reads a schedule to its end, makes its board, and writes the board line, each line with its reply, and the board's table. A
+/// line `cut` cuts the board's history. If this has at most 16,777,216 bytes, it is a trace with which `check` agrees. Nothing
+/// is written before the schedule is read and the board made; at most 16,777,217 bytes are read, and after a failed read the
+/// writer is as it was. An empty script is a schedule without lines; a program or a trace is of the wrong kind.
 pub fn replay<R: Source, W: Sink>(alloc: Global, reader: &mut R, writer: &mut W) -> Outcome
     requires reader_counts { R.failures reader.old < 2 ^ 63 }
     requires writer_counts { W.failures writer.old < 2 ^ 63 }
@@ -72,7 +72,7 @@ pub fn replay_lines<W: Sink>(
     }
 }
 
-/// Writes all that a schedule's replay prints; or where memory for a cut was refused, what comes before.
+/// Writes all that a schedule's replay prints; if an allocation for a cut fails, what comes before it.
 fn print_replay<W: Sink>(
     alloc: Global,
     config: &Config,
@@ -98,8 +98,7 @@ fn print_replay<W: Sink>(
     Ok(Replayed::ToTheEnd { met_full })
 }
 
-/// Takes the board through the lines, and writes each with its reply; or where memory for a cut was refused, those before
-/// it.
+/// Does the lines on the board, and writes each with its reply; if an allocation for a cut fails, those before it.
 fn print_lines<W: Sink>(
     alloc: Global,
     lines: &Lines,
@@ -128,7 +127,7 @@ fn print_lines<W: Sink>(
     Ok(Replayed::ToTheEnd { met_full: any_full })
 }
 
-/// Takes the board through a line, and prints it with its reply; or where memory for a cut was refused, nothing changed.
+/// Does a line on the board, and prints it with its reply; if an allocation for a cut fails, nothing changes.
 #[inline(always)]
 fn print_done<W: Sink>(
     alloc: Global,
@@ -149,7 +148,7 @@ fn print_done<W: Sink>(
     }
 }
 
-/// Has the board make a step, and prints it with its reply.
+/// Does a step on the board, and prints it with its reply.
 #[inline(always)]
 fn print_made<W: Sink>(
     actor: Actor,
@@ -173,8 +172,8 @@ fn print_made<W: Sink>(
     })
 }
 
-/// Cuts the board's history, and prints that; or where memory was refused, nothing changed. It is apart, so that a step has no
-/// room of its own for what a cut takes.
+/// Cuts the board's history, and prints that; if an allocation fails, nothing changes. It is a function of its own, so that a
+/// step needs no stack for a cut.
 #[cold]
 #[inline(never)]
 fn print_cut<W: Sink>(

@@ -47,7 +47,7 @@ pub fn run<R: Source, W: Sink>(job: Job, alloc: Global, reader: &mut R, writer: 
     }
 }
 
-/// Does a job with a script, where it is of the job's kind.
+/// Does a job with a script, if it is of the job's kind.
 fn outcome_of_script<W: Sink>(job: Job, alloc: Global, script: Script, writer: &mut W) -> Outcome
     requires read { (bytes : List ℕ) × Reads bytes (written script) }
     requires counts { W.failures writer.old < 2 ^ 63 }
@@ -77,7 +77,7 @@ fn lines_for(job: Job, alloc: Global, body: Body) -> Option<Lines>
     }
 }
 
-/// How a run ends that read no script.
+/// How a run without a script ends.
 pub fn unread(fault: ReadFault) -> Outcome
     ensures { result ≡ unread_as fault }
 {
@@ -122,13 +122,12 @@ fn run_lines<W: Sink>(
     }
 }
 
-/// Has the board do what a line does, and answers what it answered: a cut is done. The part of the history that is cut off
-/// is dropped.
+/// Makes the board do a line, and returns the answer: a cut is done. The part of the history that a cut returns is dropped.
 ///
 /// # Errors
 ///
-/// Memory for a cut was refused, and the board is as it was. (So it is where the board's places would not suffice, which
-/// no script reaches.)
+/// An allocation for a cut failed, and the board is as it was. (The same if the board has too many places for a cut, which no
+/// script reaches.)
 #[inline(always)]
 pub fn answer_to(
     alloc: Global,
@@ -146,7 +145,7 @@ pub fn answer_to(
     }
 }
 
-/// Cuts the board's history. It is apart, so that a step has no room of its own for what a cut takes.
+/// Cuts the board's history. It is a function of its own, so that a step needs no stack for a cut.
 #[cold]
 #[inline(never)]
 pub fn cut(alloc: Global, board: &mut Board) -> Result<Result<Reply, Refusal>, AllocError>

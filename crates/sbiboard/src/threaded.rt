@@ -48,10 +48,10 @@ impl KeptRun {
 }
 
 /// Reads a program to its end, runs it on threads, one for each hart and one for the clock, and writes the board line, the
-/// events of the record, the board's table and how it ended. Where this has at most 16,777,216 bytes, it is a trace with
-/// which `check` agrees. Nothing is written before the threads have ended; at most 16,777,217 bytes are read, and after a
-/// failed read the writer is as it was. An empty script is a program without blocks; a schedule or a trace is of the wrong
-/// kind. Each thread asks the gate before each of its operations.
+/// events of the record, the board's table and how it ended. If this has at most 16,777,216 bytes, it is a trace with which
+/// `check` agrees. Nothing is written before the threads have ended; at most 16,777,217 bytes are read, and after a failed read
+/// the writer is as it was. An empty script is a program without blocks; a schedule or a trace is of the wrong kind. Each
+/// thread asks the gate before each of its operations.
 pub fn run_script<S: Source, W: Sink, G: Gate + Sync, R: AllocGlobal + Threads + Wait + Sync>(
     rt: &R,
     reader: &mut S,
@@ -76,10 +76,10 @@ pub fn run_script<S: Source, W: Sink, G: Gate + Sync, R: AllocGlobal + Threads +
     }
 }
 
-/// As `run_script` with a gate that is always open, and the record is kept in a file of this name while it grows: the board
-/// line, and a line for each event, whole lines in the order of their places. The file is made, or what it had is dropped, once
-/// the program is read and its board's numbers are good. What is kept changes nothing of the run: where it can't be written any
-/// more, the run goes on to its end without.
+/// Like `run_script` with a gate that is always open, but the record is also written into a file of this name while it grows:
+/// the board line, and a line for each event, whole lines in the order of their places. The file is created or emptied once the
+/// program is read and its board's numbers are good. If the file can't be written any more, the run goes on to its end without
+/// it.
 ///
 /// # Errors
 ///
@@ -120,7 +120,7 @@ where
     })
 }
 
-/// A run of which nothing was to be kept.
+/// A run without a kept record.
 fn unkept(outcome: Outcome) -> KeptRun
     ensures { result.outcome ≡ outcome }
 {
@@ -130,7 +130,7 @@ fn unkept(outcome: Outcome) -> KeptRun
     }
 }
 
-/// Runs a script that was read, where it is a program.
+/// Runs a script, if it is a program.
 fn run_read<W: Sink, G: Gate + Sync, R: AllocGlobal + Threads + Wait + Sync>(
     rt: &R,
     script: &Script,

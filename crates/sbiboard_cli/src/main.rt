@@ -1,5 +1,5 @@
-//! The program: `sbiboard replay FILE`, `sbiboard check FILE` and `sbiboard run [--keep FILE2] FILE`. It opens the file and standard output,
-//! lends them to the library, and ends with the status that the library answers.
+//! The program: `sbiboard replay FILE`, `sbiboard check FILE` and `sbiboard run [--keep FILE2] FILE`. It opens the files and
+//! standard output, passes them to the library, and exits with the status that the library returns.
 #![tactic(auto)]
 
 use hart_threads::Open;
@@ -33,7 +33,7 @@ where
     done(rt, task, script)
 }
 
-/// Opens the script of a task, whose record must not be kept in the script's place.
+/// Opens the script of a task. The record must not be kept in the script's own file.
 fn script_of<R: Files>(rt: &R, task: Subcommand<'_>) -> Result<R::File, NoOutcome> {
     let (Subcommand::Run { file, .. } | Subcommand::Replay(file) | Subcommand::Check(file)) = task;
     let script = fs::open(rt, file)?;
@@ -72,7 +72,7 @@ where
     })
 }
 
-/// Whether a path is that of an open file, which a record that is kept there would take the place of.
+/// Whether a path is that of an open file, which a record kept there would overwrite.
 fn is_of<R: Files>(rt: &R, file: &R::File, path: &str) -> bool {
     match (file.metadata(), fs::metadata(rt, path)) {
         (Ok(own), Ok(named)) => own.dev() == named.dev() && own.ino() == named.ino(),

@@ -1,4 +1,4 @@
-//! What the command lines of `test` and `explore` ask for.
+//! The command lines of `test` and `explore`.
 ghost use Rattle.std.specs.Prelude.{◌<◌};
 
 use crate::early::Early;
@@ -41,24 +41,24 @@ const MOST_JOBS: u64 = 256;
 const AFTER: &str = "\
 A condition is a comment of a script that begins with `#!`, as in
   #! never 2 load 0x1000 -> value 0x11 after 0 poll -> ret 0 _
-docs/FORMATS.md has all of them. What is told are points of the Test Anything Protocol.
-Of a program with few states all orders are looked at, as by `explore`; of another one, and where --times, --seed, --order or
---threads is given, orders that the seed picks are tried.
+docs/FORMATS.md has all of them. The output is points of the Test Anything Protocol.
+If a program has few states, all of its orders are judged, as by `explore`; otherwise, and with --times, --seed, --order or
+--threads, orders that the seed picks.
 
 Exit status: 0 all hold, 1 some don't, 2 usage, 6 no memory, 7 input or output failed, 8 not all was judged.";
 
 const AFTER_EXPLORE: &str = "\
 A condition is a comment of a script that begins with `#!`, as `#! never 2 load 0x1000 -> value 0x11`; docs/FORMATS.md has all.
-What holds in all orders of steps, of any length that the program allows, is proved to hold in all histories of it.
-A state takes some 2 KB for three harts, of whose RAM most words are 0.
+A condition that holds in all orders, of any length, is proved to hold in all histories of the program.
+A state takes some 2 KB for three harts whose RAM is mostly 0.
 
 Exit status: 0 all hold, 1 some don't, 2 usage, 6 no memory, 7 input or output failed, 8 not all was judged or seen.";
 
-/// What the words of a command line ask for, the program's own name first.
+/// Reads the words of a command line, the program's own name first.
 ///
 /// # Errors
 ///
-/// What clap says of them: a fault of usage, or the help or the version that was asked for; or want of memory.
+/// Clap's text: a fault of usage, help or the version; or an allocation failed.
 pub(crate) fn options_of<'a, R: AllocGlobal + Clock + Threads>(
     rt: &R,
     words: &'a [String],
@@ -93,7 +93,7 @@ pub(crate) fn options_of<'a, R: AllocGlobal + Clock + Threads>(
     })
 }
 
-/// What the files are asked for, by the program's own name.
+/// Whether to test or to explore, by the program's own name.
 fn mode_of(words: &[String]) -> Mode {
     match words.first() {
         Some(name) if name.as_str() == EXPLORE => Mode::Explore,
@@ -158,44 +158,38 @@ fn described_exploring<'a>(alloc: Global) -> Result<Command<'a>, AllocError> {
         .bin_name(EXPLORE)?
         .about("Look at all orders of a program, and judge its conditions")
         .after_help(AFTER_EXPLORE);
-    let states = number(alloc, STATES, "N", "How many states may be found");
+    let states = number(alloc, STATES, "N", "The limit of states");
     let command = command.arg(states.default_value("1000000"))?;
     let no_outcomes = Arg::new(alloc, NO_OUTCOMES)
         .long(NO_OUTCOMES)
         .action(ArgAction::SetTrue)
-        .help("Don't tell what each load gave last");
+        .help("Don't report what each load gave last");
     let command = command.arg(no_outcomes)?;
-    let about = "Look at orders for so many seconds at most";
+    let about = "Explore orders for at most N seconds";
     let command = command.arg(number(alloc, SECONDS, "N", about))?;
     with_files(alloc, command, "Programs, with their conditions")
 }
 
 /// The same, with what says which orders are tried.
 fn with_orders<'a>(alloc: Global, command: Command<'a>) -> Result<Command<'a>, AllocError> {
-    let times = number(
-        alloc,
-        TIMES,
-        "N",
-        "How many orders of each program are tried",
-    );
+    let times = number(alloc, TIMES, "N", "How many orders of each program to try");
     let command = command.arg(times.default_value("1000"))?;
     let seed = number(alloc, SEED, "S", "The seed of the orders");
     let command = command.arg(seed.default_value("0"))?;
-    let order = number(alloc, ORDER, "K", "Try order K of the seed alone");
+    let order = number(alloc, ORDER, "K", "Try only order K of the seed");
     command.arg(order.conflicts_with(TIMES)?)
 }
 
 /// The same, with what says how they are tried.
 fn with_ways<'a>(alloc: Global, command: Command<'a>) -> Result<Command<'a>, AllocError> {
-    let about =
-        "How many orders are tried at a time; as many as there are processors where nothing is said";
+    let about = "How many orders to try at a time (default: one per processor)";
     let command = command.arg(number(alloc, JOBS, "J", about))?;
     let threads = Arg::new(alloc, THREADS)
         .long(THREADS)
         .action(ArgAction::SetTrue)
-        .help("Run each program as often on real threads, too");
+        .help("Also run each program as often on real threads");
     let command = command.arg(threads)?;
-    let about = "Try orders for so many seconds at most";
+    let about = "Try orders for at most N seconds";
     command.arg(number(alloc, SECONDS, "N", about))
 }
 
@@ -209,14 +203,12 @@ fn with_files<'a>(
         .long(FAILED)
         .value_name("DIR")
         .default_value(".")
-        .help(
-            "Where records are written: of each condition that fails, of each `some` that is met",
-        );
+        .help("The folder for records of conditions that fail, and of each `some` that is met");
     let command = command.arg(failed)?;
     let tap = Arg::new(alloc, TAP)
         .long(TAP)
         .value_name("FILE")
-        .help("Write the points into FILE, too");
+        .help("Also write the points into FILE");
     let command = command.arg(tap)?;
     let file = Arg::new(alloc, FILE)
         .required(true)

@@ -1,22 +1,22 @@
-//! A board under the lines of a schedule or a trace.
+//! A board that does the lines of a schedule or a trace.
 use crate::stale::Expected;
 use board_core::{Board, Event, Refusal, Reply};
 use guest_script::{Doing, KeptLine};
 use std::alloc::{AllocError, Global};
 use test_report::{Note, RecordParts};
 
-/// A board under a schedule or a trace, with what was cut off its history.
+/// A board that does a schedule or a trace, with the events before its cuts.
 #[derive(Drop)]
 pub(crate) struct Course {
     board: Board,
     /// The events before each cut, since the one before.
     segments: Vec<Vec<Event>>,
-    /// Where it used what isn't there any more, or refused a step.
+    /// Stale accesses, and refused steps.
     pub(crate) noted: Vec<Note>,
 }
 
 impl Course {
-    /// A board of which nothing was cut off.
+    /// A board without a cut.
     pub(crate) fn of(alloc: Global, board: Board) -> Course {
         Course {
             board,
@@ -25,7 +25,7 @@ impl Course {
         }
     }
 
-    /// Has the board do what a line does. A cut is always done.
+    /// Makes the board do a line. A cut always succeeds.
     pub(crate) fn answer(
         &mut self,
         alloc: Global,
@@ -50,7 +50,7 @@ impl Course {
         Ok(answer)
     }
 
-    /// All events, also those that were cut off, oldest first.
+    /// All events, also those before cuts, oldest first.
     pub(crate) fn events(&self, alloc: Global) -> Result<Vec<Event>, AllocError> {
         let mut events = Vec::new(alloc);
         for segment in self.segments.iter() {

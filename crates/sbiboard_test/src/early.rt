@@ -1,14 +1,14 @@
-//! Why the program ends early, and its status.
+//! Why the program ends early, and with which status.
 use clap::error::ErrorKind;
 use std::alloc::AllocError;
 use std::io;
 use test_report::Unwritten;
 use test_terms::Stop;
 
-/// Why not all that was asked for is told.
+/// Why the program ends early.
 #[derive(Debug, Drop)]
 pub(crate) enum Early {
-    /// Help or the version was asked for, or the command line is a fault of usage.
+    /// The command line asks for help or the version, or has a fault of usage.
     Usage(clap::Error),
     /// The test ended early.
     Stop(Stop),
@@ -38,7 +38,7 @@ impl From<io::Error> for Early {
     }
 }
 
-/// Says why the program ends early, and answers its status.
+/// Prints why the program ends early, and returns its status.
 pub(crate) fn told<R: Eprint + Print>(rt: &R, early: &Early) -> u8 {
     match early {
         Early::Usage(error) => shown(rt, error),
@@ -46,7 +46,7 @@ pub(crate) fn told<R: Eprint + Print>(rt: &R, early: &Early) -> u8 {
     }
 }
 
-/// Says why the files were not all tested, and answers the status.
+/// Prints why not all files were tested, and returns the status.
 fn stopped(rt: &impl Eprint, stop: &Stop) -> u8 {
     match stop {
         Stop::NoMemory => no_memory(rt),
@@ -70,7 +70,7 @@ fn no_memory(rt: &impl Eprint) -> u8 {
     6
 }
 
-/// Prints what clap says of a command line that asks for no test, and answers the status.
+/// Prints clap's text for a command line without files to test, and returns the status.
 fn shown<R: Eprint + Print>(rt: &R, error: &clap::Error) -> u8 {
     if error.kind() == ErrorKind::OutOfMemory {
         return no_memory(rt);

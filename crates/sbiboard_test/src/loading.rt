@@ -1,4 +1,4 @@
-//! A file, read with its conditions, or why it can't be.
+//! Reads a file with its conditions, or returns why it can't be tested.
 use conditions::{Condition, Wrong, conditions};
 use diagnostics::{bad_board, bad_condition, faulty};
 use guest_script::{FaultKind, Script, locate};
@@ -24,7 +24,7 @@ pub(crate) struct Loaded {
 /// Why nothing was loaded.
 #[derive(Debug, Drop)]
 pub(crate) enum Unloaded {
-    /// The file can't be tested: what stands behind its name, the place where there is one, and what is wrong.
+    /// The file can't be tested: the text behind its name, with the place if there is one, and the fault.
     File(String),
     /// Memory was refused.
     NoMemory,
@@ -80,7 +80,7 @@ fn unreadable(alloc: Global, kind: ErrorKind) -> Result<Unloaded, AllocError> {
     Ok(Unloaded::File(format!(in alloc; ": {why}")?))
 }
 
-/// Reads a file, as far as a script may go.
+/// Reads a file, at most one byte more than a script may have.
 fn read<R: AllocGlobal + Files>(rt: &R, file: &str) -> io::Result<Vec<u8>> {
     let mut text = Vec::new(rt.alloc());
     fs::open(rt, file)?.take(READ_LIMIT).read_to_end(&mut text)?;

@@ -1,5 +1,5 @@
-//! The program behind `sbiboard test` and `sbiboard explore`: it looks at all orders of programs or tries some, replays schedules
-//! and compares traces, judges the records by the scripts' conditions, and tells what it found as points of the Test Anything
+//! The program behind `sbiboard test` and `sbiboard explore`. It explores all orders of programs or tries some, replays
+//! schedules, and compares traces. It judges the records by the scripts' conditions, and prints points of the Test Anything
 //! Protocol.
 #![tactic(auto)]
 
@@ -40,7 +40,7 @@ fn main(rt: HostRuntime) -> ExitCode {
     })
 }
 
-/// Does what the command line asks for, and answers what is found of all points.
+/// Does what the command line asks for, and returns the verdict on all points.
 fn run<R: AllocGlobal + Clock + Env + Eprint + Files + Print + Sync + Threads + Wait>(
     rt: &R,
     screen: Screen,
@@ -50,7 +50,7 @@ fn run<R: AllocGlobal + Clock + Env + Eprint + Files + Print + Sync + Threads + 
     Ok(test_all(rt, &options)?)
 }
 
-/// Tests each file, and tells its points as soon as they are known; then the plan and the summary.
+/// Tests each file, and prints its points as soon as they are known; then the plan and the summary.
 fn test_all<R: AllocGlobal + Clock + Eprint + Files + Print + Sync + Threads + Wait>(
     rt: &R,
     options: &Options<'_>,

@@ -1,4 +1,4 @@
-//! Where a report goes: standard output, and a file too where one is named.
+//! Where a report goes: standard output, and the file of `--tap`.
 use std::alloc::{AllocError, Global};
 use std::fs;
 use std::io::{self, ErrorKind, Write};
@@ -20,7 +20,7 @@ pub(crate) struct Output<'a, R: Files> {
 }
 
 impl<'a, R: AllocGlobal + Clock + Files + Print> Output<'a, R> {
-    /// Makes the named file, which must not take the place of a file that is tested.
+    /// Creates the file of `--tap`, which must not be one of the tested files.
     pub(crate) fn begin(rt: &'a R, options: &'a Options<'a>) -> Result<Output<'a, R>, Stop> {
         let alloc = rt.alloc();
         let style = if options.screen.is_read {
@@ -44,7 +44,7 @@ impl<'a, R: AllocGlobal + Clock + Files + Print> Output<'a, R> {
         })
     }
 
-    /// Tells what is found of a file.
+    /// Prints the points of a file.
     pub(crate) fn tell_file(&mut self, file: &FileReport) -> Result<(), Stop> {
         let alloc = self.rt.alloc();
         self.shown.put_file(alloc, file)?;
@@ -54,7 +54,7 @@ impl<'a, R: AllocGlobal + Clock + Files + Print> Output<'a, R> {
         self.tell()
     }
 
-    /// Tells the plan and the summary, and at a terminal how long it took.
+    /// Prints the plan and the summary, and on a terminal the time taken.
     pub(crate) fn end(&mut self, report: &Report) -> Result<(), Stop> {
         self.shown.put_summary(report)?;
         self.kept.put_summary(report)?;
@@ -66,7 +66,7 @@ impl<'a, R: AllocGlobal + Clock + Files + Print> Output<'a, R> {
         Ok(())
     }
 
-    /// Prints what isn't told yet, and writes it into the named file.
+    /// Prints what isn't printed yet, and writes it into the file of `--tap`.
     fn tell(&mut self) -> Result<(), Stop> {
         self.rt.print(self.shown.text.as_str())?;
         self.shown.text.clear();
@@ -81,7 +81,7 @@ impl<'a, R: AllocGlobal + Clock + Files + Print> Output<'a, R> {
     }
 }
 
-/// Makes the file of the points, which must not take the place of a file that is tested.
+/// Creates the file of the points, which must not be one of the tested files.
 fn created<R: Files>(rt: &R, path: &str, files: &[&str]) -> Result<R::File, io::Error> {
     for file in files {
         if are_one(rt, path, file) {

@@ -2,8 +2,8 @@
 use std::alloc::{AllocError, Global};
 use std::collections::BTreeSet;
 
-/// For each file what the names of its records begin with: its own name without folders, and where an earlier file has that, with a
-/// number behind it. So no record takes the place of another file's.
+/// For each file, how the names of its records begin: its own name without folders, with a number behind it if an earlier file
+/// has that name. So no record overwrites another file's.
 pub(crate) fn record_names(alloc: Global, files: &[&str]) -> Result<Vec<String>, AllocError> {
     let mut taken: BTreeSet<String> = BTreeSet::new(alloc);
     for file in files {
@@ -25,7 +25,7 @@ pub(crate) fn record_names(alloc: Global, files: &[&str]) -> Result<Vec<String>,
     Ok(names)
 }
 
-/// A file's name with the first number behind it that makes it another one than these.
+/// A file's name with the first number behind it that makes it unique.
 fn numbered(alloc: Global, name: &str, taken: &BTreeSet<String>) -> Result<String, AllocError> {
     let mut found = format!(in alloc; "{name}~2")?;
     for number in 3..u64::MAX {

@@ -1,8 +1,8 @@
-//! Which accesses were answered by what isn't there any more.
+//! Stale accesses: those that used a translation or a word that a walk, or memory, no longer gives.
 use board_core::{Actor, Board, Cause, Event, Kind, Leaf, Op, Reply};
 use test_report::Stale;
 
-/// What a walk would give where a step is an access, as the board is before it.
+/// What a walk would give for an access, on the board before it.
 #[derive(Clone, Copy, Debug)]
 pub(crate) struct Expected {
     kind: Kind,
@@ -10,7 +10,7 @@ pub(crate) struct Expected {
 }
 
 impl Expected {
-    /// What a walk gives a hart that there is now, where the step is an access.
+    /// What a walk gives an existing hart, if the step is an access.
     pub(crate) fn of(board: &Board, actor: Actor, op: Op) -> Option<Expected> {
         let Actor::Hart(h) = actor else {
             return None;
@@ -28,7 +28,7 @@ impl Expected {
         Some(Expected { kind, walked })
     }
 
-    /// What the access used that isn't there any more, once it was made.
+    /// What the access used that is stale, after it was made.
     pub(crate) fn stale(&self, board: &Board, event: &Event) -> Option<Stale> {
         let used = event.translation();
         if let Some(entry) = &used
@@ -50,7 +50,7 @@ impl Expected {
         }
     }
 
-    /// Whether a walk gave another leaf. One without the right fails, and so does the walk.
+    /// Whether a walk gave another leaf. If the leaf lacks the right, the access fails, and so does the walk.
     fn is_other(&self, leaf: &Leaf) -> bool {
         match self.walked {
             Ok(walked) => walked != *leaf,

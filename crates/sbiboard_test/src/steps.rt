@@ -1,4 +1,4 @@
-//! Schedules that are replayed, and traces that are compared.
+//! Replays schedules, and compares traces.
 use crate::course::Course;
 use conditions::{Condition, Rule};
 use diagnostics::Walk;
@@ -30,7 +30,7 @@ pub(crate) fn test_steps<R: AllocGlobal + Files>(trial: &Trial<'_, R>) -> Result
     Ok(file)
 }
 
-/// Makes each step of a schedule, whatever is refused. Without conditions that is the point.
+/// Does each step of a schedule, also after refusals. Without conditions the schedule is the point.
 fn replay<R: AllocGlobal>(
     trial: &Trial<'_, R>,
     course: &mut Course,
@@ -50,7 +50,7 @@ fn replay<R: AllocGlobal>(
     note_lines(course, file)
 }
 
-/// Compares each line of a trace with the board's own answer, goes on with that, and tells all lines that differ.
+/// Compares each line of a trace with the board's own answer, goes on with that, and reports all lines that differ.
 fn compare<R: AllocGlobal>(
     trial: &Trial<'_, R>,
     course: &mut Course,

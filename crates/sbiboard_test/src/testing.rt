@@ -1,4 +1,4 @@
-//! One file of `test` or `explore`, by what it is.
+//! Tests one file of `test` or `explore`, by its kind.
 ghost use Rattle.std.specs.Prelude.{◌≡◌, true};
 ghost use Rattle.guest_script.specs.Grammar.{content};
 ghost use Rattle.guest_programs.specs.Programs.{IsProgram};
@@ -16,7 +16,7 @@ use test_report::{FileReport, Mode, Point, Verdict, comments, named, unasked};
 use test_terms::{Options, Stop, Trial};
 use tried_orders::{test_orders, test_runs};
 
-/// Tests a file. One that can't be read, or has a fault, is a point that fails.
+/// Tests a file. A file that can't be read, or has a fault, is a failing point.
 pub(crate) fn test_file<'a, R: AllocGlobal + Clock + Eprint + Files + Sync + Threads + Wait>(
     rt: &'a R,
     options: &'a Options<'a>,
@@ -76,7 +76,7 @@ fn test_script<R: AllocGlobal + Clock + Eprint + Files + Sync + Threads + Wait>(
     test_steps(trial)
 }
 
-/// Tests a program: by all orders, where these are asked for or are looked at soon, or else by some.
+/// Tests a program: by all orders for `explore` or if its states are few, otherwise by some.
 fn test_program<R: AllocGlobal + Clock + Eprint + Files + Sync + Threads + Wait>(
     trial: &Trial<'_, R>,
 ) -> Result<FileReport, Stop>

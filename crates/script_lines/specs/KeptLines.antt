@@ -34,8 +34,7 @@ abbrev pub plain_line : (number : ℕ) → Plain → (numbers : List ℕ) → Li
 plain_line number plain
     numbers = record { number = number; doing = Step plain.actor (op_made plain.op numbers); said = plain.said }
 
--- The line says what was given where the first of these lines does, and there alone: a trace's lines all do, and a schedule's
--- none.
+-- The line has a reply if and only if the first of these lines has one: a trace's lines all have one, a schedule's none.
 abbrev pub IsLike : List Line → Line → Type 0
 IsLike [] line = Unit {0}
 IsLike (first ∷ lines) line = is_some first.said ≡ is_some line.said

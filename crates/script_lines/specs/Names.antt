@@ -1,5 +1,5 @@
--- The one table of operations and replies: the word of each, the numbers that may follow it, whether a guest may do it, and
--- what is made of them (profile).
+-- The one table of operations and replies: the word of each, the numbers that may follow it, whether a guest may do it, and the
+-- resulting value (profile).
 use Rattle.std.specs.Prelude.{ℕ, ◌-◌, ◌^◌, Bool, true, false, ◌==◌, nat_lt, if◌then◌else◌, List, [], ◌∷◌, ◌++◌, length, slice_index_or, codes, Option, None, unwrap_or}
 use Rattle.std.specs.Int.{w64, cast_signed}
 use Rattle.std.specs.List.{find}
@@ -30,19 +30,19 @@ last_hart = LAST_HART
 abbrev pub any_numbers : (least most : ℕ) → Places
 any_numbers least most = record { least = least; most = most; limit = last_number; may_be_absent = false }
 
--- the argument in a place, and its number, which is 0 where there is none
+-- the argument in a place, and its number, which is 0 if absent
 abbrev pub argument_at : List (Option ℕ) → ℕ → Option ℕ
 argument_at arguments i = slice_index_or arguments i None
 
--- the number of the argument in a place, which is 0 where there is none
+-- the number of the argument in a place, which is 0 if absent
 abbrev pub number_at : List (Option ℕ) → ℕ → ℕ
 number_at arguments i = unwrap_or (argument_at arguments i) 0
 
--- the number in a place, or another one where there are fewer
+-- the number in a place, or another one if there are fewer
 abbrev pub number_or : (other : ℕ) → List (Option ℕ) → ℕ → ℕ
 number_or other arguments i = if nat_lt i (length arguments) then number_at arguments i else other
 
--- the first of the names whose word this is
+-- the first of the items with this word
 abbrev pub by_word : {A : Type 0} → (A → List ℕ) → List A → List ℕ → Option A
 by_word word_of names word = find (λ name. bytes_eq word (word_of name)) names
 
@@ -110,7 +110,7 @@ op_places Serve = any_numbers 0 0
 op_places Advance = any_numbers 0 0
 op_places Tick = any_numbers 1 1
 
--- whether a guest may do it, or the firmware of a hart and the clock alone
+-- whether a guest may do it; otherwise only a hart's firmware or the clock may
 abbrev pub is_guests : OpName → Bool
 is_guests Poll = false
 is_guests Serve = false

@@ -1,4 +1,4 @@
-//! A line where it is kept: its parts are made when they are asked for.
+//! A line in its packed form, whose parts are made on request.
 ghost use Rattle.std.specs.Prelude.{◌≡◌, length};
 ghost use Rattle.script_lines.specs.declared.script.Line.{Line};
 ghost use Rattle.script_lines.specs.KeptLines.{line_of, number_count};
@@ -8,7 +8,7 @@ use crate::said::Said;
 use crate::script::{Doing, Line};
 use std::marker::Model;
 
-/// A line of a schedule or of a trace, where it is kept: each of its parts is made when it is asked for.
+/// A line of a schedule or of a trace in its packed form. Each part is made on request.
 #[derive(Drop)]
 pub struct KeptLine<'a> {
     pub(crate) kept: &'a LineShape,
@@ -40,7 +40,7 @@ impl<'a> KeptLine<'a> {
         self.kept.doing.doing(&self.numbers[..end])
     }
 
-    /// What it gave: in a trace, and there alone.
+    /// The reply, only in a trace.
     pub fn said(&self) -> Option<Said>
         ensures { result ≡ self.now.said }
     {

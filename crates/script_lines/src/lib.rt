@@ -1,4 +1,4 @@
-//! The values of scripts, and the lines of schedules and traces as they are kept (profile).
+//! Scripts as values, and the packed lines of schedules and traces (profile).
 #![tactic(auto)]
 
 mod kept_line;

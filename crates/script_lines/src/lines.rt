@@ -117,7 +117,7 @@ impl Lines {
             && self.is_like(line)
     }
 
-    /// Whether a line says what was given exactly where the first of these does, if there is one.
+    /// Whether a line has a reply if and only if the first of these has one, if there is one.
     fn is_like(&self, line: &Line) -> bool
         ensures { (result ≡ true) ↔ IsLike self.now line.now }
     {
@@ -127,8 +127,8 @@ impl Lines {
         }
     }
 
-    /// Takes room for the lines of so many bytes at once, if they are many and there is memory: systems give large pages to
-    /// what is large from the beginning.
+    /// Reserves room for the lines of this many bytes at once, if they are many and there is memory: systems give large pages
+    /// to what is large from the beginning.
     pub fn expect(&mut self, bytes: usize)
         ensures { self.new ≡ self.old }
     {

@@ -139,7 +139,7 @@ impl OpShape {
     }
 }
 
-/// The number in a place, which is 0 where there is none.
+/// The number in a place, or 0.
 pub fn number_from(numbers: &[u64], place: usize) -> u64
     ensures { result ≡ number_from numbers.now place }
 {
@@ -167,7 +167,7 @@ fn regs(numbers: &[u64]) -> Regs
     }
 }
 
-/// Puts two numbers behind the others.
+/// Appends two numbers.
 fn put_two(first: u64, second: u64, numbers: &mut Vec<u64>)
     requires { vec_len numbers.old + 2 ≤ vec_capacity numbers.old }
     ensures numbers { numbers.new.items ≡ numbers.old.items ++ first ∷ second ∷ [] }
@@ -178,7 +178,7 @@ fn put_two(first: u64, second: u64, numbers: &mut Vec<u64>)
     numbers.push_reserved(second);
 }
 
-/// Puts the numbers of a local fence that it has, and tells its shape by them.
+/// Appends the numbers of a local fence, and returns its shape, which says which it has.
 fn put_fence(va: Option<u64>, asid: Option<u64>, numbers: &mut Vec<u64>) -> OpShape
     requires { vec_len numbers.old + 2 ≤ vec_capacity numbers.old }
     ensures shape { result ≡ shape_of (Op.Sfence va asid) }
@@ -205,7 +205,7 @@ fn put_fence(va: Option<u64>, asid: Option<u64>, numbers: &mut Vec<u64>) -> OpSh
     }
 }
 
-/// Puts the numbers of a call, without the arguments that are 0 to its end.
+/// Appends the numbers of a call, without trailing arguments that are 0.
 fn put_call(regs: Regs, numbers: &mut Vec<u64>)
     requires { vec_len numbers.old + OP_NUMBERS ≤ vec_capacity numbers.old }
     ensures numbers { numbers.new.items ≡ numbers.old.items ++ op_numbers (Op.Ecall regs) }
@@ -219,7 +219,7 @@ fn put_call(regs: Regs, numbers: &mut Vec<u64>)
     put_all(&regs.a[..count], numbers);
 }
 
-/// Puts numbers behind the others.
+/// Appends numbers.
 pub fn put_all(more: &[u64], numbers: &mut Vec<u64>)
     requires { vec_len numbers.old + length more.now ≤ vec_capacity numbers.old }
     ensures numbers { numbers.new.items ≡ numbers.old.items ++ more.now }

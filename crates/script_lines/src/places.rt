@@ -42,14 +42,14 @@ pub fn argument_at(arguments: &[Option<u64>], place: usize) -> Option<u64>
     }
 }
 
-/// The number in a place, which is 0 where there is none.
+/// The number in a place, or 0.
 pub fn number_at(arguments: &[Option<u64>], place: usize) -> u64
     ensures { result ≡ number_at arguments.now place }
 {
     argument_at(arguments, place).unwrap_or(0)
 }
 
-/// The number in a place, or another one where there are fewer.
+/// The number in a place, or another one if there are fewer.
 pub fn number_or(other: u64, arguments: &[Option<u64>], place: usize) -> u64
     ensures { result ≡ number_or other arguments.now place }
 {

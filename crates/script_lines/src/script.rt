@@ -60,6 +60,6 @@ pub struct Line {
     pub number: u64,
     /// What it does.
     pub doing: Doing,
-    /// What it gave: in a trace, and there alone.
+    /// The reply, only in a trace.
     pub said: Option<Said>,
 }

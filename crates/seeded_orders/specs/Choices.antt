@@ -1,4 +1,4 @@
--- What is kept of a record (profile).
+-- The choices of a record (profile).
 use Rattle.std.specs.Prelude.{ℕ, ◌+◌, ◌*◌, ◌%◌}
 use Rattle.board_terms.specs.declared.op.Actor.{Actor}
 use Rattle.board_terms.specs.declared.op.Actor.TheVariants as actors
@@ -17,6 +17,6 @@ abbrev pub choice : Actor → Op → ℕ
 choice (actors.Hart h) op = 4 * (h % 128) + own_number op
 choice actors.Clock op = 512
 
--- Of a step: whose it was, and which of its actor's.
+-- The choice of a step: its actor, and which of the actor's steps it is.
 abbrev pub choice_of : Event → ℕ
 choice_of e = choice e.actor e.op

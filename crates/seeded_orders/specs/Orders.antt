@@ -22,12 +22,12 @@ use Rattle.guest_programs.specs.Steps.{actor_of, AreOwn, op_of, steps, Task}
 abbrev pub words_of : (seed order : ℕ) → Lcg
 words_of seed order = started 128 cheap_multiplier seed (increment_of 128 order)
 
--- What picks the steps of an order: two ways take turns.
+-- How an order's steps are picked: even and odd numbers use different ways.
 abbrev pub picker_of : (harts seed order : ℕ) → Picker
 picker_of harts seed order =
     if order % 2 == 0 then Even (words_of seed order) else Ranked (ranking harts (words_of seed order))
 
--- the step that a word picks of these: the one in the place that it leaves, divided by their number
+-- the step that a word picks: the one at the word modulo their number
 abbrev pub picked : (word : ℕ) → List Step → Option Step
 picked word [] = None
 picked word (step ∷ more) = slice_get (step ∷ more) (word % length (step ∷ more))
@@ -49,7 +49,7 @@ abbrev pub past_with : Opening → Task → List Event → Option Step → List 
 past_with o p past None = past
 past_with o p past (Some step) = past_after o past (actor_of step) (op_of o p past step)
 
--- What at most so many turns make of a past, from this one on.
+-- The past after at most this many turns, from this one on.
 unfoldable pub ordered : Opening → Task → (most turn : ℕ) → Picker → List Event → List Event
 ordered o p zero turn picker past = past
 ordered o p (suc most) turn picker past =

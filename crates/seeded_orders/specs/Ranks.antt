@@ -1,11 +1,11 @@
--- Orders by ranks (profile): each kind of step of an actor has one, and two of them fall on the way.
+-- Orders by ranks (profile): each kind of step has a rank, and in two turns a rank falls.
 use Rattle.std.specs.Prelude.{ℕ, zero, suc, ◌+◌, ◌*◌, ◌/◌, ◌%◌, ◌^◌, ◌==◌, nat_le, if◌then◌else◌, List, [], ◌∷◌, get_or, slice_set, Option, Some, None}
 use Rattle.rand_pcg.specs.Lcg.{Lcg}
 use Rattle.rand_pcg.specs.Pcg.{pcg64_dxsm}
 use Rattle.guest_programs.specs.declared.steps.Step.{Step}
 use Rattle.guest_programs.specs.declared.steps.Step.TheVariants as takes
 
--- The ranks by the places of kinds, and the two turns in which the kind that would go falls below all others before.
+-- The ranks of all kinds, and the two turns in which the kind that would go first falls below all others.
 pub record Ranking : Type 0 where
   pub ranks : List ℕ
   pub first : ℕ
@@ -32,19 +32,19 @@ unfoldable pub highest : List ℕ → Option Step → List Step → Option Step
 highest ranks best [] = best
 highest ranks best (step ∷ more) = highest ranks (Some (higher ranks best step)) more
 
--- The ranking in a turn in which this step would go, or none: its kind falls in the two turns, in the second one lowest.
+-- The ranking in a turn in which this step would go first, if any: in the two turns its kind falls, the second time lowest.
 abbrev pub reranked : Ranking → (turn : ℕ) → Option Step → Ranking
 reranked r turn None = r
 reranked r turn (Some step) =
     if turn == r.first then record r { ranks = slice_set r.ranks (place_of step) 1 }
     else if turn == r.second then record r { ranks = slice_set r.ranks (place_of step) 0 } else r
 
--- so many ranks, each half of a word and 2 more, so that those that fall are below all others
+-- this many ranks, each half of a word plus 2, so that fallen ranks are below all others
 unfoldable pub ranks_from : ℕ → Lcg → List ℕ
 ranks_from zero words = []
 ranks_from (suc n) words = ((pcg64_dxsm words).0 / 2 + 2) ∷ ranks_from n (pcg64_dxsm words).1
 
--- the ranking with so many turns to fall in
+-- the ranking with this many turns in which ranks may fall
 abbrev pub ranking_within : (harts span : ℕ) → Lcg → Ranking
 ranking_within harts span words = record {
   ranks = ranks_from (4 * harts + 1) (pcg64_dxsm (pcg64_dxsm words).1).1;
@@ -52,6 +52,6 @@ ranking_within harts span words = record {
   second = (pcg64_dxsm (pcg64_dxsm words).1).0 % span;
 }
 
--- The ranking that a generator gives so many harts: a power of 2 of turns, and two of them.
+-- The ranking that a generator gives this many harts: turns up to a power of 2, and two of them.
 abbrev pub ranking : (harts : ℕ) → Lcg → Ranking
 ranking harts words = ranking_within harts (2 ^ ((pcg64_dxsm words).0 % 12)) (pcg64_dxsm words).1

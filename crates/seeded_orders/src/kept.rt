@@ -1,4 +1,4 @@
-//! What is kept of a record: its choices.
+//! The choices of a record, which distinguish it.
 ghost use Rattle.std.specs.Prelude.{◌≡◌, List, IfOk, map, reverse};
 ghost use Rattle.board_core.specs.Opening.{Opening};
 ghost use Rattle.board_core.specs.History.{Event};
@@ -10,7 +10,7 @@ ghost use Rattle.guest_programs.specs.Steps.{AreOwn, Task};
 use board_core::{Actor, Event, Op};
 use std::alloc::{AllocError, Global};
 
-/// What is kept of a record: of each step, oldest first, whose it was and which of its actor's.
+/// The choices of a record: for each step, oldest first, its actor, and which of the actor's steps it was.
 ///
 /// # Errors
 ///
@@ -47,7 +47,7 @@ fn own_number(op: Op) -> u16
     }
 }
 
-/// Two records of one program on one board of which the same is kept are the same record. A law: there is nothing to run.
+/// Two records of one program on one board with the same choices are the same. A law: there is nothing to run.
 pub fn choices_tell_records()
     ensures { (o : Opening) (p : Task) (one other : List Event) → IsGood o.config → IsLegal o one → IsLegal o other
         → AreOwn p one → AreOwn p other

@@ -1,4 +1,4 @@
-//! Orders of a program's steps, each picked by a generator from a seed in place of threads.
+//! Orders of a program's steps: a generator with a seed picks each step, instead of threads.
 #![tactic(auto)]
 
 mod kept;

@@ -18,8 +18,8 @@ use guest_programs::{
 use guest_script::Script;
 use std::alloc::{AllocError, Global};
 
-/// Runs a program on a new board in the order that a seed and a number pick: each time one of all steps that its actors can
-/// take of themselves.
+/// Runs a program on a new board in the order that a seed and a number pick: each turn one of all steps that its actors can
+/// take on their own.
 ///
 /// # Errors
 ///
@@ -39,8 +39,8 @@ pub fn try_order(alloc: Global, script: &Script, seed: u64, order: u64) -> Resul
     Ok(RunEnd { end, board })
 }
 
-/// Runs a program on a board, which begins anew, in the order that a seed and a number pick: each time one of all steps that
-/// its actors can take of themselves.
+/// Runs a program on a board, which begins anew, in the order that a seed and a number pick: each turn one of all steps that
+/// its actors can take on their own.
 ///
 /// # Errors
 ///
@@ -84,7 +84,7 @@ fn follow_anew(
     end_of(alloc, board, program, met)
 }
 
-/// Takes steps, one a turn, until none can be taken or the history is full; and tells which.
+/// Takes a step each turn until none can be taken or the history is full, and returns which.
 ///
 /// # Errors
 ///
@@ -114,7 +114,7 @@ fn follow<'a>(
     Ok(met_before(&steps))
 }
 
-/// What an order meets before these steps, which it doesn't take.
+/// What an order that ends before these steps has met.
 fn met_before(left: &[Step]) -> Met
     ensures { result ≡ met_before left.now }
 {

@@ -1,4 +1,4 @@
-//! Who picks the next step: all alike, or by ranks.
+//! How the next step is picked: uniformly, or by ranks.
 ghost use Rattle.std.specs.Prelude.{◌≡◌, ◌≤◌, IfOk};
 ghost use Rattle.seeded_orders.specs.Orders.{pick, picked, picker_of};
 
@@ -11,14 +11,14 @@ use std::alloc::{AllocError, Global};
 /// What picks each step of an order (profile).
 #[derive(Drop)]
 pub(crate) enum Picker {
-    /// The next word: each step is as likely.
+    /// The generator's next word: each step is equally likely.
     Even(Pcg64Dxsm),
     /// The rank of its kind.
     Ranked(Ranks),
 }
 
 impl Picker {
-    /// What picks the steps of an order of a seed, for so many harts.
+    /// The picker of an order of a seed, for this many harts.
     ///
     /// # Errors
     ///
@@ -39,7 +39,7 @@ impl Picker {
         Ok(Picker::Ranked(Ranks::new(alloc, harts, &mut words)?))
     }
 
-    /// The step that it picks of these in a turn, from 0, if there is one; and it goes on.
+    /// Picks one of these steps in a turn, from 0, if there is one.
     pub(crate) fn pick(&mut self, turn: u64, steps: &[Step]) -> Option<Step>
         ensures { (result, self.new) ≡ pick self.old turn steps.now }
     {

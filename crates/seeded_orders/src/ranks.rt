@@ -25,7 +25,7 @@ impl Model for Ranks {
 }
 
 impl Ranks {
-    /// The ranks that a generator gives so many harts and the clock, and two of the first turns, at most 2,048.
+    /// The ranks that a generator gives this many harts and the clock, and two of the first turns, at most 2,048.
     ///
     /// # Errors
     ///
@@ -45,7 +45,7 @@ impl Ranks {
         })
     }
 
-    /// The step of the highest rank of these, if there is one. In the two turns the rank of the one that would go falls before.
+    /// The step of the highest rank, if there is one. In two turns, the kind that would go first falls in rank.
     pub(crate) fn pick(&mut self, turn: u64, steps: &[Step]) -> Option<Step>
         ensures ranks { self.new ≡ reranked self.old turn (highest self.old.ranks None steps.now) }
         ensures step { result ≡ highest self.new.ranks None steps.now }
@@ -82,7 +82,7 @@ fn span(word: u64) -> u64
     1 << (word % 12)
 }
 
-/// So many ranks, all above those of the changes.
+/// This many ranks, all above those after a fall.
 fn drawn(alloc: Global, many: u64, words: &mut Pcg64Dxsm) -> Result<Vec<u64>, AllocError>
     ensures { IfOk result (λ v. v.items ≡ ranks_from many words.old) }
 {

@@ -2,7 +2,7 @@
 use guest_programs::End;
 use std::fmt;
 
-/// How many orders end in which way, of each 2^128-1 where there are more.
+/// How many orders end in each way, at most 2^128-1 of each.
 #[derive(Clone, Copy, Debug, PartialEq, Eq)]
 pub struct Counts {
     /// The power was off.
@@ -23,7 +23,7 @@ impl Counts {
         }
     }
 
-    /// So many orders more end so. None that no limit cuts off ends by one.
+    /// Adds orders with this end. No order that has no limit ends by one.
     pub fn see(&mut self, end: End, many: u128) {
         match end {
             End::Off => self.off = self.off.saturating_add(many),
@@ -33,7 +33,7 @@ impl Counts {
         }
     }
 
-    /// The orders of another program were counted, too.
+    /// Adds the orders of another program.
     pub(crate) fn add(&mut self, other: Counts) {
         self.see(End::Off, other.off);
         self.see(End::Quiet, other.quiet);
@@ -100,12 +100,12 @@ pub(crate) fn or_more(many: u128) -> &'static str {
     if many == u128::MAX { " or more" } else { "" }
 }
 
-/// The orders of a program of which all were seen.
+/// The orders of a program, all of which were seen.
 #[derive(Clone, Copy, Debug)]
 pub enum AllOrders {
-    /// They are so many.
+    /// Their number.
     Counted(Counts),
-    /// Some come back to a state, and so have no end; others end at so many states, if any do.
+    /// Some come back to a state, and so are endless; the others, if any, end at this many states.
     Endless(Counts),
 }
 

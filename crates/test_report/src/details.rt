@@ -1,4 +1,4 @@
-//! What stands below a point, as YAML.
+//! The details below a point, as YAML.
 use crate::records::event_line;
 use crate::stuck::StuckHart;
 use board_core::Event;
@@ -33,18 +33,18 @@ impl Unwritten {
     }
 }
 
-/// A line of a trace that wants something else than the board gives.
+/// A line of a trace whose reply isn't the board's.
 #[derive(Debug, Drop)]
 pub struct Difference {
     /// Its number, from 1.
     pub line: u64,
     /// What it says.
     pub wanted: String,
-    /// The line that the board gives.
+    /// The line with the board's reply.
     pub got: String,
 }
 
-/// Something that stands below a point.
+/// A detail below a point.
 #[derive(Debug, Drop)]
 pub enum Detail {
     /// A number, with what it is.
@@ -55,9 +55,9 @@ pub enum Detail {
     Record(String),
     /// Why the record's file could not be written.
     Unwritten(Unwritten),
-    /// The place of a step, from 0, and those around it, each with its place.
+    /// The place of a step, from 0, and the steps around it, each with its place.
     Steps(usize, Vec<(usize, Event)>),
-    /// The harts that wait for ever.
+    /// The harts that can't go on.
     Stuck(Vec<StuckHart>),
     /// The lines of a trace that differ.
     Lines(Vec<Difference>),

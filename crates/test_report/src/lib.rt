@@ -1,5 +1,5 @@
-//! What `test` and `explore` find, as data: of each file its points, with what stands below them and what is noted behind them. Two
-//! ways to show it: as the Test Anything Protocol, version 13, and as a plain text for a terminal.
+//! What `test` and `explore` find, as data: each file's points, with their details and notes. Two renderers print it: as the
+//! Test Anything Protocol, version 13, and as plain text for a terminal.
 #![tactic(auto)]
 
 mod counts;

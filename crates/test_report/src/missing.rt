@@ -1,4 +1,4 @@
-//! A step that a condition needs and no order has, and what there is in its place.
+//! A step that a condition needs and no order has, and what its actor does instead.
 use crate::records::event_line;
 use board_core::{Event, Op};
 use conditions::{Condition, Pattern, Rule};
@@ -7,7 +7,7 @@ use outcome_statistics::{Deed, Visits};
 use std::alloc::{AllocError, Global};
 use std::{fmt, str};
 
-/// How many different numbers are told of a hart, and how many lines of each.
+/// How many different operands of a hart are listed, and how many lines of each.
 const MOST: usize = 8;
 
 /// What numbers an actor's operation has, and in which lines.
@@ -28,7 +28,7 @@ struct Instead {
 /// A step that a condition needs and no order has.
 #[derive(Debug, Drop)]
 pub struct Missing {
-    /// What is written of it.
+    /// Its text in the condition.
     pub said: String,
     /// Such a step has another reply.
     has_other_reply: bool,

@@ -1,14 +1,14 @@
-//! What is noted of a file behind its points, a line each.
+//! Notes behind a file's points, one a line.
 use crate::counts::{AllOrders, or_more};
 use guest_programs::End;
 use std::fmt;
 
-/// What an access used that isn't there any more.
+/// What a stale access used.
 #[derive(Clone, Copy, Debug)]
 pub enum Stale {
     /// A translation that a walk of the page tables wouldn't give.
     Translation,
-    /// A word of the instruction cache that memory hasn't any more.
+    /// A word of the instruction cache that memory no longer has.
     Word,
 }
 
@@ -32,7 +32,7 @@ pub struct LoadGave {
     pub given: Option<Given>,
 }
 
-/// An outcome of a program: what each load gave last, how orders end so, and how often.
+/// An outcome of a program: what each load gave last, how these orders end, and how many they are.
 #[derive(Debug, Drop)]
 pub struct Outcome {
     /// What the loads gave.
@@ -45,12 +45,12 @@ pub struct Outcome {
     pub orders: Option<u128>,
 }
 
-/// Something that is noted of a file.
+/// A note about a file.
 #[derive(Debug, Drop)]
 pub enum Note {
     /// The patterns of the condition of a line met no step.
     NeverMet(u64),
-    /// The access of a line used what isn't there any more.
+    /// The access of a line was stale.
     Stale(u64, Stale),
     /// Behind other words of a line `#!` is a comment.
     NoCondition(u64),
@@ -62,13 +62,13 @@ pub enum Note {
     OnlyErrors(u64, String),
     /// A hart was entered at this address, where no block is.
     NoBlock(u64),
-    /// Not all orders were seen: so many states and steps.
+    /// Not all orders were seen, but these numbers of states and steps.
     NotAllSeen(usize, usize),
     /// All orders.
     Orders(AllOrders),
     /// All states, and the steps between them.
     States(usize, usize),
-    /// So many outcomes, which follow.
+    /// The number of outcomes, which follow.
     Outcomes(usize),
     /// An outcome.
     Outcome(Outcome),

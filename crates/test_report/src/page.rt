@@ -50,7 +50,7 @@ impl Page {
         })
     }
 
-    /// Puts what is found of a file.
+    /// Adds the report of a file.
     pub fn put_file(&mut self, alloc: Global, file: &FileReport) -> Result<(), AllocError> {
         self.put_notes(&file.head)?;
         for point in &file.points {
@@ -60,7 +60,7 @@ impl Page {
         Ok(())
     }
 
-    /// Puts a point, and what stands below it.
+    /// Adds a point and its details.
     fn put_point(&mut self, alloc: Global, point: &Point) -> Result<(), AllocError> {
         self.points = self.points.saturating_add(1);
         match self.style {
@@ -78,7 +78,7 @@ impl Page {
         Ok(())
     }
 
-    /// Puts the plan, and what all files come to.
+    /// Adds the plan and the summary.
     pub fn put_summary(&mut self, report: &Report) -> Result<(), AllocError> {
         let summary = Summary::of(report);
         if self.style == Style::Tap {

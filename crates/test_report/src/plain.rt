@@ -1,10 +1,10 @@
-//! Points for a person who reads them on a terminal.
+//! Points as plain text for a terminal.
 use crate::details::shown;
 use crate::point::Point;
 use crate::verdict::Verdict;
 use std::alloc::{AllocError, Global};
 
-/// Puts a point, and what stands below it.
+/// Adds a point, and its details.
 pub(crate) fn put_point(alloc: Global, point: &Point, text: &mut String) -> Result<(), AllocError> {
     text.push_str(match point.verdict {
         Verdict::Holds => "ok    ",

@@ -1,4 +1,4 @@
-//! A point, and what belongs to it.
+//! A point, with its details.
 use crate::details::{Detail, Unwritten};
 use crate::notes::Note;
 use crate::verdict::{Extent, Said, Verdict};
@@ -6,25 +6,25 @@ use conditions::{Condition, Rule};
 use diagnostics::Case;
 use std::alloc::{AllocError, Global};
 
-/// What was asked of a file, and what was found.
+/// A point: its subject and its verdict.
 #[derive(Debug, Drop)]
 pub struct Point {
-    /// What it is about.
+    /// Its subject.
     pub name: String,
-    /// One order is asked for, and not each.
+    /// It is about some order, not about each.
     is_some: bool,
-    /// What was found.
+    /// Its verdict.
     pub verdict: Verdict,
-    /// How far was looked.
+    /// How far `test` looked.
     pub reach: Extent,
-    /// What stands below it.
+    /// Its details.
     pub details: Vec<Detail>,
-    /// What is noted behind it, of the file.
+    /// The file's notes behind it.
     pub notes: Vec<Note>,
 }
 
 impl Point {
-    /// A point about a file's lines, or about what is wrong with it, of which nothing more is told.
+    /// A point about a file's lines, or about its fault, without details.
     pub fn new(alloc: Global, name: String, verdict: Verdict) -> Point {
         Point {
             name,
@@ -57,7 +57,7 @@ impl Point {
         Ok(point)
     }
 
-    /// What is said of it behind its name.
+    /// The text behind its subject.
     pub(crate) fn said(&self) -> Said<'_> {
         Said {
             verdict: &self.verdict,
@@ -66,7 +66,7 @@ impl Point {
         }
     }
 
-    /// Whether it is as it should be.
+    /// Whether it holds.
     pub(crate) fn holds(&self) -> bool {
         matches!(self.verdict, Verdict::Holds)
     }
@@ -82,7 +82,7 @@ impl Point {
     }
 }
 
-/// What a point of a file is about: a condition, or where there is none the file alone, and what is said behind it.
+/// The subject of a file's point: a condition, or without one the file, and the text behind it.
 pub fn named(
     alloc: Global,
     case: &Case<'_>,

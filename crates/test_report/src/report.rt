@@ -1,4 +1,4 @@
-//! What is found of all files.
+//! The report about all files.
 use crate::counts::AllOrders;
 use crate::details::Unwritten;
 use crate::notes::Note;
@@ -8,19 +8,19 @@ use crate::verdict::Verdict;
 use outcome_statistics::Ends;
 use std::alloc::{AllocError, Global};
 
-/// What files are asked for.
+/// What to do with the files.
 #[derive(Clone, Copy, Debug, PartialEq, Eq)]
 pub enum Mode {
-    /// Their points, by all orders where states are few, or else by some.
+    /// Test them: by all orders if states are few, otherwise by some.
     Test,
-    /// All orders of their programs.
+    /// Explore all orders of their programs.
     Explore,
 }
 
-/// What is found of a file.
+/// The report about a file.
 #[derive(Debug, Drop)]
 pub struct FileReport {
-    /// What is noted before the first point.
+    /// The notes before the first point.
     pub head: Vec<Note>,
     /// Its points: one for each condition, or without any one of the file.
     pub points: Vec<Point>,
@@ -30,7 +30,7 @@ pub struct FileReport {
     pub records: u64,
     /// All orders, where they were seen.
     pub orders: Option<AllOrders>,
-    /// Not all orders were tried or seen that were asked for.
+    /// Not all requested orders were tried or seen.
     pub is_cut: bool,
 }
 
@@ -70,7 +70,7 @@ impl FileReport {
         Ok(())
     }
 
-    /// Whether the point in a place says itself which step there isn't.
+    /// Whether the point in a place names the missing step itself.
     pub fn tells_what_is_missing(&self, place: usize) -> bool {
         match self.points.get(place) {
             Some(point) => matches!(point.verdict, Verdict::Vacuous(_) | Verdict::Misfit(_)),
@@ -95,10 +95,10 @@ impl FileReport {
     }
 }
 
-/// What is found of all files.
+/// The report about all files.
 #[derive(Debug, Drop)]
 pub struct Report {
-    /// What they were asked for.
+    /// Whether they were tested or explored.
     pub mode: Mode,
     /// The files, in the order in which they were named.
     pub files: Vec<FileReport>,
@@ -113,12 +113,12 @@ impl Report {
         }
     }
 
-    /// What is found of all points together.
+    /// The verdict on all points.
     pub fn status(&self) -> Status {
         status_by(&self.files, self.mode == Mode::Test || !self.is_cut())
     }
 
-    /// Whether of some file not all orders were tried or seen.
+    /// Whether for some file not all requested orders were tried or seen.
     pub(crate) fn is_cut(&self) -> bool {
         self.files.iter().any(|file| file.is_cut)
     }

@@ -1,4 +1,4 @@
-//! What is found of all points together.
+//! The verdict on all points together.
 ghost use Rattle.std.specs.Prelude.{◌≡◌, ◌↔◌, true};
 ghost use Rattle.test_report.specs.Statuses.{EachHolds, EachPointHolds, HasFailing, IsFailing, SomeFails};
 ghost use Rattle.test_report.specs.declared.status.Status.TheVariants.{AllHold, SomeFail};
@@ -8,18 +8,18 @@ use crate::point::Point;
 use crate::report::FileReport;
 use crate::verdict::Verdict;
 
-/// What is found of all points together.
+/// The verdict on all points together.
 #[derive(Clone, Copy, Debug, PartialEq, Eq)]
 pub enum Status {
     /// Each holds.
     AllHold,
     /// Some fail.
     SomeFail,
-    /// None fails, and not all was judged or seen.
+    /// None fails, but not everything was judged or seen.
     NotJudged,
 }
 
-/// What is found of the points of all files, where all orders were seen that were asked for, or weren't.
+/// The verdict on the points of all files, by whether all requested orders were seen.
 pub fn status_by(files: &[FileReport], are_seen: bool) -> Status
     ensures fails { (result ≡ SomeFail) ↔ SomeFails files.now }
     ensures seen { result ≡ AllHold → are_seen ≡ true }

@@ -7,7 +7,7 @@ use guest_programs::is_guest;
 use std::alloc::{AllocError, Global};
 use std::fmt;
 
-/// A hart that waits for ever: the line that it stands at, and what could wake it.
+/// A hart that can't go on: the line that it stands at, and what could wake it.
 #[derive(Debug, Drop)]
 pub struct StuckHart {
     hart: u64,
@@ -84,8 +84,8 @@ fn place_of(events: &[Event], h: u64) -> Option<Place> {
     found
 }
 
-/// A hart at the line that it stands at, unless it is stopped or has done its block. Where no step can be taken no fence waits, so
-/// it waits for an interrupt: at a `wfi`, or suspended by the operation before.
+/// A hart at the line that it stands at, unless it is stopped or has done its block. If no step can be taken, no fence waits;
+/// so the hart waits for an interrupt, at a `wfi` or suspended by the operation before.
 fn stuck_at(
     alloc: Global,
     case: &Case<'_>,

@@ -1,11 +1,11 @@
-//! What all files come to.
+//! The summary of all files.
 use crate::counts::{AllOrders, Counts};
 use crate::report::{Mode, Report};
 use outcome_statistics::Ends;
 use std::alloc::AllocError;
 use std::fmt::Write;
 
-/// What all files come to.
+/// The summary of all files.
 #[derive(Clone, Copy, Debug)]
 pub(crate) struct Summary {
     mode: Mode,
@@ -26,7 +26,7 @@ pub(crate) struct Summary {
 }
 
 impl Summary {
-    /// What the files of this report come to.
+    /// The summary of this report's files.
     pub(crate) fn of(report: &Report) -> Summary {
         let mut sum = Summary {
             mode: report.mode,
@@ -118,7 +118,7 @@ impl Summary {
         )
     }
 
-    /// Puts how many programs there are of which all orders were seen.
+    /// Adds how many programs there are whose orders were all seen.
     fn put_seen(&self, sign: &str, text: &mut String) -> Result<(), AllocError> {
         let Summary {
             counted,

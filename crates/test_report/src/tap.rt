@@ -4,8 +4,8 @@ use crate::point::Point;
 use std::alloc::{AllocError, Global};
 use std::fmt::Write;
 
-/// Puts the point of this number, and what stands below it. One that wasn't judged has no directive: a reader of points takes each
-/// for a success.
+/// Adds the point of this number, and its details. A point that wasn't judged has no directive, since TAP readers count
+/// directives as success.
 pub(crate) fn put_point(
     alloc: Global,
     number: u64,
@@ -28,7 +28,7 @@ pub(crate) fn put_point(
     text.push_str("  ...\n")
 }
 
-/// Puts a name so that none of its letters means something to a reader of points.
+/// Adds a name, with the characters escaped that TAP readers interpret.
 fn put_escaped(name: &str, text: &mut String) -> Result<(), AllocError> {
     for letter in name.chars() {
         if letter == '#' || letter == '\\' {

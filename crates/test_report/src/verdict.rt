@@ -1,4 +1,4 @@
-//! What was found of what a point asks, and how far was looked for that.
+//! The verdict of a point, and how far `test` looked.
 use crate::counts::{AllOrders, Grouped};
 use crate::missing::Missing;
 use conditions::{Item, Misfit, Name};
@@ -9,9 +9,9 @@ use std::{fmt, str};
 pub enum Unjudged {
     /// The time was over.
     NoTime,
-    /// No order was asked for.
+    /// No order was requested.
     NoOrder,
-    /// There are more states than so many, and none of those that were seen breaks it.
+    /// There are more states than the limit, and none of those that were seen breaks it.
     TooMany(u64),
 }
 
@@ -28,18 +28,18 @@ impl fmt::Display for Unjudged {
     }
 }
 
-/// What was found of what a point asks.
+/// The verdict of a point.
 #[derive(Debug, Drop)]
 pub enum Verdict {
     /// It holds.
     Holds,
-    /// It doesn't.
+    /// It fails.
     Fails,
-    /// It says nothing, since no order has a step that it needs.
+    /// It is vacuous: no order has a step that it needs.
     Vacuous(Missing),
-    /// It says nothing, since no order ends.
+    /// It judged nothing: no order ends.
     NoEnd,
-    /// A word of it is in no step of the board.
+    /// No step of the board can have one of its words.
     Misfit(Misfit),
     /// It wasn't judged.
     NotJudged(Unjudged),
@@ -56,29 +56,29 @@ impl Verdict {
     }
 }
 
-/// How far was looked.
+/// How far `test` looked.
 #[derive(Clone, Copy, Debug)]
 pub enum Extent {
-    /// At what a file has: its lines, or what is wrong with it.
+    /// At the file itself: its lines, or its fault.
     Lines,
-    /// At all orders, which was asked for.
+    /// At all orders, as requested.
     Explored,
     /// At all orders of a program of few states.
     All(AllOrders),
-    /// At so many orders that a seed picks.
+    /// At some orders of a seed.
     Tried {
         /// How many.
         orders: u64,
         /// The seed.
         seed: u64,
-        /// How many of them the limit cut off, where ends are asked for.
+        /// How many of them the limit cut off, if the point is about ends.
         cut: u64,
     },
-    /// At so many runs on threads.
+    /// At some runs on threads.
     Runs {
         /// How many.
         runs: u64,
-        /// How many of them the limit cut off, where ends are asked for.
+        /// How many of them the limit cut off, if the point is about ends.
         cut: u64,
     },
 }
@@ -121,12 +121,12 @@ fn write_cut<W: fmt::Write>(f: &mut fmt::Formatter<W>, cut: u64) -> fmt::Result 
     )
 }
 
-/// What is said of a verdict behind what a point is about.
+/// The text of a verdict, behind the point's subject.
 #[derive(Clone, Copy)]
 pub(crate) struct Said<'a> {
     pub(crate) verdict: &'a Verdict,
     pub(crate) reach: Extent,
-    /// One order is asked for, and not each.
+    /// The point is about some order, not about each.
     pub(crate) is_some: bool,
 }
 
@@ -164,7 +164,7 @@ impl fmt::Display for Said<'_> {
 }
 
 impl Said<'_> {
-    /// What was found of each order that was looked at, or of some.
+    /// The verdict about each order, or about some.
     fn write_judged<W: fmt::Write>(
         &self,
         f: &mut fmt::Formatter<W>,
@@ -181,7 +181,7 @@ impl Said<'_> {
     }
 }
 
-/// Which word of a condition no step of the board has.
+/// Which word of a condition no step of the board can have.
 fn write_misfit<W: fmt::Write>(f: &mut fmt::Formatter<W>, misfit: Misfit) -> fmt::Result {
     match misfit {
         Misfit::NoHart(hart) => write!(f, ": the board has no hart {hart}"),

@@ -1,4 +1,4 @@
-//! Records that are kept of points.
+//! Records that points keep in files.
 use crate::trial::Trial;
 use board_core::Event;
 use guest_programs::End;
@@ -10,8 +10,8 @@ use test_report::{Detail, RecordParts, Unwritten, record, stuck_harts};
 /// How many steps are shown before and behind the one that fails.
 const AROUND: usize = 6;
 
-/// Writes a record into a file, whose name ends with this label: what is told of it, which is that name, the steps around the one
-/// in this place, and where it ended stuck why. What can't be written is told all the same.
+/// Writes a record into a file whose name ends with this label. It adds the file's name, the steps around the one at this
+/// place, and why the record ended stuck, if it did. They are added also if the file can't be written.
 ///
 /// # Errors
 ///

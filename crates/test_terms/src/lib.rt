@@ -1,5 +1,5 @@
-//! What the parts of a test have in common: a file on trial, what is asked of it, how long that may take, why it ends early, and the
-//! records that are kept.
+//! Types that the parts of a test share: a file under test, the options, the time limit, why a test ends early, and the records
+//! that are kept.
 #![tactic(auto)]
 
 mod kept;

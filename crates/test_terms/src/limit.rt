@@ -10,12 +10,12 @@ use std::time::Instant;
 pub struct Limit {
     /// When it began.
     pub begun: Instant,
-    /// How many seconds there are, where there is an end.
+    /// How many seconds there are, if limited.
     pub seconds: Option<u64>,
 }
 
 impl Limit {
-    /// From now on, for so many seconds, or without end.
+    /// From now on, for this many seconds, or without limit.
     ///
     /// # Errors
     ///
@@ -35,7 +35,7 @@ impl Limit {
         Ok(u64::try_from(spent).unwrap_or(u64::MAX))
     }
 
-    /// Whether the time is over: never, where none was given.
+    /// Whether the time is over: never without a limit.
     ///
     /// # Errors
     ///

@@ -1,29 +1,29 @@
-//! What is asked for.
+//! The options of a test.
 use crate::limit::Limit;
 use test_report::Mode;
 
-/// What stands where the program prints.
+/// Which outputs are terminals.
 #[derive(Clone, Copy, Debug)]
 pub struct Screen {
-    /// Standard output is a terminal: points are told as a reader wants them.
+    /// Standard output is a terminal: points are printed as plain text.
     pub is_read: bool,
-    /// Standard error is a terminal: the progress is told.
+    /// Standard error is a terminal: it shows the progress.
     pub is_watched: bool,
 }
 
 /// Which orders of a seed are tried.
 #[derive(Clone, Copy, Debug, PartialEq, Eq)]
 pub enum Orders {
-    /// The first so many.
+    /// The first of them, this many.
     First(u64),
-    /// The one of this number alone.
+    /// Only the one of this number.
     One(u64),
 }
 
-/// What a test is asked for (profile).
+/// The options of a test (profile).
 #[derive(Debug, Drop)]
 pub struct Options<'a> {
-    /// Whether orders are tried, or all are looked at.
+    /// Whether to test or to explore.
     pub mode: Mode,
     /// Which orders of each program are tried.
     pub orders: Orders,
@@ -33,19 +33,19 @@ pub struct Options<'a> {
     pub jobs: u64,
     /// How many runs on threads are tried of each program.
     pub runs: u64,
-    /// Whether all orders of a program with few states are looked at, and none of a seed is tried.
+    /// Whether all orders are explored, and no seeded ones tried, if a program's states are few.
     pub are_few_seen: bool,
-    /// How many states may be found where all orders are looked at.
+    /// The limit of states of `explore`.
     pub states: usize,
-    /// Whether what loads gave last is told, too.
+    /// Whether outcomes are reported.
     pub outcomes: bool,
-    /// What stands where the program prints.
+    /// Which outputs are terminals.
     pub screen: Screen,
     /// The folder that records are written into.
     pub failed: &'a str,
     /// How long orders are tried, of all programs together.
     pub limit: Limit,
-    /// The file that the points are written into, too, if one is named.
+    /// The file that the points are also written into, if any.
     pub tap: Option<&'a str>,
     /// The files.
     pub files: Vec<&'a str>,

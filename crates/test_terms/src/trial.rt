@@ -1,19 +1,19 @@
-//! A file on trial.
+//! A file under test.
 use crate::options::Options;
 use diagnostics::Case;
 use guest_script::Script;
 
-/// A file on trial, with what runs the test and what is asked for.
+/// A file under test, with the runtime and the options.
 #[derive(Drop)]
 pub struct Trial<'a, R> {
-    /// What runs the test.
+    /// The runtime.
     pub rt: &'a R,
-    /// What is asked for.
+    /// The options.
     pub options: &'a Options<'a>,
     /// The file's text and conditions.
     pub case: Case<'a>,
-    /// What the names of its records begin with: no other file's do.
+    /// How the names of its records begin, which no other file's do.
     pub record: &'a str,
-    /// What the text says.
+    /// The script.
     pub script: &'a Script,
 }

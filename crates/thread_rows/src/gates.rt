@@ -1,10 +1,10 @@
-//! A gate that has threads wait for each other, and keeps what it was asked.
+//! A gate that makes threads wait for each other, and records what it was asked.
 
 use hart_threads::Gate;
 use std::hint;
 use std::sync::atomic::{AtomicUsize, Ordering};
 
-/// How often a gate looks whether a thread has come that another one waits for.
+/// How often a gate checks whether the thread has come for which another one waits.
 const LOOKS: u64 = 100_000_000;
 
 /// A question that a gate is asked: by which actor, and how many of its operations were accepted.
@@ -14,7 +14,7 @@ pub struct Turn {
     pub ordinal: usize,
 }
 
-/// A turn that comes after another one was asked for.
+/// A turn that comes after another one.
 #[derive(Clone, Copy, Debug)]
 pub struct Hold {
     pub turn: Turn,
@@ -52,7 +52,7 @@ impl Asked {
         self.many.fetch_add(1, Ordering::SeqCst);
     }
 
-    /// Waits until the ordinal was asked, for so many looks.
+    /// Waits until the ordinal was asked, checking this often.
     fn is_reached(&self, ordinal: usize) -> bool {
         for _ in 0..LOOKS {
             if self.next.load(Ordering::SeqCst) > ordinal {
@@ -81,7 +81,7 @@ impl<'a> Holding<'a> {
         }
     }
 
-    /// Waits until the turn was asked for.
+    /// Waits until the turn's question was asked.
     fn waits_for(&self, turn: Turn) -> bool {
         match self.asked.get(turn.actor) {
             Some(asked) => asked.is_reached(turn.ordinal),

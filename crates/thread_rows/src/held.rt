@@ -9,12 +9,12 @@ use std::io;
 use std::sync::Wait;
 use std::thread::Threads;
 
-/// The turn of an actor that had so many operations accepted.
+/// The turn of an actor with this many accepted operations.
 fn turn(actor: usize, ordinal: usize) -> Turn {
     Turn { actor, ordinal }
 }
 
-/// A turn that comes after another one was asked for.
+/// A turn that comes after another one.
 fn hold(turn: Turn, after: Turn) -> Hold {
     Hold { turn, after }
 }

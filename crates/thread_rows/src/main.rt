@@ -1,5 +1,5 @@
-//! Rows of programs on threads, some of which gates hold up. The program prints what holds of every schedule alone, and its
-//! file stdout has all that it must print.
+//! Rows of programs on threads, some of which a gate holds back. The program prints only what holds of every schedule, and must
+//! print its file stdout.
 #![tactic(auto)]
 
 mod gates;
@@ -59,7 +59,7 @@ fn many_ticks<R: AllocGlobal + Print + Threads + Wait + Sync>(rt: &R) -> io::Res
     )
 }
 
-/// Runs a script, to which so many times a line is added.
+/// Runs a script with a line added this often.
 fn show_ticks<R: AllocGlobal + Print + Threads + Wait + Sync>(
     rt: &R,
     name: &str,
@@ -72,7 +72,7 @@ fn show_ticks<R: AllocGlobal + Print + Threads + Wait + Sync>(
     }
 }
 
-/// A script, and so many times a line.
+/// A script, and a line this often.
 fn with_lines(
     alloc: Global,
     head: &[u8],

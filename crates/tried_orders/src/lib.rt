@@ -1,4 +1,4 @@
-//! Orders of a program that a seed picks, and runs on threads: each is tried and judged.
+//! Tries orders of a program, picked from a seed or run on threads, and judges their records.
 #![tactic(auto)]
 
 mod orders;

@@ -1,11 +1,11 @@
-//! How fast it goes, for the line that tells how long it will take.
+//! How fast orders are tried, for the line that shows the progress.
 ghost use Rattle.std.specs.Prelude.{◌<◌};
 
 use std::io;
 use std::rt::Clock;
 use std::time::Instant;
 
-/// How many orders are tried before the time is looked at again: at first, and at most.
+/// How many orders are tried before the time is checked again: at first, and at most.
 const FIRST_BATCH: u64 = 16;
 
 const LAST_BATCH: u64 = 65_536;
@@ -15,7 +15,7 @@ const SHORT: u64 = 100;
 
 const LONG: u64 = 500;
 
-/// How long nothing is told of the progress, in milliseconds.
+/// How long no progress is shown, in milliseconds.
 const QUIET: u64 = 2_000;
 
 /// How fast orders are tried.
@@ -24,7 +24,7 @@ pub(crate) struct Pace {
     begun: Instant,
     last: u64,
     batch: u64,
-    /// There is a terminal that is told.
+    /// Standard error is a terminal.
     is_watched: bool,
 }
 
@@ -46,8 +46,7 @@ impl Pace {
         self.batch.max(1)
     }
 
-    /// A batch was tried, so that so many orders or runs of all were: tells it, and how long the others will take, where it takes
-    /// long.
+    /// After a batch: shows how many of all orders or runs were tried, and how long the others will take, if it takes long.
     pub(crate) fn see<R: Clock + Eprint>(
         &mut self,
         rt: &R,
@@ -72,14 +71,14 @@ impl Pace {
         Ok(())
     }
 
-    /// Takes back what was told last.
+    /// Erases the progress.
     pub(crate) fn end(&self, rt: &impl Eprint) {
         if self.is_told() {
             let _ = eprint!(rt; "\r\x1b[K");
         }
     }
 
-    /// Whether it takes long, and there is somebody to tell.
+    /// Whether it takes long, and there is a terminal.
     fn is_told(&self) -> bool {
         self.is_watched && self.last >= QUIET
     }

@@ -15,7 +15,7 @@ use std::thread::Threads;
 use test_report::{Detail, FileReport, RecordParts};
 use test_terms::{Stop, Trial};
 
-/// Runs a program on real threads, as often as is asked for, as long as there is time, judges each record, and puts the points.
+/// Runs a program on real threads as often as requested while there is time, judges each record, and adds the points.
 ///
 /// # Errors
 ///
@@ -63,7 +63,7 @@ fn untried<R: AllocGlobal>(trial: &Trial<'_, R>) -> Result<Tried, AllocError>
     })
 }
 
-/// Judges the record of a run, and keeps it below each point of which it is the first that fails.
+/// Judges the record of a run, and keeps it for each point of which it is the first that fails.
 fn judge_run<R: AllocGlobal + Files>(
     trial: &Trial<'_, R>,
     number: u64,
@@ -84,7 +84,7 @@ fn judge_run<R: AllocGlobal + Files>(
     keep_failing(trial, number, ended, &tried.found, &mut tried.kept)
 }
 
-/// Keeps the record of a run below each point of which it is the first that fails.
+/// Keeps the record of a run for each point of which it is the first that fails.
 fn keep_failing<R: AllocGlobal + Files>(
     trial: &Trial<'_, R>,
     number: u64,

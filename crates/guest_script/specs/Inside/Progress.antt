@@ -25,6 +25,6 @@ stage_after stage n texts = told_after (told_of stage) n texts
 abbrev pub script_after : Progress → List (List ℕ) → Result Written ScriptFault
 script_after p texts = stage_after p.stage p.next texts
 
--- the size with so many bytes more; of one that is too large no more is known
+-- the size with this many more bytes; if it is too large, nothing else is known
 abbrev pub grown : ℕ → ℕ → ℕ
 grown size more = min (size + more) (most_bytes + 1)

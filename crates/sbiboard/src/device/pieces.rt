@@ -58,8 +58,8 @@ impl From<AllocError> for ReadFault {
     }
 }
 
-/// Reads a script to its end, piece by piece: only its lines are kept. No more than 16,777,217 bytes are read, also
-/// where a read fails, and no fewer where there is a fault.
+/// Reads a script to its end, piece by piece, and keeps only its lines. It reads at most 16,777,217 bytes, also if a read
+/// fails, and goes on to the end after a fault.
 ///
 /// # Errors
 ///
@@ -78,8 +78,8 @@ pub fn read_script<S: Source>(alloc: Global, source: &mut S) -> Result<Script, R
     Ok(read.0.end(alloc, &bytes[..read.1])?)
 }
 
-/// Hands all lines of a source to the reader, but for the bytes behind the last line feed, which then stand in front; and
-/// answers the reader, and how many these are.
+/// Passes all lines of a source to the reader, except the bytes behind the last line feed, which are moved to the front.
+/// Returns the reader, and how many bytes these are.
 fn read_pieces<S: Source>(
     alloc: Global,
     source: &mut S,
@@ -112,7 +112,7 @@ fn read_pieces<S: Source>(
     Ok((reader, pending))
 }
 
-/// Puts what one read gives, so many bytes at most, behind the first `pending` ones, and answers how much that is.
+/// Reads once, at most this many bytes, behind the first `pending` ones. Returns how many came.
 fn read_behind<S: Source>(
     source: &mut S,
     bytes: &mut Vec<u8>,
@@ -139,7 +139,7 @@ fn read_behind<S: Source>(
     Ok(read_at(source, bytes.as_mut_slice(), pending, end)?)
 }
 
-/// Puts what one read gives into the bytes from `at` to `end`, and answers how much that is.
+/// Reads once into the bytes from `at` to `end`. Returns how many came.
 fn read_at<S: Source>(
     source: &mut S,
     bytes: &mut [u8],
@@ -160,8 +160,8 @@ fn read_at<S: Source>(
     source.read(&mut bytes[at..end])
 }
 
-/// Hands the whole lines of the first `filled` bytes to the reader, and answers the reader, and how many bytes are left, which
-/// then stand in front. There is no line feed among those up to `from`.
+/// Passes the whole lines of the first `filled` bytes to the reader. Returns the reader, and how many bytes are left, which are
+/// moved to the front. There is no line feed among those up to `from`.
 fn give_lines(
     alloc: Global,
     reader: Reader,

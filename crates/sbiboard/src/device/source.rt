@@ -21,8 +21,7 @@ pub trait Source {
         ensures bytes { ReadConsumes (left self.old) (left self.new) result buffer.new }
         ensures failed { CountsCall (failures self.old) (failures self.new) result };
 
-    /// About how many bytes are still to come, where that is known, and else 0. Nothing rests on it but how much
-    /// memory is taken at once.
+    /// About how many bytes are still to come, or 0 if unknown: only a hint for how much memory to reserve at once.
     fn expected(&self) -> usize {
         0
     }
