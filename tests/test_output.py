@@ -229,7 +229,7 @@ class Boards(Made):
     def test_replay__the_board_at_a_line(self):
         """--at prints the table behind a line, which is the model's, also behind one without words."""
         of, lines = random.Random(4), [*range(4, self.text.count("\n") + 1)]
-        for line in [4, lines[-1], *of.sample(lines, 25)]:
+        for line in [4, lines[-1], *of.sample(lines, 10)]:
             last = max(it for it in self.boards if it <= line)
             must_end(self.called("replay", "--at", str(line), "every.sched"), 0, "".join(it + "\n" for it in table(self.boards[last][0])), "")
         status, found, _ = self.json("replay", "--json", "--at", "4", "every.sched")

@@ -128,7 +128,7 @@ def mend(lines, fault, turn):
         return False
     row, first = lines[at], next((at for at, it in enumerate(lines) if words_of(it)), None)
     if fault.fault == BAD_BYTE:
-        lines[at] = UNALLOWED.sub(b"", row.removeprefix(b"\xef\xbb\xbf"))
+        lines[at] = UNALLOWED.sub(b" ", row.removeprefix(b"\xef\xbb\xbf"))
     elif first is None:
         return False
     elif at == first or fault.fault == NO_BOARD:
