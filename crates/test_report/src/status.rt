@@ -22,8 +22,7 @@ pub enum Status {
 /// What is found of the points of all files, where all orders were seen that were asked for, or weren't.
 pub fn status_by(files: &[FileReport], are_seen: bool) -> Status
     ensures fails { (result ≡ SomeFail) ↔ SomeFails files.now }
-    ensures seen { result ≡ AllHold → are_seen ≡ true }
-    ensures holds { result ≡ AllHold → EachHolds files.now }
+    ensures holds { (result ≡ AllHold) ↔ (EachHolds files.now × (are_seen ≡ true)) }
 {
     if some_fails(files) {
         return Status::SomeFail;
@@ -61,7 +60,7 @@ fn has_failing(points: &[Point]) -> bool
 
 /// Whether each file has points, of which each holds.
 fn each_holds(files: &[FileReport]) -> bool
-    ensures { result ≡ true → EachHolds files.now }
+    ensures { (result ≡ true) ↔ EachHolds files.now }
 {
     for file in files {
         if !each_point_holds(&file.points) {
@@ -73,7 +72,7 @@ fn each_holds(files: &[FileReport]) -> bool
 
 /// Whether there are points, and each holds.
 fn each_point_holds(points: &[Point]) -> bool
-    ensures { result ≡ true → EachPointHolds points.now }
+    ensures { (result ≡ true) ↔ EachPointHolds points.now }
 {
     if points.is_empty() {
         return false;
