@@ -7,7 +7,7 @@ use crate::counts::AllOrders;
 use crate::details::Unwritten;
 use crate::notes::Note;
 use crate::point::Point;
-use crate::status::{Status, status_by};
+use crate::status::{Status, some_is_cut, status_by};
 use crate::verdict::Verdict;
 use outcome_statistics::Ends;
 use std::alloc::{AllocError, Global};
@@ -153,12 +153,7 @@ impl Report {
     pub(crate) fn is_cut(&self) -> bool
         ensures { (result ≡ true) ↔ SomeIsCut self.now.files.items }
     {
-        for file in &self.files {
-            if file.is_cut {
-                return true;
-            }
-        }
-        false
+        some_is_cut(&self.files)
     }
 
     /// The first record that could not be written, if there is one.

@@ -1,6 +1,6 @@
 //! What is found of all points together.
 ghost use Rattle.std.specs.Prelude.{◌≡◌, ◌↔◌, true};
-ghost use Rattle.test_report.specs.Statuses.{EachHolds, EachPointHolds, HasFailing, IsFailing, SomeFails};
+ghost use Rattle.test_report.specs.Statuses.{EachHolds, EachPointHolds, HasFailing, IsFailing, SomeFails, SomeIsCut};
 ghost use Rattle.test_report.specs.declared.status.Status.TheVariants.{AllHold, SomeFail};
 ghost use Rattle.test_report.specs.declared.verdict.Verdict.TheVariants.{Holds};
 
@@ -52,6 +52,18 @@ fn has_failing(points: &[Point]) -> bool
 {
     for point in points {
         if is_failing(&point.verdict) {
+            return true;
+        }
+    }
+    false
+}
+
+/// Whether of some file not all was tried or seen.
+pub(crate) fn some_is_cut(files: &[FileReport]) -> bool
+    ensures { (result ≡ true) ↔ SomeIsCut files.now }
+{
+    for file in files {
+        if file.is_cut {
             return true;
         }
     }
