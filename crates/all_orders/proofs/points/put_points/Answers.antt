@@ -20,13 +20,16 @@ loop-place-preserved g c =
     let grown : new ≡ old ++ found.0 ∷ [] = found.1 in
     let many = ap (λ (vs : List Verdict). length vs) grown ∙ length-append old (found.0 ∷ []) in
     let told-at : slice_get c.args.answers.now c.loop-place.place ≡ Some c.index-answers-place.result =
-        slice_get-get_or c.args.answers.now c.loop-place.place c.index-answers-place.result (let below = c.loop-place-test.true in omega arith)
-        ∙ ap (λ (told : Told). Some told) (sym c.index-answers-place.is) in
-    ((let long = before.0 in let is = many in omega arith), (c.put_point.ensures.cut ∙ before.1), (λ numbers p seconds told place verdict at.
-      elim (slice_get-either old found.0 place verdict (subst (λ (vs : List Verdict). slice_get vs place ≡ Some verdict) grown at)) [
-          inl earlier ↦ before.2 numbers p seconds told place verdict earlier
-        | inr last ↦
-          let here : place ≡ c.loop-place.place = last.0 ∙ before.0 in
-          let is : IsFound numbers p (rule_at conditions c.loop-place.place) found.0 = found.2 numbers p seconds (told c.loop-place.place c.index-answers-place.result told-at) in
-          subst (λ n. IsFound numbers p (rule_at conditions n) verdict) (sym here) (subst (λ v. IsFound numbers p (rule_at conditions c.loop-place.place) v) last.1 is)
-      ]))
+    slice_get-get_or c.args.answers.now c.loop-place.place c.index-answers-place.result (let below = c.loop-place-test.true in omega arith)
+    ∙ ap (λ (told : Told). Some told) (sym c.index-answers-place.is) in (
+      (let long = before.0 in let is = many in omega arith),
+      (c.put_point.ensures.cut ∙ before.1),
+      (λ numbers p seconds told place verdict at.
+          elim (slice_get-either old found.0 place verdict (subst (λ (vs : List Verdict). slice_get vs place ≡ Some verdict) grown at)) [
+            | inl earlier ↦ before.2 numbers p seconds told place verdict earlier
+            | inr last ↦
+                let here : place ≡ c.loop-place.place = last.0 ∙ before.0 in
+                let is : IsFound numbers p (rule_at conditions c.loop-place.place) found.0 = found.2 numbers p seconds (told c.loop-place.place c.index-answers-place.result told-at) in
+                subst (λ n. IsFound numbers p (rule_at conditions n) verdict) (sym here) (subst (λ v. IsFound numbers p (rule_at conditions c.loop-place.place) v) last.1 is)
+          ]),
+    )
