@@ -1,3 +1,4 @@
 pub mod Records
 pub mod Findings
+pub mod Judgements
 pub mod Inside

@@ -1,9 +1,10 @@
 //! How many orders ended in which way.
-ghost use Rattle.std.specs.Prelude.{◌≡◌, ◌↔◌, ◌∷◌, ◌++◌, List, Some, true, []};
+ghost use Rattle.std.specs.Prelude.{◌≡◌, ◌↔◌, ◌∷◌, ◌++◌, List, Some, true, false, []};
 ghost use Rattle.conditions.specs.declared.rules.Ending.{Ending as HowEnded};
 ghost use Rattle.conditions.specs.Endings.{ending};
 ghost use Rattle.outcome_statistics.specs.Records.{Tried};
 ghost use Rattle.outcome_statistics.specs.Findings.{AreEnded, HaveEnded};
+ghost use Rattle.outcome_statistics.specs.Judgements.{NoneEnded};
 
 use guest_programs::End;
 
@@ -56,7 +57,9 @@ impl Ends {
     }
 
     /// Whether some order ended without being cut off by the limit.
-    pub fn some_ended(&self) -> bool {
+    pub fn some_ended(&self) -> bool
+        ensures { result ≡ false → NoneEnded self.now }
+    {
         self.off > 0 || self.quiet > 0 || self.stuck > 0
     }
 

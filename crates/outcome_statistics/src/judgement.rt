@@ -1,4 +1,9 @@
 //! The verdict of the tried orders on a condition.
+ghost use Rattle.std.specs.Prelude.{◌≡◌, ◌≢◌, List, [], Some, None};
+ghost use Rattle.std.specs.Option.{option_map};
+ghost use Rattle.outcome_statistics.specs.declared.ends.Ends.{Ends as HowMany};
+ghost use Rattle.outcome_statistics.specs.Records.{IsSo, Tells, Tried};
+ghost use Rattle.outcome_statistics.specs.Judgements.{AreMet, IsJudged, asked_rule};
 
 use crate::ends::Ends;
 use crate::findings::Judged;
@@ -22,46 +27,70 @@ pub enum Judgement {
 }
 
 /// The verdict on a condition, or on a program without conditions, by its findings and the ends of all orders.
-pub fn judgement_of(asked: Option<&Condition>, judged: &Judged, ends: &Ends) -> Judgement {
-    if judged.tally.tried() == 0 {
-        return Judgement::NotTried;
-    }
-    if !all_meet(asked, judged) {
-        return fails(asked, judged);
-    }
-    if asks_of_ends(asked) && !ends.some_ended() {
-        return if is_maybe(asked) {
-            Judgement::Holds
-        } else {
-            Judgement::NoEnd
-        };
-    }
+pub fn judgement_of(asked: Option<&Condition>, judged: &Judged, ends: &Ends) -> Judgement
+    ensures { (tried : List Tried) → Tells (IsSo (asked_rule (option_map (λ condition. condition.now) asked.entry))) tried
+        judged.now.tally
+        → IsJudged (option_map (λ condition. condition.now) asked.entry) tried judged.now.met ends.now result }
+{
     match asked {
-        Some(condition) => holds(condition, judged),
-        None => Judgement::Holds,
+        Some(condition) => judged_by(condition, judged, ends),
+        None => judged_alone(judged, ends),
     }
 }
 
-/// Whether the orders meet the condition, or without one, none ends stuck.
-fn all_meet(asked: Option<&Condition>, judged: &Judged) -> bool {
-    match asked {
-        Some(condition) => judged.tally.all_meet(&condition.rule),
-        None => judged.tally.is_each(),
+/// The verdict on a condition.
+fn judged_by(condition: &Condition, judged: &Judged, ends: &Ends) -> Judgement
+    ensures { (tried : List Tried) → Tells (IsSo (Some condition.now.rule)) tried judged.now.tally
+        → IsJudged (Some condition.now) tried judged.now.met ends.now result }
+{
+    let rule = &condition.rule;
+    if judged.tally.tried() == 0 {
+        return Judgement::NotTried;
+    }
+    if !judged.tally.all_meet(rule) {
+        return fails(condition, judged);
+    }
+    if !condition.is_maybe && asks_of_ends(Some(condition)) && !ends.some_ended() {
+        return Judgement::NoEnd;
+    }
+    holds(condition, judged)
+}
+
+/// The verdict on a program without conditions.
+fn judged_alone(judged: &Judged, ends: &Ends) -> Judgement
+    ensures { (tried : List Tried) → Tells (IsSo None) tried judged.now.tally
+        → IsJudged None tried judged.now.met ends.now result }
+{
+    if judged.tally.tried() == 0 {
+        return Judgement::NotTried;
+    }
+    if !judged.tally.is_each() {
+        return Judgement::Fails;
+    }
+    if ends.some_ended() {
+        Judgement::Holds
+    } else {
+        Judgement::NoEnd
     }
 }
 
 /// The orders fail: `some` may be vacuous, if no order has such a step, whatever its reply.
-fn fails(asked: Option<&Condition>, judged: &Judged) -> Judgement {
-    match asked {
-        Some(condition) if !condition.is_maybe && judged.met.lacks_first(&condition.rule) => {
-            Judgement::LacksFirst
-        }
-        _ => Judgement::Fails,
+fn fails(condition: &Condition, judged: &Judged) -> Judgement
+    ensures { (tried : List Tried) (ends : HowMany) → ¬ AreMet (Some condition.now) tried
+        → IsJudged (Some condition.now) tried judged.now.met ends result }
+{
+    if !condition.is_maybe && judged.met.lacks_first(&condition.rule) {
+        Judgement::LacksFirst
+    } else {
+        Judgement::Fails
     }
 }
 
 /// The orders meet a condition, which may be vacuous.
-fn holds(condition: &Condition, judged: &Judged) -> Judgement {
+fn holds(condition: &Condition, judged: &Judged) -> Judgement
+    ensures { (tried : List Tried) (ends : HowMany) → tried ≢ [] → AreMet (Some condition.now) tried
+        → IsJudged (Some condition.now) tried judged.now.met ends result }
+{
     let rule = &condition.rule;
     if condition.is_maybe {
         Judgement::Holds
@@ -71,14 +100,6 @@ fn holds(condition: &Condition, judged: &Judged) -> Judgement {
         Judgement::LacksSecond
     } else {
         Judgement::Holds
-    }
-}
-
-/// Whether a condition begins with `maybe`.
-fn is_maybe(asked: Option<&Condition>) -> bool {
-    match asked {
-        Some(condition) => condition.is_maybe,
-        None => false,
     }
 }
 

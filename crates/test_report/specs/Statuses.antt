@@ -1,7 +1,9 @@
 -- What is found of all points together: nothing that wasn't judged is a success (profile).
-use Rattle.std.specs.Prelude.{◌≡◌, ◌≢◌, ℕ, List, [], slice_get, Some}
+use Rattle.std.specs.Prelude.{◌≡◌, ◌≢◌, ◌⊎◌, ℕ, List, [], map, slice_get, Some, true}
 use Rattle.test_report.specs.declared.point.Point.{Point}
 use Rattle.test_report.specs.declared.report.FileReport.{FileReport}
+use Rattle.test_report.specs.declared.report.Mode.TheVariants.{Test}
+use Rattle.test_report.specs.declared.report.Report.{Report}
 use Rattle.test_report.specs.declared.verdict.Verdict.{Verdict}
 use Rattle.test_report.specs.declared.verdict.Verdict.TheVariants.{Holds, Fails, Vacuous, NoEnd, Misfit, NotJudged}
 
@@ -30,3 +32,15 @@ pub record EachPointHolds (points : List Point) : Type 0 where
 -- Each file has points, of which each holds.
 abbrev pub EachHolds : List FileReport → Type 0
 EachHolds files = (k : ℕ) (file : FileReport) → slice_get files k ≡ Some file → EachPointHolds file.points.items
+
+-- What was found of each point of a file, in order.
+abbrev pub verdicts : FileReport → List Verdict
+verdicts file = map (λ point. point.verdict) file.points.items
+
+-- Of some file not all was tried or seen that was asked for.
+abbrev pub SomeIsCut : List FileReport → Type 0
+SomeIsCut files = (k : ℕ) × (file : FileReport) × (slice_get files k ≡ Some file) × (file.is_cut ≡ true)
+
+-- All orders were seen, where that was asked for. Where orders are tried, there are as many as there was time for.
+abbrev pub IsWhole : Report → Type 0
+IsWhole report = (report.mode ≡ Test) ⊎ ¬ SomeIsCut report.files.items

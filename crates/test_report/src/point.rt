@@ -1,4 +1,7 @@
 //! A point, with its details.
+ghost use Rattle.std.specs.Prelude.{◌≡◌, ◌↔◌, IfOk, true};
+ghost use Rattle.test_report.specs.declared.verdict.Verdict.TheVariants.{Holds};
+
 use crate::details::{Detail, Unwritten};
 use crate::notes::Note;
 use crate::verdict::{Extent, Said, Verdict};
@@ -25,7 +28,9 @@ pub struct Point {
 
 impl Point {
     /// A point about a file's lines, or about its fault, without details.
-    pub fn new(alloc: Global, name: String, verdict: Verdict) -> Point {
+    pub fn new(alloc: Global, name: String, verdict: Verdict) -> Point
+        ensures { result.verdict ≡ verdict }
+    {
         Point {
             name,
             is_some: false,
@@ -43,7 +48,9 @@ impl Point {
         condition: Option<&Condition>,
         verdict: Verdict,
         reach: Extent,
-    ) -> Result<Point, AllocError> {
+    ) -> Result<Point, AllocError>
+        ensures { IfOk result (λ point. point.verdict ≡ verdict) }
+    {
         let said = match condition {
             Some(_) => "",
             None => ": no order ends stuck",
@@ -67,7 +74,9 @@ impl Point {
     }
 
     /// Whether it holds.
-    pub(crate) fn holds(&self) -> bool {
+    pub(crate) fn holds(&self) -> bool
+        ensures { (result ≡ true) ↔ (self.now.verdict ≡ Holds) }
+    {
         matches!(self.verdict, Verdict::Holds)
     }
 

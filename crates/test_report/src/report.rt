@@ -1,9 +1,13 @@
 //! The report about all files.
+ghost use Rattle.std.specs.Prelude.{◌≡◌, ◌↔◌, ◌∷◌, ◌++◌, [], OnOk, true, false};
+ghost use Rattle.test_report.specs.Statuses.{EachHolds, IsWhole, SomeFails, SomeIsCut, verdicts};
+ghost use Rattle.test_report.specs.declared.status.Status.TheVariants.{AllHold, SomeFail};
+
 use crate::counts::AllOrders;
 use crate::details::Unwritten;
 use crate::notes::Note;
 use crate::point::Point;
-use crate::status::{Status, status_by};
+use crate::status::{Status, some_is_cut, status_by};
 use crate::verdict::Verdict;
 use outcome_statistics::Ends;
 use std::alloc::{AllocError, Global};
@@ -36,7 +40,10 @@ pub struct FileReport {
 
 impl FileReport {
     /// Before anything is found.
-    pub fn new(alloc: Global) -> FileReport {
+    pub fn new(alloc: Global) -> FileReport
+        ensures none { verdicts result ≡ [] }
+        ensures whole { result.is_cut ≡ false }
+    {
         FileReport {
             head: Vec::new(alloc),
             points: Vec::new(alloc),
@@ -48,22 +55,33 @@ impl FileReport {
     }
 
     /// A point was found.
-    pub fn push(&mut self, point: Point) -> Result<(), AllocError> {
+    pub fn push(&mut self, point: Point) -> Result<(), AllocError>
+        ensures found { OnOk result (verdicts self.new ≡ verdicts self.old ++ point.verdict ∷ []) }
+        ensures cut { self.new.is_cut ≡ self.old.is_cut }
+    {
         self.points.push(point)?;
         Ok(())
     }
 
     /// Something is noted behind what was found before.
-    pub fn note(&mut self, note: Note) -> Result<(), AllocError> {
-        match self.points.last_mut() {
-            Some(point) => point.notes.push(note)?,
-            None => self.head.push(note)?,
+    pub fn note(&mut self, note: Note) -> Result<(), AllocError>
+        ensures same { verdicts self.new ≡ verdicts self.old }
+        ensures cut { self.new.is_cut ≡ self.old.is_cut }
+    {
+        let many = self.points.len();
+        if many == 0 {
+            self.head.push(note)?;
+        } else {
+            self.points[many - 1].notes.push(note)?;
         }
         Ok(())
     }
 
     /// Each of these is noted.
-    pub fn note_all(&mut self, notes: Vec<Note>) -> Result<(), AllocError> {
+    pub fn note_all(&mut self, notes: Vec<Note>) -> Result<(), AllocError>
+        ensures same { verdicts self.new ≡ verdicts self.old }
+        ensures cut { self.new.is_cut ≡ self.old.is_cut }
+    {
         for note in notes {
             self.note(note)?;
         }
@@ -114,13 +132,28 @@ impl Report {
     }
 
     /// The verdict on all points.
-    pub fn status(&self) -> Status {
-        status_by(&self.files, self.mode == Mode::Test || !self.is_cut())
+    pub fn status(&self) -> Status
+        ensures fails { (result ≡ SomeFail) ↔ SomeFails self.now.files.items }
+        ensures holds { (result ≡ AllHold) ↔ (EachHolds self.now.files.items × IsWhole self.now) }
+    {
+        status_by(&self.files, self.is_whole())
+    }
+
+    /// Whether all requested orders were seen; `test` requests as many as there is time for.
+    fn is_whole(&self) -> bool
+        ensures { (result ≡ true) ↔ IsWhole self.now }
+    {
+        match self.mode {
+            Mode::Test => true,
+            Mode::Explore => !self.is_cut(),
+        }
     }
 
     /// Whether for some file not all requested orders were tried or seen.
-    pub(crate) fn is_cut(&self) -> bool {
-        self.files.iter().any(|file| file.is_cut)
+    pub(crate) fn is_cut(&self) -> bool
+        ensures { (result ≡ true) ↔ SomeIsCut self.now.files.items }
+    {
+        some_is_cut(&self.files)
     }
 
     /// The first record that could not be written, if there is one.

@@ -1,6 +1,6 @@
 //! The verdict on all points together.
 ghost use Rattle.std.specs.Prelude.{◌≡◌, ◌↔◌, true};
-ghost use Rattle.test_report.specs.Statuses.{EachHolds, EachPointHolds, HasFailing, IsFailing, SomeFails};
+ghost use Rattle.test_report.specs.Statuses.{EachHolds, EachPointHolds, HasFailing, IsFailing, SomeFails, SomeIsCut};
 ghost use Rattle.test_report.specs.declared.status.Status.TheVariants.{AllHold, SomeFail};
 ghost use Rattle.test_report.specs.declared.verdict.Verdict.TheVariants.{Holds};
 
@@ -22,8 +22,7 @@ pub enum Status {
 /// The verdict on the points of all files, by whether all requested orders were seen.
 pub fn status_by(files: &[FileReport], are_seen: bool) -> Status
     ensures fails { (result ≡ SomeFail) ↔ SomeFails files.now }
-    ensures seen { result ≡ AllHold → are_seen ≡ true }
-    ensures holds { result ≡ AllHold → EachHolds files.now }
+    ensures holds { (result ≡ AllHold) ↔ (EachHolds files.now × (are_seen ≡ true)) }
 {
     if some_fails(files) {
         return Status::SomeFail;
@@ -59,9 +58,21 @@ fn has_failing(points: &[Point]) -> bool
     false
 }
 
+/// Whether of some file not all was tried or seen.
+pub(crate) fn some_is_cut(files: &[FileReport]) -> bool
+    ensures { (result ≡ true) ↔ SomeIsCut files.now }
+{
+    for file in files {
+        if file.is_cut {
+            return true;
+        }
+    }
+    false
+}
+
 /// Whether each file has points, of which each holds.
 fn each_holds(files: &[FileReport]) -> bool
-    ensures { result ≡ true → EachHolds files.now }
+    ensures { (result ≡ true) ↔ EachHolds files.now }
 {
     for file in files {
         if !each_point_holds(&file.points) {
@@ -73,7 +84,7 @@ fn each_holds(files: &[FileReport]) -> bool
 
 /// Whether there are points, and each holds.
 fn each_point_holds(points: &[Point]) -> bool
-    ensures { result ≡ true → EachPointHolds points.now }
+    ensures { (result ≡ true) ↔ EachPointHolds points.now }
 {
     if points.is_empty() {
         return false;

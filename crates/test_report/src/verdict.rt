@@ -1,4 +1,7 @@
 //! The verdict of a point, and how far `test` looked.
+ghost use Rattle.std.specs.Prelude.{◌≡◌, if◌then◌else◌};
+ghost use Rattle.test_report.specs.declared.verdict.Verdict.TheVariants.{Fails, Holds};
+
 use crate::counts::{AllOrders, Grouped};
 use crate::missing::Missing;
 use conditions::{Item, Misfit, Name};
@@ -47,7 +50,9 @@ pub enum Verdict {
 
 impl Verdict {
     /// Whether it holds.
-    pub fn of(holds: bool) -> Verdict {
+    pub fn of(holds: bool) -> Verdict
+        ensures { result ≡ (if holds then Holds else Fails) }
+    {
         if holds {
             Verdict::Holds
         } else {
