@@ -13,9 +13,8 @@ from concurrent.futures import ThreadPoolExecutor
 from commands import AT, DIFF, EXPLAIN, HTML, JSON, JUNIT, TAP_VERSION, TESTER
 from kinds import MOST_BYTES, lines_of, why_unread
 
+# (what reads printed lines is of use where such an option is given alone)
 sys.path.append(os.path.dirname(os.path.dirname(os.path.realpath(__file__))))
-
-from board_table import Table  # noqa: E402
 
 BAD_SCRIPT, USAGE, BAD_FILE = 1, 2, 7
 FAILED_IO = "sbiboard: input or output failed\n"
@@ -157,6 +156,8 @@ class Replay:
 
     def changes(self, places):
         """What each of these steps changed in the table."""
+        from board_table import Table
+
         before = {place: last for last, place in zip(self.places, self.places[1:])}
         wanted = sorted({*places, *(before[it] for it in places)})
         with ThreadPoolExecutor(os.cpu_count()) as threads:
