@@ -8,7 +8,7 @@ use Rattle.conditions.specs.declared.patterns.Pattern.{Pattern}
 use Rattle.conditions.specs.Patterns.{FitsReply, FitsStep, Matches}
 use Rattle.conditions.specs.declared.rules.Ending.{Ending}
 use Rattle.conditions.specs.declared.rules.Rule.{Rule}
-use Rattle.conditions.specs.Rules.{Holds, IsAt, IsFirst, IsFirstFrom, IsFirstOther, RepliesFit}
+use Rattle.conditions.specs.Rules.{Holds, IsAt, IsFirst, IsFirstFrom, IsFirstUnfit, RepliesFit}
 
 pub same-event : (events : List Event) (k : ℕ) (e d : Event) → slice_get events k ≡ Some e → d ≡ get_or events k d → e ≡ d
 same-event events k e d at is = sym (get_or_from_slice_get events k e d at) ∙ sym is
@@ -119,11 +119,11 @@ reply-misfit p events n d told below is step tells bad fit =
     let at : slice_get events n ≡ Some d = slice_get-get_or events n d below ∙ ap (λ (x : Event). Some x) (sym is) in
     contrary told (tells (fit n d (take-slice events (suc n) n (omega arith) ∙ at) step)) bad
 
-other-misfits : (p : Pattern) (events : List Event) (k : ℕ) → IsFirstOther p events k → ¬ RepliesFit p events
+other-misfits : (p : Pattern) (events : List Event) (k : ℕ) → IsFirstUnfit p events k → ¬ RepliesFit p events
 other-misfits p events k first fit = first.here (λ j e at. fit j e (take-has events (suc k) j e at))
 
 pub none-is-each : (p : Pattern) (events : List Event) (found : Option ℕ) (none : Bool)
-    → MatchOption found (RepliesFit p events) (IsFirstOther p events) → is_some found ≡ not none → (none ≡ true) ↔ RepliesFit p events
+    → MatchOption found (RepliesFit p events) (IsFirstUnfit p events) → is_some found ≡ not none → (none ≡ true) ↔ RepliesFit p events
 none-is-each p events None true search is = ((λ good. search), (λ fit. refl))
 none-is-each p events None false search is = absurd (let t = is in cc)
 none-is-each p events (Some k) true search is = absurd (let t = is in cc)

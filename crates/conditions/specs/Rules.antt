@@ -26,7 +26,7 @@ abbrev pub RepliesFit : Pattern → List Event → Type 0
 RepliesFit p events = (k : ℕ) (e : Event) → slice_get events k ≡ Some e → FitsStep p e → FitsReply p e
 
 -- the first step whose reply doesn't fit: the replies before it fit, and with its own they don't
-pub record IsFirstOther (p : Pattern) (events : List Event) (k : ℕ) : Type 0 where
+pub record IsFirstUnfit (p : Pattern) (events : List Event) (k : ℕ) : Type 0 where
   pub within : k < length events
   pub before : RepliesFit p (take k events)
   pub here : ¬ RepliesFit p (take (suc k) events)

@@ -45,7 +45,7 @@ pub trait Guests {
 }
 
 /// The place of a guest after an operation of its hart was accepted.
-pub fn place_after<G: Guests>(guests: &G, place: G::Place, op: Op, reply: Reply) -> G::Place
+pub fn guest_place_after<G: Guests>(guests: &G, place: G::Place, op: Op, reply: Reply) -> G::Place
     ensures { (past : List Event) (h : ℕ) (e : Event) → e.actor ≡ Hart h → e.op ≡ op → e.reply ≡ reply
         → IsAt (G.rest guests.now place) (G.next guests.now) past h
         → IsAt (G.rest guests.now result) (G.next guests.now) (e ∷ past) h }

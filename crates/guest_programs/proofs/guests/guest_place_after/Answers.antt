@@ -3,7 +3,7 @@ use Rattle.board_terms.specs.declared.op.Op.{Op}
 use Rattle.board_terms.specs.declared.reply.Reply.{Reply}
 use Rattle.guest_programs.specs.Guests.{is_guest}
 use Rattle.guest_programs.proofs.Following.{at-entry, at-one}
-use Rattle.guest_programs.proofs.guests.place_after.Goals as goal
+use Rattle.guest_programs.proofs.guests.guest_place_after.Goals as goal
 
 pub returns-in-Entry : goal.returns-in-Entry
 returns-in-Entry g c past h e by asked answered at =
