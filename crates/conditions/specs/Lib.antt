@@ -1,6 +1,8 @@
 pub mod Endings
+pub mod FirstFault
+pub mod Grammar
+pub mod Inside
 pub mod Items
 pub mod Patterns
-pub mod Reading
 pub mod Rules
 pub mod Vacuity

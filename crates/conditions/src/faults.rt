@@ -1,4 +1,7 @@
 //! What is wrong with a condition's text, and where.
+ghost use Rattle.std.specs.Prelude.{◌≡◌};
+ghost use Rattle.conditions.specs.declared.faults.Wrong.TheVariants.{NoMemory as Lacks};
+
 use std::alloc::{AllocError, AllocFailed};
 use thiserror::Error;
 
@@ -50,6 +53,8 @@ pub(crate) struct Unread {
 }
 
 impl From<AllocError> for Unread {
+    ghost from_gives = { λ _ unread. unread.wrong ≡ Lacks };
+
     fn from(_: AllocError) -> Unread {
         Unread {
             left: 0,
@@ -59,6 +64,8 @@ impl From<AllocError> for Unread {
 }
 
 impl<T: Drop> From<AllocFailed<T>> for Unread {
+    ghost from_gives = { λ _ unread. unread.wrong ≡ Lacks };
+
     fn from(_: AllocFailed<T>) -> Unread {
         Unread {
             left: 0,

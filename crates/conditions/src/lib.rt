@@ -1,19 +1,26 @@
 //! Conditions of scripts: comments that begin with `#!`, and what they say of each record (profile).
 #![tactic(auto)]
 
+mod asking;
 mod endings;
 mod faults;
 mod items;
+mod keywords;
+mod laws;
 mod misfits;
 mod names;
+mod pattern_words;
 mod patterns;
 mod reading;
 mod rules;
 mod vacuity;
+mod words;
 
 pub use endings::ending;
 pub use faults::{Fault, Wrong};
 pub use items::Item;
+pub use keywords::Keyword;
+pub use laws::one_reading;
 pub use misfits::Misfit;
 pub use names::Name;
 pub use patterns::Pattern;

@@ -1,5 +1,6 @@
 //! What a condition says of a record, and whether the record meets it.
-ghost use Rattle.std.specs.Prelude.{◌↔◌, ◌≡◌, ◌<◌, ◌≤◌, ℕ, MatchOption, Some, slice_get, true};
+ghost use Rattle.std.specs.Prelude.{◌↔◌, ◌≡◌, ◌<◌, ◌≤◌, ℕ, MatchOption, None, Some, length, slice_get, true};
+ghost use Rattle.conditions.specs.Grammar.{ending_named, ending_word};
 ghost use Rattle.conditions.specs.Rules.{Holds, IsAt, IsFirst, IsFirstFrom, IsFirstUnfit, RepliesFit};
 ghost use Rattle.conditions.specs.declared.rules.Ending.{Ending as HowEnded};
 
@@ -17,6 +18,28 @@ pub enum Ending {
     Quiet,
     /// `stuck`
     Stuck,
+}
+
+impl Ending {
+    /// The end that a word names.
+    #[tactic(auto, unfolding(crate::specs::Grammar::ending_named))]
+    pub(crate) fn of(word: &[u8]) -> Option<Ending>
+        ensures { MatchOption result (ending_named word.now ≡ None) (λ ending. word.now ≡ ending_word ending) }
+    {
+        if word == b"off".as_slice() {
+            return Some(Ending::Off);
+        }
+        if word == b"history-full".as_slice() {
+            return Some(Ending::HistoryFull);
+        }
+        if word == b"quiet".as_slice() {
+            return Some(Ending::Quiet);
+        }
+        if word == b"stuck".as_slice() {
+            return Some(Ending::Stuck);
+        }
+        None
+    }
 }
 
 /// A condition on records.

@@ -2,7 +2,7 @@
 ghost use Rattle.std.specs.Prelude.{◌≡◌, ◌≢◌, ◌↔◌, ◌⊎◌, ℕ, [], List, Option, Some, slice_get, true, false};
 ghost use Rattle.board_core.specs.History.{Event as Step};
 ghost use Rattle.conditions.specs.declared.rules.Ending.{Ending as HowEnded};
-ghost use Rattle.conditions.specs.declared.rules.Rule.{Rule as Asked};
+ghost use Rattle.conditions.specs.declared.rules.Rule.{Rule as RuleValue};
 ghost use Rattle.conditions.specs.Vacuity.{HasFitting, HasMatching, IsOfCall, IsVacuous, MeetsFirst, MeetsSecond, NeedsFirst, NeedsSecond, SaysNothing};
 
 use crate::items::Item;
@@ -68,7 +68,7 @@ impl NeedsMet {
 
 /// A vacuous condition says nothing: each of these records meets it, and none meets `some`. A law: there is nothing to run.
 pub fn vacuous_conditions_say_nothing()
-    ensures { (rule : Asked) (records : List (List Step)) → IsVacuous rule records
+    ensures { (rule : RuleValue) (records : List (List Step)) → IsVacuous rule records
         → (k : ℕ) (events : List Step) (end : Option HowEnded) → slice_get records k ≡ Some events
         → SaysNothing rule events end }
 {}

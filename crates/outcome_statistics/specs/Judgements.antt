@@ -38,8 +38,8 @@ abbrev pub IsMaybe : Option Condition → Type 0
 IsMaybe None = ⊥
 IsMaybe (Some condition) = condition.is_maybe ≡ true
 
--- What is said of what is asked is so, by which of the steps that it needs were met, and by how the orders ended.
 module _ (asked : Option Condition) (tried : List Tried) (met : NeedsMet) (ends : Ends) where
+  -- What is said of what is asked is so, by which of the steps that it needs were met, and by how the orders ended.
   abbrev pub IsJudged : Judgement → Type 0
   IsJudged says.NotTried = tried ≡ []
   IsJudged says.Fails = ¬ AreMet asked tried

@@ -1,0 +1,35 @@
+//! The words that conditions begin with.
+ghost use Rattle.std.specs.Prelude.{◌≡◌, MatchOption, None};
+ghost use Rattle.conditions.specs.Grammar.{keyword_named, keyword_word};
+
+/// The word that a condition begins with, `maybe` aside.
+#[derive(Clone, Copy, PartialEq, Eq)]
+pub enum Keyword {
+    /// `never`
+    Never,
+    /// `some`
+    Some,
+    /// `each`
+    Each,
+    /// `end`
+    End,
+    /// `before`
+    Before,
+}
+
+impl Keyword {
+    /// The keyword that a word is.
+    #[tactic(auto, unfolding(crate::specs::Grammar::keyword_named))]
+    pub(crate) fn of(word: &[u8]) -> Option<Keyword>
+        ensures { MatchOption result (keyword_named word.now ≡ None) (λ keyword. word.now ≡ keyword_word keyword) }
+    {
+        match word {
+            b"never" => Some(Keyword::Never),
+            b"some" => Some(Keyword::Some),
+            b"each" => Some(Keyword::Each),
+            b"end" => Some(Keyword::End),
+            b"before" => Some(Keyword::Before),
+            _ => None,
+        }
+    }
+}
