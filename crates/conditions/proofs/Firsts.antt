@@ -1,14 +1,14 @@
 -- The first steps that patterns mean.
-use Rattle.std.proofs.Common.{◌≡◌, ◌↔◌, ℕ, ◌+◌, ◌<◌, ◌≤◌, List, Bool, true, false, length, get_or, refl, sym, ap, ◌∙◌, subst, below_more, inl, inr, arith}
-use Rattle.std.specs.Prelude.{Option, Some, None, MatchOption, is_some, not, nat_lt, slice_get}
+use Rattle.std.proofs.Common.{◌≡◌, ◌↔◌, ℕ, zero, suc, ◌+◌, ◌<◌, ◌≤◌, List, [], ◌∷◌, Bool, true, false, length, get_or, refl, sym, ap, ◌∙◌, subst, below_more, inl, inr, arith}
+use Rattle.std.specs.Prelude.{Option, Some, None, MatchOption, is_some, not, nat_lt, slice_get, take}
 use Rattle.std.proofs.lemmas.Bool.{cases_order, lt-ltb, ltb-true}
-use Rattle.std.proofs.lemmas.Option.{get_or_from_slice_get, slice_get-get_or, slice_get_within}
+use Rattle.std.proofs.lemmas.Option.{get_or_from_slice_get, none-some, slice_get-get_or, slice_get_within}
 use Rattle.board_core.specs.History.{Event}
 use Rattle.conditions.specs.declared.patterns.Pattern.{Pattern}
 use Rattle.conditions.specs.Patterns.{FitsReply, FitsStep, Matches}
 use Rattle.conditions.specs.declared.rules.Ending.{Ending}
 use Rattle.conditions.specs.declared.rules.Rule.{Rule}
-use Rattle.conditions.specs.Rules.{Holds, IsAt, IsFirst, IsFirstFrom, RepliesFit}
+use Rattle.conditions.specs.Rules.{Holds, IsAt, IsFirst, IsFirstFrom, IsFirstOther, RepliesFit}
 
 pub same-event : (events : List Event) (k : ℕ) (e d : Event) → slice_get events k ≡ Some e → d ≡ get_or events k d → e ≡ d
 same-event events k e d at is = sym (get_or_from_slice_get events k e d at) ∙ sym is
@@ -94,11 +94,40 @@ replies-whole p events n long before k e at =
     let within : k < length events = slice_get_within events k e at in
     before k (omega arith) e at
 
+-- the first n of a list have its members
+take-slice : {X : Type 0} (xs : List X) (n k : ℕ) → k < n → slice_get (take n xs) k ≡ slice_get xs k
+take-slice xs zero k below = absurd (omega arith)
+take-slice [] (suc n) k below = refl
+take-slice (x ∷ xs) (suc n) zero below = refl
+take-slice (x ∷ xs) (suc n) (suc k) below = take-slice xs n k (omega arith)
+
+take-within : {X : Type 0} (xs : List X) (n k : ℕ) (x : X) → slice_get (take n xs) k ≡ Some x → k < n
+take-within xs zero k x at = absurd (none-some x at)
+take-within [] (suc n) k x at = absurd (none-some x at)
+take-within (y ∷ xs) (suc n) zero x at = omega arith
+take-within (y ∷ xs) (suc n) (suc k) x at = let below = take-within xs n k x at in omega arith
+
+take-has : {X : Type 0} (xs : List X) (n k : ℕ) (x : X) → slice_get (take n xs) k ≡ Some x → slice_get xs k ≡ Some x
+take-has xs n k x at = sym (take-slice xs n k (take-within xs n k x at)) ∙ at
+
+pub replies-before : (p : Pattern) (events : List Event) (n : ℕ) → FitBefore p events n → RepliesFit p (take n events)
+replies-before p events n before k e at = before k (take-within events n k e at) e (take-has events n k e at)
+
 pub reply-misfit : (p : Pattern) (events : List Event) (n : ℕ) (d : Event) (told : Bool) → n < length events → d ≡ get_or events n d
-    → FitsStep p d → (FitsReply p d → told ≡ true) → told ≡ false → ¬ RepliesFit p events
+    → FitsStep p d → (FitsReply p d → told ≡ true) → told ≡ false → ¬ RepliesFit p (take (suc n) events)
 reply-misfit p events n d told below is step tells bad fit =
     let at : slice_get events n ≡ Some d = slice_get-get_or events n d below ∙ ap (λ (x : Event). Some x) (sym is) in
-    contrary told (tells (fit n d at step)) bad
+    contrary told (tells (fit n d (take-slice events (suc n) n (omega arith) ∙ at) step)) bad
+
+other-misfits : (p : Pattern) (events : List Event) (k : ℕ) → IsFirstOther p events k → ¬ RepliesFit p events
+other-misfits p events k first fit = first.here (λ j e at. fit j e (take-has events (suc k) j e at))
+
+pub none-is-each : (p : Pattern) (events : List Event) (found : Option ℕ) (none : Bool)
+    → MatchOption found (RepliesFit p events) (IsFirstOther p events) → is_some found ≡ not none → (none ≡ true) ↔ RepliesFit p events
+none-is-each p events None true search is = ((λ good. search), (λ fit. refl))
+none-is-each p events None false search is = absurd (let t = is in cc)
+none-is-each p events (Some k) true search is = absurd (let t = is in cc)
+none-is-each p events (Some k) false search is = ((λ bad. absurd (let t = bad in cc)), (λ fit. absurd (other-misfits p events k search fit)))
 
 pub no-first : (p : Pattern) (events : List Event) (found : Option ℕ) → MatchOption found ((k : ℕ) → 0 ≤ k → ¬ IsAt p events k) (IsFirstFrom p events 0) → found ≡ None
     → (k : ℕ) → ¬ IsFirst p events k

@@ -1,5 +1,5 @@
 -- When a record meets a condition (profile).
-use Rattle.std.specs.Prelude.{◌≡◌, ℕ, ◌<◌, ◌≤◌, List, slice_get, Option, Some}
+use Rattle.std.specs.Prelude.{◌≡◌, ℕ, suc, ◌<◌, ◌≤◌, List, length, slice_get, take, Option, Some}
 use Rattle.board_core.specs.History.{Event}
 use Rattle.conditions.specs.declared.patterns.Pattern.{Pattern}
 use Rattle.conditions.specs.declared.rules.Ending.{Ending}
@@ -24,6 +24,12 @@ IsFirst p events k = IsFirstFrom p events 0 k
 -- each step whose actor and operation fit a pattern has a reply that fits
 abbrev pub RepliesFit : Pattern → List Event → Type 0
 RepliesFit p events = (k : ℕ) (e : Event) → slice_get events k ≡ Some e → FitsStep p e → FitsReply p e
+
+-- the first step whose reply doesn't fit: the replies before it fit, and with its own they don't
+pub record IsFirstOther (p : Pattern) (events : List Event) (k : ℕ) : Type 0 where
+  pub within : k < length events
+  pub before : RepliesFit p (take k events)
+  pub here : ¬ RepliesFit p (take (suc k) events)
 
 -- A record meets a condition. Its end is known of programs alone.
 abbrev pub Holds : Rule → List Event → Option Ending → Type 0

@@ -1,6 +1,6 @@
 //! What a condition asks of a record, and whether one meets it.
-ghost use Rattle.std.specs.Prelude.{◌↔◌, ◌≡◌, ◌<◌, ◌≤◌, ℕ, MatchOption, Some, length, slice_get, true};
-ghost use Rattle.conditions.specs.Rules.{Holds, IsAt, IsFirst, IsFirstFrom, RepliesFit};
+ghost use Rattle.std.specs.Prelude.{◌↔◌, ◌≡◌, ◌<◌, ◌≤◌, ℕ, MatchOption, Some, slice_get, true};
+ghost use Rattle.conditions.specs.Rules.{Holds, IsAt, IsFirst, IsFirstFrom, IsFirstOther, RepliesFit};
 ghost use Rattle.conditions.specs.declared.rules.Ending.{Ending as HowEnded};
 
 use crate::patterns::Pattern;
@@ -90,7 +90,7 @@ fn is_before(p: &Pattern, q: &Pattern, events: &[Event]) -> bool
 /// The first step whose actor and operation fit a pattern, and whose reply doesn't.
 pub fn first_other_reply(p: &Pattern, events: &[Event]) -> Option<usize>
     ensures { MatchOption result (RepliesFit p.now events.now)
-        (λ k. (k < length events.now) × ¬ RepliesFit p.now events.now) }
+        (IsFirstOther p.now events.now) }
 {
     for (k, event) in events.iter().enumerate() {
         if p.fits_step(event) && !p.fits_reply(event) {

@@ -4,6 +4,7 @@ use Rattle.board_terms.specs.declared.config.Config.{Config}
 use Rattle.conditions.specs.declared.reading.Condition.{Condition}
 use Rattle.conditions.specs.declared.rules.Ending.{Ending}
 use Rattle.conditions.specs.declared.rules.Ending.TheVariants as endings
+use Rattle.conditions.specs.declared.rules.Rule.{Rule}
 use Rattle.conditions.specs.Endings.{ending}
 use Rattle.guest_script.specs.Grammar.{Content}
 use Rattle.guest_programs.specs.declared.ends.End.{End}
@@ -12,6 +13,7 @@ use Rattle.guest_programs.specs.Steps.{task_of}
 use Rattle.outcome_statistics.specs.declared.ends.Ends.{Ends}
 use Rattle.outcome_statistics.specs.declared.findings.Findings.{Findings}
 use Rattle.outcome_statistics.specs.declared.findings.Judged.{Judged}
+use Rattle.outcome_statistics.specs.Met.{AreMet}
 use Rattle.outcome_statistics.specs.Records.{IsCounted, IsSo, Tells, Tried}
 
 -- So many of these ended so.
@@ -25,11 +27,19 @@ pub record AreEnded (tried : List Tried) (ends : Ends) : Type 0 where
   pub quiet : HaveEnded endings.Quiet tried ends.quiet
   pub stuck : HaveEnded endings.Stuck tried ends.stuck
 
--- The tally of each condition tells of these.
+-- So many of these ended in one of these ways.
+abbrev pub HaveSomeEnd : List Tried → ℕ → Type 0
+HaveSomeEnd tried n = IsCounted (λ x. x.end ≢ None) (λ x. x.end ≡ None) tried n
+
+-- What is told of a condition: its tally, and which of the steps that it needs were met.
+abbrev pub IsJudged : Rule → List Tried → Judged → Type 0
+IsJudged rule tried j = Tells (IsSo (Some rule)) tried j.tally × AreMet rule tried j.met
+
+-- Of each condition the tally and the steps that were met tell of these records.
 abbrev pub EachTells : List Condition → List Tried → List Judged → Type 0
 EachTells conditions tried judged =
     (k : ℕ) (c : Condition) (j : Judged) → slice_get conditions k ≡ Some c → slice_get judged k ≡ Some j
-    → Tells (IsSo (Some c.rule)) tried j.tally
+    → IsJudged c.rule tried j
 
 -- What was found tells of these records by these conditions.
 pub record AreFound (conditions : List Condition) (tried : List Tried) (found : Findings) : Type 0 where

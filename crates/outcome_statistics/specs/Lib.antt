@@ -1,3 +1,5 @@
 pub mod Records
 pub mod Findings
 pub mod Inside
+pub mod Failing
+pub mod Met

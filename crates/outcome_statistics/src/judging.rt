@@ -1,5 +1,6 @@
 //! A record, judged by a condition.
-ghost use Rattle.std.specs.Prelude.{◌≡◌, ◌↔◌, ◌∷◌, List, Some, true};
+ghost use Rattle.std.specs.Prelude.{◌≡◌, ◌↔◌, ◌∷◌, List, MatchOption, Some, true};
+ghost use Rattle.outcome_statistics.specs.Failing.{IsFailingStep, IsLast};
 ghost use Rattle.outcome_statistics.specs.Records.{IsSo, IsSpared, Meets, Tells, Tried};
 
 use crate::tally::Tally;
@@ -36,16 +37,30 @@ fn is_spared(rule: &Rule, end: Option<Ending>) -> bool
     }
 }
 
-/// The place of the step at which a record fails a condition: of an end the last one, of `some` none.
-pub fn failing_step(rule: Option<&Rule>, events: &[Event]) -> Option<usize> {
+/// The place of the first step with which a record fails a condition: of an end the last one, of `some` none, of `before` the first
+/// that its second pattern means.
+pub fn failing_step(rule: Option<&Rule>, events: &[Event]) -> Option<usize>
+    ensures { MatchOption rule (IsLast events.now result) (λ asked. IsFailingStep asked.now events.now result) }
+{
     match rule {
-        Some(Rule::Never(p)) => first_from(p, events, 0),
-        Some(Rule::NeverAfter(p, q)) => {
-            first_from(p, events, first_from(q, events, 0)?.saturating_add(1))
+        Some(rule) => failing_step_of(rule, events),
+        None => events.len().checked_sub(1),
+    }
+}
+
+/// The same of a condition.
+fn failing_step_of(rule: &Rule, events: &[Event]) -> Option<usize>
+    ensures { IsFailingStep rule.now events.now result }
+{
+    match rule {
+        Rule::Never(p) => first_from(p, events, 0),
+        Rule::NeverAfter(p, q) => {
+            let first = first_from(q, events, 0)?;
+            first_from(p, events, first + 1)
         }
-        Some(Rule::Each(p)) => first_other_reply(p, events),
-        Some(Rule::Before(_, q)) => first_from(q, events, 0),
-        Some(Rule::OfSome(_)) => None,
-        Some(Rule::End(_)) | None => events.len().checked_sub(1),
+        Rule::Each(p) => first_other_reply(p, events),
+        Rule::Before(_, q) => first_from(q, events, 0),
+        Rule::OfSome(_) => None,
+        Rule::End(_) => events.len().checked_sub(1),
     }
 }

@@ -1,62 +1,35 @@
 //! Whether the patterns of a condition meet steps.
+ghost use Rattle.std.specs.Prelude.{◌≡◌, ◌↔◌, List, true};
+ghost use Rattle.outcome_statistics.specs.Met.{AreMet, EachIsMet, IsEachFitting};
+ghost use Rattle.outcome_statistics.specs.Records.{Tried};
+
 use board_core::Event;
-use conditions::{NeedsMet, Rule};
-
-/// Whether each pattern of a condition has met a step, whatever its reply; one that it hasn't is met.
-#[derive(Clone, Copy, Debug)]
-struct Matched {
-    first: bool,
-    second: bool,
-}
-
-impl Matched {
-    /// Before any step.
-    fn new(rule: &Rule) -> Matched {
-        let (first, second) = match rule {
-            Rule::Never(_) | Rule::OfSome(_) | Rule::Each(_) => (false, true),
-            Rule::NeverAfter(..) | Rule::Before(..) => (false, false),
-            Rule::End(_) => (true, true),
-        };
-        Matched { first, second }
-    }
-
-    /// A step was taken.
-    fn see(&mut self, rule: &Rule, event: &Event) {
-        match rule {
-            Rule::Never(p) | Rule::OfSome(p) | Rule::Each(p) => {
-                self.first = self.first || p.fits_step(event);
-            }
-            Rule::NeverAfter(p, q) | Rule::Before(p, q) => {
-                self.first = self.first || p.fits_step(event);
-                self.second = self.second || q.fits_step(event);
-            }
-            Rule::End(_) => {}
-        }
-    }
-
-    /// Whether each has.
-    fn is_each(self) -> bool {
-        self.first && self.second
-    }
-}
+use conditions::{NeedsMet, Rule, has_fitting};
 
 /// Whether each pattern of a condition meets a step of a record, whatever its reply.
-pub fn is_met(rule: &Rule, events: &[Event]) -> bool {
-    let mut matched = Matched::new(rule);
-    for event in events {
-        if matched.is_each() {
-            break;
-        }
-        matched.see(rule, event);
+pub fn is_met(rule: &Rule, events: &[Event]) -> bool
+    ensures { (result ≡ true) ↔ IsEachFitting rule.now events.now }
+{
+    match rule {
+        Rule::Never(p) => has_fitting(p, events),
+        Rule::NeverAfter(p, q) => has_fitting(p, events) && has_fitting(q, events),
+        Rule::OfSome(p) => has_fitting(p, events),
+        Rule::Each(p) => has_fitting(p, events),
+        Rule::End(_) => true,
+        Rule::Before(p, q) => has_fitting(p, events) && has_fitting(q, events),
     }
-    matched.is_each()
 }
 
 /// Whether each pattern of a condition has what it asks for, also one that needs none.
-pub fn is_each_met(rule: &Rule, met: NeedsMet) -> bool {
+pub fn is_each_met(rule: &Rule, met: NeedsMet) -> bool
+    ensures { (tried : List Tried) → AreMet rule.now tried met → (result ≡ true) ↔ EachIsMet rule.now tried }
+{
     match rule {
-        Rule::Never(_) | Rule::OfSome(_) | Rule::Each(_) => met.first,
-        Rule::NeverAfter(..) | Rule::Before(..) => met.first && met.second,
+        Rule::Never(_) => met.first,
+        Rule::NeverAfter(..) => met.first && met.second,
+        Rule::OfSome(_) => met.first,
+        Rule::Each(_) => met.first,
         Rule::End(_) => true,
+        Rule::Before(..) => met.first && met.second,
     }
 }

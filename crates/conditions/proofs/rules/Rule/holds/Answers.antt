@@ -1,5 +1,5 @@
-use Rattle.conditions.specs.declared.rules.Rule.TheVariants.{Never, NeverAfter, OfSome, Before}
-use Rattle.conditions.proofs.Firsts.{holds-by, none-is-never, some-is-there}
+use Rattle.conditions.specs.declared.rules.Rule.TheVariants.{Never, NeverAfter, OfSome, Each, Before}
+use Rattle.conditions.proofs.Firsts.{holds-by, none-is-each, none-is-never, some-is-there}
 use Rattle.conditions.proofs.rules.Rule.holds.Goals as goal
 
 pub returns-in-Never : goal.returns-in-Never
@@ -15,3 +15,7 @@ returns-in-OfSome c = holds-by c.args.self.now (OfSome c.in-OfSome.p) c.args.eve
 
 pub returns-in-Before : goal.returns-in-Before
 returns-in-Before c = holds-by c.args.self.now (Before c.in-Before.p c.in-Before.q) c.args.events.now c.args.end c.is_before.result c.in-Before.is c.is_before.ensures
+
+pub returns-in-Each : goal.returns-in-Each
+returns-in-Each c = holds-by c.args.self.now (Each c.in-Each.p) c.args.events.now c.args.end c.is_none-in-Each.result c.in-Each.is
+    (none-is-each c.in-Each.p c.args.events.now c.first_other_reply.result c.is_none-in-Each.result c.first_other_reply.ensures c.is_none-in-Each.ensures)

@@ -3,7 +3,8 @@ use Rattle.std.specs.Prelude.{None, Some}
 use Rattle.std.proofs.lemmas.List.{get_or-replicate, length-replicate}
 use Rattle.std.proofs.lemmas.Option.{get_or_from_slice_get, slice_get_within}
 use Rattle.outcome_statistics.specs.declared.findings.Judged.{Judged}
-use Rattle.outcome_statistics.specs.Records.{IsSo, Tells}
+use Rattle.outcome_statistics.specs.Findings.{IsJudged}
+use Rattle.outcome_statistics.proofs.Meeting.{are-met-none}
 use Rattle.outcome_statistics.proofs.findings.Findings.new.Goals as goal
 
 pub returns : goal.returns
@@ -18,7 +19,8 @@ returns c asked many =
           let within : k < length c.in_ok-vec.field-0.items = slice_get_within c.in_ok-vec.field-0.items k j at in
           let here : blank ≡ j = sym (get_or-replicate n k blank blank (subst (λ (m : ℕ). k < m) size within))
           ∙ sym (ap (λ (xs : List Judged). get_or xs k blank) items) ∙ get_or_from_slice_get c.in_ok-vec.field-0.items k j blank at in
-          subst (λ (it : Judged). Tells (IsSo (Some condition.rule)) [] it.tally) here (c.new.ensures (Some condition.rule));
+          subst (λ (it : Judged). IsJudged condition.rule [] it) here
+          (c.new.ensures (Some condition.rule), are-met-none condition.rule c.none.result c.none.ensures.first c.none.ensures.second);
       well = c.new-2.ensures None;
       ends = c.new-3.ensures;
     }
