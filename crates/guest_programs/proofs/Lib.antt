@@ -1,5 +1,6 @@
 pub mod Following
 pub mod InBlocks
+pub mod Indexing
 pub mod Quiet
 pub mod Nexts
 pub mod Listing

@@ -1,6 +1,6 @@
 -- A hart that is STARTED, outside of a fence call, is quiet exactly where its guest is through.
 use Rattle.std.proofs.Common.{◌≡◌, ◌↔◌, ℕ, Bool, true, false, List, refl, sym, ◌∙◌, inl, inr}
-use Rattle.std.specs.Prelude.{Option, Some, None, is_some, not, option_map}
+use Rattle.std.specs.Prelude.{Option, Some, None, is_some, not}
 use Rattle.hsm.specs.declared.hart.HartState.TheVariants.{Started}
 use Rattle.board_core.specs.Fences.{outstanding}
 use Rattle.board_core.specs.History.{Event}
@@ -13,11 +13,11 @@ none-is : {A : Type 0} (o : Option A) → is_some o ≡ false → o ≡ None
 none-is None is = refl
 none-is (Some x) is = absurd (let t = is in cc)
 
-pub none-told : {A B : Type 0} (f : A → B) (o : Option A) (r : Option B) (none : Bool) → is_some o ≡ not none → option_map f o ≡ r → (none ≡ true) ↔ (r ≡ None)
-none-told f None r true told mapped = ((λ is. sym mapped), (λ is. refl))
-none-told f None r false told mapped = absurd (let t = told in cc)
-none-told f (Some x) r true told mapped = absurd (let t = told in cc)
-none-told f (Some x) r false told mapped = ((λ is. absurd (let t = is in cc)), (λ is. absurd (let t = mapped ∙ is in cc)))
+pub none-told : {A : Type 0} (o r : Option A) (none : Bool) → is_some o ≡ not none → o ≡ r → (none ≡ true) ↔ (r ≡ None)
+none-told None r true told same = ((λ is. sym same), (λ is. refl))
+none-told None r false told same = absurd (let t = told in cc)
+none-told (Some x) r true told same = absurd (let t = told in cc)
+none-told (Some x) r false told same = ((λ is. absurd (let t = is in cc)), (λ is. absurd (let t = same ∙ is in cc)))
 
 pub is-quiet : (o : Opening) (past : List Event) (guests : Next) (h : ℕ) (is_through : Bool) (call : Option (List ℕ))
     → state o past h ≡ Started → is_some call ≡ false → call ≡ outstanding o past h

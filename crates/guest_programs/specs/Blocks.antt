@@ -1,8 +1,10 @@
 -- Guests whose programs are blocks: lists of operations at the addresses of entries (profile).
-use Rattle.std.specs.Prelude.{ℕ, ◌==◌, if◌then◌else◌, List, [], ◌∷◌, ◌++◌, length, slice_get, Option, Some, None}
+use Rattle.std.specs.Prelude.{ℕ, zero, suc, ◌+◌, ◌==◌, if◌then◌else◌, List, [], ◌∷◌, ◌++◌, length, slice_get, Option, Some, None}
 use Rattle.board_terms.specs.declared.op.Op.{Op}
 use Rattle.board_core.specs.History.{Event}
 use Rattle.guest_script.specs.Grammar.{Guest}
+use Rattle.guest_programs.specs.declared.block_guests.BlockPlace.{BlockPlace}
+use Rattle.guest_programs.specs.declared.block_guests.BlockPlace.TheVariants.{At, Idle}
 use Rattle.guest_programs.specs.declared.guests.Place.{Place}
 use Rattle.guest_programs.specs.Guests.{Did, Entered, Next, Rest, did}
 
@@ -36,3 +38,18 @@ done past h = ops_in (did past h)
 -- what a guest does with this left of its block
 abbrev pub rest_at : Place → Rest
 rest_at place = λ more. slice_get place.left.now (length more)
+
+-- the operations of the block in a place of the list; none where no block is
+abbrev pub ops_at : List Guest → ℕ → List Op
+ops_at [] k = []
+ops_at (block ∷ blocks) zero = block.ops
+ops_at (block ∷ blocks) (suc k) = ops_at blocks k
+
+abbrev pub ops_found : List Guest → Option ℕ → List Op
+ops_found blocks None = []
+ops_found blocks (Some k) = ops_at blocks k
+
+-- What a guest of blocks does from a place on: what is left of its block.
+abbrev pub rest_in : List Guest → BlockPlace → Rest
+rest_in blocks Idle = λ more. None
+rest_in blocks (At block op) = λ more. slice_get (ops_at blocks block) (op + length more)

@@ -1,10 +1,9 @@
 //! Programs, whose blocks are found by the addresses of their entries.
-ghost use Rattle.std.specs.Prelude.{◌≡◌, ℕ, [], IfOk, map};
+ghost use Rattle.std.specs.Prelude.{◌≡◌, ℕ, IfOk, map};
 ghost use Rattle.std.specs.BTreeMap.{get};
-ghost use Rattle.std.specs.Option.{option_map, unwrap_or};
 ghost use Rattle.std.specs.Ordering.{nat_cmp};
 ghost use Rattle.guest_script.specs.Grammar.{guest};
-ghost use Rattle.guest_programs.specs.Blocks.{block_at};
+ghost use Rattle.guest_programs.specs.Blocks.{block_at, ops_at, ops_found};
 
 use board_core::Op;
 use guest_script::Block;
@@ -18,11 +17,10 @@ pub struct Program<'a> {
     pub blocks: &'a [Block],
     /// What the clock does.
     pub ticks: &'a [u64],
-    /// The first block of each address.
-    first: BTreeMap<u64, &'a Block>,
+    /// The place of the first block of each address.
+    first: BTreeMap<u64, usize>,
     ghost indexed: { (addr : ℕ)
-        → unwrap_or (option_map (λ block. block.now.ops.items) (get nat_cmp first addr)) []
-        ≡ block_at (map guest blocks.now) addr },
+        → ops_found (map guest blocks.now) (get nat_cmp first addr) ≡ block_at (map guest blocks.now) addr },
 }
 
 impl<'a> Program<'a> {
@@ -32,25 +30,41 @@ impl<'a> Program<'a> {
         ensures { result.now ≡ block_at (map guest self.now.blocks.now) addr }
     {
         match self.first.get(&addr) {
+            Some(block) => self.ops_in(*block),
+            None => &[],
+        }
+    }
+
+    /// The place of the first block at an address that has something to do, if there is one.
+    pub(crate) fn first_at(&self, addr: u64) -> Option<usize>
+        ensures { ops_found (map guest self.now.blocks.now) result ≡ block_at (map guest self.now.blocks.now) addr }
+    {
+        let block = *self.first.get(&addr)?;
+        if self.ops_in(block).is_empty() {
+            return None;
+        }
+        Some(block)
+    }
+
+    /// The operations of the block in a place; none where no block is.
+    pub(crate) fn ops_in(&self, block: usize) -> &'a [Op]
+        ensures { result.now ≡ ops_at (map guest self.now.blocks.now) block }
+    {
+        match self.blocks.get(block) {
             Some(block) => &block.ops,
             None => &[],
         }
     }
 }
 
-/// The first block of each address.
-fn first_blocks<'a>(
-    alloc: Global,
-    blocks: &'a [Block],
-) -> Result<BTreeMap<u64, &'a Block>, AllocError>
-    ensures { IfOk result
-        (λ first. (addr : ℕ) → unwrap_or (option_map (λ block. block.now.ops.items) (get nat_cmp first addr)) []
-        ≡ block_at (map guest blocks.now) addr) }
+/// The place of the first block of each address.
+fn first_blocks(alloc: Global, blocks: &[Block]) -> Result<BTreeMap<u64, usize>, AllocError>
+    ensures { IfOk result (λ first. (addr : ℕ)
+        → ops_found (map guest blocks.now) (get nat_cmp first addr) ≡ block_at (map guest blocks.now) addr) }
 {
     let mut first = BTreeMap::new(alloc);
     for i in (0..blocks.len()).rev() {
-        let block = &blocks[i];
-        first.insert(block.addr, block)?;
+        first.insert(blocks[i].addr, i)?;
     }
     Ok(first)
 }

@@ -3,28 +3,26 @@ ghost use Rattle.std.specs.Prelude.{◌≡◌, ◌∷◌, ◌<◌, ◌↔◌, �
 ghost use Rattle.board_terms.specs.declared.op.Actor.TheVariants.{Hart};
 ghost use Rattle.board_core.specs.History.{Event};
 ghost use Rattle.guest_programs.specs.Ends.{AreQuiet, IsEnd, IsEndBy, IsQuiet};
-ghost use Rattle.guest_programs.specs.Guests.{AreNext, Did, Entered, Next, next_for};
+ghost use Rattle.guest_programs.specs.Guests.{AreNext, Did, Entered, next_for};
 ghost use Rattle.guest_programs.specs.Places.{AllFollowed, IsFollowed, IsFollowedTo};
-ghost use Rattle.guest_programs.specs.Steps.{task_in};
 
-use crate::blocks::Program;
 use crate::ends::End;
-use crate::guests::{Place, is_guest};
+use crate::guests::{Guests, is_guest};
 use crate::met::Met;
+use crate::places::all_alike;
 use board_core::{Actor, Board, Event, HartState, Op, Reply};
 use std::alloc::{AllocError, Global};
 
 /// How the run of a board ended, by its history and what its guests had to do; of its actors' word only what can't be seen
 /// there is taken: whether a gate ended one, and whether one met a full history.
-pub fn end_of(
+pub fn end_of<G: Guests>(
     alloc: Global,
     board: &Board,
-    program: &Program<'_>,
+    guests: &G,
     met: Met,
 ) -> Result<End, AllocError>
-    ensures end { IfOk result (λ end. IsEnd end board.now.opening board.now.past (task_in program.now).guests) }
-    ensures by { IfOk result
-        (λ end. IsEndBy met board.now.opening board.now.past (task_in program.now).guests end) }
+    ensures end { IfOk result (λ end. IsEnd end board.now.opening board.now.past (G.next guests.now)) }
+    ensures by { IfOk result (λ end. IsEndBy met board.now.opening board.now.past (G.next guests.now) end) }
 {
     if met == Met::ClosedGate {
         return Ok(End::GateLimit);
@@ -35,8 +33,8 @@ pub fn end_of(
     if met == Met::FullHistory && board.history().len() as u64 == board.config().limit {
         return Ok(End::HistoryFull);
     }
-    let guests = guests_after(alloc, board, program)?;
-    Ok(match first_unquiet(board, program, &guests) {
+    let found = found_after(alloc, board, guests)?;
+    Ok(match first_unquiet(board, guests, &found) {
         None => End::Quiet,
         Some(_) => End::Stuck,
     })
@@ -44,104 +42,118 @@ pub fn end_of(
 
 /// What a history shows of a hart's guest.
 #[derive(Clone, Copy)]
-enum Followed<'a> {
+enum Followed<P: Copy> {
     /// Since its last entry it did nothing but its next operations, and is here.
-    To(Place<'a>),
+    To(P),
     /// It did something else.
     Strayed,
 }
 
-impl<'a> Followed<'a> {
-    /// An operation of its hart was accepted.
-    fn sees(&mut self, program: &Program<'a>, op: Op, reply: Reply)
-        ensures { (past : List Event) (h : ℕ) (e : Event) → e.actor ≡ Hart h → e.op ≡ op → e.reply ≡ reply
-            → IsFollowed (task_in program.now).guests past h self.old
-            → IsFollowed (task_in program.now).guests (e ∷ past) h self.new }
-    {
-        if let Reply::Entry { addr, .. } = reply {
-            *self = Followed::To(Place::entered(program, addr));
-        } else if is_guest(op) {
-            *self = self.behind(&op);
-        }
+/// What is shown after an operation of the guest's hart was accepted.
+fn followed_after<G: Guests>(
+    guests: &G,
+    found: Followed<G::Place>,
+    op: Op,
+    reply: Reply,
+) -> Followed<G::Place>
+    ensures { (past : List Event) (h : ℕ) (e : Event) → e.actor ≡ Hart h → e.op ≡ op → e.reply ≡ reply
+        → IsFollowed (G.rest guests.now) (G.next guests.now) past h found
+        → IsFollowed (G.rest guests.now) (G.next guests.now) (e ∷ past) h result }
+{
+    if let Reply::Entry { addr, hart, opaque } = reply {
+        return Followed::To(guests.entered(addr, hart, opaque));
     }
-
-    /// What is shown behind an operation of the guest, however it was answered.
-    #[tactic(auto, using(crate::proofs::Following::strayed_before))]
-    fn behind(self, op: &Op) -> Followed<'a>
-        ensures { (guests : Next) (entry : Option Entered) (before : Did) (reply : _)
-            → IsFollowedTo guests entry before self.entry → IsFollowedTo guests entry ((op.now, reply) ∷ before) result }
-    {
-        let Followed::To(place) = self else {
-            return Followed::Strayed;
-        };
-        let Some(next) = place.next() else {
-            return Followed::Strayed;
-        };
-        if !is_same(next, op) {
-            return Followed::Strayed;
-        }
-        Followed::To(place.behind())
+    if is_guest(op) {
+        return followed_behind(guests, found, op, reply);
     }
+    found
+}
 
-    /// Whether the guest did nothing but its next operations, and has none.
-    fn is_through(&self) -> bool
-        ensures { (guests : Next) (entry : Option Entered) (before : Did) → IsFollowedTo guests entry before self.now
-            → (result ≡ true) ↔ (AreNext guests entry before × (next_for guests entry before ≡ None)) }
-    {
-        match self {
-            Followed::To(place) => place.next().is_none(),
-            Followed::Strayed => false,
-        }
+/// What is shown behind an operation of the guest.
+#[tactic(auto, using(crate::proofs::Following::strayed_before))]
+fn followed_behind<G: Guests>(
+    guests: &G,
+    found: Followed<G::Place>,
+    op: Op,
+    reply: Reply,
+) -> Followed<G::Place>
+    ensures { (entry : Option Entered) (before : Did)
+        → IsFollowedTo (G.rest guests.now) (G.next guests.now) entry before found
+        → IsFollowedTo (G.rest guests.now) (G.next guests.now) entry ((op, reply) ∷ before) result }
+{
+    let Followed::To(place) = found else {
+        return Followed::Strayed;
+    };
+    let Some(next) = guests.op_at(place) else {
+        return Followed::Strayed;
+    };
+    if !is_same(next, op) {
+        return Followed::Strayed;
+    }
+    Followed::To(guests.behind(place, op, reply))
+}
+
+/// Whether the guest did nothing but its next operations, and has none.
+fn is_through<G: Guests>(guests: &G, found: &Followed<G::Place>) -> bool
+    ensures { (entry : Option Entered) (before : Did)
+        → IsFollowedTo (G.rest guests.now) (G.next guests.now) entry before found.now
+        → (result ≡ true) ↔ (AreNext (G.next guests.now) entry before × (next_for (G.next guests.now) entry before ≡ None)) }
+{
+    match found {
+        Followed::To(place) => guests.op_at(*place).is_none(),
+        Followed::Strayed => false,
     }
 }
 
 /// Whether two operations are the same.
-fn is_same(a: &Op, b: &Op) -> bool
-    ensures { (result ≡ true) ↔ (a.now ≡ b.now) }
+fn is_same(a: Op, b: Op) -> bool
+    ensures { (result ≡ true) ↔ (a ≡ b) }
 {
     a == b
 }
 
 /// What the history shows of each hart's guest.
-fn guests_after<'a>(
+fn found_after<G: Guests>(
     alloc: Global,
     board: &Board,
-    program: &Program<'a>,
-) -> Result<Vec<Followed<'a>>, AllocError>
+    guests: &G,
+) -> Result<Vec<Followed<G::Place>>, AllocError>
     ensures many { IfOk result (λ v. length v.items ≡ board.now.opening.config.harts) }
-    ensures followed { IfOk result (λ v. AllFollowed (task_in program.now).guests v.items board.now.past) }
+    ensures followed { IfOk result
+        (λ v. AllFollowed (G.rest guests.now) (G.next guests.now) v.items board.now.past) }
 {
-    let start = Followed::To(Place::new());
-    let mut guests = vec![in alloc; start; board.config().harts as usize]?;
+    let start = Followed::To(guests.nowhere());
+    let mut found = all_alike(alloc, start, board.config().harts)?;
     for event in board.history() {
-        see(&mut guests, program, event);
+        see(guests, &mut found, event);
     }
-    Ok(guests)
+    Ok(found)
 }
 
 /// What is shown behind an event.
-fn see<'a>(guests: &mut [Followed<'a>], program: &Program<'a>, event: &Event)
-    ensures many { length guests.new ≡ length guests.old }
-    ensures followed { (past : List _) → AllFollowed (task_in program.now).guests guests.old past
-        → AllFollowed (task_in program.now).guests guests.new (event.now ∷ past) }
+fn see<G: Guests>(guests: &G, found: &mut [Followed<G::Place>], event: &Event)
+    ensures many { length found.new ≡ length found.old }
+    ensures followed { (past : List _) → AllFollowed (G.rest guests.now) (G.next guests.now) found.old past
+        → AllFollowed (G.rest guests.now) (G.next guests.now) found.new (event.now ∷ past) }
 {
     if let Actor::Hart(h) = event.actor()
-        && (h as usize) < guests.len()
+        && (h as usize) < found.len()
     {
-        guests[h as usize].sees(program, event.op(), event.reply());
+        let before = found[h as usize];
+        found[h as usize] = followed_after(guests, before, event.op(), event.reply());
     }
 }
 
 /// The first hart that isn't quiet, if there is one.
-fn first_unquiet(board: &Board, program: &Program<'_>, guests: &[Followed<'_>]) -> Option<u64>
-    requires many { length guests.now ≡ board.now.opening.config.harts }
-    requires followed { AllFollowed (task_in program.now).guests guests.now board.now.past }
-    ensures { MatchOption result (AreQuiet board.now.opening board.now.past (task_in program.now).guests)
+fn first_unquiet<G: Guests>(board: &Board, guests: &G, found: &[Followed<G::Place>]) -> Option<u64>
+    requires many { length found.now ≡ board.now.opening.config.harts }
+    requires followed { AllFollowed (G.rest guests.now) (G.next guests.now) found.now board.now.past }
+    ensures { MatchOption result (AreQuiet board.now.opening board.now.past (G.next guests.now))
         (λ h. (h < board.now.opening.config.harts)
-        × ¬ IsQuiet board.now.opening board.now.past (task_in program.now).guests h) }
+        × ¬ IsQuiet board.now.opening board.now.past (G.next guests.now) h) }
 {
-    for (h, found) in guests.iter().enumerate() {
-        if !is_quiet(board, program, h as u64, found) {
+    for (h, one) in found.iter().enumerate() {
+        if !is_quiet(board, guests, h as u64, one) {
             return Some(h as u64);
         }
     }
@@ -149,14 +161,14 @@ fn first_unquiet(board: &Board, program: &Program<'_>, guests: &[Followed<'_>]) 
 }
 
 /// Whether a hart is STOPPED, or STARTED, outside of a fence call and with its guest through.
-fn is_quiet(board: &Board, program: &Program<'_>, h: u64, found: &Followed<'_>) -> bool
+fn is_quiet<G: Guests>(board: &Board, guests: &G, h: u64, found: &Followed<G::Place>) -> bool
     requires hart { h < board.now.opening.config.harts }
-    requires followed { IsFollowed (task_in program.now).guests board.now.past h found.now }
-    ensures { (result ≡ true) ↔ IsQuiet board.now.opening board.now.past (task_in program.now).guests h }
+    requires followed { IsFollowed (G.rest guests.now) (G.next guests.now) board.now.past h found.now }
+    ensures { (result ≡ true) ↔ IsQuiet board.now.opening board.now.past (G.next guests.now) h }
 {
     match board.state(h) {
         HartState::Stopped => true,
-        HartState::Started => board.outstanding(h).is_none() && found.is_through(),
+        HartState::Started => board.outstanding(h).is_none() && is_through(guests, found),
         _ => false,
     }
 }

@@ -1,4 +1,4 @@
-//! Where a guest is.
+//! What guests are: what each does next, and how far it is.
 ghost use Rattle.std.specs.Prelude.{◌≡◌, ◌∷◌, ◌++◌, ℕ, List, []};
 ghost use Rattle.std.specs.Option.{option_map};
 ghost use Rattle.board_terms.specs.declared.op.Actor.TheVariants.{Hart};
@@ -11,6 +11,53 @@ ghost use Rattle.guest_programs.specs.Steps.{task_in};
 
 use crate::blocks::Program;
 use board_core::{Op, Reply};
+
+/// The guests of a board's harts: what each does from its entry on, by the replies that it got.
+pub trait Guests {
+    ghost use Rattle.std.specs.Prelude.{◌≡◌, ◌∷◌, ◌++◌, [], None};
+    ghost use Rattle.guest_programs.specs.Guests.{Did, Next, Rest};
+
+    /// How far a guest is.
+    type Place: Copy;
+
+    // What guests do.
+    ghost next: { Self → Next };
+
+    // What a guest does from a place on.
+    ghost rest: { Self → Self.Place → Rest };
+
+    /// The place of a guest whose hart wasn't entered yet.
+    fn nowhere(&self) -> Self::Place
+        ensures { (more : Did) → rest self.now result more ≡ None };
+
+    /// The place of a guest whose hart is entered.
+    fn entered(&self, addr: u64, hart: u64, opaque: u64) -> Self::Place
+        ensures { (more : Did) → rest self.now result more
+            ≡ next self.now (record { addr = addr; hart = hart; opaque = opaque }) more };
+
+    /// The place behind an operation that was answered so. It may be another one than the guest's next.
+    fn behind(&self, place: Self::Place, op: Op, reply: Reply) -> Self::Place
+        ensures { (more : Did) → rest self.now result more ≡ rest self.now place (more ++ (op, reply) ∷ []) };
+
+    /// What a guest does next, if there is something.
+    fn op_at(&self, place: Self::Place) -> Option<Op>
+        ensures { result ≡ rest self.now place [] };
+}
+
+/// The place of a guest after an operation of its hart was accepted.
+pub fn place_after<G: Guests>(guests: &G, place: G::Place, op: Op, reply: Reply) -> G::Place
+    ensures { (past : List Event) (h : ℕ) (e : Event) → e.actor ≡ Hart h → e.op ≡ op → e.reply ≡ reply
+        → IsAt (G.rest guests.now place) (G.next guests.now) past h
+        → IsAt (G.rest guests.now result) (G.next guests.now) (e ∷ past) h }
+{
+    if let Reply::Entry { addr, hart, opaque } = reply {
+        return guests.entered(addr, hart, opaque);
+    }
+    if is_guest(op) {
+        return guests.behind(place, op, reply);
+    }
+    place
+}
 
 /// How far a hart's guest is in its block.
 #[derive(Clone, Copy)]

@@ -2,6 +2,7 @@
 //! run ended.
 #![tactic(auto)]
 
+mod block_guests;
 mod blocks;
 mod boards;
 mod ends;
@@ -12,11 +13,12 @@ mod places;
 mod programs;
 mod steps;
 
+pub use block_guests::BlockPlace;
 pub use blocks::Program;
 pub use boards::new_board;
 pub use ends::{End, RunEnd, RunFault};
 pub use found_end::end_of;
-pub use guests::{Place, is_guest};
+pub use guests::{Guests, Place, is_guest, place_after};
 pub use met::Met;
 pub use places::Places;
 pub use programs::{blocks_in_order, program_in};

@@ -55,7 +55,7 @@ fn each_tried(
 {
     let mut found = Findings::new(alloc, batch.conditions.len())?;
     for order in batch.from..batch.to {
-        let end = try_order_on(alloc, program, board, batch.seed, order)?;
+        let end = try_order_on(alloc, program, program.ticks, board, batch.seed, order)?;
         found.see(alloc, batch.conditions, order, board, end)?;
     }
     Ok(found)

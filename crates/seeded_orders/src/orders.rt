@@ -1,5 +1,5 @@
 //! The order that a seed and a number give, and its record.
-ghost use Rattle.std.specs.Prelude.{◌≡◌, ◌↔◌, ◌⊎◌, IfErr, IfOk, IsErrOf, OnOk};
+ghost use Rattle.std.specs.Prelude.{◌≡◌, ◌↔◌, ◌⊎◌, IfErr, IfOk, IsErrOf, OnOk, Some};
 ghost use Rattle.board_terms.specs.Limits.{IsGood};
 ghost use Rattle.board_core.specs.Opening.{opening_at};
 ghost use Rattle.board_core.specs.Replies.{IsLegal};
@@ -8,12 +8,12 @@ ghost use Rattle.guest_programs.specs.Programs.{IsProgram};
 ghost use Rattle.guest_programs.specs.declared.ends.RunFault.TheVariants.{BadConfig, NoMemory};
 ghost use Rattle.seeded_orders.specs.Orders.{IsTried, met_before, ordered, past_with};
 ghost use Rattle.guest_programs.specs.Places.{AreAt};
-ghost use Rattle.guest_programs.specs.Steps.{steps, task_in, task_of};
+ghost use Rattle.guest_programs.specs.Steps.{Task, steps, task_of};
 
 use crate::pickers::Picker;
 use board_core::Board;
 use guest_programs::{
-    End, Met, Places, Program, RunEnd, RunFault, Step, end_of, new_board, program_in,
+    End, Guests, Met, Places, RunEnd, RunFault, Step, end_of, new_board, program_in,
 };
 use guest_script::Script;
 use std::alloc::{AllocError, Global};
@@ -35,19 +35,20 @@ pub fn try_order(alloc: Global, script: &Script, seed: u64, order: u64) -> Resul
 {
     let mut board = new_board(alloc, &script.config)?;
     let program = program_in(alloc, &script.body)?;
-    let end = try_order_on(alloc, &program, &mut board, seed, order)?;
+    let end = try_order_on(alloc, &program, program.ticks, &mut board, seed, order)?;
     Ok(RunEnd { end, board })
 }
 
-/// Runs a program on a board, which begins anew, in the order that a seed and a number pick: each time one of all steps that
-/// its actors can take of themselves.
+/// Runs guests and a clock's ticks on a board, which begins anew, in the order that a seed and a number pick: each time one of
+/// all steps that these actors can take of themselves.
 ///
 /// # Errors
 ///
 /// Memory was refused.
-pub fn try_order_on(
+pub fn try_order_on<G: Guests>(
     alloc: Global,
-    program: &Program<'_>,
+    guests: &G,
+    ticks: &[u64],
     board: &mut Board,
     seed: u64,
     order: u64,
@@ -56,17 +57,19 @@ pub fn try_order_on(
     ensures opening { OnOk result (board.new.opening ≡ opening_at board.old.opening.config) }
     ensures legal { IsLegal board.new.opening board.new.past }
     ensures tried { IfOk result
-        (λ end. IsTried board.old.opening.config (task_in program.now) seed order board.new.past end) }
+        (λ end. IsTried board.old.opening.config (record { guests = G.next guests.now; ticks = ticks.now }) seed order
+        board.new.past end) }
 {
-    let ended = follow_anew(alloc, program, board, seed, order);
+    let ended = follow_anew(alloc, guests, ticks, board, seed, order);
     let _legal = board.history();
     ended
 }
 
-/// Runs a program on a board, which begins anew, in the order of a seed and a number.
-fn follow_anew(
+/// Runs guests and ticks on a board, which begins anew, in the order of a seed and a number.
+fn follow_anew<G: Guests>(
     alloc: Global,
-    program: &Program<'_>,
+    guests: &G,
+    ticks: &[u64],
     board: &mut Board,
     seed: u64,
     order: u64,
@@ -74,14 +77,15 @@ fn follow_anew(
     ensures config { board.new.opening.config ≡ board.old.opening.config }
     ensures opening { OnOk result (board.new.opening ≡ opening_at board.old.opening.config) }
     ensures tried { IfOk result
-        (λ end. IsTried board.old.opening.config (task_in program.now) seed order board.new.past end) }
+        (λ end. IsTried board.old.opening.config (record { guests = G.next guests.now; ticks = ticks.now }) seed order
+        board.new.past end) }
 {
     let harts = board.config().harts;
-    let mut places = Places::new(alloc, harts, program.ticks)?;
+    let mut places = Places::new(alloc, guests, harts, ticks)?;
     let mut picker = Picker::new(alloc, harts, seed, order)?;
     board.begin_anew(alloc)?;
-    let met = follow(alloc, board, program, &mut places, &mut picker)?;
-    end_of(alloc, board, program, met)
+    let met = follow(alloc, board, guests, &mut places, &mut picker)?;
+    end_of(alloc, board, guests, met)
 }
 
 /// Takes steps, one a turn, until none can be taken or the history is full; and tells which.
@@ -89,28 +93,30 @@ fn follow_anew(
 /// # Errors
 ///
 /// Memory was refused.
-fn follow<'a>(
+fn follow<G: Guests>(
     alloc: Global,
     board: &mut Board,
-    program: &Program<'a>,
-    places: &mut Places<'a>,
+    guests: &G,
+    places: &mut Places<'_, G::Place>,
     picker: &mut Picker,
 ) -> Result<Met, AllocError>
-    requires { AreAt (task_in program.now) board.old.opening.config.harts board.old.past places.old }
     ensures opening { board.new.opening ≡ board.old.opening }
-    ensures past { OnOk result (board.new.past
-        ≡ ordered board.old.opening (task_in program.now) board.old.opening.config.limit 0 picker.old board.old.past) }
-    ensures met { IfOk result (λ met. met ≡ met_before (steps board.new.opening (task_in program.now) board.new.past)) }
+    ensures past { OnOk result ((p : Task) → p.guests ≡ G.next guests.now
+        → AreAt (G.rest guests.now) p board.old.opening.config.harts board.old.past places.old
+        → board.new.past ≡ ordered board.old.opening p board.old.opening.config.limit 0 picker.old board.old.past) }
+    ensures met { IfOk result (λ met. (p : Task) → p.guests ≡ G.next guests.now
+        → AreAt (G.rest guests.now) p board.old.opening.config.harts board.old.past places.old
+        → met ≡ met_before (steps board.new.opening p board.new.past)) }
 {
     let mut steps = Vec::new(alloc);
     for i in 0..board.config().limit {
-        places.list(board, &mut steps)?;
+        places.list(guests, board, &mut steps)?;
         let Some(step) = picker.pick(i, &steps) else {
             return Ok(Met::Nothing);
         };
-        take(board, program, places, step);
+        take(board, guests, places, step);
     }
-    places.list(board, &mut steps)?;
+    places.list(guests, board, &mut steps)?;
     Ok(met_before(&steps))
 }
 
@@ -126,17 +132,19 @@ fn met_before(left: &[Step]) -> Met
 }
 
 /// Takes a step.
-fn take<'a>(board: &mut Board, program: &Program<'a>, places: &mut Places<'a>, step: Step)
-    requires { AreAt (task_in program.now) board.old.opening.config.harts board.old.past places.old }
+fn take<G: Guests>(board: &mut Board, guests: &G, places: &mut Places<'_, G::Place>, step: Step)
     ensures opening { board.new.opening ≡ board.old.opening }
-    ensures past { board.new.past ≡ past_with board.old.opening (task_in program.now) board.old.past (Some step) }
-    ensures places { AreAt (task_in program.now) board.old.opening.config.harts board.new.past places.new }
+    ensures past { (p : Task) → AreAt (G.rest guests.now) p board.old.opening.config.harts board.old.past places.old
+        → board.new.past ≡ past_with board.old.opening p board.old.past (Some step) }
+    ensures places { (p : Task) → p.guests ≡ G.next guests.now
+        → AreAt (G.rest guests.now) p board.old.opening.config.harts board.old.past places.old
+        → AreAt (G.rest guests.now) p board.old.opening.config.harts board.new.past places.new }
 {
-    let Some(op) = places.op(step) else {
+    let Some(op) = places.op(guests, step) else {
         return;
     };
     let actor = step.actor();
     if let Ok(reply) = board.step(actor, op) {
-        places.see(program, actor, op, reply);
+        places.see(guests, actor, op, reply);
     }
 }

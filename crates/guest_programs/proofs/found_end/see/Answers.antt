@@ -1,9 +1,13 @@
-use Rattle.std.proofs.Common.{sym, ◌∙◌}
-use Rattle.guest_programs.specs.Steps.{task_in}
+use Rattle.std.proofs.Common.{sym, subst, ◌∙◌}
+use Rattle.guest_programs.specs.Places.{IsFollowed}
 use Rattle.guest_programs.proofs.Following.{see-all}
 use Rattle.guest_programs.proofs.found_end.see.Goals as goal
 
-pub returns-then-h-guests-clause-followed : goal.returns-then-h-guests-clause-followed
-returns-then-h-guests-clause-followed c past all =
-    see-all (task_in c.args.program.now).guests c.args.guests.now past c.args.event.now c.in-Hart.h _ c.sees.new.self (sym c.actor.ensures ∙ c.in-Hart.is) c.if-h-guests.true
-    (c.sees.ensures past c.in-Hart.h c.args.event.now (sym c.actor.ensures ∙ c.in-Hart.is) (sym c.op.ensures) (sym c.reply.ensures)) all
+pub returns-then-h-found-clause-followed : goal.returns-then-h-found-clause-followed
+returns-then-h-found-clause-followed g c past all =
+    let rest = g.G.Guests.rest c.args.guests.now in
+    let guests = g.G.Guests.next c.args.guests.now in
+    let by = sym c.actor.ensures ∙ c.in-Hart.is in
+    see-all rest guests c.args.found.now past c.args.event.now c.in-Hart.h c.index-found-h.result c.followed_after.result by c.if-h-found.true
+    (λ at. c.followed_after.ensures past c.in-Hart.h c.args.event.now by (sym c.op.ensures) (sym c.reply.ensures)
+    (subst (λ found. IsFollowed rest guests past c.in-Hart.h found) (sym c.index-found-h.is) at)) all

@@ -13,4 +13,4 @@ returns-in-Entry c past h e by asked answered at =
 pub returns-then-is_guest : goal.returns-then-is_guest
 returns-then-is_guest c past h e by asked answered at =
     at-one (task_in c.args.program.now).guests past h e by (rest_at c.args.self.now) (rest_at c.behind.result)
-    (ap is_guest asked ∙ sym c.is_guest.ensures ∙ c.if-is_guest.true) (λ addr hart opaque is. c.in_default.not-Entry addr hart opaque (sym answered ∙ is)) at c.behind.ensures
+    (ap is_guest asked ∙ sym c.is_guest.ensures ∙ c.if-is_guest.true) (λ addr hart opaque is. c.in_default.not-Entry addr hart opaque (sym answered ∙ is)) at (c.behind.ensures (e.op, e.reply))
