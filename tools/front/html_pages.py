@@ -96,22 +96,20 @@ class Pages:
 
     def write(self, points):
         os.makedirs(self.folder, exist_ok=True)
-        kept = [it.details.get("record") for it in points]
-        for place, point in enumerate(points):
-            is_replaced = point.details.get("record") in [it for it in kept[place + 1 :] if it]
-            self.rows.append((point, *self.page_of(point, is_replaced)))
+        for point in points:
+            self.rows.append((point, *self.page_of(point)))
         self.put("index", self.index())
 
     def put(self, name, text):
         with open(os.path.join(self.folder, f"{name}.html"), "w", encoding="utf-8") as file:
             file.write(text.replace(HEAD, HEAD + MARK + "\n", 1))
 
-    def page_of(self, point, is_replaced):
+    def page_of(self, point):
         """The name of a point's page and the step at which it opens, and what is said of it; without a page no name."""
         # (a trace that differs is drawn itself, with its own answers)
         record = point.details.get("record") or (point.file if "differing" in point.details else None)
-        if is_replaced or not is_file(record):
-            return None, None, "its record was replaced by that of a point below" if is_replaced else NO_RECORD
+        if not is_file(record):
+            return None, None, NO_RECORD
         failing = self.failing(point, record)
         board, steps, states, _ = read_file(record, None)
         if failing:

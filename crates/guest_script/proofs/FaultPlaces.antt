@@ -17,7 +17,7 @@ use Rattle.guest_script.proofs.BoardLine.{board_passes, board_tested}
 use Rattle.guest_script.proofs.LineWords.{next_tested, none_both, none_parts, NoneHolds}
 use Rattle.guest_script.proofs.LinesFrom.{first_at_line}
 use Rattle.guest_script.proofs.ScriptLines.{line_passes, line_tested, lines_pass}
-use Rattle.guest_script.proofs.Spacing.{line_words}
+use Rattle.line_words.proofs.Spacing.{line_words}
 
 -- ---- the first test that holds
 

@@ -1,6 +1,5 @@
 pub mod ArgumentsIn
 pub mod BoardLine
-pub mod DigitValues
 pub mod Drafted
 pub mod FaultPlaces
 pub mod FaultsFound
@@ -8,13 +7,10 @@ pub mod LineWords
 pub mod LinesFrom
 pub mod LinesOf
 pub mod Named
-pub mod Numerals
 pub mod PiecesRead
 pub mod PlainParts
 pub mod PlainRead
 pub mod PlainShapes
 pub mod PlainWords
 pub mod ScriptLines
-pub mod Spacing
 pub mod Spelling
-pub mod WordsIn

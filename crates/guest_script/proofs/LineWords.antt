@@ -26,7 +26,8 @@ use Rattle.guest_script.specs.Grammar.{Blocked, Blocks, Draft, Guest, IsActor, I
 use Rattle.guest_script.specs.Values.{actor_in, after_arrow, arguments_in, before_arrow, begins_actor_line, first_number, has_arrow, in_block, is_arrow, is_at, is_clock, is_clock_head, is_cut, is_filled, is_number, is_ret, is_signed, kind_of, line_in, made_by, named_in, next_in, next_of, number_in, op_in, opened_by, ret_in, said_in, signed_in, doing_in, with_step}
 use Rattle.guest_script.specs.FirstFault.{actor_test, argument_tests, arguments_tests, doing_tests, form_tests, head_tests, in_block_tests, kind_tests, line_tests, may_follow, named_tests, number_tests, ret_tests, said_tests, step_tests}
 use Rattle.guest_script.proofs.ArgumentsIn.{first_argument_fault}
-use Rattle.guest_script.proofs.Spelling.{arguments_as_numbers, arguments_spelled, number_spelled, signed_spelled, spelled_number, spelled_arguments, spelled_signed}
+use Rattle.guest_script.proofs.Spelling.{arguments_as_numbers, arguments_spelled, spelled_arguments}
+use Rattle.line_words.proofs.Spelling.{number_spelled, signed_spelled, spelled_number, spelled_signed}
 
 -- ---- tests of which none holds
 

@@ -1,20 +1,22 @@
 -- Names, and the words behind them, as they are read.
 use Rattle.std.proofs.Common.{◌≡◌, ◌≢◌, ℕ, ℤ, Bool, true, false, List, [], ◌∷◌, ◌++◌, Option, Some, None, Ok, Err, cond, map, refl, sym, ap, ◌∙◌, inl, inr}
+use Rattle.std.specs.Option.{option_map}
 use Rattle.std.specs.Str.{bytes_eq}
 use Rattle.std.proofs.lemmas.Bool.{cases_Bool}
+use Rattle.std.proofs.lemmas.Option.{same_Some}
 use Rattle.board_terms.specs.Refusals.{first_that_holds}
 use Rattle.guest_script.specs.declared.fault.FaultKind.TheVariants.{BadNumber}
 use Rattle.script_lines.specs.declared.said.Said.TheVariants.{Ret}
 use Rattle.guest_script.specs.Words.{last_number}
 use Rattle.script_lines.specs.declared.op_name.OpName.{OpName}
-use Rattle.script_lines.specs.declared.op_name.OpName.TheVariants as ops
 use Rattle.script_lines.specs.declared.said_name.SaidName.{SaidName}
 use Rattle.script_lines.specs.declared.said_name.SaidName.TheVariants as saids
-use Rattle.script_lines.specs.Names.{by_word, is_guests, op_named, op_names, op_word, said_named, said_word, unsigned_saids}
+use Rattle.script_lines.specs.Names.{by_word, guest_ops, is_guests, op_named, op_names, op_word, said_named, said_word, unsigned_saids}
 use Rattle.guest_script.specs.Forms.{Form, form_of, guest_form_of, guest_forms, named, op_form, other_forms, said_form, said_form_of}
 use Rattle.guest_script.specs.Values.{is_signed, number_in, ret_in, signed_in}
 use Rattle.guest_script.specs.FirstFault.{ret_tests}
 use Rattle.guest_script.specs.Reading.{or_fault, tested}
+use Rattle.script_lines.proofs.NamesFound.{op_found, said_found}
 use Rattle.guest_script.proofs.ArgumentsIn.{is_number_none, is_number_some}
 use Rattle.guest_script.proofs.LinesFrom.{tested_fail, tested_pass}
 
@@ -32,44 +34,38 @@ not_for_guests name none = named_front guest_forms other_forms name none
 
 -- ---- the table's rows
 
-unnamed : {A N : Type 0} (word_of : N → List ℕ) (form : N → Form A) (names : List N) (word : List ℕ) → by_word word_of names word ≡ None
-    → named (map (λ name. (word_of name, form name)) names) word ≡ None
-unnamed word_of form [] word none = refl
-unnamed word_of form (name ∷ names) word none = elim (cases_Bool (bytes_eq word (word_of name))) [
-  | inl same ↦ absurd (let e = rw same at none in cc)
-  | inr other ↦ rw other (unnamed word_of form names word (rw other at none))
+-- what a table has under a word is the form of the name that the word finds
+named_by_word : {A N : Type 0} (word_of : N → List ℕ) (form : N → Form A) (names : List N) (word : List ℕ)
+    → named (map (λ name. (word_of name, form name)) names) word ≡ option_map form (by_word word_of names word)
+named_by_word word_of form [] word = refl
+named_by_word word_of form (name ∷ names) word = elim (cases_Bool (bytes_eq word (word_of name))) [
+  | inl same ↦ rw same refl
+  | inr other ↦ rw other (named_by_word word_of form names word)
 ]
 
 pub unnamed_op : (word : List ℕ) → op_named word ≡ None → form_of word ≡ None
 unfolding form_of op_named
-unnamed_op word none = unnamed op_word op_form op_names word none
+unnamed_op word none = named_by_word op_word op_form op_names word ∙ ap (option_map op_form) none
 
 pub unnamed_said : (word : List ℕ) → said_named word ≡ None → said_form_of word ≡ None
 unfolding said_form_of said_named
-unnamed_said word none = unnamed said_word said_form unsigned_saids word (later_none (bytes_eq word (said_word saids.Ret)) none) where
+unnamed_said word none = named_by_word said_word said_form unsigned_saids word ∙ ap (option_map said_form) (later_none (bytes_eq word (said_word saids.Ret)) none) where
   later_none : {o : Option SaidName} (b : Bool) → cond b (Some saids.Ret) o ≡ None → o ≡ None
   later_none true none = absurd cc
   later_none false none = none
 
+map_cond : {A B : Type 0} (f : A → B) (b : Bool) (x : A) → option_map f (cond b (Some x) None) ≡ cond b (Some (f x)) None
+map_cond f true x = refl
+map_cond f false x = refl
+
 -- the forms of a name's word
 pub op_forms : (name : OpName) → (form_of (op_word name) ≡ Some (op_form name)) × (guest_form_of (op_word name) ≡ cond (is_guests name) (Some (op_form name)) None)
-unfolding form_of guest_form_of
-op_forms ops.Ecall = (refl, refl)
-op_forms ops.Load = (refl, refl)
-op_forms ops.Store = (refl, refl)
-op_forms ops.Fetch = (refl, refl)
-op_forms ops.Satp = (refl, refl)
-op_forms ops.Sie = (refl, refl)
-op_forms ops.Sstatus = (refl, refl)
-op_forms ops.Sip = (refl, refl)
-op_forms ops.Clearssip = (refl, refl)
-op_forms ops.Sfence = (refl, refl)
-op_forms ops.Fencei = (refl, refl)
-op_forms ops.Wfi = (refl, refl)
-op_forms ops.Poll = (refl, refl)
-op_forms ops.Serve = (refl, refl)
-op_forms ops.Advance = (refl, refl)
-op_forms ops.Tick = (refl, refl)
+unfolding form_of guest_form_of op_named
+op_forms name =
+    let is = op_found name in (
+      named_by_word op_word op_form op_names (op_word name) ∙ ap (option_map op_form) is.found,
+      named_by_word op_word op_form guest_ops (op_word name) ∙ ap (option_map op_form) is.guests ∙ map_cond op_form (is_guests name) name,
+    )
 
 pub named_op : (word : List ℕ) (name : OpName) → word ≡ op_word name → form_of word ≡ Some (op_form name)
 named_op word name is = rw is (op_forms name).0
@@ -82,17 +78,13 @@ firmwares_op word name is other = rw (is, (op_forms name).1, other) refl
 
 -- the form of the word of what is said
 pub said_forms_of : (name : SaidName) → name ≢ saids.Ret → said_form_of (said_word name) ≡ Some (said_form name)
-unfolding said_form_of
-said_forms_of saids.Ret other = absurd (other refl)
-said_forms_of saids.Waiting other = refl
-said_forms_of saids.Gone other = refl
-said_forms_of saids.Entry other = refl
-said_forms_of saids.Value other = refl
-said_forms_of saids.Fault other = refl
-said_forms_of saids.Served other = refl
-said_forms_of saids.Moved other = refl
-said_forms_of saids.Done other = refl
-said_forms_of saids.Refused other = refl
+unfolding said_form_of said_named
+said_forms_of name other =
+    named_by_word said_word said_form unsigned_saids (said_word name)
+    ∙ ap (option_map said_form) (not_first (bytes_eq (said_word name) (said_word saids.Ret)) (said_found name)) where
+      not_first : {o : Option SaidName} (b : Bool) → cond b (Some saids.Ret) o ≡ Some name → o ≡ Some name
+      not_first true found = absurd (other (sym (same_Some saids.Ret name found)))
+      not_first false found = found
 
 pub named_said : (word : List ℕ) (name : SaidName) → word ≡ said_word name → name ≢ saids.Ret → said_form_of word ≡ Some (said_form name)
 named_said word name is other = rw is (said_forms_of name other)

@@ -22,13 +22,14 @@ use Rattle.guest_script.specs.Forms.{AreArguments, argument_at, Form, form_of, g
 use Rattle.script_lines.specs.Names.{is_guests, op_word}
 use Rattle.guest_script.specs.Reading.{IsFormAt, made_from}
 use Rattle.guest_script.specs.Values.{is_numeral}
-use Rattle.guest_script.specs.Inside.Scanning.{digit_after, digits_after, and_digits, numeral_of}
+use Rattle.line_words.specs.Values.{digit_after}
+use Rattle.line_words.specs.Inside.Scanning.{digits_after, and_digits, numeral_of}
 use Rattle.guest_script.specs.Inside.PlainLines.{behind, BeginsActor, BeginsArgument, BeginsDigits, BeginsGuest, BeginsLine, BeginsName, BeginsNamed, BeginsNumber, BeginsNumbers, BeginsOp, BeginsSaid, BeginsSaidName, BeginsSigned, BeginsWord}
 use Rattle.guest_script.proofs.Named.{op_forms}
 use Rattle.guest_script.proofs.PlainShapes.{some_all}
 use Rattle.guest_script.proofs.LineWords.{length_numbers}
-use Rattle.guest_script.proofs.Numerals.{at_most, numeral_at_most}
-use Rattle.guest_script.proofs.Spelling.{numeral_tested}
+use Rattle.line_words.proofs.Numerals.{at_most, numeral_at_most}
+use Rattle.line_words.proofs.Spelling.{numeral_tested}
 
 pub stripped : (bytes front rest : List ℕ) → bytes_eq (take (length front) bytes) front ≡ true → rest ≡ drop (length front) bytes → bytes ≡ front ++ rest
 stripped bytes front rest same is =

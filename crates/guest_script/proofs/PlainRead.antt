@@ -28,7 +28,7 @@ use Rattle.guest_script.specs.Inside.PlainLines.{behind, BeginsGuest, BeginsLine
 use Rattle.guest_script.proofs.LineWords.{next_passes, none_cons, NoneHolds, step_follows}
 use Rattle.guest_script.proofs.LinesFrom.{goes_on}
 use Rattle.guest_script.proofs.PlainWords.{append_all, arguments_plain, IsPlain, IsPlainByte, joined_line, lines_printed, spelled_plain}
-use Rattle.guest_script.proofs.Spacing.{line_allowed, line_words}
+use Rattle.line_words.proofs.Spacing.{line_allowed, line_words}
 
 joined_behind : (first : List ℕ) (others : List (List ℕ)) → first ++ behind others ≡ join_with_byte 32 (first ∷ others)
 joined_behind first [] = append-nil first

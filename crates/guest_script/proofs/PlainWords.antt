@@ -10,8 +10,8 @@ use Rattle.std.proofs.lemmas.List.{append_assoc, append-nil}
 use Rattle.std.proofs.lemmas.List.Elements.{All-from_recursion, All-get_or}
 use Rattle.guest_script.specs.Words.{AreNumbers, is_allowed, is_blank, is_hash, IsLine, IsWord, Spaces, Spells}
 use Rattle.guest_script.specs.Forms.{AreArguments}
-use Rattle.guest_script.proofs.LinesOf.{lines_fed}
-use Rattle.guest_script.proofs.Spacing.{Spaces-blank}
+use Rattle.line_words.proofs.LinesOf.{lines_fed}
+use Rattle.line_words.proofs.Spacing.{Spaces-blank}
 
 -- ---- words of letters and digits alone
 

@@ -15,7 +15,7 @@ use Rattle.guest_script.specs.ScriptLaws.{HasOneReading}
 use Rattle.guest_script.proofs.BoardLine.{board_passes, board_tested}
 use Rattle.guest_script.proofs.LineWords.{next_passes, next_tested, none_both, none_cons, none_first, none_parts, NoneHolds}
 use Rattle.guest_script.proofs.LinesFrom.{first_at_line}
-use Rattle.guest_script.proofs.Spacing.{line_allowed, line_has_words, line_words}
+use Rattle.line_words.proofs.Spacing.{line_allowed, line_has_words, line_words}
 
 none_mapped : {F G : Type 0} (f : F → G) (o : Option F) → option_map f o ≡ None → o ≡ None
 none_mapped f None none = refl

@@ -3,4 +3,3 @@ pub mod Drafts
 pub mod OpenBlocks
 pub mod PlainLines
 pub mod Progress
-pub mod Scanning

@@ -19,64 +19,11 @@ use Rattle.script_lines.specs.declared.script.Doing.{Doing}
 use Rattle.script_lines.specs.declared.script.Doing.TheVariants as doings
 use Rattle.script_lines.specs.declared.script.Line.{Line}
 use Rattle.script_lines.specs.Names.{said_word}
-use Rattle.guest_script.specs.Words.{is_blank, is_hash, last_above, last_below, last_hart, last_number}
+use Rattle.guest_script.specs.Words.{last_hart, last_number}
 use Rattle.guest_script.specs.Forms.{Form, form_of, guest_form_of, number_at, number_or, said_form_of}
 use Rattle.guest_script.specs.Grammar.{clock_of, content_of, Draft, Nothing, Blocked, Stepped, Traced, guest_at, Guest, guests_of, Open, OfClock, OfGuest, opened, with_op, with_tick, Written}
-
--- ---- words
-
--- a text up to its comment
-abbrev pub before_comment : List ℕ → List ℕ
-before_comment [] = []
-before_comment (b ∷ text) = if is_hash b then [] else b ∷ before_comment text
-
--- whether a list has an element
-abbrev pub is_filled : {A : Type 0} → List A → Bool
-is_filled [] = false
-is_filled (x ∷ xs) = true
-
--- what stands between blanks, up to the comment
-unfoldable pub words_in : List ℕ → List (List ℕ)
-words_in text = filter is_filled (slice_split is_blank (before_comment text))
-
--- ---- numbers
-
--- at least one digit and nothing else, which say a number up to the limit
-abbrev pub is_numeral : (radix limit : ℕ) → List ℕ → Bool
-is_numeral radix limit digits =
-    is_filled digits && list_all (λ b. is_digit b radix) digits && nat_le (digits_value radix digits) limit
-
--- whether a word begins as hexadecimal digits do
-abbrev pub is_hexadecimal : List ℕ → Bool
-is_hexadecimal word = bytes_eq (take 2 word) (codes "0x")
-
--- whether a word spells a number up to the limit
-unfoldable pub is_number : (limit : ℕ) → List ℕ → Bool
-is_number limit word = if is_hexadecimal word then is_numeral 16 limit (drop 2 word) else is_numeral 10 limit word
-
--- the number that a word spells
-abbrev pub word_value : List ℕ → ℕ
-word_value word = if is_hexadecimal word then digits_value 16 (drop 2 word) else digits_value 10 word
-
--- that number, if it is one and within the limit
-unfoldable pub number_in : (limit : ℕ) → List ℕ → Option ℕ
-number_in limit word = if is_number limit word then Some (word_value word) else None
-
--- whether a word begins with a `-`
-abbrev pub is_below : List ℕ → Bool
-is_below word = bytes_eq (take 1 word) (codes "-")
-
--- whether a word spells a signed number
-abbrev pub is_signed : List ℕ → Bool
-is_signed word = if is_below word then is_numeral 10 last_below (drop 1 word) else is_numeral 10 last_above word
-
--- the signed number that a word spells
-abbrev pub signed_value : List ℕ → ℤ
-signed_value word = if is_below word then neg_ℤ (pos (digits_value 10 (drop 1 word))) else pos (digits_value 10 word)
-
--- that number, if it is one
-unfoldable pub signed_in : List ℕ → Option ℤ
-signed_in word = if is_signed word then Some (signed_value word) else None
+pub use Rattle.line_words.specs.Values.{before_comment, is_filled, is_arrow, has_arrow, before_arrow, after_arrow, words_until, is_numeral, is_hexadecimal, word_value, is_below, is_signed, signed_value}
+unfoldable pub use Rattle.line_words.specs.Values.{words_in, is_number, number_in, signed_in}
 
 -- ---- names with arguments
 
@@ -133,22 +80,6 @@ is_cut word = bytes_eq word (codes "cut")
 -- An actor's line begins with `c` or a digit, or is a cut.
 abbrev pub begins_actor_line : List ℕ → Bool
 begins_actor_line first = is_cut first || is_clock first || is_digit (slice_index first 0) 10
-
-abbrev pub is_arrow : List ℕ → Bool
-is_arrow word = bytes_eq word (codes "->")
-
--- whether one of the words is an arrow
-abbrev pub has_arrow : List (List ℕ) → Bool
-has_arrow words = list_any is_arrow words
-
--- the words before the first arrow, and those after it
-abbrev pub before_arrow : List (List ℕ) → List (List ℕ)
-before_arrow [] = []
-before_arrow (word ∷ words) = if is_arrow word then [] else word ∷ before_arrow words
-
-abbrev pub after_arrow : List (List ℕ) → List (List ℕ)
-after_arrow [] = []
-after_arrow (word ∷ words) = if is_arrow word then words else after_arrow words
 
 -- whether a word opens a guest's block, and whether it opens the clock's
 abbrev pub is_at : List ℕ → Bool

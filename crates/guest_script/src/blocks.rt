@@ -12,7 +12,8 @@ ghost use Rattle.guest_script.specs.Values.{in_block, words_in};
 
 use crate::plain::read_plain_ops;
 use crate::step::{guest_op, one_number};
-use crate::wrong::{Unread, Wrong, from_word};
+use crate::wrong::{Unread, Wrong};
+use line_words::from_word;
 use script_lines::{Block, Body, MOST_LINES, OpName};
 use std::alloc::{AllocError, Global};
 use std::collections::BTreeSet;

@@ -7,11 +7,10 @@ ghost use Rattle.guest_script.specs.Words.{last_number};
 
 use crate::fault::FaultKind;
 use crate::numbers::{MOST_ARGUMENTS, arguments_in};
-use crate::text::is_clean;
-use crate::words::next_word;
-use crate::wrong::{Unread, Wrong, from_bad_byte, from_word};
+use crate::wrong::{Unread, Wrong};
 use arrayvec::ArrayVec;
 use board_terms::{Config, USUAL_ASID_LEN, USUAL_WIDTH};
+use line_words::{from_bad_byte, from_word, is_clean, next_word};
 use script_lines::{any_numbers, number_at, number_or};
 
 /// The board that a line's words name, if the line has words.

@@ -15,9 +15,8 @@ use crate::blocks::BlocksDraft;
 use crate::line_kind::LineKind;
 use crate::plain::read_plain_lines;
 use crate::step::{one_number, step_line};
-use crate::text::{is_clean, next_line};
-use crate::words::next_word;
-use crate::wrong::{Misread, NO_MEMORY, Unread, Wrong, from_bad_byte, from_next, from_word};
+use crate::wrong::{Misread, NO_MEMORY, Unread, Wrong};
+use line_words::{from_bad_byte, from_next, from_word, is_clean, next_line, next_word};
 use script_lines::{Body, Line, Lines, MOST_LINES};
 use std::alloc::{AllocError, Global};
 

@@ -2,7 +2,7 @@
 ghost use Rattle.std.specs.Prelude.{◌≡◌};
 ghost use Rattle.guest_script.specs.Values.{begins_actor_line, kind_of, words_in};
 
-use crate::words::has_arrow;
+use line_words::has_arrow;
 
 /// What a line is.
 #[derive(Clone, Copy)]

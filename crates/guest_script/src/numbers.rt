@@ -2,13 +2,12 @@
 ghost use Rattle.std.specs.Prelude.{◌≡◌, ◌≤◌, ◌&&◌, ◌||◌, is_some};
 ghost use Rattle.guest_script.specs.FirstFault.{arguments_tests, is_dash};
 ghost use Rattle.guest_script.specs.Reading.{Gives, tested, told};
-ghost use Rattle.guest_script.specs.Inside.Scanning.{words_until};
+ghost use Rattle.guest_script.specs.Values.{words_until};
 ghost use Rattle.guest_script.specs.Values.{arguments_in, words_in};
 
-use crate::number::number;
-use crate::words::next_word_until;
-use crate::wrong::{Unread, Wrong, from_next, from_word};
+use crate::wrong::{Unread, Wrong};
 use arrayvec::ArrayVec;
+use line_words::{from_next, from_word, next_word_until, number};
 use script_lines::{OP_NUMBERS, Places};
 
 /// The most arguments that a line has: an operation's, and a board has as many.

@@ -11,10 +11,10 @@ ghost use Rattle.guest_script.specs.Inside.PlainLines.{BeginsActor, BeginsArgume
 ghost use Rattle.script_lines.specs.KeptLines.{plain_line};
 ghost use Rattle.script_lines.specs.Packing.{FitsKept, op_made};
 
-use crate::number::{LAST_ABOVE, LAST_BELOW, below_zero, push_digit};
 use crate::numbers::MOST_ARGUMENTS;
 use arrayvec::ArrayVec;
 use board_terms::{Actor, Op};
+use line_words::{LAST_ABOVE, LAST_BELOW, below_zero, push_digit};
 use script_lines::{LAST_HART, Lines, MOST_LINES, OpName, OpShape, Places, Plain, Said, SaidName};
 use std::alloc::AllocError;
 

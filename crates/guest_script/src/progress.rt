@@ -9,9 +9,9 @@ ghost use Rattle.guest_script.specs.Reading.{GivesOrLacks, plainly, script_from,
 use crate::board_line::board_words;
 use crate::draft::BodyDraft;
 use crate::fault::FaultKind;
-use crate::text::next_line;
-use crate::wrong::{Misread, NO_MEMORY, Wrong, column};
+use crate::wrong::{Misread, NO_MEMORY, Wrong};
 use board_terms::Config;
+use line_words::{column, next_line};
 use script_lines::{MOST_LINES, Script};
 use std::alloc::{AllocError, Global};
 

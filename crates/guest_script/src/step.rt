@@ -7,15 +7,16 @@ ghost use Rattle.script_lines.specs.declared.script.Doing.TheVariants.{Step};
 ghost use Rattle.guest_script.specs.Forms.{form_of, guest_form_of, op_form, said_form, said_form_of};
 ghost use Rattle.guest_script.specs.FirstFault.{acting_tests, actor_test, doing_tests, form_tests, named_tests, number_tests, ret_tests, said_tests, step_tests};
 ghost use Rattle.guest_script.specs.Reading.{tested, told};
-ghost use Rattle.guest_script.specs.Inside.Scanning.{words_until};
+ghost use Rattle.guest_script.specs.Values.{words_until};
 ghost use Rattle.guest_script.specs.declared.wrong.Wrong.TheVariants.{UnknownOperation, WordMissing};
 ghost use Rattle.guest_script.specs.Values.{doing_in, actor_in, after_arrow, before_arrow, first_number, line_in, made_by, named_in, op_in, ret_in, said_in, words_in};
 
-use crate::number::{number, signed_number};
 use crate::numbers::arguments_in;
-use crate::words::{after_arrow, next_word, next_word_until};
-use crate::wrong::{Unread, Wrong, from_next, from_word};
+use crate::wrong::{Unread, Wrong};
 use board_terms::{Actor, Op};
+use line_words::{
+    after_arrow, from_next, from_word, next_word, next_word_until, number, signed_number,
+};
 use script_lines::{Doing, LAST_HART, Line, OpName, Said, SaidName, any_numbers, number_at};
 
 /// Line `n`: what it does, by its first word and the rest; and in a trace what that gave.

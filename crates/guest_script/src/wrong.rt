@@ -5,8 +5,7 @@ ghost use Rattle.guest_script.specs.Reading.{located_fault};
 ghost use Rattle.guest_script.specs.declared.wrong.Wrong.TheVariants.{NoMemory};
 
 use crate::fault::{FaultKind, ScriptFault};
-use crate::text::is_allowed;
-use crate::words::next_word;
+use line_words::column;
 use std::alloc::{AllocError, AllocFailed};
 
 /// What is wrong with a script, by the word where it is.
@@ -144,32 +143,4 @@ impl<T: Drop> From<AllocFailed<T>> for Unread {
             wrong: Wrong::NoMemory,
         }
     }
-}
-
-/// The column of the byte from which on there are so many.
-pub fn column(text: &[u8], left: usize) -> u64 {
-    (text.len().saturating_sub(left) as u64).saturating_add(1)
-}
-
-/// How many bytes there are from a word on, behind which these stand.
-pub fn from_word(word: &[u8], after: &[u8]) -> usize {
-    word.len().saturating_add(after.len())
-}
-
-/// How many bytes there are from the next word on; none behind the last.
-pub fn from_next(text: &[u8]) -> usize {
-    match next_word(text) {
-        Some((word, after)) => from_word(word, after),
-        None => text.len(),
-    }
-}
-
-/// How many bytes there are from the first on that may not stand in a script.
-pub fn from_bad_byte(text: &[u8]) -> usize {
-    for (i, byte) in text.iter().enumerate() {
-        if !is_allowed(*byte) {
-            return text.len() - i;
-        }
-    }
-    0
 }

@@ -1,1 +1,2 @@
+pub mod NamesFound
 pub mod Packed

@@ -1,12 +1,12 @@
 -- The one table of operations and replies: the word of each, the numbers that may follow it, whether a guest may do it, and
 -- what is made of them (profile).
-use Rattle.std.specs.Prelude.{ℕ, ◌-◌, ◌^◌, Bool, true, false, ◌==◌, nat_lt, if◌then◌else◌, List, [], ◌∷◌, ◌++◌, length, slice_index_or, map, codes, Option, None, unwrap_or}
+use Rattle.std.specs.Prelude.{ℕ, ◌-◌, ◌^◌, Bool, true, false, ◌==◌, nat_lt, if◌then◌else◌, List, [], ◌∷◌, ◌++◌, length, slice_index_or, codes, Option, None, unwrap_or}
 use Rattle.std.specs.Int.{w64, cast_signed}
+use Rattle.std.specs.List.{find}
 use Rattle.std.specs.Str.{bytes_eq}
 use Rattle.sbi_abi.specs.declared.call.Regs.{Regs}
 use Rattle.board_terms.specs.declared.op.Op.{Op}
 use Rattle.board_terms.specs.declared.op.Op.TheVariants as ops
-use Rattle.board_terms.specs.Refusals.{first_that_holds}
 use Rattle.script_lines.specs.declared.op_name.OpName.{OpName}
 use Rattle.script_lines.specs.declared.op_name.OpName.TheVariants.{Ecall, Load, Store, Fetch, Satp, Sie, Sstatus, Sip, Clearssip, Sfence, Fencei, Wfi, Poll, Serve, Advance, Tick}
 use Rattle.script_lines.specs.declared.places.Places.{Places}
@@ -42,9 +42,9 @@ number_at arguments i = unwrap_or (argument_at arguments i) 0
 abbrev pub number_or : (other : ℕ) → List (Option ℕ) → ℕ → ℕ
 number_or other arguments i = if nat_lt i (length arguments) then number_at arguments i else other
 
--- what stands under the name whose word this is
+-- the first of the names whose word this is
 abbrev pub by_word : {A : Type 0} → (A → List ℕ) → List A → List ℕ → Option A
-by_word word_of names word = first_that_holds (map (λ name. (bytes_eq word (word_of name), name)) names)
+by_word word_of names word = find (λ name. bytes_eq word (word_of name)) names
 
 -- ---- operations
 

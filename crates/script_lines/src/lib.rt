@@ -2,6 +2,7 @@
 #![tactic(auto)]
 
 mod kept_line;
+mod laws;
 mod line_shape;
 mod lines;
 mod op_name;
@@ -14,6 +15,7 @@ mod said_shape;
 mod script;
 
 pub use kept_line::KeptLine;
+pub use laws::{words_name_ops, words_name_saids};
 pub use lines::{LineFault, Lines, LinesIter, MOST_LINES};
 pub use op_name::OpName;
 pub use op_shape::{OP_NUMBERS, OpShape, number_from};

@@ -45,31 +45,32 @@ pub enum OpName {
     Tick,
 }
 
+/// All operations, those of guests first.
+const OP_NAMES: [OpName; 16] = [
+    OpName::Ecall,
+    OpName::Load,
+    OpName::Store,
+    OpName::Fetch,
+    OpName::Satp,
+    OpName::Sie,
+    OpName::Sstatus,
+    OpName::Sip,
+    OpName::Clearssip,
+    OpName::Sfence,
+    OpName::Fencei,
+    OpName::Wfi,
+    OpName::Poll,
+    OpName::Serve,
+    OpName::Advance,
+    OpName::Tick,
+];
+
 impl OpName {
     /// The operation that a word names.
-    #[tactic(auto, unfolding(crate::specs::Names::op_named))]
     pub fn of(word: &[u8]) -> Option<OpName>
         ensures { MatchOption result (op_named word.now ≡ None) (λ name. word.now ≡ op_word name) }
     {
-        match word {
-            b"ecall" => Some(OpName::Ecall),
-            b"load" => Some(OpName::Load),
-            b"store" => Some(OpName::Store),
-            b"fetch" => Some(OpName::Fetch),
-            b"satp" => Some(OpName::Satp),
-            b"sie" => Some(OpName::Sie),
-            b"sstatus" => Some(OpName::Sstatus),
-            b"sip" => Some(OpName::Sip),
-            b"clearssip" => Some(OpName::Clearssip),
-            b"sfence" => Some(OpName::Sfence),
-            b"fencei" => Some(OpName::Fencei),
-            b"wfi" => Some(OpName::Wfi),
-            b"poll" => Some(OpName::Poll),
-            b"serve" => Some(OpName::Serve),
-            b"advance" => Some(OpName::Advance),
-            b"tick" => Some(OpName::Tick),
-            _ => None,
-        }
+        OP_NAMES.iter().find(|name| word == name.word()).copied()
     }
 
     /// The word that names it.

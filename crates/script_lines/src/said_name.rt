@@ -32,25 +32,26 @@ pub enum SaidName {
     Refused,
 }
 
+/// All of them.
+const SAID_NAMES: [SaidName; 10] = [
+    SaidName::Ret,
+    SaidName::Waiting,
+    SaidName::Gone,
+    SaidName::Entry,
+    SaidName::Value,
+    SaidName::Fault,
+    SaidName::Served,
+    SaidName::Moved,
+    SaidName::Done,
+    SaidName::Refused,
+];
+
 impl SaidName {
     /// What a word names.
-    #[tactic(auto, unfolding(crate::specs::Names::said_named))]
     pub fn of(word: &[u8]) -> Option<SaidName>
         ensures { MatchOption result (said_named word.now ≡ None) (λ name. word.now ≡ said_word name) }
     {
-        match word {
-            b"ret" => Some(SaidName::Ret),
-            b"waiting" => Some(SaidName::Waiting),
-            b"gone" => Some(SaidName::Gone),
-            b"entry" => Some(SaidName::Entry),
-            b"value" => Some(SaidName::Value),
-            b"fault" => Some(SaidName::Fault),
-            b"served" => Some(SaidName::Served),
-            b"moved" => Some(SaidName::Moved),
-            b"done" => Some(SaidName::Done),
-            b"refused" => Some(SaidName::Refused),
-            _ => None,
-        }
+        SAID_NAMES.iter().find(|name| word == name.word()).copied()
     }
 
     /// The word that names it.

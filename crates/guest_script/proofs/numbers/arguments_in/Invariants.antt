@@ -1,6 +1,6 @@
 use Rattle.std.proofs.Common.{length}
 use Rattle.guest_script.specs.Values.{words_in}
-use Rattle.guest_script.specs.Inside.Scanning.{words_until}
+use Rattle.guest_script.specs.Values.{words_until}
 use Rattle.guest_script.proofs.ArgumentsIn.{AreRead}
 use Rattle.guest_script.proofs.numbers.arguments_in.Given as goal
 

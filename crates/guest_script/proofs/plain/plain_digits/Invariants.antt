@@ -1,5 +1,5 @@
 use Rattle.std.proofs.Common.{◌≡◌, ◌<◌, ◌^◌, take, Some}
-use Rattle.guest_script.specs.Inside.Scanning.{digits_after}
+use Rattle.line_words.specs.Inside.Scanning.{digits_after}
 use Rattle.guest_script.proofs.plain.plain_digits.Given as goal
 
 abbrev pub invariant-loop-i : goal.invariant-loop-i

@@ -1,9 +1,0 @@
-use Rattle.std.proofs.Common.{◌≡◌, length}
-use Rattle.guest_script.specs.Values.{has_arrow, words_in}
-use Rattle.guest_script.proofs.words.has_arrow.Given as goal
-
-abbrev pub invariant-loop-word : goal.invariant-loop-word
-invariant-loop-word l = has_arrow (words_in l.rest) ≡ has_arrow (words_in l.text)
-
-abbrev pub decreases-loop-word : goal.decreases-loop-word
-decreases-loop-word l = length l.rest
