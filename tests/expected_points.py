@@ -250,7 +250,9 @@ def says_nothing(case, asked, fails):
 
 def must_show(case, asked, record, fewest):
     """A record of all orders breaks its condition by its last step, or by its end, or is the one that `some` wants."""
-    if asked is None or asked.word == "end":
+    if asked is not None and asked.word == "can":
+        is_shown = case.orders.places[record.point.key(), ()] in case.verdicts.without_way_out(asked)
+    elif asked is None or asked.word == "end":
         is_shown = record.end == "stuck" if asked is None else record.end is not None and record.end not in asked.ends
     else:
         is_shown = broken_at(asked, record.steps) == fewest - 1
@@ -363,6 +365,10 @@ def take_tried(case, told, point, folder, seed, orders):
         is_some = it is not None and it.word == "some"
         holds = len(failing) < len(orders) if is_some else not failing
         name = about(case, it) or f"{case.name}: no order ends stuck"
+        if it is not None and it.word == "can":
+            failed += 1
+            told.take(f"not ok {point + at} - {name}: not judged: it asks of all orders")
+            continue
         empty = says_nothing_of_tried(case, it, holds, lined, ends, f" in the {len(orders):,} orders tried")
         failed += not holds or empty is not None
         reach = f"{len(orders):,} orders of unknown many, seed {seed}{cut_of(it, ends)}"

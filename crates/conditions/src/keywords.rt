@@ -15,6 +15,8 @@ pub enum Keyword {
     End,
     /// `before`
     Before,
+    /// `can`
+    Can,
 }
 
 impl Keyword {
@@ -29,6 +31,7 @@ impl Keyword {
             b"each" => Some(Keyword::Each),
             b"end" => Some(Keyword::End),
             b"before" => Some(Keyword::Before),
+            b"can" => Some(Keyword::Can),
             _ => None,
         }
     }
