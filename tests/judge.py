@@ -237,6 +237,11 @@ class Verdicts:
                 ready.append(one)
         return set(self.depths) - found
 
+    def keys_without_way_out(self, asked):
+        """What tells these states apart, whatever loads gave last."""
+        lost = self.without_way_out(asked)
+        return {key for (key, _), place in self.orders.places.items() if place in lost}
+
     def fewest_watched(self, asked):
         changes = {}
         depths, ready = {(0, NOTHING): 0}, [(0, NOTHING)]

@@ -123,6 +123,7 @@ fn can_end(alloc: Global, words: &[Word<'_>], end: usize) -> Result<Rule, Unread
         return Err(first.is(Wrong::UnknownWord));
     }
     if let Some(k) = place_of(rest, b"history-full") {
+        endings(alloc, &rest[..k])?;
         return Err(rest[k].is(Wrong::UnknownWord));
     }
     let mut ends = endings(alloc, rest)?;

@@ -22,7 +22,7 @@ pub enum Keyword {
 impl Keyword {
     /// The keyword that a word is.
     #[tactic(auto, unfolding(crate::specs::Grammar::keyword_named))]
-    pub(crate) fn of(word: &[u8]) -> Option<Keyword>
+    pub fn of(word: &[u8]) -> Option<Keyword>
         ensures { MatchOption result (keyword_named word.now ≡ None) (λ keyword. word.now ≡ keyword_word keyword) }
     {
         match word {
