@@ -230,7 +230,8 @@ def take_verdict(case, told, point, asked, folder, reach):
         label = f"{asked.line if asked else 0}.{'reached' if is_some else 'failed'}"
         record = case.take_record(told, folder, label, max(fewest, case.limit), is_whole=False)
         must_show(case, asked, record, fewest)
-        case.take_steps(told, record, fewest - 1)
+        if fewest:
+            case.take_steps(told, record, fewest - 1)
         if (asked is None or asked.word == "end") and record.end == "stuck":
             case.take_stuck(told, record)
         told.take("  ...")
@@ -250,7 +251,9 @@ def says_nothing(case, asked, fails):
 
 def must_show(case, asked, record, fewest):
     """A record of all orders breaks its condition by its last step, or by its end, or is the one that `some` wants."""
-    if asked is None or asked.word == "end":
+    if asks_of_all(asked):
+        is_shown = record.point.key() in case.verdicts.keys_without_way_out(asked)
+    elif asked is None or asked.word == "end":
         is_shown = record.end == "stuck" if asked is None else record.end is not None and record.end not in asked.ends
     else:
         is_shown = broken_at(asked, record.steps) == fewest - 1
@@ -354,7 +357,8 @@ def failing_place(asked, record):
 
 
 def take_tried(case, told, point, folder, seed, orders):
-    """All that `test` tells of a program by orders of a seed, whose records are these. Answers how many points fail of how many."""
+    """All that `test` tells of a program by orders of a seed, whose records are these. Answers how many points fail of how many; no
+    order tells of `can end`."""
     failed, asked = 0, case.asked or [None]
     lined = set().union(*(order.lined for order in orders))
     ends = [order.record.end for order in orders]
@@ -363,6 +367,9 @@ def take_tried(case, told, point, folder, seed, orders):
         is_some = it is not None and it.word == "some"
         holds = len(failing) < len(orders) if is_some else not failing
         name = about(case, it) or f"{case.name}: no order ends stuck"
+        if asks_of_all(it):
+            told.take(f"not ok {point + at} - {name}{ASKS_OF_ALL}")
+            continue
         empty = says_nothing_of_tried(case, it, holds, lined, ends, f" in the {len(orders):,} orders tried")
         failed += not holds or empty is not None
         reach = f"{len(orders):,} orders of unknown many, seed {seed}{cut_of(it, ends)}"
@@ -376,6 +383,14 @@ def take_tried(case, told, point, folder, seed, orders):
             told.take(never_met(it))
     told.take(*case.odd_lines([step for order in orders for step in order.odd]))
     return len(asked), failed
+
+
+# What is said of a condition of which some orders don't tell.
+ASKS_OF_ALL = ": not judged: it asks of all orders"
+
+
+def asks_of_all(asked):
+    return asked is not None and asked.word == "can"
 
 
 def asks_of_ends(asked):
@@ -412,6 +427,9 @@ def take_runs(case, told, point, folder, runs):
     """What is told of runs on threads. Answers how many points fail of how many."""
     failed, asked = 0, case.asked or [None]
     for at, it in enumerate(asked):
+        if asks_of_all(it):
+            told.take(f"not ok {point + at} - {about(case, it)}{ASKS_OF_ALL}")
+            continue
         name, is_some = re.escape(about(case, it) or f"{case.name}: no order ends stuck"), it is not None and it.word == "some"
         judged = r"(holds|fails) in (some of )?" + f"{runs:,} runs on threads" + r"(?:, of which the limit cut off [\d,]+)?"
         found = told.match(rf"(not )?ok {point + at} - {name}: (?:{judged}|(vacuous: no step is '.*' in the {runs:,} runs.*|no order ends: the limit cut off all {runs:,}|the board has no hart \d+|no \w+ has .*))")

@@ -45,6 +45,8 @@ def condition(line, text):
     word, *words = rule.split()
     if word == "end":
         return Condition(line, text, word, (), frozenset(words), is_maybe)
+    if word == "can":
+        return Condition(line, text, word, (), frozenset(words[1:] or ("off", "quiet", "stuck")), is_maybe)
     if word == "before":
         first, _, second = rule.partition("before")[2].partition(",")
         return Condition(line, text, word, (pattern(first.split()), pattern(second.split())), None, is_maybe)
@@ -93,7 +95,7 @@ def matches(pattern, actor, op, answer):
 
 def needs(asked):
     """The patterns of which a condition needs a step, each with whether the step's reply must fit, too."""
-    if asked.word == "end":
+    if asked.word in ("end", "can"):
         return []
     first = asked.patterns[0]
     is_exempt = asked.word in ("never", "after", "some") and not first.reply or asked.word in ("never", "after") and first.step[1:2] == ("ecall",)
@@ -179,6 +181,8 @@ def holds(asked, steps, end):
     """Whether a record with this end is as a condition asks; the end of one that a limit cut off is open."""
     if asked.word == "end":
         return end == "history-full" or end in asked.ends
+    if asked.word == "can":
+        return False
     return (broken_at(asked, steps) is None) == (asked.word in FORBIDS)
 
 
@@ -211,10 +215,32 @@ class Verdicts:
     def fewest(self, asked):
         """The fewest steps of an order that breaks a condition, or that `some` wants; None: no order does. Without a condition of
         one that ends stuck."""
-        if asked is None or asked.word == "end":
+        if asked is None or asked.word in ("end", "can"):
             is_bad = lambda end: end == "stuck" if asked is None else end not in asked.ends
-            return min((self.depths[place] for place, (_, end) in self.orders.over.items() if is_bad(end)), default=None)
+            fewest = min((self.depths[place] for place, (_, end) in self.orders.over.items() if is_bad(end)), default=None)
+            if fewest is None and asked is not None and asked.word == "can":
+                return min((self.depths[place] for place in self.without_way_out(asked)), default=None)
+            return fewest
         return self.fewest_watched(asked)
+
+    def without_way_out(self, asked):
+        """The states from which no order comes to an end that is named."""
+        before = {}
+        for place, steps in enumerate(self.orders.edges):
+            for *_, to in steps:
+                before.setdefault(to, set()).add(place)
+        ready = [place for place, (_, end) in self.orders.over.items() if end in asked.ends]
+        found = set(ready)
+        for place in ready:
+            for one in before.get(place, set()) - found:
+                found.add(one)
+                ready.append(one)
+        return set(self.depths) - found
+
+    def keys_without_way_out(self, asked):
+        """What tells these states apart, whatever loads gave last."""
+        lost = self.without_way_out(asked)
+        return {key for (key, _), place in self.orders.places.items() if place in lost}
 
     def fewest_watched(self, asked):
         changes = {}

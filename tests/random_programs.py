@@ -211,11 +211,13 @@ def pattern_of(some, steps, harts, needs_reply=False):
 
 def condition_of(some, steps, harts):
     """A condition about some of these steps: actor, operation and answer."""
-    kind = some.choice(["never", "never", "after", "after", "some", "some", "each", "before", "before", "end"])
+    kind = some.choice(["never", "never", "after", "after", "some", "some", "each", "before", "before", "end", "can"])
     one, other = (pattern_of(some, steps, harts, kind == "each") for _ in range(2))
     if kind == "end":
         # (that a limit cuts orders off is a question to orders of a seed alone)
         return "end " + " ".join(some.sample(ENDS, some.randint(1, 3)) if some.random() < 0.2 else some.sample(("off", "quiet", "stuck"), some.randint(1, 3)))
+    if kind == "can":
+        return " ".join(["can end", *some.sample(("off", "quiet", "stuck"), some.randint(0, 3))])
     return {"never": f"never {one}", "some": f"some {one}", "each": f"each {one}", "after": f"never {one} after {other}", "before": f"before {one}{some.choice([',', ' ,'])} {other}"}[kind]
 
 

@@ -16,7 +16,7 @@ GRAMMAR = os.path.join(ROOT, "editors/sbiboard.tmLanguage.json")
 # Lines that no example has, and words of them that none of the formats has.
 ODD = (
     "0 sie 0x2#2", " \tc  tick 3 -> done\t# the clock", "0x7f sfence - 5", "1 sfence 0x1000 -", "cut", "cut -> done", "cut#", "0 poll -> ret -1 0x0", "#! before 1 serve, 1 load 0x1000 -> value 0x22",
-    "#! never _ load 0x1000 -> value 0x11 after c tick # and no other", "#! maybe never 1 load 0x10 -> value 1", "#!maybe end quiet", "  #! end off history-full quiet stuck", "#! each _ sfence - _ -> done", "#!/usr/bin/env sbiboard", "#!some 0 sip", "# a#b", "clock # ticks",
+    "#! never _ load 0x1000 -> value 0x11 after c tick # and no other", "#! maybe never 1 load 0x10 -> value 1", "#!maybe end quiet", "  #! end off history-full quiet stuck", "#!can end quiet off # in some order", "#! maybe can end", "#! each _ sfence - _ -> done", "#!/usr/bin/env sbiboard", "#!some 0 sip", "# a#b", "clock # ticks",
 )  # fmt: skip
 WRONG = (("0 ecal 0x10", "ecal"), ("laod 1", "laod"), ("0 sip -> valu 1", "valu"), ("0 load 0X10", "0X10"), ("bord 1", "bord"), ("#! nevr 1 load", "nevr"), ("#! never 1 laod", "laod"))
 

@@ -204,7 +204,7 @@ class EmptyVerdicts(Test):
 
     def test_conditions_behind_blanks_are_red(self):
         """A comment that would be a condition but for blanks behind its sign is a point that fails; another comment isn't."""
-        for sign in ("# !never 1 load", "#  ! some 1 load", "#\t!each 1 load -> value 1", "  # !end quiet", "# !before 0, 1", "# !maybe never 1 load"):
+        for sign in ("# !never 1 load", "#  ! some 1 load", "#\t!each 1 load -> value 1", "  # !end quiet", "# !before 0, 1", "# !can end", "# !maybe never 1 load"):
             for way in WAYS:
                 status, found, _ = in_way(self.room, way, f"{sign}\n#! some 0 advance\n{RACE}")
                 word = sign.replace("!", " ").split()[1]

@@ -50,10 +50,10 @@ def in_groups(cases, some):
         at += many
 
 
-def must_end(room, lines, status, points, failed, *summary):
+def must_end(room, lines, status, points, failed, *summary, unjudged=0):
     """The plan, the summary and the status; and no records are written but those that are told."""
-    lines.take(f"1..{points}", f"# {points} points, {failed} failed", *summary)
-    must(f"status {status}, with {failed} failed; behind the summary stands {lines.lines[lines.at :]}", lines.at == len(lines.lines) and status == (1 if failed else 0))
+    lines.take(f"1..{points}", f"# {points} points, {failed} failed" + (f", {unjudged} not judged" if unjudged else ""), *summary)
+    must(f"status {status}, with {failed} failed; behind the summary stands {lines.lines[lines.at :]}", lines.at == len(lines.lines) and status == (1 if failed else 8 if unjudged else 0))
     found = {os.path.join(room, name) for name in os.listdir(room) if not name.endswith(".program")}
     must(f"written are {found}, and told {lines.records}", found == lines.records)
     for path in found:
@@ -98,6 +98,11 @@ def all_orders_of(cases):
         yield f"# all orders of {endless} programs: some without end"
 
 
+def unjudged_of(cases):
+    """Of how many conditions some orders don't tell."""
+    return sum(expected_points.asks_of_all(asked) for case in cases for asked in case.asked)
+
+
 def orders_alone(room, cases, seed, times=TIMES):
     """The records of so many orders of a seed, each tried alone."""
     names = [f"alone-{case.name}" for case in cases]
@@ -125,7 +130,7 @@ def tried(room, cases, orders, seed):
     ends = [order.record.end for of_it in orders for order in of_it]
     records = sum(len({tuple(order.record.lines) for order in of_it}) for of_it in orders)
     counts = ", ".join(f"{ends.count(end)} {end}" for end in ENDS)
-    must_end(room, lines, status, points, failed, f"# {len(cases)} files, {len(ends)} orders, {records} different records", f"# ends: {counts}")
+    must_end(room, lines, status, points, failed, f"# {len(cases)} files, {len(ends)} orders, {records} different records", f"# ends: {counts}", unjudged=unjudged_of(cases))
     return lines.lines
 
 
@@ -143,7 +148,7 @@ def run_on_threads(room, cases, orders):
     both = 2 * times * len(cases)
     counted = re.fullmatch(rf"# {len(cases)} files, {both} orders, \d+ different records;# ends: (\d+) off, (\d+) history-full, (\d+) quiet, (\d+) stuck", ";".join(lines.lines[-2:]))
     must(f"{lines.lines[-2:]}, of {both} orders and runs", counted is not None and sum(map(int, counted.groups())) == both)
-    must_end(room, lines, status, points, failed, *lines.lines[-2:])
+    must_end(room, lines, status, points, failed, *lines.lines[-2:], unjudged=2 * unjudged_of(cases))
     return lines.lines
 
 

@@ -99,6 +99,8 @@ FAULTS = (
     ("#! never * load", 10, "any word is '_'"), ("#! some 1 *", 11, "any word is '_'"), ("#! before 0 store *, 1 load", 19, "any word is '_'"), ("#! each 1 load * -> value 1", 16, "any word is '_'"),
     ("#! maybe", 9, "too few or too many words"), ("#! maybe maybe never 1 load", 10, "unknown condition"), ("#! perhaps never 1 load", 4, "unknown condition"),
     ("#!/usr/bin/env sbiboard", 3, "unknown condition"), ("#! NEVER 1 load", 4, "unknown condition"), ("#! end quiet, off", 8, "unknown word"),
+    ("#! can", 7, "too few or too many words"), ("#! can quiet", 8, "unknown word"), ("#! can end soon", 12, "unknown word"), ("#! can end quiet history-full", 18, "unknown word"), ("#! can end soon history-full", 12, "unknown word"), ("#! can end history-full soon", 12, "unknown word"),
+    ("#! can maybe end", 8, "unknown word"), ("#! maybe can", 13, "too few or too many words"), ("#! cann end", 4, "unknown condition"),
 )  # fmt: skip
 
 # What can't be tested: a file's text, and what is said of it: the place, what is wrong, and the word.

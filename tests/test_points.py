@@ -82,7 +82,7 @@ OF_CUT = (
     ("never 0 fetch", 10, True), ("never 1 load -> fault 4", 12, True), ("never 1 load after c tick", 12, True), ("each 1 load -> value 1", 12, True),
     ("each 0 load -> value 1", 9, True), ("before c, 0 load", 6, True), ("some 1 load 0x80000000 -> value 2", "some", True), ("some 0 fetch -> value 1", None, True),
     ("never 0 poll", None, False), ("never 1 ecall -> ret -3", 8, True), ("never 0 load after 0 serve", None, False), ("before 1 load, 0 load", None, True),
-    ("some 9 sip", "some", False), ("end quiet", "end", True), ("never 1 advance", 0, True),
+    ("some 9 sip", "some", False), ("end quiet", "end", True), ("can end", "end", True), ("never 1 advance", 0, True),
 )  # fmt: skip
 
 

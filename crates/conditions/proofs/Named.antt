@@ -67,6 +67,7 @@ keyword_own keywords.Some = refl
 keyword_own keywords.Each = refl
 keyword_own keywords.End = refl
 keyword_own keywords.Before = refl
+keyword_own keywords.Can = refl
 
 pub maybe_is_no_keyword : keyword_named (codes "maybe") ≡ None
 unfolding keyword_named

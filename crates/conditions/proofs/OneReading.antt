@@ -9,7 +9,8 @@ use Rattle.line_words.specs.Values.{number_in, words_in}
 use Rattle.conditions.specs.declared.items.Item.{Item}
 use Rattle.conditions.specs.declared.keywords.Keyword.{Keyword}
 use Rattle.conditions.specs.declared.keywords.Keyword.TheVariants as keywords
-use Rattle.conditions.specs.Grammar.{ArePatterns, RuleValue, IsRuleOf, AsksActor, AsksName, AsksNumber, HasCondition, HaveConditions, IsAsked, IsAsking, IsNameAndNumbers, IsNameOf, IsPattern, IsRule, IsStepPattern, IsOperation, ConditionValue, Wanted, ending_named, ending_word, keyword_named, keyword_word, number_item, with_commas}
+use Rattle.conditions.specs.Grammar.{AreEndings, ArePatterns, RuleValue, IsRuleOf, AsksActor, AsksName, AsksNumber, HasCondition, HaveConditions, IsAsked, IsAsking, IsNameAndNumbers, IsNameOf, IsPattern, IsRule, IsStepPattern, IsOperation, ConditionValue, Wanted, ending_named, ending_word, keyword_named, keyword_word, number_item, with_commas}
+use Rattle.conditions.specs.declared.rules.Ending.{Ending}
 use Rattle.conditions.specs.FirstFault.{HasOneReading, IsFirstUnreadable, IsReadable, IsUnreadable}
 use Rattle.conditions.proofs.Named.{any_is_no_hart, any_is_no_number, any_is_no_op, any_is_no_said, clock_is_no_hart, dash_is_no_number, ending_own, keyword_own, maybe_is_no_keyword, none_named, one_named, op_own, said_own}
 
@@ -110,6 +111,10 @@ patterns_one mark words p q r s a b = (pattern_one _ p r a.1 b.1, pattern_one _ 
 
 -- ---- conditions
 
+endings_one : (words : List (List ℕ)) (s t : List Ending) → AreEndings words s → AreEndings words t → s ≡ t
+endings_one words s t a b =
+    zip_one (λ word ending. word ≡ ending_word ending) (λ word c d is_c is_d. one_named ending_named ending_word ending_own c d (sym is_c ∙ is_d)) words s t a b
+
 asks_one : (keyword : Keyword) (words : List (List ℕ)) (a b : RuleValue) → IsRuleOf keyword words a → IsRuleOf keyword words b → a ≡ b
 asks_one keywords.Never words a b (inl x) (inl y) = rw (x.1, y.1, pattern_one words x.0 y.0 x.3 y.3) refl
 asks_one keywords.Never words a b (inl x) (inr y) = absurd (let e = sym x.2 ∙ y.3.0 in cc)
@@ -120,11 +125,14 @@ asks_one keywords.Never words a b (inr x) (inr y) =
 asks_one keywords.Some words a b x y = rw (x.1, y.1, pattern_one words x.0 y.0 x.2 y.2) refl
 asks_one keywords.Each words a b x y = rw (x.1, y.1, pattern_one words x.0 y.0 x.2 y.2) refl
 asks_one keywords.End words a b x y =
-    let same = zip_one (λ word ending. word ≡ ending_word ending) (λ word c d is_c is_d. one_named ending_named ending_word ending_own c d (sym is_c ∙ is_d)) words x.0 y.0 x.3 y.3 in
-    rw (x.1, y.1, same) refl
+    rw (x.1, y.1, endings_one words x.0 y.0 x.3 y.3) refl
 asks_one keywords.Before words a b x y =
     let same = patterns_one (codes ",") (with_commas words) x.0 x.1 y.0 y.1 x.3 y.3 in
     rw (x.2, y.2, same.0, same.1) refl
+asks_one keywords.Can words a b x y =
+    let others : y.1 ≡ x.1 = let e = sym y.3 ∙ x.3 in cc in
+    let same = endings_one x.1 x.0 y.0 x.5 (subst (λ (w : List (List ℕ)). AreEndings w y.0) others y.5) in
+    rw (x.2, y.2, same) refl
 
 asked_one : (words : List (List ℕ)) (a b : RuleValue) → IsAsked words a → IsAsked words b → a ≡ b
 asked_one [] a b x y = absurd x

@@ -6,7 +6,7 @@ use Rattle.board_core.specs.History.{Event}
 use Rattle.conditions.specs.declared.patterns.Pattern.{Pattern}
 use Rattle.conditions.specs.declared.rules.Ending.{Ending}
 use Rattle.conditions.specs.declared.rules.Rule.{Rule}
-use Rattle.conditions.specs.declared.rules.Rule.TheVariants.{Never, NeverAfter, OfSome, Each, End, Before}
+use Rattle.conditions.specs.declared.rules.Rule.TheVariants.{Never, NeverAfter, OfSome, Each, End, Before, CanEnd}
 use Rattle.conditions.specs.Patterns.{FitsStep}
 use Rattle.conditions.specs.Rules.{IsAt}
 use Rattle.conditions.specs.Vacuity.{HasFitting, IsVacuous, SaysNothing}
@@ -25,6 +25,7 @@ says-nothing (OfSome p) records (inr none) n events end is = absurd none.0
 says-nothing (Each p) records (inl none) n events end is = λ k e at fits. absurd (none.1 n events is (k, e, at, fits))
 says-nothing (Each p) records (inr none) n events end is = absurd none.0
 says-nothing (End ends) records none n events end is = tt
+says-nothing (CanEnd ends) records none n events end is = tt
 says-nothing (Before p q) records (inl none) n events end is = λ j k first second. absurd (none-matches p events (none.1 n events is) j first.here)
 says-nothing (Before p q) records (inr none) n events end is = λ j k first second. absurd (none-matches q events (none.1 n events is) k second.here)
 

@@ -40,6 +40,7 @@ pub data RuleValue : Type 0 where
   Each : Wanted → RuleValue
   End : List Ending → RuleValue
   Before : Wanted → Wanted → RuleValue
+  CanEnd : List Ending → RuleValue
 
 -- a condition: its line, whether it begins with `maybe`, and what it asks
 pub record ConditionValue : Type 0 where
@@ -57,6 +58,7 @@ rule_value (rules.OfSome p) = OfSome (wanted p)
 rule_value (rules.Each p) = Each (wanted p)
 rule_value (rules.End ends) = End ends.items
 rule_value (rules.Before p q) = Before (wanted p) (wanted q)
+rule_value (rules.CanEnd ends) = CanEnd ends.items
 
 -- what a `Condition` says
 abbrev pub condition_value : Condition → ConditionValue
@@ -167,9 +169,10 @@ keyword_word keywords.Some = codes "some"
 keyword_word keywords.Each = codes "each"
 keyword_word keywords.End = codes "end"
 keyword_word keywords.Before = codes "before"
+keyword_word keywords.Can = codes "can"
 
 abbrev pub keyword_names : List Keyword
-keyword_names = keywords.Never ∷ keywords.Some ∷ keywords.Each ∷ keywords.End ∷ keywords.Before ∷ []
+keyword_names = keywords.Never ∷ keywords.Some ∷ keywords.Each ∷ keywords.End ∷ keywords.Before ∷ keywords.Can ∷ []
 
 -- the keyword that a word is
 unfoldable pub keyword_named : List ℕ → Option Keyword
@@ -193,6 +196,11 @@ ending_named word = by_word ending_word ending_names word
 abbrev pub AreEndings : List (List ℕ) → List Ending → Type 0
 AreEndings words ends = AllZip (λ word ending. word ≡ ending_word ending) words ends
 
+-- the ends that `can end` means: without any, all in which an order without a limit can end
+abbrev pub ends_meant : List Ending → List Ending
+ends_meant [] = endings.Off ∷ endings.Quiet ∷ endings.Stuck ∷ []
+ends_meant (ending ∷ ends) = ending ∷ ends
+
 -- whether a word is something, and then a comma
 abbrev pub has_comma : List ℕ → Bool
 has_comma word = nat_le 2 (length word) && bytes_eq (drop (length word - 1) word) (codes ",")
@@ -214,6 +222,9 @@ IsRuleOf keywords.Each words asked = (p : Wanted) × (asked ≡ Each p) × IsPat
 IsRuleOf keywords.End words asked = (ends : List Ending) × (asked ≡ End ends) × (words ≢ []) × AreEndings words ends
 IsRuleOf keywords.Before words asked =
     (p q : Wanted) × (asked ≡ Before p q) × ArePatterns (codes ",") (with_commas words) p q
+IsRuleOf keywords.Can words asked =
+    (ends : List Ending) × (others : List (List ℕ)) × (asked ≡ CanEnd (ends_meant ends)) × (words ≡ codes "end" ∷ others)
+    × (has_mark (codes "history-full") others ≡ false) × AreEndings others ends
 
 -- The words of a condition.
 abbrev pub IsAsked : List (List ℕ) → RuleValue → Type 0

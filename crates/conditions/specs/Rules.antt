@@ -4,7 +4,7 @@ use Rattle.board_core.specs.History.{Event}
 use Rattle.conditions.specs.declared.patterns.Pattern.{Pattern}
 use Rattle.conditions.specs.declared.rules.Ending.{Ending}
 use Rattle.conditions.specs.declared.rules.Rule.{Rule}
-use Rattle.conditions.specs.declared.rules.Rule.TheVariants.{Never, NeverAfter, OfSome, Each, End, Before}
+use Rattle.conditions.specs.declared.rules.Rule.TheVariants.{Never, NeverAfter, OfSome, Each, End, Before, CanEnd}
 use Rattle.conditions.specs.Patterns.{FitsReply, FitsStep, Matches}
 
 -- the pattern matches step k of a record, from 0, the oldest first
@@ -31,11 +31,26 @@ pub record IsFirstUnfit (p : Pattern) (events : List Event) (k : ℕ) : Type 0 w
   pub before : RepliesFit p (take k events)
   pub here : ¬ RepliesFit p (take (suc k) events)
 
--- A record meets a condition. Only the record of a program has an end.
+-- an end is one of these
+abbrev pub IsNamedIn : List Ending → Option Ending → Type 0
+IsNamedIn ends end = (e : Ending) × (end ≡ Some e) × ((k : ℕ) × (slice_get ends k ≡ Some e))
+
+-- a condition names the end
+abbrev pub Names : Rule → Option Ending → Type 0
+Names (Never p) end = ⊥
+Names (NeverAfter p q) end = ⊥
+Names (OfSome p) end = ⊥
+Names (Each p) end = ⊥
+Names (End ends) end = IsNamedIn ends.items end
+Names (Before p q) end = ⊥
+Names (CanEnd ends) end = IsNamedIn ends.items end
+
+-- A record meets a condition. Only the record of a program has an end. No record alone meets `can end`.
 abbrev pub Holds : Rule → List Event → Option Ending → Type 0
 Holds (Never p) events end = (k : ℕ) → ¬ IsAt p events k
 Holds (NeverAfter p q) events end = (j k : ℕ) → j < k → IsAt q events j → ¬ IsAt p events k
 Holds (OfSome p) events end = (k : ℕ) × IsAt p events k
 Holds (Each p) events end = RepliesFit p events
-Holds (End ends) events end = (e : Ending) × (end ≡ Some e) × ((k : ℕ) × (slice_get ends.items k ≡ Some e))
+Holds (End ends) events end = IsNamedIn ends.items end
 Holds (Before p q) events end = (j k : ℕ) → IsFirst p events j → IsFirst q events k → j < k
+Holds (CanEnd ends) events end = ⊥

@@ -7,7 +7,7 @@ use Rattle.conditions.specs.declared.names.Name.TheVariants.{Op}
 use Rattle.conditions.specs.declared.patterns.Pattern.{Pattern}
 use Rattle.conditions.specs.declared.rules.Ending.{Ending}
 use Rattle.conditions.specs.declared.rules.Rule.{Rule}
-use Rattle.conditions.specs.declared.rules.Rule.TheVariants.{Never, NeverAfter, OfSome, Each, End, Before}
+use Rattle.conditions.specs.declared.rules.Rule.TheVariants.{Never, NeverAfter, OfSome, Each, End, Before, CanEnd}
 use Rattle.conditions.specs.Patterns.{FitsStep}
 use Rattle.conditions.specs.Rules.{Holds, IsAt}
 
@@ -32,6 +32,7 @@ NeedsFirst (OfSome p) = p.reply.items ≢ []
 NeedsFirst (Each p) = Unit {0}
 NeedsFirst (Before p q) = Unit {0}
 NeedsFirst (End ends) = ⊥
+NeedsFirst (CanEnd ends) = ⊥
 
 -- A condition needs a step for the pattern behind `after`, or behind the comma of `before`.
 abbrev pub NeedsSecond : Rule → Type 0
@@ -41,6 +42,7 @@ NeedsSecond (OfSome p) = ⊥
 NeedsSecond (Each p) = ⊥
 NeedsSecond (Before p q) = Unit {0}
 NeedsSecond (End ends) = ⊥
+NeedsSecond (CanEnd ends) = ⊥
 
 -- A record has the step that the first pattern needs.
 abbrev pub MeetsFirst : Rule → List Event → Type 0
@@ -50,6 +52,7 @@ MeetsFirst (OfSome p) events = HasFitting p events
 MeetsFirst (Each p) events = HasFitting p events
 MeetsFirst (Before p q) events = HasFitting p events
 MeetsFirst (End ends) events = ⊥
+MeetsFirst (CanEnd ends) events = ⊥
 
 -- A record has the step that the second pattern needs: behind `after` one with its reply, if it has a reply.
 abbrev pub MeetsSecond : Rule → List Event → Type 0
@@ -59,6 +62,7 @@ MeetsSecond (OfSome p) events = ⊥
 MeetsSecond (Each p) events = ⊥
 MeetsSecond (Before p q) events = HasFitting q events
 MeetsSecond (End ends) events = ⊥
+MeetsSecond (CanEnd ends) events = ⊥
 
 -- no record has the property
 abbrev pub NoneOf : (List Event → Type 0) → List (List Event) → Type 0
@@ -77,4 +81,5 @@ SaysNothing (NeverAfter p q) events end = Holds (NeverAfter p q) events end
 SaysNothing (OfSome p) events end = ¬ Holds (OfSome p) events end
 SaysNothing (Each p) events end = Holds (Each p) events end
 SaysNothing (End ends) events end = Unit {0}
+SaysNothing (CanEnd ends) events end = Unit {0}
 SaysNothing (Before p q) events end = Holds (Before p q) events end

@@ -52,6 +52,7 @@ fn asks(alloc: Global, keyword: Keyword, words: &[Word<'_>], end: usize) -> Resu
         Keyword::Each => each(alloc, words, end),
         Keyword::End => ends(alloc, words, end),
         Keyword::Before => ordered(alloc, words, end),
+        Keyword::Can => can_end(alloc, words, end),
     }
 }
 
@@ -109,6 +110,29 @@ fn ends(alloc: Global, words: &[Word<'_>], end: usize) -> Result<Rule, Unread>
         return Err(missing(end));
     }
     Ok(Rule::End(endings(alloc, words)?))
+}
+
+/// `end`, and the ends that orders can come to. No limit ends such an order.
+fn can_end(alloc: Global, words: &[Word<'_>], end: usize) -> Result<Rule, Unread>
+    ensures { Gives rule_value (IsRuleOf keywords.Can (texts words.now)) result }
+{
+    let Some((first, rest)) = words.split_first() else {
+        return Err(missing(end));
+    };
+    if first.text != b"end".as_slice() {
+        return Err(first.is(Wrong::UnknownWord));
+    }
+    if let Some(k) = place_of(rest, b"history-full") {
+        endings(alloc, &rest[..k])?;
+        return Err(rest[k].is(Wrong::UnknownWord));
+    }
+    let mut ends = endings(alloc, rest)?;
+    if ends.is_empty() {
+        ends.push(Ending::Off)?;
+        ends.push(Ending::Quiet)?;
+        ends.push(Ending::Stuck)?;
+    }
+    Ok(Rule::CanEnd(ends))
 }
 
 /// The ends that words name.

@@ -15,12 +15,14 @@ pub enum Keyword {
     End,
     /// `before`
     Before,
+    /// `can`
+    Can,
 }
 
 impl Keyword {
     /// The keyword that a word is.
     #[tactic(auto, unfolding(crate::specs::Grammar::keyword_named))]
-    pub(crate) fn of(word: &[u8]) -> Option<Keyword>
+    pub fn of(word: &[u8]) -> Option<Keyword>
         ensures { MatchOption result (keyword_named word.now ≡ None) (λ keyword. word.now ≡ keyword_word keyword) }
     {
         match word {
@@ -29,6 +31,7 @@ impl Keyword {
             b"each" => Some(Keyword::Each),
             b"end" => Some(Keyword::End),
             b"before" => Some(Keyword::Before),
+            b"can" => Some(Keyword::Can),
             _ => None,
         }
     }

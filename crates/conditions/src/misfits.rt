@@ -27,7 +27,7 @@ impl Rule {
             Rule::NeverAfter(p, q) | Rule::Before(p, q) => {
                 in_pattern(p, harts).or(in_pattern(q, harts))
             }
-            Rule::End(_) => None,
+            Rule::End(_) | Rule::CanEnd(_) => None,
         }
     }
 }

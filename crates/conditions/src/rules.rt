@@ -1,7 +1,7 @@
 //! What a condition says of a record, and whether the record meets it.
 ghost use Rattle.std.specs.Prelude.{◌↔◌, ◌≡◌, ◌<◌, ◌≤◌, ℕ, MatchOption, None, Some, length, slice_get, true};
 ghost use Rattle.conditions.specs.Grammar.{ending_named, ending_word};
-ghost use Rattle.conditions.specs.Rules.{Holds, IsAt, IsFirst, IsFirstFrom, IsFirstUnfit, RepliesFit};
+ghost use Rattle.conditions.specs.Rules.{Holds, IsAt, IsFirst, IsFirstFrom, IsFirstUnfit, Names, RepliesFit};
 ghost use Rattle.conditions.specs.declared.rules.Ending.{Ending as HowEnded};
 
 use crate::patterns::Pattern;
@@ -57,6 +57,8 @@ pub enum Rule {
     End(Vec<Ending>),
     /// `before P, Q`: the first step that P matches comes before the first that Q matches, if both come.
     Before(Pattern, Pattern),
+    /// `can end E ..`: from each state that an order reaches, some order ends in one of these ways. No record alone says so.
+    CanEnd(Vec<Ending>),
 }
 
 impl Rule {
@@ -71,6 +73,22 @@ impl Rule {
             Rule::Each(p) => first_other_reply(p, events).is_none(),
             Rule::End(ends) => is_among(ends, end),
             Rule::Before(p, q) => is_before(p, q, events),
+            Rule::CanEnd(_) => false,
+        }
+    }
+
+    /// Whether it names an end: in one of the ways that it names a run may end, or an order can.
+    pub fn names(&self, end: Option<Ending>) -> bool
+        ensures { (result ≡ true) ↔ Names self.now end }
+    {
+        match self {
+            Rule::End(ends) => is_among(ends, end),
+            Rule::CanEnd(ends) => is_among(ends, end),
+            Rule::Never(_)
+            | Rule::NeverAfter(_, _)
+            | Rule::OfSome(_)
+            | Rule::Each(_)
+            | Rule::Before(_, _) => false,
         }
     }
 }

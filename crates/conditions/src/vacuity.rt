@@ -83,7 +83,7 @@ fn meets_first(rule: &Rule, events: &[Event]) -> bool
         Rule::OfSome(p) => has_fitting(p, events),
         Rule::Each(p) => has_fitting(p, events),
         Rule::Before(p, _) => has_fitting(p, events),
-        Rule::End(_) => false,
+        Rule::End(_) | Rule::CanEnd(_) => false,
     }
 }
 
@@ -94,7 +94,7 @@ fn meets_second(rule: &Rule, events: &[Event]) -> bool
     match rule {
         Rule::NeverAfter(_, q) => has_matching(q, events),
         Rule::Before(_, q) => has_fitting(q, events),
-        Rule::Never(_) | Rule::OfSome(_) | Rule::Each(_) | Rule::End(_) => false,
+        Rule::Never(_) | Rule::OfSome(_) | Rule::Each(_) | Rule::End(_) | Rule::CanEnd(_) => false,
     }
 }
 
@@ -126,7 +126,7 @@ fn needs_first(rule: &Rule) -> bool
         Rule::NeverAfter(p, _) => has_reply(p) && !is_of_call(p),
         Rule::OfSome(p) => has_reply(p),
         Rule::Each(_) | Rule::Before(_, _) => true,
-        Rule::End(_) => false,
+        Rule::End(_) | Rule::CanEnd(_) => false,
     }
 }
 
@@ -136,7 +136,7 @@ fn needs_second(rule: &Rule) -> bool
 {
     match rule {
         Rule::NeverAfter(_, _) | Rule::Before(_, _) => true,
-        Rule::Never(_) | Rule::OfSome(_) | Rule::Each(_) | Rule::End(_) => false,
+        Rule::Never(_) | Rule::OfSome(_) | Rule::Each(_) | Rule::End(_) | Rule::CanEnd(_) => false,
     }
 }
 

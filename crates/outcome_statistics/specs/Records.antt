@@ -4,7 +4,7 @@ use Rattle.board_core.specs.History.{Event}
 use Rattle.conditions.specs.declared.rules.Ending.{Ending}
 use Rattle.conditions.specs.declared.rules.Ending.TheVariants as endings
 use Rattle.conditions.specs.declared.rules.Rule.{Rule}
-use Rattle.conditions.specs.declared.rules.Rule.TheVariants.{Never, NeverAfter, OfSome, Each, End, Before}
+use Rattle.conditions.specs.declared.rules.Rule.TheVariants.{Never, NeverAfter, OfSome, Each, End, Before, CanEnd}
 use Rattle.conditions.specs.Rules.{Holds}
 use Rattle.outcome_statistics.specs.declared.tally.Tally.{Tally}
 
@@ -22,6 +22,7 @@ IsSpared (NeverAfter p q) end = ⊥
 IsSpared (OfSome p) end = ⊥
 IsSpared (Each p) end = ⊥
 IsSpared (Before p q) end = ⊥
+IsSpared (CanEnd ends) end = ⊥
 
 -- A record meets a condition, or the condition says nothing of it.
 abbrev pub Meets : Rule → Tried → Type 0
@@ -54,6 +55,7 @@ AllMeet (NeverAfter p q) tried = EachIs (IsSo (Some (NeverAfter p q))) tried
 AllMeet (Each p) tried = EachIs (IsSo (Some (Each p))) tried
 AllMeet (End named) tried = EachIs (IsSo (Some (End named))) tried
 AllMeet (Before p q) tried = EachIs (IsSo (Some (Before p q))) tried
+AllMeet (CanEnd ends) tried = EachIs (IsSo (Some (CanEnd ends))) tried
 
 -- ---- counting
 

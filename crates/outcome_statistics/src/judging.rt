@@ -32,11 +32,12 @@ fn is_spared(rule: &Rule, end: Option<Ending>) -> bool
         | Rule::NeverAfter(..)
         | Rule::OfSome(_)
         | Rule::Each(_)
-        | Rule::Before(..) => false,
+        | Rule::Before(..)
+        | Rule::CanEnd(_) => false,
     }
 }
 
-/// The place of the step at which a record fails a condition: for `end` the last; for `some` there is none.
+/// The place of the step at which a record fails a condition: for `end` the last; for `some` and `can end` there is none.
 pub fn failing_step(rule: Option<&Rule>, events: &[Event]) -> Option<usize> {
     match rule {
         Some(Rule::Never(p)) => first_from(p, events, 0),
@@ -45,7 +46,7 @@ pub fn failing_step(rule: Option<&Rule>, events: &[Event]) -> Option<usize> {
         }
         Some(Rule::Each(p)) => first_other_reply(p, events),
         Some(Rule::Before(_, q)) => first_from(q, events, 0),
-        Some(Rule::OfSome(_)) => None,
+        Some(Rule::OfSome(_) | Rule::CanEnd(_)) => None,
         Some(Rule::End(_)) | None => events.len().checked_sub(1),
     }
 }

@@ -15,7 +15,7 @@ impl Matched {
         let (first, second) = match rule {
             Rule::Never(_) | Rule::OfSome(_) | Rule::Each(_) => (false, true),
             Rule::NeverAfter(..) | Rule::Before(..) => (false, false),
-            Rule::End(_) => (true, true),
+            Rule::End(_) | Rule::CanEnd(_) => (true, true),
         };
         Matched { first, second }
     }
@@ -30,7 +30,7 @@ impl Matched {
                 self.first = self.first || p.fits_step(event);
                 self.second = self.second || q.fits_step(event);
             }
-            Rule::End(_) => {}
+            Rule::End(_) | Rule::CanEnd(_) => {}
         }
     }
 
@@ -57,6 +57,6 @@ pub fn is_each_met(rule: &Rule, met: NeedsMet) -> bool {
     match rule {
         Rule::Never(_) | Rule::OfSome(_) | Rule::Each(_) => met.first,
         Rule::NeverAfter(..) | Rule::Before(..) => met.first && met.second,
-        Rule::End(_) => true,
+        Rule::End(_) | Rule::CanEnd(_) => true,
     }
 }

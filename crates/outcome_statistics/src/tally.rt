@@ -93,6 +93,7 @@ impl Tally {
             Rule::Each(_) => self.is_each(),
             Rule::End(_) => self.is_each(),
             Rule::Before(..) => self.is_each(),
+            Rule::CanEnd(_) => self.is_each(),
         }
     }
 }

@@ -119,7 +119,7 @@ fn judge<R: AllocGlobal + Files>(
     let is_failing = matches!(verdict, Verdict::Fails);
     let name = named(alloc, &trial.case, Some(condition), "")?;
     let mut point = Point::new(alloc, name, verdict);
-    if matches!(rule, Rule::End(_)) {
+    if matches!(rule, Rule::End(_) | Rule::CanEnd(_)) {
         point
             .details
             .push(Detail::Reason("only a program has an end"))?;

@@ -192,7 +192,7 @@ fn sought(rule: &Rule, is_second: bool) -> Option<(&Pattern, bool)> {
     match (rule, is_second) {
         (Rule::NeverAfter(_, q), true) => Some((q, true)),
         (Rule::Before(_, q), true) => Some((q, false)),
-        (Rule::End(_), _) => None,
+        (Rule::End(_) | Rule::CanEnd(_), _) => None,
         (
             Rule::Never(p)
             | Rule::NeverAfter(p, _)

@@ -1,5 +1,6 @@
 //! What is odd about a program.
 use crate::notes::Note;
+use conditions::Keyword;
 use diagnostics::{Case, number_in, said};
 use guest_script::{next_word, without_return};
 use outcome_statistics::{Spot, Visits};
@@ -130,8 +131,9 @@ fn asked_behind_blanks(comment: &[u8]) -> Option<&[u8]> {
     } else {
         asked
     };
-    match word {
-        b"never" | b"some" | b"each" | b"end" | b"before" | b"maybe" => Some(word),
-        _ => None,
+    if word == b"maybe".as_slice() || Keyword::of(word).is_some() {
+        Some(word)
+    } else {
+        None
     }
 }

@@ -14,6 +14,8 @@ pub enum Unjudged {
     NoTime,
     /// No order was requested.
     NoOrder,
+    /// It is about all orders, and only some were tried.
+    NotAllOrders,
     /// There are more states than the limit, and none of those that were seen breaks it.
     TooMany(u64),
 }
@@ -23,6 +25,7 @@ impl fmt::Display for Unjudged {
         match self {
             Unjudged::NoTime => write!(f, "no time"),
             Unjudged::NoOrder => write!(f, "no order tried"),
+            Unjudged::NotAllOrders => write!(f, "it asks of all orders"),
             Unjudged::TooMany(most) => {
                 let most = Grouped(u128::from(*most));
                 write!(f, "more than {most} states, none of those seen breaks it")

@@ -5,7 +5,7 @@ endif
 
 let s:operations = 'ecall load fetch store satp sfence fencei sie sstatus sip clearssip wfi poll serve advance tick'
 let s:replies = 'ret entry waiting gone value fault served moved done refused'
-let s:rules = 'never some each before end'
+let s:rules = 'never some each before can end'
 let s:ends = 'off history-full quiet stuck'
 
 " Any of these words, whole. A comment may begin behind one, and in a condition a comma.

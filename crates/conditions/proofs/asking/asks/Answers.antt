@@ -14,3 +14,6 @@ returns-in-End c = rw c.in-End.is c.ends.ensures
 
 pub returns-in-Before : goal.returns-in-Before
 returns-in-Before c = rw c.in-Before.is c.ordered.ensures
+
+pub returns-in-Can : goal.returns-in-Can
+returns-in-Can c = rw c.in-Can.is c.can_end.ensures

@@ -20,3 +20,6 @@ returns-in-End c tried tells = all-each c.args.rule.now _ tried c.is_each-in-End
 
 pub returns-in-Before : goal.returns-in-Before
 returns-in-Before c tried tells = all-each c.args.rule.now _ tried c.is_each-in-Before.result c.in-Before.is (λ same. same) (c.is_each-in-Before.ensures (Some c.args.rule.now) tried tells)
+
+pub returns-in-CanEnd : goal.returns-in-CanEnd
+returns-in-CanEnd c tried tells = all-each c.args.rule.now _ tried c.is_each-in-CanEnd.result c.in-CanEnd.is (λ same. same) (c.is_each-in-CanEnd.ensures (Some c.args.rule.now) tried tells)
