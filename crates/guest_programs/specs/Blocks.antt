@@ -53,3 +53,8 @@ ops_found blocks (Some k) = ops_at blocks k
 abbrev pub rest_in : List Guest → BlockPlace → Rest
 rest_in blocks Idle = λ more. None
 rest_in blocks (At block op) = λ more. slice_get (ops_at blocks block) (op + length more)
+
+-- The words of a place: whether something is left, and where.
+abbrev pub place_words : BlockPlace → List ℕ
+place_words Idle = 0 ∷ []
+place_words (At block op) = 1 ∷ block ∷ op ∷ []

@@ -6,3 +6,4 @@ pub mod Ends
 pub mod Faults
 pub mod Steps
 pub mod Places
+pub mod Inside

@@ -11,10 +11,11 @@ ghost use Rattle.guest_programs.specs.Steps.{task_in};
 
 use crate::blocks::Program;
 use board_core::{Op, Reply};
+use std::alloc::AllocError;
 
 /// The guests of a board's harts: what each does from its entry on, by the replies that it got.
 pub trait Guests {
-    ghost use Rattle.std.specs.Prelude.{◌≡◌, ◌∷◌, ◌++◌, [], None};
+    ghost use Rattle.std.specs.Prelude.{◌≡◌, ◌∷◌, ◌++◌, ℕ, List, [], IfOk, None};
     ghost use Rattle.guest_programs.specs.Guests.{Did, Next, Rest};
 
     /// How far a guest is.
@@ -25,6 +26,9 @@ pub trait Guests {
 
     // What a guest does from a place on.
     ghost rest: { Self → Self.Place → Rest };
+
+    // The words that a place is told by.
+    ghost words: { Self.Place → List ℕ };
 
     /// The place of a guest whose hart wasn't entered yet.
     fn nowhere(&self) -> Self::Place
@@ -42,6 +46,17 @@ pub trait Guests {
     /// What a guest does next, if there is something.
     fn op_at(&self, place: Self::Place) -> Option<Op>
         ensures { result ≡ rest self.now place [] };
+
+    /// Appends the words of a place.
+    ///
+    /// # Errors
+    ///
+    /// Memory was refused.
+    fn put_words(out: &mut Vec<u64>, place: Self::Place) -> Result<(), AllocError>
+        ensures { IfOk result (λ _. out.new.items ≡ out.old.items ++ words place) };
+
+    // Places with the same words, whatever stands behind these, are the same.
+    ghost told: { (a b : Self.Place) (front back : List ℕ) → words a ++ front ≡ words b ++ back → (a ≡ b) × (front ≡ back) };
 }
 
 /// The place of a guest after an operation of its hart was accepted.
