@@ -5,4 +5,5 @@ pub mod Met
 pub mod Ends
 pub mod Faults
 pub mod Steps
+pub mod Histories
 pub mod Places
