@@ -5,7 +5,6 @@ use Rattle.board_core.specs.History.{Event}
 use Rattle.guest_script.specs.Grammar.{Guest}
 use Rattle.guest_programs.specs.declared.block_guests.BlockPlace.{BlockPlace}
 use Rattle.guest_programs.specs.declared.block_guests.BlockPlace.TheVariants.{At, Idle}
-use Rattle.guest_programs.specs.declared.guests.Place.{Place}
 use Rattle.guest_programs.specs.Guests.{Did, Entered, Next, Rest, did}
 
 -- the operations of the block at an address; none without such a block
@@ -34,10 +33,6 @@ abbrev pub done : List Event → ℕ → List Op
 done past h = ops_in (did past h)
 
 -- ---- how far a guest is
-
--- what a guest does with this remainder of its block
-abbrev pub rest_at : Place → Rest
-rest_at place = λ more. slice_get place.left.now (length more)
 
 -- the operations of the block in a place of the list; none where no block is
 abbrev pub ops_at : List Guest → ℕ → List Op

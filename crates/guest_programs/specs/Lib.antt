@@ -5,5 +5,6 @@ pub mod Met
 pub mod Ends
 pub mod Faults
 pub mod Steps
+pub mod Histories
 pub mod Places
 pub mod Inside

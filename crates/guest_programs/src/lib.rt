@@ -18,7 +18,7 @@ pub use blocks::Program;
 pub use boards::new_board;
 pub use ends::{End, RunEnd, RunFault};
 pub use found_end::end_of;
-pub use guests::{Guests, Place, guest_place_after, is_guest};
+pub use guests::{Guests, guest_place_after, is_guest};
 pub use met::Met;
 pub use places::Places;
 pub use programs::{blocks_in_order, program_in};

@@ -9,3 +9,4 @@ pub mod Steps
 pub mod Ticking
 pub mod Whole
 pub mod Ending
+pub mod Owning

@@ -1,6 +1,5 @@
 //! What a hart's thread does next, by its view.
 ghost use Rattle.std.specs.Prelude.{◌≡◌, ℕ, List, IfSome, None};
-ghost use Rattle.std.specs.Option.{option_map};
 ghost use Rattle.board_core.specs.History.{Event};
 ghost use Rattle.board_core.specs.Opening.{Opening};
 ghost use Rattle.board_core.specs.Refusals.{IsAccepted, Situation, situation};
@@ -15,14 +14,14 @@ use guest_programs::is_guest;
 
 /// The next operation of a hart, if there is one, by its view and its guest's next operation. The firmware's comes first;
 /// inside a fence call the guest does nothing.
-pub(crate) fn choice<'a>(now: &HartNow, guest: Option<&'a Op>) -> Option<&'a Op>
-    ensures exact { option_map (λ op. op.now) result ≡ first_choice now.now (option_map (λ op. op.now) guest.entry) }
-    ensures happens { (s : Situation) → Sees s now.now → IfSome result (λ op. IsAccepted op.now s) }
+pub(crate) fn choice(now: &HartNow, guest: Option<Op>) -> Option<Op>
+    ensures exact { result ≡ first_choice now.now guest }
+    ensures happens { (s : Situation) → Sees s now.now → IfSome result (λ op. IsAccepted op s) }
     ensures rests { (o : Opening) (past : List Event) (h : ℕ) → IsLegal o past → Sees (situation o past h) now.now
-        → result ≡ None → HasNothing (option_map (λ op. op.now) guest.entry) (situation o past h) }
+        → result ≡ None → HasNothing guest (situation o past h) }
 {
     if let Some(op) = now.firmware_choice() {
-        return Some(op);
+        return Some(*op);
     }
     if now.outstanding.is_some() {
         calls_are_made_started();
@@ -34,12 +33,12 @@ pub(crate) fn choice<'a>(now: &HartNow, guest: Option<&'a Op>) -> Option<&'a Op>
     }
 }
 
-/// Whether an operation of a block is a guest's that doesn't wait.
-fn goes(op: &Op, wake: bool) -> bool
-    ensures { result ≡ goes op.now wake }
+/// Whether an operation is a guest's that doesn't wait.
+fn goes(op: Op, wake: bool) -> bool
+    ensures { result ≡ goes op wake }
 {
     match op {
         Op::Wfi => wake,
-        op => is_guest(*op),
+        op => is_guest(op),
     }
 }

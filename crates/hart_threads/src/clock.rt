@@ -11,13 +11,13 @@ use crate::plans::Plan;
 use crate::work::{Work, Worked};
 use board_core::Op;
 use board_lock::{Awaits, Seat};
-use guest_programs::Met;
+use guest_programs::{Guests, Met};
 use std::sync::Wait;
 
 /// The clock's thread: it does its ticks in order, up to a refused one, and then rests.
-pub(crate) fn tick<K: Plan, G: Gate, R: Wait>(
+pub(crate) fn tick<K: Plan, G: Gate, P: Guests, R: Wait>(
     rt: &R,
-    work: &Work<'_, '_, K, G>,
+    work: &Work<'_, K, G, P>,
     seat: Seat<K>,
 ) -> Worked<K>
     requires fresh { seat ≡ sitting Clock 0 [] [] }
@@ -32,14 +32,18 @@ pub(crate) fn tick<K: Plan, G: Gate, R: Wait>(
 }
 
 /// Does the ticks in order, up to a refused one.
-fn tick_all<K: Plan, G: Gate, R: Wait>(rt: &R, work: &Work<'_, '_, K, G>, seat: &mut Seat<K>) -> Met
+fn tick_all<K: Plan, G: Gate, P: Guests, R: Wait>(
+    rt: &R,
+    work: &Work<'_, K, G, P>,
+    seat: &mut Seat<K>,
+) -> Met
     requires fresh { seat.old ≡ sitting Clock 0 [] [] }
     requires gate { IsGate (G.lets work.now.gate.now) K.lets }
     ensures actor { seat.new.actor ≡ Clock }
     ensures ticks { AreFirst K.ticks seat.new.ops }
     ensures worked { WorkedAt (task K.lets K.opening K.guests K.ticks) seat.new result }
 {
-    for n in work.program.ticks {
+    for n in work.ticks {
         if !work.is_let(seat) {
             return Met::ClosedGate;
         }

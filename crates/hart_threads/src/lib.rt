@@ -5,6 +5,7 @@ mod choosing;
 mod clock;
 mod gate;
 mod harts;
+mod histories;
 mod plans;
 mod program_run;
 mod starting;
@@ -12,4 +13,5 @@ mod work;
 
 pub use gate::{Gate, Open};
 pub use guest_programs::{End, RunEnd, RunFault};
+pub use histories::runs_are_histories;
 pub use program_run::run;

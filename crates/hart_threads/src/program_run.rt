@@ -11,7 +11,6 @@ ghost use Rattle.guest_script.specs.Grammar.{content};
 ghost use Rattle.guest_programs.specs.Ends.{IsEnd};
 ghost use Rattle.hart_threads.specs.Inside.Works.{met_by_all, IsGate};
 ghost use Rattle.guest_programs.specs.Programs.{AreFirst, IsProgram, blocks_of, ticks_of};
-ghost use Rattle.guest_programs.specs.Steps.{task_in};
 ghost use Rattle.hart_threads.specs.Shares.{AreThreads, IsRun};
 ghost use Rattle.guest_programs.specs.declared.ends.RunFault.TheVariants.{BadConfig};
 
@@ -22,7 +21,7 @@ use crate::work::{Work, Worked};
 use board_core::{Board, BuildFault};
 use board_laws::headline;
 use board_lock::{NewRoom, Seat, SharedBoard};
-use guest_programs::{Met, Program, RunEnd, RunFault, end_of, program_in};
+use guest_programs::{Guests, Met, RunEnd, RunFault, end_of, program_in};
 use guest_script::{Body, Script};
 use std::alloc::{AllocError, Global};
 use std::marker::Brand;
@@ -75,25 +74,33 @@ fn run_in<K: Plan + Send + Sync, G: Gate + Sync, R: AllocGlobal + Threads + Wait
 {
     let (shared, seats) = opened::<K>(rt.alloc(), room)?;
     let program = program_in(rt.alloc(), body)?;
-    let (board, met) = run_on(rt, shared, seats, &program, gate)?;
+    let (board, met) = run_on(rt, shared, seats, &program, program.ticks, gate)?;
     let end = end_of(rt.alloc(), &board, &program, met)?;
     let _legal = board.history();
     headline(&board);
     Ok(RunEnd { end, board })
 }
 
-/// Runs a thread for each seat of a new board. Returns the board, and what the threads met.
-fn run_on<K: Plan + Send + Sync, G: Gate + Sync, R: AllocGlobal + Threads + Wait + Sync>(
+/// Runs a thread for each seat of a new board, whatever its guests do. Returns the board, and what the threads met.
+fn run_on<
+    K: Plan + Send + Sync,
+    G: Gate + Sync,
+    P: Guests + Sync,
+    R: AllocGlobal + Threads + Wait + Sync,
+>(
     rt: &R,
     board: SharedBoard<K>,
     seats: Vec<Seat<K>>,
-    program: &Program<'_>,
+    guests: &P,
+    ticks: &[u64],
     gate: &G,
 ) -> Result<(Board, Met), RunFault>
+where
+    P::Place: Send + Sync,
     requires whole { K.all ≡ K.parts }
     requires seats { seats.items ≡ new_seats K.opening.config }
-    requires ticks { program.now.ticks.now ≡ K.ticks }
-    requires guests { (task_in program.now).guests ≡ K.guests }
+    requires ticks { ticks.now ≡ K.ticks }
+    requires guests { P.next guests.now ≡ K.guests }
     requires gate { IsGate (G.lets gate.now) K.lets }
     ensures board { ¬ IsErrOf result BadConfig }
     ensures opening { IfOk result (λ r. r.0.opening ≡ K.opening) }
@@ -103,7 +110,8 @@ fn run_on<K: Plan + Send + Sync, G: Gate + Sync, R: AllocGlobal + Threads + Wait
     let work = Work {
         board: &board,
         gate,
-        program,
+        guests,
+        ticks,
         harts: seats.len() as u64 - 1,
     };
     let all = work_all(rt, &work, seats)?;

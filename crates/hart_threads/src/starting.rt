@@ -10,7 +10,7 @@ use crate::plans::Plan;
 use crate::work::{Work, Worked};
 use board_core::Actor;
 use board_lock::Seat;
-use guest_programs::{Met, RunFault};
+use guest_programs::{Guests, Met, RunFault};
 use std::alloc::{AllocError, Global};
 use std::sync::Wait;
 use std::thread::{self, Promise, Threads};
@@ -29,8 +29,11 @@ impl<K: Plan> Promise<Worked<K>> for SeatOf {
 pub(crate) fn work_all<
     K: Plan + Send + Sync,
     G: Gate + Sync,
+    P: Guests + Sync,
     R: AllocGlobal + Threads + Wait + Sync,
->(rt: &R, work: &Work<'_, '_, K, G>, seats: Vec<Seat<K>>) -> Result<Vec<Worked<K>>, RunFault>
+>(rt: &R, work: &Work<'_, K, G, P>, seats: Vec<Seat<K>>) -> Result<Vec<Worked<K>>, RunFault>
+where
+    P::Place: Send + Sync,
     requires fresh { All (IsFresh K.opening.config) seats.items }
     requires gate { IsGate (G.lets work.now.gate.now) K.lets }
     ensures seats { IfOk result
@@ -77,7 +80,11 @@ pub(crate) fn work_all<
 }
 
 /// The work of a seat's thread.
-fn work_at<K: Plan, G: Gate, R: Wait>(rt: &R, work: &Work<'_, '_, K, G>, seat: Seat<K>) -> Worked<K>
+fn work_at<K: Plan, G: Gate, P: Guests, R: Wait>(
+    rt: &R,
+    work: &Work<'_, K, G, P>,
+    seat: Seat<K>,
+) -> Worked<K>
     requires fresh { IsFresh K.opening.config seat }
     requires gate { IsGate (G.lets work.now.gate.now) K.lets }
     ensures actor { result.seat.actor ≡ seat.actor }

@@ -2,7 +2,6 @@
 ghost use Rattle.std.specs.Prelude.{◌≡◌};
 ghost use Rattle.board_terms.specs.declared.op.Actor.TheVariants.{Clock};
 ghost use Rattle.guest_programs.specs.Programs.{AreFirst};
-ghost use Rattle.guest_programs.specs.Steps.{task_in};
 ghost use Rattle.hart_threads.specs.Shares.{gate_number};
 ghost use Rattle.hart_threads.specs.Inside.Works.{IsGate};
 
@@ -10,22 +9,25 @@ use crate::gate::Gate;
 use crate::plans::Plan;
 use board_core::Actor;
 use board_lock::{Receipt, Seat, SharedBoard};
-use guest_programs::{Met, Program};
+use guest_programs::{Guests, Met};
 
 /// What all threads of a run share.
 #[derive(Drop)]
-pub(crate) struct Work<'a, 'p, K: Plan, G: Gate> {
+pub(crate) struct Work<'a, K: Plan, G: Gate, P: Guests> {
     pub(crate) board: &'a SharedBoard<K>,
     pub(crate) gate: &'a G,
-    pub(crate) program: &'a Program<'p>,
+    /// What the harts' guests do.
+    pub(crate) guests: &'a P,
+    /// What the clock does.
+    pub(crate) ticks: &'a [u64],
     /// How many harts the board has.
     pub(crate) harts: u64,
-    ghost planned: { program.now.ticks.now ≡ K.ticks },
-    ghost guided: { (task_in program.now).guests ≡ K.guests },
+    ghost planned: { ticks.now ≡ K.ticks },
+    ghost guided: { P.next guests.now ≡ K.guests },
     ghost counted: { harts ≡ K.opening.config.harts },
 }
 
-impl<'a, 'p, K: Plan, G: Gate> Work<'a, 'p, K, G> {
+impl<'a, K: Plan, G: Gate, P: Guests> Work<'a, K, G, P> {
     /// Whether the gate allows the seat's actor an operation. No lock is held.
     pub(crate) fn is_let(&self, seat: &Seat<K>) -> bool
         requires { IsGate (G.lets self.now.gate.now) K.lets }

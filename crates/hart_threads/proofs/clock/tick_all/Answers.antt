@@ -10,7 +10,7 @@ pub returns-in-Err : goal.returns-in-Err
 returns-in-Err g c =
     let t : Task = task g.K.Plan.lets g.K.Room.opening g.K.Plan.guests g.K.Plan.ticks in
     let e = c.in-Err.ensures in
-    let program = c.args.work.now.program.now.ticks.now in
+    let program = c.args.work.now.ticks.now in
     let next = next-tick g.K.Plan.ticks program c.loop-n.seat.count c.loop-n.n-index c.args.work.now.planned c.loop-n.invariant.2 c.loop-n-test.true in
     record {
       actor = e.actor ∙ c.loop-n.invariant.0;
@@ -24,7 +24,7 @@ pub loop-n-preserved : goal.loop-n-preserved
 loop-n-preserved g c =
     let t : Task = task g.K.Plan.lets g.K.Room.opening g.K.Plan.guests g.K.Plan.ticks in
     let e = c.in-Ok.ensures in
-    let program = c.args.work.now.program.now.ticks.now in
+    let program = c.args.work.now.ticks.now in
     let next = next-tick g.K.Plan.ticks program c.loop-n.seat.count c.loop-n.n-index c.args.work.now.planned c.loop-n.invariant.2 c.loop-n-test.true in (
       e.actor ∙ c.loop-n.invariant.0,
       one-more c.loop-n.seat.ops c.call.new.seat.ops program g.K.Plan.ticks c.loop-n.n-index c.args.work.now.planned c.loop-n-test.true c.loop-n.invariant.1 e.ops,

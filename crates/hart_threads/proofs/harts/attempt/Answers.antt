@@ -1,7 +1,6 @@
 use Rattle.std.proofs.Common.{◌∷◌, ap, subst, sym, ◌∙◌}
 use Rattle.board_lock.specs.Seats.{Sitting}
 use Rattle.guest_programs.specs.declared.met.Met.{Met}
-use Rattle.guest_programs.specs.Blocks.{rest_at}
 use Rattle.guest_programs.specs.Guests.{IsAt, Next, Rest}
 use Rattle.guest_programs.specs.Met.{met_by_refusal}
 use Rattle.hart_threads.specs.Inside.Works.{Goes, Task, task}
@@ -12,20 +11,20 @@ use Rattle.hart_threads.proofs.harts.attempt.Goals as goal
 pub returns-in-Ok-clause-going : goal.returns-in-Ok-clause-going
 returns-in-Ok-clause-going g c =
     let t : Task = task g.K.Plan.lets g.K.Room.opening g.K.Plan.guests g.K.Plan.ticks in
-    let rest : Rest = rest_at c.args.guest.now in
-    let rest' : Rest = rest_at c.sees.new.self in
-    let tells : Tells g.K.Plan.guests c.args.op.now c.in-Ok.receipt.reply rest rest' = (λ past h e by asked answered is.
+    let rest : Rest = g.P.Guests.rest c.args.work.now.guests.now c.args.place.now in
+    let rest' : Rest = g.P.Guests.rest c.args.work.now.guests.now c.guest_place_after.result in
+    let tells : Tells g.K.Plan.guests c.args.op c.in-Ok.receipt.reply rest rest' = (λ past h e by asked answered is.
     subst (λ (guests : Next). IsAt rest' guests (e ∷ past) h) c.args.work.now.guided
-    (c.sees.ensures past h e by asked (answered ∙ sym c.reply.ensures) (subst (λ (guests : Next). IsAt rest guests past h) (sym c.args.work.now.guided) is))) in
-    done-going t c.args.seat.now c.call_and_view.new.seat c.args.op.now c.in-Ok.receipt.reply c.in-Ok.ensures.done rest rest' c.requires.going c.requires.turn c.if-not-is_let.ensures tells
+    (c.guest_place_after.ensures past h e by asked (answered ∙ sym c.reply.ensures) (subst (λ (guests : Next). IsAt rest guests past h) (sym c.args.work.now.guided) is))) in
+    done-going t c.args.seat.now c.call_and_view.new.seat c.args.op c.in-Ok.receipt.reply c.in-Ok.ensures.done rest rest' c.requires.going c.requires.turn c.if-not-is_let.ensures tells
     c.in-Ok.ensures.actor c.in-Ok.ensures.accepted
 
 pub returns-in-Err : goal.returns-in-Err
 returns-in-Err g c =
     let t : Task = task g.K.Plan.lets g.K.Room.opening g.K.Plan.guests g.K.Plan.ticks in
     let e = c.in-Err.ensures in
-    let rest : Rest = rest_at c.args.guest.now in
-    let going = refused-going t c.args.seat.now c.call_and_view.new.seat rest c.args.op.now c.in-Err.refusal c.requires.going c.requires.turn e.refused e.later e.refusal in
+    let rest : Rest = g.P.Guests.rest c.args.work.now.guests.now c.args.place.now in
+    let going = refused-going t c.args.seat.now c.call_and_view.new.seat rest c.args.op c.in-Err.refusal c.requires.going c.requires.turn e.refused e.later e.refusal in
     let seen = looked t c.call_and_view.new.seat c.view.new.seat rest (met_by_refusal c.in-Err.refusal) c.view.ensures.seat c.view.ensures.later going in
     record {
       actor = ap (λ (s : Sitting). s.actor) c.view.ensures.seat ∙ e.actor;
