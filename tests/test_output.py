@@ -277,6 +277,18 @@ class Boards(Made):
         self.put("long.sched", BOARD + "0 sip\n" * 10_001)
         must_end(self.called("replay", "--diff", "long.sched"), 2, "", "sbiboard: --diff tells of at most 10,000 steps, and long.sched has 10,001: --at LINE --diff tells of one\n")
         must_end(self.called("replay", "--diff", "--at", "9000", "long.sched")[:2], 0, "0 sip -> refused 2\n")
+        # (10,000 steps are told, each with a run of its own: here no step is)
+        sys.path.insert(0, os.path.join(ROOT, "tools/front"))
+        from commands import DIFF
+        from reading import MOST_DIFFED, Replay
+
+        class Script:
+            file, text, asks = "long.sched", b"", lambda _, option: option == DIFF
+
+        for many, wanted in ((MOST_DIFFED, 0), (MOST_DIFFED + 1, 2)):
+            replay = Replay(Script(), range(1, many + 2), 0, "", "")
+            replay.lines = list
+            must(f"{many} steps", MOST_DIFFED == 10_000 and replay.tell()[0] == wanted)
 
 
 class Explained(Made):
@@ -311,6 +323,11 @@ class Explained(Made):
         must(f"{told}", [it.split(":")[0] for it in told] == ["3", "33"] and told[0].endswith(", and 29 more such lines"))
         must("BOOTADDR", self.told("replay", "a.sched", "board 1 1 9 0 80000000 0\n0 sip\n") == ["1:15: bad board: BOOTADDR is 0x4c4b400, not an even address of the RAM: did you mean '0x80000000'?"])
         must("nothing", self.told("replay", "a.sched", "") and self.told("check", "b.trace", "# none\n"))
+        # (of several files those of each, and twenty are as many as may be)
+        for name, many in (("a.sched", 19), ("b.sched", 20), ("c.sched", 21)):
+            self.put(name, BOARD + "".join(f"0 fly{at}\n" for at in range(many)))
+        said = self.called("test", "--explain", "a.sched", "b.sched", "c.sched")[2].splitlines()
+        must(f"{said}", [it.split(":")[0] for it in said] == ["a.sched"] * 19 + ["b.sched"] * 20 + ["c.sched"] * 20)
 
     def test_explain__kinds_and_files(self):
         """A script of another kind is told with the task that takes it, and a file that can't be opened with the cause."""

@@ -138,6 +138,11 @@ class HtmlPages(Test):
         unread = [self.front, "test", "--html", "pages", "lost-wakeup.program"]
         status, _, said = ran(self.room, ["bash", "-c", 'cd work; "$@" | true; exit "${PIPESTATUS[0]}"', "-", *unread], seconds=300)
         must(f"{status} {said}", status != 0 and "no point fails" not in said and not glob.glob(os.path.join(self.work, "pages/*")))
+        # (what wasn't judged is told all the same, and is drawn as what fails)
+        for words, status, many in ((["--times", "0", "lost-wakeup.program"], 8, 2), (["--failed", "none", "a.sched"], 7, 1)):
+            found = self.called("test", "--html", "pages", *words)
+            listed = rows(os.path.join(self.work, "pages/index.html"))
+            must(f"{words}: {found}, {listed}", found[0] == status and len(listed) == many and f"pages/index.html lists the points that fail ({many}, and 0 drawn)\n" in found[2])
 
     def test_html__older_points(self):
         """A file of points that this run hasn't written isn't taken for its own."""
