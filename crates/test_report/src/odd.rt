@@ -131,7 +131,7 @@ fn asked_behind_blanks(comment: &[u8]) -> Option<&[u8]> {
         asked
     };
     match word {
-        b"never" | b"some" | b"each" | b"end" | b"before" | b"maybe" => Some(word),
+        b"never" | b"some" | b"each" | b"end" | b"before" | b"can" | b"maybe" => Some(word),
         _ => None,
     }
 }
