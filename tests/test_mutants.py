@@ -135,7 +135,7 @@ def ran(root, *words):
 
 def small_repository(room):
     """A checkout with one crate, SOURCE, and one test, in which the tool stands alone."""
-    for name in ("mutants", "edits.py", "entry.py"):
+    for name in ("mutants", "copies.py", "edits.py", "entry.py"):
         os.makedirs(os.path.join(room, "tools"), exist_ok=True)
         shutil.copy(os.path.join(ROOT, "tools", name), os.path.join(room, "tools"))
     for name, text in (("crates.txt", "low:\n"), ("crates/low/src/lib.rt", SOURCE), ("tests/run", "#!/bin/sh\necho one more\n")):
