@@ -11,11 +11,11 @@ import sys
 from unittest import SkipTest
 from xml.etree import ElementTree
 
-from board_model import STATES, spelled_answer, spelled_step
+from board_model import START_PENDING, STATES, spelled_answer, spelled_step
 
 from . import grammar
 from .fixtures import EVERY, EXAMPLES, PROGRAM, ROOT, TESTER, Test, must, read, read_bytes
-from .replays import steps, table
+from .replays import below, spelled_fence, steps, table
 from .test_wrapper import clone, must_end, put
 
 BOARD = "board 2 4 100 0 0x80000000 0x0\n"
@@ -41,7 +41,7 @@ POINTS = (
 SCHEDULE, OF_TRACE, PROGRAMS = "a.sched", "a.trace", "a.program"
 WRONG = (
     (SCHEDULE, "0 ecal 1 2", 3, "unknown operation 'ecal' (fault 3): did you mean 'ecall'?"), (SCHEDULE, "0 SIP", 3, "did you mean 'sip'?"), (SCHEDULE, "h1 sip", 1, "an actor is c, or the number of a hart: did you mean '1'?"),
-    (SCHEDULE, "C tick 1", 1, "did you mean 'c'?"), (SCHEDULE, "sip", 1, "a step begins with its actor"), (SCHEDULE, "128 sip", 1, "an actor is c, or the number of a hart: at most 127"), (SCHEDULE, "2 sip", 1, "the board has no hart 2: its harts are 0 to 1"),
+    (SCHEDULE, "C tick 1", 1, "did you mean 'c'?"), (SCHEDULE, "sip", 1, "a step begins with its actor"), (SCHEDULE, "128 sip", 1, "an actor is c, or the number of a hart: at most 127"), (SCHEDULE, "2 sip", 1, "the board has no hart 2: its harts are 0 to 1"), (SCHEDULE, "0x7f sip", 1, "the board has no hart 0x7f: its harts are 0 to 1"),
     (SCHEDULE, "0 load 80001000", 8, "80001000 is decimal, 0x4c4b7e8, and in no page of the RAM: did you mean '0x80001000'?"), (SCHEDULE, "0 load 0X10", 8, "did you mean '0x10'?"), (SCHEDULE, "0 load 8000a000", 8, "did you mean '0x8000a000'?"),
     (SCHEDULE, "0 load 1_000", 8, "did you mean '1000'?"), (SCHEDULE, "0\u00a0sip", 2, "a blank that only looks like one"), (SCHEDULE, "0 load", 7, "a word is missing (fault 5)"), (SCHEDULE, "0 value 1", 3, "before a reply an arrow stands"),
     (OF_TRACE, "1 load 0x1000 -> 0x11", 18, "no reply word stands before it: did you mean 'value 0x11'?"), (OF_TRACE, "0 sip -> valu 1", 10, "unknown reply 'valu' (fault 3): did you mean 'value'?"), (OF_TRACE, "0 sip ->", 9, "behind the arrow a reply is wanted"),
@@ -91,13 +91,19 @@ class JsonLines(Made):
         totals, *harts = found
         must(f"{totals}", (totals["kind"], totals["events"], totals["asked"], totals["time"], totals["power"]) == ("table", board.events, board.asked, f"{board.time:#x}", "off" if board.is_off else "on"))
         must(f"{harts}", [it["hart"] for it in harts] == [*range(len(board.harts))])
-        for it, hart in zip(harts, board.harts):
-            out = None if hart.outstanding is None else len(hart.outstanding)
-            must(f"{it}", (it["state"], it["wait"], it["out"], it["ss"], it["satp"]) == (STATES[hart.state], len(hart.waiting), out, int(bool(hart.ssip)), f"{hart.satp:#x}"))
+        pending = sum(hart.state == START_PENDING for hart in board.harts)
+        must(f"{totals}", [totals[it] for it in ("starts", "entries", "pending", "applied", "waiting")] == [board.starts, board.entries, pending, board.applied, sum(len(hart.waiting) for hart in board.harts)])
+        must(f"{totals}", totals["reset"] == (board.last_reset and dict(zip(("type", "reason"), hexed(*board.last_reset)))))
+        for h, (it, hart) in enumerate(zip(harts, board.harts)):
+            out, deadline = (None if hart.outstanding is None else len(hart.outstanding)), (None if hart.deadline is None else f"{hart.deadline:#x}")
+            wanted = {"state": STATES[hart.state], "wait": len(hart.waiting), "out": out, "ss": int(bool(hart.ssip)), "st": int(board.is_due(h)), "ie": f"{hart.sie:#x}", "se": hart.sstatus, "satp": f"{hart.satp:#x}", "deadline": deadline}
+            must(f"{it}, and not {wanted}", {name: it[name] for name in wanted} == wanted)
+            is_to_enter = any(line.startswith("# entry ") for line in below(h, hart))
+            must(f"{it}", it["entry"] == (dict(zip(("address", "opaque"), hexed(*hart.kept))) if is_to_enter else None))
             tlb = [[*hexed(page), level, *hexed(asid), is_global, *hexed(pa), "".join(letter if has else "-" for letter, has in zip("rwxd", rights))] for _, (page, level, asid, is_global, pa, *rights) in hart.tlb]
             must(f"{it['tlb']} {tlb}", [[*entry.values()] for entry in it["tlb"]] == tlb)
             must(f"{it['ic']}", [[*entry.values()] for entry in it["ic"]] == [hexed(at, word) for _, at, word in hart.words])
-            must(f"{it['fences']}", [fence["from"] for fence in it["fences"]] == [caller for caller, _ in hart.waiting])
+            must(f"{it['fences']}", [(fence["from"], fence["what"]) for fence in it["fences"]] == [(caller, spelled_fence(fence)) for caller, fence in hart.waiting])
 
     def test_json__a_replay_has_each_step_and_the_board(self):
         """Each step is there with its line, actor, operation, operands and reply, and each hart as the model has it behind the last."""
