@@ -15,7 +15,7 @@ from board_model import START_PENDING, STATES, spelled_answer, spelled_step
 
 from . import grammar
 from .fixtures import EVERY, EXAMPLES, PROGRAM, ROOT, TESTER, Test, must, read, read_bytes
-from .replays import below, spelled_fence, steps, table
+from .replays import below, board_line, spelled_fence, steps, table
 from .test_wrapper import clone, must_end, put
 
 BOARD = "board 2 4 100 0 0x80000000 0x0\n"
@@ -84,6 +84,12 @@ class Made(Test):
         return status, found[1:-1], said
 
 
+def numbers_of(text):
+    """The numbers of the board line, as JSON has them: addresses as texts, and all of them."""
+    words = board_line(text).split()[1:]
+    return [it if it.startswith("0x") else int(it) for it in [*words, *["16", "39"][len(words) - 6 :]]]
+
+
 class JsonLines(Made):
     def must_be_board(self, found, board):
         """The last objects are the board's table: each hart with what it has."""
@@ -107,11 +113,12 @@ class JsonLines(Made):
 
     def test_json__a_replay_has_each_step_and_the_board(self):
         """Each step is there with its line, actor, operation, operands and reply, and each hart as the model has it behind the last."""
-        own = self.put("every.sched", "board 2 1 9999 1 0x80000000 7\n1 advance\n" + EVERY.decode())
+        own = self.put("every.sched", "board 2 1 9999 1 0x80000000 7 5 48\n1 advance\n" + EVERY.decode())
         for path in [*SCHEDULES, os.path.join(self.room, own)]:
             done = [*steps(read(path))]
             (status, found, said), plain = self.json("replay", "--json", path), self.called("replay", path)
             must(f"{path}: {status} {said}", (status, said) == plain[::2] and found[0]["kind"] == "board" and len(done) > 0)
+            must(f"{path}: {found[0]}", list(found[0].values())[1:] == numbers_of(read(path)))
             wanted = [(line, *([None] if actor is None and op == ("cut",) else []), *spelled_step(actor, op).split(), spelled_answer(answer).split()) for line, _, actor, op, answer in done]
             told = [(it["line"], *([None] if it["actor"] is None else [str(it["actor"])]), it["operation"], *it["operands"], it["reply"]) for it in found if it["kind"] == "step"]
             must(f"{path}: {told}, and not {wanted}", told == wanted)
@@ -141,10 +148,10 @@ class JsonLines(Made):
     def test_json__each_point_is_read(self):
         """Each point has its line, its condition, whether it holds, why, and how far was looked; and as many as the plan says."""
         for (task, *words), text, (line, condition, is_ok, looked, why) in POINTS:
-            self.put("race: line 7: x", text)
-            status, found, _ = self.json(task, "--json", *words, "race: line 7: x")
+            self.put("race: line 7: x#\\y", text)
+            status, found, _ = self.json(task, "--json", *words, "race: line 7: x#\\y")
             point, *others = [it for it in found if it["kind"] == "point"]
-            must(f"{text}: {point}", (point["file"], point["line"], point["condition"], point["ok"]) == ("race: line 7: x", line, condition, is_ok) and point["why"].startswith(why))
+            must(f"{text}: {point}", (point["file"], point["line"], point["condition"], point["ok"]) == ("race: line 7: x#\\y", line, condition, is_ok) and point["why"].startswith(why))
             must(f"{text}: {point}", (set(point["looked"]) if point["looked"] else None) == looked and (not looked or "orders" not in looked or point["looked"]["orders"] > 1))
             must(f"{text}: {status} {found}", not others and {"kind": "plan", "points": 1} in found and (status == 0) == is_ok)
 

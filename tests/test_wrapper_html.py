@@ -171,6 +171,12 @@ class HtmlPages(Test):
         self.called("test", "--html", "pages", "a.sched", "below/a.sched")
         (first, *_), (second, *_) = rows(os.path.join(self.work, "pages/index.html"))
         must(f"{first} {second}", (first, second) == (("a.sched.failed", 2), ("a.sched~2.failed", 3)))
+        # (traces that differ have no records, and are drawn themselves)
+        put(os.path.join(self.work, "below/a.trace"), TRACE.replace("0 sip", "0 sie 2 -> done\n0 sip"))
+        self.called("test", "--html", "pages", "a.trace", "below/a.trace", "a.trace")
+        pages = [page for page, *_ in rows(os.path.join(self.work, "pages/index.html"))]
+        steps = [Drawn(os.path.join(self.work, "pages", f"{name}.html")).lines[0] for name, _ in pages]
+        must(f"{pages} {steps}", pages == [("a.trace", 2), ("a.trace-2", 3), ("a.trace-3", 2)] and [len(it) for it in steps] == [2, 3, 2])
 
     def test_html__words(self):
         """--html has a folder, once, of `test` and `explore` alone; what it can't write or read is said before a test begins."""
