@@ -104,6 +104,8 @@ PLAYS = [
     Play("the limit, in a call that returns after another hart's call began",
          [*TWO, calls(1, *FENCE), {"waits": 4}, calls(0, TIME, 0, 6), is_back(1), {"waits": 60}],
          [*TWO_LINES, call(1, *FENCE), "1 ret 0 0x0", "m end limit"], 3, ["the limit of 2 s was over"], words=("--seconds", "2")),
+    *(Play(f"the limit, where a hart has {done}", [*TWO, calls(1, HSM, *of), {"waits": 3}, calls(0, TIME, 0, 6), is_back(0), {"waits": 60}],
+           [*TWO_LINES, call(1, HSM, *of), "m end limit"], 3, ["the limit of 1 s was over"], words=("--seconds", "1", "--grace", "4")) for done, of in (("stopped", (1,)), ("suspended itself", (3, 0)))),
     Play("a hart that never enters", [enters(0), calls(0, HSM, 0, 1, HANDLER, 9), is_back(0), OFF],
          [BOOT, call(0, HSM, 0, 1, HANDLER, 9), "0 ret 0 0x0", "m end off"], 3, ["hart 1 never enters, until the record's end"]),
 ]  # fmt: skip
