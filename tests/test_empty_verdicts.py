@@ -5,6 +5,7 @@ import re
 
 from . import all_orders
 from .fixtures import EXAMPLES, PROGRAM, TESTER, Test, explored, must, read, tester, told, told_of, write
+from .test_bounds_of_time import watched
 from .test_explore import REBOOTS
 from .test_few_states import MANY
 from .test_orders import RACE, WAKE, at_a_terminal
@@ -112,6 +113,15 @@ class EmptyVerdicts(Test):
             first = "0x80001000 (lines 3, 4, 5, 6, 7, 8, 9, 10, ..)"
             others = ", ".join(f"{0x80002000 + 8 * at:#x} (line {13 + at})" for at in range(7))
             must(f"{found}", found == [f"not ok line 23: never 0 load 0x1000 -> value 1: {NEEDED.format('0 load 0x1000')}{way[2]}; hart 0 loads {first}, {others}, .."])
+        # (eight are no more than eight)
+        for many in (7, 8, 9):
+            in_short = lambda texts: ", ".join([*texts[:8], *([".."] if many > 8 else [])])
+            addresses = [0x80002000 + 8 * at for at in range(1, many)]
+            text = "board 1 8 200 0 0x80000000 0\nat 0x80000000\n" + "load 0x80001000\n" * many + "".join(f"load {it:#x}\n" for it in addresses)
+            _, found, _ = in_way(self.room, WAYS[0], text + "#! never 0 load 0x1000 -> value 1\n")
+            first = f"0x80001000 (lines {in_short([str(3 + at) for at in range(many)])})"
+            wanted = in_short([first, *(f"{it:#x} (line {3 + many + at})" for at, it in enumerate(addresses))])
+            must(f"{many}: {found}, and not {wanted}", len(found) == 1 and found[0].endswith(f"; hart 0 loads {wanted}"))
 
     def test_a_step_that_was_not_seen_makes_nothing_vacuous(self):
         """Where not all orders were seen, a condition may be about a step of those; it isn't judged then, and isn't vacuous."""
@@ -137,6 +147,23 @@ class EmptyVerdicts(Test):
         for words, why in ((["--seconds", "0"], "no time"), (["--states", "3"], "more than 3 states, none of those seen breaks it")):
             status, lines = explored(self.room, RACE, *words)
             must(f"{lines}", status == 8 and lines[1] == f"not ok 1 - a.program: no order ends stuck: not judged: {why}")
+
+    def test_each_verdict_has_its_word_at_a_terminal(self):
+        """At a terminal each point is told as ok where it holds, as OPEN where it wasn't judged, and as FAIL otherwise, with the text that a point has."""
+        seen = set()
+        for name, words, asked, text in (
+            ("sbiboard", (), ("end quiet", "end off", "never 0 load 8 -> value 1", "some 9 sip", "some 1 load 0x80002000 -> value 9"), RACE), ("sbiboard", (), ("end quiet",), ENDLESS), ("sbiboard", (), (), ENDLESS),
+            ("sbiboard", ("--times", "9"), ("end quiet", "end off", "never 9 sip"), RACE), ("sbiboard", ("--times", "9"), ("end quiet",), ENDLESS), ("sbiboard", ("--times", "0"), ("end quiet", "never 9 sip"), RACE), ("sbiboard", (), (), "board\n"),
+            ("sbiboard explore", (), ("end quiet", "end off", "never 0 load 8 -> value 1"), RACE), ("sbiboard explore", ("--states", "3"), ("end quiet",), RACE), ("sbiboard explore", (), (), ENDLESS), ("sbiboard explore", (), (), "board 1 1 9 0 0x80000000 0\n0 advance\n"),
+        ):  # fmt: skip
+            write(os.path.join(self.room, "a.program"), "".join(f"#! {it}\n" for it in asked) + text)
+            _, lines = told_of(self.room, *words, "a.program", name=name)
+            _, shown, _ = watched(self.room, name, [*words, "a.program"], True, False)
+            points = [re.fullmatch(r"((?:not )?ok) \d+ - (.*)", it) for it in lines if it.startswith(("ok ", "not ok "))]
+            wanted = [("ok    " if it[1] == "ok" else "OPEN  " if ": not judged: " in it[2] else "FAIL  ") + it[2] for it in points]
+            must(f"{name} {words} {asked}: {shown}, and not {wanted}", [it for it in shown.splitlines() if it.startswith(("ok ", "FAIL ", "OPEN "))] == wanted and wanted)
+            seen |= {re.sub(r".*: (vacuous|no order ends|the board has no|not judged|holds|fails|bad|only|no board).*", r"\1", it) for it in wanted}
+        must(f"{seen}", {"vacuous", "no order ends", "the board has no", "not judged", "holds", "fails"} <= seen)
 
     def test_each_point_says_how_far_it_looked(self):
         """`test` says of each point at how many orders it looked."""

@@ -100,6 +100,18 @@ class Figures(Test):
             rows = re.findall(r"^  hart [0-9]+ +([0-9 ]+)$", printed.partition("IPIs by sender")[2].partition("\n\n")[0], re.M)
             must(f"{name}: {sent} IPIs, and the table is {rows}", sum(int(it) for row in rows for it in row.split()) == sent)
 
+    def test_figures__sizes_of_fences(self):
+        """A fence is of as many pages as its range touches, also where it begins or ends at a page's end."""
+        sizes = {
+            "nothing": [(0x1000, 0), (0x1234, 0)], "1 page": [(0x1000, 1), (0x1000, 0x1000), (0x1FFF, 1), (0x1001, 0xFFF), (0, 0x1000)], "everything": [(0, 0), (0x5000, (1 << 64) - 1)],
+            "2 to 16 pages": [(0x1000, 0x1001), (0x1FFF, 2), (0x1001, 0x1000), (0x1000, 0x10000)], "17 to 512 pages": [(0x1000, 0x10001), (0x1FFF, 0xF002), (0x1000, 0x200000)],
+            "more": [(0x1000, 0x200001), (0x1FFF, 0x1FF002), (0, (1 << 64) - 2)],
+        }  # fmt: skip
+        calls = "".join(f"0 call 0x52464e43 1 1 0 {start:#x} {size:#x} 0 0\n0 ret 0 0\n" for of in sizes.values() for start, size in of)
+        printed, _ = ran([script(self.room, f"record 1\n0 entry 0x80200000 0 0\n{calls}".encode())])
+        rows = re.findall(r"(?m)^  (.*\S) +(\d+)$", printed.partition("Remote fences by size\n")[2].partition("\n\n")[0])
+        must(f"{rows}", {name: int(many) for name, many in rows if name != "size"} == {name: len(of) for name, of in sizes.items()})
+
     def test_figures__of_nothing(self):
         """A record without a call is no table of zeros; a broken one is told with its line."""
         path = script(self.room, b"record 1\n0 entry 0x80200000 0 0\n")

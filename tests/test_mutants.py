@@ -6,7 +6,7 @@ import subprocess
 
 import edits
 
-from .fixtures import ROOT, Test, must, must_have, named, shown, write
+from .fixtures import ROOT, Test, must, must_have, named, read, shown, write
 
 # A crate of one file, in which texts stand more than once.
 SOURCE = """\
@@ -101,15 +101,41 @@ FAULTS = [
 ]
 
 
+# A tool, what stands for its tests, and wrong bodies of it, with how each ends.
+TOOL = "#!/bin/sh\necho right\n"
+JUDGES = """\
+#!/bin/sh
+case "$*" in
+    --list) printf 'it is right\\nit is there\\nit is wrong\\n' ;;
+    *right) [ "$(tools/told)" = right ] ;;
+    *there) [ -x tools/told ] ;;
+    *) exit 1 ;;
+esac
+"""
+OF_TOOLS = (
+    ("is_judged_by_what_fails", "it is wrong", "right", "wrong", "DOES NOT APPLY: its judge doesn't pass with nothing edited: "), ("is_no_tool", "it is right", "echo left", "", "DOES NOT APPLY: its old text stands 0 times in tools/told"),
+    ("says_it_by_another_word", "it is right", "echo", "printf %s", "LET THROUGH: 'it is right' passes"), ("says_right_or_wrong", "it is there", "right", "wrong", "LET THROUGH: 'it is there' passes"),
+    ("says_wrong", "it is right", "right", "wrong", "refused"),
+)  # fmt: skip
+
+
+def table_of_tools(rows):
+    return "\n".join(f"[[mutant]]\nname = \"{name}\"\njudge = \"{judge}\"\nfile = \"tools/told\"\nold = '{old}'\nnew = '{new}'\n" for name, judge, old, new, _ in rows)
+
+
 def check(root, *words):
-    command = [os.path.join(root, "tools/mutants"), "--check", *words]
+    return ran(root, "--check", *words)
+
+
+def ran(root, *words):
+    command = [os.path.join(root, "tools/mutants"), *words]
     found = subprocess.run(command, stdin=subprocess.DEVNULL, stdout=subprocess.PIPE, stderr=subprocess.STDOUT, text=True, timeout=60)
     return found.returncode, found.stdout
 
 
 def small_repository(room):
     """A checkout with one crate, SOURCE, and one test, in which the tool stands alone."""
-    for name in ("mutants", "edits.py", "entry.py"):
+    for name in ("mutants", "copies.py", "edits.py", "entry.py"):
         os.makedirs(os.path.join(room, "tools"), exist_ok=True)
         shutil.copy(os.path.join(ROOT, "tools", name), os.path.join(room, "tools"))
     for name, text in (("crates.txt", "low:\n"), ("crates/low/src/lib.rt", SOURCE), ("tests/run", "#!/bin/sh\necho one more\n")):
@@ -155,3 +181,22 @@ class WrongBodies(Test):
         ]
         found = [edits.edited(it, os.path.join(self.room, "crates/low")) for it in edits.edits_of("low", root=self.room)]
         must(f"it plants {shown(str(found))}", found == [({"src/lib.rt": it}, "") for it in wanted])
+
+    def test_wrong_bodies_of_tools_are_tried(self):
+        """Wrong bodies of tools are tried by their judges: each that a test sees is refused, and each other one is told, and is a failure."""
+        small_repository(self.room)
+        for name, text in (("tools/told", TOOL), ("tests/run", JUDGES)):
+            os.chmod(write(os.path.join(self.room, name), text), 0o755)
+        table = write(os.path.join(self.room, "tools/mutants.toml"), table_of_tools(OF_TOOLS))
+        status, said = ran(self.room, "-v", "tools")
+        *lines, last = said.splitlines()
+        ends = dict(re.fullmatch(r"tools/(\w+) \(\d+ s\): (.*)", it).groups() for it in lines)
+        must(f"status {status}: {said}", status == 1 and set(ends) == {row[0] for row in OF_TOOLS} and all(ends[name].startswith(end) for name, *_, end in OF_TOOLS))
+        must(f"{last}", last == "5 tried, 1 refused, 2 let through, 2 do not apply")
+        for words in (["--only", "says_wrong"], ["--only", "says_wrong", "tools", "--by", "tests", "--jobs", "9"]):
+            found = ran(self.room, *words)
+            must(f"{words}: {found}", found == (0, "1 tried, 1 refused, 0 let through, 0 do not apply\n"))
+        must("the tool is another one", read(os.path.join(self.room, "tools/told")) == TOOL)
+        must_have(ran(self.room, "--only", "none", "tools")[1], "0 tried, ")
+        write(table, table_of_tools(OF_TOOLS[-1:]).replace('judge = "it is right"\n', ""))
+        must(f"{check(self.room)}", check(self.room) == (1, "tools/mutants.toml: says_wrong has no judge, and no clause is one of a tool\n"))

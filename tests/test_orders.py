@@ -124,6 +124,8 @@ UNTESTED = (
     (HEAD + "cut -> done 1\n", ":2:13: a word too many: '1' (fault 5)"), (HEAD + "0 -> done\n", ":2:3: a word is missing before '->' (fault 5)"),
     (HEAD + "sip\n", ":2:1: a line of another kind: 'sip' (fault 6)"), (HEAD + "at 16\nat 0x10\n", ":3:4: a second block of '0x10' (fault 7)"),
     (HEAD + "clock\nclock\n", ":3:1: a second block of 'clock' (fault 7)"), ("bord 1\n", ":1:1: no board line, but 'bord' (fault 2)"),
+    (HEAD + "0 sip\r", ":2:6: a carriage return before no line feed (fault 1)"), (HEAD + "0 sip\r\r\n", ":2:6: a byte that is neither printable ASCII nor a tab (fault 1)"),
+    (HEAD + "0 s\rip\n", ":2:4: a byte that is neither printable ASCII nor a tab (fault 1)"), (HEAD + "0 sip # so\rand so\n", ":2:11: a byte that is neither printable ASCII nor a tab (fault 1)"),
     ("\ufeff" + HEAD, ":1:1: a byte order mark (fault 1)"), (HEAD + "0 sip # \u00e9\n", ":2:9: a byte that is neither printable ASCII nor a tab (fault 1)"),
     ("", ": the first line with words isn't a board line, or no line has words (fault 2)"),
     ("board 200 1 9 0 0x80000000 0\n", ": bad board: HARTS is 200, at most 128"), ("board 1 0 9 0 0x80000000 0\n", ": bad board: PAGES is 0, at least 1"),
@@ -474,6 +476,12 @@ class Orders(Test):
             must(f"{words}: {found}", records and all(lines[at + 1] not in kept for at in records) and len(lines) == len(kept) + len(records))
             first = lines[records[0]].split('"')[1]
             must(f"{words}: {found}", found.returncode == 7 and found.stderr.startswith(f"sbiboard: {first}: ") and found.stderr.count("\n") == 1)
+        # (that of a later file, behind one that fails and one that holds)
+        told(self.room, f"#! each 0 advance -> gone\n{HEAD}0 advance -> gone\n", name="c.trace")
+        told(self.room, HEAD + "0 advance\n", name="d.sched")
+        for files, first in ((["d.sched", "b.sched"], "b.sched"), (["d.sched", "d.sched", "c.trace", "b.sched"], "c.trace")):
+            found = tester(self.room, "--failed", "nowhere", *files)
+            must(f"{files}: {found}", found.returncode == 7 and found.stderr.startswith(f"sbiboard: nowhere/{first}.failed: ") and found.stderr.count("\n") == 1)
         # (that of a run alone: a folder has its name)
         os.mkdir(os.path.join(self.room, "c.program.threads-0.failed"))
         os.link(os.path.join(self.room, "a.program"), os.path.join(self.room, "c.program"))

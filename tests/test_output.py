@@ -11,11 +11,11 @@ import sys
 from unittest import SkipTest
 from xml.etree import ElementTree
 
-from board_model import STATES, spelled_answer, spelled_step
+from board_model import START_PENDING, STATES, spelled_answer, spelled_step
 
 from . import grammar
 from .fixtures import EVERY, EXAMPLES, PROGRAM, ROOT, TESTER, Test, must, read, read_bytes
-from .replays import steps, table
+from .replays import below, board_line, spelled_fence, steps, table
 from .test_wrapper import clone, must_end, put
 
 BOARD = "board 2 4 100 0 0x80000000 0x0\n"
@@ -41,7 +41,7 @@ POINTS = (
 SCHEDULE, OF_TRACE, PROGRAMS = "a.sched", "a.trace", "a.program"
 WRONG = (
     (SCHEDULE, "0 ecal 1 2", 3, "unknown operation 'ecal' (fault 3): did you mean 'ecall'?"), (SCHEDULE, "0 SIP", 3, "did you mean 'sip'?"), (SCHEDULE, "h1 sip", 1, "an actor is c, or the number of a hart: did you mean '1'?"),
-    (SCHEDULE, "C tick 1", 1, "did you mean 'c'?"), (SCHEDULE, "sip", 1, "a step begins with its actor"), (SCHEDULE, "128 sip", 1, "an actor is c, or the number of a hart: at most 127"), (SCHEDULE, "2 sip", 1, "the board has no hart 2: its harts are 0 to 1"),
+    (SCHEDULE, "C tick 1", 1, "did you mean 'c'?"), (SCHEDULE, "sip", 1, "a step begins with its actor"), (SCHEDULE, "128 sip", 1, "an actor is c, or the number of a hart: at most 127"), (SCHEDULE, "2 sip", 1, "the board has no hart 2: its harts are 0 to 1"), (SCHEDULE, "0x7f sip", 1, "the board has no hart 0x7f: its harts are 0 to 1"),
     (SCHEDULE, "0 load 80001000", 8, "80001000 is decimal, 0x4c4b7e8, and in no page of the RAM: did you mean '0x80001000'?"), (SCHEDULE, "0 load 0X10", 8, "did you mean '0x10'?"), (SCHEDULE, "0 load 8000a000", 8, "did you mean '0x8000a000'?"),
     (SCHEDULE, "0 load 1_000", 8, "did you mean '1000'?"), (SCHEDULE, "0\u00a0sip", 2, "a blank that only looks like one"), (SCHEDULE, "0 load", 7, "a word is missing (fault 5)"), (SCHEDULE, "0 value 1", 3, "before a reply an arrow stands"),
     (OF_TRACE, "1 load 0x1000 -> 0x11", 18, "no reply word stands before it: did you mean 'value 0x11'?"), (OF_TRACE, "0 sip -> valu 1", 10, "unknown reply 'valu' (fault 3): did you mean 'value'?"), (OF_TRACE, "0 sip ->", 9, "behind the arrow a reply is wanted"),
@@ -84,6 +84,12 @@ class Made(Test):
         return status, found[1:-1], said
 
 
+def numbers_of(text):
+    """The numbers of the board line, as JSON has them: addresses as texts, and all of them."""
+    words, names = board_line(text).split()[1:], ("harts", "pages", "limit", "boot_hart", "boot_addr", "boot_opaque", "asidlen", "width")
+    return {name: it if it.startswith("0x") else int(it) for name, it in zip(names, [*words, *["16", "39"][len(words) - 6 :]])}
+
+
 class JsonLines(Made):
     def must_be_board(self, found, board):
         """The last objects are the board's table: each hart with what it has."""
@@ -91,21 +97,28 @@ class JsonLines(Made):
         totals, *harts = found
         must(f"{totals}", (totals["kind"], totals["events"], totals["asked"], totals["time"], totals["power"]) == ("table", board.events, board.asked, f"{board.time:#x}", "off" if board.is_off else "on"))
         must(f"{harts}", [it["hart"] for it in harts] == [*range(len(board.harts))])
-        for it, hart in zip(harts, board.harts):
-            out = None if hart.outstanding is None else len(hart.outstanding)
-            must(f"{it}", (it["state"], it["wait"], it["out"], it["ss"], it["satp"]) == (STATES[hart.state], len(hart.waiting), out, int(bool(hart.ssip)), f"{hart.satp:#x}"))
+        pending = sum(hart.state == START_PENDING for hart in board.harts)
+        must(f"{totals}", [totals[it] for it in ("starts", "entries", "pending", "applied", "waiting")] == [board.starts, board.entries, pending, board.applied, sum(len(hart.waiting) for hart in board.harts)])
+        must(f"{totals}", totals["reset"] == (board.last_reset and dict(zip(("type", "reason"), hexed(*board.last_reset)))))
+        for h, (it, hart) in enumerate(zip(harts, board.harts)):
+            out, deadline = (None if hart.outstanding is None else len(hart.outstanding)), (None if hart.deadline is None else f"{hart.deadline:#x}")
+            wanted = {"state": STATES[hart.state], "wait": len(hart.waiting), "out": out, "ss": int(bool(hart.ssip)), "st": int(board.is_due(h)), "ie": f"{hart.sie:#x}", "se": hart.sstatus, "satp": f"{hart.satp:#x}", "deadline": deadline}
+            must(f"{it}, and not {wanted}", {name: it[name] for name in wanted} == wanted)
+            is_to_enter = any(line.startswith("# entry ") for line in below(h, hart))
+            must(f"{it}", it["entry"] == (dict(zip(("address", "opaque"), hexed(*hart.kept))) if is_to_enter else None))
             tlb = [[*hexed(page), level, *hexed(asid), is_global, *hexed(pa), "".join(letter if has else "-" for letter, has in zip("rwxd", rights))] for _, (page, level, asid, is_global, pa, *rights) in hart.tlb]
             must(f"{it['tlb']} {tlb}", [[*entry.values()] for entry in it["tlb"]] == tlb)
             must(f"{it['ic']}", [[*entry.values()] for entry in it["ic"]] == [hexed(at, word) for _, at, word in hart.words])
-            must(f"{it['fences']}", [fence["from"] for fence in it["fences"]] == [caller for caller, _ in hart.waiting])
+            must(f"{it['fences']}", [(fence["from"], fence["what"]) for fence in it["fences"]] == [(caller, spelled_fence(fence)) for caller, fence in hart.waiting])
 
     def test_json__a_replay_has_each_step_and_the_board(self):
         """Each step is there with its line, actor, operation, operands and reply, and each hart as the model has it behind the last."""
-        own = self.put("every.sched", "board 2 1 9999 1 0x80000000 7\n1 advance\n" + EVERY.decode())
+        own = self.put("every.sched", "board 2 1 9999 1 0x80000000 7 5 48\n1 advance\n" + EVERY.decode())
         for path in [*SCHEDULES, os.path.join(self.room, own)]:
             done = [*steps(read(path))]
             (status, found, said), plain = self.json("replay", "--json", path), self.called("replay", path)
             must(f"{path}: {status} {said}", (status, said) == plain[::2] and found[0]["kind"] == "board" and len(done) > 0)
+            must(f"{path}: {found[0]}", found[0] == {"kind": "board"} | numbers_of(read(path)))
             wanted = [(line, *([None] if actor is None and op == ("cut",) else []), *spelled_step(actor, op).split(), spelled_answer(answer).split()) for line, _, actor, op, answer in done]
             told = [(it["line"], *([None] if it["actor"] is None else [str(it["actor"])]), it["operation"], *it["operands"], it["reply"]) for it in found if it["kind"] == "step"]
             must(f"{path}: {told}, and not {wanted}", told == wanted)
@@ -135,10 +148,10 @@ class JsonLines(Made):
     def test_json__each_point_is_read(self):
         """Each point has its line, its condition, whether it holds, why, and how far was looked; and as many as the plan says."""
         for (task, *words), text, (line, condition, is_ok, looked, why) in POINTS:
-            self.put("race: line 7: x", text)
-            status, found, _ = self.json(task, "--json", *words, "race: line 7: x")
+            self.put("race: line 7: x#\\y", text)
+            status, found, _ = self.json(task, "--json", *words, "race: line 7: x#\\y")
             point, *others = [it for it in found if it["kind"] == "point"]
-            must(f"{text}: {point}", (point["file"], point["line"], point["condition"], point["ok"]) == ("race: line 7: x", line, condition, is_ok) and point["why"].startswith(why))
+            must(f"{text}: {point}", (point["file"], point["line"], point["condition"], point["ok"]) == ("race: line 7: x#\\y", line, condition, is_ok) and point["why"].startswith(why))
             must(f"{text}: {point}", (set(point["looked"]) if point["looked"] else None) == looked and (not looked or "orders" not in looked or point["looked"]["orders"] > 1))
             must(f"{text}: {status} {found}", not others and {"kind": "plan", "points": 1} in found and (status == 0) == is_ok)
 
@@ -277,6 +290,18 @@ class Boards(Made):
         self.put("long.sched", BOARD + "0 sip\n" * 10_001)
         must_end(self.called("replay", "--diff", "long.sched"), 2, "", "sbiboard: --diff tells of at most 10,000 steps, and long.sched has 10,001: --at LINE --diff tells of one\n")
         must_end(self.called("replay", "--diff", "--at", "9000", "long.sched")[:2], 0, "0 sip -> refused 2\n")
+        # (10,000 steps are told, each with a run of its own: here no step is)
+        sys.path.insert(0, os.path.join(ROOT, "tools/front"))
+        from commands import DIFF
+        from reading import MOST_DIFFED, Replay
+
+        class Script:
+            file, text, asks = "long.sched", b"", lambda _, option: option == DIFF
+
+        for many, wanted in ((MOST_DIFFED, 0), (MOST_DIFFED + 1, 2)):
+            replay = Replay(Script(), range(1, many + 2), 0, "", "")
+            replay.lines = list
+            must(f"{many} steps", MOST_DIFFED == 10_000 and replay.tell()[0] == wanted)
 
 
 class Explained(Made):
@@ -311,6 +336,11 @@ class Explained(Made):
         must(f"{told}", [it.split(":")[0] for it in told] == ["3", "33"] and told[0].endswith(", and 29 more such lines"))
         must("BOOTADDR", self.told("replay", "a.sched", "board 1 1 9 0 80000000 0\n0 sip\n") == ["1:15: bad board: BOOTADDR is 0x4c4b400, not an even address of the RAM: did you mean '0x80000000'?"])
         must("nothing", self.told("replay", "a.sched", "") and self.told("check", "b.trace", "# none\n"))
+        # (of several files those of each, and twenty are as many as may be)
+        for name, many in (("a.sched", 19), ("b.sched", 20), ("c.sched", 21)):
+            self.put(name, BOARD + "".join(f"0 fly{at}\n" for at in range(many)))
+        said = self.called("test", "--explain", "a.sched", "b.sched", "c.sched")[2].splitlines()
+        must(f"{said}", [it.split(":")[0] for it in said] == ["a.sched"] * 19 + ["b.sched"] * 20 + ["c.sched"] * 20)
 
     def test_explain__kinds_and_files(self):
         """A script of another kind is told with the task that takes it, and a file that can't be opened with the cause."""

@@ -84,6 +84,7 @@ SUPERVISORS = [
     ("a fence that failed", BEGIN + page(1, 0x80200) + fence(1).replace("ret 0", "ret -5"), {}),
     ("the right ASID, and a left out hart", HEAD + TABLES + page(1, 0x80100) + satp(OTHER) + page(1, 0x80200) + fence(1, fid=2, asid=9), {LEFT_OUT: 1}),
     ("the right ASID", HEAD + TABLES + page(1, 0x80100) + satp(OTHER) + page(1, 0x80200) + fence(3, fid=2, asid=9) + fence(1), {}),
+    ("the right ASID, by its low 16 bits", HEAD + TABLES + page(1, 0x80100) + satp(OTHER) + page(1, 0x80200) + fence(3, fid=2, asid=0x7_0009) + fence(1), {}),
     ("another ASID", HEAD + TABLES + page(1, 0x80100) + satp(OTHER) + page(1, 0x80200) + fence(3, fid=2, asid=8) + fence(1), {LEFT_OUT: 1}),
     ("a global page, and a fence of an ASID", HEAD + TABLES + page(1, 0x80100, 0xE7) + satp(OTHER) + page(1, 0x80200) + fence(3, fid=2, asid=9) + fence(1), {LEFT_OUT: 1}),
     ("a superpage that is taken away", HEAD + TABLES + "m store 0x80002008 0x200000cf\n" + satp() + "m store 0x80002008 0x0\n" + fence(1, 0x210000), {LEFT_OUT: 1}),

@@ -311,10 +311,34 @@ class Points(Test):
         names = ["good.sched", "fault.sched", "board.sched", "asked.sched", "missing.sched", "one.program"]
         for some in (names, names[::-1], names[1:3], names[1:5] * 3, ["missing.sched"]):
             for name in ("sbiboard", "sbiboard explore"):
-                found = tester(self.room, *some, name=name, timeout=200).stdout.splitlines()
+                out = tester(self.room, "--tap", "points.tap", *some, name=name, timeout=200).stdout
+                must(f"{some}: the file of the points has others", read(os.path.join(self.room, "points.tap")) == out)
+                found = out.splitlines()
                 summary = found[found.index(f"1..{len(some)}") :]
                 failed = sum(it not in ("good.sched", "one.program") or it == "good.sched" and name != "sbiboard" for it in some)
                 must(f"{some}: {summary}", summary[1] == f"# {len(some)} points, {failed} failed" and re.match(rf"# {len(some)} files(,|$)", summary[2]))
+
+    def test_comments_begin_at_their_first_sign(self):
+        """A line's comment begins at its first `#`, also where it has more of them: in names of points, in lines that differ, in those of stuck harts and of calls."""
+        for comment in ("", " # it is so", " # it # is # so", "#", " ##", " #! never so # at all"):
+            board = f"board 1 1 9 0 0x80000000 0{comment}\nat 0x80000000{comment}\necall 0x48534d 0 9 0x80000000{comment}\nwfi{comment}\n"
+            _, lines = told(self.room, f"#! end quiet{comment}\n{board}")
+            wanted = ["not ok 1 - race.program: line 1: end quiet: fails in some of all orders: 1", "    - \"hart 0: line 5 'wfi': SSIP is 0, STIP is 0, SSIE is 0, STIE is 0\"", "# line 4: each answer to 'ecall 0x48534d 0 9 0x80000000' was an error"]
+            must(f"{comment!r}: {lines}", all(it in lines for it in wanted))
+            _, lines = told(self.room, f"board 1 1 9 0 0x80000000 0\n0 advance -> gone{comment}\n0 sip -> value 0x0{comment}\n", name="a.trace")
+            must(f"{comment!r}: {lines}", '      wanted: "0 advance -> gone"' in lines and "  differing: 1" in lines)
+
+    def test_a_hart_that_is_through_is_not_stuck(self):
+        """Of an order that ends stuck those harts alone are told that wait: none whose block is done, whatever stands behind its block."""
+        waits = "at 0x80000800\nsip\nwfi\n"
+        for behind in ("clock\ntick 1\n", "clock\n", "at 0x80000400\nsip\n", "at 0x80000400\n", "# nothing\n", "\n"):
+            for blocks in (f"at 0x80000000\necall 0x48534d 0 1 0x80000800\n{behind}{waits}", f"{waits}at 0x80000000\necall 0x48534d 0 1 0x80000800\n{behind}", f"at 0x80000000\necall 0x48534d 0 1 0x80000800\n{waits}{behind}"):
+                text = f"board 2 1 99 0 0x80000000 0\n{blocks}"
+                line = text[: text.index("wfi")].count("\n") + 1
+                for words in ([], ["--times", "9"]):
+                    _, lines = told(self.room, text, *words)
+                    told_as_stuck = [it for it in lines if it.startswith("    - ")]
+                    must(f"{text}: {told_as_stuck}", told_as_stuck == [f"    - \"hart 1: line {line} 'wfi': SSIP is 0, STIP is 0, SSIE is 0, STIE is 0\""])
 
     def test_conditions_that_wait_of_few_states(self):
         """All orders of a program of as many states as are few are looked at, whatever its conditions wait for; each of twelve is judged."""

@@ -104,18 +104,39 @@ PLAYS = [
     Play("the limit, in a call that returns after another hart's call began",
          [*TWO, calls(1, *FENCE), {"waits": 4}, calls(0, TIME, 0, 6), is_back(1), {"waits": 60}],
          [*TWO_LINES, call(1, *FENCE), "1 ret 0 0x0", "m end limit"], 3, ["the limit of 2 s was over"], words=("--seconds", "2")),
+    *(Play(f"the limit, where a hart has {done}", [*TWO, calls(1, HSM, *of), {"waits": 3}, calls(0, TIME, 0, 6), is_back(0), {"waits": 60}],
+           [*TWO_LINES, call(1, HSM, *of), "m end limit"], 3, ["the limit of 1 s was over"], words=("--seconds", "1", "--grace", "4")) for done, of in (("stopped", (1,)), ("suspended itself", (3, 0)))),
     Play("a hart that never enters", [enters(0), calls(0, HSM, 0, 1, HANDLER, 9), is_back(0), OFF],
          [BOOT, call(0, HSM, 0, 1, HANDLER, 9), "0 ret 0 0x0", "m end off"], 3, ["hart 1 never enters, until the record's end"]),
 ]  # fmt: skip
 
 
-def recorded(room, play, data="an image"):
-    """What tools/record makes of a play: its run, and the lines without notes and head."""
+def numbers_of(seed):
+    """Eight numbers of a call, each another one."""
+    return [(seed * 8 + at) * 0x0123_4567_89AB_CDEF & M64 for at in range(1, 9)]
+
+
+def of_all_harts(harts, calls_of_each):
+    """Stops at which each hart, once it is started, calls and returns with other numbers each time, in turns; and the record's lines."""
+    stops, lines = [enters(0)], [BOOT]
+    for hart in range(1, harts):
+        stops += [calls(0, HSM, 0, hart, HANDLER, hart), is_back(0), enters(hart, HANDLER, hart)]
+        lines += [call(0, HSM, 0, hart, HANDLER, hart), "0 ret 0 0x0", f"{hart} entry 0x80300000 {hart:#x} {hart:#x}"]
+    for turn in range(calls_of_each):
+        for hart in range(harts):
+            numbers, error = numbers_of(turn * harts + hart), -(turn * harts + hart + 1)
+            stops += [calls(hart, *numbers), is_back(hart, error, numbers[0])]
+            lines += [call(hart, *numbers), f"{hart} ret {error} {numbers[0]:#x}"]
+    return [*stops, OFF], [*lines, "m end off"]
+
+
+def recorded(room, play, data="an image", talk=()):
+    """What tools/record makes of a play: its run, and the lines without the head."""
     image, stops, out = (os.path.join(room, name) for name in ("image", "play", "out"))
     write(image, data)
     with open(stops, "w", encoding="ascii") as file:
         json.dump(play.stops, file)
-    given = os.environ | {"PATH": f"{STAND_IN}:{os.environ.get('PATH', '')}", "STAND_IN_PLAY": stops}
+    given = os.environ | {"PATH": f"{STAND_IN}:{os.environ.get('PATH', '')}", "STAND_IN_PLAY": stops, "STAND_IN_TALK": json.dumps(talk)}
     words = [os.path.join(ROOT, "tools/record"), "--harts", str(play.harts), "--bios", image, "--out", out, *play.words, image]
     found = subprocess.run(words, stdin=subprocess.DEVNULL, stdout=subprocess.PIPE, stderr=subprocess.PIPE, timeout=60, env=given)
     if not os.path.exists(out):
@@ -152,6 +173,42 @@ class Recorders(Test):
                 raise AssertionError(f"with {words} status {found.returncode}, and it said {shown(found.stderr)}")
         found, lines = recorded(self.room, Play("", [{"ends": "no machine"}], []))
         must(f"of nothing: status {found.returncode}, and it said {shown(found.stderr)}", found.returncode == 1 and b"record: nothing was recorded; gdb said: no machine" in found.stderr and not lines)
+
+    def test_recorder__each_hart_and_each_register(self):
+        """Of each hart each call and each return is in the record, with each of its registers in its own place."""
+        for harts, turns in ((4, 9), (128, 2)):
+            stops, wanted = of_all_harts(harts, turns)
+            _, lines = recorded(self.room, Play("", stops, [], harts=harts))
+            plain = [" ".join(word for word in line.split(" ") if "=" not in word) for line in lines]
+            at = next((at for at, (one, other) in enumerate(zip(plain, wanted)) if one != other), min(len(plain), len(wanted)))
+            must(f"of {harts} harts line {at} is {plain[at : at + 1]}, and not {wanted[at : at + 1]}, of {len(plain)} and {len(wanted)}", plain == wanted)
+
+    def test_recorder__notes(self):
+        """Behind each line stand the time, sie, sip and SIE of sstatus of its hart then, each in its own place."""
+        registers = [{"sie": 0x22, "sip": 2, "sstatus": 2}, {"sie": 2, "sip": 0x20, "sstatus": 0}, {"sie": 0x20, "sip": 0x22, "sstatus": 0x8000_0000_0000_0122}]
+        stops = [{**stop, **more} for stop, more in zip((enters(0), calls(0, TIME, 0, 5), is_back(0)), registers)]
+        _, lines = recorded(self.room, Play("", [*stops, OFF], [], harts=1))
+        notes = [" ".join(word for word in line.split(" ") if "=" in word) for line in lines]
+        wanted = [f"time={at:#x} sie={it['sie']:#x} sip={it['sip']:#x} sstatus={it['sstatus'] >> 1 & 1}" for at, it in enumerate(registers, 1)]
+        must(f"the notes are {notes}, and not {wanted}", notes == [*wanted, ""])
+
+    def test_recorder__what_is_typed(self):
+        """A line is typed once the console has printed what it waits for, behind what the line before waited for; each once, and in order."""
+        console, says = os.path.join(self.room, "console"), lambda *pairs: [word for pair in pairs for word in ("--say", *pair)]
+        for lines, talk, typed in (
+            ([("login: ", "root"), ("login: ", "again")], [("a login: ", True), ("no\nlogin: ", True)], ["root", "again"]),
+            ([("aa", "1"), ("aa", "2")], [("aa", True), ("a", False), ("a", True)], ["1", "2"]),
+            ([("> ", "one"), ("$ ", "two"), ("> ", "three")], [("$ ", False), (">", False), (" ", True), ("$ ", True), ("..> ", True), ("$ > ", False)], ["one", "two", "three"]),
+            ([("never", "no")], [("login: ", False)], []),
+        ):  # fmt: skip
+            stops = [enters(0), calls(0, TIME, 0, 5), is_back(0), {"talks": 1}, {"ends": "exits"}]
+            found, _ = recorded(self.room, Play("", stops, [], harts=1, words=("--console", console, *says(*lines))), talk=talk)
+            must(f"{lines}: status {found.returncode}, it said {shown(found.stderr)}", not found.returncode)
+            said, wanted = read(console), "OpenSBI v0.0\n" + "".join(text for text, _ in talk)
+            must(f"{lines}: typed was {read(os.path.join(self.room, 'play.typed'))}", json.loads(read(os.path.join(self.room, "play.typed"))) == typed)
+            must(f"{lines}: printed was {said!r}, and not {wanted!r}", said == wanted)
+            for name in ("play.typed", "play.off"):
+                os.remove(os.path.join(self.room, name))
 
     def test_recorder__page_tables(self):
         """Fences and writes of satp in the image, and the changes of tables between stops; of A and D none, and of the firmware's fences a note."""

@@ -120,6 +120,7 @@ def must_add_up(what, report):
 
 TOLD = [
     ("a suspend, a stop and a reset without a return", TWO + call(HSM, 3, 0, hart=1) + call(SRST, 0, 0) + "m end off\n", None, 0),
+    ("an odd address, at whose even one the hart enters", BOOT + answered(HSM, 0, 1, 0x80200101, 7) + "1 entry 0x80200100 1 7\n", "own", 3),
     ("a call that is open where the machine is off", TWO + call(RFENCE, 0, 1, hart=1) + call(SRST, 0, 0) + "m end off\n", "unjudged", 6),
     ("a call that is open at a record's end that says nothing", TWO + TIMER, "unjudged", 6),
     ("a shutdown that doesn't come", TWO + call(SRST, 0, 0) + "m end limit\n", "unjudged", 6),

@@ -1,10 +1,12 @@
-"""What every tool of tools/ does alike: it answers --help, and ends quietly where nobody reads on."""
+"""What every tool of tools/ does alike: it answers --help, and ends quietly where nobody reads on; and what those that check tell."""
 import os
+import re
+import shutil
 import signal
 import subprocess
 import sys
 
-from .fixtures import EXAMPLES, RECORDS, ROOT, Test, must
+from .fixtures import EXAMPLES, RECORDS, ROOT, Test, must, read, write
 
 TOOLS = os.path.join(ROOT, "tools")
 # Words with which a tool prints something at once, where there are some.
@@ -30,6 +32,32 @@ def unread(words, **how):
         return subprocess.run(words, stdin=subprocess.DEVNULL, stdout=writing, timeout=60, **{"stderr": subprocess.PIPE, **how})
     finally:
         os.close(writing)
+
+
+# What is changed in a checkout, a text by its file and the one that stands for it (None: the file is new), and what is told then.
+WRONG_FOR_MAP = (
+    ("docs/ARCHITECTURE.md", "  hart_mask-->sbi_abi\n", "", "docs/ARCHITECTURE.md is old: run tools/map\n"), ("docs/DEFINITIONS.md", "# Definitions", "# Definition", "docs/DEFINITIONS.md is old: run tools/map\n"),
+    ("crates.txt", "\ntlb_model:", "\ntlb_model: hsm", "docs/ARCHITECTURE.md is old: run tools/map\n"),
+)  # fmt: skip
+WRONG_FOR_NAMES = (
+    ("crates/hsm/src/own.rt", None, "pub fn told_twice() {}\n", "two meanings: told_twice: crates/hsm/src/own.rt:1, crates/sv39/src/own.rt:1\n"),
+    ("tools/allowed-names", None, "not_there hsm sv39: there was one\n", "allowed, and has one meaning: not_there\n"),
+)  # fmt: skip
+
+
+def checkout(room):
+    """What the tools read that check names and pages."""
+    root = os.path.join(room, "checkout")
+    for name in ("tools", "docs", "crates"):
+        shutil.copytree(os.path.join(ROOT, name), os.path.join(root, name), ignore=shutil.ignore_patterns("__pycache__", "out", "proofs", "must-fail", "data"))
+    shutil.copy(os.path.join(ROOT, "crates.txt"), root)
+    write(os.path.join(root, "crates/sv39/src/own.rt"), "pub fn told_twice() {}\n")
+    return root
+
+
+def checking(root, *words):
+    found = subprocess.run([os.path.join(root, "tools", words[0]), *words[1:]], stdin=subprocess.DEVNULL, capture_output=True, text=True, timeout=60)
+    return found.returncode, found.stdout, found.stderr
 
 
 class Tools(Test):
@@ -58,3 +86,18 @@ class Tools(Test):
         breaks = f"import sys; sys.path.insert(0, {TOOLS!r})\nfrom entry import run\ndef main(): raise BrokenPipeError\nrun(main, '')"
         found = subprocess.run([sys.executable, "-c", breaks], stdin=subprocess.DEVNULL, capture_output=True, text=True, timeout=60)
         must(f"{found}", found.returncode == 1 and "BrokenPipeError" in found.stderr)
+
+    def test_the_tools_that_check_fail_where_something_is_wrong(self):
+        """One wrong name, one old line of a page, or one crate more: the tool tells it, and its status is 1; and 0 where nothing is wrong."""
+        root = checkout(self.room)
+        checking(root, "map")
+        for words, rows in ((["map", "--check"], WRONG_FOR_MAP), (["names"], WRONG_FOR_NAMES)):
+            must(f"{words}: {checking(root, *words)}", checking(root, *words)[::2] == (0, ""))
+            for name, old, new, wanted in rows:
+                path = os.path.join(root, name)
+                before = read(path) if os.path.exists(path) else ""
+                must(f"{name} has no {old!r}", old is None or before.count(old) == 1)
+                write(path, before + new if old is None else before.replace(old, new))
+                status, out, said = checking(root, *words)
+                must(f"{words}, {name}: status {status}, {out} {said}", (status, said) == (1, "") and wanted in out and len(re.findall(" is old: |two meanings: |one meaning: ", out)) == 1)
+                write(path, before)

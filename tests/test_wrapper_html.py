@@ -138,6 +138,11 @@ class HtmlPages(Test):
         unread = [self.front, "test", "--html", "pages", "lost-wakeup.program"]
         status, _, said = ran(self.room, ["bash", "-c", 'cd work; "$@" | true; exit "${PIPESTATUS[0]}"', "-", *unread], seconds=300)
         must(f"{status} {said}", status != 0 and "no point fails" not in said and not glob.glob(os.path.join(self.work, "pages/*")))
+        # (what wasn't judged is told all the same, and is drawn as what fails)
+        for words, status, many in ((["--times", "0", "lost-wakeup.program"], 8, 2), (["--failed", "none", "a.sched"], 7, 1)):
+            found = self.called("test", "--html", "pages", *words)
+            listed = rows(os.path.join(self.work, "pages/index.html"))
+            must(f"{words}: {found}, {listed}", found[0] == status and len(listed) == many and f"pages/index.html lists the points that fail ({many}, and 0 drawn)\n" in found[2])
 
     def test_html__older_points(self):
         """A file of points that this run hasn't written isn't taken for its own."""
@@ -166,6 +171,12 @@ class HtmlPages(Test):
         self.called("test", "--html", "pages", "a.sched", "below/a.sched")
         (first, *_), (second, *_) = rows(os.path.join(self.work, "pages/index.html"))
         must(f"{first} {second}", (first, second) == (("a.sched.failed", 2), ("a.sched~2.failed", 3)))
+        # (traces that differ have no records, and are drawn themselves)
+        put(os.path.join(self.work, "below/a.trace"), TRACE.replace("0 sip", "0 sie 2 -> done\n0 sip"))
+        self.called("test", "--html", "pages", "a.trace", "below/a.trace", "a.trace")
+        pages = [page for page, *_ in rows(os.path.join(self.work, "pages/index.html"))]
+        steps = [Drawn(os.path.join(self.work, "pages", f"{name}.html")).lines[0] for name, _ in pages]
+        must(f"{pages} {steps}", pages == [("a.trace", 2), ("a.trace-2", 3), ("a.trace-3", 2)] and [len(it) for it in steps] == [2, 3, 2])
 
     def test_html__words(self):
         """--html has a folder, once, of `test` and `explore` alone; what it can't write or read is said before a test begins."""

@@ -1,8 +1,8 @@
-"""The wrong bodies of the crates: where they are kept, and the texts that they make.
+"""The wrong bodies of the crates and of the tools: where they are kept, and the texts that they make.
 
 A crate's mutants are one table, crates/NAME/mutants.toml, and those that the gate tries are the files of must-fail/. Each
-changes texts of the crate's files. A mutant names the item in which its old text stands, so that what is added elsewhere
-doesn't break it.
+changes texts of the crate's files; those of tools/mutants.toml change the tools and the script `sbiboard`. A mutant names the
+item in which its old text stands, so that what is added elsewhere doesn't break it.
 """
 import functools
 import os
@@ -14,6 +14,8 @@ ROOT = os.path.dirname(os.path.dirname(os.path.realpath(__file__)))
 
 # A crate's table of mutants, and the folder of the edits that the gate tries.
 TABLE, FOLDER = "mutants.toml", "must-fail"
+# Under this name the tools and the script `sbiboard` have a table, tools/mutants.toml, whose files are named from the checkout on.
+TOOLS = "tools"
 # What a table says of a change.
 KEYS = {"file", "function", "item", "old", "new"}
 
@@ -206,6 +208,11 @@ def functions_of(edit, folder):
 # ---- where edits are kept
 
 
+def folder_of(crate, root=ROOT):
+    """Where the files are that a crate's edits name."""
+    return root if crate == TOOLS else os.path.join(root, "crates", crate)
+
+
 def changes_of(entry, where):
     """The changes that an entry of a table says. A further one is of the same file and item, where it names no others."""
     file, item, found = None, None, []
@@ -235,6 +242,8 @@ def mutants_in(text, crate):
         name, judge = entry.pop("name", ""), entry.pop("judge", None)
         if not name or name in [it.name for it in found]:
             raise BadTable(f"{where}: a mutant has the name {name!r}, which is none, or is another's")
+        if crate == TOOLS and judge is None:
+            raise BadTable(f"{where}: {name} has no judge, and no clause is one of a tool")
         found.append(Edit(crate, name, changes_of(entry, f"{where}: {name}"), judge))
     return found
 
@@ -261,8 +270,8 @@ def must_fail_in(text, crate, name):
 
 def edits_of(crate, is_with_must_fail=False, root=ROOT):
     """The mutants of a crate, and with them those of must-fail/ where they are asked for."""
-    found, folder = [], os.path.join(root, "crates", crate)
-    if os.path.isfile(table := os.path.join(folder, TABLE)):
+    found, folder = [], folder_of(crate, root)
+    if os.path.isfile(table := os.path.join(root, TOOLS, TABLE) if crate == TOOLS else os.path.join(folder, TABLE)):
         with open(table, encoding="utf-8") as file:
             found += mutants_in(file.read(), crate)
     if is_with_must_fail and os.path.isdir(folder := os.path.join(folder, FOLDER)):

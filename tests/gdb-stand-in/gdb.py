@@ -39,6 +39,9 @@ def go_on():
         stop = PLAY.pop(0)
         if "waits" in stop:
             time.sleep(stop["waits"])
+        elif "talks" in stop:
+            while not os.path.exists(os.environ["STAND_IN_PLAY"] + ".typed"):
+                time.sleep(0.02)
         elif "ends" in stop:
             NOW.clear()
             NOW["ends"] = stop["ends"]
