@@ -244,29 +244,9 @@ impl Board {
         reply
     }
 
-    /// Carries out an operation of hart `h` that isn't refused, and is no access, and records it: the reply. A common one is
-    /// constant where it is handed on, so that LLVM chooses what is done and what is recorded at once.
+    /// Carries out an operation of hart `h` that isn't refused, and is no access, and records it: the reply.
     #[inline(always)]
     fn other_step(&mut self, h: u64, op: Op) -> Reply
-        requires unrefused { first_refusal self.old.opening self.old.past (Hart h) op ≡ None }
-        requires other { access_of op ≡ None }
-        ensures answer { Ok result ≡ answer self.old.opening self.old.past (Hart h) op }
-        ensures after { self.new ≡ stepped self.old (Hart h) op }
-    {
-        match op {
-            Op::Ecall(regs) => self.carry_out(h, Op::Ecall(regs)),
-            Op::ReadSip => self.carry_out(h, Op::ReadSip),
-            Op::ClearSsip => self.carry_out(h, Op::ClearSsip),
-            Op::Poll => self.carry_out(h, Op::Poll),
-            Op::Serve => self.carry_out(h, Op::Serve),
-            Op::Sfence(va, asid) => self.carry_out(h, Op::Sfence(va, asid)),
-            _ => self.carry_out(h, op),
-        }
-    }
-
-    /// The same, of any of these operations.
-    #[inline(always)]
-    fn carry_out(&mut self, h: u64, op: Op) -> Reply
         requires unrefused { first_refusal self.old.opening self.old.past (Hart h) op ≡ None }
         requires other { access_of op ≡ None }
         ensures answer { Ok result ≡ answer self.old.opening self.old.past (Hart h) op }

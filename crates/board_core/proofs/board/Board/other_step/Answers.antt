@@ -12,7 +12,7 @@ use Rattle.board_core.specs.Inside.Opened.{opened_by}
 use Rattle.board_core.proofs.Room.{replies_are_short}
 use Rattle.board_machine.proofs.Situations.{situation-read, sized, standing-at}
 use Rattle.board_core.proofs.Steps.{hart_answered, hart_unrefused, kept-more, past-more, room-left, stepped-more}
-use Rattle.board_core.proofs.board.Board.carry_out.Goals as goal
+use Rattle.board_core.proofs.board.Board.other_step.Goals as goal
 
 pub perform-reply-requires-clause-sized : goal.perform-reply-requires-clause-sized
 perform-reply-requires-clause-sized c = sized _ _ _ c.self.invariant.0.good.at_most_128_harts c.self.invariant.1
