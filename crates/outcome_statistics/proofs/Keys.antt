@@ -12,7 +12,7 @@ use Rattle.std.proofs.lemmas.Cmp.{nat_cmp_total, nat_list_cmp_total, tied_itself
 use Rattle.std.proofs.lemmas.Map.Lookups.{exact_bytes, exact_unsigned}
 use Rattle.outcome_statistics.specs.declared.visits.Spot.{Spot}
 use Rattle.outcome_statistics.specs.Records.{SomeIs}
-use Rattle.outcome_statistics.specs.Visits.{Has}
+use Rattle.outcome_statistics.specs.Visits.{HasKey}
 
 eq-is : (o : Ordering) → is_eq o ≡ true → o ≡ Equal
 eq-is Less told = absurd (let t = told in cc)
@@ -118,10 +118,10 @@ number-on n x y tied is = sym (exact_unsigned x y tied) ∙ is
 number-back : (n x y : ℕ) → nat_cmp x y ≡ Equal → y ≡ n → x ≡ n
 number-back n x y tied is = exact_unsigned x y tied ∙ is
 
-pub number-insert : (s n : BTreeSet ℕ) (k m : ℕ) → Updates nat_cmp s n k true → Has n.keys m ↔ (Has s.keys m ⊎ (k ≡ m))
+pub number-insert : (s n : BTreeSet ℕ) (k m : ℕ) → Updates nat_cmp s n k true → HasKey n.keys m ↔ (HasKey s.keys m ⊎ (k ≡ m))
 number-insert s n k m = some-insert nat_cmp (λ x. x ≡ m) (tied_itself nat_cmp_total) (number-on m) (number-back m) s n k
 
-pub number-append : (s n : BTreeSet ℕ) (xs : List ℕ) (m : ℕ) → InsertsAll nat_cmp s xs n → Has n.keys m ↔ (Has s.keys m ⊎ Has xs m)
+pub number-append : (s n : BTreeSet ℕ) (xs : List ℕ) (m : ℕ) → InsertsAll nat_cmp s xs n → HasKey n.keys m ↔ (HasKey s.keys m ⊎ HasKey xs m)
 number-append s n xs m = some-append nat_cmp (λ x. x ≡ m) (tied_itself nat_cmp_total) (number-on m) (number-back m) s n xs
 
 -- ---- places of calls
@@ -159,13 +159,13 @@ spot-on s x y tied is = sym (spot-exact x y tied) ∙ is
 spot-back : (s x y : Spot) → spot_cmp x y ≡ Equal → y ≡ s → x ≡ s
 spot-back s x y tied is = spot-exact x y tied ∙ is
 
-pub spot-insert : (s n : BTreeSet Spot) (k m : Spot) → Updates spot_cmp s n k true → Has n.keys m ↔ (Has s.keys m ⊎ (k ≡ m))
+pub spot-insert : (s n : BTreeSet Spot) (k m : Spot) → Updates spot_cmp s n k true → HasKey n.keys m ↔ (HasKey s.keys m ⊎ (k ≡ m))
 spot-insert s n k m = some-insert spot_cmp (λ x. x ≡ m) spot-same (spot-on m) (spot-back m) s n k
 
-pub spot-append : (s n : BTreeSet Spot) (xs : List Spot) (m : Spot) → InsertsAll spot_cmp s xs n → Has n.keys m ↔ (Has s.keys m ⊎ Has xs m)
+pub spot-append : (s n : BTreeSet Spot) (xs : List Spot) (m : Spot) → InsertsAll spot_cmp s xs n → HasKey n.keys m ↔ (HasKey s.keys m ⊎ HasKey xs m)
 spot-append s n xs m = some-append spot_cmp (λ x. x ≡ m) spot-same (spot-on m) (spot-back m) s n xs
 
-pub spot-has : (s : BTreeSet Spot) (k : Spot) → (contains spot_cmp s k ≡ true) ↔ Has s.keys k
+pub spot-has : (s : BTreeSet Spot) (k : Spot) → (contains spot_cmp s k ≡ true) ↔ HasKey s.keys k
 spot-has s k = some-has spot_cmp (λ x. x ≡ k) spot-same (spot-on k) (spot-back k) s.keys k refl (λ x is. subst (λ y. spot_cmp k y ≡ Equal) (sym is) (spot-same k))
 
 -- ---- records by their choices

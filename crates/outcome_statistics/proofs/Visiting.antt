@@ -23,7 +23,7 @@ use Rattle.seeded_orders.specs.Choices.{choice_of}
 use Rattle.outcome_statistics.specs.declared.visits.Spot.{Spot}
 use Rattle.outcome_statistics.specs.declared.visits.Visits.{Visits}
 use Rattle.outcome_statistics.specs.Records.{SomeIs, Tried}
-use Rattle.outcome_statistics.specs.Visits.{AreRecords, AreVisited, Calls, Enters, Has, IsCallAt, IsWith, behind, entry_at, is_call, spot_at, spot_of}
+use Rattle.outcome_statistics.specs.Visits.{AreRecords, AreVisited, Calls, Enters, HasKey, IsCallAt, IsWith, place_behind, entry_at, is_call, spot_at, spot_of}
 use Rattle.outcome_statistics.specs.Inside.Guests.{AreGuests}
 use Rattle.outcome_statistics.proofs.Keys.{choices-append, choices-insert, choices_cmp, number-append, number-insert, some-none, spot-append, spot-insert, spot_cmp}
 use Rattle.outcome_statistics.proofs.Meeting.{some-before, some-behind, some-of-both}
@@ -66,7 +66,7 @@ meaning-still op Done other none = rw other refl
 abbrev place : Option Entered → Did → Option Spot
 place entry before = option_map (λ x. record { addr = x.addr; before = min (length before) (2 ^ 64 - 1) }) entry
 
-behind-one : (entry : Option Entered) (before : Did) (more : Did) → length more ≡ suc (length before) → behind (place entry before) ≡ place entry more
+behind-one : (entry : Option Entered) (before : Did) (more : Did) → length more ≡ suc (length before) → place_behind (place entry before) ≡ place entry more
 behind-one None before more longer = refl
 behind-one (Some x) before more longer =
     let up : min (min (length before) (2 ^ 64 - 1) + 1) (2 ^ 64 - 1) ≡ min (length more) (2 ^ 64 - 1) = grind arith in
@@ -84,9 +84,9 @@ module _ (past : List Event) (h : ℕ) (e : Event) (mine : is_hart h e.actor ≡
       let means = meaning-enters e.op e.reply addr at in
       ap (λ (a : ℕ). Some (record { addr = a; before = 0 })) (sym means.1) ∙ turned (Into means.0) means.2
 
-  pub spot-done : (guest : Option Spot) → entry_at e.reply ≡ None → is_guest e.op ≡ true → guest ≡ spot_of past h → behind guest ≡ spot_of (e ∷ past) h
+  pub spot-done : (guest : Option Spot) → entry_at e.reply ≡ None → is_guest e.op ≡ true → guest ≡ spot_of past h → place_behind guest ≡ spot_of (e ∷ past) h
   spot-done guest none does at =
-      ap behind at ∙ behind-one (last_entry past h) (did past h) ((e.op, e.reply) ∷ did past h) refl
+      ap place_behind at ∙ behind-one (last_entry past h) (did past h) ((e.op, e.reply) ∷ did past h) refl
       ∙ turned (Does e.op e.reply) (meaning-does e.op e.reply does none)
 
   pub spot-still : (guest : Option Spot) → entry_at e.reply ≡ None → is_guest e.op ≡ false → guest ≡ spot_of past h → guest ≡ spot_of (e ∷ past) h
@@ -204,8 +204,8 @@ pub with-entry : (reply : Reply) (addr : ℕ) (before after : Visits) → entry_
     → after.answered ≡ before.answered → after.failed ≡ before.failed → IsWith (λ a. entry_at reply ≡ Some a) (λ spot fails. ⊥) before after
 with-entry reply addr before after at inserts answered failed = record {
   entered = λ a. iff-by (number-insert before.entered after.entered addr a inserts) (λ same. at ∙ ap (λ (n : ℕ). Some n) same) (λ is. let t = sym at ∙ is in cc);
-  answered = λ spot. subst (λ s. Has s.keys spot ↔ (Has before.answered.keys spot ⊎ ⊥)) (sym answered) (iff-kept (λ no. no));
-  failed = λ spot. subst (λ s. Has s.keys spot ↔ (Has before.failed.keys spot ⊎ ⊥)) (sym failed) (iff-kept (λ no. no));
+  answered = λ spot. subst (λ s. HasKey s.keys spot ↔ (HasKey before.answered.keys spot ⊎ ⊥)) (sym answered) (iff-kept (λ no. no));
+  failed = λ spot. subst (λ s. HasKey s.keys spot ↔ (HasKey before.failed.keys spot ⊎ ⊥)) (sym failed) (iff-kept (λ no. no));
 }
 
 pub no-entry : (reply : Reply) (before : Visits) → entry_at reply ≡ None → IsWith (λ a. entry_at reply ≡ Some a) (λ spot fails. ⊥) before before
@@ -228,8 +228,8 @@ module _ (guest : Option Spot) (e : Event) (spot : Spot) (before after : Visits)
   pub with-failed : is_error e.reply ≡ true → Updates spot_cmp before.failed after.failed spot true → after.entered ≡ before.entered → after.answered ≡ before.answered
       → IsWith (λ a. ⊥) (IsCallAt guest e) before after
   with-failed is inserts entered answered = record {
-    entered = λ a. subst (λ s. Has s.keys a ↔ (Has before.entered.keys a ⊎ ⊥)) (sym entered) (iff-kept (λ no. no));
-    answered = λ s. subst (λ x. Has x.keys s ↔ (Has before.answered.keys s ⊎ IsCallAt guest e s false)) (sym answered)
+    entered = λ a. subst (λ s. HasKey s.keys a ↔ (HasKey before.entered.keys a ⊎ ⊥)) (sym entered) (iff-kept (λ no. no));
+    answered = λ s. subst (λ x. HasKey x.keys s ↔ (HasKey before.answered.keys s ⊎ IsCallAt guest e s false)) (sym answered)
         (iff-kept (call-not false true s is (λ bad. let t = bad in cc)));
     failed = λ s. iff-by (spot-insert before.failed after.failed spot s inserts) (call-here true s is) (call-there true s);
   }
@@ -237,9 +237,9 @@ module _ (guest : Option Spot) (e : Event) (spot : Spot) (before after : Visits)
   pub with-answered : is_error e.reply ≡ false → Updates spot_cmp before.answered after.answered spot true → after.entered ≡ before.entered → after.failed ≡ before.failed
       → IsWith (λ a. ⊥) (IsCallAt guest e) before after
   with-answered is inserts entered failed = record {
-    entered = λ a. subst (λ s. Has s.keys a ↔ (Has before.entered.keys a ⊎ ⊥)) (sym entered) (iff-kept (λ no. no));
+    entered = λ a. subst (λ s. HasKey s.keys a ↔ (HasKey before.entered.keys a ⊎ ⊥)) (sym entered) (iff-kept (λ no. no));
     answered = λ s. iff-by (spot-insert before.answered after.answered spot s inserts) (call-here false s is) (call-there false s);
-    failed = λ s. subst (λ x. Has x.keys s ↔ (Has before.failed.keys s ⊎ IsCallAt guest e s true)) (sym failed)
+    failed = λ s. subst (λ x. HasKey x.keys s ↔ (HasKey before.failed.keys s ⊎ IsCallAt guest e s true)) (sym failed)
         (iff-kept (call-not true false s is (λ bad. let t = bad in cc)));
   }
 

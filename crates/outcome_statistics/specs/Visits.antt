@@ -18,8 +18,8 @@ use Rattle.outcome_statistics.specs.declared.visits.Visits.{Visits}
 use Rattle.outcome_statistics.specs.Records.{SomeIs, Tried}
 
 -- a list has this item
-abbrev pub Has : {X : Type 0} → List X → X → Type 0
-Has xs x = SomeIs (λ y. y ≡ x) xs
+abbrev pub HasKey : {X : Type 0} → List X → X → Type 0
+HasKey xs x = SomeIs (λ y. y ≡ x) xs
 
 -- ---- one event
 
@@ -29,8 +29,8 @@ spot_of past h =
     option_map (λ entry. record { addr = entry.addr; before = min (length (did past h)) (2 ^ 64 - 1) }) (last_entry past h)
 
 -- the place behind an operation of a guest (counted up to 2^64-1)
-abbrev pub behind : Option Spot → Option Spot
-behind guest = option_map (λ spot. record { addr = spot.addr; before = min (spot.before + 1) (2 ^ 64 - 1) }) guest
+abbrev pub place_behind : Option Spot → Option Spot
+place_behind guest = option_map (λ spot. record { addr = spot.addr; before = min (spot.before + 1) (2 ^ 64 - 1) }) guest
 
 -- the place of the guest of an event's hart, if it is one of the board's harts
 abbrev pub spot_at : (harts : ℕ) → List Event → Actor → Option Spot
@@ -67,16 +67,16 @@ Calls harts (e ∷ past) spot fails = Calls harts past spot fails ⊎ IsCallAt (
 
 -- `after` has these entries and calls, and those of `before`.
 pub record IsWith (E : ℕ → Type 0) (C : Spot → Bool → Type 0) (before after : Visits) : Type 0 where
-  pub entered : (addr : ℕ) → Has after.entered.keys addr ↔ (Has before.entered.keys addr ⊎ E addr)
-  pub answered : (spot : Spot) → Has after.answered.keys spot ↔ (Has before.answered.keys spot ⊎ C spot false)
-  pub failed : (spot : Spot) → Has after.failed.keys spot ↔ (Has before.failed.keys spot ⊎ C spot true)
+  pub entered : (addr : ℕ) → HasKey after.entered.keys addr ↔ (HasKey before.entered.keys addr ⊎ E addr)
+  pub answered : (spot : Spot) → HasKey after.answered.keys spot ↔ (HasKey before.answered.keys spot ⊎ C spot false)
+  pub failed : (spot : Spot) → HasKey after.failed.keys spot ↔ (HasKey before.failed.keys spot ⊎ C spot true)
 
 -- What guests met in some of these records: the entries, and the calls that were answered without an error, and with one. (Nothing
 -- is said of the kept steps.)
 pub record AreVisited (harts : ℕ) (tried : List Tried) (visits : Visits) : Type 0 where
-  pub entered : (addr : ℕ) → Has visits.entered.keys addr ↔ SomeIs (λ x. Enters (reverse x.events) addr) tried
-  pub answered : (spot : Spot) → Has visits.answered.keys spot ↔ SomeIs (λ x. Calls harts (reverse x.events) spot false) tried
-  pub failed : (spot : Spot) → Has visits.failed.keys spot ↔ SomeIs (λ x. Calls harts (reverse x.events) spot true) tried
+  pub entered : (addr : ℕ) → HasKey visits.entered.keys addr ↔ SomeIs (λ x. Enters (reverse x.events) addr) tried
+  pub answered : (spot : Spot) → HasKey visits.answered.keys spot ↔ SomeIs (λ x. Calls harts (reverse x.events) spot false) tried
+  pub failed : (spot : Spot) → HasKey visits.failed.keys spot ↔ SomeIs (λ x. Calls harts (reverse x.events) spot true) tried
 
 -- The different records, each as its choices, are exactly those of these.
 abbrev pub AreRecords : List Tried → BTreeSet (Vec ℕ) → Type 0

@@ -4,7 +4,7 @@ ghost use Rattle.board_core.specs.Course.{is_hart};
 ghost use Rattle.board_core.specs.ErrorLaw.{is_error};
 ghost use Rattle.board_core.specs.History.{Event as Step};
 ghost use Rattle.outcome_statistics.specs.Records.{Tried};
-ghost use Rattle.outcome_statistics.specs.Visits.{AreVisited, Calls, Enters, Has, IsCallAt, IsWith, entry_at, is_call, behind, spot_at, spot_of};
+ghost use Rattle.outcome_statistics.specs.Visits.{AreVisited, Calls, Enters, HasKey, IsCallAt, IsWith, entry_at, is_call, place_behind, spot_at, spot_of};
 ghost use Rattle.outcome_statistics.specs.Inside.Guests.{AreGuests};
 
 use board_core::{Actor, Event, Op, Reply};
@@ -173,7 +173,7 @@ impl Visits {
 
     /// Whether a call was answered, each time with an error.
     pub fn is_only_failed(&self, spot: &Spot) -> bool
-        ensures { (result ≡ true) ↔ (Has self.now.failed.keys spot.now × ¬ Has self.now.answered.keys spot.now) }
+        ensures { (result ≡ true) ↔ (HasKey self.now.failed.keys spot.now × ¬ HasKey self.now.answered.keys spot.now) }
     {
         self.failed.contains(spot) && !self.answered.contains(spot)
     }
@@ -294,7 +294,7 @@ fn guest_after(guest: Option<Spot>, event: &Event) -> Option<Spot>
 
 /// The place behind an operation of a guest.
 fn behind(guest: Option<Spot>) -> Option<Spot>
-    ensures { result ≡ behind guest }
+    ensures { result ≡ place_behind guest }
 {
     let spot = guest?;
     Some(Spot {
