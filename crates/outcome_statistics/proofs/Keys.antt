@@ -67,11 +67,11 @@ module _ {K : Type 0} (R : K → K → Ordering) (P : K → Type 0) (same : (x :
   pub some-insert : (s n : BTreeSet K) (k : K) → Updates R s n k true → SomeIs P n.keys ↔ (SomeIs P s.keys ⊎ P k)
   some-insert s n k updates = (
     (λ some.
-    let found = some-member n.keys some in
-    elim (cond-cases (is_eq (R k found.0)) (contains R s found.0) (sym (updates.0 found.0) ∙ found.2)) [
-      | inl here ↦ inr (back k found.0 (eq-is (R k found.0) here) found.1)
-      | inr there ↦ inl (member-some s.keys found.0 found.1 there)
-    ]),
+        let found = some-member n.keys some in
+        elim (cond-cases (is_eq (R k found.0)) (contains R s found.0) (sym (updates.0 found.0) ∙ found.2)) [
+          | inl here ↦ inr (back k found.0 (eq-is (R k found.0) here) found.1)
+          | inr there ↦ inl (member-some s.keys found.0 found.1 there)
+        ]),
     (λ either. elim either [
       | inl old ↦ (let found = some-member s.keys old in member-some n.keys found.0 found.1 (updates.0 found.0 ∙ cond-second (is_eq (R k found.0)) (contains R s found.0) found.2))
       | inr new ↦ member-some n.keys k new (updates.0 k ∙ cond-first (is_eq (R k k)) (contains R s k) (ap is_eq (same k)))
@@ -82,20 +82,20 @@ module _ {K : Type 0} (R : K → K → Ordering) (P : K → Type 0) (same : (x :
   pub some-append : (s n : BTreeSet K) (xs : List K) → InsertsAll R s xs n → SomeIs P n.keys ↔ (SomeIs P s.keys ⊎ SomeIs P xs)
   some-append s n xs inserts = (
     (λ some.
-    let found = some-member n.keys some in
-    elim (or-cases (is_member (eq_by_cmp R) s.keys found.0) (is_member (eq_by_cmp R) xs found.0) (sym (inserts.0 found.0) ∙ found.2)) [
-      | inl here ↦ inl (member-some s.keys found.0 found.1 here)
-      | inr there ↦ inr (member-some xs found.0 found.1 there)
-    ]),
+        let found = some-member n.keys some in
+        elim (or-cases (is_member (eq_by_cmp R) s.keys found.0) (is_member (eq_by_cmp R) xs found.0) (sym (inserts.0 found.0) ∙ found.2)) [
+          | inl here ↦ inl (member-some s.keys found.0 found.1 here)
+          | inr there ↦ inr (member-some xs found.0 found.1 there)
+        ]),
     (λ either. elim either [
       | inl old ↦ (
-        let found = some-member s.keys old in
-        member-some n.keys found.0 found.1 (inserts.0 found.0 ∙ or-first (is_member (eq_by_cmp R) s.keys found.0) (is_member (eq_by_cmp R) xs found.0) found.2)
-      )
+          let found = some-member s.keys old in
+          member-some n.keys found.0 found.1 (inserts.0 found.0 ∙ or-first (is_member (eq_by_cmp R) s.keys found.0) (is_member (eq_by_cmp R) xs found.0) found.2)
+          )
       | inr new ↦ (
-        let found = some-member xs new in
-        member-some n.keys found.0 found.1 (inserts.0 found.0 ∙ or-second (is_member (eq_by_cmp R) s.keys found.0) (is_member (eq_by_cmp R) xs found.0) found.2)
-      )
+          let found = some-member xs new in
+          member-some n.keys found.0 found.1 (inserts.0 found.0 ∙ or-second (is_member (eq_by_cmp R) s.keys found.0) (is_member (eq_by_cmp R) xs found.0) found.2)
+          )
     ]),
   )
 

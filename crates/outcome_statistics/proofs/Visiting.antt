@@ -110,17 +110,17 @@ guests-put harts past e guests h actor next by is within are moves = record {
   many = length-set guests h next ∙ are.many;
   each = λ k d below. elim (cases_order k h) [
     | inl here ↦ (
-      let mine : is_hart k actor ≡ true = ap (is_hart k) is ∙ eq-eqb k h here in
-      subst (λ (n : ℕ). get_or (set guests h next) n d ≡ next) (sym here) (get_or-set_same guests h next d within) ∙ moves k below mine
-    )
+        let mine : is_hart k actor ≡ true = ap (is_hart k) is ∙ eq-eqb k h here in
+        subst (λ (n : ℕ). get_or (set guests h next) n d ≡ next) (sym here) (get_or-set_same guests h next d within) ∙ moves k below mine
+        )
     | inr (inl less) ↦ (
-      let apart : k ≢ h = λ same. absurd (omega arith) in
-      get_or-set_other guests h k next d apart ∙ are.each k d below ∙ spot-other past k e (ap (is_hart k) (by ∙ is) ∙ ne_eqb k h apart)
-    )
+        let apart : k ≢ h = λ same. absurd (omega arith) in
+        get_or-set_other guests h k next d apart ∙ are.each k d below ∙ spot-other past k e (ap (is_hart k) (by ∙ is) ∙ ne_eqb k h apart)
+        )
     | inr (inr more) ↦ (
-      let apart : k ≢ h = λ same. absurd (omega arith) in
-      get_or-set_other guests h k next d apart ∙ are.each k d below ∙ spot-other past k e (ap (is_hart k) (by ∙ is) ∙ ne_eqb k h apart)
-    )
+        let apart : k ≢ h = λ same. absurd (omega arith) in
+        get_or-set_other guests h k next d apart ∙ are.each k d below ∙ spot-other past k e (ap (is_hart k) (by ∙ is) ∙ ne_eqb k h apart)
+        )
   ];
 }
 
@@ -160,10 +160,13 @@ guest-moves harts past (Hart n) guest at h below mine =
 -- ---- entries and calls, event by event
 
 iff-kept : {P E : Type 0} → (E → ⊥) → P ↔ (P ⊎ E)
-iff-kept none = ((λ p. inl p), (λ either. elim either [
-  | inl p ↦ p
-  | inr e ↦ absurd (none e)
-]))
+iff-kept none = (
+  (λ p. inl p),
+  (λ either. elim either [
+    | inl p ↦ p
+    | inr e ↦ absurd (none e)
+  ]),
+)
 
 iff-by : {N P D E : Type 0} → N ↔ (P ⊎ D) → (D → E) → (E → D) → N ↔ (P ⊎ E)
 iff-by is to from = (
