@@ -6,7 +6,7 @@ from . import all_orders, programs
 from .expected_points import FEW, FEW_PAGES, said_of
 from .fixtures import NO_MEMORY, PROGRAM, TESTER, Test, allocating, example_programs, explored, must, read, shim, tester, told, told_of, write
 from .test_explore import ASKED, COUNTED, MESSAGE_PASSING, REBOOTS, STORE_BUFFERING, ends_told
-from .test_orders import FENCE, LOADS_AND_STORES, RACE, ROWS, SUSPENDED, WAKE, at_a_terminal
+from .test_orders import FAILING_CALLS, FAILING_LINES, FENCE, LOADS_AND_STORES, RACE, ROWS, SUSPENDED, WAKE, at_a_terminal
 
 SEEDS = ("--times", "1000")
 
@@ -164,6 +164,8 @@ class FewStates(Test):
         must(f"{lines}", are_all(lines) and odd(lines) == wanted and odd(told(self.room, text, *SEEDS)[1]) == wanted)
         _, lines = told(self.room, RACE.replace("store 0x80002000 0x1", "store 0x80002000 0x1 #! never 0 store"))
         must(f"{lines}", are_all(lines) and odd(lines) == ["# line 4: behind other words '#!' begins a comment, and no condition"])
+        _, lines = told(self.room, FAILING_CALLS)
+        must(f"{lines}", are_all(lines) and odd(lines) == FAILING_LINES)
         for text in (RACE, WAKE, SUSPENDED, FENCE, REBOOTS):
             must(text, oddities_told(told(self.room, text)[1]) == oddities_of(text) == set())
 

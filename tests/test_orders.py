@@ -53,6 +53,27 @@ wfi
 ecall 0x735049 0 0x2 0
 """
 
+# Each hart makes a call that always fails: behind a fence call that a `poll` ends, and behind the `serve` of that fence.
+FAILING_CALLS = """\
+board 2 2 100 0 0x80000000 0x0
+at 0x80000000
+ecall 0x48534d 0 1 0x80001000 0
+sie 0x2
+wfi
+clearssip
+ecall 0x52464e43 1 0x2 0
+ecall 0x735049 0 0x2 0
+ecall 0x48534d 0 9 0x80001000
+sip
+at 0x80001000
+sie 0x2
+ecall 0x735049 0 0x1 0
+wfi
+ecall 0x48534d 0 8 0x80001000
+sip
+"""
+FAILING_LINES = ["# line 9: each answer to 'ecall 0x48534d 0 9 0x80001000' was an error", "# line 15: each answer to 'ecall 0x48534d 0 8 0x80001000' was an error"]
+
 # Harts 1 and 2, which have told hart 0 that they run, are asked for a fence, and serve it in either order; hart 2 loads once at any of
 # seven places behind its IPI.
 FENCE = """\
@@ -511,6 +532,9 @@ class Orders(Test):
         must(f"{lines}", "# line 5: behind other words '#!' begins a comment, and no condition" in lines and status == 0 and "1..1" in lines)
         _, lines = told(self.room, "#! end quiet\n" + RACE, "--times", "50")
         must(f"{lines}", not [line for line in lines if line.startswith(("# line", "# a "))])
+        # (the firmware's steps are in no block)
+        _, lines = told(self.room, FAILING_CALLS, "--times", "50")
+        must(f"{lines}", [line for line in lines if line.startswith(("# line", "# a "))] == FAILING_LINES)
         # (a call that hart 0 makes well, and then hart 1 in vain)
         once = "#! end quiet\nboard 2 2 100 0 0x80001000 0x0\nat 0x80001000\necall 0x48534d 0 1 0x80001000 0\n"
         status, lines = told(self.room, once, "--times", "50")

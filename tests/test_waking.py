@@ -50,6 +50,12 @@ def rebooted(rest):
     return text(2 + OTHERS, 9_000, blocks)
 
 
+def crowded(rest):
+    """Hart 1 rests so, and hart 0 goes on until the history is full: its next step is refused, and that ends all rests."""
+    begins = [f"{HART_START} 1 {RESTS_AT:#x} 0", *WAITS]
+    return text(2 + OTHERS, 5_000, [(BOOT, [*begins, *["sip"] * 5_000]), (RESTS_AT, [*SAYS_SO, *rest]), (LATER, ["sip"])])
+
+
 # What a hart rests on, by name: what its guest does then.
 SLEEPS = {"suspended": [f"{SUSPEND} 0", "sip"], "suspended, to go on elsewhere": [f"{SUSPEND} 0x80000000 {LATER:#x} 0"], "at a wfi": ["wfi", "sip"]}
 TIMED = {name: [f"{SET_TIMER} {TICKS}", *rest] for name, rest in SLEEPS.items()}
@@ -76,6 +82,7 @@ ROWS = [
     ("a fence call", "a shutdown", pair(CALL, [f"{RESET} 0 0"]), "off"),
     ("a stop", "a start", pair([HART_STOP], [*DELAY, f"{HART_START} 1 {LATER:#x} 0"]), "quiet"),
     *[(name, "a reboot", rebooted(rest), "history-full") for name, rest in {**SLEEPS, "a block that is done": DONE, "a stop": [HART_STOP]}.items()],
+    *[(name, "a step that is refused", crowded(rest), "history-full") for name, rest in {**SLEEPS, "a block that is done": DONE, "a stop": [HART_STOP]}.items()],
     ("suspended", "an interrupt to two", crossing(SLEEPS["suspended"], SLEEPS["at a wfi"], [f"{SEND_IPI} 0x6 0"]), "quiet"),
     ("at a wfi", "an interrupt to one and then to another", crossing(SLEEPS["at a wfi"], SLEEPS["at a wfi"], [f"{SEND_IPI} 0x4 0", *DELAY, IPI]), "quiet"),
     ("a block that is done", "a fence of all", crossing(DONE, DONE, [f"{FENCE} 0 0xffffffffffffffff"]), "quiet"),

@@ -26,4 +26,4 @@ pub use names::Name;
 pub use patterns::Pattern;
 pub use reading::{Condition, conditions};
 pub use rules::{Ending, Rule, first_from, first_other_reply};
-pub use vacuity::{NeedsMet, vacuous_conditions_say_nothing};
+pub use vacuity::{NeedsMet, has_fitting, vacuous_conditions_say_nothing};

@@ -99,7 +99,7 @@ fn meets_second(rule: &Rule, events: &[Event]) -> bool
 }
 
 /// Whether some step has an actor and an operation that fit, whatever its reply.
-fn has_fitting(p: &Pattern, events: &[Event]) -> bool
+pub fn has_fitting(p: &Pattern, events: &[Event]) -> bool
     ensures { (result ≡ true) ↔ HasFitting p.now events.now }
 {
     for event in events {

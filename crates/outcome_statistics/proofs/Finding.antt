@@ -26,29 +26,29 @@ pub same-task : (program : Program) (content : Content) → (task_in program).gu
 same-task program content guests ticks = λ i. record { guests = guests i; ticks = ticks i }
 
 -- before any order
-pub found-none : (c : Config) (content : Content) (conditions : List Condition) (seed from : ℕ) (found : Findings) → AreFound conditions [] found → AreFoundOf c content conditions seed from from found
+pub found-none : (c : Config) (content : Content) (conditions : List Condition) (seed from : ℕ) (found : Findings) → AreFound c.harts conditions [] found → AreFoundOf c content conditions seed from from found
 found-none c content conditions seed from found none = ([], refl, none)
 
 -- one order more
-pub found-next : (c : Config) (content : Content) (conditions : List Condition) (seed from i : ℕ) (past : List Event) (end : End) (before after : Findings)
+pub found-next : (c : Config) (content : Content) (conditions : List Condition) (seed from i : ℕ) (past : List Event) (end : End) (before after : Findings) (harts : ℕ) → harts ≡ c.harts
     → IsTried c (task_of content) seed i past end
-    → ((tried : List Tried) (x : Tried) → x.number ≡ i → x.events ≡ reverse past → x.end ≡ ending end → AreFound conditions tried before → AreFound conditions (x ∷ tried) after)
+    → ((tried : List Tried) (x : Tried) → x.number ≡ i → x.events ≡ reverse past → x.end ≡ ending end → AreFound harts conditions tried before → AreFound harts conditions (x ∷ tried) after)
     → AreFoundOf c content conditions seed from i before → AreFoundOf c content conditions seed from (i + 1) after
-found-next c content conditions seed from i past end before after is sees found =
+found-next c content conditions seed from i past end before after harts same is sees found =
     let x : Tried = record { number = i; events = reverse past; end = ending end } in
     let P : List Event → Type 0 = λ xs. IsTried c (task_of content) seed i xs end in
     let order : IsOrder c content seed x = (end, refl, subst P (sym (reverse-reverse past)) is) in (
       x ∷ found.0,
       (refl, order, found.1),
-      sees found.0 x refl refl refl found.2,
+      subst (λ (n : ℕ). AreFound n conditions (x ∷ found.0) after) same (sees found.0 x refl refl refl (subst (λ (n : ℕ). AreFound n conditions found.0 before) (sym same) found.2)),
     )
 
 -- orders behind others
 pub found-both : (c : Config) (content : Content) (conditions : List Condition) (seed from mid to : ℕ) (one other both : Findings)
-    → ((asked : List Condition) (tried more : List Tried) → AreFound asked tried one → AreFound asked more other → AreFound asked (more ++ tried) both)
+    → ((harts : ℕ) (asked : List Condition) (tried more : List Tried) → AreFound harts asked tried one → AreFound harts asked more other → AreFound harts asked (more ++ tried) both)
     → AreFoundOf c content conditions seed from mid one → AreFoundOf c content conditions seed mid to other → AreFoundOf c content conditions seed from to both
 found-both c content conditions seed from mid to one other both adds here there = (
   there.0 ++ here.0,
   orders-behind c content seed from mid to here.0 there.0 here.1 there.1,
-  adds conditions here.0 there.0 here.2 there.2,
+  adds c.harts conditions here.0 there.0 here.2 there.2,
 )

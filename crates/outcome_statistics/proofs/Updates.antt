@@ -4,8 +4,8 @@ use Rattle.std.specs.Prelude.{Some, Result, Ok, Err, OnOk, slice_get}
 use Rattle.std.proofs.lemmas.Option.{slice_get-get_or}
 use Rattle.conditions.specs.declared.reading.Condition.{Condition}
 use Rattle.outcome_statistics.specs.declared.findings.Judged.{Judged}
-use Rattle.outcome_statistics.specs.Records.{IsSo, Tells, Tried}
-use Rattle.outcome_statistics.specs.Findings.{EachTells}
+use Rattle.outcome_statistics.specs.Records.{Tried}
+use Rattle.outcome_statistics.specs.Findings.{EachTells, IsFoundFor}
 
 set-cases : {A : Type 0} (xs : List A) (i k : ℕ) (v j : A) → i < length xs → slice_get (set xs i v) k ≡ Some j → ((k ≡ i) × (j ≡ v)) ⊎ ((k ≢ i) × (slice_get xs k ≡ Some j))
 set-cases [] i k v j within at = absurd (omega arith)
@@ -35,14 +35,18 @@ kept-next xs ys i v within before k j above at = elim (set-cases xs i k v j with
 -- The tallies of conditions, one by one: of one that tells of these records is made one that tells of those.
 pub tally-next : (conditions : List Condition) (judged before : List Judged) (i : ℕ) (d v : Judged) (tried after : List Tried) → i < length judged → EachTells conditions tried before
     → ((k : ℕ) (j : Judged) → i ≤ k → slice_get judged k ≡ Some j → slice_get before k ≡ Some j)
-    → ((c : Condition) → slice_get conditions i ≡ Some c → Tells (IsSo (Some c.rule)) tried (get_or judged i d).tally → Tells (IsSo (Some c.rule)) after v.tally)
-    → ((k : ℕ) (j : Judged) → k < i → slice_get judged k ≡ Some j → (c : Condition) → slice_get conditions k ≡ Some c → Tells (IsSo (Some c.rule)) after j.tally)
-    → (k : ℕ) (j : Judged) → k < i + 1 → slice_get (set judged i v) k ≡ Some j → (c : Condition) → slice_get conditions k ≡ Some c → Tells (IsSo (Some c.rule)) after j.tally
+    → ((c : Condition) → slice_get conditions i ≡ Some c → IsFoundFor c.rule tried (get_or judged i d) → IsFoundFor c.rule after v)
+    → ((k : ℕ) (j : Judged) → k < i → slice_get judged k ≡ Some j → (c : Condition) → slice_get conditions k ≡ Some c → IsFoundFor c.rule after j)
+    → (k : ℕ) (j : Judged) → k < i + 1 → slice_get (set judged i v) k ≡ Some j → (c : Condition) → slice_get conditions k ≡ Some c → IsFoundFor c.rule after j
 tally-next conditions judged before i d v tried after within each kept step told =
-    let P : ℕ → Judged → Type 0 = λ k j. (c : Condition) → slice_get conditions k ≡ Some c → Tells (IsSo (Some c.rule)) after j.tally in
+    let P : ℕ → Judged → Type 0 = λ k j. (c : Condition) → slice_get conditions k ≡ Some c → IsFoundFor c.rule after j in
     let here : slice_get judged i ≡ Some (get_or judged i d) = slice_get-get_or judged i d within in
     told-next P judged i v within (λ c asked. step c asked (each i c (get_or judged i d) asked (kept i (get_or judged i d) (omega arith) here))) told
 
-pub on-ok : {T E : Type 0} (found : Result T E) (P : Type 0) → P → OnOk found P
-on-ok (Ok x) P holds = holds
-on-ok (Err e) P holds = tt
+pub on-ok-by : {T E : Type 0} (found : Result T E) (Q P : Type 0) → OnOk found Q → (Q → P) → OnOk found P
+on-ok-by (Ok x) Q P has then = then has
+on-ok-by (Err e) Q P has then = tt
+
+pub on-ok-any : {T E : Type 0} (found : Result T E) (P : Type 0) → P → OnOk found P
+on-ok-any (Ok x) P holds = holds
+on-ok-any (Err e) P holds = tt

@@ -4,6 +4,7 @@ use Rattle.board_terms.specs.declared.config.Config.{Config}
 use Rattle.conditions.specs.declared.reading.Condition.{Condition}
 use Rattle.conditions.specs.declared.rules.Ending.{Ending}
 use Rattle.conditions.specs.declared.rules.Ending.TheVariants as endings
+use Rattle.conditions.specs.declared.rules.Rule.{Rule}
 use Rattle.conditions.specs.Endings.{ending}
 use Rattle.guest_script.specs.Grammar.{Content}
 use Rattle.guest_programs.specs.declared.ends.End.{End}
@@ -12,7 +13,9 @@ use Rattle.guest_programs.specs.Steps.{task_of}
 use Rattle.outcome_statistics.specs.declared.ends.Ends.{Ends}
 use Rattle.outcome_statistics.specs.declared.findings.Findings.{Findings}
 use Rattle.outcome_statistics.specs.declared.findings.Judged.{Judged}
+use Rattle.outcome_statistics.specs.Met.{AreNeedsMet}
 use Rattle.outcome_statistics.specs.Records.{IsCounted, IsSo, Tells, Tried}
+use Rattle.outcome_statistics.specs.Visits.{AreRecords, AreVisited}
 
 -- n of these records ended in this way (counted up to 2^64-1).
 abbrev pub HaveEnded : Ending → List Tried → ℕ → Type 0
@@ -25,19 +28,29 @@ pub record AreEnded (tried : List Tried) (ends : Ends) : Type 0 where
   pub quiet : HaveEnded endings.Quiet tried ends.quiet
   pub stuck : HaveEnded endings.Stuck tried ends.stuck
 
--- Each condition's tally counts these records by that condition.
+-- How many ended in one of these ways (counted up to 2^64-1).
+abbrev pub HaveSomeEnd : List Tried → ℕ → Type 0
+HaveSomeEnd tried n = IsCounted (λ x. x.end ≢ None) (λ x. x.end ≡ None) tried n
+
+-- What is found of a condition: its tally, and which of the steps that it needs were met in some record.
+abbrev pub IsFoundFor : Rule → List Tried → Judged → Type 0
+IsFoundFor rule tried j = Tells (IsSo (Some rule)) tried j.tally × AreNeedsMet rule tried j.met
+
+-- For each condition, what is found is right for these records.
 abbrev pub EachTells : List Condition → List Tried → List Judged → Type 0
 EachTells conditions tried judged =
     (k : ℕ) (c : Condition) (j : Judged) → slice_get conditions k ≡ Some c → slice_get judged k ≡ Some j
-    → Tells (IsSo (Some c.rule)) tried j.tally
+    → IsFoundFor c.rule tried j
 
--- The findings are right for these records: a tally for each condition, one for records that don't end stuck, and how many ended
--- in each way. Nothing is said here of the needed steps that were met, of the different records, and of visits.
-pub record AreFound (conditions : List Condition) (tried : List Tried) (found : Findings) : Type 0 where
+-- The findings are right for these records, of a board of this many harts: what is found of each condition, a tally for records that
+-- don't end stuck, how many ended in each way, the different records, and what guests met.
+pub record AreFound (harts : ℕ) (conditions : List Condition) (tried : List Tried) (found : Findings) : Type 0 where
   pub many : length found.judged.items ≡ length conditions
   pub each : EachTells conditions tried found.judged.items
   pub well : Tells (IsSo None) tried found.well
   pub ends : AreEnded tried found.ends
+  pub records : AreRecords tried found.records
+  pub visits : AreVisited harts tried found.visits
 
 -- The record, with its end, is that of the order that the seed and its number pick.
 abbrev pub IsOrder : Config → Content → (seed : ℕ) → Tried → Type 0
@@ -53,4 +66,4 @@ AreOrders c content seed from (x ∷ tried) to =
 -- The findings are right for the program's orders with the numbers from `from` to below `to`, each tried once.
 abbrev pub AreFoundOf : Config → Content → List Condition → (seed from to : ℕ) → Findings → Type 0
 AreFoundOf c content conditions seed from to found =
-    (tried : List Tried) × AreOrders c content seed from tried to × AreFound conditions tried found
+    (tried : List Tried) × AreOrders c content seed from tried to × AreFound c.harts conditions tried found

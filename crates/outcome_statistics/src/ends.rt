@@ -3,7 +3,7 @@ ghost use Rattle.std.specs.Prelude.{◌≡◌, ◌↔◌, ◌∷◌, ◌++◌, L
 ghost use Rattle.conditions.specs.declared.rules.Ending.{Ending as HowEnded};
 ghost use Rattle.conditions.specs.Endings.{ending};
 ghost use Rattle.outcome_statistics.specs.Records.{Tried};
-ghost use Rattle.outcome_statistics.specs.Findings.{AreEnded, HaveEnded};
+ghost use Rattle.outcome_statistics.specs.Findings.{AreEnded, HaveEnded, HaveSomeEnd};
 ghost use Rattle.outcome_statistics.specs.Judgements.{NoneEnded};
 
 use guest_programs::End;
@@ -63,8 +63,10 @@ impl Ends {
         self.off > 0 || self.quiet > 0 || self.stuck > 0
     }
 
-    /// How many orders were tried.
-    pub fn orders(&self) -> u64 {
+    /// How many orders were tried, counted up to 2^64-1.
+    pub fn orders(&self) -> u64
+        ensures { (tried : List Tried) → AreEnded tried self.now → HaveSomeEnd tried result }
+    {
         self.off
             .saturating_add(self.full)
             .saturating_add(self.quiet)

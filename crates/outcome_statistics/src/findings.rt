@@ -1,5 +1,5 @@
 //! Findings about many orders.
-ghost use Rattle.std.specs.Prelude.{◌≡◌, ◌∷◌, ◌++◌, List, [], IfOk, OnOk, length, reverse};
+ghost use Rattle.std.specs.Prelude.{◌≡◌, ◌∷◌, ◌++◌, ℕ, List, [], IfOk, OnOk, length, reverse};
 ghost use Rattle.conditions.specs.declared.reading.Condition.{Condition as Asked};
 ghost use Rattle.conditions.specs.Endings.{ending};
 ghost use Rattle.outcome_statistics.specs.Records.{Tried};
@@ -47,7 +47,8 @@ impl Findings {
     ///
     /// Memory was refused.
     pub fn new(alloc: Global, conditions: usize) -> Result<Findings, AllocError>
-        ensures { IfOk result (λ found. (asked : List Asked) → length asked ≡ conditions → AreFound asked [] found) }
+        ensures { IfOk result (λ found. (harts : ℕ) (asked : List Asked) → length asked ≡ conditions
+            → AreFound harts asked [] found) }
     {
         let none = Judged {
             tally: Tally::new(),
@@ -79,7 +80,8 @@ impl Findings {
         ensures many { length self.new.judged.items ≡ length conditions.now }
         ensures found { OnOk result ((tried : List Tried) (x : Tried) → x.number ≡ number
             → x.events ≡ reverse board.now.past → x.end ≡ ending end
-            → AreFound conditions.now tried self.old → AreFound conditions.now (x ∷ tried) self.new) }
+            → AreFound board.now.opening.config.harts conditions.now tried self.old
+            → AreFound board.now.opening.config.harts conditions.now (x ∷ tried) self.new) }
     {
         let events = board.history();
         judge_each(conditions, &mut self.judged, number, events, ending(end));
@@ -98,8 +100,9 @@ impl Findings {
     ///
     /// Memory was refused.
     pub fn add(&mut self, mut later: Findings) -> Result<(), AllocError>
-        ensures { OnOk result ((asked : List Asked) (tried more : List Tried) → AreFound asked tried self.old
-            → AreFound asked more later → AreFound asked (more ++ tried) self.new) }
+        ensures { OnOk result ((harts : ℕ) (asked : List Asked) (tried more : List Tried)
+            → AreFound harts asked tried self.old → AreFound harts asked more later
+            → AreFound harts asked (more ++ tried) self.new) }
     {
         add_each(&mut self.judged, &later.judged);
         self.well.add(later.well);

@@ -94,7 +94,7 @@ fn joined(
     mut found: Findings,
     all: Vec<Result<Findings, RunFault>>,
 ) -> Result<Findings, RunFault>
-    requires none { AreFound batch.now.conditions.now [] found }
+    requires none { AreFound batch.now.script.now.config.harts batch.now.conditions.now [] found }
     requires up { batch.now.from ≤ batch.now.to }
     requires whole { batch.now.to - batch.now.from < length all.items * share }
     requires shares { AreShares batch.now.script.now.config (content batch.now.script.now.body) batch.now.conditions.now

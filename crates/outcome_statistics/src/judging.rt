@@ -1,10 +1,12 @@
 //! A record, judged by a condition.
-ghost use Rattle.std.specs.Prelude.{◌≡◌, ◌↔◌, ◌∷◌, List, Some, true};
+ghost use Rattle.std.specs.Prelude.{◌≡◌, ◌↔◌, ◌∷◌, List, MatchOption, Some, true};
+ghost use Rattle.conditions.specs.declared.rules.Rule.TheVariants.{NeverAfter};
+ghost use Rattle.outcome_statistics.specs.Failing.{IsFailingStep, IsLast};
 ghost use Rattle.outcome_statistics.specs.Records.{IsSo, IsSpared, Meets, Tells, Tried};
 
 use crate::tally::Tally;
 use board_core::Event;
-use conditions::{Ending, Rule, first_from, first_other_reply};
+use conditions::{Ending, Pattern, Rule, first_from, first_other_reply};
 
 /// Judges a record of this number by a condition.
 pub fn judge(rule: &Rule, tally: &mut Tally, number: u64, events: &[Event], end: Option<Ending>)
@@ -37,16 +39,49 @@ fn is_spared(rule: &Rule, end: Option<Ending>) -> bool
     }
 }
 
-/// The place of the step at which a record fails a condition: for `end` the last; for `some` and `can end` there is none.
-pub fn failing_step(rule: Option<&Rule>, events: &[Event]) -> Option<usize> {
+/// The place of the first step with which a record fails a condition: for `before` the first that its second pattern matches, for
+/// `end` and without a condition the last; for `some` and `can end` there is none.
+pub fn failing_step(rule: Option<&Rule>, events: &[Event]) -> Option<usize>
+    ensures { MatchOption rule.entry (IsLast events.now result) (λ asked. IsFailingStep asked.now events.now result) }
+{
     match rule {
-        Some(Rule::Never(p)) => first_from(p, events, 0),
-        Some(Rule::NeverAfter(p, q)) => {
-            first_from(p, events, first_from(q, events, 0)?.saturating_add(1))
-        }
-        Some(Rule::Each(p)) => first_other_reply(p, events),
-        Some(Rule::Before(_, q)) => first_from(q, events, 0),
-        Some(Rule::OfSome(_) | Rule::CanEnd(_)) => None,
-        Some(Rule::End(_)) | None => events.len().checked_sub(1),
+        Some(rule) => failing_step_of(rule, events),
+        None => last_place(events),
+    }
+}
+
+/// The same for a condition.
+fn failing_step_of(rule: &Rule, events: &[Event]) -> Option<usize>
+    ensures { IsFailingStep rule.now events.now result }
+{
+    match rule {
+        Rule::Never(p) => first_from(p, events, 0),
+        Rule::NeverAfter(p, q) => failing_after(p, q, events),
+        Rule::Each(p) => first_other_reply(p, events),
+        Rule::Before(_, q) => first_from(q, events, 0),
+        Rule::OfSome(_) => None,
+        Rule::CanEnd(_) => None,
+        Rule::End(_) => last_place(events),
+    }
+}
+
+/// The place of the first step that P matches and that comes later than one that Q matches.
+fn failing_after(p: &Pattern, q: &Pattern, events: &[Event]) -> Option<usize>
+    ensures { IsFailingStep (NeverAfter p.now q.now) events.now result }
+{
+    match first_from(q, events, 0) {
+        Some(first) => first_from(p, events, first + 1),
+        None => None,
+    }
+}
+
+/// The place of the last step, if there is one.
+fn last_place(events: &[Event]) -> Option<usize>
+    ensures { IsLast events.now result }
+{
+    if events.is_empty() {
+        None
+    } else {
+        Some(events.len() - 1)
     }
 }

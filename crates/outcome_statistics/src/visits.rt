@@ -1,4 +1,12 @@
 //! Which entries, blocks and calls guests met.
+ghost use Rattle.std.specs.Prelude.{◌≡◌, ◌↔◌, ◌<◌, ◌∷◌, ◌++◌, [], ℕ, List, OnOk, IfOk, Some, None, length, replicate, reverse, true};
+ghost use Rattle.board_core.specs.Course.{is_hart};
+ghost use Rattle.board_core.specs.ErrorLaw.{is_error};
+ghost use Rattle.board_core.specs.History.{Event as Step};
+ghost use Rattle.outcome_statistics.specs.Records.{Tried};
+ghost use Rattle.outcome_statistics.specs.Visits.{AreVisited, Calls, Enters, HasKey, IsCallAt, IsWith, entry_at, is_call, place_behind, spot_at, spot_of};
+ghost use Rattle.outcome_statistics.specs.Inside.Guests.{AreGuests};
+
 use board_core::{Actor, Event, Op, Reply};
 use guest_programs::is_guest;
 use std::alloc::{AllocError, Global};
@@ -49,18 +57,23 @@ impl Deed {
 pub struct Visits {
     /// The addresses at which harts were entered.
     pub entered: BTreeSet<u64>,
-    /// The calls that were answered, each with whether some answer was no error.
-    pub calls: BTreeMap<Spot, bool>,
+    /// The calls of which some answer was no error.
+    pub answered: BTreeSet<Spot>,
+    /// The calls of which some answer was an error.
+    pub failed: BTreeSet<Spot>,
     /// The different steps, each with one event, of orders without a step that a condition needs.
     pub deeds: BTreeMap<Deed, Event>,
 }
 
 impl Visits {
     /// Before any order was tried.
-    pub fn new(alloc: Global) -> Visits {
+    pub fn new(alloc: Global) -> Visits
+        ensures { (harts : ℕ) → AreVisited harts [] result }
+    {
         Visits {
             entered: BTreeSet::new(alloc),
-            calls: BTreeMap::new(alloc),
+            answered: BTreeSet::new(alloc),
+            failed: BTreeSet::new(alloc),
             deeds: BTreeMap::new(alloc),
         }
     }
@@ -76,41 +89,24 @@ impl Visits {
         harts: u64,
         events: &[Event],
         with_deeds: bool,
-    ) -> Result<(), AllocError> {
+    ) -> Result<(), AllocError>
+        ensures { OnOk result (IsWith (Enters (reverse events.now)) (Calls harts (reverse events.now)) self.old self.new) }
+    {
+        self.see_steps(alloc, harts, events)?;
         if with_deeds {
-            self.see_deeds(alloc, harts, events)?;
-        }
-        let mut guests: Vec<Option<Spot>> = vec![in alloc; None; harts as usize]?;
-        for event in events {
-            if let Actor::Hart(h) = event.actor()
-                && let Some(guest) = guests.get(h as usize)
-            {
-                let next = self.see_step(*guest, event)?;
-                if (h as usize) < guests.len() {
-                    guests[h as usize] = next;
-                }
-            }
+            see_deeds(&mut self.deeds, alloc, harts, events)?;
         }
         Ok(())
     }
 
-    /// Adds the different steps of an order of this many harts.
-    ///
-    /// # Errors
-    ///
-    /// Memory was refused.
-    fn see_deeds(&mut self, alloc: Global, harts: u64, events: &[Event]) -> Result<(), AllocError> {
-        let mut guests: Vec<Option<Spot>> = vec![in alloc; None; harts as usize]?;
+    /// Adds the entries and calls of an order of this many harts.
+    fn see_steps(&mut self, alloc: Global, harts: u64, events: &[Event]) -> Result<(), AllocError>
+        ensures { OnOk result (IsWith (Enters (reverse events.now)) (Calls harts (reverse events.now)) self.old self.new) }
+    {
+        let mut guests = nowhere(alloc, harts)?;
         for event in events {
-            let Actor::Hart(h) = event.actor() else {
-                self.see_deed(None, event)?;
-                continue;
-            };
-            let guest = guests.get(h as usize).copied().flatten();
-            self.see_deed(guest, event)?;
-            if (h as usize) < guests.len() {
-                guests[h as usize] = guest_after(guest, event);
-            }
+            let next = self.see_step(guest_of(&guests, event.actor()), event)?;
+            put_guest(&mut guests, event.actor(), next);
         }
         Ok(())
     }
@@ -121,11 +117,7 @@ impl Visits {
     ///
     /// Memory was refused.
     pub fn see_deed(&mut self, guest: Option<Spot>, event: &Event) -> Result<(), AllocError> {
-        let deed = Deed::of(guest, event);
-        if !self.deeds.contains_key(&deed) {
-            self.deeds.insert(deed, *event)?;
-        }
-        Ok(())
+        see_deed(&mut self.deeds, guest, event)
     }
 
     /// Adds a step of a hart whose guest was at this place, if in a block. Returns the guest's place after it.
@@ -137,26 +129,53 @@ impl Visits {
         &mut self,
         guest: Option<Spot>,
         event: &Event,
-    ) -> Result<Option<Spot>, AllocError> {
-        if let Reply::Entry { addr, .. } = event.reply() {
-            self.entered.insert(addr)?;
-        }
-        if let Some(spot) = guest
-            && let Op::Ecall(_) = event.op()
-        {
-            self.see_call(spot, !is_error(event.reply()))?;
-        }
+    ) -> Result<Option<Spot>, AllocError>
+        ensures next { IfOk result (λ next. (past : List Step) (h : ℕ) → is_hart h event.now.actor ≡ true
+            → guest ≡ spot_of past h → next ≡ spot_of (event.now ∷ past) h) }
+        ensures seen { OnOk result
+            (IsWith (λ addr. entry_at event.now.reply ≡ Some addr) (IsCallAt guest event.now) self.old self.new) }
+    {
+        self.see_entry(event.reply())?;
+        self.see_call(guest, event)?;
         Ok(guest_after(guest, event))
     }
 
-    /// Adds a call's answer.
-    fn see_call(&mut self, spot: Spot, is_good: bool) -> Result<(), AllocError> {
-        if let Some(good) = self.calls.get_mut(&spot) {
-            *good = *good || is_good;
+    /// Adds the address at which a reply enters a hart.
+    fn see_entry(&mut self, reply: Reply) -> Result<(), AllocError>
+        ensures { OnOk result (IsWith (λ addr. entry_at reply ≡ Some addr) (λ spot fails. ⊥) self.old self.new) }
+    {
+        match entry_at(reply) {
+            Some(addr) => {
+                self.entered.insert(addr)?;
+                Ok(())
+            }
+            None => Ok(()),
+        }
+    }
+
+    /// Adds a call of a guest at this place, if the step is one.
+    fn see_call(&mut self, guest: Option<Spot>, event: &Event) -> Result<(), AllocError>
+        ensures { OnOk result (IsWith (λ addr. ⊥) (IsCallAt guest event.now) self.old self.new) }
+    {
+        let Some(spot) = guest else {
+            return Ok(());
+        };
+        if !is_call(event.op()) {
             return Ok(());
         }
-        self.calls.insert(spot, is_good)?;
+        if is_error(event.reply()) {
+            self.failed.insert(spot)?;
+            return Ok(());
+        }
+        self.answered.insert(spot)?;
         Ok(())
+    }
+
+    /// Whether a call was answered, each time with an error.
+    pub fn is_only_failed(&self, spot: &Spot) -> bool
+        ensures { (result ≡ true) ↔ (HasKey self.now.failed.keys spot.now × ¬ HasKey self.now.answered.keys spot.now) }
+    {
+        self.failed.contains(spot) && !self.answered.contains(spot)
     }
 
     /// Adds what other orders met.
@@ -164,32 +183,149 @@ impl Visits {
     /// # Errors
     ///
     /// Memory was refused.
-    pub fn add(&mut self, later: &mut Visits) -> Result<(), AllocError> {
+    pub fn add(&mut self, later: &mut Visits) -> Result<(), AllocError>
+        ensures { OnOk result ((harts : ℕ) (tried more : List Tried) → AreVisited harts tried self.old
+            → AreVisited harts more later.old → AreVisited harts (more ++ tried) self.new) }
+    {
         self.entered.append(&mut later.entered)?;
-        self.deeds.append(&mut later.deeds)?;
-        for (spot, is_good) in later.calls.iter() {
-            self.see_call(*spot, *is_good)?;
+        self.answered.append(&mut later.answered)?;
+        self.failed.append(&mut later.failed)?;
+        self.deeds.append(&mut later.deeds)
+    }
+}
+
+/// Adds the different steps of an order of this many harts.
+///
+/// # Errors
+///
+/// Memory was refused.
+fn see_deeds(
+    deeds: &mut BTreeMap<Deed, Event>,
+    alloc: Global,
+    harts: u64,
+    events: &[Event],
+) -> Result<(), AllocError> {
+    let mut guests = nowhere(alloc, harts)?;
+    for event in events {
+        let guest = guest_of(&guests, event.actor());
+        see_deed(deeds, guest, event)?;
+        put_guest(&mut guests, event.actor(), guest_after(guest, event));
+    }
+    Ok(())
+}
+
+/// Adds a step that was made while its hart's guest was at this place.
+///
+/// # Errors
+///
+/// Memory was refused.
+fn see_deed(
+    deeds: &mut BTreeMap<Deed, Event>,
+    guest: Option<Spot>,
+    event: &Event,
+) -> Result<(), AllocError> {
+    let deed = Deed::of(guest, event);
+    if !deeds.contains_key(&deed) {
+        deeds.insert(deed, *event)?;
+    }
+    Ok(())
+}
+
+/// The places of the guests of this many harts that weren't entered yet.
+fn nowhere(alloc: Global, harts: u64) -> Result<Vec<Option<Spot>>, AllocError>
+    ensures { IfOk result (λ guests. guests.items ≡ replicate harts None) }
+{
+    let mut guests = Vec::with_capacity(alloc, harts as usize)?;
+    for _ in 0..harts {
+        guests.push(None)?;
+    }
+    Ok(guests)
+}
+
+/// The place of the guest of an event's hart, if it is in a block.
+fn guest_of(guests: &[Option<Spot>], actor: Actor) -> Option<Spot>
+    ensures { (harts : ℕ) (past : List Step) → AreGuests harts past guests.now → result ≡ spot_at harts past actor }
+{
+    match actor {
+        Actor::Hart(h) => {
+            if h < guests.len() as u64 {
+                guests[h as usize]
+            } else {
+                None
+            }
         }
-        Ok(())
+        Actor::Clock => None,
+    }
+}
+
+/// The guest of an event's hart is at this place now.
+fn put_guest(guests: &mut [Option<Spot>], actor: Actor, next: Option<Spot>)
+    ensures many { length guests.new ≡ length guests.old }
+    ensures at { (harts : ℕ) (past : List Step) (e : Step) → e.actor ≡ actor → AreGuests harts past guests.old
+        → ((h : ℕ) → h < harts → is_hart h actor ≡ true → next ≡ spot_of (e ∷ past) h)
+        → AreGuests harts (e ∷ past) guests.new }
+{
+    match actor {
+        Actor::Hart(h) => {
+            if h < guests.len() as u64 {
+                guests[h as usize] = next;
+            }
+        }
+        Actor::Clock => {}
     }
 }
 
 /// Where a guest is after a step of its hart.
-fn guest_after(guest: Option<Spot>, event: &Event) -> Option<Spot> {
-    if let Reply::Entry { addr, .. } = event.reply() {
-        return Some(Spot { addr, before: 0 });
+fn guest_after(guest: Option<Spot>, event: &Event) -> Option<Spot>
+    ensures { (past : List Step) (h : ℕ) → is_hart h event.now.actor ≡ true → guest ≡ spot_of past h
+        → result ≡ spot_of (event.now ∷ past) h }
+{
+    match entry_at(event.reply()) {
+        Some(addr) => Some(Spot { addr, before: 0 }),
+        None => {
+            if is_guest(event.op()) {
+                behind(guest)
+            } else {
+                guest
+            }
+        }
     }
+}
+
+/// The place behind an operation of a guest.
+fn behind(guest: Option<Spot>) -> Option<Spot>
+    ensures { result ≡ place_behind guest }
+{
     let spot = guest?;
-    if !is_guest(event.op()) {
-        return guest;
-    }
     Some(Spot {
         addr: spot.addr,
         before: spot.before.saturating_add(1),
     })
 }
 
+/// The address at which a reply enters a hart.
+fn entry_at(reply: Reply) -> Option<u64>
+    ensures { result ≡ entry_at reply }
+{
+    match reply {
+        Reply::Entry { addr, .. } => Some(addr),
+        _ => None,
+    }
+}
+
+/// Whether an operation is a call.
+fn is_call(op: Op) -> bool
+    ensures { result ≡ is_call op }
+{
+    matches!(op, Op::Ecall(_))
+}
+
 /// Whether a reply is a call's error.
-fn is_error(reply: Reply) -> bool {
-    matches!(reply, Reply::Ret(found) if found.error != 0)
+fn is_error(reply: Reply) -> bool
+    ensures { result ≡ is_error reply }
+{
+    match reply {
+        Reply::Ret(found) => found.error != 0,
+        _ => false,
+    }
 }

@@ -62,7 +62,7 @@ impl Reading<'_> {
         let Some(spot) = self.at else {
             return Ok(());
         };
-        if self.visits.calls.get(&spot) == Some(&false) {
+        if self.visits.is_only_failed(&spot) {
             let said = String::from_str(alloc, said(str::from_utf8(text).unwrap_or("")))?;
             self.odd.push(Note::OnlyErrors(line, said))?;
         }

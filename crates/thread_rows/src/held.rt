@@ -76,6 +76,15 @@ pub fn clocks_gate<R: AllocGlobal + Print + Threads + Wait + Sync>(rt: &R) -> io
     show(rt, "clocks_gate", scripts::TICKING, &gate)
 }
 
+/// Hart 0 does its first `sip` after harts 1 and 2 have set their deadlines, and the clock ticks first after hundreds of those.
+pub fn clock_after_rests() -> [Hold; 3] {
+    [
+        hold(turn(0, 3), turn(1, 2)),
+        hold(turn(0, 4), turn(2, 2)),
+        hold(turn(3, 0), turn(0, 1000)),
+    ]
+}
+
 /// A closed gate comes before the power, and before a full history: the clock's gate closes for its first tick.
 pub fn closed_gate_comes_first<R: AllocGlobal + Print + Threads + Wait + Sync>(
     rt: &R,

@@ -9,8 +9,9 @@ mod scripts;
 mod seen;
 mod shown;
 
+use crate::gates::Holding;
 use crate::shown::show;
-use hart_threads::{Open, RunFault};
+use hart_threads::{Gate, Open, RunFault};
 use std::alloc::{AllocError, Global};
 use std::io;
 use std::sync::Wait;
@@ -50,24 +51,43 @@ fn ends<R: AllocGlobal + Print + Threads + Wait + Sync>(rt: &R) -> io::Result<()
 
 /// A clock does all of three thousand ticks, or as many as there is room for beside a hart that is through.
 fn many_ticks<R: AllocGlobal + Print + Threads + Wait + Sync>(rt: &R) -> io::Result<()> {
-    show_ticks(rt, "many_ticks", scripts::CLOCK, (3000, scripts::TICK))?;
-    show_ticks(
+    let lines = (3000, scripts::TICK);
+    show_with(rt, "many_ticks", scripts::CLOCK, lines, &Open)?;
+    let lines = (3000, scripts::NO_TIME);
+    show_with(
         rt,
         "clocks_full_history",
         scripts::SHORT_CLOCK,
-        (3000, scripts::NO_TIME),
+        lines,
+        &Open,
+    )?;
+    rests_before_the_clock(rt)
+}
+
+/// Harts rest until a deadline, and meanwhile the clock is held back from its first tick, which wakes all of them.
+fn rests_before_the_clock<R: AllocGlobal + Print + Threads + Wait + Sync>(
+    rt: &R,
+) -> io::Result<()> {
+    let holds = held::clock_after_rests();
+    show_with(
+        rt,
+        "rests_before_the_clock",
+        scripts::RESTING,
+        (2000, scripts::SIP),
+        &Holding::new(&holds, None),
     )
 }
 
 /// Runs a script with a line added this often.
-fn show_ticks<R: AllocGlobal + Print + Threads + Wait + Sync>(
+fn show_with<G: Gate + Sync, R: AllocGlobal + Print + Threads + Wait + Sync>(
     rt: &R,
     name: &str,
     head: &[u8],
-    ticks: (u64, &[u8]),
+    lines: (u64, &[u8]),
+    gate: &G,
 ) -> io::Result<()> {
-    match with_lines(rt.alloc(), head, ticks) {
-        Ok(text) => show(rt, name, &text, &Open),
+    match with_lines(rt.alloc(), head, lines) {
+        Ok(text) => show(rt, name, &text, gate),
         Err(_) => println!(rt; "{name}: no memory"),
     }
 }

@@ -180,3 +180,20 @@ pub const TICK: &[u8] = b"tick 1\n";
 
 /// A tick in which no time passes.
 pub const NO_TIME: &[u8] = b"tick 0\n";
+
+/// Harts 1 and 2 wait for a deadline, which the clock's first tick reaches. Hart 0 starts them; its block goes on.
+pub const RESTING: &[u8] = b"board 3 2 5000 0 0x80000000 0x0
+clock
+tick 5
+at 0x80001000
+sie 0x20
+ecall 0x54494d45 0 5
+wfi
+sip
+at 0x80000000
+ecall 0x48534d 0 1 0x80001000 0
+ecall 0x48534d 0 2 0x80001000 0
+";
+
+/// A hart reads sip.
+pub const SIP: &[u8] = b"sip\n";

@@ -3,6 +3,7 @@ use Rattle.std.specs.Prelude.{Some}
 use Rattle.std.proofs.lemmas.List.{length-set}
 use Rattle.std.proofs.lemmas.Option.{slice_get-get_or, slice_get_within}
 use Rattle.outcome_statistics.specs.declared.findings.Judged.{Judged}
+use Rattle.outcome_statistics.proofs.Meeting.{are-met-both}
 use Rattle.outcome_statistics.proofs.Updates.{kept-next, tally-next}
 use Rattle.outcome_statistics.proofs.findings.add_each.Goals as goal
 
@@ -16,7 +17,11 @@ loop-i-preserved c =
       length-set at.judged at.i v ∙ many,
       (λ asked tried more here there.
           tally-next asked at.judged c.args.judged.now at.i _ v tried (more ++ tried) (grind arith) here at.invariant.2
-          (λ k is told. c.add.ensures (Some k.rule) tried more told (there at.i k _ is (slice_get-get_or c.args.later.now at.i _ (grind arith))))
+          (λ k is told.
+          let other = there at.i k _ is (slice_get-get_or c.args.later.now at.i _ (grind arith)) in (
+            c.add.ensures (Some k.rule) tried more told.0 other.0,
+            are-met-both k.rule more tried _ _ _ c.add-in-loop-i.ensures.first c.add-in-loop-i.ensures.second told.1 other.1,
+          ))
           (at.invariant.1 asked tried more here there)),
       kept-next at.judged c.args.judged.now at.i v (grind arith) at.invariant.2,
     )

@@ -2,13 +2,13 @@ use Rattle.std.proofs.Common.{◌≡◌, ℕ, ◌<◌, ◌≤◌, List, ◌++◌
 use Rattle.std.specs.Prelude.{Some, slice_get}
 use Rattle.conditions.specs.declared.reading.Condition.{Condition}
 use Rattle.outcome_statistics.specs.declared.findings.Judged.{Judged}
-use Rattle.outcome_statistics.specs.Findings.{EachTells}
-use Rattle.outcome_statistics.specs.Records.{IsSo, Tells, Tried}
+use Rattle.outcome_statistics.specs.Findings.{EachTells, IsFoundFor}
+use Rattle.outcome_statistics.specs.Records.{Tried}
 use Rattle.outcome_statistics.proofs.findings.add_each.Given as goal
 
 abbrev pub invariant-loop-i : goal.invariant-loop-i
 invariant-loop-i l =
     (length l.judged ≡ length l.initial.judged)
     × ((asked : List Condition) (tried more : List Tried) → EachTells asked tried l.initial.judged → EachTells asked more l.later
-    → (k : ℕ) (j : Judged) → k < l.i → slice_get l.judged k ≡ Some j → (c : Condition) → slice_get asked k ≡ Some c → Tells (IsSo (Some c.rule)) (more ++ tried) j.tally)
+    → (k : ℕ) (j : Judged) → k < l.i → slice_get l.judged k ≡ Some j → (c : Condition) → slice_get asked k ≡ Some c → IsFoundFor c.rule (more ++ tried) j)
     × ((k : ℕ) (j : Judged) → l.i ≤ k → slice_get l.judged k ≡ Some j → slice_get l.initial.judged k ≡ Some j)

@@ -1,10 +1,11 @@
 use Rattle.std.proofs.Common.{◌≡◌, ◌∷◌, ◌∙◌, false, subst, length, get_or, arith}
-use Rattle.std.specs.Prelude.{Some, None}
+use Rattle.std.specs.Prelude.{None}
 use Rattle.std.proofs.lemmas.List.{length-set}
 use Rattle.std.proofs.lemmas.Option.{get_or_from_slice_get, slice_get_within}
 use Rattle.conditions.specs.declared.reading.Condition.{Condition}
 use Rattle.outcome_statistics.specs.declared.findings.Judged.{Judged}
-use Rattle.outcome_statistics.specs.Records.{IsSo, Tells}
+use Rattle.outcome_statistics.specs.Findings.{IsFoundFor}
+use Rattle.outcome_statistics.proofs.Meeting.{are-met-next}
 use Rattle.outcome_statistics.proofs.Updates.{kept-next, tally-next}
 use Rattle.outcome_statistics.proofs.findings.judge_each.Goals as goal
 
@@ -17,9 +18,12 @@ loop-i-preserved c =
     let v : Judged = record { tally = c.judge.new.tally; met = c.see.new.self } in (
       length-set at.judged at.i v ∙ at.invariant.0,
       (λ tried x number events end each.
-          let Q : Condition → Type 0 = λ r. Tells (IsSo (Some r.rule)) tried (get_or at.judged at.i d).tally → Tells (IsSo (Some r.rule)) (x ∷ tried) c.judge.new.tally in
+          let Q : Condition → Type 0 = λ r. IsFoundFor r.rule tried (get_or at.judged at.i d) → IsFoundFor r.rule (x ∷ tried) v in
           tally-next c.args.conditions.now at.judged c.args.judged.now at.i d v tried (x ∷ tried) (omega arith) each at.invariant.2
-          (λ k is told. subst Q (get_or_from_slice_get c.args.conditions.now at.i k c.index-conditions-i.result is) (c.judge.ensures tried x number events end) told)
+          (λ k is told. subst Q (get_or_from_slice_get c.args.conditions.now at.i k c.index-conditions-i.result is) (λ judged. (
+            c.judge.ensures tried x number events end judged.0,
+            are-met-next (get_or c.args.conditions.now at.i c.index-conditions-i.result).rule x c.args.events.now tried _ _ events c.see.ensures.first c.see.ensures.second judged.1,
+          )) told)
           (at.invariant.1 tried x number events end each)),
       kept-next at.judged c.args.judged.now at.i v (omega arith) at.invariant.2,
     )

@@ -1,4 +1,4 @@
-use Rattle.std.proofs.Common.{◌≡◌, ◌-◌, ◌^◌, List, [], length, ap, ◌∙◌, arith}
+use Rattle.std.proofs.Common.{◌-◌, ◌^◌, List, [], length, ap, ◌∙◌, arith}
 use Rattle.std.specs.Prelude.{◌≢◌, Some, min}
 use Rattle.outcome_statistics.specs.Records.{Tried}
 use Rattle.outcome_statistics.proofs.judgement.judged_by.Goals as goal

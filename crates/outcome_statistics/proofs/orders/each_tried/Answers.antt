@@ -1,10 +1,16 @@
-use Rattle.std.proofs.Common.{◌≡◌, ℕ, ◌∙◌, subst, arith}
+use Rattle.std.proofs.Common.{◌≡◌, ℕ, ◌∙◌, ap, refl, subst, arith}
 use Rattle.board_terms.specs.declared.config.Config.{Config}
 use Rattle.seeded_orders.specs.Orders.{IsTried}
 use Rattle.guest_programs.specs.Steps.{task_in, Task}
 use Rattle.outcome_statistics.specs.Findings.{AreFoundOf}
-use Rattle.outcome_statistics.proofs.Finding.{found-next}
+use Rattle.outcome_statistics.proofs.Finding.{found-next, found-none}
 use Rattle.outcome_statistics.proofs.orders.each_tried.Goals as goal
+
+pub loop-order-init : goal.loop-order-init
+loop-order-init c =
+    let k : Config = c.args.board.now.opening.config in
+    let none = c.in_ok-found.ensures k.harts c.args.batch.now.conditions.now refl in
+    (refl, none.many, (λ body same. found-none k body c.args.batch.now.conditions.now c.args.batch.now.seed c.args.batch.now.from c.in_ok-found.found none))
 
 pub loop-order-preserved : goal.loop-order-preserved
 loop-order-preserved c =
@@ -15,7 +21,7 @@ loop-order-preserved c =
       c.see.ensures.many,
       λ body same.
           found-next k body c.args.batch.now.conditions.now c.args.batch.now.seed c.args.batch.now.from c.loop-order.order c.try_order_on.new.board.past c.in_ok-end.end
-          c.loop-order.found c.see.new.self (subst (P k) same here) c.in_ok-see.ensures.found (c.loop-order.invariant.2 body same),
+          c.loop-order.found c.see.new.self c.try_order_on.new.board.opening.config.harts (ap (λ (k : Config). k.harts) (c.try_order_on.ensures.config ∙ c.loop-order.invariant.0)) (subst (P k) same here) c.in_ok-see.ensures.found (c.loop-order.invariant.2 body same),
     )
 
 pub returns : goal.returns
