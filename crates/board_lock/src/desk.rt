@@ -2,6 +2,7 @@
 ghost use Rattle.std.specs.Prelude.{◌≡◌, ◌+◌, ◌<◌, ◌∷◌, ◌++◌, [], IfOk, IfErr, OnOk, OnErr, Ok, length, false, true};
 ghost use mathlib.Core.List.{IsPrefix};
 ghost use Rattle.board_core.specs.Replies.{answer, stepped};
+ghost use Rattle.board_terms.specs.Limits.{IsGood};
 ghost use Rattle.board_lock.specs.Events.{IsActor, events_in};
 ghost use Rattle.board_lock.specs.Inside.Kept.{IsReceiptOf, number_of};
 ghost use Rattle.board_lock.specs.Receipts.{accepted_call};
@@ -15,7 +16,7 @@ use crate::rooms::Room;
 use crate::seats::Seat;
 use crate::views::{HartNow, HartView};
 use crate::waking::has_come;
-use board_core::{Actor, Board, Event, Op, Refusal};
+use board_core::{Actor, Board, Config, Event, Op, Refusal};
 use ghost_log::Log;
 use std::marker::Model;
 use std::sync::ledger::{Book, Share};
@@ -229,9 +230,17 @@ impl<K: Room> Desk<K> {
         requires { IsActor K.opening.config actor }
         ensures { result ≡ number_of K.opening.config actor }
     {
-        match actor {
-            Actor::Hart(h) => h as usize,
-            Actor::Clock => self.board.config().harts as usize,
-        }
+        actor_number(self.board.config(), actor)
+    }
+}
+
+/// An actor's number on a board of these numbers.
+pub(crate) fn actor_number(config: &Config, actor: Actor) -> usize
+    requires { (IsGood config.now) × IsActor config.now actor }
+    ensures { result ≡ number_of config.now actor }
+{
+    match actor {
+        Actor::Hart(h) => h as usize,
+        Actor::Clock => config.harts as usize,
     }
 }
