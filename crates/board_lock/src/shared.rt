@@ -1,5 +1,5 @@
 //! The board behind its lock, for threads.
-ghost use Rattle.std.specs.Prelude.{◌≡◌, ◌≢◌, ◌⊎◌, ℕ, ◌+◌, ◌<◌, ◌≤◌, ◌↔◌, ◌∷◌, ◌++◌, [], All, IfOk, IfErr, IfSome, IsOk, IsErrOf, OnOk, OnErr, Some, length, slice_get, true};
+ghost use Rattle.std.specs.Prelude.{◌≡◌, ◌≢◌, ◌⊎◌, ℕ, ◌+◌, ◌<◌, ◌≤◌, ◌↔◌, ◌∷◌, ◌++◌, [], All, IfOk, IfErr, IfSome, IsOk, IsErrOf, OnOk, OnErr, length, true};
 ghost use mathlib.Core.List.{IsPrefix};
 ghost use Rattle.board_terms.specs.declared.config.BuildFault.TheVariants.{BadConfig, NoMemory};
 ghost use Rattle.board_terms.specs.Limits.{IsGood};
@@ -7,7 +7,6 @@ ghost use Rattle.board_core.specs.Opening.{opening_at};
 ghost use Rattle.board_core.specs.Replies.{IsLegal};
 ghost use Rattle.hart_mask.specs.Ids.{has};
 ghost use Rattle.board_lock.specs.Events.{IsActor, events_in, events_of, ops_of};
-ghost use Rattle.board_lock.specs.Inside.Kept.{number_of};
 ghost use Rattle.board_lock.specs.Seats.{IsOneEach, new_seats, seeing};
 ghost use Rattle.board_lock.specs.Views.{IsDone, IsRefused, IsView};
 ghost use Rattle.board_lock.specs.Coming.{has_come_to};
@@ -197,7 +196,6 @@ impl<K: Room> SharedBoard<K> {
     /// What the actor's seat rests by: the bell of the actor's number.
     fn bell(&self, actor: Actor) -> &Condvar
         requires { IsActor K.opening.config actor }
-        ensures { slice_get self.now.bells.items (number_of K.opening.config actor) ≡ Some result.now }
     {
         &self.bells[actor_number(&self.config, actor)]
     }
