@@ -56,8 +56,9 @@ impl<'a, R: AllocGlobal + Clock + Files + Print> Output<'a, R> {
 
     /// Prints the plan and the summary, and on a terminal the time taken.
     pub(crate) fn end(&mut self, report: &Report) -> Result<(), Stop> {
-        self.shown.put_summary(report)?;
-        self.kept.put_summary(report)?;
+        let alloc = self.rt.alloc();
+        self.shown.put_summary(alloc, report)?;
+        self.kept.put_summary(alloc, report)?;
         self.tell()?;
         if self.options.screen.is_read {
             let millis = self.options.limit.millis(self.rt)?;

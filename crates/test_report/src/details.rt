@@ -1,4 +1,7 @@
 //! The details below a point, as YAML.
+ghost use Rattle.std.specs.Prelude.{◌≡◌};
+ghost use Rattle.test_report.specs.Lines.{shown_as};
+
 use crate::records::event_line;
 use crate::stuck::StuckHart;
 use board_core::Event;
@@ -137,6 +140,8 @@ fn put_quoted(quoted: &str, text: &mut String) -> Result<(), AllocError> {
 }
 
 /// A letter as it may be shown: no control character is.
-pub(crate) fn shown(letter: char) -> char {
+pub(crate) fn shown(letter: char) -> char
+    ensures { result ≡ shown_as letter }
+{
     if letter.is_control() { '?' } else { letter }
 }

@@ -10,8 +10,7 @@ use std::fmt::Write;
 pub(crate) struct Summary {
     mode: Mode,
     files: u64,
-    /// How many points there are.
-    pub(crate) points: u64,
+    points: u64,
     failed: u64,
     unjudged: u64,
     /// How the orders and runs ended that were tried, and how many different records these have.
@@ -65,8 +64,8 @@ impl Summary {
         }
     }
 
-    /// Puts its lines, each behind this sign.
-    pub(crate) fn put(&self, sign: &str, text: &mut String) -> Result<(), AllocError> {
+    /// Puts its lines.
+    pub(crate) fn put(&self, text: &mut String) -> Result<(), AllocError> {
         let Summary {
             points,
             failed,
@@ -74,32 +73,32 @@ impl Summary {
             files,
             ..
         } = *self;
-        write!(text, "{sign}{points} points, {failed} failed")?;
+        write!(text, "{points} points, {failed} failed")?;
         if unjudged > 0 {
             write!(text, ", {unjudged} not judged")?;
         }
         text.push('\n')?;
         let are_all_seen = self.ends.orders() == 0 && (self.counted > 0 || self.endless > 0);
         if self.mode == Mode::Explore || are_all_seen {
-            writeln!(text, "{sign}{files} files")?;
+            writeln!(text, "{files} files")?;
         } else {
-            self.put_tried(sign, text)?;
+            self.put_tried(text)?;
         }
         if self.mode == Mode::Test {
-            self.put_seen(sign, text)?;
+            self.put_seen(text)?;
         }
         if self.is_cut {
             let done = match self.mode {
                 Mode::Test => "tried",
                 Mode::Explore => "seen",
             };
-            writeln!(text, "{sign}cut short: not all orders were {done}")?;
+            writeln!(text, "cut short: not all orders were {done}")?;
         }
         Ok(())
     }
 
     /// Puts how many orders were tried, and how they ended.
-    fn put_tried(&self, sign: &str, text: &mut String) -> Result<(), AllocError> {
+    fn put_tried(&self, text: &mut String) -> Result<(), AllocError> {
         let Summary { files, records, .. } = *self;
         let orders = self.ends.orders();
         let Ends {
@@ -110,16 +109,16 @@ impl Summary {
         } = self.ends;
         writeln!(
             text,
-            "{sign}{files} files, {orders} orders, {records} different records"
+            "{files} files, {orders} orders, {records} different records"
         )?;
         writeln!(
             text,
-            "{sign}ends: {off} off, {full} history-full, {quiet} quiet, {stuck} stuck"
+            "ends: {off} off, {full} history-full, {quiet} quiet, {stuck} stuck"
         )
     }
 
     /// Adds how many programs there are whose orders were all seen.
-    fn put_seen(&self, sign: &str, text: &mut String) -> Result<(), AllocError> {
+    fn put_seen(&self, text: &mut String) -> Result<(), AllocError> {
         let Summary {
             counted,
             orders,
@@ -127,13 +126,10 @@ impl Summary {
             ..
         } = *self;
         if counted > 0 {
-            writeln!(text, "{sign}all orders of {counted} programs: {orders}")?;
+            writeln!(text, "all orders of {counted} programs: {orders}")?;
         }
         if endless > 0 {
-            writeln!(
-                text,
-                "{sign}all orders of {endless} programs: some without end"
-            )?;
+            writeln!(text, "all orders of {endless} programs: some without end")?;
         }
         Ok(())
     }
