@@ -196,6 +196,10 @@ class Explore(Test):
             must(f"{lines}, of {steps} steps with a limit of {limit}", f"  length: {steps}" in lines and (f"  limit: {steps}" in lines) == (limit is not None))
             replayed = ran(["replay", script(self.room, "".join(line.partition(" -> ")[0] + "\n" for line in record.splitlines()))])
             must(f"the record is {record!r}, and a replay prints {replayed}", replayed.stdout.decode() == record)
+        # (an order as long as the limit is none that is longer)
+        for limit in (steps - 1, steps, steps + 1):
+            _, lines = explored(self.room, "#! end quiet\n" + re.sub(r"^(board \S+ \S+) \S+", rf"\1 {limit}", WAKE))
+            must(f"{lines}, of {steps} steps with a limit of {limit}", f"  length: {steps}" in lines and (f"  limit: {steps}" in lines) == (limit < steps))
 
     def test_a_record_is_named_for_what_it_shows(self):
         """The record of an order that breaks a condition is named for that, and that of one that `some` wants for being reached."""

@@ -550,6 +550,11 @@ class Orders(Test):
         must(f"{lines}", status == 1 and "  runs: 3" in lines and '  record: "./race.program.threads-0.failed"' in lines)
         checked = ran(["check", os.path.join(self.room, "race.program.threads-0.failed")])
         must(f"{checked}", checked.returncode == 0)
+        # (of one order there is one record of the seed's orders, and one of the runs)
+        told(self.room, "board 1 1 9 0 0x80000000 0\nat 0x80000000\nsip\n", name="one.program")
+        for files in (["one.program"], ["one.program", "one.program"]):
+            status, lines = told_of(self.room, "--times", "4", "--threads", *files)
+            must(f"{lines}", status == 0 and f"# {len(files)} files, {8 * len(files)} orders, {2 * len(files)} different records" in lines)
         status, lines = told(self.room, RACE, "--times", "3", "--threads")
         must(f"{lines}", status == 0 and lines[2] == "ok 2 - race.program: no order ends stuck: holds in 3 runs on threads")
 
