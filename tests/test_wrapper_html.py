@@ -232,3 +232,13 @@ class NearOrders(Test):
         with self.assertRaises(NoOrder):
             Failing(text, record + "\n0 wfi -> done", 0)
         must("none is good", near(failing, ["#! never 0 wfi"], "#! never 0 wfi", lambda traces: [{0} for _ in traces]) is None)
+
+    def test_html__an_order_that_can_end_is_near(self):
+        """Of `can end` an order passes that ends so; it is no condition of traces."""
+        text = read(os.path.join(EXAMPLES, "orders/wake-storm.program"))
+        late = ["0 advance", "0 ecall 0x48534d 0x0 0x1 0x80001000 0x0 0x0 0x0 0x0", "1 advance", "1 sie 0x2", "1 clearssip", "0 ecall 0x735049 0x0 0x2 0x0 0x0 0x0 0x0 0x0"]
+        failing = Failing(text, "\n".join(["board 2 4 100 0 0x80000000 0x0", *late]), len(late))
+        for asked, end in (("#! can end", "stuck"), ("#! maybe can end stuck", "stuck"), ("#! can end quiet", None)):
+            traces = []
+            found = near(failing, [asked], asked, lambda batch: traces.extend(batch) or [set() for _ in batch])
+            must(f"{asked}: {found and found.end}", (found and found.end) == end and traces and not any("can" in it for it in traces))
