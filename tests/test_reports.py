@@ -39,6 +39,13 @@ def answered(eid, fid, *numbers, ret="0 0", hart=0):
     return call(eid, fid, *numbers, hart=hart) + f"{hart} ret {ret}\n"
 
 
+def noted(eid, fid, *numbers, was, now):
+    """A call with notes, and its return with others."""
+    return f"{call(eid, fid, *numbers)[:-1]} {was}\n0 ret 0 0 {now}\n"
+
+
+CHANGED = [("sie", "sie=0x2", "sie=0x0"), ("sie, in an IPI's bit", "sie=0x20", "sie=0x22"), ("sstatus", "sstatus=0", "sstatus=1")]
+
 WRONG = [
     # (what is wrong, the record, the class, the line)
     ("an error of no list", TWO + answered(TIME, 0, 5, ret="-77 0"), "breaks", 6),
@@ -81,6 +88,11 @@ WRONG = [
     ("a reserved reason of a reset", TWO + call(SRST, 0, 1, 5) + "0 entry 0x80200000 0 0x87e00000\n", "breaks", 6),
     ("a reserved type that is refused by FAILED's neighbour", TWO + answered(SRST, 0, 1, ret="-4 0"), "breaks", 6),
     ("sstatus.SIE at an entry", TWO.replace("1 entry 0x80200100 1 7", "1 entry 0x80200100 1 7 sstatus=1"), "breaks", 5),
+    *((f"a call that changes {name}", TWO + noted(TIME, 0, 5, was=was, now=now), "breaks", 6) for name, was, now in CHANGED),
+    ("an IPI that a call loses", TWO + noted(TIME, 0, 5, was="sip=0x2", now="sip=0x20"), "breaks", 6),
+    ("a set_timer for ever that leaves STIP", TWO + noted(TIME, 0, ALL, was="sip=0x20", now="sip=0x20"), "breaks", 6),
+    ("a set_timer that leaves STIP", TWO + noted(TIME, 0, 90, was="sip=0x20", now="sip=0x20 time=50") + call(BASE, 0)[:-1] + " time=80\n", "breaks", 6),
+    ("a call that changes sie, of a hart that went on otherwise", LOST + noted(HSM, 2, 1, was="sie=0x2", now="sie=0"), "breaks", 8),
     ("a call that never returns, by its comment", TWO + TIMER + "# ended: the limit of 60 s\n", "return", 6),
     ("a call that never returns", TWO + TIMER + "m end limit\n", "return", 6),
     ("a fence that never returns", TWO + call(RFENCE, 0, 3) + "m end limit\n", "return", 6),
@@ -142,6 +154,12 @@ TOLD = [
     ("a strange base", TWO + answered(IPI, 0, 0, 7), "open", 6),
     ("ids that are cut to 32 bits", TWO + answered(1 << 32 | BASE, 0, ret="0 0x1000000"), "open", 6),
     ("a hart's life that went on otherwise", LOST + answered(HSM, 2, 1, ret="0 0"), "follows", 8),
+    ("an IPI and a timer that come during a call", TWO + noted(TIME, 0, 5, was="sie=0x22 sip=0 sstatus=1", now="sie=0x22 sip=0x22 sstatus=1"), None, 0),
+    ("a time that comes behind the return", TWO + noted(TIME, 0, 70, was="sip=0x20", now="sip=0x20 time=50") + call(BASE, 0)[:-1] + " time=80\n", None, 0),
+    ("a time that may have come by the record's end", TWO + noted(TIME, 0, 70, was="sip=0x20", now="sip=0x20 time=50"), None, 0),
+    ("other bits of sie", TWO + noted(TIME, 0, 5, was="sie=0x222", now="sie=0x22"), None, 0),
+    ("an IPI that the legacy extension clears", TWO + noted(3, 0, was="sip=0x2", now="sip=0x0"), None, 0),
+    ("a return whose registers weren't seen", TWO + noted(TIME, 0, 5, was="sie=0x2 sip=0x2 sstatus=0", now=""), None, 0),
     ("user pages", TWO + answered(0x08000001, 4, 15, 3, ret="-2 0"), "own", 6),
 ]  # fmt: skip
 

@@ -1,11 +1,11 @@
 """Differences between recorded answers and the board's: what is compared, and each difference's verdict."""
 from bisect import bisect_right
 
-from board_model import BASE, GONE, HSM, INVALID_ADDRESS, IPI, LOW, RESUME_PENDING, RFENCE, SSI, STARTED, STI, WAITING, spelled_answer
+from board_model import ALL, BASE, GONE, HSM, INVALID_ADDRESS, IPI, LOW, RESUME_PENDING, RFENCE, SSI, STARTED, STI, TIME, WAITING, spelled_answer
 from liveness import shown as spelled_call
 from records import UNSEEN, is_reset, is_suspend
 from rules import TELLS, TOLD, UNEXPLAINED_VERDICT, by_this_state, certain, rule_of_entry, rule_of_wake, verdict_of
-from standard import FUNCTIONS, UNJUDGED, WITH_VALUE, Verdict, version_of
+from standard import FUNCTIONS, LEGACY, UNJUDGED, WITH_VALUE, Verdict, version_of
 from states import Difference
 
 READ_SIE = SSI | STI
@@ -104,6 +104,31 @@ class Differences:
             state.put(Difference(call.number, f"{self.name(call)}: its return", "", "", WITHOUT_ANSWER, None))
         elif self.settled_answer(call.numbers, *numbers)[2] != numbers[1]:
             state.put(Difference(call.number, f"{self.name(call)}: a1", "0x0", f"{numbers[1]:#x}", verdict_of("values"), None))
+
+    def unkept(self):
+        """Of each call whose registers were seen at its return too: those that it changed. An IPI may come in between, and the
+        legacy extensions may clear SSIP."""
+        for call in self.lines:
+            ret = self.lines[call.reply] if call.kind == "call" and call.reply is not None else None
+            for name, bits in (("sie", READ_SIE), ("sstatus", 1), ("sip", SSI)) if ret else ():
+                was, now = (line.notes.get(name) for line in (call, ret))
+                if was is None or now is None or name == "sip" and (now & SSI or call.numbers[0] in LEGACY):
+                    continue
+                if (was ^ now) & bits:
+                    yield Difference(call.number, f"{self.name(call)}: {name}", f"{was & bits:#x}", f"{now & bits:#x}", verdict_of("registers"), None)
+
+    def untimely(self):
+        """Of each set_timer behind whose return STIP is 1: those whose time hadn't come when the hart was seen again."""
+        for places in self.places.values():
+            for at, place in enumerate(places):
+                call = self.lines[place]
+                ret = self.lines[call.reply] if call.kind == "call" and call.numbers[:2] == (TIME, 0) and call.reply is not None else None
+                if ret is None or ret.numbers[0] != 0 or not ret.notes.get("sip", 0) & STI:
+                    continue
+                deadline = call.numbers[2]
+                later = (self.lines[other].notes["time"] for other in places[at + 2 :] if "time" in self.lines[other].notes)
+                if deadline > next(later, ALL - 1):
+                    yield Difference(call.number, f"{self.name(call)}: STIP at its return", "0x0", "0x1", verdict_of("timers"), None)
 
     def named(self, pair):
         """The harts of a list, those of strange bits left out."""
