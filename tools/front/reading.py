@@ -36,6 +36,9 @@ def run_read(program, command, words, given):
     """Runs a program by its words, and does what the options of the script ask for. Returns the status, and what is said."""
     signal.signal(signal.SIGPIPE, signal.SIG_DFL)
     words = program_words(command, words)
+    if sys.stdout is None:
+        # (a file that is opened would take its number)
+        return BAD_FILE, FAILED_IO
     try:
         if command.program == TESTER:
             return Points(program, command, words, given).run()
@@ -65,9 +68,14 @@ def encoded(words):
     return [it.encode() for it in words]
 
 
+def output(mode="w"):
+    """Standard output. What can't be written fails here, and not once more when Python ends (which would be status 120)."""
+    return open(1, mode, encoding=None if "b" in mode else "utf-8", closefd=False)
+
+
 def written(text):
-    sys.stdout.write(text)
-    sys.stdout.flush()
+    with output() as file:
+        file.write(text)
 
 
 # ---- replays, checks and runs
@@ -139,9 +147,8 @@ class Replay:
         if script.asks(DIFF) and self.at is None and len(places) > MOST_DIFFED + 1:
             return USAGE, f"sbiboard: --diff tells of at most {MOST_DIFFED:,} steps, and {script.file} has {len(places) - 1:,}: --at LINE --diff tells of one\n"
         lines = self.json_lines() if self.is_json else self.lines()
-        for it in lines:
-            sys.stdout.write(it)
-        sys.stdout.flush()
+        with output() as file:
+            file.writelines(lines)
         return self.status, self.said
 
     def printed_to(self, line):
@@ -236,7 +243,7 @@ class Points:
     def stream(self, stdin):
         """Runs the program, whose points go through as they come. Returns its status."""
         how = {"executable": self.program, "stdin": stdin}
-        is_json, is_14 = JSON.name in self.given, self.asked(TAP_VERSION.name) == "14" and not sys.stdout.isatty()
+        is_json, is_14 = JSON.name in self.given, self.asked(TAP_VERSION.name) == "14" and not os.isatty(1)
         if not is_json and not is_14:
             return subprocess.run(encoded(self.words), check=False, **how).returncode
         with subprocess.Popen(encoded(self.words), stdout=subprocess.PIPE, **how) as run:
@@ -250,9 +257,9 @@ class Points:
                 written(end(run.wait()))
             else:
                 first = run.stdout.readline()
-                sys.stdout.buffer.write(TAP_14 if first == TAP_13 else first)
-                shutil.copyfileobj(run.stdout, sys.stdout.buffer)
-                sys.stdout.buffer.flush()
+                with output("wb") as file:
+                    file.write(TAP_14 if first == TAP_13 else first)
+                    shutil.copyfileobj(run.stdout, file)
         return run.returncode
 
     def behind(self, status, lines, folder, junit):
