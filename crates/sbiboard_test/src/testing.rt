@@ -1,9 +1,13 @@
 //! Tests one file of `test` or `explore`, by its kind.
-ghost use Rattle.std.specs.Prelude.{◌≡◌, true};
+ghost use Rattle.std.specs.Prelude.{◌≡◌, ◌∷◌, [], IfOk, true};
 ghost use Rattle.guest_script.specs.Grammar.{content};
 ghost use Rattle.guest_programs.specs.Programs.{IsProgram};
+ghost use Rattle.test_report.specs.Statuses.{EachPointHolds, verdicts};
+ghost use Rattle.test_report.specs.declared.report.Mode.TheVariants.{Explore};
+ghost use Rattle.test_report.specs.declared.verdict.Verdict.TheVariants.{Fails};
+ghost use Rattle.sbiboard_test.specs.Exploring.{AreMetByAll, IsExplored};
 
-use crate::loading::{Unloaded, load};
+use crate::loading::{Unloaded, load, read};
 use crate::steps::test_steps;
 use all_orders::{explore_program, test_all_orders};
 use diagnostics::Case;
@@ -23,21 +27,34 @@ pub(crate) fn test_file<'a, R: AllocGlobal + Clock + Eprint + Files + Sync + Thr
     file: &'a str,
     record: &'a str,
 ) -> Result<FileReport, Stop> {
+    match read(rt, file) {
+        Ok(text) => test_text(rt, options, file, record, &text),
+        Err(unloaded) => untested(rt.alloc(), file, unloaded),
+    }
+}
+
+/// Tests a file of these bytes.
+fn test_text<'a, R: AllocGlobal + Clock + Eprint + Files + Sync + Threads + Wait>(
+    rt: &'a R,
+    options: &'a Options<'a>,
+    file: &'a str,
+    record: &'a str,
+    text: &'a [u8],
+) -> Result<FileReport, Stop>
+    ensures { IfOk result (λ found. options.now.mode ≡ Explore → EachPointHolds found.points.items
+        → AreMetByAll text.now (verdicts found)) }
+{
     let alloc = rt.alloc();
-    let loaded = match load(rt, file) {
+    let loaded = match load(alloc, text) {
         Ok(loaded) => loaded,
-        Err(Unloaded::NoMemory) => return Err(Stop::NoMemory),
-        Err(Unloaded::File(why)) => {
-            let name = format!(in alloc; "{file}{why}")?;
-            return Ok(failing(alloc, name)?);
-        }
+        Err(unloaded) => return untested(alloc, file, unloaded),
     };
     let trial = Trial {
         rt,
         options,
         case: Case {
             file,
-            text: &loaded.text,
+            text,
             conditions: &loaded.conditions,
         },
         record,
@@ -54,8 +71,23 @@ pub(crate) fn test_file<'a, R: AllocGlobal + Clock + Eprint + Files + Sync + Thr
     Ok(found)
 }
 
+/// The report about a file that can't be tested.
+fn untested(alloc: Global, file: &str, unloaded: Unloaded) -> Result<FileReport, Stop>
+    ensures { IfOk result (λ found. verdicts found ≡ Fails ∷ []) }
+{
+    match unloaded {
+        Unloaded::NoMemory => Err(Stop::NoMemory),
+        Unloaded::File(why) => {
+            let name = format!(in alloc; "{file}{why}")?;
+            Ok(failing(alloc, name)?)
+        }
+    }
+}
+
 /// One point alone, which fails.
-fn failing(alloc: Global, name: String) -> Result<FileReport, AllocError> {
+fn failing(alloc: Global, name: String) -> Result<FileReport, AllocError>
+    ensures { IfOk result (λ found. verdicts found ≡ Fails ∷ []) }
+{
     let mut file = FileReport::new(alloc);
     file.push(Point::new(alloc, name, Verdict::Fails))?;
     Ok(file)
@@ -64,7 +96,10 @@ fn failing(alloc: Global, name: String) -> Result<FileReport, AllocError> {
 /// Tests a script by its kind.
 fn test_script<R: AllocGlobal + Clock + Eprint + Files + Sync + Threads + Wait>(
     trial: &Trial<'_, R>,
-) -> Result<FileReport, Stop> {
+) -> Result<FileReport, Stop>
+    ensures { IfOk result (λ found. trial.now.options.now.mode ≡ Explore → EachPointHolds found.points.items
+        → IsExplored trial.now.script.now trial.now.case.conditions.now (verdicts found)) }
+{
     if is_program(&trial.script.body) {
         return test_program(trial);
     }
@@ -81,6 +116,8 @@ fn test_program<R: AllocGlobal + Clock + Eprint + Files + Sync + Threads + Wait>
     trial: &Trial<'_, R>,
 ) -> Result<FileReport, Stop>
     requires { IsProgram (content trial.now.script.now.body) }
+    ensures { IfOk result (λ found. trial.now.options.now.mode ≡ Explore
+        → IsExplored trial.now.script.now trial.now.case.conditions.now (verdicts found)) }
 {
     if trial.options.mode == Mode::Explore {
         return explore_program(trial);
