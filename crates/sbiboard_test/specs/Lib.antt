@@ -1,1 +1,3 @@
 pub mod Exploring
+pub mod Reporting
+pub mod Inside

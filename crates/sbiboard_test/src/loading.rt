@@ -1,5 +1,5 @@
 //! Reads a file with its conditions, or returns why it can't be tested.
-ghost use Rattle.std.specs.Prelude.{IfOk};
+ghost use Rattle.std.specs.Prelude.{◌≡◌, ℕ, IfOk, IfSome, List, None, Option, take};
 ghost use Rattle.sbiboard_test.specs.Exploring.{IsLoaded};
 
 use conditions::{Condition, Wrong, conditions};
@@ -11,7 +11,7 @@ use std::io::{self, ErrorKind, Read};
 use std::rt::Files;
 
 /// One byte more than a script may have.
-const READ_LIMIT: u64 = 16_777_217;
+pub(crate) const READ_LIMIT: u64 = 16_777_217;
 
 /// A script that can be tested.
 #[derive(Drop)]
@@ -46,11 +46,45 @@ fn unread(kind: ErrorKind) -> &'static str {
     }
 }
 
-/// A file's bytes, at most one more than a script may have.
-pub(crate) fn read<R: AllocGlobal + Files>(rt: &R, file: &str) -> Result<Vec<u8>, Unloaded> {
-    match bytes_of(rt, file) {
+/// What gives the bytes of files.
+pub(crate) trait Texts {
+    // the bytes of the file of a name, where they are known
+    ghost bytes: { Self → List ℕ → Option (List ℕ) };
+
+    /// The bytes of the file of this name, at most one more than a script may have.
+    fn read(&self, alloc: Global, name: &str) -> io::Result<Vec<u8>>
+        ensures { IfOk result (λ text. IfSome (bytes self.now name.now) (λ all. text.items ≡ take READ_LIMIT all)) };
+}
+
+/// The files of the system, whose bytes no contract knows before they are read.
+pub(crate) struct Folder<'a, R> {
+    pub(crate) rt: &'a R,
+}
+
+impl<R: AllocGlobal + Files> Texts for Folder<'_, R> {
+    ghost bytes = { λ folder name. None };
+
+    fn read(&self, alloc: Global, name: &str) -> io::Result<Vec<u8>> {
+        all_of(alloc, fs::open(self.rt, name)?)
+    }
+}
+
+/// What a source gives, at most one byte more than a script may have.
+fn all_of<S: Read>(alloc: Global, source: S) -> io::Result<Vec<u8>>
+    ensures { IfOk result (λ text. IfSome (S.remaining source) (λ all. text.items ≡ take READ_LIMIT all)) }
+{
+    let mut text = Vec::new(alloc);
+    source.take(READ_LIMIT).read_to_end(&mut text)?;
+    Ok(text)
+}
+
+/// A file's bytes.
+pub(crate) fn read<T: Texts>(alloc: Global, texts: &T, file: &str) -> Result<Vec<u8>, Unloaded>
+    ensures { IfOk result (λ text. IfSome (T.bytes texts.now file.now) (λ all. text.items ≡ take READ_LIMIT all)) }
+{
+    match texts.read(alloc, file) {
         Ok(text) => Ok(text),
-        Err(error) => Err(unreadable(rt.alloc(), error.kind())?),
+        Err(error) => Err(unreadable(alloc, error.kind())?),
     }
 }
 
@@ -80,10 +114,4 @@ fn unreadable(alloc: Global, kind: ErrorKind) -> Result<Unloaded, AllocError> {
     }
     let why = unread(kind);
     Ok(Unloaded::File(format!(in alloc; ": {why}")?))
-}
-
-fn bytes_of<R: AllocGlobal + Files>(rt: &R, file: &str) -> io::Result<Vec<u8>> {
-    let mut text = Vec::new(rt.alloc());
-    fs::open(rt, file)?.take(READ_LIMIT).read_to_end(&mut text)?;
-    Ok(text)
 }

@@ -13,12 +13,16 @@ mod stale;
 mod steps;
 mod testing;
 
+ghost use Rattle.std.specs.Prelude.{IfOk, map};
+ghost use Rattle.sbiboard_test.specs.Reporting.{IsReported};
+
 use command_line::options_of;
 use early::{Early, told};
+use loading::{Folder, Texts};
 use output::Output;
 use record_names::record_names;
 use std::env;
-use std::io::IsTerminal;
+use std::io::{self, IsTerminal, Write};
 use std::process::ExitCode;
 use std::rt::{Clock, Env, Files};
 use std::sync::Wait;
@@ -47,23 +51,38 @@ fn run<R: AllocGlobal + Clock + Env + Eprint + Files + Print + Sync + Threads + 
 ) -> Result<Status, Early> {
     let words = env::args(rt)?.collect::<Vec<String>>(rt.alloc())?;
     let options = options_of(rt, words.as_slice(), screen)?;
-    Ok(test_all(rt, &options)?)
+    Ok(test_all(rt, &Folder { rt }, &options, &mut io::writer(rt))?)
 }
 
 /// Tests each file, and prints its points as soon as they are known; then the plan and the summary.
-fn test_all<R: AllocGlobal + Clock + Eprint + Files + Print + Sync + Threads + Wait>(
+fn test_all<R: AllocGlobal + Clock + Eprint + Files + Sync + Threads + Wait, T: Texts, W: Write>(
     rt: &R,
+    texts: &T,
     options: &Options<'_>,
-) -> Result<Status, Stop> {
+    out: &mut W,
+) -> Result<Status, Stop>
+    ensures { IfOk result (λ status. IsReported (T.bytes texts.now) (map (λ name. name.now) options.now.files.items)
+        options.now.mode options.now.screen.is_read status (W.contents out.old) (W.contents out.new)) }
+{
     let mut output = Output::begin(rt, options)?;
-    let mut report = Report::new(rt.alloc(), options.mode);
+    let mut files = Vec::new(rt.alloc());
     let names = record_names(rt.alloc(), &options.files)?;
-    for (file, record) in options.files.iter().zip(names.iter()) {
-        let found = test_file(rt, options, file, record.as_str())?;
-        output.tell_file(&found)?;
-        report.files.push(found)?;
+    for place in 0..options.files.len() {
+        let found = test_file(
+            rt,
+            texts,
+            options,
+            options.files[place],
+            names[place].as_str(),
+        )?;
+        output.tell_file(out, &found)?;
+        files.push(found)?;
     }
-    output.end(&report)?;
+    let report = Report {
+        mode: options.mode,
+        files,
+    };
+    output.end(out, &report)?;
     if let Some(unwritten) = report.unwritten() {
         return Err(Stop::Unwritten(unwritten.copied(rt.alloc())?));
     }

@@ -1,4 +1,8 @@
 //! Where a report goes: standard output, and the file of `--tap`.
+ghost use Rattle.std.specs.Prelude.{◌≡◌, IfOk, OnOk, false};
+ghost use Rattle.test_report.specs.declared.page.Style.TheVariants.{Tap};
+ghost use Rattle.sbiboard_test.specs.Inside.Telling.{HasTold, IsBegun, TellsEnd, TellsFile};
+
 use std::alloc::{AllocError, Global};
 use std::fs;
 use std::io::{self, ErrorKind, Write};
@@ -13,15 +17,17 @@ pub(crate) struct Output<'a, R: Files> {
     rt: &'a R,
     options: &'a Options<'a>,
     /// What is printed.
-    shown: Page,
+    pub(crate) shown: Page,
     /// What is written into the named file.
     kept: Page,
     file: Option<R::File>,
 }
 
-impl<'a, R: AllocGlobal + Clock + Files + Print> Output<'a, R> {
+impl<'a, R: AllocGlobal + Clock + Files> Output<'a, R> {
     /// Creates the file of `--tap`, which must not be one of the tested files.
-    pub(crate) fn begin(rt: &'a R, options: &'a Options<'a>) -> Result<Output<'a, R>, Stop> {
+    pub(crate) fn begin(rt: &'a R, options: &'a Options<'a>) -> Result<Output<'a, R>, Stop>
+        ensures { IfOk result (λ output. options.now.screen.is_read ≡ false → IsBegun output.shown) }
+    {
         let alloc = rt.alloc();
         let style = if options.screen.is_read {
             Style::Plain
@@ -45,31 +51,39 @@ impl<'a, R: AllocGlobal + Clock + Files + Print> Output<'a, R> {
     }
 
     /// Prints the points of a file.
-    pub(crate) fn tell_file(&mut self, file: &FileReport) -> Result<(), Stop> {
+    pub(crate) fn tell_file<W: Write>(&mut self, out: &mut W, file: &FileReport) -> Result<(), Stop>
+        ensures { OnOk result (self.old.shown.style ≡ Tap
+            → TellsFile self.old.shown self.new.shown file.now (W.contents out.old) (W.contents out.new)) }
+    {
         let alloc = self.rt.alloc();
         self.shown.put_file(alloc, file)?;
         if self.file.is_some() {
             self.kept.put_file(alloc, file)?;
         }
-        self.tell()
+        self.tell(out)
     }
 
     /// Prints the plan and the summary, and on a terminal the time taken.
-    pub(crate) fn end(&mut self, report: &Report) -> Result<(), Stop> {
+    pub(crate) fn end<W: Write>(&mut self, out: &mut W, report: &Report) -> Result<(), Stop>
+        ensures { OnOk result (self.old.shown.style ≡ Tap
+            → TellsEnd self.old.shown (W.contents out.old) (W.contents out.new)) }
+    {
         let alloc = self.rt.alloc();
         self.shown.put_summary(alloc, report)?;
         self.kept.put_summary(alloc, report)?;
-        self.tell()?;
-        if self.options.screen.is_read {
+        self.tell(out)?;
+        if self.shown.style == Style::Plain {
             let millis = self.options.limit.millis(self.rt)?;
-            println!(self.rt; "time: {}.{} s", millis / 1_000, millis % 1_000 / 100)?;
+            writeln!(out, "time: {}.{} s", millis / 1_000, millis % 1_000 / 100)?;
         }
         Ok(())
     }
 
     /// Prints what isn't printed yet, and writes it into the file of `--tap`.
-    fn tell(&mut self) -> Result<(), Stop> {
-        self.rt.print(self.shown.text.as_str())?;
+    fn tell<W: Write>(&mut self, out: &mut W) -> Result<(), Stop>
+        ensures { OnOk result (HasTold self.old.shown self.new.shown (W.contents out.old) (W.contents out.new)) }
+    {
+        out.write_all(self.shown.text.as_bytes())?;
         self.shown.text.clear();
         if let Some(file) = &mut self.file
             && let Some(path) = self.options.tap

@@ -6,8 +6,9 @@ ghost use Rattle.test_report.specs.Statuses.{EachPointHolds, verdicts};
 ghost use Rattle.test_report.specs.declared.report.Mode.TheVariants.{Explore};
 ghost use Rattle.test_report.specs.declared.verdict.Verdict.TheVariants.{Fails};
 ghost use Rattle.sbiboard_test.specs.Exploring.{AreMetByAll, IsExplored};
+ghost use Rattle.sbiboard_test.specs.Reporting.{IsTrueOf};
 
-use crate::loading::{Unloaded, load, read};
+use crate::loading::{Texts, Unloaded, load, read};
 use crate::steps::test_steps;
 use all_orders::{explore_program, test_all_orders};
 use diagnostics::Case;
@@ -21,13 +22,20 @@ use test_terms::{Options, Stop, Trial};
 use tried_orders::{test_orders, test_runs};
 
 /// Tests a file. A file that can't be read, or has a fault, is a failing point.
-pub(crate) fn test_file<'a, R: AllocGlobal + Clock + Eprint + Files + Sync + Threads + Wait>(
+pub(crate) fn test_file<
+    'a,
+    R: AllocGlobal + Clock + Eprint + Files + Sync + Threads + Wait,
+    T: Texts,
+>(
     rt: &'a R,
+    texts: &T,
     options: &'a Options<'a>,
     file: &'a str,
     record: &'a str,
-) -> Result<FileReport, Stop> {
-    match read(rt, file) {
+) -> Result<FileReport, Stop>
+    ensures { IfOk result (λ found. IsTrueOf (T.bytes texts.now file.now) options.now.mode found) }
+{
+    match read(rt.alloc(), texts, file) {
         Ok(text) => test_text(rt, options, file, record, &text),
         Err(unloaded) => untested(rt.alloc(), file, unloaded),
     }
