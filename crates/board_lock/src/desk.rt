@@ -2,6 +2,7 @@
 ghost use Rattle.std.specs.Prelude.{◌≡◌, ◌+◌, ◌<◌, ◌∷◌, ◌++◌, [], IfOk, IfErr, OnOk, OnErr, Ok, length, false, true};
 ghost use mathlib.Core.List.{IsPrefix};
 ghost use Rattle.board_core.specs.Replies.{answer, stepped};
+ghost use Rattle.board_terms.specs.Limits.{IsGood};
 ghost use Rattle.board_lock.specs.Events.{IsActor, events_in};
 ghost use Rattle.board_lock.specs.Inside.Kept.{IsReceiptOf, number_of};
 ghost use Rattle.board_lock.specs.Receipts.{accepted_call};
@@ -15,7 +16,7 @@ use crate::rooms::Room;
 use crate::seats::Seat;
 use crate::views::{HartNow, HartView};
 use crate::waking::has_come;
-use board_core::{Actor, Board, Event, Op, Refusal};
+use board_core::{Actor, Board, Config, Event, Op, Refusal};
 use ghost_log::Log;
 use std::marker::Model;
 use std::sync::ledger::{Book, Share};
@@ -60,6 +61,7 @@ impl<K: Room> Desk<K> {
     pub(crate) fn call(&mut self, seat: &mut Seat<K>, op: &Op) -> Result<Answered, Refusal>
         ensures receipt { IfOk result (λ r. IsReceiptOf K.opening.places K.log
             (accepted_call seat.old.actor seat.old.count r.place op.now r.reply) r.seen) }
+        ensures place { IfOk result (λ r. K.opening.places + length seat.new.saw ≡ r.place + 1) }
         ensures reply { IfOk result
             (λ r. answer self.old.board.opening self.old.board.past seat.old.actor op.now ≡ Ok r.reply) }
         ensures after { OnOk result
@@ -103,6 +105,7 @@ impl<K: Room> Desk<K> {
     ) -> Result<(Answered, HartView), Refusal>
         ensures receipt { IfOk result (λ r. IsReceiptOf K.opening.places K.log
             (accepted_call seat.old.actor seat.old.count r.0.place op.now r.0.reply) r.0.seen) }
+        ensures place { IfOk result (λ r. K.opening.places + length seat.new.saw ≡ r.0.place + 1) }
         ensures view { IfOk result (λ r. IsView K.opening seat.new r.1) }
         ensures actor { seat.new.actor ≡ seat.old.actor }
         ensures accepted { OnOk result (seat.new.count ≡ seat.old.count + 1) }
@@ -229,9 +232,17 @@ impl<K: Room> Desk<K> {
         requires { IsActor K.opening.config actor }
         ensures { result ≡ number_of K.opening.config actor }
     {
-        match actor {
-            Actor::Hart(h) => h as usize,
-            Actor::Clock => self.board.config().harts as usize,
-        }
+        actor_number(self.board.config(), actor)
+    }
+}
+
+/// An actor's number on a board of these numbers.
+pub(crate) fn actor_number(config: &Config, actor: Actor) -> usize
+    requires { (IsGood config.now) × IsActor config.now actor }
+    ensures { result ≡ number_of config.now actor }
+{
+    match actor {
+        Actor::Hart(h) => h as usize,
+        Actor::Clock => config.harts as usize,
     }
 }

@@ -1,8 +1,9 @@
 //! How a board comes behind a lock, with new seats.
-ghost use Rattle.std.specs.Prelude.{◌≡◌, ◌+◌, ◌<◌, ◌≤◌, [], IfErr, IfOk, OnOk, replicate};
+ghost use Rattle.std.specs.Prelude.{◌≡◌, ◌+◌, ◌<◌, ◌≤◌, [], IfErr, IfOk, OnOk, false, replicate};
 ghost use Rattle.board_terms.specs.declared.config.BuildFault.TheVariants.{NoMemory};
 ghost use Rattle.board_terms.specs.Limits.{IsGood};
 ghost use Rattle.board_lock.specs.Events.{IsActor};
+ghost use Rattle.board_lock.specs.Inside.Rests.{held, none_rest};
 ghost use Rattle.board_lock.specs.Seats.{new_seats, sitting};
 
 use crate::desk::Desk;
@@ -14,7 +15,8 @@ use ghost_log::Log;
 use std::alloc::{AllocError, Global};
 use std::sync::ledger::Share;
 
-/// What the lock of a board holds whose history is empty, and its seats. Where memory is refused, the board is back.
+/// What the lock of a board holds whose history is empty, and its seats: nobody rests, and the end wasn't called for. Where
+/// memory is refused, the board is back.
 pub(crate) fn open_desk<K: Room>(
     alloc: Global,
     room: NewRoom,
@@ -24,6 +26,7 @@ pub(crate) fn open_desk<K: Room>(
     requires room { (room.config ≡ K.opening.config) × (room.log ≡ K.log) }
     requires ledger { (room.ledger ≡ K.name) × (room.parts ≡ K.parts) × (K.all ≡ K.parts) }
     requires good { IsGood K.opening.config }
+    ensures desk { IfOk result (λ r. r.0 ≡ held board none_rest false) }
     ensures seats { IfOk result (λ r. r.1.items ≡ new_seats K.opening.config) }
     ensures all { K.all ≡ K.opening.config.harts + 1 }
     ensures back { IfErr result (λ e. (e.0 ≡ board) × (e.1 ≡ NoMemory)) }

@@ -1,5 +1,5 @@
 //! The board behind its lock, for threads.
-ghost use Rattle.std.specs.Prelude.{◌≡◌, ◌≢◌, ◌⊎◌, ℕ, ◌+◌, ◌<◌, ◌≤◌, ◌↔◌, ◌∷◌, ◌++◌, [], All, IfOk, IfErr, IfSome, IsOk, IsErrOf, OnOk, OnErr, length, true};
+ghost use Rattle.std.specs.Prelude.{◌≡◌, ◌≢◌, ◌⊎◌, ℕ, ◌+◌, ◌<◌, ◌≤◌, ◌↔◌, ◌∷◌, ◌++◌, [], All, IfOk, IfErr, IfSome, IsOk, IsErrOf, OnOk, OnErr, Some, length, slice_get, true};
 ghost use mathlib.Core.List.{IsPrefix};
 ghost use Rattle.board_terms.specs.declared.config.BuildFault.TheVariants.{BadConfig, NoMemory};
 ghost use Rattle.board_terms.specs.Limits.{IsGood};
@@ -7,13 +7,14 @@ ghost use Rattle.board_core.specs.Opening.{opening_at};
 ghost use Rattle.board_core.specs.Replies.{IsLegal};
 ghost use Rattle.hart_mask.specs.Ids.{has};
 ghost use Rattle.board_lock.specs.Events.{IsActor, events_in, events_of, ops_of};
+ghost use Rattle.board_lock.specs.Inside.Kept.{number_of};
 ghost use Rattle.board_lock.specs.Seats.{IsOneEach, new_seats, seeing};
 ghost use Rattle.board_lock.specs.Views.{IsDone, IsRefused, IsView};
 ghost use Rattle.board_lock.specs.Coming.{has_come_to};
 ghost use Rattle.board_lock.specs.declared.rests.Rest.TheVariants.{Changed};
 
 use crate::closing::{is_one_each, settle};
-use crate::desk::{Desk, Pause};
+use crate::desk::{Desk, Pause, actor_number};
 use crate::opening::open_desk;
 use crate::receipts::Receipt;
 use crate::records::Record;
@@ -118,6 +119,7 @@ impl<K: Room> SharedBoard<K> {
     #[inline(always)]
     pub fn call(&self, rt: &impl Wait, seat: &mut Seat<K>, op: Op) -> Result<Receipt<K>, Refusal>
         ensures receipt { IfOk result (λ r. (r.actor ≡ seat.old.actor) × (r.op ≡ op) × (r.ordinal ≡ seat.old.count)) }
+        ensures place { IfOk result (λ r. K.opening.places + length seat.new.saw ≡ r.place + 1) }
         ensures actor { seat.new.actor ≡ seat.old.actor }
         ensures accepted { OnOk result (seat.new.count ≡ seat.old.count + 1) }
         ensures ops { OnOk result (seat.new.ops ≡ seat.old.ops ++ op ∷ []) }
@@ -145,6 +147,7 @@ impl<K: Room> SharedBoard<K> {
     ) -> Result<(Receipt<K>, HartView), Refusal>
         ensures receipt { IfOk result
             (λ r. (r.0.actor ≡ seat.old.actor) × (r.0.op ≡ op) × (r.0.ordinal ≡ seat.old.count)) }
+        ensures place { IfOk result (λ r. K.opening.places + length seat.new.saw ≡ r.0.place + 1) }
         ensures view { IfOk result (λ r. IsView K.opening seat.new r.1) }
         ensures actor { seat.new.actor ≡ seat.old.actor }
         ensures accepted { OnOk result (seat.new.count ≡ seat.old.count + 1) }
@@ -178,10 +181,10 @@ impl<K: Room> SharedBoard<K> {
     {
         let mut left = woken.harts;
         while let Some(h) = left.pop_first() {
-            self.bells[h as usize].notify_one();
+            self.bell(Actor::Hart(h)).notify_one();
         }
         if woken.clock {
-            self.bells[self.config.harts as usize].notify_one();
+            self.bell(Actor::Clock).notify_one();
         }
     }
 
@@ -193,14 +196,12 @@ impl<K: Room> SharedBoard<K> {
         });
     }
 
-    /// What the actor's seat rests by.
+    /// What the actor's seat rests by: the bell of the actor's number.
     fn bell(&self, actor: Actor) -> &Condvar
         requires { IsActor K.opening.config actor }
+        ensures { slice_get self.now.bells.items (number_of K.opening.config actor) ≡ Some result.now }
     {
-        match actor {
-            Actor::Hart(h) => &self.bells[h as usize],
-            Actor::Clock => &self.bells[self.config.harts as usize],
-        }
+        &self.bells[actor_number(&self.config, actor)]
     }
 
     /// What the seat's hart may do next, after the events that there are at this moment, which the seat has seen since. It is
