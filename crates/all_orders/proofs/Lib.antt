@@ -1,1 +1,2 @@
+mod StepsTold
 mod Verdicts

@@ -24,12 +24,12 @@ loop-place-preserved g c =
     ∙ ap (λ (told : Told). Some told) (sym c.index-answers-place.is) in (
       (let long = before.0 in let is = many in omega arith),
       (c.put_point.ensures.cut ∙ before.1),
-      (λ numbers p seconds told place verdict at.
+      (λ numbers p seconds told needs place verdict at.
           elim (slice_get-either old found.0 place verdict (subst (λ (vs : List Verdict). slice_get vs place ≡ Some verdict) grown at)) [
-            | inl earlier ↦ before.2 numbers p seconds told place verdict earlier
+            | inl earlier ↦ before.2 numbers p seconds told needs place verdict earlier
             | inr last ↦
                 let here : place ≡ c.loop-place.place = last.0 ∙ before.0 in
-                let is : IsFound numbers p (rule_at conditions c.loop-place.place) found.0 = found.2 numbers p seconds (told c.loop-place.place c.index-answers-place.result told-at) in
+                let is : IsFound numbers p (rule_at conditions c.loop-place.place) found.0 = found.2 numbers p seconds (told c.loop-place.place c.index-answers-place.result told-at) needs in
                 subst (λ n. IsFound numbers p (rule_at conditions n) verdict) (sym here) (subst (λ v. IsFound numbers p (rule_at conditions c.loop-place.place) v) last.1 is)
           ]),
     )

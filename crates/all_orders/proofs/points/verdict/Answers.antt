@@ -7,10 +7,10 @@ use Rattle.all_orders.proofs.Verdicts.{met-holds}
 use Rattle.all_orders.proofs.points.verdict.Goals as goal
 
 pub returns-in-TooMany : goal.returns-in-TooMany
-returns-in-TooMany g c numbers p seconds told = c.too_many.ensures numbers p (rule_at c.args.search.now.trial.now.case.conditions.now c.args.place)
+returns-in-TooMany g c numbers p seconds told needs = c.too_many.ensures numbers p (rule_at c.args.search.now.trial.now.case.conditions.now c.args.place)
 
 pub returns-in-Holds : goal.returns-in-Holds
-returns-in-Holds g c numbers p seconds told =
+returns-in-Holds g c numbers p seconds told needs =
     let asked = rule_at c.args.search.now.trial.now.case.conditions.now c.args.place in
     let met = met-holds numbers p seconds asked (subst (λ (answer : Answer). IsAnswerOf numbers p seconds asked answer) c.in-Holds.is told.answer) in
-    c.of_holding.ensures numbers p seconds asked met told.endless
+    c.of_holding.ensures numbers p seconds met told.endless needs
