@@ -12,8 +12,8 @@ use std::alloc::{AllocError, Global};
 use std::rt::{Clock, Files};
 use std::sync::Wait;
 use std::thread::Threads;
-use test_report::{FileReport, Mode, Point, Verdict, comments, named, unasked};
-use test_terms::{Options, Stop, Trial};
+use test_report::{FileReport, Mode, Point, Verdict, named};
+use test_terms::{Options, Stop, Trial, comments, unasked};
 use tried_orders::{test_orders, test_runs};
 
 /// Tests a file. A file that can't be read, or has a fault, is a failing point.

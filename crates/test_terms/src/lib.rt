@@ -1,15 +1,17 @@
-//! Types that the parts of a test share: a file under test, the options, the time limit, why a test ends early, and the records
-//! that are kept.
+//! What the parts of a test share: a file under test and what is odd about it, the options, the time limit, why a test ends
+//! early, and the records that are kept.
 #![tactic(auto)]
 
 mod kept;
 mod limit;
+mod odd;
 mod options;
 mod stop;
 mod trial;
 
 pub use kept::keep;
 pub use limit::Limit;
+pub use odd::{comments, oddities, unasked};
 pub use options::{Options, Orders, Screen};
 pub use stop::Stop;
 pub use trial::Trial;

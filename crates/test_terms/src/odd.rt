@@ -1,5 +1,4 @@
 //! What is odd about a program.
-use crate::notes::Note;
 use conditions::Keyword;
 use diagnostics::{Case, number_in, said};
 use guest_script::{next_word, without_return};
@@ -7,6 +6,7 @@ use outcome_statistics::{Spot, Visits};
 use std::alloc::{AllocError, Global};
 use std::collections::BTreeSet;
 use std::str;
+use test_report::Note;
 
 /// What is odd about a program, by what its guests met: blocks that were not entered, calls whose every answer was an error, and
 /// entries without a block.
