@@ -8,8 +8,7 @@ use Rattle.board_rules.specs.Course.{harts_of}
 use Rattle.board_rules.specs.Fences.{turns, waiting}
 use Rattle.board_rules.specs.Starts.{all_pending, entered_before, entries, starts}
 
--- Of remote fences the pairs of a fence and a hart of which it was asked, those at which it was applied, and those that
--- wait (profile).
+-- The counts (profile). A remote fence counts once for each hart: as asked, as applied, or as waiting.
 abbrev pub totals : Opening → List Event → Totals
 totals o past = record {
   starts = length (starts o past) + entered_before o past;

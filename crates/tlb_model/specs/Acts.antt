@@ -76,7 +76,7 @@ module _ {E : Type 0} where
       abbrev pub cache_after : List (Act E) → Contents E
       cache_after acts = record { next = next_number acts; live = live acts }
 
-      -- the item of the key's that was filled last, of those that live
+      -- the live item that matches the key and was filled last
       abbrev pub last_live : {K : Type 0} → (holds : K → E → Bool) → K → List (Act E) → Option E
       last_live holds key acts = option_map (λ fill. fill.item) (find (λ fill. holds key fill.item) (live acts))
 
