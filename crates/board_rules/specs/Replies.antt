@@ -1,4 +1,4 @@
--- What a step answers.
+-- The answers of steps: a reply, or a refusal.
 use Rattle.std.specs.Prelude.{◌≡◌, ℕ, List, [], ◌∷◌, Bool, Option, Some, None, Result, Ok, Err}
 use Rattle.sbi_abi.specs.declared.call.Call.{Call}
 use Rattle.sbi_abi.specs.Calls.{call_of}
@@ -75,7 +75,7 @@ answer_when is_full o past (Hart h) op = refused_or (first_that_holds (refusals 
     (reply o past h op)
 answer_when is_full o past Clock op = refused_or (first_that_holds (clock_refusals is_full o past op)) Done
 
--- What a step answers.
+-- The answer of a step.
 abbrev pub answer : Opening → List Event → Actor → Op → Result Reply Refusal
 answer o past actor op = answer_when (is_full o past) o past actor op
 
