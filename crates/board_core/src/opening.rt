@@ -112,12 +112,13 @@ impl Opening {
         self.machine
     }
 
-    /// What comes of one step of one actor on a board that goes on from here, as of `Board::step` while its history has room: its
-    /// event, and what this leaves; or the refusal. It takes memory for a copy of what the board holds, and none for a refusal.
+    /// One step of one actor on a board that continues from this opening and whose history has room, as by
+    /// `Board::step`. It returns the event and the opening that it leaves, or the refusal. It copies the board's state,
+    /// unless the step is refused.
     ///
     /// # Errors
     ///
-    /// 2^56 - 1,000,000 events were accepted since the first opening, or memory was refused.
+    /// `CutFull`: 2^56 - 1,000,000 or more events were accepted since the first opening. `NoMemory`: out of memory.
     pub fn after(
         &self,
         alloc: Global,
