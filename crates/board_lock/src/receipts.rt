@@ -1,4 +1,4 @@
-//! What an accepted call is given.
+//! Receipts of accepted calls.
 ghost use Rattle.std.specs.Prelude.{◌≡◌};
 ghost use Rattle.board_lock.specs.Inside.Kept.{IsReceiptOf};
 ghost use Rattle.board_lock.specs.Receipts.{accepted_call};
