@@ -69,7 +69,7 @@ impl<E> Log<E> {
         }
     }
 
-    /// Each prefix is a prefix of the list as it is now.
+    /// Each prefix begins the list as it is now.
     pub fn begins_with(&mut self, prefix: &Prefix<E>)
         requires { prefix.now.name ≡ self.old.name }
         ensures { (self.new ≡ self.old) × IsPrefix prefix.now.list self.old.list }
@@ -85,7 +85,7 @@ impl<E> Log<E> {
 }
 
 impl<E> ClosedLog<E> {
-    /// Each prefix is a prefix of the closed list.
+    /// Each prefix begins the closed list.
     pub fn begins_with(&self, prefix: &Prefix<E>)
         requires { prefix.now.name ≡ self.now.name }
         ensures { IsPrefix prefix.now.list self.now.list }
