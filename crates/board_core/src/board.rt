@@ -54,7 +54,7 @@ pub struct Board {
     machine: Machine,
 }
 
-/// A part of a board's history, which a cut returns: its opening, and the events since.
+/// A segment of a board's history, which a cut returns: its opening, and the events since.
 #[derive(Drop)]
 pub struct Segment {
     /// The opening, before the first event.
@@ -127,8 +127,9 @@ impl Board {
         Ok(())
     }
 
-    /// Cuts the history: returns the opening and the history so far. The board continues with its present state as the
-    /// opening, and an empty history. It allocates a new history, and copies of the board's state (profile).
+    /// Cuts the history, and returns the segment so far. The board continues with its present state as the opening, and
+    /// an empty history. It allocates a new history and a copy of the board's state; the first cut also allocates the
+    /// first opening.
     ///
     /// # Errors
     ///

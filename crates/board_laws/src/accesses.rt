@@ -16,10 +16,10 @@ ghost use Rattle.board_laws.specs.Limits.{with_limit};
 ghost use Rattle.board_laws.specs.Places.{past_at};
 ghost use Rattle.board_laws.specs.Steady.{IsDecidedBy, TablesAreSteady};
 
-/// If a fence covered an access's translation and reached the hart before the access, the page tables gave the
-/// translation used after the fence was asked, and not later than the access (Privileged 4.2.1; SBI 8). This holds on
-/// every opening of a board, also after cuts, and for any limit, so also for the joined parts of a history that was
-/// cut.
+/// Let an access use a translation, after a fence that covers it has reached the hart. Then the page tables gave that
+/// translation at some time after the fence was asked, and not later than the access (Privileged 4.2.1; SBI 8). This
+/// holds on every opening of a board, also after cuts, and for any limit; so it also holds for the joined parts of a
+/// history that was cut.
 pub fn translations_are_fresh()
     ensures { (o : Opening) (past : List Event) (limit t a p : ℕ) (fence : Fence) (reach : Reach) (entry : Entry)
         → IsOpened (with_limit limit o)
@@ -39,9 +39,9 @@ pub fn fetches_are_fresh()
         → StoodAfter o past a p (phys_at x.event.translation va) value }
 {}
 
-/// If satp and the page tables' result for an access don't change after a fence that covers it was asked, that result
-/// decides the access, as on a board without TLBs (Privileged 4.2.1; SBI 8). This holds on every opening of a board, as
-/// above.
+/// Let a hart make an access, after a fence that covers it has reached the hart. If satp and the page tables' result
+/// for the access haven't changed since the fence was asked, that result decides the access, as on a board without TLBs
+/// (Privileged 4.2.1; SBI 8). This holds on every opening of a board, as above.
 pub fn steady_tables_decide()
     ensures { (o : Opening) (past : List Event) (limit t a p : ℕ) (fence : Fence) (reach : Reach) (result : Result Leaf Cause)
         → IsOpened (with_limit limit o)

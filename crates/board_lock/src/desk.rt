@@ -1,4 +1,4 @@
-//! What the lock protects, and the operations under it.
+//! The desk: what the lock protects, and the operations under it.
 ghost use Rattle.std.specs.Prelude.{◌≡◌, ◌+◌, ◌<◌, ◌∷◌, ◌++◌, [], IfOk, IfErr, OnOk, OnErr, Ok, length, false, true};
 ghost use mathlib.Core.List.{IsPrefix};
 ghost use Rattle.board_core.specs.Replies.{answer, stepped};
@@ -61,7 +61,7 @@ impl<K: Room> Desk<K> {
     ///
     /// # Errors
     ///
-    /// The board's refusal.
+    /// The board's refusal, or `WrongPhase`, if the seat's count isn't that of its actor's events. Nothing changes.
     pub(crate) fn call(&mut self, seat: &mut Seat<K>, op: &Op) -> Result<Answered, Refusal>
         ensures receipt { IfOk result (λ r. IsReceiptOf K.opening.places K.log
             (accepted_call seat.old.actor seat.old.count r.place op.now r.reply) r.seen) }

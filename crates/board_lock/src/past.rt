@@ -34,7 +34,7 @@ impl<K: Room> Model for Past<K> {
 }
 
 impl<K: Room> Past<K> {
-    /// The opening of this part of the history.
+    /// The opening of this segment of the history.
     pub fn opening(&self) -> &Opening
         ensures { result.now ≡ self.now.opening }
     {

@@ -78,8 +78,7 @@ impl<K: Room> Record<K> {
     }
 
     /// Cuts the history of the record's board. It returns the past, in which every receipt of the room still stands,
-    /// and the board, which continues with an empty history. It allocates a new history, and copies of the board's
-    /// state.
+    /// and the board, which continues with an empty history. It allocates what `Board::cut` does.
     ///
     /// # Errors
     ///

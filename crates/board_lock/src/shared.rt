@@ -116,7 +116,8 @@ impl<K: Room> SharedBoard<K> {
     ///
     /// # Errors
     ///
-    /// The refusal that the board gives after the events of this moment, which the seat has then seen. Nothing changes.
+    /// The board's refusal after the events of this moment, which the seat has then seen; or `WrongPhase`, if the
+    /// seat's count isn't that of its actor's events. Nothing changes.
     #[inline(always)]
     pub fn call(&self, rt: &impl Wait, seat: &mut Seat<K>, op: Op) -> Result<Receipt<K>, Refusal>
         ensures receipt { IfOk result (λ r. (r.actor ≡ seat.old.actor) × (r.op ≡ op) × (r.ordinal ≡ seat.old.count)) }
@@ -137,6 +138,10 @@ impl<K: Room> SharedBoard<K> {
     }
 
     /// The same as `call`, together with the seat's view after the event. The lock is held once for both.
+    ///
+    /// # Errors
+    ///
+    /// Those of `call`.
     #[inline(always)]
     pub fn call_and_view(
         &self,

@@ -31,7 +31,7 @@ pub enum Op {
     ReadSip,
     /// A guest clears SSIP of its hart (Privileged 4.1.3).
     ClearSsip,
-    /// A guest waits for an interrupt (Privileged 3.3.3, WFI). The step is accepted once an enabled interrupt is
+    /// A guest waits for an interrupt (Privileged 3.3.3, WFI). The step is accepted only while an enabled interrupt is
     /// pending (profile).
     Wfi,
     /// A guest's local SFENCE.VMA (Privileged 4.2.1): of this virtual address or, with None, of all; in the address

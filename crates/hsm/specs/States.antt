@@ -3,7 +3,7 @@ use Rattle.std.specs.Prelude.{ℕ, Bool, true, false}
 use Rattle.hsm.specs.declared.hart.HartState.{HartState}
 use Rattle.hsm.specs.declared.hart.HartState.TheVariants.{Started, Stopped, StartPending, StopPending, Suspended, SuspendPending, ResumePending}
 
--- The number of each state, as hart_get_status answers it (SBI 9, HSM states).
+-- The number of each state, as hart_get_status returns it (SBI 9, HSM states).
 abbrev pub state_number : HartState → ℕ
 state_number Started = 0
 state_number Stopped = 1

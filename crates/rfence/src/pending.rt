@@ -12,8 +12,8 @@ use hart_mask::HartSet;
 use std::alloc::{AllocError, Global};
 use std::marker::Model;
 
-/// The fences that wait at the harts of a board, by hart. A hart asks one fence at a time, so its fence is stored once,
-/// and the queues of the harts that it asks hold only its id.
+/// The fences that wait at the harts of a board, by hart. A hart asks one fence at a time. So its fence is stored once,
+/// and the queues hold only the ids of callers.
 #[derive(Drop)]
 pub struct Pending<F> {
     callers: Queues<()>,

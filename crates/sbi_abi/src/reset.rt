@@ -10,9 +10,9 @@ use crate::answer::SbiError;
 pub enum ResetKind {
     /// The board is powered off.
     Shutdown,
-    /// The board starts anew, and clears its memory (that it does: profile).
+    /// The board starts again, with its memory cleared (that it is: profile).
     ColdReboot,
-    /// The board starts anew, and keeps its memory (profile).
+    /// The board starts again, and keeps its memory (profile).
     WarmReboot,
 }
 
