@@ -1,4 +1,4 @@
--- A history, recomputed from its steps.
+-- A history, recomputed from its steps (profile).
 use Rattle.std.specs.Prelude.{List, [], ◌∷◌, map}
 use Rattle.board_core.specs.Opening.{Opening}
 use Rattle.board_terms.specs.declared.op.Actor.{Actor}

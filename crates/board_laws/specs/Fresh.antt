@@ -1,4 +1,4 @@
--- The answers that an access can get after a fence.
+-- The answers that an access can get after a fence (Privileged 4.2.1; SBI 8; Zifencei).
 use Rattle.std.specs.Prelude.{◌≡◌, ℕ, ◌<◌, ◌≤◌, Bool, true, not, ◌==◌, ◌&&◌, List, Option, Some, None, Ok}
 use Rattle.sv39.specs.declared.page.Leaf.{Leaf}
 use Rattle.sv39.specs.declared.page.Level.TheVariants.{Kilo}

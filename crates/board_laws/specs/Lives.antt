@@ -1,4 +1,4 @@
--- The live items in a hart's caches, and their origin.
+-- The live items in a hart's caches, and their origin (Privileged 4.2.1; Zifencei).
 use Rattle.std.specs.Prelude.{◌≡◌, ℕ, ◌≤◌, false, List, [], ◌∷◌, ◌++◌, ◌⊎◌}
 use Rattle.std.specs.List.{All, Contains}
 use Rattle.tlb_model.specs.declared.fence.Flush.{Flush}

@@ -1,5 +1,5 @@
--- The places of a history. The place of an event, counted from 0, is the number of events before it since the first
--- opening.
+-- The places of a history (profile). The place of an event, counted from 0, is the number of events before it since the
+-- first opening.
 use Rattle.std.specs.Prelude.{◌≡◌, ℕ, ◌-◌, ◌≤◌, List, ◌∷◌, ◌++◌, drop, Some}
 use Rattle.board_core.specs.Opening.{Opening, place_after}
 use Rattle.board_terms.specs.declared.op.Actor.TheVariants.{Hart}

@@ -1,4 +1,4 @@
--- Accesses after a fence, while the page tables give one result.
+-- Accesses after a fence, while the page tables give one result (Privileged 4.2.1; SBI 8).
 use Rattle.std.specs.Prelude.{◌≡◌, ℕ, ◌<◌, ◌≤◌, List, Option, None, Result, Ok, Err}
 use Rattle.sv39.specs.declared.cause.Cause.{Cause}
 use Rattle.sv39.specs.declared.page.Leaf.{Leaf}

@@ -1,4 +1,4 @@
--- Receipts of accepted calls.
+-- Receipts of accepted calls (profile).
 use Rattle.std.specs.Prelude.{ℕ}
 use Rattle.board_terms.specs.declared.op.Actor.{Actor}
 use Rattle.board_terms.specs.declared.op.Op.{Op}

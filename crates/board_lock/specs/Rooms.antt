@@ -1,4 +1,4 @@
--- Rooms, which tie seats, receipts and a record to their board.
+-- Rooms, which tie seats, receipts and a record to their board (profile).
 use Rattle.std.specs.Prelude.{ℕ}
 use Rattle.board_terms.specs.declared.config.Config.{Config}
 

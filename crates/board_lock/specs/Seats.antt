@@ -1,4 +1,4 @@
--- Seats: each is the right of one actor to make calls.
+-- Seats: each is the right of one actor to make calls (profile).
 use Rattle.std.specs.Prelude.{◌≡◌, ℕ, ◌+◌, if◌then◌else◌, List, [], ◌∷◌, ◌++◌, length, map}
 use Rattle.board_terms.specs.declared.config.Config.{Config}
 use Rattle.board_terms.specs.declared.op.Actor.{Actor}

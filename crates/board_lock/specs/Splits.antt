@@ -1,4 +1,4 @@
--- Splits of records: why they fail.
+-- Splits of records: why they fail (profile).
 use Rattle.std.specs.Prelude.{nat_lt, if◌then◌else◌}
 use Rattle.board_terms.specs.declared.config.BuildFault.{BuildFault}
 use Rattle.board_terms.specs.declared.config.BuildFault.TheVariants.{CutFull, NoMemory}

@@ -1,4 +1,4 @@
--- What a seat sees of its hart, and the answers that it gets, by the events that it last saw.
+-- What a seat sees of its hart, and the answers that it gets, by the events that it last saw (profile).
 use Rattle.std.specs.Prelude.{◌≡◌, ◌≢◌, ◌⊎◌, ℕ, List, reverse, length, Option, Some, None, Ok, Err}
 use mathlib.Core.List.{IsPrefix}
 use Rattle.board_terms.specs.declared.op.Actor.{Actor}

@@ -9,7 +9,8 @@ use board_core::{Actor, HartSet};
 /// Why a rest ended.
 #[derive(Clone, Copy, Debug, PartialEq, Eq)]
 pub enum Rest {
-    /// The number of events isn't the one that the seat had seen.
+    /// The number of events isn't the one that the seat had seen; or, for a seat that waits for something, that has
+    /// come.
     Changed,
     /// Every seat rested, or an end was asked for. From then on every rest ends so.
     AllRest,

@@ -1,4 +1,4 @@
--- The model of a board: its opening and its kept history.
+-- The model of a board: its opening and its kept history (profile).
 use Rattle.std.specs.Prelude.{ℕ, List, Bool, false, ◌==◌}
 use Rattle.std.specs.List.{range_with_len}
 use Rattle.board_terms.specs.declared.config.Config.{Config}

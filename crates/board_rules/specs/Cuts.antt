@@ -1,4 +1,4 @@
--- Cuts of the history: the opening that the events before a cut leave.
+-- Cuts of the history: the opening that the events before a cut leave (profile).
 use Rattle.std.specs.Prelude.{◌≡◌, ℕ, zero, suc, ◌+◌, ◌-◌, ◌*◌, ◌^◌, ◌<◌, ◌≤◌, Bool, List, [], length, map, Option, unwrap_or}
 use Rattle.std.specs.List.{range_with_len}
 use Rattle.hart_mask.specs.Ids.{ids_where}

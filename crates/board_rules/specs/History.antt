@@ -1,4 +1,4 @@
--- An accepted step, as a board records it.
+-- An accepted step, as a board records it (profile).
 use Rattle.std.specs.Prelude.{ℕ, Option, Some, None}
 use Rattle.tlb_model.specs.Entries.{Entry}
 use Rattle.hart_access.specs.declared.accesses.Access.{Access}

@@ -1,4 +1,4 @@
--- The opening of a board: its state before the first event of its kept history.
+-- The opening of a board: its state before the first event of its kept history (profile).
 use Rattle.std.specs.Prelude.{◌≡◌, ℕ, ◌+◌, ◌<◌, ◌≤◌, true, List, [], length, replicate, slice_index_or, Option, None, is_some}
 use Rattle.sbi_abi.specs.declared.reset.Reset.{Reset}
 use Rattle.std.specs.List.{All}

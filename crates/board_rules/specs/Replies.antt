@@ -1,4 +1,4 @@
--- The answers of steps: a reply, or a refusal.
+-- The answers of steps: a reply (SBI 3 to 10; Privileged 4), or a refusal (profile).
 use Rattle.std.specs.Prelude.{◌≡◌, ℕ, List, [], ◌∷◌, Bool, Option, Some, None, Result, Ok, Err}
 use Rattle.sbi_abi.specs.declared.call.Call.{Call}
 use Rattle.sbi_abi.specs.Calls.{call_of}

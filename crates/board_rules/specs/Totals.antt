@@ -1,4 +1,4 @@
--- The counts that the board's table shows.
+-- The counts that the board's table shows (profile).
 use Rattle.std.specs.Prelude.{◌+◌, List, length, sum_by}
 use Rattle.rfence.specs.State.{total_applied, total_asked}
 use Rattle.board_rules.specs.Opening.{Opening}

@@ -1,5 +1,6 @@
 -- The result of an access and its effects, from the memory, satp and the caches before it. The memory is a function
--- from an address to the word there. A cache is a function from a key to the hit.
+-- from an address to the word there. A cache is a function from a key to the hit. (Privileged 4.1.11, 4.2.1, 4.3.2,
+-- 4.4, 4.5; Zifencei.)
 use Rattle.std.specs.Prelude.{ℕ, Option, Some, None, unwrap_or, Result, Ok, Err}
 use Rattle.sv39.specs.declared.cause.Cause.{Cause}
 use Rattle.sv39.specs.Memory.{written}

@@ -1,4 +1,4 @@
--- The entry that an access uses, and what it fills, as conditions.
+-- The entry that an access uses, and what it fills, as conditions (Privileged 4.2.1, 4.3.2; Zifencei).
 use Rattle.std.specs.Prelude.{◌≡◌, ℕ, ◌%◌, true, Option, Some, None, Ok}
 use Rattle.sv39.specs.Maps.{maps}
 use Rattle.sv39.specs.Satp.{asid_of, is_valid, translates}

@@ -1,5 +1,6 @@
 -- How an access gets its physical address, from the memory, satp and the TLB. The memory is a function from an address
--- to the word there, and the TLB a function from an address to the entry hit.
+-- to the word there, and the TLB a function from an address to the entry hit. (Privileged 4.1.11, 4.2.1, 4.3.2, 4.4,
+-- 4.5.)
 use Rattle.std.specs.Prelude.{ℕ, ◌+◌, ◌-◌, ◌%◌, not, ◌==◌, if◌then◌else◌, Option, Some, None, is_some, Result, Ok, Err}
 use Rattle.sv39.specs.declared.cause.Cause.{Cause}
 use Rattle.sv39.specs.declared.cause.Kind.{Kind}

@@ -1,4 +1,4 @@
--- Sets of hart ids. The model of a set is the list of its ids in ascending order.
+-- Sets of hart ids, each below 128 (profile). The model of a set is the list of its ids in ascending order.
 use Rattle.std.specs.Prelude.{◌≡◌, ℕ, Bool, List, ◌==◌, ◌||◌, ◌&&◌, not, nat_lt, if◌then◌else◌, filter}
 use Rattle.std.specs.List.{list_any, range_with_len}
 

@@ -1,4 +1,4 @@
--- A hart as look-ups see it, and a hart in each state.
+-- A hart as look-ups see it, and a hart in each state (SBI 9, HSM states).
 use Rattle.std.specs.Prelude.{Option, Some, None}
 use Rattle.hsm.specs.declared.hart.HartState.{HartState}
 use Rattle.hsm.specs.declared.hart.HartState.TheVariants.{Started, Stopped, StartPending, StopPending, Suspended, SuspendPending, ResumePending}

@@ -1,4 +1,4 @@
--- Columns of a table.
+-- Columns of a table (profile).
 use Rattle.std.specs.Prelude.{ℕ, ◌-◌, List, ◌++◌, length, replicate, false}
 use Rattle.std.specs.Fmt.{digits}
 

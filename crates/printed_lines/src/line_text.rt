@@ -83,7 +83,7 @@ impl LineText {
         &self.bytes[1..self.len]
     }
 
-    /// Appends a line feed, and writes the line to the sink.
+    /// Appends a line feed, and writes the line, without its first blank, to the sink.
     ///
     /// # Errors
     ///

@@ -1,4 +1,4 @@
--- The fences that were applied at a hart, and the effect of a turn on its caches.
+-- The fences that were applied at a hart, and the effect of a turn on its caches (SBI 8; profile).
 use Rattle.std.specs.Prelude.{ℕ, List, [], ◌∷◌, ◌++◌, map, take, ◌==◌, ◌&&◌, if◌then◌else◌}
 use Rattle.rfence.specs.Opening.{Asked, Opening, place_after}
 use Rattle.rfence.specs.Turns.{Turn, Ask, Own, Serve, Stop, Reset, empties}

@@ -1,4 +1,4 @@
--- Cuts of the history: the opening that the turns before a cut leave.
+-- Cuts of the history: the opening that the turns before a cut leave (profile).
 use Rattle.std.specs.Prelude.{◌≡◌, ℕ, ◌≤◌, List, [], ◌++◌, map, slice_index_or, Option, Some, None}
 use Rattle.std.specs.List.{range_with_len}
 use Rattle.fence_queue.specs.declared.request.Request.{Request}

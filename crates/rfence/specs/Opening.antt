@@ -1,4 +1,5 @@
--- The opening of a board's fences: the waiting fences and the open calls before the first event of the kept history.
+-- The opening of a board's fences: the waiting fences and the open calls before the first event of the kept history
+-- (profile).
 use Rattle.std.specs.Prelude.{◌≡◌, ℕ, ◌+◌, ◌*◌, ◌<◌, ◌≤◌, true, List, [], length, map, replicate, slice_index_or, sum_by, Option, Some, None}
 use Rattle.std.specs.List.{All, range_with_len}
 use Rattle.hart_mask.specs.Ids.{has}

@@ -1,4 +1,4 @@
--- The turns that are possible on a board of n harts.
+-- The turns that are possible on a board of n harts (SBI 8; profile).
 use Rattle.std.specs.Prelude.{◌≡◌, ℕ, ◌<◌, true, List, [], ◌∷◌, length, None, is_some}
 use Rattle.rfence.specs.Opening.{IsOpening, Opening}
 use Rattle.rfence.specs.Turns.{Turn, Ask, Own, Serve, Poll, Stop, Reset, Quiet}

@@ -1,4 +1,4 @@
--- The stored state of a board's fences, and the turns that it stands for.
+-- The stored state of a board's fences, and the turns that it stands for (profile).
 use Rattle.std.specs.Prelude.{◌≡◌, ℕ, ◌+◌, ◌*◌, ◌^◌, ◌<◌, ◌≤◌, List, [], ◌∷◌, length, map, sum_by, slice_index_or, if◌then◌else◌, Option, Some, None}
 use Rattle.std.specs.List.{range_with_len}
 use Rattle.hart_mask.specs.Ids.{ids_where}

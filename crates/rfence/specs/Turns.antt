@@ -1,5 +1,5 @@
--- What the events of a board mean for its fences: each event is one turn. A list of turns has the newest first. So the
--- place of a turn, counted from 0, is the length of the rest of the list: the turns before it.
+-- What the events of a board mean for its fences: each event is one turn (SBI 8; profile). A list of turns has the
+-- newest first. So the place of a turn, counted from 0, is the length of the rest of the list: the turns before it.
 use Rattle.std.specs.Prelude.{ℕ, Bool, true, false, ◌==◌}
 
 -- A turn. A hart asks a fence of the harts that pass the test (SBI 8), or makes a local fence (Privileged 4.2.1;

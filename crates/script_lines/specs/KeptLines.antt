@@ -1,4 +1,4 @@
--- Lines in their packed form.
+-- Lines in their packed form (profile).
 use Rattle.std.specs.Prelude.{◌≡◌, ℕ, ◌+◌, ◌<◌, List, [], ◌∷◌, take, drop, length, is_some}
 use Rattle.script_lines.specs.declared.line_shape.LineShape.{LineShape}
 use Rattle.script_lines.specs.declared.lines.TheConstants.{MOST_LINES}

@@ -1,4 +1,4 @@
--- The packed form of a line: its shape, and its numbers among those of all lines.
+-- The packed form of a line: its shape, and its numbers among those of all lines (profile).
 use Rattle.std.specs.Prelude.{ℕ, suc, ◌<◌, true, false, ◌&&◌, if◌then◌else◌, ◌==◌, List, [], ◌∷◌, ◌++◌, take, length, slice_index_or, Option, Some, None}
 use Rattle.std.specs.Int.{w64, cast_signed, cast_unsigned}
 use Rattle.board_terms.specs.declared.op.Actor.{Actor}

@@ -1,4 +1,4 @@
--- The RAM, as a function from a physical address to the word there, if there is one.
+-- The RAM, as a function from a physical address to the word there, if there is one (profile).
 use Rattle.std.specs.Prelude.{◌≡◌, ℕ, ◌+◌, ◌-◌, ◌*◌, ◌/◌, ◌%◌, ◌^◌, ◌≤◌, Bool, ◌==◌, ◌&&◌, nat_le, nat_lt, if◌then◌else◌, List, length, replicate, Option, Some, None}
 use Rattle.std.specs.List.{slice_get}
 use Rattle.sv39.specs.declared.page.TheConstants.{PAGE_BYTES}

@@ -1,4 +1,4 @@
--- The model of a cache: the number of its next fill, and its live fills.
+-- The model of a cache: the number of its next fill, and its live fills (profile).
 use Rattle.std.specs.Prelude.{ℕ, ◌+◌, nat_lt, List, [], ◌∷◌, Bool, not, filter, find, Option, Some, None, option_map}
 use Rattle.tlb_model.specs.declared.cache.Numbered.{Numbered}
 
