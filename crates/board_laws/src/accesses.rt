@@ -39,9 +39,9 @@ pub fn fetches_are_fresh()
         → StoodAfter o past a p (phys_at x.event.translation va) value }
 {}
 
-/// Let a hart make an access, after a fence that covers it has reached the hart. If satp and the page tables' result
-/// for the access haven't changed since the fence was asked, that result decides the access, as on a board without TLBs
-/// (Privileged 4.2.1; SBI 8). This holds on every opening of a board, as above.
+/// Let a hart make an access that satp translates, after a fence that covers it has reached the hart. If satp and the
+/// page tables' result for the access haven't changed since the fence was asked, that result decides the access, as on
+/// a board without TLBs (Privileged 4.2.1; SBI 8). This holds on every opening of a board, as above.
 pub fn steady_tables_decide()
     ensures { (o : Opening) (past : List Event) (limit t a p : ℕ) (fence : Fence) (reach : Reach) (result : Result Leaf Cause)
         → IsOpened (with_limit limit o)

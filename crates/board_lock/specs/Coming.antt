@@ -55,7 +55,7 @@ has_come Firmware now = has_turn now
 has_come Wake now = has_turn now || has_wake now
 has_come End now = false
 
--- the same for a seat; to the clock's, which has no hart, nothing comes
+-- whether what a seat waits for has come; the clock's seat has no hart, so nothing comes to it
 abbrev pub has_come_to : Awaits → Option HartNow → Bool
 has_come_to awaits None = false
 has_come_to awaits (Some now) = has_come awaits now

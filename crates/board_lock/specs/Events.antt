@@ -28,7 +28,7 @@ abbrev pub events_from : ℕ → Actor → List Event → List (ℕ × Event)
 events_from n a [] = []
 events_from n a (e ∷ es) = if is_same a e.actor then (n, e) ∷ events_from (n + 1) a es else events_from (n + 1) a es
 
--- The same; the place of an event is the number of the list's events before it.
+-- The events of an actor, in order, each with the number of the list's events before it.
 abbrev pub events_of : Actor → List Event → List (ℕ × Event)
 events_of a es = events_from 0 a es
 

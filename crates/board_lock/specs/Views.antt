@@ -44,7 +44,7 @@ pub record IsView (o : Opening) (s : Sitting) (v : HartView) : Type 0 where
   pub power : v.is_off ≡ is_off o (reverse s.saw)
   pub events : v.events ≡ length s.saw
 
--- A seat's call was refused: the board refuses it after the events that the seat last saw, or, as WrongPhase, the
+-- A seat's call was refused: the board refuses it after the events that the seat last saw; or it is WrongPhase, and the
 -- seat's count isn't that of its actor's events among them.
 abbrev pub IsRefused : Opening → Sitting → Op → Refusal → Type 0
 IsRefused o s op r = (answer o (reverse s.saw) s.actor op ≡ Err r)

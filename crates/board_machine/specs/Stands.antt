@@ -129,7 +129,8 @@ pub record IsStanding (c : Config) (m : Machine) : Type 0 where
   pub stands : StandsFor (on c o) past m
   pub few : place_after o past < 2 ^ 56
 
--- The same, and the number of events accepted is this place.
+-- The machine stands for some opening of a board with these numbers and some past, and the number of events accepted is
+-- this place.
 pub record IsStandingAt (c : Config) (place : ℕ) (m : Machine) : Type 0 where
   pub standing : IsStanding c m
   pub at : place ≡ place_after standing.o standing.past

@@ -77,7 +77,7 @@ pub record IsKept (o : Opening) (past : List Event) : Type 0 where
   pub early : o.places ≤ 2 ^ 56 - 1000000
 
 -- What holds of a board's course, whatever its limit: the boot hart exists, the history is legal, each turn was
--- possible, and the opening's memory is a RAM.
+-- possible, and the memory is that of a RAM.
 pub record IsHeld (o : Opening) (past : List Event) : Type 0 where
   pub boot_hart_is_there : o.config.boot_hart < o.config.harts
   pub legal : IsLegal o past

@@ -138,7 +138,7 @@ word_acts o (event ∷ past) h =
     (word_filling event.op event.reply event.translation (memory o past) (cached_in o h (word_acts o past h))))
     ∷ word_acts o past h
 
--- The caches of a hart: the opening's caches after all these acts.
+-- The caches of a hart: the opening's caches after what happened to them since.
 abbrev pub caches_of : Opening → List Event → ℕ → Caches
 caches_of o past h = record {
   tlb = cache_after o.places (tlb_at o h) covers_entry (tlb_acts o past h);

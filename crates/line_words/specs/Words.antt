@@ -7,7 +7,7 @@ use Rattle.std.specs.Str.Parse.{IsNumeral, digits_value}
 abbrev pub is_blank : ℕ → Bool
 is_blank b = (b == 32) || (b == 9)
 
--- printable ASCII, or a tab
+-- whether a line can have this byte: printable ASCII, or a tab
 abbrev pub is_allowed : ℕ → Bool
 is_allowed b = (nat_le 32 b && nat_le b 126) || (b == 9)
 
@@ -68,7 +68,7 @@ AreNumbers limit words ns = AllZip (IsNumber limit) words ns
 
 -- ---- signed numbers
 
--- the largest magnitude of a signed number: of a negative one, and of another
+-- the largest magnitude of a signed number: of a negative one (`last_below`), and of any other (`last_above`)
 abbrev pub last_below : ℕ
 last_below = 2 ^ 63
 

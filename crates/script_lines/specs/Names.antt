@@ -91,7 +91,7 @@ op_word Serve = codes "serve"
 op_word Advance = codes "advance"
 op_word Tick = codes "tick"
 
--- the numbers that can follow it
+-- the numbers that can follow an operation's name
 abbrev pub op_places : OpName → Places
 op_places Ecall = any_numbers 2 8
 op_places Load = any_numbers 1 1
@@ -110,7 +110,7 @@ op_places Serve = any_numbers 0 0
 op_places Advance = any_numbers 0 0
 op_places Tick = any_numbers 1 1
 
--- whether a guest can do it; otherwise only a hart's firmware or the clock can
+-- whether a guest can do the operation; otherwise only a hart's firmware or the clock can
 abbrev pub is_guests : OpName → Bool
 is_guests Poll = false
 is_guests Serve = false
@@ -201,7 +201,7 @@ said_word saids.Moved = codes "moved"
 said_word saids.Done = codes "done"
 said_word saids.Refused = codes "refused"
 
--- the numbers that can follow it; the first number of `ret` is signed
+-- the numbers that can follow a reply's or refusal's name; the first number of `ret` is signed
 abbrev pub said_places : SaidName → Places
 said_places saids.Ret = any_numbers 2 2
 said_places saids.Waiting = any_numbers 0 0

@@ -127,14 +127,14 @@ op_made Serve ns = ops.Serve
 op_made Advance ns = ops.Advance
 op_made Tick ns = ops.Tick (number_from ns 0)
 
--- the number of its numbers that are stored: of a call those before the trailing zeros
+-- the number of an operation's numbers that are stored: of a call those before the trailing zeros
 abbrev pub kept_count : OpShape → List ℕ → ℕ
 kept_count Ecall ns = used ns
 kept_count shape ns = length ns
 
 -- ---- what is said
 
--- The shape of a reply or refusal: it without its numbers.
+-- The shape of a reply or refusal: without its numbers.
 abbrev pub said_shape_of : Option Said → SaidShape
 said_shape_of None = shapes.Nothing
 said_shape_of (Some (says.Ret error value)) = shapes.Ret
@@ -189,7 +189,7 @@ said_made shapes.Moved ns = Some (says.Moved (number_from ns 0))
 said_made shapes.Done ns = Some says.Done
 said_made shapes.Refused ns = Some (says.Refused (number_from ns 0))
 
--- the number of its numbers
+-- the number of a reply's or refusal's numbers
 abbrev pub said_count : SaidShape → ℕ
 said_count shapes.Nothing = 0
 said_count shapes.Ret = 2
