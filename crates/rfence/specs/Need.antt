@@ -94,7 +94,7 @@ abbrev pub HaveServed : {F : Type 0} → (o : Opening F) (n : ℕ) (newer older 
 HaveServed o n newer older c = (t : ℕ) → t < n
     → (need o older c t ≤ serves_in t newer) ⊎ (list_any (is_stop t) newer ≡ true)
 
--- Then the call waits for no hart, and can end.
+-- Once each hart has served as often as a call needed, or has stopped, the call waits for no hart, and can end.
 abbrev pub ServedCallsCanEnd : Type 0 → Type 0
 ServedCallsCanEnd F =
     (o : Opening F) (n : ℕ) (newer older : List (Turn F)) (c : ℕ)

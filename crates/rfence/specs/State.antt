@@ -119,7 +119,7 @@ module _ {F : Type 0} where
     pub asked : fences.asked < 2 ^ 63
     pub applied : fences.applied < 2 ^ 63
 
-  -- the harts that a hart's call waits for, and the call itself
+  -- the harts that hart c's call waits for; None: it is in no call
   abbrev pub call_at : State F → ℕ → Option (List ℕ)
   call_at fences c = slice_index_or fences.calls c None
 
