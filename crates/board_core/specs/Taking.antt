@@ -1,4 +1,4 @@
--- One step on what a board begins with, where no event was accepted since (profile).
+-- One step on an opening, with an empty history (profile).
 use Rattle.std.specs.Prelude.{[], ◌∷◌, Option, Result, Ok, Err, false}
 use Rattle.board_terms.specs.declared.op.Actor.{Actor}
 use Rattle.board_terms.specs.declared.op.Actor.TheVariants.{Hart, Clock}
@@ -14,7 +14,7 @@ use Rattle.board_core.specs.Opening.{Opening}
 use Rattle.board_core.specs.Refusals.{clock_refusals, first_that_holds, refusals}
 use Rattle.board_core.specs.Replies.{answer_when, reply}
 
--- the first refusal of a step that holds, if one does, and what is replied where none does
+-- the refusal of a step, if it is refused, and the reply if it isn't
 abbrev pub refusal_at : Opening → Actor → Op → Option Refusal
 refusal_at o (Hart h) op = first_that_holds (refusals false o [] h op)
 refusal_at o Clock op = first_that_holds (clock_refusals false o [] op)
@@ -28,12 +28,12 @@ abbrev pub event_with : Opening → Actor → Op → Reply → Event
 event_with o actor op
     reply = record { actor = actor; op = op; reply = reply; translation = used_by_actor o [] actor op }
 
--- what comes of a step with this answer
+-- the result of a step with this answer
 abbrev pub step_with : Opening → Actor → Op → Result Reply Refusal → Result Taken Refusal
 step_with o actor op (Ok reply) = let event = event_with o actor op reply in Ok
     (record { event = event; opening = opening_of o (event ∷ []) })
 step_with o actor op (Err refusal) = Err refusal
 
--- What comes of a step, while the history has room: the event of its answer, and what this leaves; or the refusal.
+-- The result of a step while the history has room: its event and the opening that it leaves, or the refusal.
 abbrev pub step_from : Opening → Actor → Op → Result Taken Refusal
 step_from o actor op = step_with o actor op (answer_when false o [] actor op)

@@ -39,25 +39,25 @@ use std::mem;
 use sv39::{Cause, Kind, Leaf};
 use tlb_model::{Entry, FetchWord, Flush, Live};
 
-/// The most events that may have been accepted since the first opening where a history is cut, so that places, fill numbers and
-/// counts have room for as many more as it may hold.
+/// The most events since the first opening before a cut (profile). Places, fill numbers and counts then have room for a
+/// full history more.
 pub(crate) const LAST_CUT: u64 = (1 << 56) - 1_000_000;
 
 /// A board of harts: its opening and the history of accepted steps.
 #[derive(Drop)]
 pub struct Board {
     config: Config,
-    // (how many events were accepted before the kept history, and what a cut of the history left, if there was one)
+    // (the number of events accepted before the kept history, and the opening that a cut left, if there was a cut)
     places: u64,
     opened: Option<Opening>,
     events: Vec<Event>,
     machine: Machine,
 }
 
-/// A part of a board's history: what it began with, and the events from there on.
+/// A segment of a board's history, which a cut returns: its opening, and the events since.
 #[derive(Drop)]
 pub struct Segment {
-    /// What it began with.
+    /// The opening, before the first event.
     pub opening: Opening,
     /// The events, oldest first.
     pub events: Vec<Event>,
@@ -80,8 +80,12 @@ impl Model for Board {
 }
 
 impl Board {
-    /// A board at its opening: only the boot hart's start is pending, and nothing happened yet. Memory for
-    /// the whole history is reserved here.
+    /// A board at its first opening: the boot hart's start is pending, and nothing has happened yet. Memory for the
+    /// whole history is reserved here.
+    ///
+    /// # Errors
+    ///
+    /// `BadConfig`: a number of `config` is outside the limits. `NoMemory`: out of memory.
     pub fn new(alloc: Global, config: &Config) -> Result<Board, BuildFault>
         ensures bad { IsErrOf result BadConfig ↔ ¬ IsGood config.now }
         ensures fault { IfErr result (λ fault. (fault ≡ BadConfig) ⊎ (fault ≡ NoMemory)) }
@@ -106,12 +110,12 @@ impl Board {
         })
     }
 
-    /// Begins anew: the board is at its opening again, and keeps the memory for its history, so that this takes no longer
-    /// where the limit is larger.
+    /// Puts the board back to its first opening. It keeps the memory reserved for the history, so the cost doesn't
+    /// depend on the limit.
     ///
     /// # Errors
     ///
-    /// Memory was refused, and the board is as it was.
+    /// Out of memory. The board doesn't change.
     pub fn begin_anew(&mut self, alloc: Global) -> Result<(), AllocError>
         ensures opening { OnOk result (self.new ≡ record { opening = opening_at self.old.opening.config; past = [] }) }
         ensures kept { OnErr result (self.new ≡ self.old) }
@@ -123,12 +127,14 @@ impl Board {
         Ok(())
     }
 
-    /// Cuts the history: hands out what the board began with and the history so far, and goes on with an empty one, and with
-    /// what it is now as what it begins with. It takes memory for a history and for a copy of what the board holds.
+    /// Cuts the history, and returns the segment so far. The board continues with its present state as the opening, and
+    /// an empty history. It allocates a new history and a copy of the board's state; the first cut also allocates the
+    /// first opening.
     ///
     /// # Errors
     ///
-    /// More than 2^56 - 1,000,000 events were accepted since the first opening, or memory was refused. The board is as it was.
+    /// `CutFull`: more than 2^56 - 1,000,000 events were accepted since the first opening. `NoMemory`: out of memory.
+    /// The board doesn't change.
     pub fn cut(&mut self, alloc: Global) -> Result<Segment, BuildFault>
         ensures full { IsErrOf result CutFull ↔ last_cut < place_after self.old.opening self.old.past }
         ensures fault { IfErr result (λ fault. (fault ≡ CutFull) ⊎ (fault ≡ NoMemory)) }
@@ -161,12 +167,11 @@ impl Board {
         Ok(Segment { opening, events })
     }
 
-    /// A board that goes on from an opening: it is as the board was then, and its history is empty. Memory for the whole
-    /// history is reserved here.
+    /// A board that continues from an opening, with an empty history. Memory for the whole history is reserved here.
     ///
     /// # Errors
     ///
-    /// Memory was refused.
+    /// Out of memory.
     pub fn at(alloc: Global, opening: &Opening) -> Result<Board, AllocError>
         ensures { IfOk result (λ b. b ≡ record { opening = opening.now; past = [] }) }
     {
@@ -184,12 +189,11 @@ impl Board {
         })
     }
 
-    /// What the history leaves: what a board begins with that goes on from here, as after a cut. It takes memory for a copy of
-    /// what the board holds.
+    /// The opening that the history leaves, as after a cut: a board can continue from it. It copies the board's state.
     ///
     /// # Errors
     ///
-    /// More than 2^56 - 1,000,000 events were accepted since the first opening, or memory was refused.
+    /// `CutFull`: more than 2^56 - 1,000,000 events were accepted since the first opening. `NoMemory`: out of memory.
     pub fn left(&self, alloc: Global) -> Result<Opening, BuildFault>
         ensures full { IsErrOf result CutFull ↔ last_cut < place_after self.now.opening self.now.past }
         ensures fault { IfErr result (λ fault. (fault ≡ CutFull) ⊎ (fault ≡ NoMemory)) }
@@ -205,13 +209,17 @@ impl Board {
         Ok(Opening::of(self.config, here, machine))
     }
 
-    /// One step of one actor: the one event that it records, or a refusal that leaves all as it was.
+    /// One step of one actor. An accepted step records one event and returns its reply. It allocates nothing.
+    ///
+    /// # Errors
+    ///
+    /// The first refusal that applies (profile). Nothing changes.
     pub fn step(&mut self, actor: Actor, op: Op) -> Result<Reply, Refusal>
         ensures answer { result ≡ answer self.old.opening self.old.past actor op }
         ensures after { self.new ≡ stepped self.old actor op }
         ensures needs { KeepsNeeds self.old self.new actor op result }
     {
-        // (what calls need rests on the board's invariant)
+        // (the clause of needs rests on the board's invariant)
         let _invariant = &self.config;
         if let Some(refusal) = self.refusal(actor, op) {
             return Err(refusal);
@@ -223,7 +231,7 @@ impl Board {
         }
     }
 
-    /// Why a step of one actor is refused, if it is: the first refusal that holds (profile). `step` refuses exactly so.
+    /// The refusal that `step` would return: the first that applies (profile). None: the step would be accepted.
     #[inline(always)]
     pub fn refusal(&self, actor: Actor, op: Op) -> Option<Refusal>
         ensures { result ≡ first_refusal self.now.opening self.now.past actor op }
@@ -231,7 +239,7 @@ impl Board {
         self.view().refusal(actor, op)
     }
 
-    /// Carries out an access of hart `h` that isn't refused, and records it: the reply.
+    /// Performs and records an access of hart `h` that isn't refused, and returns the reply.
     #[inline(always)]
     fn access_step(&mut self, h: u64, va: u64, what: Access) -> Reply
         requires { first_refusal self.old.opening self.old.past (Hart h) (access_op va what) ≡ None }
@@ -244,7 +252,7 @@ impl Board {
         reply
     }
 
-    /// Carries out an operation of hart `h` that isn't refused, and is no access, and records it: the reply.
+    /// Performs and records an operation of hart `h` that isn't refused and is no access, and returns the reply.
     #[inline(always)]
     fn other_step(&mut self, h: u64, op: Op) -> Reply
         requires unrefused { first_refusal self.old.opening self.old.past (Hart h) op ≡ None }
@@ -258,7 +266,7 @@ impl Board {
         reply
     }
 
-    /// Carries out a tick that isn't refused, and records it: the reply.
+    /// Performs and records a tick that isn't refused, and returns the reply.
     fn clock_step(&mut self, op: Op) -> Reply
         requires { first_refusal self.old.opening self.old.past Clock op ≡ None }
         ensures answer { Ok result ≡ answer self.old.opening self.old.past Clock op }
@@ -270,14 +278,14 @@ impl Board {
         Reply::Done
     }
 
-    /// How many events were accepted since the first opening: the place of the next one.
+    /// The place of the next event: the number of events accepted since the first opening.
     pub fn place(&self) -> u64
         ensures { result ≡ place_after self.now.opening self.now.past }
     {
         self.places + self.events.len() as u64
     }
 
-    /// The accepted events, oldest first: a legal history of a good opening, within the limit.
+    /// The accepted events, oldest first: a legal history of at most the limit.
     pub fn history(&self) -> &[Event]
         ensures events { reverse result.now ≡ self.now.past }
         ensures good { IsGood self.now.opening.config }
@@ -288,14 +296,14 @@ impl Board {
         &self.events
     }
 
-    /// How many events were accepted before those of the kept history: the place of its first.
+    /// The place of the kept history's first event: the number of events accepted before it.
     pub fn places(&self) -> u64
         ensures { result ≡ self.now.opening.places }
     {
         self.places
     }
 
-    /// What the board was opened with.
+    /// The numbers that the board was opened with.
     pub fn config(&self) -> &Config
         ensures config { result.now ≡ self.now.opening.config }
         ensures good { IsGood self.now.opening.config }
@@ -303,7 +311,7 @@ impl Board {
         &self.config
     }
 
-    /// The board as it is, to be looked at.
+    /// A view of the board, for look-ups.
     #[inline(always)]
     pub fn view(&self) -> View<'_>
         ensures { result ≡ self.now }
@@ -325,7 +333,7 @@ impl Board {
         self.view().state(h)
     }
 
-    /// Where hart `h` begins, while its start is pending, or while it is in a non-retentive suspend.
+    /// The entry point of hart `h`: of its pending start, or of the non-retentive suspend that it is in (SBI 9.1, 9.4).
     pub fn kept(&self, h: u64) -> Option<EntryPoint>
         requires { h < self.now.opening.config.harts }
         ensures { result ≡ kept self.now.opening self.now.past h }
@@ -357,7 +365,7 @@ impl Board {
         self.view().ssip(h)
     }
 
-    /// Whether STIP of hart `h` is 1: its deadline has come (Privileged 4.1.3, SBI 6).
+    /// Whether STIP of hart `h` is 1: its deadline is due (Privileged 4.1.3, SBI 6).
     pub fn stip(&self, h: u64) -> bool
         requires { h < self.now.opening.config.harts }
         ensures { result ≡ stip self.now.opening self.now.past h }
@@ -365,7 +373,7 @@ impl Board {
         self.view().stip(h)
     }
 
-    /// Whether an interrupt is pending at hart `h` that its sie enables (Privileged 3.3.3, WFI).
+    /// Whether a pending interrupt of hart `h` is enabled in its sie (Privileged 3.3.3, WFI).
     pub fn wake(&self, h: u64) -> bool
         requires { h < self.now.opening.config.harts }
         ensures { result ≡ wake self.now.opening self.now.past h }
@@ -381,15 +389,16 @@ impl Board {
         self.view().satp(h)
     }
 
-    /// The word of the RAM at a physical address; None where the address isn't aligned to 8, or outside the RAM.
+    /// The word of the RAM at a physical address. None: the address is outside the RAM, or isn't aligned to 8.
     pub fn word(&self, at: u64) -> Option<u64>
         ensures { result ≡ memory self.now.opening self.now.past at }
     {
         self.view().word(at)
     }
 
-    /// What a walk of the page tables gives hart `h` now for an access of this kind, whatever its TLB holds, where its satp
-    /// isn't bare: the leaf that maps the address and allows the access, or why the access fails (Privileged 4.3.2).
+    /// The result of a page table walk by the satp of hart `h`, whatever its TLB holds: the leaf that maps the address
+    /// and allows an access of this kind, or why the access fails (Privileged 4.3.2). It has no meaning if satp's MODE
+    /// is Bare.
     pub fn walk(&self, h: u64, va: u64, kind: Kind) -> Result<Leaf, Cause>
         requires { h < self.now.opening.config.harts }
         ensures { result ≡ maps (memory self.now.opening self.now.past)
@@ -398,7 +407,7 @@ impl Board {
         self.view().walk(h, va, kind)
     }
 
-    /// The live entries of the TLB of hart `h`, in the order of filling.
+    /// The live entries of the TLB of hart `h`, oldest first.
     pub fn tlb(&self, h: u64) -> Live<'_, Entry>
         requires { h < self.now.opening.config.harts }
         ensures { reverse result ≡ (caches_of self.now.opening self.now.past h).tlb.live }
@@ -406,7 +415,7 @@ impl Board {
         self.view().tlb(h)
     }
 
-    /// The live words of the instruction cache of hart `h`, in the order of filling.
+    /// The live words of the instruction cache of hart `h`, oldest first.
     pub fn fetched(&self, h: u64) -> Live<'_, FetchWord>
         requires { h < self.now.opening.config.harts }
         ensures { reverse result ≡ (caches_of self.now.opening self.now.past h).words.live }
@@ -414,7 +423,7 @@ impl Board {
         self.view().fetched(h)
     }
 
-    /// The fences that wait at hart `h`, the one first that it serves first.
+    /// The fences that wait at hart `h`, in the order in which it serves them.
     pub fn waiting(&self, h: u64) -> Waiting<'_, Flush>
         requires { h < self.now.opening.config.harts }
         ensures { result ≡ waiting self.now.opening self.now.past h }
@@ -422,7 +431,7 @@ impl Board {
         self.view().waiting(h)
     }
 
-    /// How many fences wait at hart `h`: fewer than there are harts.
+    /// The number of fences that wait at hart `h`, fewer than there are harts.
     pub fn waiting_len(&self, h: u64) -> u64
         requires { h < self.now.opening.config.harts }
         ensures count { result ≡ length (waiting self.now.opening self.now.past h) }
@@ -439,7 +448,7 @@ impl Board {
         self.view().phase(h)
     }
 
-    /// The harts that the fence call of hart `h` waits for; None outside of a fence call.
+    /// The harts that the fence call of hart `h` waits for. None: the hart is in no fence call.
     pub fn outstanding(&self, h: u64) -> Option<HartSet>
         requires { h < self.now.opening.config.harts }
         ensures { result ≡ outstanding self.now.opening self.now.past h }
@@ -447,11 +456,10 @@ impl Board {
         self.view().outstanding(h)
     }
 
-    /// How many serves by hart `t` the fence call of hart `caller` still needs, until it waits for `t` no more (profile). It
-    /// is 0 outside of a fence call, where the call doesn't wait for `t`, and where there is no such hart; and it is always
-    /// less than the number of harts. In each history that goes on from here without a reset and without a poll by `caller`,
-    /// `t`'s serves are what is left of it, and once each hart has served as often as was needed of it, or has stopped, the
-    /// call can end.
+    /// The number of serves by hart `t` after which the fence call of hart `caller` no longer waits for `t` (profile).
+    /// It is less than the number of harts. It is 0 if `caller` is in no fence call, the call doesn't wait for `t`, or
+    /// one of the harts doesn't exist. While the call is open, without a reset and without a poll by `caller`, each
+    /// serve by `t` lowers it by one. Once each hart has served as often as needed, or has stopped, the call can end.
     pub fn need(&self, caller: u64, t: u64) -> u64
         ensures need { result ≡ need self.now.opening self.now.past caller t }
         ensures limit { result < self.now.opening.config.harts }
@@ -499,8 +507,8 @@ impl Board {
         self.view().time()
     }
 
-    /// The counts of the board's table. For each hart, its accepted starts are its entries followed by its
-    /// pending start.
+    /// The counts of the board's table (profile). Each hart's accepted starts are its entries followed by its pending
+    /// start.
     pub fn totals(&self) -> Totals
         ensures counts { result ≡ totals self.now.opening self.now.past }
         ensures starts { StartsAreEntered self.now.opening self.now.past }
@@ -509,7 +517,7 @@ impl Board {
     }
 }
 
-/// What a board began with, where it doesn't keep it, since its history was never cut.
+/// The first opening, if the board stores none because its history was never cut.
 fn first_opening(
     alloc: Global,
     config: &Config,

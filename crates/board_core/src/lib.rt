@@ -1,6 +1,6 @@
-//! A board of harts behind one firmware: its calls and starts, one accepted event at a time.
+//! A board of harts with its firmware: it takes one step at a time, and records the accepted ones.
 //!
-//! Everything that a `Board` answers is a definition of `specs/` on its opening and its kept history.
+//! Each answer of a `Board` is a definition of `specs/` on its opening and its kept history.
 #![tactic(auto)]
 
 mod board;

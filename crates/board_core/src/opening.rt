@@ -1,4 +1,4 @@
-//! What a board begins with, before the first event of its kept history: the board as it was then.
+//! The opening of a board: its state before the first event of its kept history.
 ghost use Rattle.std.specs.Prelude.{◌≡◌, ◌⊎◌, ◌+◌, ◌<◌, ◌≤◌, ◌↔◌, IfErr, IfOk, IsErrOf, Ok, [], ◌∷◌, length, None};
 ghost use Rattle.board_core.specs.Cuts.{last_cut, opening_of};
 ghost use Rattle.board_core.specs.Inside.Stands.{opening_in};
@@ -23,8 +23,8 @@ use std::alloc::{AllocError, Global};
 use std::marker::Model;
 use tlb_model::Flush;
 
-/// What a board began with: its numbers, and what a board was before the first event of the kept history, with the places,
-/// dates and numbers of what was before. Its `view` answers what such a board answers.
+/// The opening of a board: its numbers, and its state before the first event of the kept history, with the places,
+/// dates and fill numbers of earlier events. Its `view` gives the look-ups of a board at this opening.
 #[derive(Drop)]
 pub struct Opening {
     config: Config,
@@ -32,12 +32,12 @@ pub struct Opening {
     machine: Machine,
 }
 
-/// What comes of a step: its event, and what a board begins with that goes on from there.
+/// The result of an accepted step: its event, and the opening that it leaves.
 #[derive(Drop)]
 pub struct Taken {
     /// The event.
     pub event: Event,
-    /// What it leaves.
+    /// The opening that it leaves.
     pub opening: Opening,
 }
 
@@ -57,11 +57,11 @@ impl Model for Opening {
 }
 
 impl Opening {
-    /// What a new board of these numbers begins with.
+    /// The first opening of a board with these numbers.
     ///
     /// # Errors
     ///
-    /// Memory was refused.
+    /// Out of memory.
     pub fn first(alloc: Global, config: &Config) -> Result<Opening, AllocError>
         requires { IsGood config.now }
         ensures { IfOk result (λ o. o ≡ opening_at config.now) }
@@ -74,7 +74,7 @@ impl Opening {
         })
     }
 
-    /// What this machine holds, before the event of this place.
+    /// The machine's state as an opening, before the event at this place.
     pub(crate) fn of(config: Config, places: u64, machine: Machine) -> Opening
         requires kept { IsKept (opening_in config places machine) [] }
         requires stands { StandsFor (opening_in config places machine) [] machine }
@@ -87,11 +87,11 @@ impl Opening {
         }
     }
 
-    /// An opening that is the same.
+    /// A copy.
     ///
     /// # Errors
     ///
-    /// Memory was refused.
+    /// Out of memory.
     pub fn try_copy(&self, alloc: Global) -> Result<Opening, AllocError>
         ensures { IfOk result (λ copy. copy ≡ self.now) }
     {
@@ -103,7 +103,7 @@ impl Opening {
         })
     }
 
-    /// The machine, which stands for it, where no event was accepted since.
+    /// The machine, which stands for this opening and an empty history.
     pub(crate) fn into_machine(self) -> Machine
         ensures kept { IsKept self [] }
         ensures stands { StandsFor self [] result }
@@ -112,12 +112,13 @@ impl Opening {
         self.machine
     }
 
-    /// What comes of one step of one actor on a board that goes on from here, as of `Board::step` while its history has room: its
-    /// event, and what this leaves; or the refusal. It takes memory for a copy of what the board holds, and none for a refusal.
+    /// One step of one actor on a board that continues from this opening and whose history has room, as by
+    /// `Board::step`. It returns the event and the opening that it leaves, or the refusal. It copies the board's state,
+    /// unless the step is refused.
     ///
     /// # Errors
     ///
-    /// 2^56 - 1,000,000 events were accepted since the first opening, or memory was refused.
+    /// `CutFull`: 2^56 - 1,000,000 or more events were accepted since the first opening. `NoMemory`: out of memory.
     pub fn after(
         &self,
         alloc: Global,
@@ -140,16 +141,17 @@ impl Opening {
         Ok(Ok(self.taken(machine, actor, op)))
     }
 
-    /// Why a step of one actor would be refused on a board that goes on from here, if it would be, while its history has room.
+    /// The refusal of a step of one actor, on a board that continues from this opening and whose history has room.
+    /// None: the step would be accepted.
     pub fn refusal(&self, actor: Actor, op: Op) -> Option<Refusal>
         ensures { result ≡ refusal_at self.now actor op }
     {
-        // (a history has room for an event)
+        // (the limit of a history is at least 1, so it has room for an event)
         let _good = self.config();
         self.view().refusal(actor, op)
     }
 
-    /// What comes of a step that isn't refused, on a copy of the machine.
+    /// The result of a step that isn't refused, on a copy of the machine.
     fn taken(&self, mut machine: Machine, actor: Actor, op: Op) -> Taken
         requires early { self.now.places < last_cut }
         requires stands { StandsFor self.now [] machine }
@@ -162,7 +164,7 @@ impl Opening {
         Taken { event, opening }
     }
 
-    /// Carries out a step that isn't refused on a machine that stands for this opening: its event.
+    /// Performs a step that isn't refused on a machine that stands for this opening, and returns its event.
     fn event(&self, machine: &mut Machine, actor: Actor, op: Op) -> Event
         requires stands { StandsFor self.now [] machine.old }
         requires unrefused { refusal_at self.now actor op ≡ None }
@@ -176,8 +178,7 @@ impl Opening {
         }
     }
 
-    /// The board's numbers. A board can open so, and what it begins with is what the look-ups here and those of `view` say, each
-    /// hart's and the sets of harts.
+    /// The board's numbers. A board can have this opening, and the look-ups here and of `view` determine it.
     pub fn config(&self) -> &Config
         ensures config { result.now ≡ self.now.config }
         ensures good { IsGood self.now.config }
@@ -187,7 +188,7 @@ impl Opening {
         &self.config
     }
 
-    /// A board that begins so, to be looked at: no event was accepted since.
+    /// A view of a board at this opening, with an empty history.
     #[inline(always)]
     pub fn view(&self) -> View<'_>
         ensures { result ≡ record { opening = self.now; past = [] } }
@@ -201,14 +202,14 @@ impl Opening {
         }
     }
 
-    /// How many events were accepted before, since the first opening.
+    /// The number of events accepted before it, since the first opening.
     pub fn places(&self) -> u64
         ensures { result ≡ self.now.places }
     {
         self.places
     }
 
-    /// What the supervisor's registers of the harts hold: sstatus.SIE, and what sie enables (Privileged 4.1).
+    /// The supervisor CSRs of the harts: sstatus.SIE and sie (Privileged 4.1).
     pub fn csrs(&self) -> Csrs
         ensures { result ≡ record { sstatus_sie = self.now.sstatus_sie; ssie = self.now.ssie; stie = self.now.stie } }
     {
@@ -222,14 +223,14 @@ impl Opening {
         self.machine.interrupts.ipis.harts()
     }
 
-    /// The words of the RAM, from its start on.
+    /// The words of the RAM, from its first address on.
     pub fn ram(&self) -> &[u64]
         ensures { result.now ≡ self.now.ram }
     {
         self.machine.memory.ram.words()
     }
 
-    /// From this place on each word of the RAM is 0.
+    /// The place from which on every word of the RAM is 0.
     pub fn ram_used(&self) -> usize
         ensures within { result ≤ length self.now.ram }
         ensures clear { IsClear self.now.ram result (length self.now.ram) }
@@ -237,7 +238,7 @@ impl Opening {
         self.machine.memory.ram.used()
     }
 
-    /// The number of the next fill of the TLB of hart `h`: how many entries were filled in it.
+    /// The number of the next fill of hart `h`'s TLB, which is the number of fills so far.
     pub fn tlb_fills(&self, h: u64) -> u64
         requires { h < self.now.config.harts }
         ensures { result ≡ (caches_of self.now [] h).tlb.next }
@@ -245,7 +246,7 @@ impl Opening {
         self.machine.memory.caches[h as usize].tlb.fills()
     }
 
-    /// The number of the next fill of the instruction cache of hart `h`: how many words were filled in it.
+    /// The number of the next fill of hart `h`'s instruction cache, which is the number of fills so far.
     pub fn fetched_fills(&self, h: u64) -> u64
         requires { h < self.now.config.harts }
         ensures { result ≡ (caches_of self.now [] h).words.next }
@@ -253,8 +254,8 @@ impl Opening {
         self.machine.memory.caches[h as usize].words.fills()
     }
 
-    /// The fence call that hart `h` is in, if it is in one: where it was made, among all events, whom it asked, and what is
-    /// dropped there.
+    /// The fence call of hart `h`: the place of its event, the harts that it asked, and its fence. None: it is in no
+    /// call.
     pub fn call(&self, h: u64) -> Option<FenceCall<Flush>>
         requires { h < self.now.config.harts }
         ensures { result ≡ called_at self.now.fences h }

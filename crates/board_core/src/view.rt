@@ -1,4 +1,4 @@
-//! A board as it is, to be looked at: with the history that it keeps, or as a board begins.
+//! Views of boards, for look-ups: of a board with its history, or of an opening.
 ghost use Rattle.std.specs.Prelude.{◌≡◌, ◌-◌, ◌*◌, ◌<◌, ◌≤◌, List, ◌++◌, false, length, reverse};
 ghost use Rattle.interrupts.specs.Timing.{last_time};
 ghost use Rattle.sv39.specs.Maps.{maps};
@@ -29,11 +29,11 @@ use std::marker::Model;
 use sv39::{Cause, Kind, Leaf, walk};
 use tlb_model::{Entry, FetchWord, Flush, Live};
 
-/// A board as it is: its opening and its history, and what each look-up makes of them. It borrows all that it shows.
+/// A view of a board: its opening and its history, with all look-ups. It borrows the board or the opening.
 #[derive(Drop)]
 pub struct View<'a> {
     pub(crate) config: &'a Config,
-    // (how many events were accepted before these, and what a cut of the history left, if there was one)
+    // (the number of events accepted before these, and the opening that a cut left, if there was a cut)
     pub(crate) places: u64,
     pub(crate) opened: Option<&'a Opening>,
     pub(crate) events: &'a [Event],
@@ -58,7 +58,7 @@ impl<'a> Model for View<'a> {
 }
 
 impl<'a> View<'a> {
-    /// Why a step of one actor is refused, if it is: the first refusal that holds (profile).
+    /// The refusal of a step of one actor: the first that applies (profile). None: the step would be accepted.
     #[inline(always)]
     pub fn refusal(&self, actor: Actor, op: Op) -> Option<Refusal>
         ensures { result ≡ first_refusal self.now.opening self.now.past actor op }
@@ -84,7 +84,7 @@ impl<'a> View<'a> {
         self.machine.hsm.status(h)
     }
 
-    /// Where hart `h` begins, while its start is pending, or while it is in a non-retentive suspend.
+    /// The entry point of hart `h`: of its pending start, or of the non-retentive suspend that it is in (SBI 9.1, 9.4).
     pub fn kept(&self, h: u64) -> Option<EntryPoint>
         requires { h < self.now.opening.config.harts }
         ensures { result ≡ kept self.now.opening self.now.past h }
@@ -116,7 +116,7 @@ impl<'a> View<'a> {
         self.machine.interrupts.ipis.pending(h)
     }
 
-    /// Whether STIP of hart `h` is 1: its deadline has come (Privileged 4.1.3, SBI 6).
+    /// Whether STIP of hart `h` is 1: its deadline is due (Privileged 4.1.3, SBI 6).
     pub fn stip(&self, h: u64) -> bool
         requires { h < self.now.opening.config.harts }
         ensures { result ≡ stip self.now.opening self.now.past h }
@@ -124,7 +124,7 @@ impl<'a> View<'a> {
         self.machine.interrupts.timers.pending(h)
     }
 
-    /// Whether an interrupt is pending at hart `h` that its sie enables (Privileged 3.3.3, WFI).
+    /// Whether a pending interrupt of hart `h` is enabled in its sie (Privileged 3.3.3, WFI).
     pub fn wake(&self, h: u64) -> bool
         requires { h < self.now.opening.config.harts }
         ensures { result ≡ wake self.now.opening self.now.past h }
@@ -140,7 +140,7 @@ impl<'a> View<'a> {
         self.machine.memory.satp(h).bits()
     }
 
-    /// The word of the RAM at a physical address; None where the address isn't aligned to 8, or outside the RAM.
+    /// The word of the RAM at a physical address. None: the address is outside the RAM, or isn't aligned to 8.
     pub fn word(&self, at: u64) -> Option<u64>
         ensures { result ≡ memory self.now.opening self.now.past at }
     {
@@ -152,8 +152,9 @@ impl<'a> View<'a> {
         }
     }
 
-    /// What a walk of the page tables gives hart `h` now for an access of this kind, whatever its TLB holds, where its satp
-    /// isn't bare: the leaf that maps the address and allows the access, or why the access fails (Privileged 4.3.2).
+    /// The result of a page table walk by the satp of hart `h`, whatever its TLB holds: the leaf that maps the address
+    /// and allows an access of this kind, or why the access fails (Privileged 4.3.2). It has no meaning if satp's MODE
+    /// is Bare.
     pub fn walk(&self, h: u64, va: u64, kind: Kind) -> Result<Leaf, Cause>
         requires { h < self.now.opening.config.harts }
         ensures { result ≡ maps (memory self.now.opening self.now.past)
@@ -163,7 +164,7 @@ impl<'a> View<'a> {
         walk(&memory.ram, memory.satp(h), va, kind)
     }
 
-    /// The live entries of the TLB of hart `h`, in the order of filling.
+    /// The live entries of the TLB of hart `h`, oldest first.
     pub fn tlb(&self, h: u64) -> Live<'a, Entry>
         requires { h < self.now.opening.config.harts }
         ensures { reverse result ≡ (caches_of self.now.opening self.now.past h).tlb.live }
@@ -171,7 +172,7 @@ impl<'a> View<'a> {
         self.machine.memory.caches[h as usize].tlb.live()
     }
 
-    /// The live words of the instruction cache of hart `h`, in the order of filling.
+    /// The live words of the instruction cache of hart `h`, oldest first.
     pub fn fetched(&self, h: u64) -> Live<'a, FetchWord>
         requires { h < self.now.opening.config.harts }
         ensures { reverse result ≡ (caches_of self.now.opening self.now.past h).words.live }
@@ -179,7 +180,7 @@ impl<'a> View<'a> {
         self.machine.memory.caches[h as usize].words.live()
     }
 
-    /// The fences that wait at hart `h`, the one first that it serves first.
+    /// The fences that wait at hart `h`, in the order in which it serves them.
     pub fn waiting(&self, h: u64) -> Waiting<'a, Flush>
         requires { h < self.now.opening.config.harts }
         ensures { result ≡ waiting self.now.opening self.now.past h }
@@ -187,7 +188,7 @@ impl<'a> View<'a> {
         self.machine.fences.iter(h)
     }
 
-    /// How many fences wait at hart `h`: fewer than there are harts.
+    /// The number of fences that wait at hart `h`, fewer than there are harts.
     pub fn waiting_len(&self, h: u64) -> u64
         requires { h < self.now.opening.config.harts }
         ensures count { result ≡ length (waiting self.now.opening self.now.past h) }
@@ -207,7 +208,7 @@ impl<'a> View<'a> {
         }
     }
 
-    /// The harts that the fence call of hart `h` waits for; None outside of a fence call.
+    /// The harts that the fence call of hart `h` waits for. None: the hart is in no fence call.
     pub fn outstanding(&self, h: u64) -> Option<HartSet>
         requires { h < self.now.opening.config.harts }
         ensures { result ≡ outstanding self.now.opening self.now.past h }
@@ -215,7 +216,8 @@ impl<'a> View<'a> {
         self.machine.fences.outstanding(h)
     }
 
-    /// How many serves by hart `t` the fence call of hart `caller` still needs (profile): `Board::need` says what that means.
+    /// The number of serves by hart `t` that the fence call of hart `caller` still needs (profile), as `Board::need`
+    /// explains.
     pub fn need(&self, caller: u64, t: u64) -> u64
         ensures need { result ≡ need self.now.opening self.now.past caller t }
         ensures limit { result < self.now.opening.config.harts }
@@ -263,8 +265,8 @@ impl<'a> View<'a> {
         self.machine.interrupts.timers.time()
     }
 
-    /// The counts of the board's table. For each hart, its accepted starts are its entries followed by its
-    /// pending start.
+    /// The counts of the board's table (profile). Each hart's accepted starts are its entries followed by its pending
+    /// start.
     pub fn totals(&self) -> Totals
         ensures counts { result ≡ totals self.now.opening self.now.past }
         ensures starts { StartsAreEntered self.now.opening self.now.past }

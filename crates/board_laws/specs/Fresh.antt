@@ -1,4 +1,4 @@
--- What an access may be answered after a fence.
+-- The answers that an access can get after a fence (Privileged 4.2.1; SBI 8; Zifencei).
 use Rattle.std.specs.Prelude.{◌≡◌, ℕ, ◌<◌, ◌≤◌, Bool, true, not, ◌==◌, ◌&&◌, List, Option, Some, None, Ok}
 use Rattle.sv39.specs.declared.page.Leaf.{Leaf}
 use Rattle.sv39.specs.declared.page.Level.TheVariants.{Kilo}
@@ -20,21 +20,22 @@ use Rattle.board_core.specs.Memory.{memory, satp}
 use Rattle.board_laws.specs.Fences.{Reached}
 use Rattle.board_laws.specs.Places.{Accesses, IsAtPlace, past_at}
 
--- The fence is of the address: the address's page of 4 KiB has an address of the fence's range (Privileged 4.2.1; SBI 8).
+-- Whether a fence's range covers a virtual address: the address's page of 4 KiB has an address of the range (Privileged
+-- 4.2.1; SBI 8).
 abbrev pub is_of_page : Option Range → (va : ℕ) → Bool
 is_of_page None va = true
 is_of_page (Some range) va = meets range (page_of Kilo va) (size Kilo)
 
--- The fence is of a translation of the hart with this satp: one of an address space is where that is satp's, and the
--- translation isn't global (Privileged 4.2.1).
+-- Whether a fence of an address space covers a translation of a hart with this satp: the ASID is satp's, and the
+-- translation isn't global. A fence of all address spaces covers each (Privileged 4.2.1).
 abbrev pub is_of_space : Option ℕ → (satp : ℕ) → Leaf → Bool
 is_of_space None satp leaf = true
 is_of_space (Some asid) satp leaf = not leaf.global && (asid_of satp == asid)
 
 -- ---- translations
 
--- Hart t accesses this address at place p, after a fence of place a that is of the address had reached the hart; and the
--- fence is of the translation that the access used, if it used one.
+-- Hart t makes this access at place p, after the fence of place a had reached the hart. The fence covers the address
+-- and, if the access used a translation, that translation.
 pub record FencedAccess (o : Opening) (past : List Event) (t a p : ℕ) (fence : Fence) (reach : Reach) : Type 0 where
   pub event : Event
   pub happened : IsAtPlace o past p event
@@ -45,8 +46,8 @@ pub record FencedAccess (o : Opening) (past : List Event) (t a p : ℕ) (fence :
   pub space : (entry : Entry) → event.translation ≡ Some entry
       → is_of_space fence.asid (satp o (past_at o past p) t) entry.leaf ≡ true
 
--- At a place after a and not after p hart t made an access, of its kind; and the page tables in the memory of that place
--- give an access of that kind to this address the leaf, by the hart's satp of that place.
+-- At some place after a and not after p, hart t made an access. By the memory and the hart's satp at that place, the
+-- page tables give an access of that kind to this address the leaf.
 pub record GivenAfter (o : Opening) (past : List Event) (t a p va : ℕ) (leaf : Leaf) : Type 0 where
   pub place : ℕ
   pub after : a < place
@@ -58,7 +59,7 @@ pub record GivenAfter (o : Opening) (past : List Event) (t a p va : ℕ) (leaf :
 
 -- ---- fetched words
 
--- Hart t fetches a value from this address at place p, after a FENCE.I of place a had reached the hart.
+-- Hart t fetches this value from this virtual address at place p, after a FENCE.I of place a had reached the hart.
 pub record FencedFetch (o : Opening) (past : List Event) (t a p va value : ℕ) : Type 0 where
   pub event : Event
   pub happened : IsAtPlace o past p event
@@ -67,7 +68,7 @@ pub record FencedFetch (o : Opening) (past : List Event) (t a p va value : ℕ) 
   pub answer : event.reply ≡ Value value
   pub reached : Reached o (past_at o past p) t a Words
 
--- At a place after a and not after p the memory had this word at the physical address.
+-- At some place after a and not after p, the memory had this word at the physical address.
 pub record StoodAfter (o : Opening) (past : List Event) (a p pa word : ℕ) : Type 0 where
   pub place : ℕ
   pub after : a < place

@@ -1,4 +1,4 @@
--- What lives in a hart's caches, and where it comes from.
+-- The live items in a hart's caches, and their origin (Privileged 4.2.1; Zifencei).
 use Rattle.std.specs.Prelude.{◌≡◌, ℕ, ◌≤◌, false, List, [], ◌∷◌, ◌++◌, ◌⊎◌}
 use Rattle.std.specs.List.{All, Contains}
 use Rattle.tlb_model.specs.declared.fence.Flush.{Flush}
@@ -14,8 +14,8 @@ use Rattle.board_core.specs.History.{Event, Reach}
 use Rattle.board_core.specs.Memory.{caches_of, memory, satp, tlb_acts, word_acts}
 use Rattle.board_laws.specs.Places.{Accesses, past_at}
 
--- The entries that live in the TLB of hart t, and the words that live in its instruction cache. The date of each is the
--- place of the event that filled it.
+-- The live entries of hart t's TLB, and the live words of its instruction cache. The date of each is the place of the
+-- event that filled it.
 abbrev pub live_entries : Opening → List Event → (t : ℕ) → List (Numbered Entry)
 live_entries o past t = (caches_of o past t).tlb.live
 
@@ -24,23 +24,23 @@ live_words o past t = (caches_of o past t).words.live
 
 -- ---- where it comes from
 
--- An access by hart t filled the entry at its date: by its satp of that date it was translated and hit nothing,
--- the page tables in the memory of that date gave the entry's leaf, and the entry has that satp's ASID.
+-- An access by hart t filled the entry at its date. By the hart's satp of that date the access was translated and hit
+-- nothing, the page tables in the memory of that date gave the entry's leaf, and the entry has that satp's ASID.
 pub record EntryWasFilled (o : Opening) (past : List Event) (t : ℕ) (x : Numbered Entry) : Type 0 where
   pub reach : Reach
   pub made : Accesses o past x.date t reach
   pub fills : Fills (memory o (past_at o past x.date)) (satp o (past_at o past x.date) t)
       (hit o (past_at o past x.date) t) reach.va reach.access x.item
 
--- A fetch by hart t filled the word at its date: it is the word that the memory of that date had there.
+-- A fetch by hart t filled the word at its date, and the word is the one that the memory of that date had there.
 pub record WordWasFilled (o : Opening) (past : List Event) (t : ℕ) (x : Numbered FetchWord) : Type 0 where
   pub reach : Reach
   pub made : Accesses o past x.date t reach
   pub fetches : Fetches (memory o (past_at o past x.date)) (satp o (past_at o past x.date) t)
       (hit o (past_at o past x.date) t) (cached o (past_at o past x.date) t) reach.va reach.access x.item
 
--- What lives in a hart's caches is what the page tables and the memory gave one of its accesses at its date, or lived there
--- at the opening.
+-- Each live item of a hart's caches was filled by one of its accesses, from the page tables or the memory of the item's
+-- date, or was live there at the opening.
 pub record LivesFromItsDate (o : Opening) (past : List Event) (t : ℕ) : Type 0 where
   pub entries : All (λ x. EntryWasFilled o past t x ⊎ Contains (tlb_at o t).live x) (live_entries o past t)
   pub words : All (λ x. WordWasFilled o past t x ⊎ Contains (words_at o t).live x) (live_words o past t)
@@ -52,14 +52,14 @@ abbrev pub last_act : {E : Type 0} → List (Act E) → Act E
 last_act [] = Nothing
 last_act (act ∷ acts) = act
 
--- nothing that the fence covers outlives the act
+-- an act that drops everything that the fence covers: the fence itself, or a clear
 abbrev pub ActStrikes : {E : Type 0} → Flush → Act E → Type 0
 ActStrikes flush (Fill item) = ⊥
 ActStrikes flush (Drop other) = other ≡ flush
 ActStrikes flush Clear = Unit {0}
 ActStrikes flush Nothing = ⊥
 
--- At an event of this place or a later one the fence was applied to the caches of hart t, or they were emptied.
+-- At this place or later, the fence was applied to the caches of hart t, or they were emptied.
 pub record Struck (o : Opening) (past : List Event) (t place : ℕ) (flush : Flush) : Type 0 where
   pub newer : List Event
   pub event : Event
@@ -69,7 +69,7 @@ pub record Struck (o : Opening) (past : List Event) (t place : ℕ) (flush : Flu
   pub entries : ActStrikes flush (last_act (tlb_acts o (event ∷ older) t))
   pub words : ActStrikes flush (last_act (word_acts o (event ∷ older) t))
 
--- Nothing lives in the caches of hart t that the fence covers and that was filled at this place or before.
+-- Nothing is live in the caches of hart t that the fence covers and that was filled at this place or before.
 pub record NoneLives (o : Opening) (past : List Event) (t place : ℕ) (flush : Flush) : Type 0 where
   pub entries : All (λ x. x.date ≤ place → covers_entry flush x.item ≡ false) (live_entries o past t)
   pub words : All (λ x. x.date ≤ place → covers_word flush x.item ≡ false) (live_words o past t)

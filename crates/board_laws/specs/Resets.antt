@@ -1,4 +1,4 @@
--- What a system reset leaves (SBI 10).
+-- The state after a system reset (SBI 10).
 use Rattle.std.specs.Prelude.{◌≡◌, ℕ, false, List, [], ◌∷◌, ◌==◌, ◌&&◌, if◌then◌else◌, None, Err}
 use Rattle.sbi_abi.specs.declared.reset.Reset.{Reset}
 use Rattle.hsm.specs.Harts.{resting, starting}
@@ -16,15 +16,14 @@ use Rattle.board_core.specs.Replies.{answer}
 use Rattle.board_core.specs.Resets.{begins_anew, is_cold}
 use Rattle.board_core.specs.Starts as begun
 
--- The board after a reset, whose past is `now`, and was `past` before it (SBI 10.1; what a reset leaves: profile).
+-- A board after a reset: its past is `now`, and was `past` before the reset (SBI 10.1; what a reset changes: profile).
 pub record IsFresh (o : Opening) (reset : Reset) (past now : List Event) : Type 0 where
-  -- Each hart is STOPPED, and nothing is kept for it; but after a reboot the boot hart's start is pending, at the boot
-  -- address and with the boot's opaque value.
+  -- Each hart is STOPPED, and has no entry point. After a reboot the boot hart's start is pending, with the boot
+  -- address and the boot's opaque value.
   pub harts : (h : ℕ) → begun.hart_of o now h
       ≡ (if begins_anew reset.kind && (h == o.config.boot_hart) then starting
       (record { addr = o.config.boot_addr; opaque = o.config.boot_opaque }) else resting)
-  -- That start is the only one that counts after a reboot, and none does after a shutdown; no entry counts, also none
-  -- of before the opening.
+  -- After a reboot only that start counts, and after a shutdown none. No entry counts, not even one before the opening.
   pub starts : begun.starts o now ≡ (if begins_anew reset.kind then begun.boot_start o.config ∷ [] else [])
   pub entries : begun.entries o now ≡ []
   pub entered : begun.entered_before o now ≡ 0
@@ -34,19 +33,19 @@ pub record IsFresh (o : Opening) (reset : Reset) (past now : List Event) : Type 
   -- No software interrupt is pending, and no hart has a deadline.
   pub ssip : (h : ℕ) → interrupts.ssip o now h ≡ false
   pub deadline : (h : ℕ) → interrupts.deadline o now h ≡ None
-  -- No hart translates: satp is 0.
+  -- satp of each hart is 0.
   pub satp : (h : ℕ) → memories.satp o now h ≡ 0
-  -- Nothing lives in the TLB or the instruction cache of any hart.
+  -- Nothing is live in any hart's TLB or instruction cache.
   pub tlb : (h : ℕ) → (memories.caches_of o now h).tlb.live ≡ []
   pub fetched : (h : ℕ) → (memories.caches_of o now h).words.live ≡ []
-  -- No fence waits at any hart, and no hart is inside a fence call.
+  -- No fence waits at any hart, and no hart is in a fence call.
   pub waiting : (h : ℕ) → fences.waiting o now h ≡ []
   pub outstanding : (h : ℕ) → fences.outstanding o now h ≡ None
-  -- After a cold reboot each word of the memory is 0, and after another reset it is what it was.
+  -- After a cold reboot every word of the memory is 0; other resets don't change the memory.
   pub memory : (at : ℕ)
       → memories.memory o now at
       ≡ (if is_cold reset.kind then zero_memory o.config.pages at else memories.memory o past at)
-  -- The time is what it was.
+  -- The time doesn't change.
   pub time : interrupts.time o now ≡ interrupts.time o past
   -- After a shutdown each step of each actor is refused, since the power is off.
   pub off : begins_anew reset.kind ≡ false → (actor : Actor) (op : Op) → answer o now actor op ≡ Err Off

@@ -1,4 +1,4 @@
--- A cut changes no answer ever after.
+-- A cut changes no later answer (profile).
 use Rattle.std.specs.Prelude.{◌≡◌, ℕ, ◌<◌, ◌≤◌, Bool, List, [], ◌∷◌, ◌++◌, length}
 use Rattle.board_terms.specs.declared.op.Actor.{Actor}
 use Rattle.board_terms.specs.declared.op.Op.{Op}
@@ -19,8 +19,8 @@ use Rattle.board_core.specs.States as states
 use Rattle.board_core.specs.Totals.{totals}
 use Rattle.board_laws.specs.Limits.{with_limit}
 
--- Two courses of a board answer alike: each look-up of a hart that is there, the time, the last reset, the memory and the
--- totals; and each step is answered the same, where the history is full or isn't, and uses the same entry.
+-- Two courses of a board answer alike. The look-ups of each hart, the time, the last reset, the memory and the totals
+-- are the same. Each step gets the same answer, for a full history and for one with room, and uses the same entry.
 pub record AnswerAlike (harts : ℕ) (a b : Course) : Type 0 where
   pub state : (h : ℕ) → h < harts → states.state a.opening a.past h ≡ states.state b.opening b.past h
   pub kept : (h : ℕ) → h < harts → starts.kept a.opening a.past h ≡ starts.kept b.opening b.past h
@@ -43,8 +43,8 @@ pub record AnswerAlike (harts : ℕ) (a b : Course) : Type 0 where
       → answer_when is_full a.opening a.past actor op ≡ answer_when is_full b.opening b.past actor op
   pub used : (h : ℕ) → h < harts → (op : Op) → accesses.used a.opening a.past h op ≡ accesses.used b.opening b.past h op
 
--- Newer events, on what the older ones leave, are as all events together: a legal history, on which everything is answered as
--- on all of them, and which leaves what all of them leave.
+-- The newer events are a legal history on the opening that the older events leave. They answer as all events together,
+-- and leave the same opening.
 pub record IsSeamless (o : Opening) (newer older : List Event) : Type 0 where
   pub legal : IsLegal (opening_of o older) newer
   pub alike : AnswerAlike o.config.harts
@@ -53,12 +53,13 @@ pub record IsSeamless (o : Opening) (newer older : List Event) : Type 0 where
 
 -- ---- a history that was cut, however often
 
--- What the parts of the history leave, newest first: each begins with the opening that those before it left.
+-- The opening that the parts of a history leave; the parts are listed newest first, and each begins with the opening
+-- that the older parts left.
 abbrev pub left_by : Opening → (parts : List (List Event)) → Opening
 left_by o [] = o
 left_by o (part ∷ parts) = opening_of (left_by o parts) part
 
--- Each part is legal on its opening, within the board's limit.
+-- Each part is a legal history on its opening, within the board's limit.
 abbrev pub AreLegal : Opening → (parts : List (List Event)) → Type 0
 AreLegal o [] = Unit {0}
 AreLegal o (part ∷ parts) = IsLegal (left_by o parts) part × AreLegal o parts
@@ -68,8 +69,8 @@ abbrev pub joined : (parts : List (List Event)) → List Event
 joined [] = []
 joined (part ∷ parts) = part ++ joined parts
 
--- The newest part answers as the whole history does, which was never cut, on the first opening; and both leave the same. The
--- whole history is legal under each limit that has room for it.
+-- The newest part, on the opening that the others left, answers as the joined history on the first opening, and both
+-- leave the same opening. The joined history is legal under each limit that has room for it.
 pub record AreOne (o : Opening) (newer : List Event) (parts : List (List Event)) : Type 0 where
   pub legal : (limit : ℕ) → length (newer ++ joined parts) ≤ limit → IsLegal (with_limit limit o) (newer ++ joined parts)
   pub alike : AnswerAlike o.config.harts

@@ -1,4 +1,4 @@
-//! What accesses are answered after fences.
+//! The answers of accesses after fences.
 ghost use Rattle.std.specs.Prelude.{◌≡◌, ℕ, ◌<◌, List, Result, Some};
 ghost use Rattle.sv39.specs.declared.cause.Cause.{Cause};
 ghost use Rattle.sv39.specs.declared.page.Leaf.{Leaf};
@@ -16,9 +16,10 @@ ghost use Rattle.board_laws.specs.Limits.{with_limit};
 ghost use Rattle.board_laws.specs.Places.{past_at};
 ghost use Rattle.board_laws.specs.Steady.{IsDecidedBy, TablesAreSteady};
 
-/// A translation that an access uses after a fence of it is one that the page tables gave after the fence was asked, and
-/// not later than the access: on what a board opens with, also where its history was cut, and whatever its limit is, so also of
-/// a whole history that was cut (Privileged 4.2.1; SBI 8).
+/// Let an access use a translation, after a fence that covers it has reached the hart. Then the page tables gave that
+/// translation at some time after the fence was asked, and not later than the access (Privileged 4.2.1; SBI 8). This
+/// holds on every opening of a board, also after cuts, and for any limit; so it also holds for the joined parts of a
+/// history that was cut.
 pub fn translations_are_fresh()
     ensures { (o : Opening) (past : List Event) (limit t a p : ℕ) (fence : Fence) (reach : Reach) (entry : Entry)
         → IsOpened (with_limit limit o)
@@ -28,8 +29,8 @@ pub fn translations_are_fresh()
         → GivenAfter o past t a p reach.va entry.leaf }
 {}
 
-/// What a fetch answers after a FENCE.I is a word that the memory had there after the fence was asked, and not later than
-/// the fetch (Zifencei; SBI 8).
+/// A fetch after a FENCE.I answers a word that the memory had there after the fence was asked, and not later than the
+/// fetch (Zifencei; SBI 8).
 pub fn fetches_are_fresh()
     ensures { (o : Opening) (past : List Event) (t a p va value : ℕ)
         → o.config.boot_hart < o.config.harts
@@ -38,8 +39,9 @@ pub fn fetches_are_fresh()
         → StoodAfter o past a p (phys_at x.event.translation va) value }
 {}
 
-/// After a fence, where satp stays as it is and the page tables say one thing of an access, that decides the access, as on
-/// a board without TLBs: on what a board opens with, as above (Privileged 4.2.1; SBI 8).
+/// Let a hart make an access that satp translates, after a fence that covers it has reached the hart. If satp and the
+/// page tables' result for the access haven't changed since the fence was asked, that result decides the access, as on
+/// a board without TLBs (Privileged 4.2.1; SBI 8). This holds on every opening of a board, as above.
 pub fn steady_tables_decide()
     ensures { (o : Opening) (past : List Event) (limit t a p : ℕ) (fence : Fence) (reach : Reach) (result : Result Leaf Cause)
         → IsOpened (with_limit limit o)

@@ -1,4 +1,4 @@
-//! What lives in the caches of harts.
+//! The live items in the caches of harts.
 ghost use Rattle.std.specs.Prelude.{ℕ, ◌<◌, List, ◌∷◌, ◌++◌};
 ghost use Rattle.tlb_model.specs.declared.fence.Flush.{Flush};
 ghost use Rattle.rfence.specs.declared.opened.FenceCall.{FenceCall};
@@ -10,22 +10,22 @@ ghost use Rattle.board_laws.specs.Fences.{OpenedReached, Reached};
 ghost use Rattle.board_laws.specs.Lives.{LivesFromItsDate, NoneLives, Struck};
 ghost use Rattle.board_laws.specs.Seams.{AreLegal, joined, left_by};
 
-/// In every legal history an entry that lives in a TLB is the leaf that the page tables of its date gave an access of the
-/// hart, by the satp of its date; and a word that lives in an instruction cache is the memory's word of its date
-/// (Privileged 4.2.1; Zifencei).
+/// In every legal history, a live TLB entry is the leaf that the page tables of its date gave an access of the hart, by
+/// the satp of its date. A live word of an instruction cache is the memory's word of its date (Privileged 4.2.1;
+/// Zifencei). Either may also have been live at the opening.
 pub fn lives_from_its_date()
     ensures { (o : Opening) (past : List Event) (t : ℕ) → IsLegal o past → LivesFromItsDate o past t }
 {}
 
-/// Once a fence was applied to the caches of a hart, or they were emptied, nothing lives there that the fence covers and
-/// that was filled before (Privileged 4.2.1; Zifencei).
+/// After a fence was applied to the caches of a hart, or they were emptied, nothing is live there that the fence covers
+/// and that was filled before (Privileged 4.2.1; Zifencei).
 pub fn struck_is_gone()
     ensures { (o : Opening) (past : List Event) (t place : ℕ) (flush : Flush)
         → Struck o past t place flush
         → NoneLives o past t place flush }
 {}
 
-/// A fence that has reached a hart was applied to its caches, or they were emptied, when it was asked or later.
+/// A fence that has reached a hart was applied to its caches, or they were emptied, when the fence was asked or later.
 pub fn fences_strike()
     ensures { (o : Opening) (past : List Event) (t place : ℕ) (flush : Flush)
         → o.config.boot_hart < o.config.harts
@@ -34,8 +34,8 @@ pub fn fences_strike()
         → Struck o past t place flush }
 {}
 
-/// After a fence has reached a hart nothing lives in the hart's caches that the fence covers and that was filled before
-/// it was asked (Privileged 4.2.1; SBI 8; Zifencei).
+/// After a fence has reached a hart, nothing is live in the hart's caches that the fence covers and that was filled
+/// before the fence was asked (Privileged 4.2.1; SBI 8; Zifencei).
 pub fn fenced_is_gone()
     ensures { (o : Opening) (past : List Event) (t place : ℕ) (flush : Flush)
         → o.config.boot_hart < o.config.harts
@@ -44,8 +44,8 @@ pub fn fenced_is_gone()
         → NoneLives o past t place flush }
 {}
 
-/// So it is with the fence of a call that was open when the history was cut, once the call was a success: at each hart that it
-/// asked nothing lives that the fence covers and that was filled before it was asked (Privileged 4.2.1; SBI 8; Zifencei).
+/// The same for a call that was open when the history was cut, once it has succeeded: at each hart that it asked,
+/// nothing is live that its fence covers and that was filled before the call (Privileged 4.2.1; SBI 8; Zifencei).
 pub fn opened_is_gone()
     ensures { (o : Opening) (past : List Event) (c t : ℕ) (call : FenceCall Flush)
         → IsOpened o
@@ -54,8 +54,8 @@ pub fn opened_is_gone()
         → NoneLives o past t call.place call.flush }
 {}
 
-/// So it is however often the history was cut: whichever part has the ask, and whichever has the poll, nothing lives after the
-/// newest part that the fence covers and that was filled before it was asked (Privileged 4.2.1; SBI 8; Zifencei).
+/// The same for any number of cuts: whichever parts have the ask and the poll, after the newest part nothing is live
+/// that the fence covers and that was filled before the fence was asked (Privileged 4.2.1; SBI 8; Zifencei).
 pub fn fences_outlast_cuts()
     ensures { (o : Opening) (newer : List Event) (parts : List (List Event)) (t place : ℕ) (flush : Flush)
         → IsOpened o

@@ -1,4 +1,4 @@
-//! Fences of harts by others.
+//! Laws of remote and local fences.
 ghost use Rattle.std.specs.Prelude.{◌≡◌, ℕ, ◌+◌, List, ◌∷◌};
 ghost use Rattle.tlb_model.specs.declared.fence.Flush.{Flush};
 ghost use Rattle.rfence.specs.declared.opened.FenceCall.{FenceCall};
@@ -13,8 +13,9 @@ ghost use Rattle.board_core.specs.Totals.{totals};
 ghost use Rattle.board_laws.specs.Fences.{AppliedOnce, Asks, CallsAreMadeStarted, LeavesNothing, OpenedOnce, StopsHart};
 ghost use Rattle.board_laws.specs.Places.{IsAtPlace};
 
-/// In every legal history of a good board a hart asks for fences outside of a call, and of harts that are there; it
-/// serves where a fence waits; and it polls inside a call that waits for no hart (SBI 8; profile).
+/// In every legal history of a board with numbers within the limits, each turn was possible: a hart asks while it is in
+/// no call, and asks harts that exist; it serves if a fence waits there; it polls if its call waits for no hart (SBI 8;
+/// profile).
 pub fn turns_are_right()
     ensures { (o : Opening) (past : List Event)
         → IsGood o.config
@@ -22,8 +23,8 @@ pub fn turns_are_right()
         → IsRight o.fences o.config.harts (turns o past) }
 {}
 
-/// In every legal history of a good board each fence that is asked of a hart, by itself or by another one, was applied
-/// there once, or waits there once (SBI 8).
+/// In every such history, each fence asked of a hart, by itself or by another hart, was applied there once, or waits
+/// there once (SBI 8).
 pub fn applied_once()
     ensures { (o : Opening) (past : List Event) (t place : ℕ) (event : Event)
         → IsGood o.config
@@ -32,7 +33,7 @@ pub fn applied_once()
         → AppliedOnce o past t place event }
 {}
 
-/// So it is with the fence of a call that a hart was in at the opening: at each hart that it asked it was applied once,
+/// The same for the fence of a call that was open at the opening: at each hart that it asked, it was applied once,
 /// before the opening or since, or waits there once (SBI 8).
 pub fn opened_once()
     ensures { (o : Opening) (past : List Event) (c t : ℕ) (call : FenceCall Flush)
@@ -41,7 +42,7 @@ pub fn opened_once()
         → OpenedOnce o past c t call }
 {}
 
-/// In particular, each remote fence that was asked of a hart was applied there once, or waits there once (SBI 8).
+/// In particular, each remote fence asked of a hart was applied there once, or waits there once (SBI 8).
 pub fn asked_once()
     ensures { (o : Opening) (past : List Event) (x t place : ℕ) (flush : Flush)
         → IsGood o.config
@@ -50,8 +51,8 @@ pub fn asked_once()
         → times_met o.fences place (turns o past) t ≡ 1 }
 {}
 
-/// In every legal history of a good board: of the harts of which remote fences were asked, all together, these were
-/// applied at as many as the totals say, and wait at the others (SBI 8; the counts: profile).
+/// In every such history, the totals agree: the remote fences asked are as many as those applied plus those that wait,
+/// at all harts together (SBI 8; the counts: profile).
 pub fn fences_are_counted()
     ensures { (o : Opening) (past : List Event)
         → IsGood o.config
@@ -59,8 +60,8 @@ pub fn fences_are_counted()
         → (totals o past).asked ≡ (totals o past).applied + (totals o past).waiting }
 {}
 
-/// In every legal history of a good board: the total of applied fences is the opening's, and the number of remote fences
-/// that were applied since, at all harts together; local fences don't count (profile).
+/// In every such history, the total of applied fences is the opening's plus the remote fences applied since, at all
+/// harts together. Local fences don't count (profile).
 pub fn applied_is_counted()
     ensures { (o : Opening) (past : List Event)
         → IsGood o.config
@@ -68,7 +69,7 @@ pub fn applied_is_counted()
         → (totals o past).applied ≡ o.fences.applied + total_remote o.fences o.config.harts (turns o past) }
 {}
 
-/// After a hart's stop nothing lives in its caches, and no fence waits there (profile).
+/// Right after a hart's stop, nothing is live in its caches, and no fence waits there (profile).
 pub fn stops_leave_nothing()
     ensures { (o : Opening) (event : Event) (past : List Event) (t : ℕ)
         → StopsHart event t

@@ -1,4 +1,5 @@
-//! What holds of every legal history of a board: what lives in its caches, and what accesses are answered after fences.
+//! Laws of every legal history of a board: the live items in its caches, accesses after fences, serves, resets and
+//! cuts.
 //!
 //! Each function is a law, which its `ensures` states: there is nothing to run.
 #![tactic(auto)]

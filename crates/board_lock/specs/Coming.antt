@@ -1,4 +1,4 @@
--- What the firmware of a hart does next; what a seat that rests waits for, and when that has come (profile).
+-- The next operation of a hart's firmware; what a resting seat waits for, and when that has come (profile).
 use Rattle.std.specs.Prelude.{◌≡◌, ℕ, Bool, true, false, ◌&&◌, ◌||◌, nat_lt, List, [], ◌∷◌, length, Option, Some, None, is_some}
 use Rattle.std.specs.Option.{is_none}
 use Rattle.hsm.specs.States.{goes_on, is_interruptible, is_started}
@@ -15,8 +15,8 @@ waits_for_none (Some []) = true
 waits_for_none (Some (h ∷ harts)) = false
 waits_for_none None = false
 
--- The rows of what a hart's firmware does, in their order: where a fence waits and the state is interruptible, it serves; inside
--- a fence call it polls if that waits for no hart, else it does nothing; and where the state goes on, it advances.
+-- The choices of a hart's firmware, in their order. If a fence waits and the state is interruptible, it serves. In a
+-- fence call it polls if the call waits for no hart, else it does nothing. If it can advance the hart, it does.
 abbrev pub firmware_choices : HartNow → List (Bool × Option Op)
 firmware_choices now =
     (nat_lt 0 now.waiting && is_interruptible now.state, Some Serve)
@@ -25,27 +25,27 @@ firmware_choices now =
     ∷ (goes_on now.wake now.state, Some Advance)
     ∷ []
 
--- what a row that holds has it do; nothing where none holds
+-- the operation of a row that applies; none if no row applies
 abbrev pub chosen : Option (Option Op) → Option Op
 chosen None = None
 chosen (Some op) = op
 
--- What a hart's firmware does next: the first row that holds.
+-- The next operation of a hart's firmware: that of the first row that applies.
 abbrev pub firmware_choice : HartNow → Option Op
 firmware_choice now = chosen (first_that_holds (firmware_choices now))
 
--- This is the situation of the hart that is seen.
+-- The hart that is seen has this situation.
 pub record Sees (s : Situation) (now : HartNow) : Type 0 where
   pub state : now.state ≡ s.state
   pub wake : now.wake ≡ s.wake
   pub call : now.outstanding ≡ s.call
   pub fences : now.waiting ≡ length s.fences
 
--- Whether the firmware of a hart has something to do.
+-- Whether a hart's firmware has something to do.
 abbrev pub has_turn : HartNow → Bool
 has_turn now = is_some (firmware_choice now)
 
--- Whether a hart's guest goes on from a WFI: it runs, and has wake.
+-- Whether a hart's guest can continue after a WFI: it runs, and has wake.
 abbrev pub has_wake : HartNow → Bool
 has_wake now = is_none now.outstanding && (is_started now.state && now.wake)
 
@@ -55,7 +55,7 @@ has_come Firmware now = has_turn now
 has_come Wake now = has_turn now || has_wake now
 has_come End now = false
 
--- so of a seat; the clock's has no hart to which something comes
+-- whether what a seat waits for has come; the clock's seat has no hart, so nothing comes to it
 abbrev pub has_come_to : Awaits → Option HartNow → Bool
 has_come_to awaits None = false
 has_come_to awaits (Some now) = has_come awaits now

@@ -1,10 +1,11 @@
--- Receipts: what holds of an accepted call.
+-- Receipts of accepted calls (profile).
 use Rattle.std.specs.Prelude.{ℕ}
 use Rattle.board_terms.specs.declared.op.Actor.{Actor}
 use Rattle.board_terms.specs.declared.op.Op.{Op}
 use Rattle.board_terms.specs.declared.reply.Reply.{Reply}
 
--- Who made the call, how many of its seat's calls were accepted before, how many of all, what it asked and what was answered.
+-- An accepted call: its actor, the number of its seat's calls accepted before, the number of all events before, its
+-- operation, and the reply.
 pub record AcceptedCall : Type 0 where
   pub actor : Actor
   pub ordinal : ℕ

@@ -1,4 +1,4 @@
--- Seats: the right of one actor to make calls.
+-- Seats: each is the right of one actor to make calls (profile).
 use Rattle.std.specs.Prelude.{◌≡◌, ℕ, ◌+◌, if◌then◌else◌, List, [], ◌∷◌, ◌++◌, length, map}
 use Rattle.board_terms.specs.declared.config.Config.{Config}
 use Rattle.board_terms.specs.declared.op.Actor.{Actor}
@@ -8,8 +8,8 @@ use Rattle.board_core.specs.Course.{harts_of}
 use Rattle.board_core.specs.History.{Event}
 use Rattle.board_lock.specs.Events.{IsActor, is_same}
 
--- A seat knows its actor, how many of its calls were accepted, and which operations these asked, in order; and which events
--- there were when it looked last, in a call, a view or a rest.
+-- The model of a seat: its actor, the number of its accepted calls, their operations, in order, and the events when it
+-- last looked: in a call, a view or a rest.
 pub record Sitting : Type 0 where
   pub actor : Actor
   pub count : ℕ
@@ -19,20 +19,20 @@ pub record Sitting : Type 0 where
 abbrev pub sitting : Actor → ℕ → List Op → List Event → Sitting
 sitting actor count ops saw = record { actor = actor; count = count; ops = ops; saw = saw }
 
--- The seat has looked again.
+-- the seat after it saw these events
 abbrev pub seeing : Sitting → List Event → Sitting
 seeing s saw = sitting s.actor s.count s.ops saw
 
--- The seats of a new board: those of its harts in order, and then the clock's. No call was made.
+-- The seats of a new board: the harts' in order, then the clock's. No call was made.
 abbrev pub new_seats : Config → List Sitting
 new_seats c = map (λ h. sitting (Hart h) 0 [] []) (harts_of c) ++ sitting Clock 0 [] [] ∷ []
 
--- how many of the seats are the actor's
+-- the number of the actor's seats
 abbrev pub seats_of : Actor → List Sitting → ℕ
 seats_of a [] = 0
 seats_of a (s ∷ ss) = (if is_same s.actor a then 1 else 0) + seats_of a ss
 
--- The seats are one for each actor of the board.
+-- There is one seat for each actor of the board.
 pub record IsOneEach (c : Config) (seats : List Sitting) : Type 0 where
   pub as_many : length seats ≡ c.harts + 1
   pub one_each : (a : Actor) → IsActor c a → seats_of a seats ≡ 1

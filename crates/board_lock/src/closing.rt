@@ -1,4 +1,4 @@
-//! How a board comes back from behind its lock, with all seats.
+//! Taking a board back from its lock, with all seats.
 ghost use Rattle.std.specs.Prelude.{◌≡◌, ◌+◌, ◌↔◌, ℕ, All, IsTrue, length};
 ghost use mathlib.Core.List.{IsPrefix};
 ghost use Rattle.board_terms.specs.declared.config.Config.{Config};
@@ -14,7 +14,7 @@ use crate::seats::Seat;
 use board_core::{Actor, Config};
 use std::marker::PhantomData;
 
-/// Whether the seats are one for each actor.
+/// Whether there is one seat for each actor.
 pub(crate) fn is_one_each<K: Room>(config: &Config, seats: &[Seat<K>]) -> bool
     requires { IsGood config.now }
     ensures { IsTrue result ↔ IsOneEach config.now seats.now }
@@ -30,7 +30,7 @@ pub(crate) fn is_one_each<K: Room>(config: &Config, seats: &[Seat<K>]) -> bool
     true
 }
 
-/// How many of the seats are the actor's.
+/// The number of the actor's seats.
 fn seats_of<K: Room>(actor: Actor, seats: &[Seat<K>]) -> usize
     ensures { result ≡ seats_of actor seats.now }
 {
@@ -43,7 +43,7 @@ fn seats_of<K: Room>(actor: Actor, seats: &[Seat<K>]) -> usize
     many
 }
 
-/// The record of a board whose seats are all back.
+/// The record of a board, once all seats are back.
 pub(crate) fn settle<K: Room>(desk: Desk<K>, seats: Vec<Seat<K>>) -> Record<K>
     requires parts { (K.all ≡ K.parts) × (K.all ≡ K.opening.config.harts + 1) }
     requires all { IsOneEach K.opening.config seats.items }

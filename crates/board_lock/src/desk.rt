@@ -1,4 +1,4 @@
-//! What the lock holds, and what is done under it.
+//! The desk: what the lock protects, and the operations under it.
 ghost use Rattle.std.specs.Prelude.{◌≡◌, ◌+◌, ◌<◌, ◌∷◌, ◌++◌, [], IfOk, IfErr, OnOk, OnErr, Ok, length, false, true};
 ghost use mathlib.Core.List.{IsPrefix};
 ghost use Rattle.board_core.specs.Replies.{answer, stepped};
@@ -21,7 +21,7 @@ use ghost_log::Log;
 use std::marker::Model;
 use std::sync::ledger::{Book, Share};
 
-/// What the lock holds: the board, and beside it how many events each actor has, and who rests.
+/// What the lock protects: the board, the number of each actor's events, and the seats that rest.
 #[derive(Drop)]
 pub(crate) struct Desk<K: Room> {
     pub(crate) board: Board,
@@ -45,19 +45,23 @@ impl<K: Room> Model for Desk<K> {
         (tally d.counts.items d.book.total d.left.parts d.left.amount) d.log };
 }
 
-/// What comes of a seat that would rest.
+/// The result of a seat's attempt to rest.
 #[derive(Clone, Copy, Debug)]
 pub(crate) enum Pause {
-    /// It waits.
+    /// The seat waits.
     Waits,
-    /// It has its answer.
+    /// The rest is over at once, for this reason.
     Over(Rest),
-    /// It was the last one that didn't rest.
+    /// The seat was the last that didn't rest, so all rests are over.
     Last,
 }
 
 impl<K: Room> Desk<K> {
-    /// One step of the seat's actor, and what a receipt for it needs of the lock.
+    /// One step of the seat's actor. It returns the part of a receipt that needs the lock.
+    ///
+    /// # Errors
+    ///
+    /// The board's refusal, or `WrongPhase`, if the seat's count isn't that of its actor's events. Nothing changes.
     pub(crate) fn call(&mut self, seat: &mut Seat<K>, op: &Op) -> Result<Answered, Refusal>
         ensures receipt { IfOk result (λ r. IsReceiptOf K.opening.places K.log
             (accepted_call seat.old.actor seat.old.count r.place op.now r.reply) r.seen) }
@@ -96,7 +100,7 @@ impl<K: Room> Desk<K> {
         })
     }
 
-    /// One step of the seat's actor, what a receipt for it needs of the lock, and what the seat's hart may do next.
+    /// The same as `call`, together with a view after the event.
     pub(crate) fn call_and_view(
         &mut self,
         seat: &mut Seat<K>,
@@ -118,7 +122,7 @@ impl<K: Room> Desk<K> {
         Ok((answered, view))
     }
 
-    /// The seat looks at the events as they are now.
+    /// The seat sees the events as they are now.
     fn see(&mut self, seat: &mut Seat<K>)
         ensures seat { seat.new ≡ seeing seat.old (events_in self.old.board) }
         ensures later { IsPrefix seat.old.saw seat.new.saw }
@@ -130,7 +134,7 @@ impl<K: Room> Desk<K> {
         seat.saw = self.log.prefix();
     }
 
-    /// What the seat's hart may do next, and how far the board is.
+    /// The seat's view of the board as it is now.
     pub(crate) fn view(&mut self, seat: &mut Seat<K>) -> HartView
         ensures view { IsView K.opening seat.new result }
         ensures seat { seat.new ≡ seeing seat.old (events_in self.old.board) }
@@ -149,7 +153,7 @@ impl<K: Room> Desk<K> {
         }
     }
 
-    /// What hart `h` may do next.
+    /// Hart `h` as it is now.
     pub(crate) fn hart_now(&self, h: u64) -> HartNow
         requires { h < K.opening.config.harts }
         ensures { Shows self.now.board h result }
@@ -162,14 +166,14 @@ impl<K: Room> Desk<K> {
         }
     }
 
-    /// How many events there are.
+    /// The number of events.
     fn events(&self) -> u64
         ensures { result ≡ length self.now.board.past }
     {
         self.board.history().len() as u64
     }
 
-    /// The seat would rest, and has seen so many events. No event happens.
+    /// The seat asks to rest until the number of events isn't `seen`. No event happens.
     pub(crate) fn rest(&mut self, seat: &mut Seat<K>, seen: u64) -> Pause
         ensures pause { IsPause result self.old self.new seat.old.actor seen }
         ensures seat { seat.new ≡ seeing seat.old (events_in self.old.board) }
@@ -185,7 +189,7 @@ impl<K: Room> Desk<K> {
         self.stay(seat.actor, Until::Event)
     }
 
-    /// The seat would rest until what it waits for has come. What its hart may do next is shown. No event happens.
+    /// The seat asks to rest until what it waits for has come, and gets a view. No event happens.
     pub(crate) fn rest_for(&mut self, seat: &mut Seat<K>, awaits: Awaits) -> (Pause, HartView)
         ensures pause { IsPauseFor result.0 self.old self.new seat.old.actor awaits result.1.hart }
         ensures view { IsView K.opening seat.new result.1 }
@@ -204,7 +208,7 @@ impl<K: Room> Desk<K> {
         (self.stay(seat.actor, Until::For(awaits)), shown)
     }
 
-    /// The actor's seat rests, and all do if it was the last that didn't. No event happens.
+    /// The actor's seat rests. If it was the last that didn't, all rests are over. No event happens.
     fn stay(&mut self, actor: Actor, until: Until) -> Pause
         requires acting { IsActor K.opening.config actor }
         requires going { self.old.ended ≡ false }
@@ -218,14 +222,14 @@ impl<K: Room> Desk<K> {
         Pause::Last
     }
 
-    /// Every rest is over, and stays so. No event happens.
+    /// Ends every rest, for good. No event happens.
     pub(crate) fn end(&mut self)
         ensures { self.new ≡ held self.old.board self.old.rests true }
     {
         self.ended = true;
     }
 
-    /// An actor's number: a hart's id, and after those the clock's.
+    /// An actor's number: a hart's id, or for the clock the number of harts.
     fn number(&self, actor: Actor) -> usize
         requires { IsActor K.opening.config actor }
         ensures { result ≡ number_of K.opening.config actor }
@@ -234,7 +238,7 @@ impl<K: Room> Desk<K> {
     }
 }
 
-/// An actor's number on a board of these numbers.
+/// An actor's number on a board with these numbers.
 pub(crate) fn actor_number(config: &Config, actor: Actor) -> usize
     requires { (IsGood config.now) × IsActor config.now actor }
     ensures { result ≡ number_of config.now actor }

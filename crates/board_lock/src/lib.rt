@@ -1,5 +1,5 @@
-//! A board behind one lock, for harts on threads of their own: seats to make calls, receipts of accepted calls, and at the
-//! end one record, in which each receipt stands.
+//! A board behind one lock, for harts on their own threads: seats make calls, accepted calls give receipts, and closing
+//! gives one record, in which each receipt's event stands.
 #![tactic(auto)]
 
 mod closing;

@@ -1,4 +1,4 @@
-//! How a board comes behind a lock, with new seats.
+//! Putting a board behind a lock, with new seats.
 ghost use Rattle.std.specs.Prelude.{◌≡◌, ◌+◌, ◌<◌, ◌≤◌, [], IfErr, IfOk, OnOk, false, replicate};
 ghost use Rattle.board_terms.specs.declared.config.BuildFault.TheVariants.{NoMemory};
 ghost use Rattle.board_terms.specs.Limits.{IsGood};
@@ -15,8 +15,11 @@ use ghost_log::Log;
 use std::alloc::{AllocError, Global};
 use std::sync::ledger::Share;
 
-/// What the lock of a board holds whose history is empty, and its seats: nobody rests, and the end wasn't called for. Where
-/// memory is refused, the board is back.
+/// What the lock of a board with an empty history protects, and new seats. No seat rests, and no end was asked for.
+///
+/// # Errors
+///
+/// Out of memory. It returns the board.
 pub(crate) fn open_desk<K: Room>(
     alloc: Global,
     room: NewRoom,
@@ -62,7 +65,11 @@ fn zeros(alloc: Global, len: usize) -> Result<Vec<u64>, AllocError>
     vec![in alloc; 0; len]
 }
 
-/// The seats of a board whose history is empty.
+/// The seats of a board with an empty history.
+///
+/// # Errors
+///
+/// Out of memory.
 fn seats<K: Room>(
     alloc: Global,
     harts: u64,
@@ -84,7 +91,7 @@ fn seats<K: Room>(
     Ok(seats)
 }
 
-/// The seat of an actor that made no call.
+/// The seat of an actor that has made no call.
 fn seat<K: Room>(actor: Actor, left: &mut Share<K>, log: &mut Log<Event>) -> Seat<K>
     requires acting { IsActor K.opening.config actor }
     requires part { (0 < left.old.parts) × (left.old.amount ≡ 0) }

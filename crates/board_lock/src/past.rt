@@ -1,4 +1,4 @@
-//! What a record leaves behind where it is split: receipts stand in it on.
+//! The past that a record leaves when it is split. Receipts still stand in it.
 ghost use Rattle.std.specs.Prelude.{◌≡◌, ℕ, ◌+◌, ◌≤◌, Some, slice_get, length};
 ghost use Rattle.board_terms.specs.Limits.{IsGood};
 ghost use Rattle.board_core.specs.Cuts.{IsOpened};
@@ -12,8 +12,8 @@ use board_core::{Event, Opening, Segment};
 use ghost_log::ClosedLog;
 use std::marker::{Model, PhantomData};
 
-/// What a record left when its board went on: what the board began with, and its history from there, in which every receipt of
-/// the room stands.
+/// What a record left when its board continued: the opening and the history since, in which the event of every receipt
+/// of the room stands.
 #[derive(Drop)]
 pub struct Past<K: Room> {
     pub(crate) segment: Segment,
@@ -34,15 +34,15 @@ impl<K: Room> Model for Past<K> {
 }
 
 impl<K: Room> Past<K> {
-    /// What the board began with.
+    /// The opening of this segment of the history.
     pub fn opening(&self) -> &Opening
         ensures { result.now ≡ self.now.opening }
     {
         &self.segment.opening
     }
 
-    /// The accepted events, oldest first: a legal history, within the limit, on an opening that a board comes to, so each law of
-    /// `board_laws` can be used of them.
+    /// The accepted events, oldest first: a legal history within the limit, on an opening that a board can reach. So
+    /// each law of `board_laws` applies to them.
     pub fn events(&self) -> &[Event]
         ensures events { result.now ≡ events_in self.now }
         ensures good { IsGood self.now.opening.config }
@@ -53,8 +53,8 @@ impl<K: Room> Past<K> {
         &self.segment.events
     }
 
-    /// The event of a receipt: it was made by the receipt's actor, asked what the receipt says and was answered so, it
-    /// stands at the receipt's place, and it is the member of the receipt's ordinal of its actor's events.
+    /// The event of a receipt. It has the receipt's actor, operation and reply, and stands at the receipt's place.
+    /// Among its actor's events it has the receipt's ordinal.
     pub fn look(&self, receipt: &Receipt<K>) -> &Event
         ensures call { (result.now.actor ≡ receipt.now.actor) × (result.now.op ≡ receipt.now.op)
             × (result.now.reply ≡ receipt.now.reply) }

@@ -1,4 +1,4 @@
-//! What an accepted call is given.
+//! Receipts of accepted calls.
 ghost use Rattle.std.specs.Prelude.{◌≡◌};
 ghost use Rattle.board_lock.specs.Inside.Kept.{IsReceiptOf};
 ghost use Rattle.board_lock.specs.Receipts.{accepted_call};
@@ -8,19 +8,20 @@ use board_core::{Actor, Event, Op, Reply};
 use ghost_log::Prefix;
 use std::marker::{Model, PhantomData};
 
-/// What the lock alone can tell of an accepted call: the rest of its receipt the caller has, and adds when the lock is free.
+/// The part of a receipt that needs the lock. The caller has the rest, and adds it after it released the lock.
 #[derive(Drop)]
 pub(crate) struct Answered {
-    /// How many events of the board were accepted before it.
+    /// The number of the board's events accepted before it.
     pub(crate) place: u64,
-    /// What was answered.
+    /// The reply.
     pub(crate) reply: Reply,
-    /// The events up to its own.
+    /// The events up to the call's own.
     pub(crate) seen: Prefix<Event>,
 }
 
 impl Answered {
-    /// The receipt of the call that was answered so: who made it, how many of its seat's calls came before, and what it asked.
+    /// The receipt of a call with this answer: its actor, the number of its seat's accepted calls before it, and its
+    /// operation.
     pub(crate) fn receipt<K: Room>(self, actor: Actor, ordinal: u64, op: Op) -> Receipt<K>
         requires call { IsReceiptOf K.opening.places K.log (accepted_call actor ordinal self.place op self.reply) self.seen }
         ensures receipt { result ≡ accepted_call actor ordinal self.place op self.reply }
@@ -38,7 +39,7 @@ impl Answered {
     }
 }
 
-/// What an accepted call is given. It stays true of the record.
+/// The receipt of an accepted call. It proves the call's event, and stays true of the record.
 #[derive(Drop)]
 pub struct Receipt<K: Room> {
     pub(crate) actor: Actor,
@@ -62,35 +63,35 @@ impl<K: Room> Model for Receipt<K> {
 }
 
 impl<K: Room> Receipt<K> {
-    /// Who made the call.
+    /// The actor that made the call.
     pub fn actor(&self) -> Actor
         ensures { result ≡ self.now.actor }
     {
         self.actor
     }
 
-    /// How many calls of its seat were accepted before it.
+    /// The number of its seat's calls accepted before it.
     pub fn ordinal(&self) -> u64
         ensures { result ≡ self.now.ordinal }
     {
         self.ordinal
     }
 
-    /// How many events of its board were accepted before it, those before a cut among them.
+    /// The place of its event: the number of the board's events accepted before it, including those before a cut.
     pub fn place(&self) -> u64
         ensures { result ≡ self.now.place }
     {
         self.place
     }
 
-    /// What it asked.
+    /// The operation.
     pub fn op(&self) -> Op
         ensures { result ≡ self.now.op }
     {
         self.op
     }
 
-    /// What was answered.
+    /// The reply.
     pub fn reply(&self) -> Reply
         ensures { result ≡ self.now.reply }
     {

@@ -1,4 +1,4 @@
-//! The one record of a closed board, in which receipts are looked up.
+//! The one record of a closed board, in which receipts can be looked up.
 ghost use Rattle.std.specs.Prelude.{◌≡◌, ℕ, ◌+◌, ◌<◌, ◌≤◌, List, [], IfOk, IfErr, IsErr, OnOk, Some, slice_get, length};
 ghost use Rattle.board_core.specs.Cuts.{IsOpened, IsUnseen, last_cut, opening_of};
 ghost use Rattle.board_terms.specs.declared.op.Actor.{Actor};
@@ -18,7 +18,7 @@ use ghost_log::ClosedLog;
 use std::alloc::Global;
 use std::marker::{Model, PhantomData};
 
-/// A board that was taken from behind its lock, with its history since then, in which every receipt of its room stands.
+/// A board that was taken from its lock, with its history, in which the event of every receipt of its room stands.
 #[derive(Drop)]
 pub struct Record<K: Room> {
     pub(crate) board: Board,
@@ -38,8 +38,8 @@ impl<K: Room> Model for Record<K> {
 }
 
 impl<K: Room> Record<K> {
-    /// The accepted events, oldest first: a legal history, within the limit, on an opening that a board comes to, so each law of
-    /// `board_laws` can be used of them.
+    /// The accepted events, oldest first: a legal history within the limit, on an opening that a board can reach. So
+    /// each law of `board_laws` applies to them.
     pub fn events(&self) -> &[Event]
         ensures events { result.now ≡ events_in self.now }
         ensures good { IsGood self.now.opening.config }
@@ -57,15 +57,15 @@ impl<K: Room> Record<K> {
         &self.board
     }
 
-    /// The board, which is no record any more.
+    /// The board. The record is gone.
     pub fn into_board(self) -> Board
         ensures { result ≡ self }
     {
         self.board
     }
 
-    /// The event of a receipt: it was made by the receipt's actor, asked what the receipt says and was answered so, it
-    /// stands at the receipt's place, and it is the member of the receipt's ordinal of its actor's events.
+    /// The event of a receipt. It has the receipt's actor, operation and reply, and stands at the receipt's place.
+    /// Among its actor's events it has the receipt's ordinal.
     pub fn look(&self, receipt: &Receipt<K>) -> &Event
         ensures call { (result.now.actor ≡ receipt.now.actor) × (result.now.op ≡ receipt.now.op)
             × (result.now.reply ≡ receipt.now.reply) }
@@ -77,12 +77,13 @@ impl<K: Room> Record<K> {
         find(events, self.board.places(), &self.log, receipt)
     }
 
-    /// Cuts the history of the record's board: the past, in which every receipt of the room stands still, and the board, which
-    /// goes on from there with an empty history. It takes memory for a history and for a copy of what the board holds.
+    /// Cuts the history of the record's board. It returns the past, in which every receipt of the room still stands,
+    /// and the board, which continues with an empty history. It allocates what `Board::cut` does.
     ///
     /// # Errors
     ///
-    /// More than 2^56 - 1,000,000 events were accepted since the first opening, or memory was refused. The record is back.
+    /// `CutFull`: more than 2^56 - 1,000,000 events were accepted since the first opening. `NoMemory`: out of memory.
+    /// It returns the record.
     pub fn split(self, alloc: Global) -> Result<(Past<K>, Board), (Record<K>, BuildFault)>
         ensures full { last_cut < place_after self.opening self.past → IsErr result }
         ensures past { IfOk result (λ r. r.0 ≡ self) }
@@ -103,7 +104,7 @@ impl<K: Room> Record<K> {
     }
 }
 
-/// The event of a receipt among those of its room, the first of which has this place.
+/// The event of a receipt among the events of its room, the first of which has this place.
 pub(crate) fn find<'a, K: Room>(
     events: &'a [Event],
     first: u64,
@@ -122,8 +123,8 @@ pub(crate) fn find<'a, K: Room>(
     &events[(receipt.place - first) as usize]
 }
 
-/// A later one of an actor's events stands at a later place; so of two receipts of one seat, the one of the later ordinal has
-/// the later place. A law: there is nothing to run.
+/// Of two events of an actor, the later one has the later place. So of two receipts of a seat, the one with the larger
+/// ordinal has the later place. A law: there is nothing to run.
 pub fn later_calls_are_later()
     ensures { (first : ℕ) (a : Actor) (es : List Event) (k l p q : ℕ) (e f : Event) → k < l →
         slice_get (events_from first a es) k ≡ Some (p, e) → slice_get (events_from first a es) l ≡ Some (q, f)

@@ -1,4 +1,4 @@
-//! Who rests, and for what.
+//! Rests: which seats rest, and until when.
 ghost use Rattle.std.specs.Prelude.{◌≡◌, ◌↔◌, ℕ, ◌<◌, ◌≤◌, [], IsTrue, false};
 ghost use Rattle.board_terms.specs.declared.op.Actor.TheVariants.{Hart};
 ghost use Rattle.hart_mask.specs.Ids.{IsIdSet};
@@ -6,21 +6,22 @@ ghost use Rattle.board_lock.specs.Inside.Rests.{AllRest, IsRests, awake, for_fir
 
 use board_core::{Actor, HartSet};
 
-/// Why a rest is over.
+/// Why a rest ended.
 #[derive(Clone, Copy, Debug, PartialEq, Eq)]
 pub enum Rest {
-    /// The number of events isn't what the seat had seen.
+    /// The number of events isn't the one that the seat had seen; or, for a seat that waits for something, that has
+    /// come.
     Changed,
-    /// Every seat was at rest, or the end was called for. So it stays for all.
+    /// Every seat rested, or an end was asked for. From then on every rest ends so.
     AllRest,
 }
 
-/// What a seat that rests waits for, besides the end of all rests.
+/// What a resting seat waits for, besides the end of all rests.
 #[derive(Clone, Copy, Debug, PartialEq, Eq)]
 pub enum Awaits {
-    /// The firmware of its hart has something to do: a fence to serve, a call to end, or a state that goes on.
+    /// The firmware of its hart has something to do: to serve a fence, to end a fence call, or to advance the hart.
     Firmware,
-    /// That, or wake: its hart's guest is at a WFI.
+    /// The same, or wake, if its hart's guest is at a WFI.
     Wake,
     /// Nothing.
     End,
@@ -43,14 +44,14 @@ impl Until {
         matches!(self, Until::Event)
     }
 
-    /// Whether work for its hart's firmware ends it.
+    /// Whether work for its hart's firmware ends the rest.
     fn is_firmware(self) -> bool
         ensures { result ≡ for_firmware self }
     {
         matches!(self, Until::For(Awaits::Firmware | Awaits::Wake))
     }
 
-    /// Whether its hart's wake ends it, too.
+    /// Whether its hart's wake ends the rest too.
     fn is_wake(self) -> bool
         ensures { result ≡ for_wake self }
     {
@@ -58,34 +59,34 @@ impl Until {
     }
 }
 
-/// Which seats rest, and until what.
+/// The seats that rest, and what ends their rests.
 #[derive(Clone, Copy, Debug)]
 pub(crate) struct Rests {
     /// The harts whose seats rest.
     pub(crate) harts: HartSet,
-    /// Of these, those whose rest any event ends.
+    /// Among them, those whose rest any event ends.
     pub(crate) events: HartSet,
-    /// And those whose rest work for their hart's firmware ends.
+    /// Among them, those whose rest work for their hart's firmware ends.
     pub(crate) firmware: HartSet,
-    /// And of these, those whose rest wake ends, too.
+    /// Among the latter, those whose rest wake ends too.
     pub(crate) wakes: HartSet,
     /// Whether the clock's seat rests.
     pub(crate) clock: bool,
-    /// And whether any event ends that.
+    /// Whether any event ends the clock's rest.
     pub(crate) clock_events: bool,
 }
 
-/// Seats whose rest is over.
+/// Seats that are woken: their rest is over.
 #[derive(Clone, Copy, Debug)]
 pub(crate) struct Woken {
     /// The harts.
     pub(crate) harts: HartSet,
-    /// Whether it is the clock's, too.
+    /// Whether the clock's seat is woken too.
     pub(crate) clock: bool,
 }
 
 impl Rests {
-    /// Nobody rests.
+    /// No seat rests.
     pub(crate) fn new() -> Rests
         ensures { result ≡ none_rest }
     {
@@ -118,7 +119,7 @@ impl Rests {
         }
     }
 
-    /// These seats rest no more.
+    /// These seats no longer rest.
     pub(crate) fn end(&mut self, woken: Woken)
         requires { IsIdSet self.old.harts }
         ensures { self.new ≡ awake self.old woken }
@@ -134,7 +135,7 @@ impl Rests {
         self.harts.is_empty() && !self.clock
     }
 
-    /// Whether so many harts rest, and the clock.
+    /// Whether all of so many harts rest, and the clock.
     pub(crate) fn is_all(&self, harts: u64) -> bool
         requires small { harts ≤ 128 }
         requires rests { IsRests harts self.now }

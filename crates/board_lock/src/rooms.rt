@@ -1,4 +1,4 @@
-//! The names under which a board, its seats and its ledger belong together.
+//! Rooms: they tie a board, its seats, its receipts and its record together.
 ghost use Rattle.std.specs.Prelude.{◌≡◌};
 
 use board_core::{Config, Event};
@@ -6,17 +6,17 @@ use ghost_log::Log;
 use std::marker::{Brand, Model};
 use std::sync::ledger::{Blank, Ledger};
 
-/// Which board a seat, a receipt and a record belong to. It is a type that has values in proofs alone: what is of one room
-/// doesn't fit another.
+/// The board that a seat, a receipt and a record belong to, as a type that exists only in proofs. What belongs to one
+/// room doesn't type-check with another.
 pub trait Room: Ledger {
     ghost use Rattle.std.specs.Prelude.{ℕ};
     ghost use Rattle.board_core.specs.Opening.{Opening};
 
-    // What the board began with: at its opening, or where its history was cut.
+    // The opening of the board: the first, or that of a cut.
     ghost opening: { Opening };
     // The name of the log of its events.
     ghost log: { ℕ };
-    // How many seats it has.
+    // The number of its seats.
     ghost all: { ℕ };
 }
 
@@ -39,7 +39,7 @@ impl Room for Brand {
     ghost all = { 0 };
 }
 
-/// A room for a board that isn't behind a lock yet.
+/// A new room, for a board that isn't behind a lock yet.
 #[derive(Drop)]
 pub struct NewRoom {
     pub(crate) config: Config,
@@ -65,7 +65,7 @@ impl Model for NewRoom {
 }
 
 impl NewRoom {
-    /// A room for a board of these numbers.
+    /// A room for a board with these numbers.
     pub fn new(config: &Config) -> NewRoom
         ensures { result.config ≡ config.now }
     {

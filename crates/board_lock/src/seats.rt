@@ -1,4 +1,4 @@
-//! The right of one actor to make calls.
+//! Seats: each is the right of one actor to make calls.
 ghost use Rattle.std.specs.Prelude.{◌≡◌};
 ghost use Rattle.board_lock.specs.Events.{IsActor};
 
@@ -8,7 +8,7 @@ use ghost_log::Prefix;
 use std::marker::Model;
 use std::sync::ledger::Share;
 
-/// The right of one actor to make calls: there is one for each.
+/// The right of one actor to make calls. Each actor has one seat.
 #[derive(Drop)]
 pub struct Seat<K: Room> {
     pub(crate) actor: Actor,
@@ -16,7 +16,7 @@ pub struct Seat<K: Room> {
     pub(crate) share: Share<K>,
     /// The events after its last accepted call.
     pub(crate) seen: Prefix<Event>,
-    /// The events when it looked last.
+    /// The events when it last looked.
     pub(crate) saw: Prefix<Event>,
 }
 
@@ -34,7 +34,7 @@ impl<K: Room> Model for Seat<K> {
 }
 
 impl<K: Room> Seat<K> {
-    /// Whose seat it is.
+    /// The actor of the seat.
     pub fn actor(&self) -> Actor
         ensures actor { result ≡ self.now.actor }
         ensures acting { IsActor K.opening.config self.now.actor }
@@ -42,7 +42,7 @@ impl<K: Room> Seat<K> {
         self.actor
     }
 
-    /// How many of its calls were accepted.
+    /// The number of its accepted calls.
     pub fn count(&self) -> u64
         ensures { result ≡ self.now.count }
     {

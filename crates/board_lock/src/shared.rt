@@ -1,4 +1,4 @@
-//! The board behind its lock, for threads.
+//! A board behind its lock, for threads.
 ghost use Rattle.std.specs.Prelude.{◌≡◌, ◌≢◌, ◌⊎◌, ℕ, ◌+◌, ◌<◌, ◌≤◌, ◌↔◌, ◌∷◌, ◌++◌, [], All, IfOk, IfErr, IfSome, IsOk, IsErrOf, OnOk, OnErr, length, true};
 ghost use mathlib.Core.List.{IsPrefix};
 ghost use Rattle.board_terms.specs.declared.config.BuildFault.TheVariants.{BadConfig, NoMemory};
@@ -29,7 +29,7 @@ use std::sync::{Condvar, Mutex, MutexGuard, Wait};
 use std::thread::yield_now;
 use thiserror::Error;
 
-/// How often a thread looks for what it waits for, and lets others go first, before it sleeps.
+/// How often a thread checks for what it waits for, and yields, before it sleeps.
 const LOOKS: u32 = 6;
 
 /// A board behind one lock.
@@ -37,7 +37,7 @@ const LOOKS: u32 = 6;
 pub struct SharedBoard<K: Room> {
     config: Config,
     desk: Mutex<Desk<K>>,
-    /// What each seat rests by: those of the harts in order, and then the clock's.
+    /// The condition variable of each seat: the harts' in order, then the clock's.
     bells: Vec<Condvar>,
     ghost opening: { config ≡ K.opening.config },
     ghost belled: { length bells.items ≡ config.harts + 1 },
@@ -45,7 +45,7 @@ pub struct SharedBoard<K: Room> {
     ghost whole: { K.all ≡ K.opening.config.harts + 1 },
 }
 
-/// The seats weren't one for each actor. The board and the seats are back.
+/// Why a board can't be closed: there isn't one seat for each actor. It gives back the board and the seats.
 #[derive(Drop, Error)]
 #[error("the seats aren't one for each actor")]
 pub struct NotAll<K: Room> {
@@ -62,12 +62,12 @@ impl<K: Room> fmt::Debug for NotAll<K> {
 }
 
 impl<K: Room> SharedBoard<K> {
-    /// A new board behind a lock, and the seats of its harts in order, and then the clock's. Memory for the board and for all
-    /// seats is taken here, and by no later call.
+    /// A new board behind a lock, and its seats: the harts' in order, then the clock's. All memory is allocated here;
+    /// no later call allocates.
     ///
     /// # Errors
     ///
-    /// The numbers of the board are out of range, or memory was refused.
+    /// `BadConfig`: a number of the board is outside the limits. `NoMemory`: out of memory.
     pub fn open(alloc: Global, room: NewRoom) -> Result<(SharedBoard<K>, Vec<Seat<K>>), BuildFault>
         requires room { (K.opening ≡ opening_at room.config) × (room.log ≡ K.log) }
         requires ledger { (room.ledger ≡ K.name) × (room.parts ≡ K.parts) × (K.all ≡ K.parts) }
@@ -82,12 +82,12 @@ impl<K: Room> SharedBoard<K> {
         }
     }
 
-    /// A board whose history is empty behind a lock, as it is, and new seats: those of its harts in order, and then the clock's.
-    /// Memory for the lock and for all seats is taken here, and by no later call.
+    /// An existing board with an empty history behind a lock, and new seats: the harts' in order, then the clock's. All
+    /// memory for the lock and the seats is allocated here; no later call allocates.
     ///
     /// # Errors
     ///
-    /// Memory was refused, and the board is back.
+    /// Out of memory. It returns the board.
     pub fn adopt(
         alloc: Global,
         room: NewRoom,
@@ -112,9 +112,12 @@ impl<K: Room> SharedBoard<K> {
         Ok((shared, seats))
     }
 
-    /// One step of the seat's actor: a receipt for the event that it records, or a refusal that leaves all as it was. Either is
-    /// the board's own answer after the events that there were at this moment, which the seat has seen since. The lock is held
-    /// for this one step alone.
+    /// One step of the seat's actor. It returns a receipt for the recorded event. The lock is held only for this step.
+    ///
+    /// # Errors
+    ///
+    /// The board's refusal after the events of this moment, which the seat has then seen; or `WrongPhase`, if the
+    /// seat's count isn't that of its actor's events. Nothing changes.
     #[inline(always)]
     pub fn call(&self, rt: &impl Wait, seat: &mut Seat<K>, op: Op) -> Result<Receipt<K>, Refusal>
         ensures receipt { IfOk result (λ r. (r.actor ≡ seat.old.actor) × (r.op ≡ op) × (r.ordinal ≡ seat.old.count)) }
@@ -134,8 +137,11 @@ impl<K: Room> SharedBoard<K> {
         Ok(answered.receipt(actor, ordinal, op))
     }
 
-    /// As `call`, and with the receipt what the seat's hart may do next, after the event that it records. The lock is held once
-    /// for both.
+    /// The same as `call`, together with the seat's view after the event. The lock is held once for both.
+    ///
+    /// # Errors
+    ///
+    /// Those of `call`.
     #[inline(always)]
     pub fn call_and_view(
         &self,
@@ -162,7 +168,7 @@ impl<K: Room> SharedBoard<K> {
         Ok((answered.receipt(actor, ordinal, op), view))
     }
 
-    /// Lets go of the lock, and wakes those whose rest the operation ends where it was accepted.
+    /// Releases the lock and, if the operation was accepted, wakes the seats whose rest it ends.
     fn let_go(&self, desk: MutexGuard<'_, Desk<K>>, op: &Op, has_more: bool) {
         let mut desk = desk;
         if has_more {
@@ -172,7 +178,7 @@ impl<K: Room> SharedBoard<K> {
         }
     }
 
-    /// Wakes these seats' threads.
+    /// Wakes the threads of these seats.
     fn ring(&self, woken: Woken)
         requires { (h : ℕ) → has woken.harts h ≡ true → h < K.opening.config.harts }
     {
@@ -193,15 +199,15 @@ impl<K: Room> SharedBoard<K> {
         });
     }
 
-    /// What the actor's seat rests by: the bell of the actor's number.
+    /// The condition variable of the actor's seat.
     fn bell(&self, actor: Actor) -> &Condvar
         requires { IsActor K.opening.config actor }
     {
         &self.bells[actor_number(&self.config, actor)]
     }
 
-    /// What the seat's hart may do next, after the events that there are at this moment, which the seat has seen since. It is
-    /// a hint: by the time that it is looked at, there may be more.
+    /// The seat's view after the events of this moment, which the seat has then seen. It is a hint: more events can
+    /// follow before the caller uses it.
     pub fn view(&self, rt: &impl Wait, seat: &mut Seat<K>) -> HartView
         ensures view { IsView K.opening seat.new result }
         ensures seat { seat.new ≡ seeing seat.old seat.new.saw }
@@ -210,7 +216,7 @@ impl<K: Room> SharedBoard<K> {
         self.desk.lock(rt).view(seat)
     }
 
-    /// Waits until there is another number of events than the seat had seen, or every seat rests, or the end was called for.
+    /// Waits until the number of events isn't `seen`, or every seat rests, or an end was asked for.
     pub fn rest<R: Wait>(&self, rt: &R, seat: &mut Seat<K>, seen: u64) -> Rest
         ensures changed { result ≡ Changed → length seat.new.saw ≢ seen }
         ensures seat { seat.new ≡ seeing seat.old seat.new.saw }
@@ -232,9 +238,9 @@ impl<K: Room> SharedBoard<K> {
         unreachable!()
     }
 
-    /// Waits until what it waits for has come to the seat's hart, and shows what that may do next; None where every seat rests,
-    /// or the end was called for. The lock is given back while it waits, and only events that may concern the hart wake it. Most
-    /// often it comes sooner than a thread falls asleep and is woken: so a few times it is looked for before the thread sleeps.
+    /// Waits until what the seat waits for has come to its hart, and returns a view. None: every seat rests, or an end
+    /// was asked for. The lock is released while it waits, and only events that may concern the hart wake it. It checks
+    /// a few times before the thread sleeps, because most waits are shorter than a sleep and a wake-up.
     pub fn rest_for<R: Wait>(&self, rt: &R, seat: &mut Seat<K>, awaits: Awaits) -> Option<HartView>
         ensures view { IfSome result (λ v. IsView K.opening seat.new v) }
         ensures come { IfSome result (λ v. has_come_to awaits v.hart ≡ true) }
@@ -265,13 +271,17 @@ impl<K: Room> SharedBoard<K> {
         unreachable!()
     }
 
-    /// Ends every rest, those that will be asked for too.
+    /// Ends every rest, also later ones.
     pub fn end(&self, rt: &impl Wait) {
         self.desk.lock(rt).end();
         self.ring_all();
     }
 
-    /// Takes the board from behind its lock, with all seats: the record, in which each receipt stands.
+    /// Takes the board from its lock, with all seats. It returns the record, in which each receipt's event stands.
+    ///
+    /// # Errors
+    ///
+    /// There isn't one seat for each actor. It returns the board and the seats.
     pub fn close(self, seats: Vec<Seat<K>>) -> Result<Record<K>, NotAll<K>>
         requires { K.all ≡ K.parts }
         ensures all { IsOk result ↔ IsOneEach K.opening.config seats.items }
@@ -290,7 +300,11 @@ impl<K: Room> SharedBoard<K> {
     }
 }
 
-/// What the seats of so many harts rest by, and the clock's.
+/// The condition variables of the seats of so many harts, and of the clock's.
+///
+/// # Errors
+///
+/// Out of memory.
 fn bells(alloc: Global, harts: u64) -> Result<Vec<Condvar>, AllocError>
     requires { harts ≤ 128 }
     ensures { IfOk result (λ bells. length bells.items ≡ harts + 1) }

@@ -1,4 +1,4 @@
-//! What a hart may do next, as its seat sees it.
+//! Views: what a seat sees of its hart.
 ghost use Rattle.std.specs.Prelude.{◌≡◌, IfSome, None};
 ghost use Rattle.std.specs.Option.{option_map};
 ghost use Rattle.board_terms.specs.declared.op.Op.TheVariants.{Advance, Poll, Serve};
@@ -7,34 +7,34 @@ ghost use Rattle.board_lock.specs.Coming.{Sees, firmware_choice};
 
 use board_core::{HartSet, HartState, Op};
 
-/// What a thread sees of its hart between two calls. It is a hint: by the time that it is looked at, other threads' calls may
-/// have been accepted.
+/// What a seat sees of its hart between two calls. It is a hint: other threads' calls can be accepted before the caller
+/// uses it.
 #[derive(Clone, Copy, Debug)]
 pub struct HartView {
     /// The hart of the seat; None for the clock, which has no state.
     pub hart: Option<HartNow>,
     /// Whether the power is off.
     pub is_off: bool,
-    /// How many events there are.
+    /// The number of events.
     pub events: u64,
 }
 
-/// What a hart may do next.
+/// What decides what a hart can do next.
 #[derive(Clone, Copy, Debug)]
 pub struct HartNow {
-    /// Its state.
+    /// The hart's state.
     pub state: HartState,
-    /// The harts that its fence call waits for; None outside of a fence call.
+    /// The harts that its fence call waits for. None: it is in no fence call.
     pub outstanding: Option<HartSet>,
-    /// How many fences wait at it.
+    /// The number of fences that wait at the hart.
     pub waiting: u64,
-    /// Whether an interrupt is pending that it enables.
+    /// Whether the hart has wake: a pending interrupt is enabled in sie.
     pub wake: bool,
 }
 
 impl HartNow {
-    /// What its firmware does next, if there is something: a fence is served before all else, and a fence call is ended as soon
-    /// as it waits for no hart.
+    /// The next operation of the hart's firmware, if it has one. It first serves a waiting fence, and polls a fence
+    /// call as soon as the call waits for no hart.
     pub fn firmware_choice(&self) -> Option<&'static Op>
         ensures exact { option_map (λ op. op.now) result ≡ firmware_choice self.now }
         ensures happens { (s : Situation) → Sees s self.now → IfSome result (λ op. IsAccepted op.now s) }

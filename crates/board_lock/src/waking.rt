@@ -1,4 +1,4 @@
-//! Whom an event wakes.
+//! The seats that an event wakes.
 
 ghost use Rattle.std.specs.Prelude.{◌≡◌, ℕ, ◌<◌, ◌≤◌, ◌&&◌, true};
 ghost use Rattle.hart_mask.specs.Ids.{has, ids_where};
@@ -16,7 +16,7 @@ use sbi_abi::call::{HsmCall, IpiCall, RfenceCall};
 use sbi_abi::{Call, decode};
 
 impl<K: Room> Desk<K> {
-    /// There is another event, of this operation: the seats whose rest it ends rest no more. No event happens.
+    /// After an event of this operation: ends the rests that the event ends, and returns those seats. No event happens.
     pub(crate) fn wake(&mut self, op: &Op) -> Woken
         ensures answer { result ≡ woken self.old op.now }
         ensures left { self.new ≡ held self.old.board (awake self.old.rests result) self.old.ended }
@@ -37,7 +37,7 @@ impl<K: Room> Desk<K> {
         woken
     }
 
-    /// The harts of a set to whose seats has come what they wait for.
+    /// The harts of a set whose seats have what they wait for.
     fn come_to(&self, harts: HartSet) -> HartSet
         requires { (h : ℕ) → has harts h ≡ true → h < K.opening.config.harts }
         ensures { result ≡ ids_where (λ h. has harts h && comes_to self.now h) }
@@ -52,7 +52,7 @@ impl<K: Room> Desk<K> {
         come
     }
 
-    /// Whether what hart `h`'s seat waits for has come, where it waits for its firmware's work.
+    /// Whether what hart `h`'s seat waits for has come. The seat waits for work for its firmware.
     fn comes_to(&self, h: u64) -> bool
         requires { h < K.opening.config.harts }
         ensures { result ≡ comes_to self.now h }
@@ -89,21 +89,21 @@ pub(crate) fn has_come(awaits: Awaits, now: &HartNow) -> bool
     }
 }
 
-/// Whether the firmware of a hart has something to do.
+/// Whether a hart's firmware has something to do.
 fn has_turn(now: &HartNow) -> bool
     ensures { result ≡ has_turn now.now }
 {
     now.firmware_choice().is_some()
 }
 
-/// Whether a hart's guest goes on from a WFI.
+/// Whether a hart's guest can continue after a WFI.
 fn has_wake(now: &HartNow) -> bool
     ensures { result ≡ has_wake now.now }
 {
     now.outstanding.is_none() && now.state.is_started() && now.wake
 }
 
-/// The harts whose seats an operation may concern, besides that of its actor, on a board of so many.
+/// The harts, of so many, whose seats an operation may concern, besides its actor's.
 fn concerned(op: &Op, harts: u64) -> HartSet
     requires { harts ≤ 128 }
     ensures { result ≡ concerned harts op.now }
@@ -115,7 +115,7 @@ fn concerned(op: &Op, harts: u64) -> HartSet
     }
 }
 
-/// The harts whose seats a call may concern, besides that of its caller.
+/// The harts whose seats a call may concern, besides its caller's.
 fn concerned_by(call: Call, harts: u64) -> HartSet
     requires { harts ≤ 128 }
     ensures { result ≡ concerned_by harts call }
@@ -141,7 +141,7 @@ fn named_by(fence: RfenceCall, harts: u64) -> HartSet
     }
 }
 
-/// The harts that a hart list names; none where it is refused.
+/// The harts that a hart list names; none if it is invalid.
 fn named(mask: u64, base: u64, harts: u64) -> HartSet
     requires { harts ≤ 128 }
     ensures { result ≡ named harts mask base }
@@ -152,7 +152,7 @@ fn named(mask: u64, base: u64, harts: u64) -> HartSet
     }
 }
 
-/// The set of this hart alone; the empty one where there is no such hart.
+/// The set of only this hart; empty if there is no such hart.
 fn alone(hart: u64, harts: u64) -> HartSet
     requires { harts ≤ 128 }
     ensures { result ≡ alone harts hart }

@@ -1,4 +1,4 @@
--- What a machine keeps, and how each part of it stands for an opening and a history.
+-- How each component of a machine stands for an opening and a history.
 use Rattle.std.specs.Prelude.{Option, slice_index_or, ◌≡◌, ◌+◌, ◌<◌, ◌^◌, List, map, length, ℕ}
 use Rattle.hart_mask.specs.Ids.{has, ids_where}
 use Rattle.hsm.specs.Harts.{Hart}
@@ -37,32 +37,32 @@ use Rattle.board_rules.specs.Refusals.{Situation}
 use Rattle.board_rules.specs.Resets.{last_reset}
 use Rattle.board_rules.specs.Starts.{entered_before, entries, hart_of, starts}
 
--- the harts are those that the past makes
+-- the harts are those of the past
 pub record HartsStand (o : Opening) (past : List Event) (harts : List Hart) : Type 0 where
   pub each : harts ≡ map (hart_of o past) (harts_of o.config)
 
--- the registers hold what was last written
+-- the CSRs have the values of the past
 pub record CsrsStand (o : Opening) (past : List Event) (csrs : Csrs) : Type 0 where
   pub sstatus_sie : csrs.sstatus_sie ≡ ids_where (sstatus_sie o past)
   pub ssie : csrs.ssie ≡ ids_where (λ h. (sie o past h).ssie)
   pub stie : csrs.stie ≡ ids_where (λ h. (sie o past h).stie)
 
--- SSIP is 1 where the past makes it
+-- SSIP is 1 at the harts at which the past has it
 pub record IpisStand (o : Opening) (past : List Event) (ipis : List ℕ) : Type 0 where
   pub ssip : ipis ≡ ids_where (ssip o past)
 
--- the time is the past's, and the deadlines are those that the past sets
+-- the time and the deadlines are those of the past
 pub record TimersStand (o : Opening) (past : List Event) (timers : Timing) : Type 0 where
   pub time : timers.time ≡ time o past
   pub deadlines : timers.deadlines ≡ map (deadline o past) (harts_of o.config)
 
--- what interrupts harts, and what enables it, is what the past makes it
+-- the interrupt state is that of the past
 pub record InterruptsStand (o : Opening) (past : List Event) (i : Interrupts) : Type 0 where
   pub csrs : CsrsStand o past i.csrs
   pub ipis : IpisStand o past i.ipis
   pub timers : TimersStand o past i.timers
 
--- satp and the caches of hart h, and what is hit in them
+-- satp and the caches of hart h, and the hits in these caches
 abbrev pub satp_at : Memory → ℕ → ℕ
 satp_at m h = slice_index_or m.satps.items h 0
 
@@ -75,25 +75,25 @@ tlb_hit caches at = hit matches at caches.tlb
 abbrev pub word_hit : Caches → ℕ → Option FetchWord
 word_hit caches pa = hit is_at pa caches.words
 
--- the RAM has the past's words, satp of each hart is what was last written, and its caches have what lives
+-- the RAM's words, each hart's satp and its caches are those of the past
 pub record MemoryStand (o : Opening) (past : List Event) (m : Memory) : Type 0 where
   pub pages : pages_of m.ram ≡ o.config.pages
   pub ram : word_in m.ram ≡ memory o past
   pub satps : m.satps.items ≡ map (satp o past) (harts_of o.config)
   pub caches : m.caches.items ≡ map (caches_of o past) (harts_of o.config)
 
--- the fences stand for the turns of the past, each of which could be made, and which have the places of its events
+-- the fences stand for the turns of the past; each turn was possible, and has the place of its event
 pub record FencesStand (o : Opening) (past : List Event) (f : State Flush) : Type 0 where
   pub stands : fences.StandsFor o.fences o.config.harts (turns o past) f
   pub right : IsRight o.fences o.config.harts (turns o past)
   pub places : o.fences.first ≡ o.places
 
--- the counts are those of the past, and of what was entered before it
+-- the counts are those of the past, plus the starts entered before it
 pub record CountsStand (o : Opening) (past : List Event) (counts : Counts) : Type 0 where
   pub starts : counts.starts ≡ length (starts o past) + entered_before o past
   pub entries : counts.entries ≡ length (entries o past) + entered_before o past
 
--- the machine holds what the definitions give on the past
+-- each component has the values that the definitions give on the past
 pub record StandsFor (o : Opening) (past : List Event) (m : Machine) : Type 0 where
   pub harts : HartsStand o past m.hsm
   pub interrupts : InterruptsStand o past m.interrupts
@@ -102,7 +102,7 @@ pub record StandsFor (o : Opening) (past : List Event) (m : Machine) : Type 0 wh
   pub counts : CountsStand o past m.counts
   pub last_reset : m.last_reset ≡ last_reset o past
 
--- there is a hart, a deadline, a satp, a pair of caches, a call and a queue for each id
+-- each hart id has a hart, a deadline, a satp, a pair of caches, a call and a queue
 pub record IsSized (c : Config) (m : Machine) : Type 0 where
   pub harts : length m.hsm ≡ c.harts
   pub deadlines : length m.interrupts.timers.deadlines ≡ c.harts
@@ -111,7 +111,7 @@ pub record IsSized (c : Config) (m : Machine) : Type 0 where
   pub calls : length m.fences.calls ≡ c.harts
   pub queues : length m.fences.queues ≡ c.harts
 
--- what the machine says of whether an operation of hart h happens
+-- the situation of hart h, from the machine's components
 abbrev pub situation_in : Machine → ℕ → Situation
 situation_in m h = record {
   state = (hart_at m.hsm h).state;
@@ -121,7 +121,7 @@ situation_in m h = record {
   fences = queue_at m.fences.queues h;
 }
 
--- There are an opening of a board with these numbers and a past that the machine stands for, and few events were accepted.
+-- The machine stands for some opening of a board with these numbers and some past, of fewer than 2^56 events.
 pub record IsStanding (c : Config) (m : Machine) : Type 0 where
   pub o : Opening
   pub past : List Event
@@ -129,24 +129,25 @@ pub record IsStanding (c : Config) (m : Machine) : Type 0 where
   pub stands : StandsFor (on c o) past m
   pub few : place_after o past < 2 ^ 56
 
--- The same, and as many events were accepted as this place says.
+-- The machine stands for some opening of a board with these numbers and some past, and the number of events accepted is
+-- this place.
 pub record IsStandingAt (c : Config) (place : ℕ) (m : Machine) : Type 0 where
   pub standing : IsStanding c m
   pub at : place ≡ place_after standing.o standing.past
 
--- the caches of hart h can be filled once more
+-- the caches of hart h have room for one more fill
 pub record CanFill (memory : Memory) (h : ℕ) : Type 0 where
   pub satps : h < length memory.satps.items
   pub caches : h < length memory.caches.items
   pub tlb : (caches_at memory h).tlb.next < 2 ^ 63
   pub words : (caches_at memory h).words.next < 2 ^ 63
 
--- the counts can grow
+-- the counts have room for one more
 pub record HasRoom (counts : Counts) : Type 0 where
   pub starts : counts.starts < 2 ^ 63
   pub entries : counts.entries < 2 ^ 63
 
--- What a machine holds, as the opening of the events from this place on.
+-- The machine's values as the opening of the events from this place on.
 abbrev pub opening_in : Config → (places : ℕ) → Machine → Opening
 opening_in c places m = record {
   config = c;

@@ -28,7 +28,7 @@ use board_terms::{Config, Reply};
 use sbi_abi::{Call, SbiError, Sbiret};
 
 impl Machine {
-    /// The firmware's reply to a call by hart `h`, which is STARTED, as the event of this place.
+    /// Performs a call by hart `h`, which is STARTED, as the event at this place, and returns the reply.
     pub(crate) fn call(&mut self, config: &Config, place: u64, h: u64, call: Call) -> Reply
         requires good { IsGood config.now }
         requires sized { IsSized config.now self.old }

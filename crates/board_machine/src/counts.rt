@@ -1,7 +1,7 @@
-//! The counts of a board's table, as they are kept.
+//! The stored counts of a board's table.
 ghost use Rattle.std.specs.Prelude.{◌≡◌, if◌then◌else◌};
 
-/// How many starts were accepted, the boot start among them, and how many of them were entered, since the last reset.
+/// The numbers of starts accepted, including the boot start, and of starts entered, since the last reset.
 #[derive(Clone, Copy)]
 pub struct Counts {
     pub starts: u64,
@@ -9,7 +9,7 @@ pub struct Counts {
 }
 
 impl Counts {
-    /// The boot start alone, where there is one.
+    /// The boot start, if `boots` is true, and nothing else.
     pub(crate) fn new(boots: bool) -> Counts
         ensures { result ≡ record { starts = if boots then 1 else 0; entries = 0 } }
     {

@@ -5,7 +5,7 @@ ghost use Rattle.hart_mask.specs.Ids.{has, with_bit};
 use board_rules::Sie;
 use hart_mask::HartSet;
 
-/// What the supervisor's registers of the harts hold, for each bit the harts at which it is 1.
+/// The supervisor CSRs of the harts: for each bit, the harts at which it is 1.
 #[derive(Clone, Copy)]
 pub struct Csrs {
     /// sstatus.SIE.

@@ -1,4 +1,4 @@
-//! Interrupts of harts: what is pending, what is enabled, and who wakes.
+//! Interrupts of harts: pending and enabled ones, and wake.
 ghost use Rattle.std.specs.Prelude.{◌≡◌, ◌<◌, [], IfOk, None, false, length};
 ghost use Rattle.hart_mask.specs.Ids.{has, with_bit, without_id};
 ghost use Rattle.interrupts.specs.Timing.{is_timer_pending, with_deadline, without_deadlines};
@@ -9,8 +9,7 @@ use board_rules::{Sie, interrupt_bits};
 use interrupts::{Ipis, Timers};
 use std::alloc::{AllocError, Global};
 
-/// What interrupts harts, and what enables it: their registers, pending software interrupts, and the time with the
-/// deadlines.
+/// The interrupt state of all harts: sstatus.SIE and sie, SSIP, and the time with the deadlines.
 #[derive(Drop)]
 pub struct Interrupts {
     pub csrs: Csrs,
@@ -19,7 +18,11 @@ pub struct Interrupts {
 }
 
 impl Interrupts {
-    /// What interrupts harts, equal to this. It fails where memory runs out.
+    /// A copy.
+    ///
+    /// # Errors
+    ///
+    /// Out of memory.
     pub(crate) fn try_copy(&self, alloc: Global) -> Result<Interrupts, AllocError>
         ensures { IfOk result (λ copy. copy ≡ self.now) }
     {
@@ -40,7 +43,7 @@ impl Interrupts {
         interrupt_bits(self.ipis.pending(h), self.timers.pending(h))
     }
 
-    /// Whether an interrupt is pending at hart `h` that its sie enables.
+    /// Whether a pending interrupt of hart `h` is enabled in its sie (Privileged 3.3.3, WFI).
     pub fn wake(&self, h: u64) -> bool
         requires in_range { h < length self.now.timers.deadlines }
         requires most { h < 128 }
@@ -51,7 +54,7 @@ impl Interrupts {
         sie.enables(self.ipis.pending(h), self.timers.pending(h))
     }
 
-    /// A reset: every interrupt is disabled, nothing is pending, no hart has a deadline, and the time goes on (profile).
+    /// A reset: all interrupts are disabled, none is pending, no hart has a deadline, and the time stays (profile).
     pub(crate) fn reset(&mut self)
         ensures { self.new ≡ record {
           csrs = record { sstatus_sie = []; ssie = []; stie = [] };
@@ -64,8 +67,8 @@ impl Interrupts {
         self.timers.reset();
     }
 
-    /// The entry of a start of hart `h`: its interrupts are disabled, and nothing is pending (SBI 9.1; that sie, SSIP and
-    /// the deadline are cleared too: profile).
+    /// The entry of a start of hart `h`: sstatus.SIE becomes 0 (SBI 9.1), and so do sie and SSIP, and the deadline is
+    /// removed (profile).
     pub(crate) fn enter(&mut self, h: u64)
         requires in_range { h < length self.old.timers.deadlines }
         requires most { h < 128 }

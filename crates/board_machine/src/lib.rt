@@ -1,7 +1,7 @@
-//! The machine of a board: each component, and what an operation does to them.
+//! The machine of a board: its components, and the effects of operations on them.
 //!
-//! For every opening and history that a machine stands for, an operation is answered as the definitions of `board_rules` say,
-//! and the machine stands for the history with its event.
+//! For every opening and history that a machine stands for, an operation gets the reply that the definitions of
+//! `board_rules` give. Then the machine stands for the history with the operation's event.
 #![tactic(auto)]
 
 mod calls;

@@ -16,7 +16,7 @@ use std::alloc::{AllocError, Global};
 use sv39::{Ram, Satp, Spaces};
 use tlb_model::{Caches, Flush};
 
-/// The RAM, and what each hart translates its addresses by.
+/// The RAM, and each hart's satp and caches.
 #[derive(Drop)]
 pub struct Memory {
     pub ram: Ram,
@@ -25,7 +25,11 @@ pub struct Memory {
 }
 
 impl Memory {
-    /// The memory of a board at its opening: every word is 0, no address is translated, and nothing is cached.
+    /// The memory of a board at its first opening: every word is 0, each satp is 0, and all caches are empty (profile).
+    ///
+    /// # Errors
+    ///
+    /// Out of memory.
     pub(crate) fn new(alloc: Global, config: &Config) -> Result<Memory, AllocError>
         requires { IsGood config.now }
         ensures stands { IfOk result (λ memory. MemoryStand (opening_at config.now) [] memory) }
@@ -41,7 +45,11 @@ impl Memory {
         Ok(Memory { ram, satps, caches })
     }
 
-    /// A memory with equal words, satps and caches. It fails where memory runs out.
+    /// A copy.
+    ///
+    /// # Errors
+    ///
+    /// Out of memory.
     pub(crate) fn try_copy(&self, alloc: Global) -> Result<Memory, AllocError>
         ensures ram { IfOk result (λ copy. copy.ram ≡ self.now.ram) }
         ensures satps { IfOk result (λ copy. copy.satps.items ≡ self.now.satps.items) }
@@ -67,7 +75,7 @@ impl Memory {
         self.satps[h as usize]
     }
 
-    /// Writes satp of hart `h`, on a board with these address spaces (Privileged 4.1.11).
+    /// Writes satp of hart `h`, on a board with these widths (Privileged 4.1.11).
     pub(crate) fn write_satp(&mut self, h: u64, value: u64, spaces: Spaces)
         requires in_range { h < length self.old.satps.items }
         requires limit { spaces.asid_len ≤ 16 }
@@ -79,7 +87,7 @@ impl Memory {
         self.satps[h as usize] = self.satps[h as usize].write(value, spaces);
     }
 
-    /// The entry of a start or of a resume of hart `h`: its addresses aren't translated any more (SBI 9.1 and 9.4).
+    /// The entry of a start or a resume of hart `h`: satp becomes 0 (SBI 9.1, 9.4).
     pub(crate) fn make_bare(&mut self, h: u64)
         requires { h < length self.old.satps.items }
         ensures satps { self.new.satps.items ≡ slice_set self.old.satps.items h 0 }
@@ -89,7 +97,7 @@ impl Memory {
         self.satps[h as usize] = Satp::bare();
     }
 
-    /// A reset: no hart's addresses are translated any more, and every word is 0 where the reboot is a cold one (profile).
+    /// A reset: each hart's satp becomes 0 and, if `cold` is true, every word of the RAM (profile).
     pub(crate) fn reset(&mut self, cold: bool)
         ensures satps { self.new.satps.items ≡ replicate (length self.old.satps.items) 0 }
         ensures ram { word_in self.new.ram
@@ -103,7 +111,7 @@ impl Memory {
         }
     }
 
-    /// An access of hart `h` at a virtual address, whose fills have this date.
+    /// Performs an access of hart `h` to a virtual address; what it fills has this date.
     pub(crate) fn access(&mut self, date: u64, h: u64, va: u64, what: Access) -> Accessed
         requires { CanFill self.old h }
         ensures result { result.result

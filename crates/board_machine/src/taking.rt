@@ -1,4 +1,4 @@
-//! A step on a machine, and the event that is made of it: what a board does in its history, by itself.
+//! A step on a machine, which returns its event.
 
 ghost use Rattle.std.specs.Prelude.{◌≡◌, ◌+◌, ◌<◌, ◌≤◌, List, ◌∷◌};
 ghost use Rattle.interrupts.specs.Timing.{last_time};
@@ -18,7 +18,7 @@ use board_terms::{Actor, Config, Op, Reply};
 use tlb_model::Entry;
 
 impl Machine {
-    /// Carries out an operation of hart `h` that isn't refused, as the event of this place: that event.
+    /// Performs an operation of hart `h` that isn't refused, as the event at this place, and returns the event.
     pub fn hart_event(&mut self, config: &Config, place: u64, h: u64, op: Op) -> Event
         requires good { IsGood config.now }
         requires sized { IsSized config.now self.old }
@@ -44,7 +44,7 @@ impl Machine {
         }
     }
 
-    /// Carries out a tick that the time has room for: its event.
+    /// Performs a tick for which the time has room, and returns its event.
     #[inline(always)]
     pub fn tick_event(&mut self, n: u64) -> Event
         requires { self.old.interrupts.timers.time + n ≤ last_time }

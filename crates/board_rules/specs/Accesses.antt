@@ -1,4 +1,4 @@
--- What accesses answer, and what they use (Privileged 4.1.11, 4.2.1, 4.3.2, 4.4).
+-- The replies of accesses, and the TLB entries that they use (Privileged 4.1.11, 4.2.1, 4.3.2, 4.4, 4.5).
 use Rattle.std.specs.Prelude.{ℕ, List, Option, Some, None, Result, Ok, Err}
 use Rattle.sv39.specs.declared.cause.Cause.{Cause}
 use Rattle.tlb_model.specs.declared.entry.Address.{Address}
@@ -16,7 +16,7 @@ use Rattle.board_terms.specs.declared.reply.Reply.TheVariants.{Value, Fault, Don
 use Rattle.board_rules.specs.History.{Event, Reach, access_of}
 use Rattle.board_rules.specs.Memory.{cached_in, hit_in, memory, satp, tlb_acts, word_acts}
 
--- What an access answers: the word that it read, that it is done, or why it failed.
+-- The reply of an access: the word read, Done for a store, or why it failed.
 abbrev pub access_reply_of : Access → Result ℕ Cause → Reply
 access_reply_of Load (Ok word) = Value word
 access_reply_of (Store value) (Ok word) = Done
@@ -24,27 +24,27 @@ access_reply_of Fetch (Ok word) = Value word
 access_reply_of access (Err cause) = Fault cause
 
 module _ (o : Opening) (past : List Event) (x : ℕ) where
-  -- the hit of an address in the TLB of hart x, and the word that its instruction cache has from a physical address
+  -- the hit of an address in hart x's TLB, and the word of a physical address in its instruction cache
   abbrev pub hit : Address → Option Entry
   hit = hit_in o x (tlb_acts o past x)
 
   abbrev pub cached : ℕ → Option FetchWord
   cached = cached_in o x (word_acts o past x)
 
-  -- the entry that an access of hart x uses, found or filled, if any
+  -- the entry that an access of hart x hits or fills, if any
   abbrev pub used_by_access : Option Reach → Option Entry
   used_by_access None = None
   used_by_access (Some reach) = whole.used (memory o past) (satp o past x) hit reach.va reach.access
 
-  -- the entry that an operation of hart x uses, where it is an access
+  -- the entry that an operation of hart x uses, if it is an access
   abbrev pub used : Op → Option Entry
   used op = used_by_access (access_of op)
 
-  -- what an access of hart x to an address answers
+  -- the reply of hart x's access to a virtual address
   abbrev pub access_reply : (va : ℕ) → Access → Reply
   access_reply va access = access_reply_of access (whole.answer (memory o past) (satp o past x) hit cached va access)
 
--- the clock makes no access
+-- the entry that an actor's operation uses; the clock makes no access
 abbrev pub used_by_actor : Opening → List Event → Actor → Op → Option Entry
 used_by_actor o past (Hart x) op = used o past x op
 used_by_actor o past Clock op = None

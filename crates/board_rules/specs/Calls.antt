@@ -1,4 +1,4 @@
--- What calls answer, by extension. Each extension has a file of its own, with its replies and what its calls do.
+-- The replies of calls, by extension. Each extension has its own file, with the replies and effects of its calls.
 use Rattle.std.specs.Prelude.{ℕ, Bool, Some}
 use Rattle.sbi_abi.specs.declared.answer.SbiError.TheVariants.{NotSupported}
 use Rattle.sbi_abi.specs.declared.call.Call.{Call}
@@ -19,8 +19,8 @@ pub mod Rfence
 pub mod Srst
 pub mod Time
 
--- The reply to a call, by sstatus.SIE of its caller, and the states of the harts. What isn't implemented is not supported
--- (SBI 3).
+-- The reply to a call, by its caller's sstatus.SIE and the states of the harts. An EID or FID that isn't implemented is
+-- not supported (SBI 3).
 abbrev pub reply_to : Config → (sstatus_sie : Bool) → (state : ℕ → HartState) → Call → CallReply
 reply_to c sstatus_sie state (calls.Base call) = base_reply call
 reply_to c sstatus_sie state (calls.Time call) = time_reply call

@@ -1,4 +1,4 @@
--- What a board is, for its contracts: its opening and its kept history.
+-- The model of a board: its opening and its kept history (profile).
 use Rattle.std.specs.Prelude.{ℕ, List, Bool, false, ◌==◌}
 use Rattle.std.specs.List.{range_with_len}
 use Rattle.board_terms.specs.declared.config.Config.{Config}
@@ -7,8 +7,8 @@ use Rattle.board_terms.specs.declared.op.Actor.TheVariants.{Hart, Clock}
 use Rattle.board_rules.specs.History.{Event}
 use Rattle.board_rules.specs.Opening.{Opening}
 
--- The past is the list of the events accepted since the opening, newest first: what came before an event is the rest of the
--- list, and then what the opening has.
+-- The past is the list of events accepted since the opening, newest first. So the events before an event are the rest
+-- of the list, and before them stands the opening.
 pub record Course : Type 0 where
   pub opening : Opening
   pub past : List Event

@@ -1,4 +1,4 @@
--- What the supervisor's registers hold (Privileged 4.1, Supervisor CSRs).
+-- The values of supervisor CSRs (Privileged 4.1, Supervisor CSRs).
 use Rattle.std.specs.Prelude.{ℕ, ◌+◌, List, [], ◌∷◌, Bool, false, ◌==◌, ◌&&◌, ◌||◌, if◌then◌else◌, Option, Some}
 use Rattle.std.specs.Int.{bit_at}
 use Rattle.hart_mask.specs.Ids.{has}
@@ -14,13 +14,14 @@ use Rattle.board_rules.specs.Resets.{reset_by}
 use Rattle.board_rules.specs.States.{is_start_entry, is_starting}
 use Rattle.board_rules.specs.Writes.{Write, Here, at_reset, latest}
 
--- A guest writes sstatus.SIE, and each entry clears it (SBI 9.1 and 9.4), and a reset everywhere (profile).
+-- The value that an event writes to sstatus.SIE: a guest's, 0 at each entry (SBI 9.1, 9.4), and 0 at every hart at a
+-- reset (profile).
 abbrev pub sstatus_sie_by : Op → Reply → Option (Write Bool)
 sstatus_sie_by (WriteSstatusSie value) reply = Some (Here value)
 sstatus_sie_by Advance (Entry addr hart opaque) = Some (Here false)
 sstatus_sie_by op reply = at_reset (reset_by op reply) false
 
--- Whether sstatus.SIE of a hart is 1: what its last write, entry or reset made of it, and before any what the opening has.
+-- Whether sstatus.SIE of a hart is 1: the value of its last write, entry or reset, or the opening's if there was none.
 abbrev pub sstatus_sie : Opening → List Event → ℕ → Bool
 sstatus_sie o [] h = has o.sstatus_sie h
 sstatus_sie o (event ∷ past) h = latest (sstatus_sie_by event.op event.reply) (is_hart h event.actor)
@@ -34,7 +35,7 @@ sie_of value = record { ssie = bit_at value 1 == 1; stie = bit_at value 5 == 1 }
 abbrev pub none_enabled : Sie
 none_enabled = record { ssie = false; stie = false }
 
--- a software interrupt in bit 1 and a timer interrupt in bit 5, as sie and sip have them (Privileged 4.1.3)
+-- the bits of sie and sip: software interrupts in bit 1, and timer interrupts in bit 5 (Privileged 4.1.3)
 abbrev pub interrupt_bits : (software timer : Bool) → ℕ
 interrupt_bits software timer = (if software then 2 else 0) + (if timer then 32 else 0)
 
@@ -42,18 +43,19 @@ interrupt_bits software timer = (if software then 2 else 0) + (if timer then 32 
 abbrev pub bits_of : Sie → ℕ
 bits_of sie = interrupt_bits sie.ssie sie.stie
 
--- whether one of the interrupts that are pending is enabled
+-- whether a pending interrupt is enabled
 abbrev pub enables : Sie → (ssip stip : Bool) → Bool
 enables sie ssip stip = (sie.ssie && ssip) || (sie.stie && stip)
 
--- A guest writes sie, and the entry of a start clears it, and a reset everywhere (profile).
+-- The value that an event writes to sie: a guest's, 0 at the entry of a start, and 0 at every hart at a reset
+-- (profile).
 abbrev pub sie_by : Op → Reply → (starting : Bool) → Option (Write Sie)
 sie_by (WriteSie value) reply starting = Some (Here (sie_of value))
 sie_by op reply starting = if is_start_entry op reply starting then Some (Here none_enabled) else at_reset
     (reset_by op reply) none_enabled
 
--- sie of a hart: what its last write, entry by start or reset made of it, and before any what the opening has. The entry of a
--- resume keeps it (profile).
+-- sie of a hart: the value of its last write, entry of a start, or reset, or the opening's if there was none. A resume
+-- doesn't change it (profile).
 abbrev pub sie : Opening → List Event → ℕ → Sie
 sie o [] h = record { ssie = has o.ssie h; stie = has o.stie h }
 sie o (event ∷ past) h =

@@ -1,4 +1,4 @@
--- What is kept when the history is cut: the opening of what comes after.
+-- Cuts of the history: the opening that the events before a cut leave (profile).
 use Rattle.std.specs.Prelude.{◌≡◌, ℕ, zero, suc, ◌+◌, ◌-◌, ◌*◌, ◌^◌, ◌<◌, ◌≤◌, Bool, List, [], length, map, Option, unwrap_or}
 use Rattle.std.specs.List.{range_with_len}
 use Rattle.hart_mask.specs.Ids.{ids_where}
@@ -28,11 +28,11 @@ use Rattle.board_rules.specs.States as states
 use Rattle.board_rules.specs.Totals.{totals}
 use Rattle.board_rules.specs.Starts.{entered_before, entries, hart_of}
 
--- the words of the RAM, from its start on
+-- the words of the RAM, from its first address on
 abbrev pub words_of : (pages : ℕ) → (word : ℕ → Option ℕ) → List ℕ
 words_of pages word = map (λ i. unwrap_or (word (RAM_START + 8 * i)) 0) (range_with_len 0 (PAGE_WORDS * pages))
 
--- What a history leaves for the events that come after: what each definition says of it.
+-- The opening that a history leaves for later events: the value of each definition on it.
 abbrev pub opening_of : Opening → List Event → Opening
 opening_of o past = record {
   config = o.config;
@@ -51,24 +51,24 @@ opening_of o past = record {
   last_reset = last_reset o past;
 }
 
--- The openings of boards, by how often the history was cut: that of a new board, and what a legal history on an opening of a
--- board left.
+-- The openings of boards after so many cuts: with none, a new board's; with each more, what a legal history on such an
+-- opening left.
 abbrev pub OpensAfter : (cuts : ℕ) → Opening → Type 0
 OpensAfter zero o = IsGood o.config × (o ≡ opening_at o.config)
 OpensAfter (suc cuts) o =
     (before : Opening) × (past : List Event) × OpensAfter cuts before × IsLegal before past
     × (o ≡ opening_of before past)
 
--- An opening that boards come to: a new board's of good numbers, or what a legal history on such a one left, however often.
+-- An opening that a board can reach: a new board's, with numbers within the limits, or what any number of cuts left.
 pub record IsOpened (o : Opening) : Type 0 where
   pub cuts : ℕ
   pub opens : OpensAfter cuts o
 
--- the most events that may have been accepted where a history is cut, so that places have room for as many as it may hold
+-- the most events before a cut (profile): places then have room for a full history more
 abbrev pub last_cut : ℕ
 last_cut = 2 ^ 56 - 1000000
 
--- The history of a good board, within its limit; places, fill numbers and counts have room for as many events more.
+-- The history of a board within its limits. Places, fill numbers and counts have room for a full history.
 pub record IsKept (o : Opening) (past : List Event) : Type 0 where
   pub good : IsGood o.config
   pub opened : IsOpened o
@@ -76,8 +76,8 @@ pub record IsKept (o : Opening) (past : List Event) : Type 0 where
   pub within : length past ≤ o.config.limit
   pub early : o.places ≤ 2 ^ 56 - 1000000
 
--- What a board knows of its course, whatever its limit is: the boot hart is there, the history is legal, each turn of it could
--- be made, and the memory is that of a RAM.
+-- What holds of a board's course, whatever its limit: the boot hart exists, the history is legal, each turn was
+-- possible, and the memory is that of a RAM.
 pub record IsHeld (o : Opening) (past : List Event) : Type 0 where
   pub boot_hart_is_there : o.config.boot_hart < o.config.harts
   pub legal : IsLegal o past
@@ -87,9 +87,9 @@ pub record IsHeld (o : Opening) (past : List Event) : Type 0 where
   pub pages : pages_of ram ≡ o.config.pages
   pub words : word_in ram ≡ memory.memory o past
 
--- A cut isn't seen: on the opening that a history leaves, and no event since, each look-up of a hart that is there answers what it
--- answers on the history, and so do time, the last reset, the memory and the totals; and each step is answered the same, where
--- the history is full or isn't.
+-- A cut isn't visible. On the opening that a history leaves, the look-ups of each hart, the time, the last reset, the
+-- memory and the totals are the same as on the history. Each step gets the same answer, for a full history and for one
+-- with room.
 pub record IsUnseen (o : Opening) (past : List Event) : Type 0 where
   pub state : (h : ℕ) → h < o.config.harts → states.state (opening_of o past) [] h ≡ states.state o past h
   pub kept : (h : ℕ) → h < o.config.harts → starts.kept (opening_of o past) [] h ≡ starts.kept o past h

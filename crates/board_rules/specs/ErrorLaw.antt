@@ -1,4 +1,4 @@
--- A call that answers an error changes nothing but the history (profile).
+-- A call that returns an error changes only the history (profile).
 use Rattle.std.specs.Prelude.{◌≡◌, ℕ, List, Bool, false, not}
 use Rattle.sbi_abi.specs.Errors.{is_success}
 use Rattle.rfence.specs.Calls as calls
@@ -22,7 +22,7 @@ abbrev pub is_error : Reply → Bool
 is_error (Ret answer) = not (is_success answer)
 is_error reply = false
 
--- every look-up of a board, but its history and the number of its events, answers the same after both pasts
+-- every look-up of a board gives the same on both pasts, except its history and the number of its events
 pub record LooksSame (o : Opening) (past later : List Event) : Type 0 where
   pub state : (h : ℕ) → states.state o later h ≡ states.state o past h
   pub kept : (h : ℕ) → starts.kept o later h ≡ starts.kept o past h
@@ -38,7 +38,7 @@ pub record LooksSame (o : Opening) (past later : List Event) : Type 0 where
   pub fetched : (h : ℕ) → (memory.caches_of o later h).words.live ≡ (memory.caches_of o past h).words.live
   pub waiting : (h : ℕ) → fences.waiting o later h ≡ fences.waiting o past h
   pub outstanding : (h : ℕ) → fences.outstanding o later h ≡ fences.outstanding o past h
-  -- what waits, and which call is open, with the places at which they were asked
+  -- the waiting fences and the open call, with the places at which they were asked
   pub asked : (h : ℕ) → queues.waiting o.fences (fences.turns o later) h ≡ queues.waiting o.fences (fences.turns o past) h
   pub call : (h : ℕ) → calls.open_call o.fences (fences.turns o later) h ≡ calls.open_call o.fences (fences.turns o past) h
   pub need : (h t : ℕ) → need o later h t ≡ need o past h t

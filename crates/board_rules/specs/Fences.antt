@@ -1,4 +1,5 @@
--- Remote fences: what each event means for them, what waits at harts, and what calls wait for (SBI 8).
+-- Remote fences: what each event means for them, the fences that wait at harts, and the harts that calls wait for (SBI
+-- 8).
 use Rattle.std.specs.Prelude.{ℕ, List, [], ◌∷◌, Bool, map, Option, Some, None, Result, Ok, Err}
 use Rattle.sbi_abi.specs.declared.answer.SbiError.{SbiError}
 use Rattle.sbi_abi.specs.declared.call.Call.{Call}
@@ -32,14 +33,14 @@ use Rattle.board_terms.specs.Limits.{spaces_of}
 use Rattle.board_rules.specs.States.{state}
 use Rattle.board_rules.specs.Targets.{is_reached}
 
--- The remote fence that a call is, if it is one.
+-- The call as a remote fence, if it is one.
 abbrev pub remote_of : Config → Call → Option Remote
 remote_of c (Rfence call) = Some (remote_by_rfence c call)
 remote_of c call = None
 
 module _ (o : Opening) (past : List Event) where
-  -- The harts of which a fence is asked: those that the hart list names and that are in an interruptible state (SBI 8;
-  -- that it skips other states: profile).
+  -- Whether a fence is asked of hart t: the hart list names it, and it is in an interruptible state (SBI 8; that harts
+  -- in other states are skipped: profile).
   abbrev pub is_asked_by : (mask base : ℕ) → ℕ → Bool
   is_asked_by mask base t = is_reached o.config (state o past) mask base t
 
@@ -47,7 +48,7 @@ module _ (o : Opening) (past : List Event) where
   turn_by_flush x mask base (Ok flush) = Ask x (is_asked_by mask base) flush
   turn_by_flush x mask base (Err error) = Quiet
 
-  -- A remote fence that was accepted waits inside its call.
+  -- A remote fence without an error waits inside its call.
   abbrev pub turn_by_remote : (x : ℕ) → Option Remote → Reply → Turn Flush
   turn_by_remote x (Some remote) replies.Waiting = turn_by_flush x remote.mask remote.base remote.flush
   turn_by_remote x remote reply = Quiet
@@ -57,7 +58,7 @@ module _ (o : Opening) (past : List Event) where
   turn_by_call x (Srst call) reply = turn_by_srst call reply
   turn_by_call x call reply = turn_by_remote x (remote_of o.config call) reply
 
-  -- What an operation of hart x means for fences.
+  -- What an operation of hart x means for fences (SBI 8; Privileged 4.2.1; Zifencei).
   abbrev pub turn_by : (x : ℕ) → Op → Reply → Turn Flush
   turn_by x (ops.Ecall regs) reply = turn_by_call x (call_of regs) reply
   turn_by x (ops.Sfence va asid) reply = Own x (Entries (fence_of_address (spaces_of o.config) va asid))
@@ -66,27 +67,27 @@ module _ (o : Opening) (past : List Event) where
   turn_by x ops.Poll reply = Poll x
   turn_by x op reply = Quiet
 
-  -- the clock has nothing to do with fences
+  -- an actor's operation as a turn; the clock's concerns no fence
   abbrev pub turn_of : Actor → Op → Reply → Turn Flush
   turn_of (Hart x) op reply = turn_by x op reply
   turn_of Clock op reply = Quiet
 
--- What the events since the opening mean for fences, newest first: a turn for each event.
+-- The turns of the events since the opening, newest first: one for each event.
 abbrev pub turns : Opening → List Event → List (Turn Flush)
 turns o [] = []
 turns o (event ∷ past) = turn_of o past event.actor event.op event.reply ∷ turns o past
 
--- whether a hart is inside a fence call, by the harts that its call waits for
+-- whether a hart is inside a fence call, from the harts that its call waits for
 abbrev pub phase_by : Option (List ℕ) → Phase
 phase_by None = Outside
 phase_by (Some harts) = Inside
 
 module _ (o : Opening) (past : List Event) where
-  -- The fences that wait at a hart, the one first that it serves first: each with its caller, and what it drops.
+  -- The fences that wait at a hart, in the order in which it serves them, each with its caller and what it drops.
   abbrev pub waiting : ℕ → List (Request Flush)
   waiting t = map opened.kept (queues.waiting o.fences (turns o past) t)
 
-  -- The harts that a hart's fence call waits for, as ascending ids, while it is inside one.
+  -- The ids of the harts that a hart's fence call waits for, ascending. None: it is in no call.
   abbrev pub outstanding : ℕ → Option (List ℕ)
   outstanding h = in_call (calls.open_call o.fences (turns o past) h)
       (calls.outstanding o.fences o.config.harts (turns o past) h)

@@ -1,4 +1,4 @@
--- What a board records of an accepted step.
+-- An accepted step, as a board records it (profile).
 use Rattle.std.specs.Prelude.{ℕ, Option, Some, None}
 use Rattle.tlb_model.specs.Entries.{Entry}
 use Rattle.hart_access.specs.declared.accesses.Access.{Access}
@@ -9,7 +9,7 @@ use Rattle.board_terms.specs.declared.op.Op.{Op}
 use Rattle.board_terms.specs.declared.op.Op.TheVariants.{Load, Store, Fetch}
 use Rattle.board_terms.specs.declared.reply.Reply.{Reply}
 
--- who, what, what was answered, and for a translated access the TLB entry that it used, found or filled
+-- The actor, the operation, the reply and, for a translated access, the TLB entry that it hit or filled.
 pub record Event : Type 0 where
   pub actor : Actor
   pub op : Op
@@ -28,24 +28,24 @@ using x op reply used = record { actor = Hart x; op = op; reply = reply; transla
 abbrev pub by_clock : Op → Reply → Event
 by_clock op reply = record { actor = Clock; op = op; reply = reply; translation = None }
 
--- an access, and its address
+-- an access, and its virtual address
 pub record Reach : Type 0 where
   pub va : ℕ
   pub access : Access
 
--- the access that an operation is, if it is one
+-- the operation's access, if it is one
 abbrev pub access_of : Op → Option Reach
 access_of (Load va) = Some (record { va = va; access = accesses.Load })
 access_of (Store va value) = Some (record { va = va; access = accesses.Store value })
 access_of (Fetch va) = Some (record { va = va; access = accesses.Fetch })
 access_of op = None
 
--- the entry that an operation used, where it is an access
+-- the entry that an operation used, if it is an access
 abbrev pub entry_of : Option Reach → Option Entry → Option Entry
 entry_of None used = None
 entry_of (Some reach) used = used
 
--- the operation that an access of an address is
+-- the operation of an access to a virtual address
 abbrev pub access_op : (va : ℕ) → Access → Op
 access_op va accesses.Load = Load va
 access_op va (accesses.Store value) = Store va value

@@ -1,4 +1,4 @@
--- Memory, its translation, and the harts' caches (Privileged 4.1.11, 4.2, 4.3; Zifencei).
+-- The memory, satp, and the harts' caches (Privileged 4.1.11, 4.2, 4.3; Zifencei).
 use Rattle.std.specs.Prelude.{ℕ, List, [], ◌∷◌, Bool, if◌then◌else◌, Option, Some, None, option_map, unwrap_or}
 use Rattle.sbi_abi.specs.declared.reset.Reset.{Reset}
 use Rattle.rfence.specs.Applied.{Effect, Nothing, Drops, Empties, effect}
@@ -29,29 +29,30 @@ use Rattle.board_rules.specs.Writes.{Write, Here, at_reset, latest}
 
 -- ---- satp
 
--- A guest writes satp (Privileged 4.1.11), and each entry clears it (SBI 9.1 and 9.4), and a reset everywhere (profile).
+-- The value that an event writes to satp: a guest's (Privileged 4.1.11), 0 at each entry (SBI 9.1, 9.4), and 0 at every
+-- hart at a reset (profile).
 abbrev pub satp_by : Config → Op → Reply → Option (Write ℕ)
 satp_by c (ops.WriteSatp value) reply = option_map Here (satp_of_write (spaces_of c) value)
 satp_by c ops.Advance (replies.Entry addr hart opaque) = Some (Here 0)
 satp_by c op reply = at_reset (reset_by op reply) 0
 
--- satp of a hart: what its last write, entry or reset made of it, and before any what the opening has.
+-- satp of a hart: the value of its last write, entry or reset, or the opening's if there was none.
 abbrev pub satp : Opening → List Event → ℕ → ℕ
 satp o [] h = opened_satp o h
 satp o (event ∷ past) h = latest (satp_by o.config event.op event.reply) (is_hart h event.actor) (satp o past h)
 
--- an address in the space that satp names
+-- a virtual address in satp's address space
 abbrev pub address_by : (satp va : ℕ) → Address
 address_by satp va = record { va = va; asid = asid_of satp }
 
 -- ---- memory
 
--- a word that is stored, and its physical address
+-- a stored word, and its physical address
 pub record Storing : Type 0 where
   pub at : ℕ
   pub value : ℕ
 
--- what is written into the memory: a word, or 0 into every word
+-- a write to the memory: of one word, or of 0 to every word
 pub data Writing : Type 0 where
   Stored : Storing → Writing
   Zeroed : Writing
@@ -61,7 +62,7 @@ abbrev pub zeroed_by : Option Reset → Option Writing
 zeroed_by None = None
 zeroed_by (Some reset) = if is_cold reset.kind then Some Zeroed else None
 
--- A store that is done writes its word where its translation says.
+-- A store that is Done writes its word at its physical address.
 abbrev pub writing_by : Op → Reply → Option Entry → Option Writing
 writing_by (ops.Store va value) replies.Done used = Some (Stored (record { at = phys_at used va; value = value }))
 writing_by op reply used = zeroed_by (reset_by op reply)
@@ -71,7 +72,7 @@ written_by c None memory = memory
 written_by c (Some (Stored storing)) memory = written memory storing.at storing.value
 written_by c (Some Zeroed) memory = zero_memory c.pages
 
--- The word at a physical address, where the RAM has one: the one that was stored there last, before any the opening's, and 0
+-- The word at a physical address, if the RAM has one: the last stored there, or the opening's if there was none, and 0
 -- after a cold reboot.
 abbrev pub memory : Opening → List Event → ℕ → Option ℕ
 memory o [] = word_in o.ram
@@ -79,36 +80,36 @@ memory o (event ∷ past) = written_by o.config (writing_by event.op event.reply
 
 -- ---- caches
 
--- what an event does to a cache of a hart, by what it does to the hart's caches and what it fills there
+-- what an event does to one cache of a hart, from its effect on the hart's caches and the item that it fills
 abbrev pub act_by : {E : Type 0} → Effect Flush → Option E → Act E
 act_by Nothing None = acts.Nothing
 act_by Nothing (Some item) = acts.Fill item
 act_by (Drops flush) filling = acts.Drop flush
 act_by Empties filling = acts.Clear
 
--- a hart fills its own caches alone
+-- the item that is filled: a hart fills only its own caches
 abbrev pub own_filling : {E : Type 0} → (own : Bool) → Option E → Option E
 own_filling own None = None
 own_filling own (Some item) = if own then Some item else None
 
--- what an access fills that used an entry: that entry, where none was hit
+-- the entry that an access fills: the one that it used, if it hit none
 abbrev pub filling_of : (hit used : Option Entry) → Option Entry
 filling_of None used = used
 filling_of (Some entry) used = None
 
--- The entry that an address hits: of those that live, match the address and are global or of its address space, the one
--- that was filled last (profile).
+-- The entry that an address hits: the live entry that matches the address in its address space, and was filled last
+-- (profile).
 abbrev pub hit_in : Opening → (h : ℕ) → List (Act Entry) → Address → Option Entry
 hit_in o h acts at = last_live o.places (tlb_at o h) covers_entry matches at acts
 
--- An access that used an entry without hitting one filled it.
+-- The entry that an access fills: the one that it used, if it hit none.
 abbrev pub entry_filling : Op → (used : Option Entry) → (satp : ℕ) → (hit : Address → Option Entry) → Option Entry
 entry_filling (ops.Load va) used satp hit = filling_of (hit (address_by satp va)) used
 entry_filling (ops.Store va value) used satp hit = filling_of (hit (address_by satp va)) used
 entry_filling (ops.Fetch va) used satp hit = filling_of (hit (address_by satp va)) used
 entry_filling op used satp hit = None
 
--- What happened to the TLB of a hart since the opening, newest first: an act for each event.
+-- What happened to a hart's TLB since the opening, newest first: one act for each event.
 abbrev pub tlb_acts : Opening → List Event → ℕ → List (Act Entry)
 tlb_acts o [] h = []
 tlb_acts o (event ∷ past) h =
@@ -117,18 +118,18 @@ tlb_acts o (event ∷ past) h =
     (entry_filling event.op event.translation (satp o past h) (hit_in o h (tlb_acts o past h))))
     ∷ tlb_acts o past h
 
--- the word that was fetched last from a physical address, of those that live
+-- the live word of a physical address that was fetched last
 abbrev pub cached_in : Opening → (h : ℕ) → List (Act FetchWord) → (pa : ℕ) → Option FetchWord
 cached_in o h acts pa = last_live o.places (words_at o h) covers_word is_at pa acts
 
--- A fetch that answers a value fills the word that it read from the memory.
+-- The word that a fetch fills: if it doesn't fail, and the cache has none of the address, the memory's.
 abbrev pub word_filling : Op → Reply → (used : Option Entry) → (memory : ℕ → Option ℕ)
     → (cached : ℕ → Option FetchWord) → Option FetchWord
 word_filling (ops.Fetch va) (replies.Value value) used memory cached =
     fetched_from (cached (phys_at used va)) (phys_at used va) (unwrap_or (memory (phys_at used va)) 0)
 word_filling op reply used memory cached = None
 
--- What happened to the instruction cache of a hart since the opening, newest first.
+-- What happened to a hart's instruction cache since the opening, newest first: one act for each event.
 abbrev pub word_acts : Opening → List Event → ℕ → List (Act FetchWord)
 word_acts o [] h = []
 word_acts o (event ∷ past) h =
@@ -137,7 +138,7 @@ word_acts o (event ∷ past) h =
     (word_filling event.op event.reply event.translation (memory o past) (cached_in o h (word_acts o past h))))
     ∷ word_acts o past h
 
--- The caches of a hart: what those of the opening became by all of that.
+-- The caches of a hart: the opening's caches after what happened to them since.
 abbrev pub caches_of : Opening → List Event → ℕ → Caches
 caches_of o past h = record {
   tlb = cache_after o.places (tlb_at o h) covers_entry (tlb_acts o past h);

@@ -1,4 +1,4 @@
--- What a board begins with, before the first event of its kept history: what each definition says where no event decides.
+-- The opening of a board: its state before the first event of its kept history (profile).
 use Rattle.std.specs.Prelude.{◌≡◌, ℕ, ◌+◌, ◌<◌, ◌≤◌, true, List, [], length, replicate, slice_index_or, Option, None, is_some}
 use Rattle.sbi_abi.specs.declared.reset.Reset.{Reset}
 use Rattle.std.specs.List.{All}
@@ -19,10 +19,10 @@ use Rattle.rfence.specs.Opening.{called_at, waited_at}
 use Rattle.board_terms.specs.declared.config.Config.{Config}
 use Rattle.board_rules.specs.History.{Event}
 
--- The board's numbers, and how many events were accepted before. For each hart its state, with what is kept for its entry.
--- The ids of the harts with sstatus.SIE, the two bits of sie and SSIP; the time and the deadlines; the words of the RAM; for
--- each hart satp and its caches; the fences that wait and the calls that are open; how many starts were entered since the last
--- reset; and that reset, if there was one.
+-- The board's numbers, and the number of events accepted before. Each hart's state and entry point. The ids of the
+-- harts whose sstatus.SIE, SSIE, STIE and SSIP are 1. The time, and each hart's deadline. The words of the RAM. Each
+-- hart's satp and caches. The waiting fences and open calls. The number of starts entered since the last reset, and
+-- that reset, if there was one.
 pub record Opening : Type 0 where
   pub config : Config
   pub places : ℕ
@@ -39,15 +39,15 @@ pub record Opening : Type 0 where
   pub entered : ℕ
   pub last_reset : Option Reset
 
--- the same with these numbers of the board
+-- the same opening with other numbers of the board
 abbrev pub on : Config → Opening → Opening
 on c o = record o { config = c }
 
--- The place of the event that comes after these: the number of all events before it.
+-- The place of the event after these: the number of all events before it.
 abbrev pub place_after : Opening → List Event → ℕ
 place_after o past = o.places + length past
 
--- caches in which nothing was filled
+-- empty caches
 abbrev pub no_caches : Caches
 no_caches = record { tlb = empty; words = empty }
 
@@ -64,7 +64,7 @@ tlb_at o h = (opened_caches o h).tlb
 abbrev pub words_at : Opening → ℕ → Contents FetchWord
 words_at o h = (opened_caches o h).words
 
--- A board's first opening: the firmware starts the boot hart, and all else is 0, empty or none (profile).
+-- A board's first opening: the boot hart's start is pending, and all else is 0, empty or none (profile).
 abbrev pub opening_at : Config → Opening
 opening_at c = record {
   config = c;
@@ -83,9 +83,9 @@ opening_at c = record {
   last_reset = None;
 }
 
--- What a board can open with: a hart, a deadline, a satp and caches for each id; a pending start has where it begins; the
--- fences are such as can wait, from the same place on, at harts in an interruptible state, and a hart inside a call is STARTED; what lives in
--- caches was filled before; and no more fills and entries were made than events.
+-- An opening that a board can have. Each id has a hart, a deadline, a satp and caches. A pending start has its entry
+-- point. The fences are a possible opening with the same place; they wait at harts in an interruptible state, and a
+-- hart inside a call is STARTED. Live fills were made before. There are no more fills and entries than events.
 pub record IsOpening (o : Opening) : Type 0 where
   pub harts : length o.harts ≡ o.config.harts
   pub starts : (h : ℕ) → (hart_at o.harts h).state ≡ StartPending → is_some (hart_at o.harts h).kept ≡ true

@@ -1,4 +1,4 @@
--- When a step is refused (profile).
+-- The refusals of steps (profile).
 use Rattle.std.specs.Prelude.{◌≡◌, ℕ, ◌+◌, Bool, true, false, not, List, [], ◌∷◌, ◌==◌, ◌&&◌, nat_le, nat_lt, length, Option, Some, None, is_none}
 use Rattle.hsm.specs.declared.hart.HartState.{HartState}
 use Rattle.fence_queue.specs.declared.request.Request.{Request}
@@ -19,20 +19,20 @@ use Rattle.board_rules.specs.Resets.{is_off}
 pub use Rattle.board_terms.specs.Refusals.{first_that_holds, refusal_number}
 use Rattle.board_rules.specs.States.{state}
 
--- what decides whether an operation of a hart happens: its state, its wake, the harts that its fence call waits for,
--- while it is inside one, and the fences that wait at it
+-- What decides whether a hart's operation is refused: its state, its wake, the harts that its fence call waits for, if
+-- it is in one, and the fences that wait there.
 pub record Situation : Type 0 where
   pub state : HartState
   pub wake : Bool
   pub call : Option (List ℕ)
   pub fences : List (Request Flush)
 
--- a guest runs where its hart is STARTED, and outside of a fence call
+-- whether the guest runs: its hart is STARTED, and in no fence call
 abbrev pub is_running : Situation → Bool
 is_running s = is_started s.state && is_none s.call
 
--- A guest's operation wants its guest to run. Of the firmware's own, Poll ends a fence call, Serve wants a hart in an
--- interruptible state, and Advance one that isn't STARTED. A tick is no hart's.
+-- Whether the situation doesn't allow the operation. A guest's operation needs the guest to run. Poll needs a fence
+-- call, Serve a hart in an interruptible state, and Advance a hart that isn't STARTED. A tick is no hart's operation.
 abbrev pub is_out_of_phase : Op → Situation → Bool
 is_out_of_phase (Ecall regs) s = not (is_running s)
 is_out_of_phase (Load va) s = not (is_running s)
@@ -51,7 +51,7 @@ is_out_of_phase Serve s = not (is_interruptible s.state)
 is_out_of_phase Advance s = is_started s.state
 is_out_of_phase (Tick n) s = true
 
--- whether a fence call waits for a hart
+-- whether there is a fence call that waits for some hart
 abbrev pub waits_for_some : Option (List ℕ) → Bool
 waits_for_some None = false
 waits_for_some (Some []) = false
@@ -61,8 +61,8 @@ abbrev pub is_empty : {A : Type 0} → List A → Bool
 is_empty [] = true
 is_empty (x ∷ xs) = false
 
--- Poll waits until its call waits for no hart, Serve wants a fence that waits, an Advance a hart that goes on, and Wfi
--- waits for wake.
+-- Whether the operation has nothing to do: Poll while the call waits for a hart, Serve without a waiting fence, Advance
+-- of a hart that can't advance, and Wfi without wake.
 abbrev pub has_nothing_to_do : Op → Situation → Bool
 has_nothing_to_do Poll s = waits_for_some s.call
 has_nothing_to_do Serve s = is_empty s.fences
@@ -70,12 +70,12 @@ has_nothing_to_do Advance s = not (goes_on s.wake s.state)
 has_nothing_to_do Wfi s = not s.wake
 has_nothing_to_do op s = false
 
--- the situation of its hart lets an operation happen
+-- the hart's situation doesn't refuse the operation
 pub record IsAccepted (op : Op) (s : Situation) : Type 0 where
   pub in_phase : is_out_of_phase op s ≡ false
   pub to_do : has_nothing_to_do op s ≡ false
 
--- the refusals of an operation of a hart in this situation, in their order
+-- the tests for a hart's operation in a situation, in their order, each with its refusal
 abbrev pub refusals_in : Situation → Op → (is_full : Bool) → List (Bool × Refusal)
 refusals_in s op is_full =
     (is_out_of_phase op s, WrongPhase)
@@ -83,7 +83,7 @@ refusals_in s op is_full =
     ∷ (is_full, HistoryFull)
     ∷ []
 
--- whether the kept history holds as many events as it may
+-- whether the kept history has as many events as its limit
 abbrev pub is_full : Opening → List Event → Bool
 is_full o past = length past == o.config.limit
 
@@ -92,7 +92,7 @@ abbrev pub situation : Opening → List Event → ℕ → Situation
 situation o past h =
     record { state = state o past h; wake = wake o past h; call = outstanding o past h; fences = waiting o past h }
 
--- The refusals of an operation of hart h: first of all, the power has to be on, and there has to be such a hart.
+-- The tests for an operation of hart h, in their order. First the power must be on, and the hart must exist.
 abbrev pub refusals : (is_full : Bool) → Opening → List Event → ℕ → Op → List (Bool × Refusal)
 refusals is_full o past h op =
     (is_off o past, Off) ∷ (nat_le o.config.harts h, WrongPhase) ∷ refusals_in (situation o past h) op is_full
@@ -101,7 +101,8 @@ abbrev pub is_tick : Op → Bool
 is_tick (Tick n) = true
 is_tick op = false
 
--- The refusals of an operation of the clock, which only ticks, while the power is on, and not past the last time.
+-- The tests for an operation of the clock, in their order. It only ticks, while the power is on, and not past the last
+-- time.
 abbrev pub clock_refusals : (is_full : Bool) → Opening → List Event → Op → List (Bool × Refusal)
 clock_refusals is_full o past op =
     (is_off o past, Off)
@@ -110,7 +111,7 @@ clock_refusals is_full o past op =
     ∷ (nat_lt last_time (time o past + ticks_by op), TimeFull)
     ∷ []
 
--- The first refusal of a step that holds: why the step is refused, where it is.
+-- The refusal of a step, by the first test that is true. None: the step isn't refused.
 abbrev pub first_refusal : Opening → List Event → Actor → Op → Option Refusal
 first_refusal o past (Hart h) op = first_that_holds (refusals (is_full o past) o past h op)
 first_refusal o past Clock op = first_that_holds (clock_refusals (is_full o past) o past op)

@@ -1,4 +1,4 @@
--- What a step answers.
+-- The answers of steps: a reply (SBI 3 to 10; Privileged 4), or a refusal (profile).
 use Rattle.std.specs.Prelude.{◌≡◌, ℕ, List, [], ◌∷◌, Bool, Option, Some, None, Result, Ok, Err}
 use Rattle.sbi_abi.specs.declared.call.Call.{Call}
 use Rattle.sbi_abi.specs.Calls.{call_of}
@@ -31,14 +31,13 @@ use Rattle.board_rules.specs.Suspends.{resume_point}
 abbrev pub call_reply : Opening → List Event → (x : ℕ) → Call → Reply
 call_reply o past x call = as_reply (reply_to o.config (sstatus_sie o past x) (state o past) call)
 
--- The reply to the end of a suspend: an entry where the suspend said, or the return of its call (SBI 9.4).
+-- The reply at the end of a suspend: an entry at the suspend's entry point, or the return of its call (SBI 9.4).
 abbrev pub resume_reply : (x : ℕ) → Option EntryPoint → Reply
 resume_reply x (Some resume) = Entry resume.addr x resume.opaque
 resume_reply x None = Ret (success 0)
 
--- The reply to the Advance of hart x, by its state, its last start and where its last suspend said that it begins anew.
--- An entry hands over the address, the hart's id and the opaque value (SBI 9.1 and 9.4). A STARTED or STOPPED hart is
--- refused before.
+-- The reply to the Advance of hart x, by its state, its last start, and its last suspend's entry point. An entry has
+-- the address, the hart's id and the opaque value (SBI 9.1, 9.4). A STARTED or STOPPED hart is refused before.
 abbrev pub advance_reply : (x : ℕ) → HartState → Start → (resume : Option EntryPoint) → Reply
 advance_reply x states.StartPending start resume = Entry start.addr x start.opaque
 advance_reply x states.StopPending start resume = Moved states.Stopped
@@ -70,18 +69,18 @@ abbrev pub refused_or : Option Refusal → Reply → Result Reply Refusal
 refused_or (Some refusal) reply = Err refusal
 refused_or None reply = Ok reply
 
--- What a step answers, where the history is full or isn't: the first refusal that holds, else the reply.
+-- The answer of a step, given whether the history is full: the first refusal that applies, else the reply.
 abbrev pub answer_when : (is_full : Bool) → Opening → List Event → Actor → Op → Result Reply Refusal
 answer_when is_full o past (Hart h) op = refused_or (first_that_holds (refusals is_full o past h op))
     (reply o past h op)
 answer_when is_full o past Clock op = refused_or (first_that_holds (clock_refusals is_full o past op)) Done
 
--- What a step answers.
+-- The answer of a step.
 abbrev pub answer : Opening → List Event → Actor → Op → Result Reply Refusal
 answer o past actor op = answer_when (is_full o past) o past actor op
 
--- A legal history: a board could open so, and each event holds the answer that the events before it give, and the entry that
--- it used by them.
+-- A legal history: a board can have the opening, and each event has the reply that the rules give after the events
+-- before it, and the entry that it then used.
 abbrev pub IsLegal : Opening → List Event → Type 0
 IsLegal o [] = IsOpening o
 IsLegal o (event ∷ past) =
@@ -97,6 +96,6 @@ recorded b actor op (Ok reply) = record {
 }
 recorded b actor op (Err refusal) = b
 
--- The course after a step: one more event where it is accepted, the same course where it is refused.
+-- The course after a step: one more event if it is accepted, the same course if it is refused.
 abbrev pub stepped : Course → Actor → Op → Course
 stepped b actor op = recorded b actor op (answer b.opening b.past actor op)

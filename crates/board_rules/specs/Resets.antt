@@ -13,12 +13,12 @@ use Rattle.board_terms.specs.declared.op.Op.TheVariants.{Ecall}
 use Rattle.board_terms.specs.declared.reply.Reply.{Reply}
 use Rattle.board_rules.specs.Calls.Srst.{reset_by_srst}
 
--- The reset that a call is, if it is one.
+-- The call as a system reset, if it is one.
 abbrev pub reset_by_call : Call → Reply → Option Reset
 reset_by_call (Srst call) reply = reset_by_srst call reply
 reset_by_call call reply = None
 
--- The reset that an event is, if it is one: a system_reset that doesn't return (SBI 10).
+-- The event as a system reset, if it is one: a call of system_reset that doesn't return (SBI 10).
 abbrev pub reset_by : Op → Reply → Option Reset
 reset_by (Ecall regs) reply = reset_by_call (call_of regs) reply
 reset_by op reply = None
@@ -32,22 +32,22 @@ abbrev pub last_reset : Opening → List Event → Option Reset
 last_reset o [] = o.last_reset
 last_reset o (event ∷ past) = newer_or (reset_by event.op event.reply) (last_reset o past)
 
--- After a reboot the firmware starts the boot hart anew, and after a shutdown it starts none.
+-- Whether the firmware starts the boot hart again: after a reboot, not after a shutdown (SBI 10.1; profile).
 abbrev pub begins_anew : ResetKind → Bool
 begins_anew Shutdown = false
 begins_anew ColdReboot = true
 begins_anew WarmReboot = true
 
--- A cold reboot clears the memory (profile).
+-- Whether a reset clears the memory: a cold reboot does (profile).
 abbrev pub is_cold : ResetKind → Bool
 is_cold ColdReboot = true
 is_cold kind = false
 
--- The power is off after a shutdown.
+-- Whether a reset was a shutdown.
 abbrev pub is_shutdown : Option Reset → Bool
 is_shutdown None = false
 is_shutdown (Some reset) = not (begins_anew reset.kind)
 
--- The power is off where the last reset was a shutdown (SBI 10).
+-- Whether the power is off: the last reset was a shutdown (SBI 10).
 abbrev pub is_off : Opening → List Event → Bool
 is_off o past = is_shutdown (last_reset o past)

@@ -1,4 +1,5 @@
--- What fence calls need of harts, event by event (profile; that a call waits for each hart that it asked: SBI 8).
+-- The serves that fence calls need, event by event (profile; that a call is complete when all harts have fenced: SBI
+-- 8).
 use Rattle.std.specs.Prelude.{◌≡◌, ℕ, ◌-◌, ◌*◌, ◌≤◌, ◌<◌, Bool, true, false, List, [], ◌∷◌, ◌++◌, ◌&&◌, ◌||◌, ◌⊎◌, if◌then◌else◌, suc, Some, is_ok, is_some, Result, Ok, Err}
 use Rattle.std.specs.List.{list_any}
 use Rattle.sbi_abi.specs.declared.call.Call.{Call}
@@ -40,7 +41,7 @@ abbrev pub is_stop : Op → Reply → Bool
 is_stop (ops.Ecall regs) reply = is_stop_call (call_of regs) reply
 is_stop op reply = false
 
--- whether hart t serves by this event, and whether it stops
+-- whether hart t serves by this event, and whether it stops by it
 abbrev pub serves : (t : ℕ) → Event → Bool
 serves t event = is_hart t event.actor && is_serve event.op
 
@@ -51,46 +52,44 @@ stops t event = is_hart t event.actor && is_stop event.op event.reply
 abbrev pub ends_call : (h : ℕ) → Event → Bool
 ends_call h event = (is_hart h event.actor && is_poll event.op) || is_some (reset_by event.op event.reply)
 
--- how often hart t serves in these events
+-- the number of hart t's serves among these events
 abbrev pub serves_in : (t : ℕ) → List Event → ℕ
 serves_in t [] = 0
 serves_in t (event ∷ events) = one_more (serves t event) (serves_in t events)
 
--- A serve by hart t is answered with success, and refused for a full history alone.
+-- A serve by hart t is accepted, unless the history is full.
 abbrev pub ServeIsAccepted : Opening → List Event → (t : ℕ) → Type 0
 ServeIsAccepted o past t = answer o past (Hart t) ops.Serve ≡ (if is_full o past then Err HistoryFull else Ok Served)
 
--- Hart h's fence call needs fewer serves of each hart than there are harts, and of all together at most as many as the
--- square of that.
+-- On N harts, hart h's fence call needs at most N - 1 serves of each hart, and at most (N - 1) * (N - 1) in all.
 pub record AreFew (o : Opening) (past : List Event) (h : ℕ) : Type 0 where
   pub each : (t : ℕ) → need o past h t ≤ o.config.harts - 1
   pub total : total_need o past h ≤ (o.config.harts - 1) * (o.config.harts - 1)
 
--- A legal history goes on while hart h is inside one fence call: there is no reset, and no poll by the hart.
+-- A legal history continues while hart h is inside one fence call: there is no reset, and no poll by the hart.
 pub record GoesOn (o : Opening) (newer past : List Event) (h : ℕ) : Type 0 where
   pub legal : IsLegal o (newer ++ past)
   pub inside : is_some (outstanding o past h) ≡ true
   pub goes_on : list_any (ends_call h) newer ≡ false
 
--- What the call needs of hart t is what it needed before without the hart's serves since then, and nothing where the hart
--- has stopped.
+-- The call's need of hart t is the earlier need less the hart's serves since, or 0 if the hart has stopped since.
 abbrev pub IsLeft : Opening → (newer past : List Event) → (h t : ℕ) → Type 0
 IsLeft o newer past h t = need o (newer ++ past) h t
     ≡ (if list_any (stops t) newer then 0 else need o past h t - serves_in t newer)
 
--- Each hart has since served as often as the call needed of it, or has stopped.
+-- Each hart has served since as often as the call needed, or has stopped since.
 abbrev pub HaveServed : Opening → (newer past : List Event) → (h : ℕ) → Type 0
 HaveServed o newer past h = (t : ℕ) → t < o.config.harts
     → (need o past h t ≤ serves_in t newer) ⊎ (list_any (stops t) newer ≡ true)
 
--- Hart h's fence call waits for no hart, and its poll is answered with success.
+-- Hart h's fence call waits for no hart, and its poll is accepted and returns success.
 pub record CanEnd (o : Opening) (past : List Event) (h : ℕ) : Type 0 where
   pub waits_for_none : outstanding o past h ≡ Some []
   pub poll : answer o past (Hart h) ops.Poll ≡ Ok (Ret (success 0))
 
--- What a step makes of what open fence calls need. While a call needs serves of hart t, a serve by t is refused for a full
--- history alone; an accepted serve by t lowers what each call needs of t by exactly one; and no step raises what a call that is
--- open needs.
+-- How a step changes the needs of open fence calls. While a call needs serves of hart t, a serve by t is accepted,
+-- unless the history is full. An accepted serve by t lowers the need of each call that needs t by exactly one. No step
+-- raises the need of an open call.
 pub record KeepsNeeds (before now : Course) (actor : Actor) (op : Op) (result : Result Reply Refusal) : Type 0 where
   pub served : (h t : ℕ) → actor ≡ Hart t → op ≡ ops.Serve → 0 < need before.opening before.past h t
       → result ≡ (if is_full before.opening before.past then Err HistoryFull else Ok Served)

@@ -29,7 +29,7 @@ use Rattle.board_rules.specs.Suspends.{resume_point}
 abbrev pub boot_start : Config → Start
 boot_start c = record { hart = c.boot_hart; addr = c.boot_addr; opaque = c.boot_opaque }
 
--- how a list of starts goes on: one more, or it begins anew
+-- how an event changes a list of starts: one more, or another list
 pub data Growth : Type 0 where
   More : Start → Growth
   Anew : List Start → Growth
@@ -39,17 +39,17 @@ grown None starts = starts
 grown (Some (More start)) starts = start ∷ starts
 grown (Some (Anew starts)) before = starts
 
--- what an event makes of them: a start is one more, and with a reset they begin anew
+-- the change of a list of starts: a start is one more, and a reset replaces the list
 abbrev pub growth : Option Start → Option Reset → (anew : Reset → List Start) → Option Growth
 growth (Some start) reset anew = Some (More start)
 growth None None anew = None
 growth None (Some reset) anew = Some (Anew (anew reset))
 
--- A reboot makes the firmware's own start again, and a shutdown none (profile).
+-- The starts after a reset: the firmware's own after a reboot, and none after a shutdown (profile).
 abbrev pub starts_at : Config → Reset → List Start
 starts_at c reset = if begins_anew reset.kind then boot_start c ∷ [] else []
 
--- the start that a call asks for, where it succeeded
+-- the start that a call asks for, if the call succeeded
 abbrev pub started_by_call : Call → Reply → Option Start
 started_by_call (Hsm call) reply = started_by_hsm call reply
 started_by_call call reply = None
@@ -61,22 +61,22 @@ abbrev pub start_by : Config → Op → Reply → Option Growth
 start_by c (Ecall regs) reply = start_by_call c (call_of regs) reply
 start_by c op reply = None
 
--- a pending start of a hart, by its state and what is kept for its entry
+-- a hart's pending start, by its state and its entry point
 abbrev pub start_in : (h : ℕ) → HartState → Option EntryPoint → Option Start
 start_in h states.StartPending (Some kept) = Some (record { hart = h; addr = kept.addr; opaque = kept.opaque })
 start_in h s kept = None
 
--- The starts that are pending at the opening: at a board's first one, the firmware's own alone.
+-- The starts that are pending at the opening; at a board's first opening only the firmware's own.
 abbrev pub starts_opened : Opening → List Start
 starts_opened o = filter_map (λ h. start_in h (hart_at o.harts h).state (hart_at o.harts h).kept) (harts_of o.config)
 
--- The accepted starts since the last reset, newest first, and without one those since the opening, after the starts that were
--- pending there.
+-- The accepted starts since the last reset, newest first. Without a reset: those since the opening, and before them the
+-- starts pending there.
 abbrev pub starts : Opening → List Event → List Start
 starts o [] = starts_opened o
 starts o (event ∷ past) = grown (start_by o.config event.op event.reply) (starts o past)
 
--- the start that a step enters: an Advance that enters, of a hart whose start is pending
+-- the start that a step enters: an Advance with an entry, of a hart whose start is pending
 abbrev pub entered_by : Op → Reply → (starting : Bool) → Option Start
 entered_by Advance (Entry addr hart opaque) starting =
     if starting then Some (record { hart = hart; addr = addr; opaque = opaque }) else None
@@ -85,12 +85,12 @@ entered_by op reply starting = None
 abbrev pub entry_by : Op → Reply → (starting : Bool) → Option Growth
 entry_by op reply starting = growth (entered_by op reply starting) (reset_by op reply) (λ reset. [])
 
--- The entries of starts since the last reset, or since the opening, newest first, as their replies tell them.
+-- The entries of starts since the last reset, or since the opening, newest first, as their replies say.
 abbrev pub entries : Opening → List Event → List Start
 entries o [] = []
 entries o (event ∷ past) = grown (entry_by event.op event.reply (is_starting o past event.actor)) (entries o past)
 
--- How many starts were entered before the opening and since the last reset: none, where a reset came after the opening.
+-- The number of starts entered before the opening and since the last reset; 0 if a reset came after the opening.
 abbrev pub unless_reset : Option Reset → ℕ → ℕ
 unless_reset None entered = entered
 unless_reset (Some reset) entered = 0
@@ -102,7 +102,7 @@ entered_before o (event ∷ past) = unless_reset (reset_by event.op event.reply)
 abbrev pub is_of : ℕ → Start → Bool
 is_of h start = h == start.hart
 
--- the last start of a hart that has one
+-- the last start of a hart, if it has one
 abbrev pub last_start : Opening → List Event → ℕ → Start
 last_start o past h = unwrap_or (find (is_of h) (starts o past)) (boot_start o.config)
 
@@ -113,8 +113,8 @@ pending o past h = if is_start_pending (state o past h) then Some (last_start o 
 abbrev pub all_pending : Opening → List Event → List Start
 all_pending o past = filter_map (pending o past) (harts_of o.config)
 
--- What is kept for a hart's entry, by its state: in START_PENDING its start (SBI 9.1), and in a suspend where it is to
--- begin anew (SBI 9.4).
+-- A hart's entry point, by its state: in START_PENDING its start's (SBI 9.1), in a suspend the suspend's (SBI 9.4),
+-- else none.
 abbrev pub kept_in : HartState → Start → (resume : Option EntryPoint) → Option EntryPoint
 kept_in states.StartPending start resume = Some (record { addr = start.addr; opaque = start.opaque })
 kept_in states.SuspendPending start resume = resume
@@ -122,17 +122,17 @@ kept_in states.Suspended start resume = resume
 kept_in states.ResumePending start resume = resume
 kept_in s start resume = None
 
--- What is kept for a hart's entry: in START_PENDING its start's address and opaque value, in a non-retentive suspend where
--- it goes on, else nothing (SBI 9.1, 9.4).
+-- A hart's entry point: in START_PENDING the address and opaque value of its start, in a non-retentive suspend those of
+-- the suspend, else none (SBI 9.1, 9.4).
 abbrev pub kept : Opening → List Event → ℕ → Option EntryPoint
 kept o past h = kept_in (state o past h) (last_start o past h) (resume_point o past h)
 
--- a hart as its history makes it: its state, and what is kept for its entry
+-- a hart by its history: its state, and its entry point
 abbrev pub hart_of : Opening → List Event → ℕ → Hart
 hart_of o past h = record { state = state o past h; kept = kept o past h }
 
--- The starts law: the starts of a hart, newest first, are its pending one, if any, and then its entries, each
--- entered with its own address and opaque value.
+-- The starts of a hart, newest first, are its pending start, if any, and then its entries. Each start is entered with
+-- its own address and opaque value (SBI 9.1).
 abbrev pub StartsAreEntered : Opening → List Event → Type 0
 StartsAreEntered o past = (h : ℕ) →
     filter (is_of h) (starts o past) ≡ option_to_list (pending o past h) ++ filter (is_of h) (entries o past)

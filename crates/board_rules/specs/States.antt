@@ -1,4 +1,4 @@
--- The state of a hart: what the last event that moved it brought it to (SBI 9, HSM states).
+-- The states of harts (SBI 9, HSM states): the last event that changed a hart's state decides.
 use Rattle.std.specs.Prelude.{ℕ, List, [], ◌∷◌, Bool, false, ◌==◌, if◌then◌else◌, Option, Some, None}
 use Rattle.sbi_abi.specs.declared.call.Call.{Call}
 use Rattle.sbi_abi.specs.declared.call.Call.TheVariants.{Hsm}
@@ -21,11 +21,11 @@ use Rattle.board_terms.specs.declared.reply.Reply.{Reply}
 use Rattle.board_terms.specs.declared.reply.Reply.TheVariants.{Ret, Entry, Moved}
 pub use Rattle.board_rules.specs.Writes.{Move, One, Each, moved_to}
 
--- The firmware starts the boot hart by itself: its start is pending, and the others are STOPPED (profile).
+-- The firmware itself starts the boot hart: its start is pending, and the other harts are STOPPED (profile).
 abbrev pub state_at_boot : Config → ℕ → HartState
 state_at_boot c h = if h == c.boot_hart then states.StartPending else states.Stopped
 
--- A reset makes each hart STOPPED, and a reboot starts the boot hart anew (profile).
+-- A reset makes each hart STOPPED, and a reboot starts the boot hart again (profile).
 abbrev pub state_at_reset : Config → Reset → ℕ → HartState
 state_at_reset c reset h = if begins_anew reset.kind then state_at_boot c h else states.Stopped
 
@@ -33,13 +33,13 @@ abbrev pub move_at_reset : Config → Option Reset → Option Move
 move_at_reset c None = None
 move_at_reset c (Some reset) = Some (Each (state_at_reset c reset))
 
--- The move that a call by hart x is: one of hart state management moves a hart, and a reset each.
+-- The change of states by a call of hart x: an HSM call changes one hart's, and a reset every hart's.
 abbrev pub move_by_call : Config → (x : ℕ) → Call → Reply → Option Move
 move_by_call c x (Hsm call) reply = move_by_hsm x call reply
 move_by_call c x call reply = move_at_reset c (reset_by_call call reply)
 
--- The move that an operation of hart x is: besides calls, the firmware brings its own hart further, to its guest by an
--- entry or by the return from a retentive suspend.
+-- The change of states by an operation of hart x: a call's, or an Advance of its own hart. An entry, and the return
+-- from a retentive suspend, make the hart STARTED.
 abbrev pub move_by : Config → (x : ℕ) → Op → Reply → Option Move
 move_by c x (Ecall regs) reply = move_by_call c x (call_of regs) reply
 move_by c x Advance (Entry addr hart opaque) = Some (One x states.Started)
@@ -47,12 +47,12 @@ move_by c x Advance (Ret answer) = Some (One x states.Started)
 move_by c x Advance (Moved s) = Some (One x s)
 move_by c x op reply = None
 
--- the clock moves no hart
+-- an actor's change of states; the clock changes none
 abbrev pub move_of : Config → Actor → Op → Reply → Option Move
 move_of c (Hart x) op reply = move_by c x op reply
 move_of c Clock op reply = None
 
--- A hart's state: what the last event that moved it brought it to, and before any what the opening has (SBI 9).
+-- A hart's state: the one that the last event that changed it gave it, or the opening's if there was none (SBI 9).
 abbrev pub state : Opening → List Event → ℕ → HartState
 state o [] h = (hart_at o.harts h).state
 state o (event ∷ past) h = moved_to (move_of o.config event.actor event.op event.reply) h (state o past h)
@@ -62,7 +62,7 @@ abbrev pub is_starting : Opening → List Event → Actor → Bool
 is_starting o past (Hart x) = is_start_pending (state o past x)
 is_starting o past Clock = false
 
--- Whether a step is the entry of a start: an Advance that enters, of a hart whose start is pending (SBI 9.1).
+-- Whether a step is the entry of a start: an Advance with an entry, of a hart whose start is pending (SBI 9.1).
 abbrev pub is_start_entry : Op → Reply → (starting : Bool) → Bool
 is_start_entry Advance (Entry addr hart opaque) starting = starting
 is_start_entry op reply starting = false

@@ -1,4 +1,4 @@
--- Where a suspended hart is to go on (SBI 9.4).
+-- The entry points of suspended harts (SBI 9.4).
 use Rattle.std.specs.Prelude.{ℕ, List, [], ◌∷◌, Option, None}
 use Rattle.sbi_abi.specs.declared.call.Call.{Call}
 use Rattle.sbi_abi.specs.declared.call.Call.TheVariants.{Hsm}
@@ -14,7 +14,7 @@ use Rattle.board_rules.specs.Calls.Hsm.{resume_by_hsm}
 use Rattle.board_rules.specs.Course.{is_hart}
 use Rattle.board_rules.specs.Writes.{Write, latest}
 
--- what a call says of where its hart begins anew
+-- the entry point that a call writes
 abbrev pub resume_by_call : Call → Reply → Option (Write (Option EntryPoint))
 resume_by_call (Hsm call) reply = resume_by_hsm call reply
 resume_by_call call reply = None
@@ -23,7 +23,7 @@ abbrev pub resume_by : Op → Reply → Option (Write (Option EntryPoint))
 resume_by (Ecall regs) reply = resume_by_call (call_of regs) reply
 resume_by op reply = None
 
--- What the last suspend of a hart said of where it begins anew, if it did; before any, what the opening keeps for its entry.
+-- The entry point of a hart's last suspend, if it has one; if there was no suspend, the opening's.
 abbrev pub resume_point : Opening → List Event → ℕ → Option EntryPoint
 resume_point o [] h = (hart_at o.harts h).kept
 resume_point o (event ∷ past) h = latest (resume_by event.op event.reply) (is_hart h event.actor)

@@ -1,4 +1,4 @@
--- The counts that the board's table shows.
+-- The counts that the board's table shows (profile).
 use Rattle.std.specs.Prelude.{◌+◌, List, length, sum_by}
 use Rattle.rfence.specs.State.{total_applied, total_asked}
 use Rattle.board_rules.specs.Opening.{Opening}
@@ -8,8 +8,7 @@ use Rattle.board_rules.specs.Course.{harts_of}
 use Rattle.board_rules.specs.Fences.{turns, waiting}
 use Rattle.board_rules.specs.Starts.{all_pending, entered_before, entries, starts}
 
--- Of remote fences the pairs of a fence and a hart of which it was asked, those at which it was applied, and those that
--- wait (profile).
+-- The counts (profile). A remote fence counts once for each hart: as asked, as applied, or as waiting.
 abbrev pub totals : Opening → List Event → Totals
 totals o past = record {
   starts = length (starts o past) + entered_before o past;

@@ -1,4 +1,4 @@
-//! An accepted step, as the history holds it.
+//! An accepted step, as the history stores it.
 ghost use Rattle.std.specs.Prelude.{◌≡◌, None, option_map};
 ghost use Rattle.board_rules.specs.History.{access_of, entry_of};
 ghost use Rattle.board_rules.specs.Room.{IsShort};
@@ -9,7 +9,7 @@ use hart_access::Access;
 use std::marker::Model;
 use tlb_model::Entry;
 
-/// An accepted step: who made it, what it did, what was answered, and the TLB entry that an access used.
+/// An accepted step: its actor, its operation, its reply, and the TLB entry that an access used.
 #[derive(Clone, Copy, Debug, PartialEq, Eq)]
 pub struct Event {
     what: What,
@@ -36,7 +36,8 @@ impl Model for Event {
 }
 
 impl Event {
-    /// An accepted step, whose numbers have room; of accesses alone the entry is kept.
+    /// The event of an accepted step whose numbers fit (`IsShort`). It keeps the entry only if the operation is an
+    /// access.
     #[inline(always)]
     pub fn new(actor: Actor, op: Op, reply: Reply, used: Option<Entry>) -> Event
         requires { IsShort actor op reply }
@@ -54,21 +55,21 @@ impl Event {
         }
     }
 
-    /// Who made it.
+    /// The actor that made the step.
     pub fn actor(&self) -> Actor
         ensures { result ≡ self.now.actor }
     {
         self.what.head().actor()
     }
 
-    /// What it did.
+    /// The operation.
     pub fn op(&self) -> Op
         ensures { result ≡ self.now.op }
     {
         self.what.op()
     }
 
-    /// What was answered.
+    /// The reply.
     pub fn reply(&self) -> Reply
         ensures { result ≡ self.now.reply }
     {
@@ -77,7 +78,7 @@ impl Event {
             .reply(self.what.first(), self.what.opaque())
     }
 
-    /// The TLB entry that a translated access used, found or filled (profile); None of every other step.
+    /// The TLB entry that a translated access hit or filled (profile). None: any other step.
     pub fn translation(&self) -> Option<Entry>
         ensures { result ≡ self.now.translation }
     {
@@ -85,7 +86,7 @@ impl Event {
     }
 }
 
-/// The access that an operation is, with its address, if it is one.
+/// The operation's access and its virtual address. None: the operation is no access.
 pub fn access_of(op: Op) -> Option<(u64, Access)>
     ensures { option_map (λ at. record { va = at.0; access = at.1 }) result ≡ access_of op }
 {

@@ -1,4 +1,4 @@
-//! How an event keeps who made it, what was answered and what was done, in less room than the three have side by side.
+//! How an event packs its actor, its reply and its operation into less room than the three take side by side.
 
 ghost use Rattle.std.specs.Prelude.{◌≡◌};
 ghost use Rattle.board_rules.specs.Inside.Keeping.{actor_of, first_in, head_in, op_in, opaque_in, opaque_of, reply_of, said_of, used_in, what_of};
@@ -10,10 +10,10 @@ use sbi_abi::{Regs, Sbiret};
 use sv39::Cause;
 use tlb_model::Entry;
 
-/// The clock, among the numbers of harts.
+/// The number that stands for the clock; a hart's number is below it.
 const CLOCK: u8 = 255;
 
-/// A reply without its numbers of 64 bits: an error has one byte.
+/// A reply without its 64-bit numbers. An error code fits into one byte.
 #[derive(Clone, Copy, Debug, PartialEq, Eq)]
 pub enum Said {
     Ret(i8),
@@ -27,16 +27,16 @@ pub enum Said {
     Done,
 }
 
-/// Who made a step, an actor in a byte, and what was answered, without the numbers of 64 bits.
+/// The actor of a step, in one byte, and the reply without its 64-bit numbers.
 #[derive(Clone, Copy, Debug, PartialEq, Eq)]
 pub struct Head {
     pub by: u8,
     pub said: Said,
 }
 
-/// What a step did, and the first number of its answer. An access's entry, a call's eight registers and the opaque value of
-/// an advance that enters never occur together, and the head takes room beside the tag that would lie empty, as a call's
-/// value does: all three keep events small.
+/// The operation of a step, and the first number of its reply. An access's entry, a call's eight registers and the
+/// opaque value of an entered advance never occur together, so they share room. The head and a call's value fill the
+/// padding beside the tag.
 #[derive(Clone, Copy, Debug, PartialEq, Eq)]
 pub enum What {
     Ecall(Head, u32, Regs),
@@ -57,7 +57,7 @@ pub enum What {
     Tick(Head, u64),
 }
 
-/// An actor in a byte, a hart of which has a number below 255.
+/// An actor as a byte; a hart's number is below 255.
 #[inline(always)]
 pub fn by_of(actor: Actor) -> u8
     requires { IsByte actor }
@@ -70,7 +70,7 @@ pub fn by_of(actor: Actor) -> u8
 }
 
 impl Said {
-    /// A reply without its numbers, its first number, and the opaque value of an entry; each 0 where it has none.
+    /// A reply without its numbers, then its first number, then the opaque value of an entry; a missing number is 0.
     #[inline(always)]
     pub fn of(reply: Reply) -> (Said, u64, u64)
         requires { IsByteError reply }
@@ -93,7 +93,7 @@ impl Said {
 }
 
 impl Head {
-    /// Who made the step.
+    /// The actor.
     pub fn actor(self) -> Actor
         ensures { result ≡ actor_of self.by }
     {
@@ -104,7 +104,7 @@ impl Head {
         }
     }
 
-    /// The reply with these numbers.
+    /// The reply, with these numbers.
     pub fn reply(self, first: u64, opaque: u64) -> Reply
         ensures { result ≡ reply_of self.said self.by first opaque }
     {
@@ -130,8 +130,8 @@ impl Head {
 }
 
 impl What {
-    /// An operation, with its entry if it is an access, the first number of its answer where there is one, and the opaque
-    /// value of an entry if it is an advance.
+    /// An operation with its reply's first number, if it has one; an access also with its entry, and an advance with
+    /// the opaque value of an entry.
     #[inline(always)]
     pub fn of(head: Head, op: Op, used: Option<Entry>, first: u64, opaque: u64) -> What
         requires { FitsBeside op first }
@@ -157,7 +157,7 @@ impl What {
         }
     }
 
-    /// Who made the step and what was answered, without the numbers of 64 bits.
+    /// The actor, and the reply without its 64-bit numbers.
     pub fn head(&self) -> Head
         ensures { result ≡ head_in self.now }
     {
@@ -207,7 +207,7 @@ impl What {
         }
     }
 
-    /// The first number of the answer.
+    /// The first number of the reply, or 0 if it has none.
     pub fn first(&self) -> u64
         ensures { result ≡ first_in self.now }
     {
@@ -219,7 +219,7 @@ impl What {
         }
     }
 
-    /// The opaque value of an entry.
+    /// The opaque value of an entry, or 0 if there is none.
     pub fn opaque(&self) -> u64
         ensures { result ≡ opaque_in self.now }
     {

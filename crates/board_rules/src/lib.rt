@@ -1,6 +1,7 @@
-//! What a board's firmware answers and does, as definitions on an opening and a history, with the laws that rest on them alone.
+//! The rules of a board's firmware, its answers and their effects, as definitions on an opening and a history, with
+//! their laws.
 //!
-//! An `Event` is a step as a history holds it. There is no machine here, and no board.
+//! An `Event` is a step as a history stores it. This crate has no machine and no board.
 #![tactic(auto)]
 
 mod event;

@@ -2,8 +2,8 @@
 /// Whether a hart is inside a fence call (SBI 8; that a call waits: profile).
 #[derive(Clone, Copy, Debug, PartialEq, Eq)]
 pub enum Phase {
-    /// It is outside of one.
+    /// The hart is in no fence call.
     Outside,
-    /// It is inside one, until it polls.
+    /// The hart is inside a fence call, until it polls.
     Inside,
 }

@@ -1,4 +1,5 @@
-//! Events at the end of a history: those of the commonest operations each by itself, so that each writes only what it has.
+//! Appends events to a history. The most frequent operations have branches of their own, which write only their own
+//! fields.
 ghost use Rattle.std.specs.Prelude.{◌≡◌, ◌<◌, ◌++◌, [], ◌∷◌, None, vec_capacity, vec_len};
 ghost use Rattle.board_terms.specs.declared.op.Actor.TheVariants.{Hart};
 ghost use Rattle.board_rules.specs.History.{access_of, access_op, by_hart, using};
@@ -9,7 +10,7 @@ use board_terms::{Actor, Op, Reply};
 use hart_access::Access;
 use tlb_model::Entry;
 
-/// Puts an access of hart `h` at the end of the history, where there is room.
+/// Appends an access of hart `h` to the history, in which there is room.
 #[inline(always)]
 pub fn record_access(
     events: &mut Vec<Event>,
@@ -34,7 +35,7 @@ pub fn record_access(
     }
 }
 
-/// Puts an operation of hart `h` that is no access at the end of the history, where there is room.
+/// Appends an operation of hart `h` that is no access to the history, in which there is room.
 #[inline(always)]
 pub fn record(events: &mut Vec<Event>, h: u64, op: Op, reply: Reply)
     requires room { vec_len events.old < vec_capacity events.old }

@@ -1,8 +1,8 @@
-//! A hart's sie: the interrupts that it enables.
+//! The sie register of a hart.
 ghost use Rattle.std.specs.Prelude.{◌≡◌, ◌+◌};
 ghost use Rattle.board_rules.specs.Csrs.{bits_of, enables, interrupt_bits, none_enabled, sie_of};
 
-/// The interrupts that a hart's sie enables, of those that a board has (Privileged 4.1.3).
+/// A hart's sie: which of a board's interrupts it enables (Privileged 4.1.3).
 #[derive(Clone, Copy, Debug, PartialEq, Eq)]
 pub struct Sie {
     /// Supervisor software interrupts: SSIE, bit 1.
@@ -22,7 +22,7 @@ impl Sie {
         }
     }
 
-    /// What sie keeps of a value that is written to it.
+    /// The bits that sie keeps of a written value: SSIE and STIE (Privileged 4.1.3; that there are no others: profile).
     pub fn of(value: u64) -> Sie
         ensures { result ≡ sie_of value }
     {
@@ -32,7 +32,7 @@ impl Sie {
         }
     }
 
-    /// Whether one of the interrupts that are pending is enabled.
+    /// Whether a pending interrupt is enabled.
     pub fn enables(self, ssip: bool, stip: bool) -> bool
         ensures { result ≡ enables self ssip stip }
     {
@@ -47,7 +47,7 @@ impl Sie {
     }
 }
 
-/// A software interrupt in bit 1, and a timer interrupt in bit 5, as in sie and sip (Privileged 4.1.3).
+/// The bits of sie and sip: software interrupts in bit 1, and timer interrupts in bit 5 (Privileged 4.1.3).
 pub fn interrupt_bits(software: bool, timer: bool) -> u64
     ensures { result ≡ interrupt_bits software timer }
 {

@@ -1,16 +1,17 @@
 //! The counts of the board's table.
-/// The counts of the board's table: starts and entries since the last reset, fences since the first opening.
+/// The counts of the board's table (profile). Starts and entries count since the last reset, fences since the first
+/// opening.
 #[derive(Clone, Copy, Debug, PartialEq, Eq)]
 pub struct Totals {
-    /// Starts of harts, the boot start among them.
+    /// Starts of harts, including the boot start.
     pub starts: u64,
-    /// Entries by start.
+    /// Entries of starts.
     pub entries: u64,
     /// Harts in START_PENDING.
     pub pending: u64,
-    /// Pairs of an accepted remote fence and a hart that it asks.
+    /// Fences asked: pairs of an accepted remote fence call and a hart that it asks.
     pub asked: u64,
-    /// Such pairs that were applied.
+    /// Fences asked that were applied.
     pub applied: u64,
     /// Fences that wait at harts.
     pub waiting: u64,

@@ -1,4 +1,4 @@
--- Refusals by number, and tests in their order (profile).
+-- Refusals by their numbers, and tests in order (profile).
 use Rattle.std.specs.Prelude.{ℕ, Bool, if◌then◌else◌, List, [], ◌∷◌, Option, Some, None}
 use Rattle.board_terms.specs.declared.reply.Refusal.{Refusal}
 use Rattle.board_terms.specs.declared.reply.Refusal.TheVariants.{Off, WrongPhase, Nothing, HistoryFull, TimeFull}
@@ -11,7 +11,7 @@ refusal_number Nothing = 3
 refusal_number HistoryFull = 4
 refusal_number TimeFull = 5
 
--- the second part of the first row whose test holds
+-- the second part of the first row whose test is true
 abbrev pub first_that_holds : {A : Type 0} → List (Bool × A) → Option A
 first_that_holds [] = None
 first_that_holds (row ∷ rows) = if row.0 then Some row.1 else first_that_holds rows

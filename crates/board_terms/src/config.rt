@@ -1,47 +1,48 @@
-//! What a board is opened with: its numbers, their limits, and why no board was made.
+//! The numbers that a board opens with, their limits, and why a board can't be made.
 ghost use Rattle.std.specs.Prelude.{◌≡◌, ◌≤◌, ◌↔◌, IsTrue};
 ghost use Rattle.board_terms.specs.Limits.{IsGood, build_fault_number, has_usual_spaces, is_start_address, spaces_of};
 
 use sv39::{ASID_BITS, PAGE_BYTES, Paging, RAM_START, Spaces};
 use thiserror::Error;
 
-/// What a board is opened with. Every number is tested by `Board::new` alone.
+/// The numbers that a board opens with. Only `Board::new` checks their limits (profile).
 #[derive(Clone, Copy, Debug, PartialEq, Eq)]
 pub struct Config {
     /// The number of harts, 1 to 128; their ids are 0 to `harts` - 1.
     pub harts: u64,
     /// The size of RAM in pages of 4,096 bytes from 0x80000000, 1 to 256.
     pub pages: u64,
-    /// How many events the history holds, 1 to 1,000,000.
+    /// The limit of the history, in events: 1 to 1,000,000.
     pub limit: u64,
     /// The hart that the firmware starts by itself.
     pub boot_hart: u64,
-    /// Where the boot hart begins: an even address in RAM.
+    /// The physical address at which the boot hart begins: even, and in RAM.
     pub boot_addr: u64,
-    /// The opaque value that the boot hart is given.
+    /// The value that the boot hart finds in a1.
     pub boot_opaque: u64,
-    /// ASIDLEN: how many bits of an ASID are kept, 0 to 16 (Privileged 4.1.11).
+    /// ASIDLEN: the number of ASID bits that are kept, 0 to 16 (Privileged 4.1.11).
     pub asid_len: u64,
-    /// The bits of the widest virtual addresses: 39 for Sv39 alone, or 48 where there is Sv48 too.
+    /// The bits of the widest virtual addresses: 39 for Sv39 only, or 48 for Sv48 too (Privileged 4.4, 4.5).
     pub width: u64,
 }
 
-/// ASIDLEN of a board whose line doesn't say it: all bits of an ASID are kept.
+/// ASIDLEN if the board line leaves it out: all 16 bits of an ASID are kept.
 pub const USUAL_ASID_LEN: u64 = ASID_BITS;
 
-/// The width of a board whose line doesn't say it: it has Sv39 alone.
+/// The width if the board line leaves it out: Sv39 only.
 pub const USUAL_WIDTH: u64 = 39;
 
-/// Why no board was made, or no history cut.
+/// Why a board can't be made, or a history can't be cut.
 #[derive(Clone, Copy, Debug, PartialEq, Eq, Error)]
 pub enum BuildFault {
     /// A number is outside the board's limits.
     #[error("bad board")]
     BadConfig,
-    /// Memory was refused.
+    /// Out of memory.
     #[error("no memory")]
     NoMemory,
-    /// Too many events were accepted for a cut of the history: places, fill numbers and counts might not have room.
+    /// Too many events were accepted since the first opening: places, fill numbers and counts could overflow after a
+    /// cut.
     #[error("too many events for a cut")]
     CutFull,
 }
@@ -74,7 +75,7 @@ impl Config {
             && has_spaces
     }
 
-    /// How wide the board's address spaces are.
+    /// The widths of the board's virtual addresses and ASIDs.
     pub fn spaces(&self) -> Spaces
         requires { IsGood self.now }
         ensures spaces { result ≡ spaces_of self.now }
@@ -91,7 +92,7 @@ impl Config {
         }
     }
 
-    /// Whether the board's address spaces are those of one whose line doesn't say them.
+    /// Whether ASIDLEN and the width are those of a board line that leaves them out.
     pub fn has_usual_spaces(&self) -> bool
         ensures { result ≡ has_usual_spaces self.now }
     {
@@ -99,7 +100,7 @@ impl Config {
     }
 }
 
-/// Whether a hart may begin at `address` on a board with so many pages (profile).
+/// Whether a hart may begin at `address` on a board of so many pages: it is even and in RAM (profile).
 pub fn is_start_address(pages: u64, address: u64) -> bool
     requires { pages ≤ 256 }
     ensures { result ≡ is_start_address pages address }

@@ -1,4 +1,4 @@
-//! What a board, a script and a printer have in common: a board's numbers, who acts, what is done, and what is answered.
+//! Types that boards, scripts and printers share: a board's numbers, actors, operations, replies and refusals.
 #![tactic(auto)]
 
 mod config;

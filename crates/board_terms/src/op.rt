@@ -1,4 +1,4 @@
-//! Who makes a step, and what is done in it.
+//! Actors and operations.
 use sbi_abi::Regs;
 
 /// Who makes a step.
@@ -13,7 +13,7 @@ pub enum Actor {
 /// What an actor does in one step.
 #[derive(Clone, Copy, Debug, PartialEq, Eq)]
 pub enum Op {
-    /// A guest's call of the firmware (SBI 3).
+    /// A guest calls the firmware by ECALL (SBI 3).
     Ecall(Regs),
     /// A guest loads the word of 8 bytes at a virtual address.
     Load(u64),
@@ -21,29 +21,30 @@ pub enum Op {
     Store(u64, u64),
     /// A guest fetches the word of 8 bytes at a virtual address.
     Fetch(u64),
-    /// A guest writes satp (Privileged 4.1.11). No fence happens.
+    /// A guest writes satp (Privileged 4.1.11). This fences nothing.
     WriteSatp(u64),
     /// A guest writes sie (Privileged 4.1.3).
     WriteSie(u64),
-    /// A guest enables its hart's interrupts, or disables them (Privileged 4.1.1, sstatus.SIE).
+    /// A guest enables or disables its hart's interrupts (Privileged 4.1.1, sstatus.SIE).
     WriteSstatusSie(bool),
     /// A guest reads sip (Privileged 4.1.3).
     ReadSip,
     /// A guest clears SSIP of its hart (Privileged 4.1.3).
     ClearSsip,
-    /// A guest waits for an interrupt, which has come (Privileged 3.3.3, WFI).
+    /// A guest waits for an interrupt (Privileged 3.3.3, WFI). The step is accepted only while an enabled interrupt is
+    /// pending (profile).
     Wfi,
-    /// A guest's local fence of translations, SFENCE.VMA: of this address, or of all, and of this ASID's address space, or
-    /// of all (Privileged 4.2.1).
+    /// A guest's local SFENCE.VMA (Privileged 4.2.1): of this virtual address or, with None, of all; in the address
+    /// space of this ASID or, with None, in all.
     Sfence(Option<u64>, Option<u64>),
-    /// A guest's local fence of fetched words, FENCE.I (Zifencei).
+    /// A guest's local FENCE.I (Zifencei).
     FenceI,
-    /// The firmware ends its hart's fence call, which waits for no hart any more: the call returns (profile).
+    /// The firmware ends its hart's fence call, which waits for no hart any more. The call returns (profile).
     Poll,
     /// The firmware applies the first remote fence that waits at its hart (profile).
     Serve,
-    /// The firmware brings its hart one state further (profile).
+    /// The firmware advances its hart by one state (SBI 9; that it is a step: profile).
     Advance,
-    /// The time goes on by so many ticks (profile).
+    /// The time advances by so many ticks (profile).
     Tick(u64),
 }

@@ -1,4 +1,4 @@
-//! What a step answers, and why one is refused.
+//! Replies and refusals of steps.
 ghost use Rattle.std.specs.Prelude.{◌≡◌};
 ghost use Rattle.board_terms.specs.Refusals.{refusal_number};
 
@@ -7,22 +7,22 @@ use sbi_abi::Sbiret;
 use sv39::Cause;
 use thiserror::Error;
 
-/// What an accepted step answers.
+/// The reply of an accepted step.
 #[derive(Clone, Copy, Debug, PartialEq, Eq)]
 pub enum Reply {
-    /// The call returns.
+    /// The call returns these values (SBI 3).
     Ret(Sbiret),
-    /// The hart waits inside the call.
+    /// The hart waits inside its call: a remote fence, or a retentive suspend (profile).
     Waiting,
-    /// The call doesn't return.
+    /// The call doesn't return: a stop, a non-retentive suspend or a reset (SBI 9.2, 9.4, 10.1).
     Gone,
-    /// The hart begins at `addr`, with its id in a0 and `opaque` in a1 (SBI 9.1 and 9.4).
+    /// The hart begins at `addr`, with its id in a0 and `opaque` in a1 (SBI 9.1, 9.4).
     Entry {
-        /// The address.
+        /// The address at which the hart begins.
         addr: u64,
-        /// The hart's id.
+        /// The hart's id, in a0.
         hart: u64,
-        /// The opaque value of its start, or of its suspend.
+        /// The opaque value of its start or its suspend, in a1.
         opaque: u64,
     },
     /// The value that was read.
@@ -31,28 +31,28 @@ pub enum Reply {
     Fault(Cause),
     /// A remote fence was applied (profile).
     Served,
-    /// The hart's state is this one now (SBI 9).
+    /// The hart is now in this state (SBI 9).
     Moved(HartState),
-    /// It is done.
+    /// The step is done, and has no value.
     Done,
 }
 
-/// Why a step was refused. Nothing changed.
+/// Why a step is refused. Nothing changes.
 #[derive(Clone, Copy, Debug, PartialEq, Eq, Error)]
 pub enum Refusal {
     /// The power is off.
     #[error("the power is off")]
     Off,
-    /// Another kind of actor's operation, no such hart, or not in this state.
+    /// The operation isn't this kind of actor's, the hart doesn't exist, or its state doesn't allow the operation.
     #[error("not in this state, not by this actor, or no such hart")]
     WrongPhase,
     /// There is nothing to do.
     #[error("nothing to do")]
     Nothing,
-    /// The history has as many events as its limit.
+    /// The history is full: it has as many events as its limit.
     #[error("history full")]
     HistoryFull,
-    /// The time would go past 2^64-2 ticks.
+    /// The time would exceed 2^64-2 ticks.
     #[error("the time would go past its end")]
     TimeFull,
 }

@@ -1,4 +1,4 @@
-//! The fences that wait at a board's harts, in a ring for each hart.
+//! The fences that wait at a board's harts, in one ring buffer for each hart.
 #![tactic(auto)]
 
 mod queues;

@@ -1,4 +1,4 @@
-//! The queues of the fences that wait, one for each hart, as rings.
+//! The queues of waiting fences, one ring buffer for each hart.
 
 ghost use Rattle.std.specs.Prelude.{◌≡◌, ◌<◌, ◌≤◌, ◌==◌, false, length, drop, IfOk, replicate, sum_by, [], slice_get};
 ghost use Rattle.circular_buffer.specs.Buffer.{buffer};
@@ -11,7 +11,7 @@ use circular_buffer::HeapCircularBuffer;
 use std::alloc::{AllocError, Global};
 use std::marker::Model;
 
-/// For each hart of a board, by its id, the requests that wait there, in the order in which they came (profile).
+/// For each hart of a board, by its id, the requests that wait there, in the order in which they arrived (profile).
 #[derive(Drop)]
 pub struct Queues<F> {
     rings: Vec<HeapCircularBuffer<Request<F>>>,
@@ -32,7 +32,11 @@ impl<F> Model for Queues<F> {
 }
 
 impl<F: Copy> Queues<F> {
-    /// Nothing waits at any hart. It fails where memory runs out; no other call but `try_copy` takes memory.
+    /// Empty queues. Only this call and `try_copy` allocate.
+    ///
+    /// # Errors
+    ///
+    /// Out of memory.
     pub fn new(alloc: Global, harts: u64) -> Result<Queues<F>, AllocError>
         requires { harts ≤ 128 }
         ensures { IfOk result (λ queues. queues ≡ replicate harts []) }
@@ -45,7 +49,11 @@ impl<F: Copy> Queues<F> {
         Ok(Queues { rings, total: 0 })
     }
 
-    /// Queues that are equal to these. It fails where memory runs out.
+    /// A copy.
+    ///
+    /// # Errors
+    ///
+    /// Out of memory.
     pub fn try_copy(&self, alloc: Global) -> Result<Queues<F>, AllocError>
         ensures { IfOk result (λ copy. copy ≡ self.now) }
     {
@@ -59,8 +67,8 @@ impl<F: Copy> Queues<F> {
         })
     }
 
-    /// Puts a request at the end of hart `t`'s queue. It comes from another hart, of which no request waits there, so
-    /// there is room for it.
+    /// Appends a request to hart `t`'s queue. Its caller is another hart that has no request there, so there is room
+    /// for it.
     pub fn push(&mut self, t: u64, request: Request<F>)
         requires in_range { t < length self.old }
         requires caller { request.from < length self.old }
@@ -72,7 +80,7 @@ impl<F: Copy> Queues<F> {
         self.total += 1;
     }
 
-    /// The first request that waits at hart `t`.
+    /// The first request that waits at hart `t`, if one does.
     pub fn front(&self, t: u64) -> Option<Request<F>>
         requires { t < length self.now }
         ensures { result ≡ slice_get (queue_at self.now t) 0 }
@@ -80,7 +88,7 @@ impl<F: Copy> Queues<F> {
         self.rings[t as usize].front().copied()
     }
 
-    /// Takes the first request out of hart `t`'s queue, where one waits.
+    /// Removes the first request from hart `t`'s queue and returns it, if one waits.
     pub fn pop(&mut self, t: u64) -> Option<Request<F>>
         requires { t < length self.old }
         ensures answer { result ≡ slice_get (queue_at self.old t) 0 }
@@ -92,7 +100,7 @@ impl<F: Copy> Queues<F> {
         Some(request)
     }
 
-    /// Takes all requests out of hart `t`'s queue.
+    /// Removes all requests from hart `t`'s queue.
     pub fn drain(&mut self, t: u64)
         requires { t < length self.old }
         ensures { self.new ≡ drained self.old t }
@@ -101,7 +109,7 @@ impl<F: Copy> Queues<F> {
         self.rings[t as usize].clear();
     }
 
-    /// Takes all requests out of all queues.
+    /// Removes all requests from all queues.
     pub fn clear(&mut self)
         ensures { self.new ≡ replicate (length self.old) [] }
     {
@@ -111,7 +119,7 @@ impl<F: Copy> Queues<F> {
         self.total = 0;
     }
 
-    /// The requests that wait at hart `t`, the first of them first. They come from distinct other harts.
+    /// The requests that wait at hart `t`, in their order. They come from distinct other harts.
     pub fn iter(&self, t: u64) -> Waiting<'_, F>
         requires { t < length self.now }
         ensures requests { result ≡ queue_at self.now t }
@@ -120,7 +128,7 @@ impl<F: Copy> Queues<F> {
         Waiting::of(&self.rings[t as usize])
     }
 
-    /// How many requests wait at hart `t`: fewer than there are harts.
+    /// The number of requests that wait at hart `t`, fewer than there are harts.
     pub fn len(&self, t: u64) -> u64
         requires { t < length self.now }
         ensures count { result ≡ length (queue_at self.now t) }
@@ -129,8 +137,8 @@ impl<F: Copy> Queues<F> {
         self.rings[t as usize].len() as u64
     }
 
-    /// The position, counted from 1, of hart `from`'s request in hart `t`'s queue; 0 where none is there, or there is no such
-    /// hart. It goes over this queue alone.
+    /// The position, counted from 1, of hart `from`'s request in hart `t`'s queue. It is 0 if the queue has none, or if
+    /// there is no hart `t`. It scans only this queue.
     pub fn position(&self, t: u64, from: u64) -> u64
         ensures { result ≡ position_of (is_from from) (queue_at self.now t) }
     {
@@ -144,7 +152,7 @@ impl<F: Copy> Queues<F> {
         }
     }
 
-    /// How many requests wait, at all harts together.
+    /// The number of requests that wait at all harts together.
     pub fn total(&self) -> u64
         ensures { result ≡ sum_by length self.now }
     {
@@ -152,7 +160,11 @@ impl<F: Copy> Queues<F> {
     }
 }
 
-/// A ring that is equal to this one. It fails where memory runs out.
+/// A copy of a ring.
+///
+/// # Errors
+///
+/// Out of memory.
 fn copy_of<T: Copy + Drop>(
     alloc: Global,
     ring: &HeapCircularBuffer<T>,
@@ -166,8 +178,8 @@ fn copy_of<T: Copy + Drop>(
     Ok(copy)
 }
 
-/// Takes the first item of a ring. One that is alone is taken from the back, so that the next one comes into its place: a
-/// ring in which little waits touches little memory.
+/// Removes the first item of a ring and returns it. A lone item is removed from the back, so the next item takes its
+/// place: a ring with few items touches little memory.
 fn pop_first<T>(ring: &mut HeapCircularBuffer<T>) -> Option<T>
     ensures value { result ≡ slice_get ring.old.items 0 }
     ensures items { ring.new ≡ buffer (drop 1 ring.old.items) ring.old.capacity }

@@ -1,4 +1,4 @@
-//! What waits at a hart, one request after the other.
+//! An iterator over the requests that wait at a hart.
 
 ghost use Rattle.std.specs.Prelude.{◌≡◌};
 ghost use Rattle.std.specs.Iterator.{YieldsFirst, item_count};
@@ -7,7 +7,7 @@ use crate::request::Request;
 use circular_buffer::{HeapCircularBuffer, Iter};
 use std::marker::Model;
 
-/// The requests of one queue that are still to come, the first of them first.
+/// The requests of a queue that are still to come, in their order.
 #[derive(Drop)]
 pub struct Waiting<'a, F> {
     rest: Iter<'a, Request<F>>,

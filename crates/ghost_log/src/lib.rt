@@ -1,5 +1,5 @@
-//! A list that only grows, for proofs alone: what one holder knows of it stays true for every other. Nothing of it is there
-//! when a program runs.
+//! A list that only grows, for proofs only: what one holder knows about it stays true for all others. It doesn't exist
+//! at run time.
 #![tactic(auto)]
 
 mod tokens;

@@ -1,4 +1,4 @@
-//! The three tokens of a list that only grows: the list, a prefix of it, and the list that is closed.
+//! The three tokens of a list that only grows: the list, a prefix of it, and the closed list.
 
 ghost use Rattle.std.specs.Prelude.{◌≡◌, ℕ, List, [], ◌∷◌, ◌++◌};
 ghost use mathlib.Core.List.{IsPrefix};
@@ -8,7 +8,7 @@ ghost use Rattle.ghost_log.specs.Inside.Kept.{latest_owns, begun_owns, whole_own
 
 use std::marker::{Model, PhantomData};
 
-/// The list as it is now, and the right to make it longer. There is one of each name.
+/// The list as it is now, and the right to append to it. There is one for each name.
 pub struct Log<E> {
     marker: PhantomData<E>,
     pub ghost name: { ℕ },
@@ -19,7 +19,7 @@ impl<E> Model for Log<E> {
     ghost also_owns = { λ s. latest_owns E.row.coded.code s.name s.list };
 }
 
-/// A prefix of the list: what it was at some time.
+/// A prefix of the list: the list at some time.
 pub struct Prefix<E> {
     marker: PhantomData<E>,
     pub ghost name: { ℕ },
@@ -32,7 +32,7 @@ impl<E> Model for Prefix<E> {
     ghost also_shares = { λ s _ κ. said (begun_owns E.row.coded.code s.name s.list) κ };
 }
 
-/// The closed list, which grows no more.
+/// The closed list, which no longer grows.
 pub struct ClosedLog<E> {
     marker: PhantomData<E>,
     pub ghost name: { ℕ },
@@ -55,12 +55,12 @@ impl<E> Log<E> {
         }
     }
 
-    /// Puts one entry at the list's end.
+    /// Appends one entry.
     pub fn push(&mut self, entry: &E)
         ensures { (self.new.name ≡ self.old.name) × (self.new.list ≡ self.old.list ++ entry.now ∷ []) }
     {}
 
-    /// What the list is now. It stays a prefix of it.
+    /// The list as it is now, which stays a prefix of it.
     pub fn prefix(&mut self) -> Prefix<E>
         ensures { (self.new ≡ self.old) × (result.name ≡ self.old.name) × (result.list ≡ self.old.list) }
     {

@@ -7,12 +7,13 @@ use Rattle.guest_programs.specs.declared.block_guests.BlockPlace.{BlockPlace}
 use Rattle.guest_programs.specs.declared.block_guests.BlockPlace.TheVariants.{At, Idle}
 use Rattle.guest_programs.specs.Guests.{Did, Entered, Next, Rest, did}
 
--- the operations of the block at an address; none without such a block
+-- the operations of the block at an address; empty if there is no such block
 abbrev pub block_at : List Guest → ℕ → List Op
 block_at [] addr = []
 block_at (block ∷ blocks) addr = if block.addr == addr then block.ops else block_at blocks addr
 
--- What such guests do: the operation of the entry's block with as many before it as were done since the entry.
+-- What such guests do: the next operation is the one in the entry's block that follows as many as were done since the
+-- entry.
 abbrev pub in_blocks : List Guest → Next
 in_blocks blocks = λ entry before. slice_get (block_at blocks entry.addr) (length before)
 
@@ -34,7 +35,7 @@ done past h = ops_in (did past h)
 
 -- ---- how far a guest is
 
--- the operations of the block in a place of the list; none where no block is
+-- the operations of the block of this index; empty if there is none
 abbrev pub ops_at : List Guest → ℕ → List Op
 ops_at [] k = []
 ops_at (block ∷ blocks) zero = block.ops
@@ -44,12 +45,12 @@ abbrev pub ops_found : List Guest → Option ℕ → List Op
 ops_found blocks None = []
 ops_found blocks (Some k) = ops_at blocks k
 
--- What a guest of blocks does from a place on: what is left of its block.
+-- What a guest of blocks does from a place on: the rest of its block.
 abbrev pub rest_in : List Guest → BlockPlace → Rest
 rest_in blocks Idle = λ more. None
 rest_in blocks (At block op) = λ more. slice_get (ops_at blocks block) (op + length more)
 
--- The words of a place: whether something is left, and where.
+-- The words of a place: whether something is left, and the indices of the block and the operation.
 abbrev pub place_words : BlockPlace → List ℕ
 place_words Idle = 0 ∷ []
 place_words (At block op) = 1 ∷ block ∷ op ∷ []

@@ -1,4 +1,4 @@
--- How a run ended, by its record and its script (profile).
+-- Ends of runs, from their records and programs (profile).
 use Rattle.std.specs.Prelude.{◌≡◌, ◌≢◌, ◌⊎◌, ℕ, ◌<◌, true, false, List, length, None}
 use Rattle.hsm.specs.declared.hart.HartState.TheVariants.{Started, Stopped}
 use Rattle.board_core.specs.Fences.{outstanding}
@@ -12,7 +12,8 @@ use Rattle.guest_programs.specs.declared.met.Met.{Met}
 use Rattle.guest_programs.specs.declared.met.Met.TheVariants.{FullHistory, ClosedGate}
 use Rattle.guest_programs.specs.Guests.{HasFollowed, Next, next_op}
 
--- A hart is STARTED, outside a fence call; since its last entry its guest did only its next operations, and has none left.
+-- A hart is through: it is STARTED and in no fence call; since its last entry its guest did only its next operations,
+-- and has none left.
 pub record IsThrough (o : Opening) (past : List Event) (guests : Next) (h : ℕ) : Type 0 where
   pub started : state o past h ≡ Started
   pub outside : outstanding o past h ≡ None
@@ -31,8 +32,8 @@ AreQuiet o past guests = (h : ℕ) → h < o.config.harts → IsQuiet o past gue
 abbrev pub IsFull : Met → Opening → List Event → Type 0
 IsFull met o past = (met ≡ FullHistory) × (length past ≡ o.config.limit)
 
--- How a run ended, by what its actors met together and its record: by a closed gate; else by the power; else by a full history;
--- else by the harts.
+-- The end of a run, by what its actors met together and by its record. A closed gate comes first, then the power, then
+-- a full history, then the harts.
 abbrev pub IsEndBy : Met → Opening → List Event → Next → End → Type 0
 IsEndBy met o past guests GateLimit = met ≡ ClosedGate
 IsEndBy met o past guests Off = (met ≢ ClosedGate) × (is_off o past ≡ true)
@@ -43,7 +44,7 @@ IsEndBy met o past guests Stuck =
     (met ≢ ClosedGate) × (is_off o past ≡ false) × ¬ IsFull met o past
     × ((h : ℕ) × (h < o.config.harts) × ¬ IsQuiet o past guests h)
 
--- What the record shows of each end. It shows nothing of a gate.
+-- What the record shows about each end. It shows nothing about a gate.
 abbrev pub IsEnd : End → Opening → List Event → Next → Type 0
 IsEnd GateLimit o past guests = Unit {0}
 IsEnd Off o past guests = is_off o past ≡ true

@@ -1,4 +1,4 @@
--- What the guest of a hart did, and what it does next (profile).
+-- What a hart's guest did, and what it does next (profile).
 use Rattle.std.specs.Prelude.{◌≡◌, ℕ, Bool, true, false, if◌then◌else◌, List, [], ◌∷◌, ◌++◌, Option, Some, None}
 use Rattle.board_terms.specs.declared.op.Op.{Op}
 use Rattle.board_terms.specs.declared.op.Op.TheVariants.{Poll, Serve, Advance, Tick}
@@ -7,7 +7,7 @@ use Rattle.board_terms.specs.declared.reply.Reply.TheVariants.{Entry}
 use Rattle.board_core.specs.Course.{is_hart}
 use Rattle.board_core.specs.History.{Event}
 
--- A guest's operation: one that is neither the firmware's nor the clock's.
+-- Whether an operation is a guest's: neither the firmware's nor the clock's.
 abbrev pub is_guest : Op → Bool
 is_guest Poll = false
 is_guest Serve = false
@@ -15,9 +15,9 @@ is_guest Advance = false
 is_guest (Tick n) = false
 is_guest op = true
 
--- ---- what a history says of a guest
+-- ---- what a history says about a guest
 
--- the address at which a hart is entered, and its registers there: its id and an opaque value (SBI 9, HSM start)
+-- the address at which a hart begins, and its registers there: its id in a0, and the opaque value in a1 (SBI 9.1, 9.4)
 pub record Entered : Type 0 where
   pub addr : ℕ
   pub hart : ℕ
@@ -62,7 +62,7 @@ did (e ∷ past) h = did_after (meaning_of h e) (did past h)
 
 -- ---- what guests do
 
--- A program of guests: the next operation, if there is one, by the entry and the operations since.
+-- The guests' program: the next operation, if there is one, by the entry and the operations since.
 abbrev pub Next : Type 0
 Next = Entered → Did → Option Op
 
@@ -71,7 +71,7 @@ abbrev pub next_for : Next → Option Entered → Did → Option Op
 next_for guests None before = None
 next_for guests (Some entry) before = guests entry before
 
--- What the guest of hart h does next.
+-- The next operation of hart h's guest.
 abbrev pub next_op : Next → List Event → ℕ → Option Op
 next_op guests past h = next_for guests (last_entry past h) (did past h)
 
@@ -80,13 +80,13 @@ abbrev pub AreNext : Next → Option Entered → Did → Type 0
 AreNext guests entry [] = Unit {0}
 AreNext guests entry (one ∷ before) = (next_for guests entry before ≡ Some one.0) × AreNext guests entry before
 
--- Since its last entry the guest of hart h did nothing but its next operations.
+-- Since its last entry hart h's guest did only its next operations.
 abbrev pub HasFollowed : Next → List Event → ℕ → Type 0
 HasFollowed guests past h = AreNext guests (last_entry past h) (did past h)
 
 -- ---- how far a guest is
 
--- what a guest does from some moment on, by its operations since then
+-- what a guest does from some moment on, by its operations since
 abbrev pub Rest : Type 0
 Rest = Did → Option Op
 

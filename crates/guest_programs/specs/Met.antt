@@ -1,10 +1,10 @@
--- What kept a run's actors from going on (profile).
+-- What stopped the actors of a run (profile).
 use Rattle.board_terms.specs.declared.reply.Refusal.{Refusal}
 use Rattle.board_terms.specs.declared.reply.Refusal.TheVariants.{HistoryFull}
 use Rattle.guest_programs.specs.declared.met.Met.{Met}
 use Rattle.guest_programs.specs.declared.met.Met.TheVariants.{Nothing, FullHistory, ClosedGate}
 
--- What an actor met whose operation was refused: a full history, or nothing for another refusal.
+-- What an actor met by a refusal: a full history, or nothing by any other.
 abbrev pub met_by_refusal : Refusal → Met
 met_by_refusal HistoryFull = FullHistory
 met_by_refusal r = Nothing

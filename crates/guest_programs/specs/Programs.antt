@@ -6,7 +6,7 @@ use Rattle.guest_script.specs.Grammar.{Content, Empty, Program, Schedule, Trace}
 use Rattle.guest_programs.specs.Blocks.{in_blocks}
 use Rattle.guest_programs.specs.Guests.{Next}
 
--- A script is a program, or it is empty, which counts as a program without blocks.
+-- A script is a program, or is empty, which counts as a program without blocks.
 abbrev pub IsProgram : Content → Type 0
 IsProgram Empty = Unit {0}
 IsProgram (Program blocks clock) = Unit {0}

@@ -38,12 +38,12 @@ abbrev pub is_clock : Actor → Bool
 is_clock (actors.Hart h) = false
 is_clock actors.Clock = true
 
--- how many ticks the clock made
+-- the number of ticks that the clock made
 abbrev pub ticked : List Event → ℕ
 ticked [] = 0
 ticked (e ∷ past) = if is_clock e.actor then suc (ticked past) else ticked past
 
--- The clock's next tick: the one behind those that it made.
+-- The clock's next tick: the one after those that it made.
 abbrev pub next_tick : List ℕ → List Event → Option ℕ
 next_tick ticks past = slice_get ticks (ticked past)
 
@@ -95,7 +95,7 @@ harts_steps o guests past zero = []
 harts_steps o guests past (suc h) =
     harts_steps o guests past h ++ hart_steps (situation o past h) (next_op guests past h) h
 
--- whether there is a next tick, and the time has room for it
+-- whether there is a next tick for which the time has room
 abbrev pub can_tick : Opening → List Event → Option ℕ → Bool
 can_tick o past None = false
 can_tick o past (Some n) = nat_le (time o past + n) last_time
@@ -106,7 +106,7 @@ steps o p past =
     if is_off o past then []
     else harts_steps o p.guests past o.config.harts ++ if_so (can_tick o past (next_tick p.ticks past)) takes.Tick
 
--- who takes a step
+-- the actor that takes a step
 abbrev pub actor_of : Step → Actor
 actor_of (takes.Serve h) = actors.Hart h
 actor_of (takes.Poll h) = actors.Hart h
@@ -122,7 +122,7 @@ op_of o p past (takes.Advance h) = Some ops.Advance
 op_of o p past (takes.Guest h) = if nat_lt h o.config.harts then next_op p.guests past h else None
 op_of o p past takes.Tick = option_map ops.Tick (next_tick p.ticks past)
 
--- One of the steps that can be taken is this actor's, with this operation.
+-- A step that can be taken is this actor's, and has this operation.
 abbrev pub IsAmong : Opening → Task → List Event → Actor → Op → Type 0
 IsAmong o p past actor op =
     (step : Step) × Contains (steps o p past) step × (actor_of step ≡ actor) × (op_of o p past step ≡ Some op)

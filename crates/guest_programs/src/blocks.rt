@@ -1,4 +1,4 @@
-//! Programs, whose blocks are found by the addresses of their entries.
+//! Programs, with an index of their blocks by address.
 ghost use Rattle.std.specs.Prelude.{◌≡◌, ℕ, IfOk, map};
 ghost use Rattle.std.specs.BTreeMap.{get};
 ghost use Rattle.std.specs.Ordering.{nat_cmp};
@@ -10,22 +10,22 @@ use guest_script::Block;
 use std::alloc::{AllocError, Global};
 use std::collections::BTreeMap;
 
-/// What the guests and the clock of a board do.
+/// A program: what the guests and the clock of a board do.
 #[derive(Drop)]
 pub struct Program<'a> {
-    /// What guests do, by the address of their entry.
+    /// The guests' blocks, each with the address of its entry.
     pub blocks: &'a [Block],
-    /// What the clock does.
+    /// The clock's ticks, in their order.
     pub ticks: &'a [u64],
-    /// The place of the first block of each address.
+    /// The index of the first block of each address.
     first: BTreeMap<u64, usize>,
     ghost indexed: { (addr : ℕ)
         → ops_found (map guest blocks.now) (get nat_cmp first addr) ≡ block_at (map guest blocks.now) addr },
 }
 
 impl<'a> Program<'a> {
-    /// The operations of the block at an address; none without such a block. If two blocks have the address, it is the first.
-    /// It takes a few comparisons for each bit of the number of blocks, and no memory.
+    /// The operations of the block at an address; empty if there is no such block. If two blocks have the address, the
+    /// first counts. It takes logarithmic time in the number of blocks, and allocates nothing.
     pub fn block_at(&self, addr: u64) -> &'a [Op]
         ensures { result.now ≡ block_at (map guest self.now.blocks.now) addr }
     {
@@ -35,7 +35,7 @@ impl<'a> Program<'a> {
         }
     }
 
-    /// The place of the first block at an address that has something to do, if there is one.
+    /// The index of the first block at an address, if there is one and it has operations.
     pub(crate) fn first_at(&self, addr: u64) -> Option<usize>
         ensures { ops_found (map guest self.now.blocks.now) result ≡ block_at (map guest self.now.blocks.now) addr }
     {
@@ -46,7 +46,7 @@ impl<'a> Program<'a> {
         Some(block)
     }
 
-    /// The operations of the block in a place; none where no block is.
+    /// The operations of the block of this index; empty if there is none.
     pub(crate) fn ops_in(&self, block: usize) -> &'a [Op]
         ensures { result.now ≡ ops_at (map guest self.now.blocks.now) block }
     {
@@ -57,7 +57,7 @@ impl<'a> Program<'a> {
     }
 }
 
-/// The place of the first block of each address.
+/// The index of the first block of each address.
 fn first_blocks(alloc: Global, blocks: &[Block]) -> Result<BTreeMap<u64, usize>, AllocError>
     ensures { IfOk result (λ first. (addr : ℕ)
         → ops_found (map guest blocks.now) (get nat_cmp first addr) ≡ block_at (map guest blocks.now) addr) }
@@ -70,6 +70,10 @@ fn first_blocks(alloc: Global, blocks: &[Block]) -> Result<BTreeMap<u64, usize>,
 }
 
 /// A program of these blocks and ticks.
+///
+/// # Errors
+///
+/// Out of memory.
 pub(crate) fn indexed<'a>(
     alloc: Global,
     blocks: &'a [Block],

@@ -8,11 +8,11 @@ use crate::ends::RunFault;
 use board_core::{Board, BuildFault, Config};
 use std::alloc::Global;
 
-/// A new board of these numbers, to run programs on.
+/// A new board with these numbers, for a run.
 ///
 /// # Errors
 ///
-/// The numbers are outside the board's limits, or memory was refused.
+/// `BadConfig`: a number is outside the limits. `NoMemory`: out of memory.
 pub fn new_board(alloc: Global, config: &Config) -> Result<Board, RunFault>
     ensures bad { IsErrOf result BadConfig ↔ ¬ IsGood config.now }
     ensures fault { IfErr result (λ fault. (fault ≡ BadConfig) ⊎ (fault ≡ NoMemory)) }

@@ -1,4 +1,4 @@
-//! How a run ended, and why none was made.
+//! Ends of runs, and why there was no run.
 ghost use Rattle.std.specs.Prelude.{◌≡◌};
 ghost use Rattle.guest_programs.specs.Faults.{run_fault_number};
 ghost use Rattle.guest_programs.specs.declared.ends.RunFault.TheVariants.{NoMemory};
@@ -7,25 +7,25 @@ use board_core::Board;
 use std::alloc::AllocError;
 use thiserror::Error;
 
-/// How a run ended: the first of these that holds (profile).
+/// How a run ended: the first of these that applies (profile).
 #[derive(Clone, Copy, Debug, PartialEq, Eq, Hash)]
 pub enum End {
     /// A gate ended the work of an actor.
     GateLimit,
     /// The power is off.
     Off,
-    /// An operation was refused, since the history was full.
+    /// An operation was refused because the history was full.
     HistoryFull,
-    /// Each hart is STOPPED, or has done its block, outside of a fence call.
+    /// Each hart is STOPPED, or STARTED with its block done and in no fence call.
     Quiet,
-    /// Some hart is neither, and none goes on.
+    /// Some hart isn't quiet, and no actor can continue.
     Stuck,
 }
 
 /// A run that ended.
 #[derive(Drop)]
 pub struct RunEnd {
-    /// How.
+    /// How it ended.
     pub end: End,
     /// The board, whose history is the record of the run.
     pub board: Board,
@@ -34,13 +34,13 @@ pub struct RunEnd {
 /// Why there was no run (profile).
 #[derive(Clone, Copy, Debug, PartialEq, Eq, Error)]
 pub enum RunFault {
-    /// The board line is outside the board's limits.
+    /// A number of the board line is outside the limits.
     #[error("bad board")]
     BadConfig,
-    /// Memory was refused.
+    /// Out of memory.
     #[error("no memory")]
     NoMemory,
-    /// A thread was refused. Those that ran have ended.
+    /// A thread couldn't be started. Those that ran have ended.
     #[error("no thread")]
     NoThread,
 }

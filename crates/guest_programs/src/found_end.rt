@@ -13,8 +13,12 @@ use crate::places::all_alike;
 use board_core::{Actor, Board, Event, HartState, Op, Reply};
 use std::alloc::{AllocError, Global};
 
-/// How a board's run ended, by its history and what its guests had to do. It trusts actors on two points only, which the
-/// history doesn't show: whether a gate closed, and whether an actor met a full history.
+/// How a board's run ended, from its history and its guests' programs. It trusts the actors on two points only, which
+/// the history doesn't show: whether a gate closed, and whether an actor met a full history.
+///
+/// # Errors
+///
+/// Out of memory.
 pub fn end_of<G: Guests>(
     alloc: Global,
     board: &Board,
@@ -40,16 +44,16 @@ pub fn end_of<G: Guests>(
     })
 }
 
-/// What a history shows of a hart's guest.
+/// What a history shows about a hart's guest.
 #[derive(Clone, Copy)]
 enum Followed<P: Copy> {
-    /// Since its last entry it did only its next operations, and is at this place.
+    /// Since its last entry the guest did only its next operations, and is at this place.
     To(P),
-    /// It did something else.
+    /// The guest did something else.
     Strayed,
 }
 
-/// What is shown after an operation of the guest's hart was accepted.
+/// What is shown after one more accepted operation of the guest's hart.
 fn followed_after<G: Guests>(
     guests: &G,
     found: Followed<G::Place>,
@@ -69,7 +73,7 @@ fn followed_after<G: Guests>(
     found
 }
 
-/// What is shown behind an operation of the guest.
+/// What is shown after one more operation of the guest.
 #[tactic(auto, using(crate::proofs::Following::strayed_before))]
 fn followed_behind<G: Guests>(
     guests: &G,
@@ -112,7 +116,11 @@ fn is_same(a: Op, b: Op) -> bool
     a == b
 }
 
-/// What the history shows of each hart's guest.
+/// What the history shows about each hart's guest.
+///
+/// # Errors
+///
+/// Out of memory.
 fn found_after<G: Guests>(
     alloc: Global,
     board: &Board,
@@ -130,7 +138,7 @@ fn found_after<G: Guests>(
     Ok(found)
 }
 
-/// What is shown behind an event.
+/// What is shown after one more event.
 fn see<G: Guests>(guests: &G, found: &mut [Followed<G::Place>], event: &Event)
     ensures many { length found.new ≡ length found.old }
     ensures followed { (past : List _) → AllFollowed (G.rest guests.now) (G.next guests.now) found.old past
@@ -160,7 +168,7 @@ fn first_unquiet<G: Guests>(board: &Board, guests: &G, found: &[Followed<G::Plac
     None
 }
 
-/// Whether a hart is STOPPED; or STARTED, outside a fence call, with its guest through.
+/// Whether a hart is quiet: STOPPED; or STARTED, in no fence call, and with its guest through.
 fn is_quiet<G: Guests>(board: &Board, guests: &G, h: u64, found: &Followed<G::Place>) -> bool
     requires hart { h < board.now.opening.config.harts }
     requires followed { IsFollowed (G.rest guests.now) (G.next guests.now) board.now.past h found.now }

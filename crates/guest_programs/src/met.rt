@@ -1,4 +1,4 @@
-//! What stopped a run's actors.
+//! What stopped the actors of a run.
 ghost use Rattle.std.specs.Prelude.{◌≡◌};
 ghost use Rattle.guest_programs.specs.Met.{met_by_both, met_by_refusal};
 
@@ -9,14 +9,14 @@ use board_core::Refusal;
 pub enum Met {
     /// Nothing.
     Nothing,
-    /// An operation was refused, since the history was full.
+    /// An operation was refused because the history was full.
     FullHistory,
     /// The gate answered false.
     ClosedGate,
 }
 
 impl Met {
-    /// What an actor met whose operation was refused. Only a full history stops an actor.
+    /// What an actor met by this refusal. Only a full history stops an actor.
     pub fn by_refusal(refusal: Refusal) -> Met
         ensures { result ≡ met_by_refusal refusal }
     {

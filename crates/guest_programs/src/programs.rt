@@ -1,4 +1,4 @@
-//! The program that a script is, and what guests of blocks do.
+//! Programs of scripts, and what guests of blocks do.
 ghost use Rattle.std.specs.Prelude.{◌≡◌, ◌↔◌, ℕ, List, IfOk, None, length, slice_get};
 ghost use Rattle.hsm.specs.declared.hart.HartState.TheVariants.{Started};
 ghost use Rattle.board_core.specs.Fences.{outstanding};
@@ -16,11 +16,11 @@ use crate::blocks::{Program, indexed};
 use guest_script::Body;
 use std::alloc::{AllocError, Global};
 
-/// The program that a script is.
+/// The program of a script's body.
 ///
 /// # Errors
 ///
-/// Memory was refused.
+/// Out of memory.
 pub fn program_in(alloc: Global, body: &Body) -> Result<Program<'_>, AllocError>
     requires { IsProgram (content body.now) }
     ensures blocks { IfOk result (λ program. (task_in program).guests ≡ blocks_of (content body.now)) }
@@ -33,8 +33,8 @@ pub fn program_in(alloc: Global, body: &Body) -> Result<Program<'_>, AllocError>
     }
 }
 
-/// What guests of blocks do. The next operation is that of the entry's block behind those done since the entry; a hart is
-/// through if and only if these are the whole block, in order. A law: there is nothing to run.
+/// What guests of blocks do. The next operation is the one in the entry's block after those done since the entry. A
+/// hart is through if and only if these are the whole block, in order. A law: there is nothing to run.
 pub fn blocks_in_order()
     ensures next { (blocks : List Guest) (past : List Event) (h : ℕ) → next_op (in_blocks blocks) past h
         ≡ slice_get (block_of blocks (last_entry past h)) (length (done past h)) }

@@ -1,10 +1,10 @@
--- What accesses do.
+-- The kinds of accesses (Privileged 4.1.8).
 use Rattle.sv39.specs.declared.cause.Kind.{Kind}
 use Rattle.sv39.specs.declared.cause.Kind.TheVariants as kinds
 use Rattle.hart_access.specs.declared.accesses.Access.{Access}
 use Rattle.hart_access.specs.declared.accesses.Access.TheVariants.{Load, Store, Fetch}
 
--- the kind of an access, by which its faults have their causes (Privileged 4.1.8)
+-- The kind of an access, which selects the causes of its faults (Privileged 4.1.8).
 abbrev pub kind_of : Access → Kind
 kind_of Load = kinds.Load
 kind_of (Store value) = kinds.Store

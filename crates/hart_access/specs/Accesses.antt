@@ -1,5 +1,6 @@
--- What an access answers and what it leaves, by what is in the memory, in satp and in the caches before it.
--- The memory is a function from an address to the word there; the caches are functions from what is looked up to the hit.
+-- The result of an access and its effects, from the memory, satp and the caches before it. The memory is a function
+-- from an address to the word there. A cache is a function from a key to the hit. (Privileged 4.1.11, 4.2.1, 4.3.2,
+-- 4.4, 4.5; Zifencei.)
 use Rattle.std.specs.Prelude.{ℕ, Option, Some, None, unwrap_or, Result, Ok, Err}
 use Rattle.sv39.specs.declared.cause.Cause.{Cause}
 use Rattle.sv39.specs.Memory.{written}
@@ -12,36 +13,37 @@ use Rattle.hart_access.specs.declared.way.Way.{Way}
 use Rattle.hart_access.specs.AccessKinds.{kind_of}
 use Rattle.hart_access.specs.Ways.{fill_by, place_by, used_by, way}
 
--- A fetch reads the word that was fetched before, where the cache has it, and else the memory's (Zifencei).
+-- A fetch reads the cached word, or the memory's if the cache has none (Zifencei).
 abbrev pub fetched_or : Option FetchWord → (word : ℕ) → ℕ
 fetched_or (Some fetched) word = fetched.word
 fetched_or None word = word
 
--- What an access reads at a physical address with a word; a store reads 0 (profile).
+-- The word that an access reads at a physical address of the RAM. A store reads 0 (profile).
 abbrev pub read_at : (memory : ℕ → Option ℕ) → (words : ℕ → Option FetchWord) → (pa : ℕ) → Access → ℕ
 read_at memory words pa Load = unwrap_or (memory pa) 0
 read_at memory words pa (Store value) = 0
 read_at memory words pa Fetch = fetched_or (words pa) (unwrap_or (memory pa) 0)
 
--- What the memory is after an access there: a store writes its word, and nothing else changes.
+-- The memory after an access there. A store writes its word, and nothing else changes.
 abbrev pub stored_at : (memory : ℕ → Option ℕ) → (pa : ℕ) → Access → ℕ → Option ℕ
 stored_at memory pa Load = memory
 stored_at memory pa (Store value) = written memory pa value
 stored_at memory pa Fetch = memory
 
--- the memory's word, where the cache had none
+-- the memory's word, if the cache has none
 abbrev pub fetched_from : Option FetchWord → (pa word : ℕ) → Option FetchWord
 fetched_from (Some fetched) pa word = None
 fetched_from None pa word = Some (record { pa = pa; word = word })
 
--- What is filled into the instruction cache: what a fetch read from the memory. Stores touch no cached word (profile).
+-- The word filled into the instruction cache: the one that a fetch read from the memory. A store changes no cached word
+-- (profile).
 abbrev pub word_filling_at : (memory : ℕ → Option ℕ) → (words : ℕ → Option FetchWord) → (pa : ℕ) → Access
     → Option FetchWord
 word_filling_at memory words pa Load = None
 word_filling_at memory words pa (Store value) = None
 word_filling_at memory words pa Fetch = fetched_from (words pa) pa (unwrap_or (memory pa) 0)
 
--- the same by a place, which may be a fault: an access that fails reads, stores and fetches nothing
+-- The same for a place that may be a fault: an access that fails reads, stores and fetches nothing.
 abbrev pub answer_by : (memory : ℕ → Option ℕ) → (words : ℕ → Option FetchWord) → (place : Result ℕ Cause) → Access
     → Result ℕ Cause
 answer_by memory words (Ok pa) access = Ok (read_at memory words pa access)
@@ -57,11 +59,11 @@ word_filling_by memory words (Ok pa) access = word_filling_at memory words pa ac
 word_filling_by memory words (Err cause) access = None
 
 module _ (memory : ℕ → Option ℕ) (satp : ℕ) (tlb : Address → Option Entry) where
-  -- how the access comes to its physical address
+  -- how the access gets its physical address
   abbrev pub way_of : (va : ℕ) → Access → Way
   way_of va access = way memory satp tlb va (kind_of access)
 
-  -- the physical address of its word of the RAM, or why it fails
+  -- the physical address of the word in the RAM, or why the access fails
   abbrev pub place : (va : ℕ) → Access → Result ℕ Cause
   place va access = place_by memory (way_of va access) va (kind_of access)
 
@@ -69,7 +71,7 @@ module _ (memory : ℕ → Option ℕ) (satp : ℕ) (tlb : Address → Option En
   abbrev pub used : (va : ℕ) → Access → Option Entry
   used va access = used_by (way_of va access)
 
-  -- What an access fills into the TLB: the leaf found, with satp's ASID, where nothing was hit (Privileged 4.2.1).
+  -- The entry that an access fills: if no entry was hit, the leaf found, with satp's ASID (Privileged 4.2.1).
   abbrev pub filling : (va : ℕ) → Access → Option Entry
   filling va access = fill_by (way_of va access)
 
@@ -77,10 +79,10 @@ module _ (memory : ℕ → Option ℕ) (satp : ℕ) (tlb : Address → Option En
   abbrev pub stored : (va : ℕ) → Access → ℕ → Option ℕ
   stored va access = stored_by memory (place va access) access
 
-  -- What an access fills into the instruction cache.
+  -- The word that an access fills into the instruction cache.
   abbrev pub word_filling : (words : ℕ → Option FetchWord) → (va : ℕ) → Access → Option FetchWord
   word_filling words va access = word_filling_by memory words (place va access) access
 
-  -- What an access answers: the word that it reads, or why it fails.
+  -- The result of an access: the word that it reads, or why it fails.
   abbrev pub answer : (words : ℕ → Option FetchWord) → (va : ℕ) → Access → Result ℕ Cause
   answer words va access = answer_by memory words (place va access) access

@@ -1,5 +1,6 @@
--- How an access comes to its physical address, by what is in the memory, in satp and in the TLB.
--- The memory is a function from an address to the word there, and the TLB one from an address to the entry that is hit.
+-- How an access gets its physical address, from the memory, satp and the TLB. The memory is a function from an address
+-- to the word there, and the TLB a function from an address to the entry hit. (Privileged 4.1.11, 4.2.1, 4.3.2, 4.4,
+-- 4.5.)
 use Rattle.std.specs.Prelude.{ℕ, ◌+◌, ◌-◌, ◌%◌, not, ◌==◌, if◌then◌else◌, Option, Some, None, is_some, Result, Ok, Err}
 use Rattle.sv39.specs.declared.cause.Cause.{Cause}
 use Rattle.sv39.specs.declared.cause.Kind.{Kind}
@@ -13,15 +14,15 @@ use Rattle.tlb_model.specs.Entries.{Entry}
 use Rattle.hart_access.specs.declared.way.Way.{Way}
 use Rattle.hart_access.specs.declared.way.Way.TheVariants.{Plain, Hit, Fill, Fault}
 
--- A matching entry decides. Without one the page tables do: their leaf is filled with satp's ASID, and a walk that faults
--- fills nothing (Privileged 4.2.1, 4.3.2; that a matching entry always decides: profile).
+-- A matching entry decides. If there is none, the page tables decide: their leaf is filled with satp's ASID, and a walk
+-- that faults fills nothing (Privileged 4.2.1, 4.3.2; that a matching entry always decides: profile).
 abbrev pub way_by : (hit : Option Entry) → (asid : ℕ) → (walked : Result Leaf Cause) → Way
 way_by (Some entry) asid walked = Hit entry
 way_by None asid (Ok leaf) = Fill (record { leaf = leaf; asid = asid })
 way_by None asid (Err cause) = Fault cause
 
--- The order of the checks: the alignment to 8 comes first (profile). With satp's MODE Bare the physical address is the
--- address itself; with a paging mode an address that isn't one of the mode is a page fault (Privileged 4.1.11, 4.4.1,
+-- The order of the checks: alignment to 8 comes first (profile). If satp's MODE is Bare, the physical address is the
+-- address itself. If it is a paging mode, an address that isn't valid by it is a page fault (Privileged 4.1.11, 4.4.1,
 -- 4.5.1).
 abbrev pub way : (memory : ℕ → Option ℕ) → (satp : ℕ) → (tlb : Address → Option Entry) → (va : ℕ) → Kind → Way
 way memory satp tlb va kind =
@@ -30,7 +31,7 @@ way memory satp tlb va kind =
     else if not (is_valid satp va) then Fault (page_fault kind)
     else way_by (tlb (record { va = va; asid = asid_of satp })) (asid_of satp) (maps memory satp va kind)
 
--- the entry that translates the address, found or filled
+-- the entry that translates the address, hit or filled
 abbrev pub used_by : Way → Option Entry
 used_by Plain = None
 used_by (Hit entry) = Some entry
@@ -44,20 +45,20 @@ fill_by (Hit entry) = None
 fill_by (Fill entry) = Some entry
 fill_by (Fault cause) = None
 
--- The physical address that a leaf gives an address of its page (Privileged 4.3.2).
+-- The physical address of a virtual address in the leaf's page (Privileged 4.3.2).
 abbrev pub phys_in : Leaf → (va : ℕ) → ℕ
 phys_in leaf va = leaf.pa + (va - leaf.page)
 
--- The physical address of an address that an entry translates, or none does.
+-- The physical address by the entry used; without one it is the address itself.
 abbrev pub phys_at : Option Entry → (va : ℕ) → ℕ
 phys_at None va = va
 phys_at (Some entry) va = phys_in entry.leaf va
 
--- A leaf that doesn't allow the access makes it a page fault (Privileged 4.3.2).
+-- The physical address by a leaf; a page fault if the leaf doesn't allow the access (Privileged 4.3.2).
 abbrev pub translated : Leaf → (va : ℕ) → Kind → Result ℕ Cause
 translated leaf va kind = if allows kind leaf then Ok (phys_in leaf va) else Err (page_fault kind)
 
--- The physical address, or why there is none.
+-- The physical address, or why the translation fails.
 abbrev pub phys_by : Way → (va : ℕ) → Kind → Result ℕ Cause
 phys_by Plain va kind = Ok va
 phys_by (Hit entry) va kind = translated entry.leaf va kind

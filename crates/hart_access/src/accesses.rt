@@ -1,23 +1,23 @@
-//! What an access asks, and what comes of it.
+//! An access of a hart, and its result.
 ghost use Rattle.std.specs.Prelude.{◌≡◌};
 ghost use Rattle.hart_access.specs.AccessKinds.{kind_of};
 
 use sv39::{Cause, Kind};
 use tlb_model::Entry;
 
-/// What an access does with a word of 8 bytes.
+/// An access to a word of 8 bytes.
 #[derive(Clone, Copy, Debug, PartialEq, Eq)]
 pub enum Access {
-    /// The word is read.
+    /// Reads the word.
     Load,
-    /// This is written in its place.
+    /// Writes this value.
     Store(u64),
-    /// The word is read as instructions, through the instruction cache.
+    /// Fetches the word as instructions, through the instruction cache (Zifencei).
     Fetch,
 }
 
 impl Access {
-    /// The kind of the access.
+    /// The kind of the access, which selects the causes of its faults (Privileged 4.1.8).
     pub fn kind(self) -> Kind
         ensures { result ≡ kind_of self }
     {
@@ -29,11 +29,11 @@ impl Access {
     }
 }
 
-/// What came of an access.
+/// The result of an access.
 #[derive(Clone, Copy, Debug, PartialEq, Eq)]
 pub struct Accessed {
-    /// The word that was read, or 0 where one was written; or why the access failed.
+    /// The word that was read, or 0 for a store; or why the access failed.
     pub result: Result<u64, Cause>,
-    /// The TLB entry that translated the address, found or filled; None where none did.
+    /// The TLB entry that translated the address, hit or filled. None: no entry did.
     pub used: Option<Entry>,
 }

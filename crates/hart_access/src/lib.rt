@@ -1,5 +1,5 @@
-//! One access of a hart to the memory: the check of its address, its translation by the TLB or by the page tables, and
-//! the word that it reads or writes (Privileged 4.1.11, 4.2.1, 4.4, 4.5; Zifencei).
+//! One access of a hart to the memory: the check of its address, the translation by the TLB or the page tables, and the
+//! word read or written (Privileged 4.1.11, 4.2.1, 4.4, 4.5; Zifencei).
 #![tactic(auto)]
 
 mod accesses;

@@ -11,9 +11,9 @@ use crate::way::Way;
 use sv39::{Ram, Satp};
 use tlb_model::{FetchWord, ICache, Tlb};
 
-/// One whole access of a hart to the word of 8 bytes at a virtual address, with the hart's satp and caches; what it fills
-/// has this date. The address must be aligned to 8. A leaf that was found in the page tables stays filled even where the
-/// access fails afterwards (profile).
+/// An access of a hart to the word of 8 bytes at a virtual address, with the hart's satp and caches. What it fills has
+/// this date. An address that isn't aligned to 8 is a fault (profile). A leaf found in the page tables stays filled
+/// even if the access then fails (profile).
 pub fn access(
     ram: &mut Ram,
     satp: Satp,
@@ -51,8 +51,8 @@ pub fn access(
     }
 }
 
-/// Carries an access out at the physical address of a word of the RAM: what it reads, or 0. A word that it fills has this
-/// date.
+/// Performs an access at the physical address of a word of the RAM, and returns the word read, or 0 for a store. A word
+/// that it fills has this date.
 fn carry_out(ram: &mut Ram, words: &mut ICache, pa: u64, access: Access, date: u64) -> u64
     requires place { IsTrue (is_some (word_in ram.old pa)) }
     requires words { words.old.next < 2 ^ 63 }
@@ -72,8 +72,8 @@ fn carry_out(ram: &mut Ram, words: &mut ICache, pa: u64, access: Access, date: u
     }
 }
 
-/// The word that the cache has from a physical address, or else that of the RAM, which is filled into the cache with this
-/// date (Zifencei).
+/// The cached word of a physical address. If the cache has none, it is the RAM's, which is filled with this date
+/// (Zifencei).
 fn fetch(ram: &Ram, words: &mut ICache, pa: u64, date: u64) -> u64
     requires place { IsTrue (is_some (word_in ram.now pa)) }
     requires words { words.old.next < 2 ^ 63 }

@@ -1,4 +1,4 @@
-//! How an access comes to its word, or why it fails.
+//! How an access gets its physical address, or why it fails.
 ghost use Rattle.std.specs.Prelude.{◌≡◌, Ok};
 ghost use Rattle.sv39.specs.Memory.{word_in};
 ghost use Rattle.tlb_model.specs.Contents.{hit};
@@ -8,22 +8,22 @@ ghost use Rattle.hart_access.specs.Ways.{in_memory, place_by, translated, used_b
 use sv39::{Cause, Kind, Ram, Satp, walk};
 use tlb_model::{Address, Entry, Tlb};
 
-/// How an access comes from its virtual address to the physical one.
+/// How an access gets from its virtual address to the physical one.
 #[derive(Clone, Copy, Debug, PartialEq, Eq)]
 pub enum Way {
-    /// The addresses are the same: satp translates none.
+    /// The addresses are the same: satp's MODE is Bare.
     Plain,
-    /// This entry of the TLB has it.
+    /// This TLB entry translates it.
     Hit(Entry),
-    /// The page tables have it, by a leaf that is filled as this entry.
+    /// The page tables translate it; their leaf is filled as this entry.
     Fill(Entry),
-    /// The access fails before that.
+    /// The access fails before it has a translation.
     Fault(Cause),
 }
 
 impl Way {
-    /// The way of an access of this kind. A TLB entry that matches is taken whether or not it allows the access, and the
-    /// page tables are looked at only where there is none (profile).
+    /// The way of an access of this kind. A TLB entry that matches decides, even if it doesn't allow the access. The
+    /// page tables are read only if no entry matches (profile).
     pub fn of(ram: &Ram, satp: Satp, tlb: &Tlb, va: u64, kind: Kind) -> Way
         ensures { result ≡ way (word_in ram.now) satp (λ at. hit matches at tlb.now) va kind }
     {
@@ -56,7 +56,7 @@ impl Way {
         }
     }
 
-    /// The physical address, which has a word of the RAM, or why the access fails.
+    /// The physical address of a word of the RAM, or why the access fails.
     pub fn place(self, ram: &Ram, va: u64, kind: Kind) -> Result<u64, Cause>
         ensures { result ≡ place_by (word_in ram.now) self va kind }
     {
@@ -68,7 +68,7 @@ impl Way {
     }
 }
 
-/// The physical address that an entry gives an address of its page, or why the access fails.
+/// The physical address of a virtual address in the entry's page, or why the access fails.
 #[tactic(auto, using(crate::proofs::Past::no_word_past))]
 fn translate(entry: Entry, ram: &Ram, va: u64, kind: Kind) -> Result<u64, Cause>
     ensures { result ≡ in_memory (word_in ram.now) kind (translated entry.leaf va kind) }
@@ -82,7 +82,7 @@ fn translate(entry: Entry, ram: &Ram, va: u64, kind: Kind) -> Result<u64, Cause>
     }
 }
 
-/// The physical address, where it has a word of the RAM, or why the access fails.
+/// The physical address if the RAM has a word there, or why the access fails.
 fn in_memory(ram: &Ram, pa: u64, kind: Kind) -> Result<u64, Cause>
     ensures { result ≡ in_memory (word_in ram.now) kind (Ok pa) }
 {

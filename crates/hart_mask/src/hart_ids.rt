@@ -1,4 +1,4 @@
-//! The ids of a set, one after the other.
+//! An iterator over the ids of a set.
 
 ghost use Rattle.std.specs.Prelude.{◌≡◌};
 ghost use Rattle.std.specs.Iterator.{YieldsFirst, item_count};

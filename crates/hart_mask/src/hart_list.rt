@@ -8,7 +8,7 @@ use crate::hart_set::HartSet;
 use sbi_abi::SbiError;
 use thiserror::Error;
 
-/// Why a hart list was refused: its base, or a hart that its mask names, isn't there (SBI 3, Hart list parameter).
+/// Why a hart list is invalid: its base or its mask names a hart that doesn't exist (SBI 3, Hart list parameter).
 #[derive(Clone, Copy, Debug, PartialEq, Eq, Error)]
 #[error("invalid parameter")]
 pub struct InvalidParam;
@@ -24,8 +24,12 @@ impl From<InvalidParam> for SbiError {
 }
 
 /// The harts that a hart list names among the harts below `n`: hart `base + i` for each bit i that is set in `mask`, or
-/// all of them where `base` is `u64::MAX` (SBI 3, Hart list parameter). It is refused where another base or a hart that
-/// the mask names is `n` or more.
+/// all of them if `base` is `u64::MAX` (SBI 3, Hart list parameter).
+///
+/// # Errors
+///
+/// `base` is another number that isn't below `n` (even if `mask` is 0: profile), or the mask names a hart that isn't
+/// below `n`.
 pub fn targets(mask: u64, base: u64, n: u64) -> Result<HartSet, InvalidParam>
     requires { n ≤ 128 }
     ensures answer { MatchResult result (λ set. targets_of mask base n ≡ Some set)

@@ -77,7 +77,7 @@ impl HartSet {
         HartSet { bits: (1 << n) - 1 }
     }
 
-    /// The set of the ids `base + i` whose bit i is set in `mask`, of those that are below 128.
+    /// The set of the ids `base + i` below 128 whose bit i is set in `mask`.
     pub(crate) fn named_by(mask: u64, base: u64) -> HartSet
         requires { base < 128 }
         ensures { result ≡ named_by mask base }
@@ -87,7 +87,7 @@ impl HartSet {
         }
     }
 
-    /// Whether hart `id` is in the set. Which ids are in it makes the whole set.
+    /// Whether hart `id` is in the set. Sets with the same ids are equal.
     pub fn contains(&self, id: u64) -> bool
         requires { id < 128 }
         ensures answer { result ≡ has self.now id }
@@ -96,7 +96,7 @@ impl HartSet {
         self.bits >> id & 1 == 1
     }
 
-    /// Puts hart `id` into the set.
+    /// Inserts hart `id`.
     pub fn insert(&mut self, id: u64)
         requires { id < 128 }
         ensures { self.new ≡ with_id self.old id }
@@ -104,7 +104,7 @@ impl HartSet {
         self.bits |= 1 << id;
     }
 
-    /// Takes hart `id` out of the set.
+    /// Removes hart `id`.
     pub fn remove(&mut self, id: u64)
         requires { id < 128 }
         ensures { self.new ≡ without_id self.old id }
@@ -130,7 +130,7 @@ impl HartSet {
         }
     }
 
-    /// Puts hart `id` into the set where `value` is true, and else takes it out.
+    /// Inserts hart `id` if `value` is true, and removes it otherwise.
     pub fn set(&mut self, id: u64, value: bool)
         requires { id < 128 }
         ensures { self.new ≡ with_bit self.old id value }
@@ -142,7 +142,7 @@ impl HartSet {
         }
     }
 
-    /// Takes the lowest id out of the set.
+    /// Removes the lowest id and returns it. None: the set is empty.
     pub fn pop_first(&mut self) -> Option<u64>
         ensures lowest { MatchOption result ((self.old ≡ []) × (self.new ≡ [])) (λ id. self.old ≡ id ∷ self.new) }
         ensures below { IfSome result (λ id. id < 128) }
@@ -165,14 +165,14 @@ impl HartSet {
         set.into_iter()
     }
 
-    /// How many ids the set has.
+    /// The number of ids in the set.
     pub fn len(&self) -> u64
         ensures { result ≡ length self.now }
     {
         u64::from(self.bits.count_ones())
     }
 
-    /// Whether the set has no id.
+    /// Whether the set is empty.
     pub fn is_empty(&self) -> bool
         ensures { result ≡ (length self.now == 0) }
     {

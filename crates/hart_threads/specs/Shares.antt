@@ -1,4 +1,4 @@
--- What a run's record shows of its threads: each event was due, and why each thread stopped (profile).
+-- What a run's record shows about its threads: each event was due, and why each thread stopped (profile).
 use Rattle.std.specs.Prelude.{◌≡◌, ◌≢◌, ◌⊎◌, ℕ, ◌+◌, Bool, true, false, if◌then◌else◌, List, [], ◌∷◌, length, slice_get, Option, Some, None, Err}
 use mathlib.Core.List.{IsSuffix}
 use Rattle.board_terms.specs.declared.config.Config.{Config}
@@ -24,7 +24,7 @@ use Rattle.hart_threads.specs.Choices.{first_choice}
 use Rattle.guest_programs.specs.Guests.{Next, next_op}
 use Rattle.guest_programs.specs.Met.{met_by_both}
 
--- how many of the events are the actor's
+-- the number of the actor's events
 abbrev pub many_of : Actor → List Event → ℕ
 many_of a [] = 0
 many_of a (e ∷ past) = (if is_same a e.actor then 1 else 0) + many_of a past
@@ -34,16 +34,16 @@ abbrev pub EachOf : (Event → List Event → Type 0) → Actor → List Event �
 EachOf P a [] = Unit {0}
 EachOf P a (e ∷ past) = (is_same a e.actor ≡ true → P e past) × EachOf P a past
 
--- ---- what a thread may do
+-- ---- what a thread does
 
--- A thread that sees hart h after these events chooses this operation, or none: the first row that holds, with its guest's next
--- operation then.
+-- A thread that sees hart h after these events chooses this operation, or none: that of the first row that applies,
+-- with its guest's next operation then.
 pub record Chooses (o : Opening) (guests : Next) (h : ℕ) (seen : List Event) (choice : Option Op) : Type 0 where
   pub now : HartNow
   pub shows : Shows (record { opening = o; past = seen }) h now
   pub first : first_choice now (next_op guests seen h) ≡ choice
 
--- P holds after some beginning of these events, since which the actor did nothing.
+-- P holds after a prefix of these events, since which the actor made none.
 pub record Earlier (a : Actor) (past : List Event) (P : List Event → Type 0) : Type 0 where
   pub seen : List Event
   pub earlier : IsSuffix seen past
@@ -54,17 +54,17 @@ pub record Earlier (a : Actor) (past : List Event) (P : List Event → Type 0) :
 abbrev pub Picks : Opening → Next → ℕ → Op → List Event → Type 0
 Picks o guests h op seen = (is_off o seen ≡ false) × Chooses o guests h seen (Some op)
 
--- An operation is its actor's turn: a hart chose it when it last looked; for the clock it is the next tick.
+-- An operation is its actor's turn: a hart chose it when it last looked, and the clock's is its next tick.
 abbrev pub IsTurn : Opening → Next → (ticks : List ℕ) → Actor → Op → List Event → Type 0
 IsTurn o guests ticks (Hart h) op past = Earlier (Hart h) past (Picks o guests h op)
 IsTurn o guests ticks Clock op past = (n : ℕ) × (slice_get ticks (many_of Clock past) ≡ Some n) × (op ≡ Tick n)
 
--- an actor's number for a gate: a hart's id; the clock's is the number of harts
+-- an actor's number for a gate: a hart's id, or for the clock the number of harts
 abbrev pub gate_number : Config → Actor → ℕ
 gate_number c (Hart h) = h
 gate_number c Clock = c.harts
 
--- The gate allowed the event, and it was its actor's turn.
+-- The event was due: the gate allowed it, and it was its actor's turn.
 abbrev pub IsDue : (lets : ℕ → ℕ → Bool → Type 0) → Opening → Next → (ticks : List ℕ) → Actor → Event
     → List Event → Type 0
 IsDue lets o guests ticks a e past = lets (gate_number o.config a) (many_of a past) true
@@ -84,12 +84,12 @@ ChoosesNone o guests h seen = (is_off o seen ≡ true) ⊎ Chooses o guests h se
 abbrev pub IsClosed : (lets : ℕ → ℕ → Bool → Type 0) → Opening → List Event → Actor → Type 0
 IsClosed lets o past a = lets (gate_number o.config a) (many_of a past) false
 
--- An operation that was the actor's turn was refused, since the history was full.
+-- An operation that was the actor's turn was refused because the history was full.
 abbrev pub HasMetFull : Opening → Next → (ticks : List ℕ) → List Event → Actor → Type 0
 HasMetFull o guests ticks past a = (op : Op) × Earlier a past (Refuses o guests ticks a op HistoryFull)
 
--- A hart's thread had nothing to do when it last looked. The clock's thread did all ticks, or the next one was refused for
--- another reason than a full history.
+-- A hart's thread had nothing to do when it last looked. The clock's thread made all ticks, or its next tick was
+-- refused for another reason than a full history.
 abbrev pub HasNoMore : Opening → Next → (ticks : List ℕ) → List Event → Actor → Type 0
 HasNoMore o guests ticks past (Hart h) = Earlier (Hart h) past (ChoosesNone o guests h)
 HasNoMore o guests ticks past Clock =
@@ -103,8 +103,8 @@ HasStopped lets o guests ticks past a ClosedGate = IsClosed lets o past a
 HasStopped lets o guests ticks past a FullHistory = HasMetFull o guests ticks past a
 HasStopped lets o guests ticks past a Nothing = HasNoMore o guests ticks past a
 
--- The threads of a run that met this together: each event was due, each thread stopped for what it met, and one of them met
--- what all met together.
+-- The threads of a run, which met this together. Each event was due, each thread stopped for what it met, and one of
+-- them met what they all met together.
 pub record AreThreads (lets : ℕ → ℕ → Bool → Type 0) (o : Opening) (guests : Next) (ticks : List ℕ)
     (past : List Event) (met : Met) : Type 0 where
   pub due : (a : Actor) → IsActor o.config a → EachOf (IsDue lets o guests ticks a) a past

@@ -1,10 +1,10 @@
--- A hart as look-ups see it, and the harts that there are.
+-- A hart as look-ups see it, and a hart in each state (SBI 9, HSM states).
 use Rattle.std.specs.Prelude.{Option, Some, None}
 use Rattle.hsm.specs.declared.hart.HartState.{HartState}
 use Rattle.hsm.specs.declared.hart.HartState.TheVariants.{Started, Stopped, StartPending, StopPending, Suspended, SuspendPending, ResumePending}
 use Rattle.hsm.specs.declared.hart.EntryPoint.{EntryPoint}
 
--- its state, and what its pending start, or the suspend that it is in, keeps
+-- A hart's state, and the entry point that its pending start or its suspend keeps (SBI 9.1, 9.4).
 pub record Hart : Type 0 where
   pub state : HartState
   pub kept : Option EntryPoint

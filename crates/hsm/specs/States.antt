@@ -3,7 +3,7 @@ use Rattle.std.specs.Prelude.{ℕ, Bool, true, false}
 use Rattle.hsm.specs.declared.hart.HartState.{HartState}
 use Rattle.hsm.specs.declared.hart.HartState.TheVariants.{Started, Stopped, StartPending, StopPending, Suspended, SuspendPending, ResumePending}
 
--- The number of each state, as hart_get_status answers it (SBI 9, HSM states).
+-- The number of each state, as hart_get_status returns it (SBI 9, HSM states).
 abbrev pub state_number : HartState → ℕ
 state_number Started = 0
 state_number Stopped = 1
@@ -13,7 +13,7 @@ state_number Suspended = 4
 state_number SuspendPending = 5
 state_number ResumePending = 6
 
--- The states of these names (SBI 9, HSM states).
+-- Whether a hart is STARTED: it runs its guest (SBI 9, HSM states).
 abbrev pub is_started : HartState → Bool
 is_started Started = true
 is_started Stopped = false
@@ -32,7 +32,7 @@ is_stopped Suspended = false
 is_stopped SuspendPending = false
 is_stopped ResumePending = false
 
--- Whether a hart was started, and isn't entered yet.
+-- Whether a hart is START_PENDING: it was started, and hasn't begun yet (SBI 9, HSM states).
 abbrev pub is_start_pending : HartState → Bool
 is_start_pending Started = false
 is_start_pending Stopped = false
@@ -42,7 +42,7 @@ is_start_pending Suspended = false
 is_start_pending SuspendPending = false
 is_start_pending ResumePending = false
 
--- A hart is in a suspend from the call on until it is STARTED again (SBI 9.4).
+-- Whether a hart is in a suspend: from the call until it is STARTED again (SBI 9.4).
 abbrev pub is_in_suspend : HartState → Bool
 is_in_suspend Started = false
 is_in_suspend Stopped = false
@@ -52,7 +52,7 @@ is_in_suspend Suspended = true
 is_in_suspend SuspendPending = true
 is_in_suspend ResumePending = true
 
--- An interrupt or a remote fence reaches a hart that is STARTED or in a suspend, and skips it in another state (profile).
+-- Whether an interrupt or a remote fence reaches a hart: it is STARTED or in a suspend. It skips other harts (profile).
 abbrev pub is_interruptible : HartState → Bool
 is_interruptible Started = true
 is_interruptible Stopped = false
@@ -62,8 +62,8 @@ is_interruptible Suspended = true
 is_interruptible SuspendPending = true
 is_interruptible ResumePending = true
 
--- Whether the firmware's own step brings a hart further: where its state is pending, and where it is SUSPENDED and has
--- wake (SBI 9.4; that a step does it: profile).
+-- Whether the firmware can advance a hart: its state is pending, or it is SUSPENDED and has wake (SBI 9.4; that a step
+-- does it: profile).
 abbrev pub goes_on : (wake : Bool) → HartState → Bool
 goes_on wake Started = false
 goes_on wake Stopped = false

@@ -11,22 +11,22 @@ use thiserror::Error;
 pub enum HartState {
     /// The hart runs its guest.
     Started,
-    /// The hart isn't running.
+    /// The hart is at rest until another hart starts it.
     Stopped,
-    /// The hart is being started, and hasn't begun yet.
+    /// A call asked to start the hart, and it hasn't begun yet.
     StartPending,
-    /// The hart is being stopped, and hasn't come to rest yet.
+    /// The hart asked to stop itself, and isn't at rest yet.
     StopPending,
-    /// The hart sleeps until an interrupt that is enabled is pending.
+    /// The hart is suspended until an enabled interrupt is pending.
     Suspended,
-    /// The hart is being suspended, and doesn't sleep yet.
+    /// The hart asked to suspend itself, and isn't suspended yet.
     SuspendPending,
-    /// The hart was woken, and hasn't gone on yet.
+    /// An interrupt woke the hart, and it hasn't resumed yet.
     ResumePending,
 }
 
 impl HartState {
-    /// The state's number, as a call for a hart's status answers it.
+    /// The state's number, as hart_get_status returns it (SBI 9, HSM states).
     pub fn number(self) -> u64
         ensures { result ≡ state_number self }
     {
@@ -48,8 +48,8 @@ impl HartState {
         self == HartState::Started
     }
 
-    /// Whether the firmware's own step brings a hart in this state further, which needs `wake`, an enabled interrupt
-    /// that is pending, where it is SUSPENDED (SBI 9.4; that a step does it: profile).
+    /// Whether the firmware can advance a hart in this state. A SUSPENDED hart needs `wake`: an enabled interrupt is
+    /// pending (SBI 9.4; that a step does it: profile).
     pub fn goes_on(self, wake: bool) -> bool
         ensures { result ≡ goes_on wake self }
     {
@@ -80,13 +80,13 @@ impl HartState {
 /// What a start keeps until the hart begins, and a non-retentive suspend until it resumes (SBI 9.1, 9.4).
 #[derive(Clone, Copy, Debug, PartialEq, Eq)]
 pub struct EntryPoint {
-    /// Where the hart begins.
+    /// The address at which the hart begins.
     pub addr: u64,
-    /// What it is handed over in a1.
+    /// The value that the hart finds in a1.
     pub opaque: u64,
 }
 
-/// What the firmware brought a hart to.
+/// What the firmware's step did to a hart.
 #[derive(Clone, Copy, Debug, PartialEq, Eq)]
 pub enum Moved {
     /// The hart is STARTED, and begins as its start asked.
@@ -95,11 +95,11 @@ pub enum Moved {
     Resumed(EntryPoint),
     /// The hart is STARTED, and returns from the call of its retentive suspend.
     Returned,
-    /// The hart is in this state now.
+    /// The hart is now in this state.
     To(HartState),
 }
 
-/// Why a start was refused: the hart isn't STOPPED (SBI 9.1).
+/// Why a start fails: the hart isn't STOPPED (SBI 9.1).
 #[derive(Clone, Copy, Debug, PartialEq, Eq, Error)]
 #[error("already available")]
 pub struct AlreadyAvailable;

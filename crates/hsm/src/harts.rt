@@ -1,4 +1,4 @@
-//! All harts of a board: each call, and the firmware's own step, for one of them.
+//! The states of all harts of a board: what each call and the firmware's own step do to them.
 
 ghost use Rattle.std.specs.Prelude.{◌≡◌, ◌<◌, ◌≤◌, IfOk, count_by, length, option_map, is_ok, is_some, false, slice_set};
 ghost use Rattle.hsm.specs.Transitions.{advanced, changed, hart_at, hart_at_opening, opening, reset_to, started, stopped, suspended};
@@ -35,7 +35,11 @@ impl Model for Hsm {
 }
 
 impl Hsm {
-    /// The boot hart's start is pending, and the others are STOPPED. It fails where memory runs out.
+    /// The boot hart's start is pending, and the other harts are STOPPED (profile).
+    ///
+    /// # Errors
+    ///
+    /// Out of memory.
     pub fn new(
         alloc: Global,
         harts: u64,
@@ -56,7 +60,11 @@ impl Hsm {
         })
     }
 
-    /// States that are equal to these. It fails where memory runs out.
+    /// A copy of these states.
+    ///
+    /// # Errors
+    ///
+    /// Out of memory.
     pub fn try_copy(&self, alloc: Global) -> Result<Hsm, AllocError>
         ensures { IfOk result (λ copy. copy ≡ self.now) }
     {
@@ -70,8 +78,11 @@ impl Hsm {
         })
     }
 
-    /// Starts hart `t`, which is to begin at `addr` with `opaque` in a1 (SBI 9.1). A hart that isn't STOPPED is
-    /// refused, and left as it is.
+    /// Starts hart `t`: it will begin at `addr` with `opaque` in a1 (SBI 9.1).
+    ///
+    /// # Errors
+    ///
+    /// The hart isn't STOPPED. Nothing changes.
     pub fn start(&mut self, t: u64, addr: u64, opaque: u64) -> Result<(), AlreadyAvailable>
         requires { t < length self.old }
         ensures answer { is_ok result
@@ -88,7 +99,7 @@ impl Hsm {
         }
     }
 
-    /// Stops hart `h`, which is STARTED (SBI 9.2).
+    /// Stops hart `h`, which is STARTED: its stop is pending (SBI 9.2).
     pub fn stop(&mut self, h: u64)
         requires in_range { h < length self.old }
         requires running { (hart_at self.old h).state ≡ HartState.Started }
@@ -97,8 +108,8 @@ impl Hsm {
         self.put(h, Phase::StopPending);
     }
 
-    /// Suspends hart `h`, which is STARTED (SBI 9.4). A non-retentive suspend keeps `addr` and `opaque` until the hart
-    /// is STARTED again, and a retentive one keeps nothing.
+    /// Suspends hart `h`, which is STARTED: its suspend is pending (SBI 9.4). A non-retentive suspend keeps `addr` and
+    /// `opaque` until the hart is STARTED again; a retentive suspend keeps nothing.
     pub fn suspend(&mut self, h: u64, kind: SuspendKind, addr: u64, opaque: u64)
         requires in_range { h < length self.old }
         requires running { (hart_at self.old h).state ≡ HartState.Started }
@@ -108,9 +119,8 @@ impl Hsm {
         self.put(h, Phase::SuspendPending(kept));
     }
 
-    /// Brings hart `h` one state further, where its state is pending, or where it is SUSPENDED and has `wake`, an enabled
-    /// interrupt that is pending: a start is entered, a stop ends, and a suspend goes on to its sleep, its resume and its
-    /// end (SBI 9.4). In any other state nothing changes.
+    /// Advances hart `h` by one state, if its state is pending, or if it is SUSPENDED and `wake` is true: an enabled
+    /// interrupt is pending (SBI 9, HSM states). Otherwise it returns None, and nothing changes.
     pub fn advance(&mut self, h: u64, wake: bool) -> Option<Moved>
         requires { h < length self.old }
         ensures answer { result ≡ option_map (λ step. step.moved) (advanced wake (hart_at self.old h)) }
@@ -123,7 +133,7 @@ impl Hsm {
         Some(moved)
     }
 
-    /// Every hart becomes STOPPED. Then the boot hart's start is pending, if it is to begin anew (SBI 10; profile).
+    /// Every hart becomes STOPPED. Then the boot hart's start is pending if `boot` is given (SBI 10; profile).
     pub fn reset(&mut self, boot_hart: u64, boot: Option<EntryPoint>)
         requires { boot_hart < length self.old }
         ensures { self.new ≡ reset_to (length self.old) boot_hart boot }
@@ -135,7 +145,7 @@ impl Hsm {
         }
     }
 
-    /// From now on this is kept of hart `h`.
+    /// Sets the phase of hart `h`.
     fn put(&mut self, h: u64, phase: Phase)
         requires { h < length self.old }
         ensures { self.new ≡ slice_set self.old h (hart_of phase) }
@@ -156,7 +166,7 @@ impl Hsm {
         self.phases[t as usize].state()
     }
 
-    /// What hart `t` begins with, while its start is pending, or goes on with, while it is in a non-retentive suspend.
+    /// The entry point of hart `t`: of its pending start, or of the non-retentive suspend that it is in.
     pub fn kept(&self, t: u64) -> Option<EntryPoint>
         requires { t < length self.now }
         ensures kept { result ≡ (hart_at self.now t).kept }
@@ -173,7 +183,7 @@ impl Hsm {
         self.interruptible
     }
 
-    /// How many harts there are; at most 128 (profile).
+    /// The number of harts, at most 128 (profile).
     pub fn len(&self) -> u64
         ensures count { result ≡ length self.now }
         ensures limit { length self.now ≤ 128 }
@@ -181,7 +191,7 @@ impl Hsm {
         self.phases.len() as u64
     }
 
-    /// How many harts have a pending start.
+    /// The number of pending starts.
     pub fn pending_starts(&self) -> u64
         ensures { result ≡ count_by (λ hart. is_start_pending hart.state) self.now }
     {
@@ -192,7 +202,7 @@ impl Hsm {
     }
 }
 
-/// What is kept of hart `h` at the opening.
+/// The phase of hart `h` at the opening.
 fn opening_phase(boot_hart: u64, boot: EntryPoint, h: u64) -> Phase
     ensures { hart_of result ≡ hart_at_opening boot_hart boot h }
 {

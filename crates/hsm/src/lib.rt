@@ -1,4 +1,4 @@
-//! The states of a board's harts, and how calls and the firmware's own steps move them (SBI 9, HSM states).
+//! The states of a board's harts, and how calls and the firmware's own steps change them (SBI 9, HSM states).
 #![tactic(auto)]
 
 mod hart;

@@ -1,4 +1,4 @@
-//! What is kept of one hart: its state, with what that state keeps.
+//! The phase of one hart: its state, with its entry point.
 
 ghost use Rattle.std.specs.Prelude.{◌≡◌, option_map};
 ghost use Rattle.hsm.specs.Inside.Phases.{hart_of};
@@ -7,7 +7,7 @@ ghost use Rattle.hsm.specs.Transitions.{advanced, kept_by};
 use crate::hart::{EntryPoint, HartState, Moved};
 use sbi_abi::SuspendKind;
 
-/// What is kept of one hart.
+/// A hart's state, with the entry point that the state keeps.
 #[derive(Clone, Copy, Debug, PartialEq, Eq)]
 pub enum Phase {
     Started,
@@ -35,7 +35,7 @@ impl Phase {
         }
     }
 
-    /// What its pending start, or its suspend, keeps.
+    /// The entry point that its pending start or its suspend keeps.
     pub fn kept(self) -> Option<EntryPoint>
         ensures { result ≡ (hart_of self).kept }
     {
@@ -48,7 +48,7 @@ impl Phase {
         }
     }
 
-    /// The phase that the firmware's own step brings this one to, and what it tells.
+    /// The phase after the firmware's own step, and what the step did. None: the hart can't advance.
     pub fn advanced(self, wake: bool) -> Option<(Phase, Moved)>
         ensures { option_map (λ step. record { hart = hart_of step.0; moved = step.1 }) result
             ≡ advanced wake (hart_of self) }
@@ -70,7 +70,7 @@ impl Phase {
     }
 }
 
-/// What a suspend of this kind keeps of where the hart is to go on.
+/// The entry point that a suspend of this kind keeps: a retentive suspend keeps none.
 pub fn kept_by(kind: SuspendKind, kept: EntryPoint) -> Option<EntryPoint>
     ensures { result ≡ kept_by kind kept }
 {

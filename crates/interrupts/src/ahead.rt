@@ -8,18 +8,18 @@ ghost use Rattle.interrupts.specs.Inside.Ahead.{AreLater, IsFirst, IsInserted, I
 use arrayvec::ArrayVec;
 use std::marker::Model;
 
-/// How many deadlines there is room for: one of each hart, of as many as a board has at most.
+/// The room for deadlines: one for each of the 128 harts that a board has at most.
 const ROOM: usize = 128;
 
-/// A deadline in ticks, and the hart whose it is.
+/// A deadline in ticks, and its hart.
 #[derive(Clone, Copy, Debug, Default, Drop)]
 pub struct Member {
     deadline: u64,
     hart: u64,
 }
 
-/// Deadlines that aren't due yet, the soonest first. The members before `start` were taken from the front; they make
-/// room once the places are all used.
+/// Deadlines that aren't due yet, the soonest first. The members before `start` were already taken from the front;
+/// their places are used again once all places are full.
 #[derive(Debug, Drop)]
 pub struct Ahead {
     members: ArrayVec<Member, ROOM>,
@@ -64,7 +64,7 @@ impl Ahead {
         }
     }
 
-    /// One deadline more.
+    /// Inserts a deadline.
     pub fn insert(&mut self, deadline: u64, hart: u64)
         requires { length self.old < 128 }
         ensures { IsInserted (member_of deadline hart) self.old self.new }
@@ -74,7 +74,7 @@ impl Ahead {
         put(&mut self.members, place, Member { deadline, hart });
     }
 
-    /// Without the first deadline of this hart.
+    /// Removes this hart's first deadline, if it has one.
     pub fn take_out(&mut self, hart: u64)
         ensures { self.new ≡ without_hart hart self.old }
     {
@@ -83,7 +83,7 @@ impl Ahead {
         }
     }
 
-    /// Takes the first deadline out, where it isn't later than the time, and answers its hart.
+    /// Removes the first deadline if it isn't later than the time, and returns its hart.
     pub fn pop_due(&mut self, time: u64) -> Option<u64>
         ensures { MatchOption result (AreLater time self.old self.new) (λ hart. IsFirst time hart self.old self.new) }
     {
@@ -95,7 +95,7 @@ impl Ahead {
         Some(first.hart)
     }
 
-    /// No deadline any more.
+    /// Removes all deadlines.
     pub fn clear(&mut self)
         ensures { self.new ≡ [] }
     {
@@ -104,7 +104,8 @@ impl Ahead {
     }
 }
 
-/// Makes room for a member, where there is none, in the places of those that were taken from the front.
+/// Makes room for one member if all places are full, by dropping those already taken from the front. It returns the new
+/// start.
 fn with_room(members: &mut ArrayVec<Member, ROOM>, start: usize) -> usize
     requires within { start ≤ length members.old.items }
     requires some_left { length members.old.items < 128 + start }
@@ -121,7 +122,7 @@ fn with_room(members: &mut ArrayVec<Member, ROOM>, start: usize) -> usize
     0
 }
 
-/// The place for a deadline: before those that are later, and behind the others.
+/// The place for a deadline: before those that are later, and after the others.
 fn place_of(members: &[Member], start: usize, deadline: u64) -> usize
     requires { start ≤ length members.now }
     ensures { IsPlaceOf deadline start members.now result }
@@ -133,7 +134,7 @@ fn place_of(members: &[Member], start: usize, deadline: u64) -> usize
     place
 }
 
-/// Puts a member at a place, behind all of them without a move. There is room for it.
+/// Inserts a member at a place; there is room for it. At the end no member moves.
 fn put(members: &mut ArrayVec<Member, ROOM>, place: usize, member: Member)
     requires within { place ≤ length members.old.items }
     requires room { length members.old.items < 128 }
@@ -146,7 +147,7 @@ fn put(members: &mut ArrayVec<Member, ROOM>, place: usize, member: Member)
     members.insert(place, member);
 }
 
-/// The first place of a hart.
+/// The place of this hart's first deadline.
 fn place_of_hart(members: &[Member], hart: u64) -> Option<usize>
     ensures { result ≡ position (λ (member : Member). member.hart == hart) members.now }
 {

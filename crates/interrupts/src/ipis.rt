@@ -1,4 +1,4 @@
-//! Which harts have a software interrupt pending.
+//! The harts with a pending software interrupt.
 
 ghost use Rattle.std.specs.Prelude.{◌≡◌, ◌<◌, [], Ok};
 ghost use Rattle.hart_mask.specs.Ids.{IsIdSet, has, union_of, without_id};
@@ -33,7 +33,7 @@ impl Ipis {
         }
     }
 
-    /// The same bits. It takes no memory.
+    /// A copy. It allocates nothing, and never fails.
     pub fn try_copy(&self) -> Result<Ipis, AllocError>
         ensures { result ≡ Ok self.now }
     {
@@ -55,7 +55,7 @@ impl Ipis {
         self.harts.remove(h);
     }
 
-    /// SSIP of hart `h`. The harts at which it is 1 make the whole set.
+    /// SSIP of hart `h`.
     pub fn pending(&self, h: u64) -> bool
         requires { h < 128 }
         ensures answer { result ≡ has self.now h }
@@ -71,7 +71,7 @@ impl Ipis {
         self.harts
     }
 
-    /// SSIP becomes 0 at every hart, as a reset of the board asks (profile).
+    /// SSIP becomes 0 at every hart, as at a reset of the board (profile).
     pub fn reset(&mut self)
         ensures { self.new ≡ [] }
     {

@@ -1,4 +1,4 @@
-//! What is pending at a board's harts: software interrupts (SBI 7), and timer interrupts by their deadlines (SBI 6).
+//! Pending interrupts of a board's harts: software interrupts (SBI 7), and timer interrupts by their deadlines (SBI 6).
 #![tactic(auto)]
 
 mod ahead;

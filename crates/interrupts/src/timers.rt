@@ -1,4 +1,4 @@
-//! The time, each hart's deadline, and which of them are due.
+//! The time, each hart's deadline, and the harts whose deadlines are due.
 
 ghost use Rattle.std.specs.Prelude.{◌≡◌, ◌<◌, ◌≤◌, ◌-◌, ◌^◌, false, length, nat_le, IfOk, if◌then◌else◌, Some, None, is_ok, is_some, replicate, unwrap_or, vec_capacity};
 ghost use Rattle.std.specs.List.{All};
@@ -13,17 +13,17 @@ use std::alloc::{AllocError, Global};
 use std::marker::Model;
 use thiserror::Error;
 
-/// The last time that there is, in ticks: a deadline of `u64::MAX` lies after it.
+/// The last time, in ticks (profile). A deadline of `u64::MAX` lies after it.
 const LAST_TIME: u64 = u64::MAX - 1;
 
-/// Why a tick was refused: the time would go past 2^64-2 (profile).
+/// Why a tick is refused: the time would exceed 2^64-2 (profile).
 #[derive(Clone, Copy, Debug, PartialEq, Eq, Error)]
 #[error("the time would go past its end")]
 pub struct TimeFull;
 
-/// The time in ticks, and the deadlines of a board's harts, by their ids (SBI 6). Beside them those that aren't due yet
-/// are kept in order, and the harts whose deadlines are due as a set, so that time that goes on looks at what comes due
-/// alone.
+/// The time in ticks, and the deadlines of a board's harts, by their ids (SBI 6). A second list keeps the deadlines
+/// that aren't due yet in order, and a set keeps the harts whose deadlines are due. So a tick visits only the deadlines
+/// that come due, and the next.
 #[derive(Debug, Drop)]
 pub struct Timers {
     time: u64,
@@ -67,7 +67,11 @@ impl Timers {
         })
     }
 
-    /// A time and deadlines that are equal to these. It fails where memory runs out.
+    /// A copy.
+    ///
+    /// # Errors
+    ///
+    /// Out of memory.
     pub fn try_copy(&self, alloc: Global) -> Result<Timers, AllocError>
         ensures { IfOk result (λ copy. copy ≡ self.now) }
     {
@@ -83,8 +87,8 @@ impl Timers {
         })
     }
 
-    /// The deadline of hart `h` becomes this time in ticks, whatever it was (SBI 6.1). Afterwards its timer
-    /// interrupt is pending exactly where the new deadline is due.
+    /// Sets the deadline of hart `h`, in ticks, whatever it was (SBI 6.1). Afterwards its timer interrupt is pending if
+    /// and only if the new deadline is due.
     pub fn set(&mut self, h: u64, deadline: u64)
         requires { h < length self.old.deadlines }
         ensures after { self.new ≡ with_deadline self.old h (Some deadline) }
@@ -99,7 +103,7 @@ impl Timers {
         }
     }
 
-    /// Hart `h` has no deadline any more (profile).
+    /// Removes the deadline of hart `h` (profile).
     pub fn forget(&mut self, h: u64)
         requires { h < length self.old.deadlines }
         ensures { self.new ≡ with_deadline self.old h None }
@@ -110,7 +114,7 @@ impl Timers {
         self.deadlines[h as usize] = None;
     }
 
-    /// The deadline of hart `h` in ticks, if it has one.
+    /// The deadline of hart `h`, in ticks, if it has one.
     pub fn deadline(&self, h: u64) -> Option<u64>
         requires { h < length self.now.deadlines }
         ensures { result ≡ deadline_of self.now h }
@@ -135,7 +139,11 @@ impl Timers {
         self.deadlines[h as usize].is_some_and(|deadline| deadline > self.time)
     }
 
-    /// The time goes on by `n` ticks. Past 2^64-2 that is refused, and nothing changes.
+    /// The time advances by `n` ticks.
+    ///
+    /// # Errors
+    ///
+    /// It would exceed 2^64-2 (profile). Nothing changes.
     pub fn tick(&mut self, n: u64) -> Result<(), TimeFull>
         ensures answer { is_ok result ≡ is_some (ticked self.old n) }
         ensures after { self.new ≡ unwrap_or (ticked self.old n) self.old }
@@ -156,14 +164,14 @@ impl Timers {
         self.time
     }
 
-    /// How many harts there are.
+    /// The number of harts.
     pub fn len(&self) -> u64
         ensures { result ≡ length self.now.deadlines }
     {
         self.deadlines.len() as u64
     }
 
-    /// No hart has a deadline any more, as a reset of the board asks, and the time goes on (profile).
+    /// Removes all deadlines, as at a reset of the board. The time stays (profile).
     pub fn reset(&mut self)
         ensures { self.new ≡ without_deadlines self.old }
     {
@@ -173,7 +181,11 @@ impl Timers {
     }
 }
 
-/// So many harts, none of which has a deadline, in the room that they take. It fails where memory runs out.
+/// No deadline for each of so many harts, in exactly the room that they need.
+///
+/// # Errors
+///
+/// Out of memory.
 fn no_deadlines(alloc: Global, harts: u64) -> Result<Vec<Option<u64>>, AllocError>
     ensures items { IfOk result (λ deadlines. deadlines.items ≡ replicate harts None) }
     ensures room { IfOk result (λ deadlines. vec_capacity deadlines ≡ harts) }
@@ -185,7 +197,7 @@ fn no_deadlines(alloc: Global, harts: u64) -> Result<Vec<Option<u64>>, AllocErro
     Ok(deadlines)
 }
 
-/// Takes out the deadline of hart `h`, where it is in the list.
+/// Removes the deadline of hart `h` if it is in the list, which `is_ahead` says.
 fn take_out_where(ahead: &mut Ahead, h: u64, is_ahead: bool)
     ensures { ahead.new ≡ (if is_ahead then without_hart h ahead.old else ahead.old) }
 {
@@ -194,7 +206,7 @@ fn take_out_where(ahead: &mut Ahead, h: u64, is_ahead: bool)
     }
 }
 
-/// The deadlines that are due by this time leave the list, and their harts come into the set.
+/// Moves the harts of the deadlines that are due at this time from the list to the set.
 fn move_due(ahead: &mut Ahead, due: &mut HartSet, time: u64)
     requires { All (λ (member : Member). member.hart < 128) ahead.old }
     ensures left { ahead.new ≡ left_after time ahead.old }

@@ -7,7 +7,7 @@ use Rattle.std.specs.Str.Parse.{IsNumeral, digits_value}
 abbrev pub is_blank : ℕ → Bool
 is_blank b = (b == 32) || (b == 9)
 
--- printable ASCII, or a tab
+-- whether a line can have this byte: printable ASCII, or a tab
 abbrev pub is_allowed : ℕ → Bool
 is_allowed b = (nat_le 32 b && nat_le b 126) || (b == 9)
 
@@ -23,24 +23,24 @@ IsGap gap = AllByRecursion (λ b. IsTrue (is_blank b)) gap
 abbrev pub IsWord : List ℕ → Type 0
 IsWord word = (word ≢ []) × AllByRecursion (λ b. IsFalse (is_blank b)) word
 
--- what follows a word: nothing, or a blank first
+-- a text after a word: empty, or with a blank first
 abbrev pub IsApart : List ℕ → Type 0
 IsApart [] = Unit {0}
 IsApart (b ∷ text) = IsTrue (is_blank b)
 
--- a text that is these words, with a gap before each, at the end, and between each two at least one blank
+-- a text of these words, with any blanks before and after them, and at least one blank between two
 abbrev pub Spaces : List ℕ → List (List ℕ) → Type 0
 Spaces text [] = IsGap text
 Spaces text (word ∷ words) =
     (gap : List ℕ) × (rest : List ℕ) × IsGap gap × IsWord word × (text ≡ gap ++ (word ++ rest)) × IsApart rest
     × Spaces rest words
 
--- nothing, or what a `#` begins
+-- a comment: empty, or a text that begins with `#`
 abbrev pub IsComment : List ℕ → Type 0
 IsComment [] = Unit {0}
 IsComment (b ∷ text) = IsTrue (is_hash b)
 
--- A line's text is words under any spacing, and then a comment.
+-- A line's text: words with any spacing, and then a comment.
 pub record IsLine (text : List ℕ) (words : List (List ℕ)) : Type 0 where
   pub body : List ℕ
   pub comment : List ℕ
@@ -58,7 +58,7 @@ Spells word n =
     (IsNumeral 10 word × (n ≡ digits_value 10 word))
     ⊎ ((digits : List ℕ) × (word ≡ codes "0x" ++ digits) × IsNumeral 16 digits × (n ≡ digits_value 16 digits))
 
--- a number no larger than its place allows
+-- a word that spells n, which is at most the limit
 abbrev pub IsNumber : (limit : ℕ) → List ℕ → ℕ → Type 0
 IsNumber limit word n = (n ≤ limit) × Spells word n
 
@@ -68,7 +68,7 @@ AreNumbers limit words ns = AllZip (IsNumber limit) words ns
 
 -- ---- signed numbers
 
--- the largest magnitude of a signed number: below 0, and from 0 on
+-- the largest magnitude of a signed number: of a negative one (`last_below`), and of any other (`last_above`)
 abbrev pub last_below : ℕ
 last_below = 2 ^ 63
 

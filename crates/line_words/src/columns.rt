@@ -1,18 +1,18 @@
-//! Where in a line something stands: how many of its bytes there are from there on, and the column.
+//! Positions in a line: as the number of bytes from there to the end, and as a column.
 use crate::text::is_allowed;
 use crate::words::next_word;
 
-/// The column of the byte from which on there are so many.
+/// The column, from 1, of the byte from which on `left` bytes are left.
 pub fn column(text: &[u8], left: usize) -> u64 {
     (text.len().saturating_sub(left) as u64).saturating_add(1)
 }
 
-/// How many bytes there are from a word on, behind which these stand.
+/// The number of bytes from a word to the end, if these bytes follow the word.
 pub fn from_word(word: &[u8], after: &[u8]) -> usize {
     word.len().saturating_add(after.len())
 }
 
-/// How many bytes there are from the next word on; none behind the last.
+/// The number of bytes from the next word to the end; after the last word, that of the rest.
 pub fn from_next(text: &[u8]) -> usize {
     match next_word(text) {
         Some((word, after)) => from_word(word, after),
@@ -20,7 +20,7 @@ pub fn from_next(text: &[u8]) -> usize {
     }
 }
 
-/// How many bytes there are from the first on that may not stand in a script.
+/// The number of bytes from the first byte that a script can't have to the end; 0 if all are allowed.
 pub fn from_bad_byte(text: &[u8]) -> usize {
     for (i, byte) in text.iter().enumerate() {
         if !is_allowed(*byte) {

@@ -1,17 +1,17 @@
-//! Numbers as they are written.
+//! Numbers, as words spell them.
 ghost use Rattle.std.specs.Prelude.{◌≡◌, ◌≤◌, neg_ℤ, pos, IfSome};
 ghost use Rattle.std.specs.Char.{digit_value};
 ghost use Rattle.line_words.specs.Words.{last_below};
 ghost use Rattle.line_words.specs.Values.{digit_after, number_in, signed_in};
 ghost use Rattle.line_words.specs.Inside.Scanning.{decimal_in, numeral_of, spelled_of};
 
-/// How far a signed number may be below 0.
+/// The largest magnitude of a negative number.
 pub const LAST_BELOW: u64 = 1 << 63;
 
 /// The largest signed number.
 pub const LAST_ABOVE: u64 = LAST_BELOW - 1;
 
-/// The value of each byte as a digit: up to 35 for a digit or a letter, and 36 for any other.
+/// The value of each byte as a digit: at most 35 for a digit or a letter, and 36 for any other byte.
 static DIGIT_VALUES: [u8; 256] = [
     36, 36, 36, 36, 36, 36, 36, 36, 36, 36, 36, 36, 36, 36, 36, 36, 36, 36, 36, 36, 36, 36, 36, 36,
     36, 36, 36, 36, 36, 36, 36, 36, 36, 36, 36, 36, 36, 36, 36, 36, 36, 36, 36, 36, 36, 36, 36, 36,
@@ -26,7 +26,7 @@ static DIGIT_VALUES: [u8; 256] = [
     36, 36, 36, 36, 36, 36, 36, 36, 36, 36, 36, 36, 36, 36,
 ];
 
-/// The number that a word spells, if it is at most `limit`.
+/// The number that a word spells (decimal digits, or `0x` and hexadecimal digits), if it is at most `limit`.
 #[tactic(auto, using(crate::proofs::Numerals::of_spelled))]
 pub fn number(word: &[u8], limit: u64) -> Option<u64>
     ensures within { IfSome result (λ n. n ≤ limit) }
@@ -49,7 +49,7 @@ fn spelled(word: &[u8]) -> Option<u64>
     }
 }
 
-/// The signed number that a word spells, if there is one.
+/// The signed number that a word spells (decimal digits, with or without a `-`), if it fits into 64 bits.
 #[tactic(auto, unfolding(crate::specs::Values::signed_in, crate::specs::Inside::Scanning::decimal_in))]
 pub fn signed_number(word: &[u8]) -> Option<i64>
     ensures { result ≡ signed_in word.now }
@@ -72,7 +72,7 @@ fn decimal(digits: &[u8], limit: u64) -> Option<u64>
     }
 }
 
-/// The number below 0 by so much.
+/// The number -n.
 pub fn below_zero(n: u64) -> i64
     requires { n ≤ last_below }
     ensures { result ≡ neg_ℤ (pos n) }
@@ -80,7 +80,7 @@ pub fn below_zero(n: u64) -> i64
     if n == 0 { 0 } else { -1 - (n - 1) as i64 }
 }
 
-/// The number that the digits spell, of which there is at least one.
+/// The number that one digit or more spell in this radix, if it is below 2^64.
 fn numeral(digits: &[u8], radix: u32) -> Option<u64>
     requires low { 2 ≤ radix }
     requires high { radix ≤ 36 }
@@ -96,7 +96,8 @@ fn numeral(digits: &[u8], radix: u32) -> Option<u64>
     Some(n)
 }
 
-/// The number whose digits are those of `n` and one more.
+/// The number whose digits are those of `n` and one more, if that is a digit of this radix and the number is below
+/// 2^64.
 #[inline(always)]
 #[tactic(auto, unfolding(crate::specs::Values::digit_after))]
 pub fn push_digit(n: u64, digit: u8, radix: u32) -> Option<u64>

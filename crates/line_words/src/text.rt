@@ -1,4 +1,4 @@
-//! Lines of bytes, and the bytes that a line may have.
+//! Lines of bytes, and the bytes that a line can have.
 ghost use Rattle.std.specs.Prelude.{◌≡◌, ◌∷◌, ◌<◌, ◌≤◌, ◌^◌, ◌==◌, length};
 ghost use Rattle.std.specs.List.{list_all, position};
 ghost use Rattle.std.specs.Str.Lines.{lines, strip_carriage_return};
@@ -16,7 +16,7 @@ pub fn next_line(bytes: &[u8]) -> (&[u8], &[u8])
     }
 }
 
-/// Where the first line ends: at its line feed, if it has one.
+/// The place of the line feed that ends the first line, if there is one.
 fn line_end(bytes: &[u8]) -> Option<usize>
     ensures { result ≡ position (λ b. b == 10) bytes.now }
 {
@@ -44,7 +44,7 @@ pub fn is_clean(text: &[u8]) -> bool
     clean
 }
 
-/// Whether a byte may stand in a script, comments aside.
+/// Whether a script's line can have this byte: printable ASCII, or a tab.
 pub fn is_allowed(byte: u8) -> bool
     ensures { result ≡ is_allowed byte }
 {

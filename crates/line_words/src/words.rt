@@ -1,10 +1,10 @@
-//! Words of a line, and the arrow before what was given.
+//! Words of a line, and the arrow `->` before a reply.
 ghost use Rattle.std.specs.Prelude.{◌≡◌, ◌∷◌, [], ◌<◌, ◌≤◌, IsFalse, MatchOption, IfSome, length};
 ghost use Rattle.line_words.specs.Words.{is_blank};
 ghost use Rattle.line_words.specs.Values.{after_arrow, has_arrow, is_arrow, words_in, words_until};
 ghost use Rattle.line_words.specs.Inside.Scanning.{begins_blank, is_word_end, word_length};
 
-/// The first word of a text, and what follows it.
+/// The first word of a text, and the text after it. None: there is no word before the comment.
 #[tactic(auto, using(crate::proofs::WordsIn::word_length_le, crate::proofs::WordsIn::words_in_word, crate::proofs::WordsIn::words_in_none))]
 pub fn next_word(text: &[u8]) -> Option<(&[u8], &[u8])>
     ensures words { MatchOption result (words_in text.now ≡ [])
@@ -16,7 +16,7 @@ pub fn next_word(text: &[u8]) -> Option<(&[u8], &[u8])>
     if n == 0 { None } else { Some(from.split_at(n)) }
 }
 
-/// The first word of a text that isn't an arrow where words end at the first arrow, and what follows it.
+/// The first word of a text, and the text after it. With `until_arrow`, the words end at the first arrow.
 pub fn next_word_until(text: &[u8], until_arrow: bool) -> Option<(&[u8], &[u8])>
     ensures words { MatchOption result (words_until until_arrow (words_in text.now) ≡ [])
         (λ found. words_until until_arrow (words_in text.now)
@@ -59,21 +59,21 @@ pub fn after_arrow(text: &[u8]) -> &[u8]
     rest
 }
 
-/// Whether a word is the arrow before what was given.
+/// Whether a word is the arrow before a reply.
 fn is_arrow(word: &[u8]) -> bool
     ensures { result ≡ is_arrow word.now }
 {
     word == b"->".as_slice()
 }
 
-/// Whether a byte parts words.
+/// Whether a byte separates words: a blank or a tab.
 fn is_blank(byte: u8) -> bool
     ensures { result ≡ is_blank byte }
 {
     byte == b' ' || byte == b'\t'
 }
 
-/// Whether a byte ends a word: a blank, or the one that begins a comment.
+/// Whether a byte ends a word: a blank, a tab, or the `#` of a comment.
 fn is_word_end(byte: u8) -> bool
     ensures { result ≡ is_word_end byte }
 {
@@ -95,7 +95,7 @@ fn skip_gap(text: &[u8]) -> &[u8]
     &text[text.len()..]
 }
 
-/// How many bytes the word has that a text begins with.
+/// The number of bytes of the word that a text begins with.
 fn word_len(text: &[u8]) -> usize
     ensures { result ≡ word_length text.now }
 {

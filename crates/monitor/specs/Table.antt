@@ -46,7 +46,7 @@ abbrev pub deadline_cell : Option ℕ → List ℕ
 deadline_cell (Some deadline) = hex16 deadline
 deadline_cell None = replicate 16 45
 
--- how many harts a fence call waits for, or a dash outside of a call
+-- the number of harts that a fence call waits for, or a dash without a call
 abbrev pub outstanding_cell : Option (List ℕ) → List ℕ
 outstanding_cell (Some harts) = right 3 (decimal (length harts))
 outstanding_cell None = right 3 (codes "-")
@@ -61,7 +61,7 @@ abbrev pub shown_reset : Option Reset → List (List ℕ)
 shown_reset None = codes "none" ∷ []
 shown_reset (Some reset) = hex_column 8 (reset_kind_number reset.kind) ∷ hex_column 8 reset.reason ∷ []
 
--- the time, the count of events since the opening, the power, and the last reset
+-- the time, the number of events since the opening, the power, and the last reset
 unfoldable pub time_cells : Opening → List Event → List (List ℕ)
 time_cells o past =
     codes "#"
@@ -81,7 +81,7 @@ totals_cells t =
     ∷ codes "waiting" ∷ decimal t.waiting
     ∷ []
 
--- the heads of a hart's columns, each as wide as its column
+-- the heads of the columns, each as wide as its column
 unfoldable pub head_cells : List (List ℕ)
 head_cells =
     codes "#"
@@ -99,15 +99,15 @@ head_cells =
     ∷ codes "ic"
     ∷ []
 
--- the items of fills, newest first, in the order of filling
+-- the items of fills that are listed newest first, oldest first
 abbrev pub in_order : {E : Type 0} → List (Numbered E) → List E
 in_order fills = reverse (map (λ fill. fill.item) fills)
 
--- the live entries of a hart's TLB, in the order of filling
+-- the live entries of a hart's TLB, oldest first
 abbrev pub tlb_entries : Opening → List Event → ℕ → List Entry
 tlb_entries o past h = in_order (caches_of o past h).tlb.live
 
--- the live words of a hart's instruction cache, in the order of filling
+-- the live words of a hart's instruction cache, oldest first
 abbrev pub words : Opening → List Event → ℕ → List FetchWord
 words o past h = in_order (caches_of o past h).words.live
 
@@ -129,7 +129,7 @@ hart_cells o past h =
     ∷ right 2 (decimal (length (words o past h)))
     ∷ []
 
--- what the firmware keeps for a hart's entry
+-- a hart's entry point
 unfoldable pub entry_cells : ℕ → EntryPoint → List (List ℕ)
 entry_cells h start = codes "#" ∷ codes "entry" ∷ right 3 (decimal h) ∷ hex16 start.addr ∷ hex16 start.opaque ∷ []
 
@@ -149,7 +149,7 @@ abbrev pub rights : Entry → List ℕ
 rights entry = letter entry.leaf.r 114 ∷ letter entry.leaf.w 119 ∷ letter entry.leaf.x 120 ∷ letter entry.leaf.d 100
     ∷ []
 
--- a TLB's entry: its page, level, ASID, whether it is global, the physical page, and the rights
+-- a TLB entry: its page, its level, its ASID, whether it is global, the physical page, and the rights
 unfoldable pub tlb_cells : ℕ → Entry → List (List ℕ)
 tlb_cells h entry =
     codes "#"
@@ -173,22 +173,22 @@ tlb_line h entry = as_line (tlb_cells h entry)
 abbrev pub word_line : ℕ → FetchWord → List ℕ
 word_line h fetched = as_line (word_cells h fetched)
 
--- the addresses of a fence: all, or a range by its start and its size
+-- the range of a fence: all addresses, or its start and its size
 abbrev pub shown_range : Option Range → List (List ℕ)
 shown_range None = codes "full" ∷ []
 shown_range (Some range) = hex16 range.start ∷ hex16 range.size ∷ []
 
--- the address space of a fence, if it has one
+-- the ASID of a fence, if it has one
 abbrev pub asid_words : Option ℕ → List (List ℕ)
 asid_words None = []
 asid_words (Some asid) = codes "asid" ∷ hex_column 4 asid ∷ []
 
--- what a fence drops: the fetched words, or translations
+-- what a fence drops: fetched words, or translations
 abbrev pub shown_flush : Flush → List (List ℕ)
 shown_flush Words = codes "i" ∷ []
 shown_flush (Entries fence) = codes "vma" ∷ (shown_range fence.range ++ asid_words fence.asid)
 
--- a fence that waits at a hart, and the hart that asked it
+-- a fence that waits at a hart, with the hart that asked it
 unfoldable pub fence_cells : ℕ → Request Flush → List (List ℕ)
 fence_cells h request =
     codes "#" ∷ codes "fence" ∷ right 3 (decimal h) ∷ codes "from" ∷ right 3 (decimal request.from)
@@ -197,8 +197,8 @@ fence_cells h request =
 abbrev pub fence_line : ℕ → Request Flush → List ℕ
 fence_line h request = as_line (fence_cells h request)
 
--- the lines that follow the rows for a hart: what is kept for it, the entries of its TLB, its fetched words, and the
--- fences that wait at it
+-- the lines after the rows of a hart: its entry point, its live TLB entries and fetched words, and the fences that wait
+-- there
 abbrev pub details : Opening → List Event → ℕ → List ℕ
 details o past h =
     entry_line h (kept o past h)
@@ -206,8 +206,8 @@ details o past h =
     ++ (flat_map (word_line h) (words o past h)
     ++ flat_map (fence_line h) (waiting o past h)))
 
--- The table of a board with this opening and past: the time, the totals, the heads of the columns, and a row for each hart;
--- then, hart by hart, what is kept for it, what its caches have, and the fences that wait at it.
+-- The table of a board with this opening and past: the time, the totals, the column heads, and a row for each hart.
+-- Then, hart by hart, the entry point, the live items of the caches, and the waiting fences.
 abbrev pub table : Opening → List Event → List ℕ
 table o past =
     as_line (time_cells o past)

@@ -8,6 +8,10 @@ use printed_lines::{Failed, Sink, print_line};
 use script_lines::Doing;
 
 /// Prints the line of an accepted step.
+///
+/// # Errors
+///
+/// A write failed.
 pub fn print_event<W: Sink>(event: &Event, sink: &mut W) -> Result<(), Failed>
     requires { W.failures sink.old < 2 ^ 63 }
     ensures { Puts W.written W.failures sink.old sink.new result

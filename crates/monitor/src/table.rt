@@ -14,7 +14,11 @@ use hart_mask::HartSet;
 use printed_lines::{Failed, LineText, Sink, bit_of};
 use tlb_model::{Flush, Range};
 
-/// Prints the board's table, of lines that are comments in a script.
+/// Prints the board's table. Its lines are comments in a script.
+///
+/// # Errors
+///
+/// A write failed.
 pub fn print<W: Sink>(board: &Board, sink: &mut W) -> Result<(), Failed>
     requires { W.failures sink.old < 2 ^ 63 }
     ensures { Puts W.written W.failures sink.old sink.new result
@@ -39,7 +43,7 @@ fn print_rows<W: Sink>(board: &Board, sink: &mut W) -> Result<(), Failed>
     Ok(())
 }
 
-/// Prints what follows the rows: of each hart what it keeps, holds in its caches, and what waits at it.
+/// Prints the lines after the rows: each hart's entry point, live items of its caches, and waiting fences.
 fn print_details<W: Sink>(board: &Board, sink: &mut W) -> Result<(), Failed>
     requires { W.failures sink.old < 2 ^ 63 }
     ensures { Puts W.written W.failures sink.old sink.new result
@@ -51,7 +55,7 @@ fn print_details<W: Sink>(board: &Board, sink: &mut W) -> Result<(), Failed>
     Ok(())
 }
 
-/// Prints the lines that follow the rows for hart `h`.
+/// Prints the lines after the rows of hart `h`.
 fn print_hart<W: Sink>(board: &Board, h: u64, sink: &mut W) -> Result<(), Failed>
     requires failures { W.failures sink.old < 2 ^ 63 }
     requires is_hart { h < board.now.opening.config.harts }
@@ -63,7 +67,7 @@ fn print_hart<W: Sink>(board: &Board, h: u64, sink: &mut W) -> Result<(), Failed
     print_fences(board, h, sink)
 }
 
-/// Prints what is live in a hart's TLB.
+/// Prints the live entries of a hart's TLB.
 fn print_tlb<W: Sink>(board: &Board, h: u64, sink: &mut W) -> Result<(), Failed>
     requires failures { W.failures sink.old < 2 ^ 63 }
     requires is_hart { h < board.now.opening.config.harts }
@@ -76,7 +80,7 @@ fn print_tlb<W: Sink>(board: &Board, h: u64, sink: &mut W) -> Result<(), Failed>
     Ok(())
 }
 
-/// Prints which fetched words are live at a hart.
+/// Prints the live words of a hart's instruction cache.
 fn print_fetched<W: Sink>(board: &Board, h: u64, sink: &mut W) -> Result<(), Failed>
     requires failures { W.failures sink.old < 2 ^ 63 }
     requires is_hart { h < board.now.opening.config.harts }
@@ -102,7 +106,7 @@ fn print_fences<W: Sink>(board: &Board, h: u64, sink: &mut W) -> Result<(), Fail
     Ok(())
 }
 
-/// Prints what a hart keeps for its entry, if it keeps something.
+/// Prints a hart's entry point, if it has one.
 fn print_entry<W: Sink>(h: u64, kept: Option<EntryPoint>, sink: &mut W) -> Result<(), Failed>
     requires { W.failures sink.old < 2 ^ 63 }
     ensures { Puts W.written W.failures sink.old sink.new result (entry_line h kept) }
@@ -181,7 +185,7 @@ fn totals_line(totals: &Totals) -> LineText
     line
 }
 
-/// The line of the columns' heads.
+/// The line of the column heads.
 #[tactic(auto, unfolding(crate::specs::Table::head_cells))]
 fn columns_line() -> LineText
     ensures text { result ≡ with_words [] (head_cells) }
@@ -230,7 +234,7 @@ fn hart_line(board: &Board, h: u64) -> LineText
     line
 }
 
-/// How many entries are live in a hart's TLB.
+/// The number of live entries in a hart's TLB.
 fn entry_count(board: &Board, h: u64) -> u64
     requires { h < board.now.opening.config.harts }
     ensures { result ≡ length (tlb_entries board.now.opening board.now.past h) }
@@ -238,7 +242,7 @@ fn entry_count(board: &Board, h: u64) -> u64
     board.tlb(h).len() as u64
 }
 
-/// How many fetched words are live at a hart.
+/// The number of live words in a hart's instruction cache.
 fn word_count(board: &Board, h: u64) -> u64
     requires { h < board.now.opening.config.harts }
     ensures { result ≡ length (words board.now.opening board.now.past h) }
@@ -246,7 +250,7 @@ fn word_count(board: &Board, h: u64) -> u64
     board.fetched(h).len() as u64
 }
 
-/// Appends how many harts a fence call waits for, or a dash outside of a call.
+/// Appends the number of harts that a fence call waits for, or a dash without a call.
 fn outstanding_onto(line: &mut LineText, harts: Option<HartSet>)
     requires { length line.old + decimal_room ≤ line_room }
     ensures text { line.new ≡ line.old ++ 32 ∷ outstanding_cell harts }
@@ -258,7 +262,7 @@ fn outstanding_onto(line: &mut LineText, harts: Option<HartSet>)
     }
 }
 
-/// Appends a deadline, or dashes where there is none.
+/// Appends a deadline, or dashes if there is none.
 fn deadline_onto(line: &mut LineText, deadline: Option<u64>)
     requires { length line.old + hex_column_work ≤ line_room }
     ensures text { line.new ≡ line.old ++ 32 ∷ deadline_cell deadline }
@@ -270,7 +274,7 @@ fn deadline_onto(line: &mut LineText, deadline: Option<u64>)
     }
 }
 
-/// The line of what a hart keeps for its entry.
+/// The line of a hart's entry point.
 #[tactic(auto, unfolding(crate::specs::Table::entry_cells))]
 fn entry_line(h: u64, start: &EntryPoint) -> LineText
     ensures text { result ≡ with_words [] (entry_cells h start.now) }
@@ -307,7 +311,7 @@ fn tlb_line(h: u64, entry: &Entry) -> LineText
     line
 }
 
-/// The rights of an entry's page, a letter each.
+/// The rights of an entry's page, one letter each.
 fn rights(entry: &Entry) -> [u8; 4]
     ensures { result ≡ rights entry.now }
 {
@@ -320,7 +324,7 @@ fn rights(entry: &Entry) -> [u8; 4]
     ]
 }
 
-/// A letter, or a dash where what it stands for is absent.
+/// A letter, or a dash if it doesn't apply.
 fn letter(present: bool, byte: u8) -> u8
     ensures { result ≡ letter present byte }
 {
@@ -343,7 +347,7 @@ fn word_line(h: u64, fetched: &FetchWord) -> LineText
     line
 }
 
-/// The line of a fence that waits.
+/// The line of a waiting fence.
 #[tactic(auto, unfolding(crate::specs::Table::fence_cells))]
 fn fence_line(h: u64, request: &Request<Flush>) -> LineText
     ensures text { result ≡ with_words [] (fence_cells h request.now) }
@@ -377,7 +381,7 @@ fn flush_onto(line: &mut LineText, flush: Flush)
     }
 }
 
-/// Appends the addresses of a fence.
+/// Appends the range of a fence.
 fn range_onto(line: &mut LineText, range: Option<Range>)
     requires { length line.old ≤ fence_room + 4 }
     ensures text { line.new ≡ with_words line.old (shown_range range) }
@@ -393,7 +397,7 @@ fn range_onto(line: &mut LineText, range: Option<Range>)
     }
 }
 
-/// Appends the address space of a fence, if it has one.
+/// Appends the ASID of a fence, if it has one.
 fn asid_onto(line: &mut LineText, asid: Option<u16>)
     requires { length line.old ≤ fence_room + 4 + 2 * hex_column_room }
     ensures text { line.new ≡ with_words line.old (asid_words asid) }

@@ -1,16 +1,16 @@
--- Columns of a table.
+-- Columns of a table (profile).
 use Rattle.std.specs.Prelude.{ℕ, ◌-◌, List, ◌++◌, length, replicate, false}
 use Rattle.std.specs.Fmt.{digits}
 
--- a text after as many of these bytes as fill the width
+-- a text, with as many of these bytes before it as fill the width
 abbrev pub padded : (width byte : ℕ) → List ℕ → List ℕ
 padded width byte text = replicate (width - length text) byte ++ text
 
--- a text at the right, or at the left, of a column of this width
+-- A text, right-aligned in a column of this width.
 abbrev pub right : (width : ℕ) → List ℕ → List ℕ
 right width text = padded width 32 text
 
--- A text at the left of a column of this width.
+-- A text, left-aligned in a column of this width.
 abbrev pub left : (width : ℕ) → List ℕ → List ℕ
 left width text = text ++ replicate (width - length text) 32
 

@@ -1,7 +1,7 @@
--- A line under way, and how much room its parts take.
+-- A line under composition, and the room that its parts take, in bytes.
 use Rattle.std.specs.Prelude.{ℕ, ◌+◌, ◌*◌, List, [], ◌∷◌, ◌++◌}
 
--- the line, and then each of the words after a blank
+-- the line, followed by each word after a blank
 abbrev pub with_words : List ℕ → List (List ℕ) → List ℕ
 with_words line [] = line
 with_words line (word ∷ words) = with_words (line ++ 32 ∷ word) words
@@ -62,6 +62,6 @@ fence_room = 13 + 2 * decimal_room
 abbrev pub flush_room : ℕ
 flush_room = 9 + 3 * hex_column_room
 
--- the longest answer: `entry`, an address, a hart and an opaque value
+-- the longest reply: `entry`, an address, a hart and an opaque value
 abbrev pub reply_room : ℕ
 reply_room = 6 + hex_room + decimal_room + hex_room

@@ -1,8 +1,8 @@
--- What holds of a sink after writes (profile).
+-- Sinks after writes (profile).
 use Rattle.std.specs.Prelude.{◌≡◌, ℕ, ◌<◌, List, ◌++◌, Option, Result, MatchResult, length}
 use Rattle.std.specs.Io.KnownBytes.{Appends}
 
--- How a write that took n bytes of a piece counts: taking none of a non-empty piece is one more failed call.
+-- How a write that took n bytes of a piece counts. Taking none of a non-empty piece is a failed call.
 pub record CountsTaken (old new n : ℕ) (piece : List ℕ) : Type 0 where
   pub some : 0 < n → new ≡ old
   pub nothing_to_take : length piece ≡ 0 → new ≡ old
@@ -12,13 +12,14 @@ pub record CountsTaken (old new n : ℕ) (piece : List ℕ) : Type 0 where
 abbrev pub CountsWrite : {E : Type 0} → (old new : ℕ) → Result ℕ E → List ℕ → Type 0
 CountsWrite old new result piece = MatchResult result (λ n. CountsTaken old new n piece) (λ _. old < new)
 
--- A text was written to a sink: the sink took exactly it, and no call failed. Otherwise a call failed.
+-- Ok: the sink took exactly this text, and no call failed. Err: a call failed.
 abbrev pub Puts : {W T E : Type 0} → (W → Option (List ℕ)) → (W → ℕ) → W → W → Result T E → List ℕ → Type 0
 Puts written failures old new result text = MatchResult result
     (λ _. Appends (written old) (written new) text × (failures new ≡ failures old))
     (λ _. failures old < failures new)
 
--- A text was appended to what waits for a sink: the sink took a beginning of both, and the rest waits. Otherwise a call failed.
+-- Ok: the text was appended to the waiting bytes; the sink took a prefix of both, and the rest waits. Err: a call
+-- failed.
 abbrev pub Passes : {W T E : Type 0} → (W → Option (List ℕ)) → (W → ℕ) → W → W → Result T E
     → (waiting later text : List ℕ) → Type 0
 Passes written failures old new result waiting later text = MatchResult result

@@ -1,4 +1,4 @@
--- The printed lines as words, which one blank parts (profile).
+-- The printed lines as words, separated by one blank (profile).
 use Rattle.std.specs.Prelude.{ℕ, List, [], ◌∷◌, ◌++◌, map, codes, decimal, Bool, false, if◌then◌else◌, Option, Some, None, Result}
 use Rattle.std.specs.Fmt.{digits, signed_decimal}
 use Rattle.std.specs.List.{join_with_byte}
@@ -29,12 +29,12 @@ abbrev pub actor_word : Actor → List ℕ
 actor_word (Hart h) = decimal h
 actor_word Clock = codes "c"
 
--- a number that may be absent, and then is a dash
+-- a number, or a dash if it is absent
 abbrev pub hex_or_dash : Option ℕ → List ℕ
 hex_or_dash (Some n) = hex n
 hex_or_dash None = codes "-"
 
--- the words behind an operation's name
+-- the words after an operation's name
 abbrev pub argument_words : Op → List (List ℕ)
 argument_words (Ecall regs) = hex regs.eid ∷ hex regs.fid ∷ map hex regs.a
 argument_words (Load va) = hex va ∷ []
@@ -53,11 +53,11 @@ argument_words Serve = []
 argument_words Advance = []
 argument_words (Tick n) = hex n ∷ []
 
--- an operation's name, and the words behind it
+-- an operation's name, and the words after it
 abbrev pub op_words : Op → List (List ℕ)
 op_words op = op_word (name_of op) ∷ argument_words op
 
--- the words behind the name of what is said
+-- the words after the name of a reply or refusal
 abbrev pub said_argument_words : Said → List (List ℕ)
 said_argument_words (says.Ret error value) = signed_decimal error ∷ hex value ∷ []
 said_argument_words says.Waiting = []
@@ -70,15 +70,15 @@ said_argument_words (says.Moved state) = decimal state ∷ []
 said_argument_words says.Done = []
 said_argument_words (says.Refused n) = decimal n ∷ []
 
--- the name of what is said, and the words behind it
+-- the name of a reply or refusal, and the words after it
 abbrev pub said_words : Said → List (List ℕ)
 said_words said = said_word (name_of_said said) ∷ said_argument_words said
 
--- The words of a reply or a refusal, behind the arrow.
+-- The words of a reply or a refusal, after the arrow.
 abbrev pub reply_words : Result Reply Refusal → List (List ℕ)
 reply_words answer = said_words (said_of answer)
 
--- the last two numbers of a board, which its line leaves out where they are the usual ones
+-- the last two numbers of a board, which its line leaves out if they have their defaults
 abbrev pub spaces_words : Config → List (List ℕ)
 spaces_words c = if has_usual_spaces c then [] else decimal c.asid_len ∷ decimal c.width ∷ []
 
@@ -94,16 +94,16 @@ board_line_words c =
     ∷ hex c.boot_opaque
     ∷ spaces_words c
 
--- what an actor does, up to the arrow
+-- the words of a step, up to the arrow
 abbrev pub step_words : Actor → Op → List (List ℕ)
 step_words actor op = actor_word actor ∷ op_words op
 
--- what a line does, up to the arrow: the step of an actor, or nothing but a cut of the history
+-- the words of a line up to the arrow: a step, or a cut of the history
 abbrev pub doing_words : Doing → List (List ℕ)
 doing_words (Step actor op) = step_words actor op
 doing_words Cut = codes "cut" ∷ []
 
--- The words of a step, or of a cut, with what it gave.
+-- The words of a step or a cut, with its answer.
 abbrev pub line_words : Doing → Result Reply Refusal → List (List ℕ)
 line_words doing result = doing_words doing ++ codes "->" ∷ reply_words result
 

@@ -1,4 +1,4 @@
-//! Printed lines, without the board's table: sinks of bytes, and the text of board lines, steps and replies (profile).
+//! Printed lines, except the board's table: sinks of bytes, and the text of board lines, steps and replies (profile).
 #![tactic(auto)]
 
 mod line_text;

@@ -1,4 +1,4 @@
-//! A line that is being composed, number by number and word by word.
+//! A line under composition, number by number and word by word.
 ghost use Rattle.std.specs.Prelude.{◌≡◌, ℕ, ◌+◌, ◌/◌, ◌%◌, ◌^◌, ◌<◌, ◌≤◌, List, [], ◌∷◌, ◌++◌, false, length, set, max, take, drop, replicate, decimal};
 ghost use Rattle.std.specs.Fmt.{digit_glyph, digits, signed_decimal};
 ghost use Rattle.printed_lines.specs.Columns.{right, left, hex_column};
@@ -10,7 +10,7 @@ use crate::sink::{Failed, Sink, write_all};
 use itoa::Buffer;
 use std::marker::Model;
 
-/// How many bytes a page of lines may have.
+/// The most bytes of a page of lines.
 pub const CAPACITY: usize = 1024;
 
 static HEX_DIGITS: [u8; 16] = *b"0123456789abcdef";
@@ -23,7 +23,7 @@ static DECIMAL_PAIRS: [u8; 200] =
 static HEX_PAIRS: [u8; 512] =
     *b"000102030405060708090a0b0c0d0e0f101112131415161718191a1b1c1d1e1f202122232425262728292a2b2c2d2e2f303132333435363738393a3b3c3d3e3f404142434445464748494a4b4c4d4e4f505152535455565758595a5b5c5d5e5f606162636465666768696a6b6c6d6e6f707172737475767778797a7b7c7d7e7f808182838485868788898a8b8c8d8e8f909192939495969798999a9b9c9d9e9fa0a1a2a3a4a5a6a7a8a9aaabacadaeafb0b1b2b3b4b5b6b7b8b9babbbcbdbebfc0c1c2c3c4c5c6c7c8c9cacbcccdcecfd0d1d2d3d4d5d6d7d8d9dadbdcdddedfe0e1e2e3e4e5e6e7e8e9eaebecedeeeff0f1f2f3f4f5f6f7f8f9fafbfcfdfeff";
 
-/// A line, or several, that are being composed.
+/// A line, or several lines, under composition.
 #[derive(Drop)]
 pub struct LineText {
     bytes: [u8; CAPACITY],
@@ -50,7 +50,7 @@ impl LineText {
         }
     }
 
-    /// How many bytes there are.
+    /// The number of bytes.
     #[inline(always)]
     pub fn len(&self) -> usize
         ensures { result ≡ length self.now }
@@ -66,7 +66,7 @@ impl LineText {
         &self.bytes[..self.len]
     }
 
-    /// No bytes are left.
+    /// Removes all bytes.
     #[inline(always)]
     pub fn clear(&mut self)
         ensures { self.new ≡ [] }
@@ -83,7 +83,11 @@ impl LineText {
         &self.bytes[1..self.len]
     }
 
-    /// Ends the line, and puts it into the sink.
+    /// Appends a line feed, and writes the line, without its first blank, to the sink.
+    ///
+    /// # Errors
+    ///
+    /// A write failed.
     #[inline(always)]
     pub fn put<W: Sink>(&mut self, sink: &mut W) -> Result<(), Failed>
         requires failures { W.failures sink.old < 2 ^ 63 }
@@ -128,7 +132,7 @@ impl LineText {
         self.decimal_digits(n);
     }
 
-    /// Appends a blank and the number, with `-` where it is below 0.
+    /// Appends a blank and the number, with a `-` if it is negative.
     #[inline(always)]
     pub fn signed(&mut self, n: i64)
         requires { length self.old + signed_room ≤ CAPACITY }
@@ -162,7 +166,7 @@ impl LineText {
         }
     }
 
-    /// Appends a blank and the text at the right of a column.
+    /// Appends a blank and the text, right-aligned in a column.
     pub fn right(&mut self, width: usize, text: &[u8])
         requires { length self.old + max width (length text.now) < CAPACITY }
         ensures text { self.new ≡ self.old ++ 32 ∷ right width text.now }
@@ -173,7 +177,7 @@ impl LineText {
         self.text(text);
     }
 
-    /// Appends a blank and the text at the left of a column.
+    /// Appends a blank and the text, left-aligned in a column.
     pub fn left(&mut self, width: usize, text: &[u8])
         requires { length self.old + max width (length text.now) < CAPACITY }
         ensures text { self.new ≡ self.old ++ 32 ∷ left width text.now }
@@ -184,7 +188,7 @@ impl LineText {
         self.fill(width.saturating_sub(text.len()), b' ');
     }
 
-    /// Appends a blank and the number at the right of a column.
+    /// Appends a blank and the number, right-aligned in a column.
     pub fn right_decimal(&mut self, width: usize, n: u64)
         requires wide { width ≤ 20 }
         requires room { length self.old + decimal_room ≤ CAPACITY }
@@ -195,7 +199,7 @@ impl LineText {
         self.right(width, buffer.format(n).as_bytes());
     }
 
-    /// Appends a blank and the hexadecimal digits of a number with leading zeros.
+    /// Appends a blank and the hexadecimal digits of a number, with leading zeros up to the width.
     pub fn hex_column(&mut self, width: usize, n: u64)
         requires wide { width ≤ 16 }
         requires room { length self.old + hex_column_work ≤ CAPACITY }
@@ -231,7 +235,7 @@ impl LineText {
         }
     }
 
-    /// Appends the decimal digits of a long number, apart, so that those of a short one are written in place.
+    /// Appends the decimal digits of a long number. (A function of its own, so the code for short numbers is inlined.)
     #[cold]
     fn long_decimal_digits(&mut self, n: u64)
         requires { length self.old + 20 ≤ CAPACITY }
@@ -255,7 +259,7 @@ impl LineText {
     }
 }
 
-/// Fills bytes with one and the same.
+/// Sets all bytes to this one.
 fn fill_bytes(bytes: &mut [u8], count: usize, byte: u8)
     requires { length bytes.old ≡ count }
     ensures { bytes.new ≡ replicate count byte }
@@ -263,7 +267,7 @@ fn fill_bytes(bytes: &mut [u8], count: usize, byte: u8)
     bytes.fill(byte);
 }
 
-/// Writes the text from `start` on, and answers where it ends.
+/// Writes the text from `start` on, and returns its end.
 #[inline(always)]
 fn write_text(piece: &[u8], bytes: &mut [u8], start: usize) -> usize
     requires { start + length piece.now ≤ length bytes.old }
@@ -279,7 +283,7 @@ fn write_text(piece: &[u8], bytes: &mut [u8], start: usize) -> usize
     end
 }
 
-/// Writes up to three decimal digits from `start` on, and answers where they end.
+/// Writes up to three decimal digits from `start` on, and returns their end.
 #[inline(always)]
 #[tactic(auto, using(crate::proofs::Decimal::decimal_small, crate::proofs::Decimal::decimal_two, crate::proofs::Decimal::decimal_three))]
 fn write_short_decimal(n: u64, bytes: &mut [u8], start: usize) -> usize
@@ -310,7 +314,7 @@ fn decimal_pair(pair: u64) -> [u8; 2]
     [DECIMAL_PAIRS[from], DECIMAL_PAIRS[from + 1]]
 }
 
-/// A decimal digit's byte.
+/// The byte of a decimal digit.
 #[inline(always)]
 fn decimal_digit(digit: u64) -> u8
     requires { digit < 10 }
@@ -319,7 +323,7 @@ fn decimal_digit(digit: u64) -> u8
     b'0' + digit as u8
 }
 
-/// How many hexadecimal digits `n` has.
+/// The number of hexadecimal digits of `n`.
 #[inline(always)]
 fn hex_places(n: u64) -> usize
     ensures places { result ≡ length (digits 16 false n) }
@@ -391,7 +395,7 @@ fn hex_pair(pair: u64) -> [u8; 2]
     [HEX_PAIRS[from], HEX_PAIRS[from + 1]]
 }
 
-/// A hexadecimal digit's byte, in lower case.
+/// The byte of a hexadecimal digit, in lower case.
 #[inline(always)]
 fn hex_digit(digit: u64) -> u8
     requires { digit < 16 }

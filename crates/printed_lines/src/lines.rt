@@ -1,4 +1,4 @@
-//! The line of a board, of a step, of a cut and of a reply.
+//! The lines of boards, steps and cuts, and the words of replies.
 ghost use Rattle.std.specs.Prelude.{◌≡◌, ◌+◌, ◌*◌, ◌^◌, ◌<◌, ◌≤◌, ◌∷◌, ◌++◌, length, map, decimal};
 ghost use Rattle.std.specs.List.{join_with_byte};
 ghost use Rattle.printed_lines.specs.LineText.{arguments_room, decimal_room, hex_room, line_room, op_room, page_room, reply_room, with_words};
@@ -16,6 +16,10 @@ use sbi_abi::Regs;
 use script_lines::{Doing, OpName, SaidName};
 
 /// Prints the board line.
+///
+/// # Errors
+///
+/// A write failed.
 pub fn print_head<W: Sink>(config: &Config, sink: &mut W) -> Result<(), Failed>
     requires { W.failures sink.old < 2 ^ 63 }
     ensures { Puts W.written W.failures sink.old sink.new result (as_line (board_line_words config.now)) }
@@ -32,7 +36,7 @@ pub fn print_head<W: Sink>(config: &Config, sink: &mut W) -> Result<(), Failed>
     line.put(sink)
 }
 
-/// Appends the last two numbers of a board, which its line leaves out where they are the usual ones.
+/// Appends the last two numbers of a board, which its line leaves out if they have their defaults.
 fn spaces_onto(line: &mut LineText, config: &Config)
     requires { length line.old + 2 * decimal_room ≤ page_room }
     ensures text { line.new ≡ with_words line.old (spaces_words config.now) }
@@ -44,7 +48,11 @@ fn spaces_onto(line: &mut LineText, config: &Config)
     }
 }
 
-/// Prints the line of a step or of a cut, and of what was answered.
+/// Prints the line of a step or a cut, with its answer.
+///
+/// # Errors
+///
+/// A write failed.
 pub fn print_line<W: Sink>(
     doing: Doing,
     answer: Result<Reply, Refusal>,
@@ -59,6 +67,10 @@ pub fn print_line<W: Sink>(
 }
 
 /// Prints only the words of a reply or a refusal, without a line feed.
+///
+/// # Errors
+///
+/// A write failed.
 pub fn print_reply<W: Sink>(answer: Result<Reply, Refusal>, sink: &mut W) -> Result<(), Failed>
     requires { W.failures sink.old < 2 ^ 63 }
     ensures { Puts W.written W.failures sink.old sink.new result
@@ -69,7 +81,7 @@ pub fn print_reply<W: Sink>(answer: Result<Reply, Refusal>, sink: &mut W) -> Res
     write_all(sink, line.without_blank())
 }
 
-/// Appends the line of a cut and of what was answered. It is apart, so that steps are written in place.
+/// Appends the line of a cut, with its answer. (A function of its own, so the code for steps is inlined.)
 #[inline(never)]
 pub fn cut_onto(line: &mut LineText, answer: Result<Reply, Refusal>)
     requires { length line.old + line_room ≤ page_room }
@@ -81,7 +93,7 @@ pub fn cut_onto(line: &mut LineText, answer: Result<Reply, Refusal>)
     line.text(b"\n");
 }
 
-/// Appends the line of a step and of what it answered.
+/// Appends the line of a step, with its answer.
 #[inline(always)]
 pub fn step_onto(line: &mut LineText, actor: Actor, op: Op, answer: Result<Reply, Refusal>)
     requires { length line.old + line_room ≤ page_room }
@@ -142,7 +154,7 @@ fn op_onto(line: &mut LineText, op: &Op)
     }
 }
 
-/// Appends a call. It is a function of its own, so that only it reads the registers.
+/// Appends a call. (A function of its own, so only it reads the registers.)
 #[inline(never)]
 fn ecall_onto(line: &mut LineText, regs: &Regs)
     requires { length line.old + op_room ≤ page_room }
@@ -179,7 +191,7 @@ fn decimal_onto(line: &mut LineText, name: &[u8], n: u64)
     line.decimal(n);
 }
 
-/// Appends a number, or a dash where it is absent.
+/// Appends a number, or a dash if it is absent.
 fn hex_or_dash_onto(line: &mut LineText, n: Option<u64>)
     requires { length line.old + hex_room ≤ page_room }
     ensures text { line.new ≡ line.old ++ 32 ∷ hex_or_dash n }
@@ -213,7 +225,8 @@ fn reply_onto(line: &mut LineText, answer: Result<Reply, Refusal>)
     }
 }
 
-/// Appends what a call returned. It is apart, as each reply of long numbers, so that the others are written in place.
+/// Appends what a call returned. (Each reply with long numbers has a function of its own, so the code for the others is
+/// inlined.)
 #[inline(never)]
 fn ret_onto(line: &mut LineText, error: i64, value: u64)
     requires { length line.old + reply_room ≤ page_room }
@@ -225,7 +238,7 @@ fn ret_onto(line: &mut LineText, error: i64, value: u64)
     line.hex(value);
 }
 
-/// Appends what was read.
+/// Appends the value that was read.
 #[inline(never)]
 fn value_onto(line: &mut LineText, value: u64)
     requires { length line.old + reply_room ≤ page_room }
@@ -255,7 +268,7 @@ pub fn bit_of(value: bool) -> u64
     u64::from(value)
 }
 
-/// Appends the arguments of a call. Most calls have at most two, and the others are 0.
+/// Appends the arguments of a call. In most calls all but the first two are 0.
 fn arguments_onto(line: &mut LineText, arguments: &[u64; 6])
     requires { length line.old + arguments_room ≤ page_room }
     ensures text { line.new ≡ with_words line.old (map hex arguments.now) }

@@ -1,4 +1,4 @@
-//! Lines on their way to a sink, some at a time.
+//! Pages of lines: they are written to a sink several at a time.
 ghost use Rattle.std.specs.Prelude.{◌≡◌, ℕ, ◌+◌, ◌^◌, ◌<◌, ◌≤◌, List, [], OnOk, length};
 ghost use Rattle.printed_lines.specs.LineText.{line_room, page_room};
 ghost use Rattle.printed_lines.specs.Sinks.{Passes, Puts};
@@ -15,7 +15,7 @@ use std::marker::Model;
 /// The most bytes of a line.
 const LINE_ROOM: usize = 256;
 
-/// Lines on their way to a sink, which takes them some at a time. Those that wait are lost with the page.
+/// Lines that are written to a sink several at a time. A page that is dropped loses the lines that still wait.
 #[derive(Drop)]
 pub struct Page {
     text: LineText,
@@ -31,7 +31,7 @@ impl Model for Page {
 }
 
 impl Page {
-    /// A page on which nothing waits.
+    /// An empty page.
     #[inline(always)]
     pub fn new() -> Page
         ensures { result ≡ [] }
@@ -41,11 +41,11 @@ impl Page {
         }
     }
 
-    /// Prints the line of a step and of what it answered, behind the lines that wait.
+    /// Prints the line of a step, with its answer, after the lines that wait.
     ///
     /// # Errors
     ///
-    /// A write of the lines that waited failed.
+    /// A write of the waiting lines failed.
     #[inline(never)]
     pub fn print_step<W: Sink>(
         &mut self,
@@ -62,11 +62,11 @@ impl Page {
         put_full(&mut self.text, sink)
     }
 
-    /// Prints the line of a step or of a cut, and of what was answered, behind the lines that wait.
+    /// Prints the line of a step or a cut, with its answer, after the lines that wait.
     ///
     /// # Errors
     ///
-    /// A write of the lines that waited failed.
+    /// A write of the waiting lines failed.
     pub fn print_line<W: Sink>(
         &mut self,
         doing: Doing,
@@ -83,11 +83,11 @@ impl Page {
         }
     }
 
-    /// Prints the line of a cut and of what was answered, behind the lines that wait.
+    /// Prints the line of a cut, with its answer, after the lines that wait.
     ///
     /// # Errors
     ///
-    /// A write of the lines that waited failed.
+    /// A write of the waiting lines failed.
     pub fn print_cut<W: Sink>(
         &mut self,
         answer: Result<Reply, Refusal>,
@@ -115,7 +115,7 @@ impl Page {
     }
 }
 
-/// Writes the text and empties it, if it has no room for another line.
+/// If the text has no room for another line, writes and empties it.
 #[inline(always)]
 fn put_full<W: Sink>(text: &mut LineText, sink: &mut W) -> Result<(), Failed>
     requires { W.failures sink.old < 2 ^ 63 }
@@ -128,7 +128,7 @@ fn put_full<W: Sink>(text: &mut LineText, sink: &mut W) -> Result<(), Failed>
     Ok(())
 }
 
-/// Writes the text and empties it, also if a write failed.
+/// Writes the text and empties it, even if a write failed.
 #[cold]
 #[inline(never)]
 fn put_all<W: Sink>(text: &mut LineText, sink: &mut W) -> Result<(), Failed>

@@ -1,4 +1,4 @@
-//! What takes bytes, and may fail.
+//! Sinks of bytes, whose writes can fail.
 ghost use Rattle.std.specs.Prelude.{◌≡◌, ℕ, ◌^◌, ◌<◌, ◌≤◌, Bool, true, false, List, Option, length, IfOk, OnOk};
 ghost use Rattle.std.specs.Io.KnownBytes.{Keeps, WriteAppends};
 ghost use Rattle.printed_lines.specs.Sinks.{CountsCall, CountsWrite, Puts};
@@ -10,19 +10,22 @@ use thiserror::Error;
 #[error("input or output failed")]
 pub struct Failed;
 
-/// What bytes are written to.
+/// A sink, to which bytes are written.
 pub trait Sink {
-    // the bytes that were taken, where they are known
+    // the bytes that were taken, if they are known
     ghost written: { Self → Option (List ℕ) };
 
-    // whether it was flushed since it was last written to, so that nothing of what was taken is held back
+    // whether it was flushed since the last write, so that it holds back no byte
     ghost is_flushed: { Self → Bool };
 
-    // how many calls failed
+    // the number of calls that failed
     ghost failures: { Self → ℕ };
 
-    /// Takes bytes from the front of `piece`, and answers how many. To take none of a piece that
-    /// has some is a failure too. Until the next flush what was taken may be held back.
+    /// Takes bytes from the front of `piece`, and returns their number. It can hold them back until the next flush.
+    ///
+    /// # Errors
+    ///
+    /// The write failed. Taking none of a non-empty piece counts as a failure too.
     fn write(&mut self, piece: &[u8]) -> Result<usize, Failed>
         requires { failures self.old < 2 ^ 63 }
         ensures bound { IfOk result (λ n. n ≤ length piece.now) }
@@ -30,7 +33,11 @@ pub trait Sink {
         ensures unflushed { is_flushed self.new ≡ false }
         ensures failed { CountsWrite (failures self.old) (failures self.new) result piece.now };
 
-    /// Passes on what the sink took and still holds back.
+    /// Passes on the bytes that the sink holds back.
+    ///
+    /// # Errors
+    ///
+    /// The flush failed.
     fn flush(&mut self) -> Result<(), Failed>
         requires { failures self.old < 2 ^ 63 }
         ensures bytes { Keeps (written self.old) (written self.new) }
@@ -39,6 +46,10 @@ pub trait Sink {
 }
 
 /// Writes the whole piece.
+///
+/// # Errors
+///
+/// A write failed, or took no byte.
 pub fn write_all<W: Sink>(sink: &mut W, piece: &[u8]) -> Result<(), Failed>
     requires { W.failures sink.old < 2 ^ 63 }
     ensures { Puts W.written W.failures sink.old sink.new result piece.now }

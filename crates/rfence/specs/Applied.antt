@@ -1,29 +1,30 @@
--- The fences that were applied at a hart, and what a turn does to its caches.
+-- The fences that were applied at a hart, and the effect of a turn on its caches (SBI 8; profile).
 use Rattle.std.specs.Prelude.{ℕ, List, [], ◌∷◌, ◌++◌, map, take, ◌==◌, ◌&&◌, if◌then◌else◌}
 use Rattle.rfence.specs.Opening.{Asked, Opening, place_after}
 use Rattle.rfence.specs.Turns.{Turn, Ask, Own, Serve, Stop, Reset, empties}
 use Rattle.rfence.specs.Waiting.{waiting}
 
--- A fence that was applied: the place of the turn that asked it, the place of the turn at which it was applied, and
--- what it drops.
+-- A fence that was applied: the place of the turn that asked it, the place of the turn that applied it, and what it
+-- drops.
 pub record Applied (F : Type 0) : Type 0 where
   pub place : ℕ
   pub at : ℕ
   pub flush : F
 
--- what a turn does to the caches of a hart: nothing, what one fence does, or all goes
+-- The effect of a turn on a hart's caches: nothing, a fence drops what it covers, or everything is dropped.
 pub data Effect (F : Type 0) : Type 0 where
   Nothing : Effect F
   Drops : F → Effect F
   Empties : Effect F
 
 module _ {F : Type 0} where
-  -- a fence that waited, applied at this place
+  -- a waiting fence that is applied at this place
   abbrev pub applied_at : ℕ → Asked F → Applied F
   applied_at place asked = record { place = asked.place; at = place; flush = asked.flush }
 
-  -- A caller that is asked too applies its fence at once, and so does a hart that fences itself; a serve applies the
-  -- first of those that wait; a stop of the hart and a reset count as applying all of them (profile).
+  -- The fences that a turn applies at hart t. A caller that asks itself too applies its fence at once, as does a hart
+  -- with a local fence. A serve applies the first waiting fence. A stop of the hart and a reset count as applying all
+  -- waiting fences (profile).
   abbrev pub applied_by : ℕ → List (Asked F) → Turn F → ℕ → List (Applied F)
   applied_by place waits (Ask x asked flush) t =
       if (x == t) && asked t then record { place = place; at = place; flush = flush } ∷ [] else []
@@ -39,13 +40,13 @@ module _ {F : Type 0} where
   applied o [] t = []
   applied o (turn ∷ turns) t = applied_by (place_after o turns) (waiting o turns t) turn t ++ applied o turns t
 
-  -- what the first of them drops
+  -- what the first of these fences drops
   abbrev pub first_drop : List (Applied F) → Effect F
   first_drop [] = Nothing
   first_drop (fence ∷ fences) = Drops fence.flush
 
-  -- What a turn does to the caches of hart t: what it applies there, and where the hart stops or the board is reset,
-  -- all goes.
+  -- The effect of a turn on hart t's caches: the fence that it applies there drops what it covers, or, if the hart
+  -- stops or the board is reset, everything is dropped.
   abbrev pub effect : Opening F → List (Turn F) → Turn F → ℕ → Effect F
   effect o turns turn t =
       if empties turn t then Empties else first_drop (applied_by (place_after o turns) (waiting o turns t) turn t)

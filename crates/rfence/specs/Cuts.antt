@@ -1,4 +1,4 @@
--- What is kept when the history is cut: the opening of what comes after.
+-- Cuts of the history: the opening that the turns before a cut leave (profile).
 use Rattle.std.specs.Prelude.{◌≡◌, ℕ, ◌≤◌, List, [], ◌++◌, map, slice_index_or, Option, Some, None}
 use Rattle.std.specs.List.{range_with_len}
 use Rattle.fence_queue.specs.declared.request.Request.{Request}
@@ -11,7 +11,7 @@ use Rattle.rfence.specs.Right.{IsRight}
 use Rattle.rfence.specs.State.{StandsFor, State, total_applied, total_asked}
 
 module _ {F : Type 0} where
-  -- What these turns leave on a board of n harts, for the turns that come after.
+  -- The opening that these turns leave on a board of n harts, for the turns after them.
   abbrev pub opening_after : Opening F → ℕ → List (Turn F) → Opening F
   opening_after o n turns = record {
     first = place_after o turns;
@@ -21,7 +21,7 @@ module _ {F : Type 0} where
     applied = total_applied o n turns;
   }
 
-  -- the place of a call, where there is one
+  -- the place of a call, if there is one, else 0
   abbrev pub place_of : Option (FenceCall F) → ℕ
   place_of None = 0
   place_of (Some call) = call.place
@@ -34,7 +34,7 @@ module _ {F : Type 0} where
     flush = request.flush;
   }
 
-  -- What is kept, as the opening of the turns from this place on.
+  -- The stored state as the opening of the turns from this place on.
   abbrev pub opening_in : (first : ℕ) → State F → Opening F
   opening_in first fences = record {
     first = first;
@@ -44,24 +44,24 @@ module _ {F : Type 0} where
     applied = fences.applied;
   }
 
--- A board of at most 128 harts can begin with nothing before.
+-- A board of at most 128 harts can open with no fence and no call.
 abbrev pub BeginsRight : Type 0 → Type 0
 BeginsRight F = (n : ℕ) → n ≤ 128 → IsOpening (nothing_before {F = F} n) n
 
--- What is kept is what these turns leave.
+-- The stored state is the opening that these turns leave.
 abbrev pub KeptIsTheOpening : Type 0 → Type 0
 KeptIsTheOpening F =
     (o : Opening F) (n : ℕ) (turns : List (Turn F)) (fences : State F)
     → StandsFor o n turns fences → IsRight o n turns → opening_in (place_after o turns) fences ≡ opening_after o n turns
 
--- What is kept stands for what these turns leave, and for no turn since.
+-- The stored state stands for the opening that these turns leave, and no turn since.
 abbrev pub StandsAfterACut : Type 0 → Type 0
 StandsAfterACut F =
     (o : Opening F) (n : ℕ) (turns : List (Turn F)) (fences : State F)
     → StandsFor o n turns fences → IsRight o n turns → StandsFor (opening_after o n turns) n [] fences
 
--- Newer turns on what older ones left are as all turns together: what waits at each of n harts, which call each is in, and
--- the counts.
+-- The newer turns, from the opening that the older turns leave, give the same waiting fences, open calls and counts as
+-- all turns together.
 pub record IsSeamless {F : Type 0} (o : Opening F) (n : ℕ) (newer older : List (Turn F)) : Type 0 where
   pub right : IsRight (opening_after o n older) n newer
   pub waits : (t : ℕ) → waiting (opening_after o n older) newer t ≡ waiting o (newer ++ older) t
@@ -69,8 +69,7 @@ pub record IsSeamless {F : Type 0} (o : Opening F) (n : ℕ) (newer older : List
   pub asked : total_asked (opening_after o n older) newer ≡ total_asked o (newer ++ older)
   pub applied : total_applied (opening_after o n older) n newer ≡ total_applied o n (newer ++ older)
 
--- Wherever right turns are parted: by the newer ones, on what the older ones leave, waits what waits by all of them; so it
--- is with open calls and the counts.
+-- Possible turns can be cut anywhere: each cut is seamless.
 abbrev pub CutsAreSeamless : Type 0 → Type 0
 CutsAreSeamless F =
     (o : Opening F) (n : ℕ) (newer older : List (Turn F)) → IsRight o n (newer ++ older) → IsSeamless o n newer older

@@ -1,4 +1,4 @@
--- The turns that a board of n harts can make.
+-- The turns that are possible on a board of n harts (SBI 8; profile).
 use Rattle.std.specs.Prelude.{◌≡◌, ℕ, ◌<◌, true, List, [], ◌∷◌, length, None, is_some}
 use Rattle.rfence.specs.Opening.{IsOpening, Opening}
 use Rattle.rfence.specs.Turns.{Turn, Ask, Own, Serve, Poll, Stop, Reset, Quiet}
@@ -6,8 +6,8 @@ use Rattle.rfence.specs.Waiting.{waiting}
 use Rattle.rfence.specs.Calls.{open_call, outstanding}
 
 module _ {F : Type 0} where
-  -- A hart asks outside of a call, and asks harts that are there; it serves where something waits; it polls inside a
-  -- call that waits for no hart.
+  -- Whether a turn is possible after these turns. A hart asks while it is in no call, and it asks harts that exist. It
+  -- serves if a fence waits there. It polls if its call waits for no hart.
   abbrev pub IsRightTurn : Opening F → ℕ → List (Turn F) → Turn F → Type 0
   IsRightTurn o n turns (Ask x asked flush) =
       (x < n) × ((t : ℕ) → asked t ≡ true → t < n) × (open_call o turns x ≡ None)
@@ -18,7 +18,7 @@ module _ {F : Type 0} where
   IsRightTurn o n turns Reset = Unit
   IsRightTurn o n turns Quiet = Unit
 
-  -- the board could open so, and each turn is one that could be made after those before it
+  -- The board can have this opening, and each turn is possible after those before it.
   abbrev pub IsRight : Opening F → ℕ → List (Turn F) → Type 0
   IsRight o n [] = IsOpening o n
   IsRight o n (turn ∷ turns) = IsRightTurn o n turns turn × IsRight o n turns

@@ -1,4 +1,4 @@
--- What is kept of the fences of a board, and the turns that it stands for.
+-- The stored state of a board's fences, and the turns that it stands for (profile).
 use Rattle.std.specs.Prelude.{◌≡◌, ℕ, ◌+◌, ◌*◌, ◌^◌, ◌<◌, ◌≤◌, List, [], ◌∷◌, length, map, sum_by, slice_index_or, if◌then◌else◌, Option, Some, None}
 use Rattle.std.specs.List.{range_with_len}
 use Rattle.hart_mask.specs.Ids.{ids_where}
@@ -11,9 +11,8 @@ use Rattle.rfence.specs.Calls.{is_outstanding, open_call}
 use Rattle.rfence.specs.Effects.{caches_after}
 use Rattle.rfence.specs.Right.{IsRight}
 
--- For each hart the requests that wait there, and for each hart inside a call the harts that it waits for, as the
--- ascending list of their ids, and the call itself; and of how many harts fences were asked, and at how many they were
--- applied, all together.
+-- The requests that wait at each hart; for each hart in a call, the ids of the harts that the call waits for, in
+-- ascending order, and the call itself; and the numbers of fences asked and applied.
 pub record State (F : Type 0) : Type 0 where
   pub queues : List (List (Request F))
   pub calls : List (Option (List ℕ))
@@ -22,7 +21,7 @@ pub record State (F : Type 0) : Type 0 where
   pub applied : ℕ
 
 module _ {F : Type 0} where
-  -- the harts that a call waits for, where there is one
+  -- the harts that a call waits for, if there is a call
   abbrev pub in_call : Option (FenceCall F) → List ℕ → Option (List ℕ)
   in_call None ids = None
   in_call (Some call) ids = Some ids
@@ -30,11 +29,11 @@ module _ {F : Type 0} where
   abbrev pub call_of : Opening F → List (Turn F) → ℕ → Option (List ℕ)
   call_of o turns c = in_call (open_call o turns c) (ids_where (is_outstanding o turns c))
 
-  -- what waits at a hart, without places
+  -- the requests that wait at hart t, without their places
   abbrev pub queue_of : Opening F → List (Turn F) → ℕ → List (Request F)
   queue_of o turns t = map kept (waiting o turns t)
 
-  -- Of how many harts fences were asked, all together. Fences of a hart by itself alone aren't counted (profile).
+  -- The number of fences that a turn asks: one for each hart asked. Local fences don't count (profile).
   abbrev pub asked_by : Turn F → ℕ
   asked_by (Ask x asked flush) = length (ids_where asked)
   asked_by turn = 0
@@ -43,8 +42,8 @@ module _ {F : Type 0} where
   total_asked o [] = o.asked
   total_asked o (turn ∷ turns) = total_asked o turns + asked_by turn
 
-  -- At how many harts they were applied: at a caller that is asked too, at a hart that serves, and all that wait at a
-  -- hart that stops, or at all of n harts where the board is reset.
+  -- The number of fences of calls that a turn applies: a caller's own if it asks itself too, one at a serve, all that
+  -- wait at a hart that stops, and at a reset all that wait at n harts.
   abbrev pub applied_in : Opening F → ℕ → List (Turn F) → Turn F → ℕ
   applied_in o n turns (Ask x asked flush) = if asked x then 1 else 0
   applied_in o n turns (Serve x) = 1
@@ -56,7 +55,7 @@ module _ {F : Type 0} where
   total_applied o n [] = o.applied
   total_applied o n (turn ∷ turns) = total_applied o n turns + applied_in o n turns turn
 
-  -- What is kept on a board of n harts stands for this opening and these turns.
+  -- The stored state of a board of n harts stands for this opening and these turns.
   pub record StandsFor (o : Opening F) (n : ℕ) (turns : List (Turn F)) (fences : State F) : Type 0 where
     pub limit : n ≤ 128
     pub queues : fences.queues ≡ map (queue_of o turns) (range_with_len 0 n)
@@ -65,7 +64,7 @@ module _ {F : Type 0} where
     pub asked : fences.asked ≡ total_asked o turns
     pub applied : fences.applied ≡ total_applied o n turns
 
-  -- There are turns that it stands for, after which this turn can be made.
+  -- The state stands for some turns after which this turn is possible.
   pub record Takes (fences : State F) (turn : Turn F) : Type 0 where
     pub o : Opening F
     pub n : ℕ
@@ -73,7 +72,7 @@ module _ {F : Type 0} where
     pub stands : StandsFor o n turns fences
     pub right : IsRight o n (turn ∷ turns)
 
-  -- The turn is made: whatever opening and turns it stood for, it now stands for them and this turn.
+  -- The turn is made: whatever opening and turns the state stood for, it now stands for them and this turn.
   abbrev pub IsTaken : State F → Turn F → State F → Type 0
   IsTaken before turn now =
       (o : Opening F) (n : ℕ) (turns : List (Turn F))
@@ -86,7 +85,7 @@ module _ {F : Type 0} where
       → StandsFor o n turns before → IsRight o n (turn ∷ turns) → place ≡ place_after o turns
       → StandsFor o n (turn ∷ turns) now
 
-  -- There are turns that it stands for, as many as this place says, after which this turn can be made.
+  -- The state stands for some turns, as many as the place says, after which this turn is possible.
   pub record TakesAt (place : ℕ) (fences : State F) (turn : Turn F) : Type 0 where
     pub o : Opening F
     pub n : ℕ
@@ -95,19 +94,19 @@ module _ {F : Type 0} where
     pub stands : StandsFor o n turns fences
     pub right : IsRight o n (turn ∷ turns)
 
-  -- The place is later than that of each call that is kept, and so late that as many fences can have been asked before.
+  -- The place is later than that of each open call, and the fences asked are at most 128 for each place before it.
   pub record IsLater (place : ℕ) (fences : State F) : Type 0 where
     pub calls : (c : ℕ) (call : FenceCall F) → slice_index_or fences.opened c None ≡ Some call → call.place < place
     pub asked : fences.asked ≤ 128 * place
 
-  -- What a turn leaves of the harts' caches, by the opening and the turns that it stood for.
+  -- The harts' caches after a turn, by the opening and the turns that the state stood for.
   abbrev pub AreAffected : {C : Type 0} → (dropped : F → C → C) → (emptied : C → C) → State F → Turn F → List C
       → List C → Type 0
   AreAffected dropped emptied before turn caches now =
       (o : Opening F) (n : ℕ) (turns : List (Turn F))
       → StandsFor o n turns before → IsRight o n (turn ∷ turns) → now ≡ caches_after dropped emptied o turns turn caches
 
-  -- There are right turns that it stands for.
+  -- The state stands for some possible turns.
   pub record HasTurns (fences : State F) : Type 0 where
     pub o : Opening F
     pub n : ℕ
@@ -115,15 +114,15 @@ module _ {F : Type 0} where
     pub stands : StandsFor o n turns fences
     pub right : IsRight o n turns
 
-  -- the counts can grow
+  -- neither count is near its limit
   pub record HasRoom (fences : State F) : Type 0 where
     pub asked : fences.asked < 2 ^ 63
     pub applied : fences.applied < 2 ^ 63
 
-  -- the harts that a hart's call waits for, and the call itself
+  -- the harts that hart c's call waits for; None: it is in no call
   abbrev pub call_at : State F → ℕ → Option (List ℕ)
   call_at fences c = slice_index_or fences.calls c None
 
-  -- The call of a hart, with its fence, as it is kept.
+  -- The open call of a hart, as it is stored.
   abbrev pub opened_at : State F → ℕ → Option (FenceCall F)
   opened_at fences c = slice_index_or fences.opened c None

@@ -1,10 +1,10 @@
--- What the events of a board mean for its fences: each event is one turn. Turns are in lists with the newest first, so
--- that the place of a turn, counted from 0, is the number of the turns before it, which are the rest of the list.
+-- What the events of a board mean for its fences: each event is one turn (SBI 8; profile). A list of turns has the
+-- newest first. So the place of a turn, counted from 0, is the length of the rest of the list: the turns before it.
 use Rattle.std.specs.Prelude.{ℕ, Bool, true, false, ◌==◌}
 
--- A turn: a hart asks a fence of the harts at which the test gives true (SBI 8), or fences itself alone (Privileged
--- 4.2.1; Zifencei); it serves the first fence that waits at it; its call ends with success; it stops (SBI 9.2); the
--- board is reset; or nothing happens to fences.
+-- A turn. A hart asks a fence of the harts that pass the test (SBI 8), or makes a local fence (Privileged 4.2.1;
+-- Zifencei). It serves the first fence that waits there; its call ends with success; or it stops (SBI 9.2). The board
+-- is reset. Or the event concerns no fence.
 pub data Turn (F : Type 0) : Type 0 where
   Ask : ℕ → (ℕ → Bool) → F → Turn F
   Own : ℕ → F → Turn F
@@ -15,7 +15,7 @@ pub data Turn (F : Type 0) : Type 0 where
   Quiet : Turn F
 
 module _ {F : Type 0} where
-  -- A stop of a hart and a reset leave nothing waiting at it, and nothing in its caches (profile).
+  -- Whether a turn empties hart t's queue and caches: a stop of the hart does, and a reset (profile).
   abbrev pub empties : Turn F → ℕ → Bool
   empties (Stop x) t = x == t
   empties Reset t = true
@@ -26,7 +26,7 @@ module _ {F : Type 0} where
   is_serve (Serve x) t = x == t
   is_serve turn t = false
 
-  -- whether a fence is asked of hart t, by itself or by another hart
+  -- whether the turn asks a fence of hart t, by itself or by another hart
   abbrev pub is_asked : Turn F → ℕ → Bool
   is_asked (Ask x asked flush) t = asked t
   is_asked (Own x flush) t = x == t

@@ -6,7 +6,7 @@ ghost use Rattle.hart_mask.specs.Ids.{without_id};
 use hart_mask::HartSet;
 use std::marker::Model;
 
-/// The harts that a fence call waits for, and how many they are.
+/// The harts that a fence call waits for, and their number.
 #[derive(Clone, Copy)]
 pub struct Awaited {
     harts: HartSet,
@@ -44,14 +44,14 @@ impl Awaited {
         self.harts
     }
 
-    /// Whether there is such a hart.
+    /// Whether the call waits for some hart.
     pub fn is_some(&self) -> bool
         ensures { result ≡ not (length self.now == 0) }
     {
         self.count != 0
     }
 
-    /// The call waits for hart `t` no more.
+    /// The call no longer waits for hart `t`.
     pub fn remove(&mut self, t: u64)
         requires { t < 128 }
         ensures { self.new ≡ without_id self.old t }

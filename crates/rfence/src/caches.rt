@@ -1,16 +1,16 @@
-//! What fences do to the caches of harts.
+//! The effect of fences on the caches of harts.
 ghost use Rattle.std.specs.Prelude.{◌≡◌, ◌<◌, length, map, if◌then◌else◌};
 ghost use Rattle.rfence.specs.Effects.{changed_at};
 
 use tlb_model::{Caches, Flush};
 
-/// What fences drop something from: the caches of one hart.
+/// The caches of one hart, from which fences drop items.
 pub trait Fenced<F> {
     ghost dropped: { F → Self → Self };
 
     ghost emptied: { Self → Self };
 
-    /// Drops what this covers, and nothing else.
+    /// Drops exactly what the fence covers.
     fn apply(&mut self, flush: F)
         ensures { self.new ≡ dropped flush self.old };
 
@@ -19,7 +19,8 @@ pub trait Fenced<F> {
         ensures { self.new ≡ emptied self.old };
 }
 
-/// A hart's two caches: a fence of translations drops those that it covers, and a FENCE.I all fetched words.
+/// A hart's two caches. An SFENCE.VMA drops the translations that it covers, and a FENCE.I all fetched words
+/// (Privileged 4.2.1; Zifencei).
 impl Fenced<Flush> for Caches {
     ghost use Rattle.rfence.specs.Inside.HartCaches.{dropped_of, emptied_of};
 
@@ -36,7 +37,7 @@ impl Fenced<Flush> for Caches {
     }
 }
 
-/// Drops what this covers from the caches of hart `t`.
+/// Drops what the fence covers from the caches of hart `t`.
 pub fn apply_at<F: Copy, C: Fenced<F>>(caches: &mut [C], t: u64, flush: F)
     requires { t < length caches.old }
     ensures { caches.new ≡ changed_at (C.dropped flush) caches.old t }
@@ -44,7 +45,7 @@ pub fn apply_at<F: Copy, C: Fenced<F>>(caches: &mut [C], t: u64, flush: F)
     caches[t as usize].apply(flush);
 }
 
-/// The same, where it is asked for.
+/// The same, if `asked` is true.
 pub fn apply_where<F: Copy, C: Fenced<F>>(caches: &mut [C], t: u64, asked: bool, flush: F)
     requires { t < length caches.old }
     ensures { caches.new ≡ (if asked then changed_at (C.dropped flush) caches.old t else caches.old) }

@@ -7,7 +7,7 @@ use fence_queue::{Queues, Request};
 use hart_mask::HartSet;
 use std::alloc::{AllocError, Global};
 
-/// Puts a request into the queue of each of these harts.
+/// Appends a request to the queue of each target.
 pub fn ask_each<F: Copy>(queues: &mut Queues<F>, targets: HartSet, request: Request<F>)
     requires { CanAsk queues.old targets request }
     ensures { queues.new ≡ requested queues.old targets request }
@@ -18,7 +18,7 @@ pub fn ask_each<F: Copy>(queues: &mut Queues<F>, targets: HartSet, request: Requ
     }
 }
 
-/// The call of hart `c` waits for hart `t` no more.
+/// The call of hart `c` no longer waits for hart `t`.
 pub fn forget(calls: &mut Vec<Option<Awaited>>, c: u64, t: u64)
     requires in_range { c < length calls.old.items }
     requires id { t < 128 }
@@ -27,7 +27,7 @@ pub fn forget(calls: &mut Vec<Option<Awaited>>, c: u64, t: u64)
     forget_in(&mut calls[c as usize], t);
 }
 
-/// A call waits for hart `t` no more.
+/// A call no longer waits for hart `t`.
 fn forget_in(call: &mut Option<Awaited>, t: u64)
     requires { t < 128 }
     ensures { call.new ≡ forgotten t call.old }
@@ -47,7 +47,11 @@ pub fn forget_all(calls: &mut Vec<Option<Awaited>>, t: u64)
     }
 }
 
-/// So many harts, none in a call. It fails where memory runs out.
+/// No open call, for each of so many harts.
+///
+/// # Errors
+///
+/// Out of memory.
 pub fn no_calls<T: Copy>(alloc: Global, harts: u64) -> Result<Vec<Option<T>>, AllocError>
     requires { harts ≤ 128 }
     ensures { IfOk result (λ calls. calls.items ≡ replicate harts None) }
@@ -64,7 +68,7 @@ pub fn close_all<T: Copy>(calls: &mut Vec<Option<T>>)
     }
 }
 
-/// A hart is in a call no more. Nothing is written where it was in none.
+/// Closes a hart's call. It writes nothing if the hart is in no call.
 fn close<T: Copy>(call: &mut Option<T>)
     ensures { call.new ≡ None }
 {

@@ -1,4 +1,4 @@
-//! All fences of a board: what waits, what is open, what was applied.
+//! All remote fences of a board: those that wait, the open calls, and the counts.
 ghost use Rattle.std.specs.Prelude.{◌≡◌, ℕ, ◌<◌, ◌≤◌, [], true, Some, None, ◌==◌, not, unwrap_or, IfOk, if◌then◌else◌, is_some, length, slice_get, sum_by};
 ghost use Rattle.hart_mask.specs.Ids.{has};
 ghost use Rattle.fence_queue.specs.Positions.{position_of};
@@ -18,8 +18,8 @@ use hart_mask::HartSet;
 use std::alloc::{AllocError, Global};
 use std::marker::Model;
 
-/// The fences of a board's harts: for each hart those that wait there, for each hart inside a fence call that call and the
-/// harts that it waits for, and how many were asked and applied (SBI 8).
+/// The remote fences of a board's harts (SBI 8): the fences that wait at each hart, each open fence call with the harts
+/// that it waits for, and the numbers of fences asked and applied.
 #[derive(Drop)]
 pub struct Fences<F> {
     queues: Pending<F>,
@@ -42,8 +42,12 @@ impl<F> Model for Fences<F> {
 }
 
 impl<F: Copy> Fences<F> {
-    /// Nothing waits, and no hart is in a call; `idle` is any fence, which stands where a hart has asked none. It fails
-    /// where memory runs out; no other call but `try_copy` takes memory.
+    /// No fence waits, and no hart is in a call. `idle` is any fence: it fills the places of harts that asked none.
+    /// Only this call and `try_copy` allocate.
+    ///
+    /// # Errors
+    ///
+    /// Out of memory.
     pub fn new(alloc: Global, harts: u64, idle: F) -> Result<Fences<F>, AllocError>
         requires { harts ≤ 128 }
         ensures { IfOk result (λ fences. StandsFor (nothing_before harts) harts [] fences) }
@@ -60,7 +64,11 @@ impl<F: Copy> Fences<F> {
         })
     }
 
-    /// Fences that are equal to these. It fails where memory runs out.
+    /// A copy.
+    ///
+    /// # Errors
+    ///
+    /// Out of memory.
     pub fn try_copy(&self, alloc: Global) -> Result<Fences<F>, AllocError>
         ensures { IfOk result (λ copy. copy ≡ self.now) }
     {
@@ -78,9 +86,9 @@ impl<F: Copy> Fences<F> {
         })
     }
 
-    /// Hart `c`, which is outside of a call, asks a fence of these harts by the event of this place (SBI 8): at itself, if it
-    /// is one of them, it is applied at once, and at each other one it waits (profile). The hart is now inside its call. The
-    /// place is later than those of the calls that are open.
+    /// Hart `c`, which is in no call, asks these harts for a fence, by the event at this place (SBI 8). At the hart
+    /// itself, if it is one of them, the fence is applied at once; at each other hart it waits (profile). The hart is
+    /// now inside its call. The place is later than those of all open calls.
     pub fn ask<C: Fenced<F>>(
         &mut self,
         caches: &mut [C],
@@ -115,7 +123,7 @@ impl<F: Copy> Fences<F> {
         });
     }
 
-    /// Hart `t` applies the first fence that waits there, and the hart that asked it waits for `t` no more (profile).
+    /// Hart `t` applies the first fence that waits there. The hart that asked it no longer waits for `t` (profile).
     pub fn serve<C: Fenced<F>>(&mut self, caches: &mut [C], t: u64)
         requires in_range { t < length self.old.queues }
         requires waits { 0 < length (queue_at self.old.queues t) }
@@ -132,7 +140,7 @@ impl<F: Copy> Fences<F> {
         self.applied += 1;
     }
 
-    /// The call that hart `c` is in, which waits for no hart any more, is over (profile).
+    /// Ends the call of hart `c`, which waits for no hart any more (profile).
     pub fn poll(&mut self, c: u64)
         requires in_range { c < length self.old.calls }
         requires over { call_at self.old c ≡ Some [] }
@@ -142,7 +150,8 @@ impl<F: Copy> Fences<F> {
         self.opened[c as usize] = None;
     }
 
-    /// Hart `t` stops: all that waits there counts as applied, its caches are emptied, and no hart waits for it (profile).
+    /// Hart `t` stops. All fences that wait there count as applied, its caches are emptied, and no call waits for it
+    /// any more (profile).
     pub fn discharge_all<C: Fenced<F>>(&mut self, caches: &mut [C], t: u64)
         requires in_range { t < length self.old.queues }
         requires room { HasRoom self.old }
@@ -156,7 +165,8 @@ impl<F: Copy> Fences<F> {
         clear_at(caches, t);
     }
 
-    /// The board is reset: all that waits counts as applied, all caches are emptied, and all calls are dropped (profile).
+    /// The board is reset. All waiting fences count as applied, all caches are emptied, and all calls are dropped
+    /// (profile).
     pub fn reset<C: Fenced<F>>(&mut self, caches: &mut [C])
         requires { HasRoom self.old }
         ensures taken { IsTaken self.old Reset self.new }
@@ -177,7 +187,7 @@ impl<F: Copy> Fences<F> {
         self.calls[c as usize].is_some()
     }
 
-    /// The harts that hart `c`'s fence call waits for, if it is in one.
+    /// The harts that hart `c`'s fence call waits for. None: it is in no call.
     pub fn outstanding(&self, c: u64) -> Option<HartSet>
         requires { c < length self.now.calls }
         ensures { result ≡ call_at self.now c }
@@ -185,7 +195,7 @@ impl<F: Copy> Fences<F> {
         self.calls[c as usize].map(|call| call.harts())
     }
 
-    /// The fence call that hart `c` is in, if it is in one.
+    /// The fence call of hart `c`. None: it is in no call.
     pub fn call(&self, c: u64) -> Option<FenceCall<F>>
         requires { c < length self.now.calls }
         ensures { result ≡ opened_at self.now c }
@@ -201,7 +211,7 @@ impl<F: Copy> Fences<F> {
         self.calls[c as usize].is_some_and(|call| call.is_some())
     }
 
-    /// The requests that wait at hart `t`, the first of them first.
+    /// The requests that wait at hart `t`, in their order.
     pub fn iter(&self, t: u64) -> Waiting<'_, F>
         requires { t < length self.now.queues }
         ensures requests { result ≡ queue_at self.now.queues t }
@@ -210,7 +220,7 @@ impl<F: Copy> Fences<F> {
         self.queues.iter(t)
     }
 
-    /// The first request that waits at hart `t`.
+    /// The first request that waits at hart `t`, if one does.
     pub fn front(&self, t: u64) -> Option<Request<F>>
         requires { t < length self.now.queues }
         ensures { result ≡ slice_get (queue_at self.now.queues t) 0 }
@@ -218,7 +228,7 @@ impl<F: Copy> Fences<F> {
         self.queues.front(t)
     }
 
-    /// How many requests wait at hart `t`: fewer than there are harts.
+    /// The number of requests that wait at hart `t`, fewer than there are harts.
     pub fn len(&self, t: u64) -> u64
         requires { t < length self.now.queues }
         ensures count { result ≡ length (queue_at self.now.queues t) }
@@ -227,9 +237,9 @@ impl<F: Copy> Fences<F> {
         self.queues.len(t)
     }
 
-    /// How many serves by hart `t` the call that hart `c` is in still needs, until it waits for `t` no more: the position,
-    /// counted from 1, of its request among those that wait at `t`. It is 0 where the call doesn't wait for `t`, where `c` is
-    /// outside of a call, and where there is no such hart.
+    /// The number of serves by hart `t` after which the call of hart `c` no longer waits for `t`: the position, counted
+    /// from 1, of its request among those that wait at `t`. It is 0 if the call doesn't wait for `t`, if `c` is in no
+    /// call, or if one of the harts doesn't exist.
     pub fn need(&self, c: u64, t: u64) -> u64
         ensures position { result ≡ position_of (is_from c) (queue_at self.now.queues t) }
         ensures need { IsNeed self.now c t result }
@@ -237,21 +247,21 @@ impl<F: Copy> Fences<F> {
         self.queues.position(t, c)
     }
 
-    /// Of how many harts fences were asked, all together.
+    /// The number of fences asked by calls: one for each hart that a call asked.
     pub fn asked(&self) -> u64
         ensures { result ≡ self.now.asked }
     {
         self.asked
     }
 
-    /// At how many harts they were applied, all together.
+    /// The number of these fences that were applied, at all harts together.
     pub fn applied(&self) -> u64
         ensures { result ≡ self.now.applied }
     {
         self.applied
     }
 
-    /// How many wait, at all harts together.
+    /// The number of fences that wait, at all harts together.
     pub fn waiting(&self) -> u64
         ensures { result ≡ sum_by length self.now.queues }
     {
@@ -259,7 +269,7 @@ impl<F: Copy> Fences<F> {
     }
 }
 
-/// 1 where it holds, and else 0.
+/// 1 for true, 0 for false.
 fn one_if(holds: bool) -> u64
     ensures { result ≡ (if holds then 1 else 0) }
 {

@@ -1,53 +1,55 @@
-//! Laws of right turns of fences.
+//! Laws of fences, for all sequences of possible turns.
 ghost use Rattle.rfence.specs.Laws.{AppliedIsCounted, AppliedOnce, BoardsAreSmall, CountsAgree, OpenedOnce, OthersChangeNothing, SuccessStrikes, TurnsComeLater, WaitsAreOfOpenCalls};
 
-/// The fences that wait at a hart are of distinct other harts of the board, each inside the call by which it asked;
-/// so fewer wait at a hart than there are harts (profile).
+/// The fences that wait at a hart come from distinct other harts, each inside the call by which it asked. So fewer wait
+/// at a hart than there are harts (profile). A law: there is nothing to run.
 pub fn waits_are_of_open_calls<F>()
     ensures { WaitsAreOfOpenCalls F }
 {}
 
-/// Each fence that is asked of a hart, of itself or by another one, was applied there once, or waits there once.
+/// Each fence that is asked of a hart, by itself or by another hart, was applied there once, or waits there once. A
+/// law: there is nothing to run.
 pub fn applied_once<F>()
     ensures { AppliedOnce F }
 {}
 
-/// Each fence that was asked of a hart by a call that was open at the opening was applied there once, before or since, or
-/// waits there once.
+/// Each fence that a call open at the opening asked of a hart was applied there once, before the opening or since, or
+/// waits there once. A law: there is nothing to run.
 pub fn opened_once<F>()
     ensures { OpenedOnce F }
 {}
 
-/// Where a hart polls after it asked a fence, so that its call was a success, the fence was applied at each hart that it
-/// asked, or that hart's caches were emptied, when it was asked or later (SBI 8).
+/// If a hart asked a fence and polled later, its call succeeded: at each hart that it asked, the fence was applied or
+/// the caches were emptied, at the ask or later (SBI 8). A law: there is nothing to run.
 pub fn success_strikes<F>()
     ensures { SuccessStrikes F }
 {}
 
-/// What is kept of a call is the set of its outstanding harts, and at most 128 fences were asked, and at most 128 applied,
-/// for each turn that was made (profile).
+/// The harts that a call waits for are the set that is stored. At most 128 fences were asked, and at most 128 applied,
+/// for each turn so far (profile). A law: there is nothing to run.
 pub fn boards_are_small<F>()
     ensures { BoardsAreSmall F }
 {}
 
-/// Of right turns: as many fences were asked of harts, all together, as were applied there and as
-/// wait there; those of a hart by itself alone don't count (profile).
+/// The fences asked are as many as those applied and those that wait, at all harts together. Local fences don't count
+/// (profile). A law: there is nothing to run.
 pub fn counts_agree<F>()
     ensures { CountsAgree F }
 {}
 
-/// Of right turns: the count of applied fences is the opening's, and the number of fences of calls that were applied since,
-/// at all harts together; those of a hart by itself alone don't count (profile).
+/// The count of applied fences is the opening's count plus the fences of calls applied since, at all harts together.
+/// Local fences don't count (profile). A law: there is nothing to run.
 pub fn applied_is_counted<F>()
     ensures { AppliedIsCounted F }
 {}
 
-/// A fence of a hart by itself alone, and what has to do with no fence, leave what is kept as it is.
+/// A local fence, and a turn that concerns no fence, don't change the stored state. A law: there is nothing to run.
 pub fn others_change_nothing<F>()
     ensures { OthersChangeNothing F }
 {}
 
-/// The next turn comes at a later place than each call that is kept, so a fence can be asked by it (profile).
+/// The next turn has a later place than each open call, so a hart can ask by it (profile). A law: there is nothing to
+/// run.
 pub fn turns_come_later<F>()
     ensures { TurnsComeLater F }
 {}

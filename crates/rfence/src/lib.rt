@@ -1,4 +1,5 @@
-//! Remote fences (SBI 8): which wait at which hart, which were applied, and for which harts a call waits.
+//! Remote fences (SBI 8): the fences that wait at each hart, those that were applied, and the harts that a call waits
+//! for.
 #![tactic(auto)]
 
 mod awaited;

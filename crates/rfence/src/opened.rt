@@ -1,8 +1,8 @@
-//! The fence calls that harts are in.
+//! Open fence calls.
 
 use hart_mask::HartSet;
 
-/// A fence call that a hart is in: where it asked, whom, and what is dropped there (SBI 8).
+/// An open fence call: the place of its event, the harts that it asked, and its fence (SBI 8).
 #[derive(Clone, Copy, Debug, PartialEq, Eq)]
 pub struct FenceCall<F> {
     /// The place of the event by which the hart asked, among all events of the board.

@@ -1,4 +1,4 @@
-//! The requests that wait at harts.
+//! The requests that wait at a board's harts.
 ghost use Rattle.std.specs.Prelude.{◌≡◌, ◌<◌, ◌≤◌, ◌==◌, false, length, IfOk, replicate, sum_by, [], slice_get};
 ghost use Rattle.std.specs.Iterator.{YieldsFirst, item_count};
 ghost use Rattle.fence_queue.specs.Positions.{position_of};
@@ -12,8 +12,8 @@ use hart_mask::HartSet;
 use std::alloc::{AllocError, Global};
 use std::marker::Model;
 
-/// The fences that wait at the harts of a board, by hart. A hart asks one fence at a time, so that only its id stands in the
-/// queues of those that it asks, and its fence once.
+/// The fences that wait at the harts of a board, by hart. A hart asks one fence at a time. So its fence is stored once,
+/// and the queues hold only the ids of callers.
 #[derive(Drop)]
 pub struct Pending<F> {
     callers: Queues<()>,
@@ -34,8 +34,12 @@ impl<F> Model for Pending<F> {
 }
 
 impl<F: Copy> Pending<F> {
-    /// Nothing waits at any hart, and `idle` stands where a hart asked nothing. It fails where memory runs out; no other
-    /// call but `try_copy` takes memory.
+    /// No fence waits at any hart. `idle` fills the places of harts that asked none. Only this call and `try_copy`
+    /// allocate.
+    ///
+    /// # Errors
+    ///
+    /// Out of memory.
     pub fn new(alloc: Global, harts: u64, idle: F) -> Result<Pending<F>, AllocError>
         requires { harts ≤ 128 }
         ensures { IfOk result (λ pending. pending ≡ replicate harts []) }
@@ -49,7 +53,11 @@ impl<F: Copy> Pending<F> {
         })
     }
 
-    /// Fences that are equal to these. It fails where memory runs out.
+    /// A copy.
+    ///
+    /// # Errors
+    ///
+    /// Out of memory.
     pub fn try_copy(&self, alloc: Global) -> Result<Pending<F>, AllocError>
         ensures { IfOk result (λ copy. copy ≡ self.now) }
     {
@@ -63,7 +71,7 @@ impl<F: Copy> Pending<F> {
         })
     }
 
-    /// Puts a request at the end of the queue of each of these harts. None of its caller waits anywhere.
+    /// Appends a request to the queue of each target. No other request of its caller waits anywhere.
     pub fn ask(&mut self, targets: HartSet, request: Request<F>)
         requires caller { request.from < length self.old }
         requires out { IsOut request.from self.old }
@@ -75,7 +83,7 @@ impl<F: Copy> Pending<F> {
         ask_each(&mut self.callers, targets, Request { from, flush: () });
     }
 
-    /// Takes the first request out of hart `t`'s queue, where one waits.
+    /// Removes the first request from hart `t`'s queue and returns it, if one waits.
     pub fn pop(&mut self, t: u64) -> Option<Request<F>>
         requires { t < length self.old }
         ensures answer { result ≡ slice_get (queue_at self.old t) 0 }
@@ -89,7 +97,7 @@ impl<F: Copy> Pending<F> {
         })
     }
 
-    /// Takes all requests out of hart `t`'s queue.
+    /// Removes all requests from hart `t`'s queue.
     pub fn drain(&mut self, t: u64)
         requires { t < length self.old }
         ensures { self.new ≡ drained self.old t }
@@ -97,14 +105,14 @@ impl<F: Copy> Pending<F> {
         self.callers.drain(t);
     }
 
-    /// Takes all requests out of all queues.
+    /// Removes all requests from all queues.
     pub fn clear(&mut self)
         ensures { self.new ≡ replicate (length self.old) [] }
     {
         self.callers.clear();
     }
 
-    /// The first request that waits at hart `t`.
+    /// The first request that waits at hart `t`, if one does.
     pub fn front(&self, t: u64) -> Option<Request<F>>
         requires { t < length self.now }
         ensures { result ≡ slice_get (queue_at self.now t) 0 }
@@ -113,7 +121,7 @@ impl<F: Copy> Pending<F> {
         Some(request_of(&self.fences, self.idle, caller))
     }
 
-    /// The requests that wait at hart `t`, the first of them first. They come from distinct other harts.
+    /// The requests that wait at hart `t`, in their order. They come from distinct other harts.
     pub fn iter(&self, t: u64) -> Waiting<'_, F>
         requires { t < length self.now }
         ensures requests { result ≡ queue_at self.now t }
@@ -126,7 +134,7 @@ impl<F: Copy> Pending<F> {
         }
     }
 
-    /// How many requests wait at hart `t`: fewer than there are harts.
+    /// The number of requests that wait at hart `t`, fewer than there are harts.
     pub fn len(&self, t: u64) -> u64
         requires { t < length self.now }
         ensures count { result ≡ length (queue_at self.now t) }
@@ -135,15 +143,15 @@ impl<F: Copy> Pending<F> {
         self.callers.len(t)
     }
 
-    /// The position, counted from 1, of hart `from`'s request in hart `t`'s queue; 0 where none is there, or there is no such
-    /// hart.
+    /// The position, counted from 1, of hart `from`'s request in hart `t`'s queue. It is 0 if the queue has none, or if
+    /// there is no hart `t`.
     pub fn position(&self, t: u64, from: u64) -> u64
         ensures { result ≡ position_of (is_from from) (queue_at self.now t) }
     {
         self.callers.position(t, from)
     }
 
-    /// How many requests wait, at all harts together.
+    /// The number of requests that wait at all harts together.
     pub fn total(&self) -> u64
         ensures { result ≡ sum_by length self.now }
     {
@@ -151,7 +159,7 @@ impl<F: Copy> Pending<F> {
     }
 }
 
-/// The requests that wait at one hart and are still to come, the first of them first.
+/// An iterator over the requests that wait at a hart.
 #[derive(Drop)]
 pub struct Waiting<'a, F> {
     callers: fence_queue::Waiting<'a, ()>,

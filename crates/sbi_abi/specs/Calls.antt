@@ -17,7 +17,7 @@ pub mod Rfence
 pub mod Srst
 pub mod Time
 
--- what a listing names by the number n, or else `other`
+-- the item that a listing has at the number n, or `other` if it has none
 abbrev pub named : {A : Type 0} → ℕ → A → List (ℕ × A) → A
 named n other [] = other
 named n other (row ∷ rows) = if n == row.0 then row.1 else named n other rows
@@ -33,10 +33,10 @@ extensions =
     ∷ (srst_id, srst_listing)
     ∷ []
 
--- The call that the registers name (SBI 3: an EID or FID that isn't implemented is not supported).
+-- The call that the registers name; an EID or FID that isn't implemented is not supported (SBI 3).
 unfoldable pub call_of : Regs → Call
 call_of regs = named regs.fid Unsupported (named regs.eid (λ regs. []) extensions regs)
 
--- The ids that probing answers 1 for: those of the extensions (SBI 4.4).
+-- The extension ids for which probing answers 1 (SBI 4.4).
 abbrev pub is_extension_id : ℕ → Bool
 is_extension_id eid = list_any (λ extension. extension.0 == eid) extensions

@@ -4,7 +4,7 @@ use Rattle.sbi_abi.specs.declared.answer.Sbiret.{Sbiret}
 use Rattle.sbi_abi.specs.declared.answer.SbiError.{SbiError}
 use Rattle.sbi_abi.specs.declared.answer.SbiError.TheVariants.{Failed, NotSupported, InvalidParam, Denied, InvalidAddress, AlreadyAvailable, AlreadyStarted, AlreadyStopped}
 
--- The number of each error (SBI 3), a number below 0: `negsuc n` is -(n + 1).
+-- The number of each error, below 0 (SBI 3): `negsuc n` is -(n + 1).
 abbrev pub error_number : SbiError → ℤ
 error_number Failed = negsuc 0
 error_number NotSupported = negsuc 1

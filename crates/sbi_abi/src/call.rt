@@ -34,7 +34,7 @@ pub struct Regs {
     pub a: [u64; 6],
 }
 
-/// What an ECALL asks for: a function of an extension.
+/// The function of an extension that an ECALL names.
 #[derive(Clone, Copy, Debug, PartialEq, Eq)]
 pub enum Call {
     /// A function of the Base extension (SBI 4).
@@ -53,7 +53,7 @@ pub enum Call {
     Unsupported,
 }
 
-/// The call that the registers ask for.
+/// The call that the registers name (SBI 3).
 #[tactic(auto, unfolding(crate::specs::Calls::call_of))]
 #[inline(always)]
 pub fn decode(regs: &Regs) -> Call
@@ -70,7 +70,7 @@ pub fn decode(regs: &Regs) -> Call
     }
 }
 
-/// Whether `eid` is the id of an extension that has a function here.
+/// Whether the board implements the extension `eid` (SBI 4.4).
 pub fn is_extension(eid: u64) -> bool
     ensures { result ≡ is_extension_id eid }
 {

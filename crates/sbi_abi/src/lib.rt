@@ -1,5 +1,5 @@
-//! The binary interface between a supervisor and its SBI implementation: the calls by their numbers,
-//! and the pair of values that answers one (SBI 1.0.0).
+//! The binary interface between a supervisor and its SBI implementation: the calls by their numbers, and the pair of
+//! values that a call returns (SBI 1.0.0).
 #![tactic(auto)]
 
 mod answer;

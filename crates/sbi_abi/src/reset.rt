@@ -1,4 +1,4 @@
-//! Kinds of system reset, and which one a type and a reason ask for.
+//! Kinds of system reset, and the one that a type and a reason name.
 
 ghost use Rattle.std.specs.Prelude.{◌≡◌};
 ghost use Rattle.sbi_abi.specs.ResetTypes.{is_reason, reset_kind_number, reset_kind_of, reset_of};
@@ -8,11 +8,11 @@ use crate::answer::SbiError;
 /// The kinds of system reset (SBI 10.1).
 #[derive(Clone, Copy, Debug, PartialEq, Eq)]
 pub enum ResetKind {
-    /// The power goes off.
+    /// The board is powered off.
     Shutdown,
-    /// The board begins anew, as after power on.
+    /// The board starts again, with its memory cleared (that it is: profile).
     ColdReboot,
-    /// The board begins anew, and keeps its memory.
+    /// The board starts again, and keeps its memory (profile).
     WarmReboot,
 }
 
@@ -29,18 +29,21 @@ impl ResetKind {
     }
 }
 
-/// A system reset that is asked for (SBI 10.1).
+/// What a call for a system reset asks for (SBI 10.1).
 #[derive(Clone, Copy, Debug, PartialEq, Eq)]
 pub struct Reset {
-    /// Its kind.
+    /// The kind of reset.
     pub kind: ResetKind,
-    /// Why it is asked for: the low 32 bits of the reason.
+    /// The reset reason, its low 32 bits.
     pub reason: u32,
 }
 
-/// The reset that a type and a reason name, each by its low 32 bits; the upper bits are ignored (profile). The type is
-/// looked at first (profile): a reserved one is an invalid parameter, and a vendor's one isn't supported; then a reserved
-/// reason is an invalid parameter (SBI 10.1).
+/// The reset that a type and a reason name, each by its low 32 bits; the upper bits are ignored (profile).
+///
+/// # Errors
+///
+/// `InvalidParam` for a reserved type, `NotSupported` for a vendor's; after these, `InvalidParam` for a reserved reason
+/// (SBI 10.1; that the type is checked first: profile).
 pub fn system_reset(reset_type: u64, reason: u64) -> Result<Reset, SbiError>
     ensures { result ≡ reset_of reset_type reason }
 {
@@ -52,7 +55,7 @@ pub fn system_reset(reset_type: u64, reason: u64) -> Result<Reset, SbiError>
     Ok(Reset { kind, reason })
 }
 
-/// The kind of reset that the low 32 bits of a type name (SBI 10.1).
+/// The kind of reset that the low 32 bits of a type name, or the error for the type (SBI 10.1).
 #[tactic(auto, unfolding(crate::specs::ResetTypes::reset_kind_of))]
 fn reset_kind(reset_type: u64) -> Result<ResetKind, SbiError>
     ensures { result ≡ reset_kind_of reset_type }
@@ -66,7 +69,7 @@ fn reset_kind(reset_type: u64) -> Result<ResetKind, SbiError>
     }
 }
 
-/// Whether a reason isn't reserved: no reason, a failure of the system, or one of the implementation's or the vendor's
+/// Whether a reason isn't reserved: no reason, system failure, or one of the SBI implementation, a vendor or a platform
 /// (SBI 10.1).
 fn is_reason(reason: u32) -> bool
     ensures { result ≡ is_reason reason }

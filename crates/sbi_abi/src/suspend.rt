@@ -1,21 +1,24 @@
-//! Kinds of suspend, and which one a type asks for.
+//! Kinds of suspend, and the one that a type names.
 
 ghost use Rattle.std.specs.Prelude.{◌≡◌};
 ghost use Rattle.sbi_abi.specs.SuspendTypes.{suspend_kind_of};
 
 use crate::answer::SbiError;
 
-/// The kinds of suspend that can be asked for (SBI 9.4).
+/// The kinds of suspend that the board implements (SBI 9.4).
 #[derive(Clone, Copy, Debug, PartialEq, Eq)]
 pub enum SuspendKind {
-    /// The hart keeps its registers, and its call returns when it resumes.
+    /// The hart keeps its registers. When it resumes, its call returns.
     Retentive,
-    /// The hart loses its registers, and begins anew at an address when it resumes.
+    /// The hart loses its registers. When it resumes, it begins at the call's address.
     NonRetentive,
 }
 
-/// The kind of suspend that a type names by its low 32 bits; the upper bits are ignored (profile). A reserved type is
-/// an invalid parameter, and a platform's one isn't supported (SBI 9.4; that there is none here: profile).
+/// The kind of suspend that a type names by its low 32 bits; the upper bits are ignored (profile).
+///
+/// # Errors
+///
+/// `InvalidParam` for a reserved type, `NotSupported` for a platform's (SBI 9.4; that the board has none: profile).
 #[tactic(auto, unfolding(crate::specs::SuspendTypes::suspend_kind_of))]
 pub fn suspend_kind(suspend_type: u64) -> Result<SuspendKind, SbiError>
     ensures { result ≡ suspend_kind_of suspend_type }

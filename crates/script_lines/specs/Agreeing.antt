@@ -1,4 +1,4 @@
--- What a trace says of an answer (profile).
+-- Answers as traces say them (profile).
 use Rattle.std.specs.Prelude.{Result, Ok, Err}
 use Rattle.sv39.specs.Causes.{cause_number}
 use Rattle.hsm.specs.States.{state_number}
@@ -9,7 +9,7 @@ use Rattle.board_terms.specs.Refusals.{refusal_number}
 use Rattle.script_lines.specs.declared.said.Said.{Said}
 use Rattle.script_lines.specs.declared.said.Said.TheVariants.{Ret, Waiting, Gone, Entry, Value, Fault, Served, Moved, Done, Refused}
 
--- An answer as it is written: a cause by its code, a state and a refusal by their numbers.
+-- An answer as a trace says it: a cause by its exception code, a state and a refusal by their numbers.
 abbrev pub said_of : Result Reply Refusal → Said
 said_of (Ok (replies.Ret answer)) = Ret answer.error answer.value
 said_of (Ok replies.Waiting) = Waiting

@@ -1,4 +1,4 @@
--- Lines as they are kept.
+-- Lines in their packed form (profile).
 use Rattle.std.specs.Prelude.{◌≡◌, ℕ, ◌+◌, ◌<◌, List, [], ◌∷◌, take, drop, length, is_some}
 use Rattle.script_lines.specs.declared.line_shape.LineShape.{LineShape}
 use Rattle.script_lines.specs.declared.lines.TheConstants.{MOST_LINES}
@@ -7,7 +7,7 @@ use Rattle.script_lines.specs.declared.script.Doing.TheVariants.{Step}
 use Rattle.script_lines.specs.declared.script.Line.{Line}
 use Rattle.script_lines.specs.Packing.{DoingFits, doing_made, op_made, said_count, said_made}
 
--- how many numbers a line has, and how many lines have
+-- the number of a line's numbers, and of all lines' numbers
 abbrev pub number_count : LineShape → ℕ
 number_count kept = kept.op_count + said_count kept.said
 
@@ -23,13 +23,13 @@ line_of kept numbers = record {
   said = said_made kept.said (drop kept.op_count numbers);
 }
 
--- lines, whose numbers stand one behind the other
+-- the lines of these shapes, whose numbers follow one another
 abbrev pub lines_of : (numbers : List ℕ) → List LineShape → List Line
 lines_of numbers [] = []
 lines_of numbers (first ∷ kept) =
     line_of first (take (number_count first) numbers) ∷ lines_of (drop (number_count first) numbers) kept
 
--- the line that parts make
+-- the line of these parts
 abbrev pub plain_line : (number : ℕ) → Plain → (numbers : List ℕ) → Line
 plain_line number plain
     numbers = record { number = number; doing = Step plain.actor (op_made plain.op numbers); said = plain.said }
@@ -39,8 +39,8 @@ abbrev pub IsLike : List Line → Line → Type 0
 IsLike [] line = Unit {0}
 IsLike (first ∷ lines) line = is_some first.said ≡ is_some line.said
 
--- A line can follow these: it is of their kind, its hart is at most 127, and its number and how many there are lie below 2^28
--- (profile).
+-- A line can follow these lines: it is of their kind, its hart is at most 127, and its number and their count are below
+-- 2^28 (profile).
 pub record CanFollow (lines : List Line) (line : Line) : Type 0 where
   pub few : length lines < MOST_LINES
   pub number : line.number < MOST_LINES

@@ -1,5 +1,5 @@
--- The one table of operations and replies: the word of each, the numbers that may follow it, whether a guest may do it, and the
--- resulting value (profile).
+-- The one table of operations and replies: the word of each, the numbers that can follow it, whether a guest can do it,
+-- and the resulting value (profile).
 use Rattle.std.specs.Prelude.{ℕ, ◌-◌, ◌^◌, Bool, true, false, ◌==◌, nat_lt, if◌then◌else◌, List, [], ◌∷◌, ◌++◌, length, slice_index_or, codes, Option, None, unwrap_or}
 use Rattle.std.specs.Int.{w64, cast_signed}
 use Rattle.std.specs.List.{find}
@@ -18,11 +18,11 @@ use Rattle.script_lines.specs.declared.said_name.SaidName.TheVariants as saids
 
 -- ---- numbers
 
--- the largest number of all
+-- the largest number of 64 bits
 abbrev pub last_number : ℕ
 last_number = 2 ^ 64 - 1
 
--- the largest number of a hart
+-- the largest hart id
 abbrev pub last_hart : ℕ
 last_hart = LAST_HART
 
@@ -30,15 +30,15 @@ last_hart = LAST_HART
 abbrev pub any_numbers : (least most : ℕ) → Places
 any_numbers least most = record { least = least; most = most; limit = last_number; may_be_absent = false }
 
--- the argument in a place, and its number, which is 0 if absent
+-- the argument at a place; None if it is absent
 abbrev pub argument_at : List (Option ℕ) → ℕ → Option ℕ
 argument_at arguments i = slice_index_or arguments i None
 
--- the number of the argument in a place, which is 0 if absent
+-- the number at a place, which is 0 if absent
 abbrev pub number_at : List (Option ℕ) → ℕ → ℕ
 number_at arguments i = unwrap_or (argument_at arguments i) 0
 
--- the number in a place, or another one if there are fewer
+-- the number at a place, or `other` if there are fewer arguments
 abbrev pub number_or : (other : ℕ) → List (Option ℕ) → ℕ → ℕ
 number_or other arguments i = if nat_lt i (length arguments) then number_at arguments i else other
 
@@ -48,7 +48,7 @@ by_word word_of names word = find (λ name. bytes_eq word (word_of name)) names
 
 -- ---- operations
 
--- what a guest may do, and what the firmware of a hart and the clock do
+-- the operations of guests, and those of a hart's firmware and the clock
 abbrev pub guest_ops : List OpName
 guest_ops =
     Ecall
@@ -91,7 +91,7 @@ op_word Serve = codes "serve"
 op_word Advance = codes "advance"
 op_word Tick = codes "tick"
 
--- what may follow it
+-- the numbers that can follow an operation's name
 abbrev pub op_places : OpName → Places
 op_places Ecall = any_numbers 2 8
 op_places Load = any_numbers 1 1
@@ -110,7 +110,7 @@ op_places Serve = any_numbers 0 0
 op_places Advance = any_numbers 0 0
 op_places Tick = any_numbers 1 1
 
--- whether a guest may do it; otherwise only a hart's firmware or the clock may
+-- whether a guest can do the operation; otherwise only a hart's firmware or the clock can
 abbrev pub is_guests : OpName → Bool
 is_guests Poll = false
 is_guests Serve = false
@@ -118,7 +118,7 @@ is_guests Advance = false
 is_guests Tick = false
 is_guests name = true
 
--- the registers of a call, where an argument that isn't written is 0
+-- the registers of a call; a missing argument is 0
 abbrev pub regs_of : List (Option ℕ) → Regs
 regs_of ns = record {
   eid = number_at ns 0;
@@ -164,13 +164,13 @@ name_of ops.Serve = Serve
 name_of ops.Advance = Advance
 name_of (ops.Tick n) = Tick
 
--- the operation that a word names
+-- the name that a word spells
 unfoldable pub op_named : List ℕ → Option OpName
 op_named word = by_word op_word op_names word
 
 -- ---- replies and refusals
 
--- those whose numbers have no sign: all but `ret`
+-- the names whose numbers have no sign: all but `ret`
 abbrev pub unsigned_saids : List SaidName
 unsigned_saids =
     saids.Waiting
@@ -188,7 +188,7 @@ unsigned_saids =
 abbrev pub said_names : List SaidName
 said_names = saids.Ret ∷ unsigned_saids
 
--- the word that names what is said of a step
+-- the word that spells a reply's or refusal's name
 abbrev pub said_word : SaidName → List ℕ
 said_word saids.Ret = codes "ret"
 said_word saids.Waiting = codes "waiting"
@@ -201,7 +201,7 @@ said_word saids.Moved = codes "moved"
 said_word saids.Done = codes "done"
 said_word saids.Refused = codes "refused"
 
--- what may follow it; the first number of `ret` is a signed one
+-- the numbers that can follow a reply's or refusal's name; the first number of `ret` is signed
 abbrev pub said_places : SaidName → Places
 said_places saids.Ret = any_numbers 2 2
 said_places saids.Waiting = any_numbers 0 0
@@ -214,7 +214,7 @@ said_places saids.Moved = any_numbers 1 1
 said_places saids.Done = any_numbers 0 0
 said_places saids.Refused = any_numbers 1 1
 
--- what is said under this name, with its arguments; the error of `ret` by its bits
+-- the reply or refusal of this name, with its arguments; the error of `ret` is given by its bits
 abbrev pub said_from : SaidName → List (Option ℕ) → Said
 said_from saids.Ret ns = says.Ret (cast_signed w64 (number_at ns 0)) (number_at ns 1)
 said_from saids.Waiting ns = says.Waiting
@@ -227,7 +227,7 @@ said_from saids.Moved ns = says.Moved (number_at ns 0)
 said_from saids.Done ns = says.Done
 said_from saids.Refused ns = says.Refused (number_at ns 0)
 
--- the name of what is said
+-- the name of a reply or refusal
 abbrev pub name_of_said : Said → SaidName
 name_of_said (says.Ret error value) = saids.Ret
 name_of_said says.Waiting = saids.Waiting
@@ -240,6 +240,6 @@ name_of_said (says.Moved state) = saids.Moved
 name_of_said says.Done = saids.Done
 name_of_said (says.Refused n) = saids.Refused
 
--- the reply or the refusal that a word names
+-- the name of a reply or refusal that a word spells
 unfoldable pub said_named : List ℕ → Option SaidName
 said_named word = by_word said_word said_names word

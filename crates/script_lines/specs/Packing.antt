@@ -1,4 +1,4 @@
--- How a line is kept: its shape, and its numbers among those of all lines.
+-- The packed form of a line: its shape, and its numbers among those of all lines (profile).
 use Rattle.std.specs.Prelude.{ℕ, suc, ◌<◌, true, false, ◌&&◌, if◌then◌else◌, ◌==◌, List, [], ◌∷◌, ◌++◌, take, length, slice_index_or, Option, Some, None}
 use Rattle.std.specs.Int.{w64, cast_signed, cast_unsigned}
 use Rattle.board_terms.specs.declared.op.Actor.{Actor}
@@ -22,18 +22,18 @@ use Rattle.script_lines.specs.declared.said_shape.SaidShape.TheVariants as shape
 use Rattle.script_lines.specs.declared.script.Doing.{Doing}
 use Rattle.script_lines.specs.declared.script.Doing.TheVariants.{Step, Cut}
 
--- the number in a place, which is 0 past the end
+-- the number at a place, which is 0 past the end
 abbrev pub number_from : List ℕ → ℕ → ℕ
 number_from ns i = slice_index_or ns i 0
 
 -- ---- operations
 
--- how many numbers stand before the zeros at the end
+-- the number of numbers before the trailing zeros
 abbrev pub used : List ℕ → ℕ
 used [] = 0
 used (n ∷ ns) = if (used ns == 0) && (n == 0) then 0 else suc (used ns)
 
--- The shape of an operation: what it is, without its numbers.
+-- The shape of an operation: the operation without its numbers.
 abbrev pub shape_of : Op → OpShape
 shape_of (ops.Ecall regs) = Ecall
 shape_of (ops.Load va) = Load
@@ -56,7 +56,7 @@ shape_of ops.Serve = Serve
 shape_of ops.Advance = Advance
 shape_of (ops.Tick n) = Tick
 
--- the shape of an operation of this name, with a number in each place
+-- the shape of an operation of this name, if no number is a dash
 abbrev pub named_shape : OpName → OpShape
 named_shape names.Ecall = Ecall
 named_shape names.Load = Load
@@ -75,12 +75,12 @@ named_shape names.Serve = Serve
 named_shape names.Advance = Advance
 named_shape names.Tick = Tick
 
--- an absent number is none
+-- the list of a number, which is empty if it is absent
 abbrev pub given : Option ℕ → List ℕ
 given None = []
 given (Some n) = n ∷ []
 
--- an operation's numbers, of a call without the arguments that are 0 to its end
+-- an operation's numbers, of a call without trailing arguments that are 0
 abbrev pub op_numbers : Op → List ℕ
 op_numbers (ops.Ecall regs) = regs.eid ∷ regs.fid ∷ take (used regs.a) regs.a
 op_numbers (ops.Load va) = va ∷ []
@@ -127,14 +127,14 @@ op_made Serve ns = ops.Serve
 op_made Advance ns = ops.Advance
 op_made Tick ns = ops.Tick (number_from ns 0)
 
--- how many of its numbers are kept: of a call those before the zeros at the end
+-- the number of an operation's numbers that are stored: of a call those before the trailing zeros
 abbrev pub kept_count : OpShape → List ℕ → ℕ
 kept_count Ecall ns = used ns
 kept_count shape ns = length ns
 
 -- ---- what is said
 
--- The shape of what a trace's line says, without its numbers.
+-- The shape of a reply or refusal: without its numbers.
 abbrev pub said_shape_of : Option Said → SaidShape
 said_shape_of None = shapes.Nothing
 said_shape_of (Some (says.Ret error value)) = shapes.Ret
@@ -148,7 +148,7 @@ said_shape_of (Some (says.Moved state)) = shapes.Moved
 said_shape_of (Some says.Done) = shapes.Done
 said_shape_of (Some (says.Refused n)) = shapes.Refused
 
--- the shape of what is said under this name
+-- the shape of a reply or refusal of this name
 abbrev pub named_said_shape : SaidName → SaidShape
 named_said_shape saids.Ret = shapes.Ret
 named_said_shape saids.Waiting = shapes.Waiting
@@ -161,7 +161,7 @@ named_said_shape saids.Moved = shapes.Moved
 named_said_shape saids.Done = shapes.Done
 named_said_shape saids.Refused = shapes.Refused
 
--- the numbers of what is said; an error by its bits
+-- the numbers of a reply or refusal; an error by its bits
 abbrev pub said_numbers : Option Said → List ℕ
 said_numbers None = []
 said_numbers (Some (says.Ret error value)) = cast_unsigned w64 error ∷ value ∷ []
@@ -175,7 +175,7 @@ said_numbers (Some (says.Moved state)) = state ∷ []
 said_numbers (Some says.Done) = []
 said_numbers (Some (says.Refused n)) = n ∷ []
 
--- What a line says, made of its shape and its numbers again.
+-- The reply or refusal of a shape and its numbers.
 abbrev pub said_made : SaidShape → List ℕ → Option Said
 said_made shapes.Nothing ns = None
 said_made shapes.Ret ns = Some (says.Ret (cast_signed w64 (number_from ns 0)) (number_from ns 1))
@@ -189,7 +189,7 @@ said_made shapes.Moved ns = Some (says.Moved (number_from ns 0))
 said_made shapes.Done ns = Some says.Done
 said_made shapes.Refused ns = Some (says.Refused (number_from ns 0))
 
--- how many numbers that is
+-- the number of a reply's or refusal's numbers
 abbrev pub said_count : SaidShape → ℕ
 said_count shapes.Nothing = 0
 said_count shapes.Ret = 2
@@ -210,22 +210,22 @@ abbrev pub actor_made : ActorShape → Actor
 actor_made (actors.Hart h) = Hart h
 actor_made actors.Clock = Clock
 
--- a hart's number is at most 127
+-- an actor fits: a hart's id is at most 127
 abbrev pub FitsKept : Actor → Type 0
 FitsKept (Hart h) = h < 128
 FitsKept Clock = Unit {0}
 
--- the numbers of what a line does: its operation's, and a cut has none
+-- the numbers of an action: its operation's; a cut has none
 abbrev pub doing_numbers : Doing → List ℕ
 doing_numbers (Step actor op) = op_numbers op
 doing_numbers Cut = []
 
--- what a line does, made of its shape and its numbers
+-- the action of a shape and its numbers
 abbrev pub doing_made : DoingShape → List ℕ → Doing
 doing_made (doings.Step actor op) ns = Step (actor_made actor) (op_made op ns)
 doing_made doings.Cut ns = Cut
 
--- what a line does can be kept
+-- an action fits into the packed form
 abbrev pub DoingFits : Doing → Type 0
 DoingFits (Step actor op) = FitsKept actor
 DoingFits Cut = Unit {0}

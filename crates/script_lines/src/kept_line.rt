@@ -1,4 +1,4 @@
-//! A line in its packed form, whose parts are made on request.
+//! A line in its packed form.
 ghost use Rattle.std.specs.Prelude.{◌≡◌, length};
 ghost use Rattle.script_lines.specs.declared.script.Line.{Line};
 ghost use Rattle.script_lines.specs.KeptLines.{line_of, number_count};
@@ -8,7 +8,7 @@ use crate::said::Said;
 use crate::script::{Doing, Line};
 use std::marker::Model;
 
-/// A line of a schedule or of a trace in its packed form. Each part is made on request.
+/// A line of a schedule or a trace, in its packed form. Each method unpacks one part.
 #[derive(Drop)]
 pub struct KeptLine<'a> {
     pub(crate) kept: &'a LineShape,
@@ -31,7 +31,7 @@ impl<'a> KeptLine<'a> {
         u64::from(self.kept.number)
     }
 
-    /// What it does.
+    /// The line's action.
     #[inline(always)]
     pub fn doing(&self) -> Doing
         ensures { result ≡ self.now.doing }
@@ -40,7 +40,7 @@ impl<'a> KeptLine<'a> {
         self.kept.doing.doing(&self.numbers[..end])
     }
 
-    /// The reply, only in a trace.
+    /// The reply or refusal, if the line is a trace's.
     pub fn said(&self) -> Option<Said>
         ensures { result ≡ self.now.said }
     {

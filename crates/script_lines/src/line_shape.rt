@@ -1,4 +1,4 @@
-//! A line as it is kept, its numbers aside.
+//! Packed lines, without their numbers.
 ghost use Rattle.std.specs.Prelude.{◌≡◌, ◌+◌, ◌≤◌, ◌++◌, vec_len, vec_capacity};
 ghost use Rattle.script_lines.specs.KeptLines.{number_count};
 ghost use Rattle.script_lines.specs.Packing.{DoingFits, FitsKept, doing_made, doing_numbers, actor_made};
@@ -8,21 +8,21 @@ use crate::said_shape::SaidShape;
 use crate::script::Doing;
 use board_terms::Actor;
 
-/// A line without its numbers, which stand behind those of the lines before it.
+/// A packed line without its numbers, which are stored after those of the lines before it.
 #[derive(Clone, Copy, Debug)]
 pub struct LineShape {
     /// The line's number.
     pub number: u32,
-    /// What it does.
+    /// The line's action.
     pub doing: DoingShape,
-    /// How many numbers that has.
+    /// The number of the action's numbers.
     pub op_count: u8,
-    /// What is said of it, whose numbers stand behind those.
+    /// The reply or refusal, whose numbers follow the action's.
     pub said: SaidShape,
 }
 
 impl LineShape {
-    /// How many numbers the line has.
+    /// The number of the line's numbers.
     #[inline(always)]
     pub fn number_count(&self) -> usize
         ensures { result ≡ number_count self.now }
@@ -31,14 +31,14 @@ impl LineShape {
     }
 }
 
-/// What a line does, without its numbers.
+/// A line's action, without its numbers.
 #[derive(Clone, Copy, Debug)]
 pub enum DoingShape {
-    /// An actor makes a step.
+    /// A step of an actor.
     Step {
-        /// Who makes it.
+        /// The actor.
         actor: ActorShape,
-        /// What it does.
+        /// The operation.
         op: OpShape,
     },
     /// The history is cut.
@@ -46,7 +46,7 @@ pub enum DoingShape {
 }
 
 impl DoingShape {
-    /// The shape of what a line does. Its numbers are put behind the others.
+    /// The shape of an action. Its numbers are appended.
     pub fn put(doing: Doing, numbers: &mut Vec<u64>) -> DoingShape
         requires room { vec_len numbers.old + OP_NUMBERS ≤ vec_capacity numbers.old }
         requires actor { DoingFits doing }
@@ -65,7 +65,7 @@ impl DoingShape {
         }
     }
 
-    /// What a line of this shape does, with its numbers.
+    /// The action of this shape, with these numbers.
     #[inline(always)]
     pub fn doing(self, numbers: &[u64]) -> Doing
         ensures { result ≡ doing_made self numbers.now }
@@ -80,17 +80,17 @@ impl DoingShape {
     }
 }
 
-/// An actor, in few bytes.
+/// An actor, packed.
 #[derive(Clone, Copy, Debug)]
 pub enum ActorShape {
-    /// A hart, by its number.
+    /// The hart of this id.
     Hart(u8),
     /// The clock.
     Clock,
 }
 
 impl ActorShape {
-    /// An actor's shape.
+    /// The shape of an actor.
     #[inline(always)]
     pub fn of(actor: Actor) -> ActorShape
         requires { FitsKept actor }

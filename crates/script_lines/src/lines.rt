@@ -18,27 +18,27 @@ use std::alloc::{AllocError, Global};
 use std::marker::Model;
 use thiserror::Error;
 
-/// How many numbers a line has at most.
+/// The most numbers of a line.
 const LINE_NUMBERS: usize = OP_NUMBERS + SAID_NUMBERS;
 
-/// How many bytes of a script are worth room of their own.
+/// The bytes of a script from which on it is worth reserving room for all its lines at once.
 const MANY_BYTES: usize = 1 << 16;
 
-/// How many bytes a short line has.
+/// The bytes of a short line.
 const LINE_BYTES: usize = 8;
 
 const _: () = prove!(size_of::<LineShape>() == 12);
 
-/// How many lines there are at most, and below which their numbers are: 2^28 (profile).
+/// The most lines, and the bound that line numbers stay below: 2^28 (profile).
 pub const MOST_LINES: usize = 1 << 28;
 
-/// Why a line can't be added to others.
+/// Why a line can't be added to lines.
 #[derive(Clone, Copy, Debug, PartialEq, Eq, Error)]
 pub enum LineFault {
-    /// It can't follow them.
+    /// The line can't follow them: it is of another kind, or its hart, its number or their count is too large.
     #[error("a line that can't follow")]
     BadLine,
-    /// Memory was refused.
+    /// Out of memory.
     #[error("no memory")]
     NoMemory,
 }
@@ -51,7 +51,7 @@ impl From<AllocError> for LineFault {
     }
 }
 
-/// Whether a line is a cut, or a step of the clock or of a hart up to 127.
+/// Whether an action is a cut, or a step of the clock or of a hart up to 127.
 fn fits(doing: Doing) -> bool
     ensures { (result ≡ true) ↔ DoingFits doing }
 {
@@ -90,11 +90,11 @@ impl Lines {
         }
     }
 
-    /// A line more at the end of a schedule's or of a trace's lines.
+    /// Appends a line to a schedule's or a trace's lines.
     ///
     /// # Errors
     ///
-    /// The line can't follow these, or memory was refused. The lines are as they were.
+    /// `BadLine`: the line can't follow these lines. `NoMemory`: out of memory. The lines don't change.
     pub fn add(&mut self, line: &Line) -> Result<(), LineFault>
         ensures bad { IsErrOf result BadLine ↔ ¬ CanFollow self.old line.now }
         ensures added { OnOk result (self.new ≡ self.old ++ line.now ∷ []) }
@@ -107,7 +107,7 @@ impl Lines {
         Ok(())
     }
 
-    /// Whether a line can follow these.
+    /// Whether a line can follow these lines.
     fn can_follow(&self, line: &Line) -> bool
         ensures { (result ≡ true) ↔ CanFollow self.now line.now }
     {
@@ -117,7 +117,7 @@ impl Lines {
             && self.is_like(line)
     }
 
-    /// Whether a line has a reply if and only if the first of these has one, if there is one.
+    /// Whether there is no line yet, or the line and the first line both have a reply or both have none.
     fn is_like(&self, line: &Line) -> bool
         ensures { (result ≡ true) ↔ IsLike self.now line.now }
     {
@@ -127,8 +127,8 @@ impl Lines {
         }
     }
 
-    /// Reserves room for the lines of this many bytes at once, if they are many and there is memory: systems give large pages
-    /// to what is large from the beginning.
+    /// Reserves room for all lines of a script of so many bytes, if it is long. (Systems give large pages to large
+    /// allocations.) If memory is refused, it does nothing.
     pub fn expect(&mut self, bytes: usize)
         ensures { self.new ≡ self.old }
     {
@@ -136,16 +136,16 @@ impl Lines {
         if bytes < MANY_BYTES || self.kept.capacity() >= lines {
             return;
         }
-        // (what is refused is asked for again when it is needed)
+        // (if memory is refused, `push` asks again when it needs it)
         let _ = self.kept.reserve(lines);
         let _ = self.numbers.reserve(lines);
     }
 
-    /// A line more at the end.
+    /// Appends a line.
     ///
     /// # Errors
     ///
-    /// Memory was refused.
+    /// Out of memory.
     pub fn push(&mut self, line: &Line) -> Result<(), AllocError>
         requires number { line.now.number < MOST_LINES }
         requires actor { DoingFits line.now.doing }
@@ -167,11 +167,11 @@ impl Lines {
         Ok(())
     }
 
-    /// A line more at the end, whose operation is of a shape and has these numbers.
+    /// Appends a line made of these parts, and the numbers of its operation.
     ///
     /// # Errors
     ///
-    /// Memory was refused.
+    /// Out of memory.
     #[inline(always)]
     pub fn push_plain(
         &mut self,
@@ -201,7 +201,7 @@ impl Lines {
         Ok(())
     }
 
-    /// How many lines there are.
+    /// The number of lines.
     #[tactic(auto, using(crate::proofs::Packed::length_lines))]
     pub fn len(&self) -> usize
         ensures { result ≡ length self.now }
@@ -237,7 +237,7 @@ impl Lines {
     }
 }
 
-/// The lines that are still to come, in their order.
+/// An iterator over lines, in their order.
 #[derive(Drop)]
 pub struct LinesIter<'a> {
     left: &'a [LineShape],

@@ -1,4 +1,4 @@
-//! Operations by their names: the word of each, the numbers that may follow it, and whether a guest may do it.
+//! Operations by their names: the word of each, the numbers that can follow it, and whether a guest can do it.
 ghost use Rattle.std.specs.Prelude.{◌≡◌, ◌≤◌, MatchOption, None, length};
 ghost use Rattle.script_lines.specs.Names.{is_guests, name_of, op_from, op_named, op_places, op_word, regs_of};
 ghost use Rattle.script_lines.specs.Packing.{named_shape};
@@ -8,7 +8,7 @@ use crate::places::{Places, any_numbers, argument_at, number_at};
 use board_terms::Op;
 use sbi_abi::Regs;
 
-/// An operation by its name.
+/// The name of an operation.
 #[derive(Clone, Copy, Debug, PartialEq, Eq)]
 pub enum OpName {
     /// `ecall`
@@ -45,7 +45,7 @@ pub enum OpName {
     Tick,
 }
 
-/// All operations, those of guests first.
+/// All names, those of guests' operations first.
 const OP_NAMES: [OpName; 16] = [
     OpName::Ecall,
     OpName::Load,
@@ -66,14 +66,14 @@ const OP_NAMES: [OpName; 16] = [
 ];
 
 impl OpName {
-    /// The operation that a word names.
+    /// The name that a word spells.
     pub fn of(word: &[u8]) -> Option<OpName>
         ensures { MatchOption result (op_named word.now ≡ None) (λ name. word.now ≡ op_word name) }
     {
         OP_NAMES.iter().find(|name| word == name.word()).copied()
     }
 
-    /// The word that names it.
+    /// The word that spells the name.
     #[inline(always)]
     pub fn word(self) -> &'static [u8]
         ensures word { result.now ≡ op_word self }
@@ -99,7 +99,7 @@ impl OpName {
         }
     }
 
-    /// What may follow its name.
+    /// The numbers that can follow the name.
     #[inline(always)]
     pub fn places(self) -> Places
         ensures form { result ≡ op_places self }
@@ -128,7 +128,7 @@ impl OpName {
         }
     }
 
-    /// Whether a guest may do it.
+    /// Whether a guest can do the operation.
     #[inline(always)]
     pub fn is_guests(self) -> bool
         ensures { result ≡ is_guests self }
@@ -188,7 +188,7 @@ impl OpName {
         }
     }
 
-    /// The shape in which it is kept with a number in each place.
+    /// The packed shape of the operation, if no number is a dash.
     #[inline(always)]
     pub fn shape(self) -> OpShape
         ensures { result ≡ named_shape self }
@@ -214,7 +214,7 @@ impl OpName {
     }
 }
 
-/// The registers of a call. An argument that isn't written is 0.
+/// The registers of a call. A missing argument is 0.
 fn regs(arguments: &[Option<u64>]) -> Regs
     ensures { result ≡ regs_of arguments.now }
 {

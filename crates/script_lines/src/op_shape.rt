@@ -5,7 +5,7 @@ ghost use Rattle.script_lines.specs.Packing.{kept_count, number_from, op_made, o
 use board_terms::Op;
 use sbi_abi::Regs;
 
-/// How many numbers an operation has at most.
+/// The most numbers of an operation.
 pub const OP_NUMBERS: usize = 8;
 
 /// An operation without its numbers.
@@ -34,8 +34,7 @@ pub enum OpShape {
 }
 
 impl OpShape {
-    /// An operation's shape. Its numbers are put behind the others; the arguments of a call that are 0 to its end are
-    /// left out.
+    /// The shape of an operation. Its numbers are appended; a call's trailing arguments that are 0 are left out.
     pub fn put(op: Op, numbers: &mut Vec<u64>) -> OpShape
         requires { vec_len numbers.old + OP_NUMBERS ≤ vec_capacity numbers.old }
         ensures shape { result ≡ shape_of op }
@@ -87,7 +86,7 @@ impl OpShape {
         }
     }
 
-    /// How many of an operation's numbers are kept: of a call those before the zeros at the end.
+    /// The number of an operation's numbers that are stored: of a call those before the trailing zeros.
     #[inline(always)]
     pub fn kept_count(self, numbers: &[u64]) -> usize
         ensures count { result ≡ kept_count self numbers.now }
@@ -106,7 +105,7 @@ impl OpShape {
         }
     }
 
-    /// The operation of this shape, with its numbers.
+    /// The operation of this shape, with these numbers.
     #[inline(always)]
     pub fn op(self, numbers: &[u64]) -> Op
         ensures { result ≡ op_made self numbers.now }
@@ -139,7 +138,7 @@ impl OpShape {
     }
 }
 
-/// The number in a place, or 0.
+/// The number at a place, or 0 past the end.
 pub fn number_from(numbers: &[u64], place: usize) -> u64
     ensures { result ≡ number_from numbers.now place }
 {
@@ -178,7 +177,7 @@ fn put_two(first: u64, second: u64, numbers: &mut Vec<u64>)
     numbers.push_reserved(second);
 }
 
-/// Appends the numbers of a local fence, and returns its shape, which says which it has.
+/// Appends the numbers of a local fence, and returns its shape, which says which numbers it has.
 fn put_fence(va: Option<u64>, asid: Option<u64>, numbers: &mut Vec<u64>) -> OpShape
     requires { vec_len numbers.old + 2 ≤ vec_capacity numbers.old }
     ensures shape { result ≡ shape_of (Op.Sfence va asid) }
@@ -231,7 +230,7 @@ pub fn put_all(more: &[u64], numbers: &mut Vec<u64>)
     }
 }
 
-/// How many numbers stand before the zeros at the end.
+/// The number of numbers before the trailing zeros.
 fn used(numbers: &[u64]) -> usize
     ensures count { result ≡ used numbers.now }
     ensures bound { result ≤ length numbers.now }

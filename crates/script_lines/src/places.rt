@@ -1,21 +1,20 @@
-//! What may follow a name, and the arguments that do.
+//! The numbers that can follow a name, and the arguments that do.
 ghost use Rattle.std.specs.Prelude.{◌≡◌, false};
 ghost use Rattle.script_lines.specs.Names.{any_numbers, argument_at, number_at, number_or};
 
-/// The largest number of a hart.
+/// The largest hart id.
 pub const LAST_HART: u64 = 127;
 
-/// What may follow a name: from `least` to `most` numbers, each at most `limit`, and whether a dash may stand in the
-/// place of each.
+/// The numbers that can follow a name: from `least` to `most` of them, each at most `limit` or, if allowed, a dash.
 #[derive(Clone, Copy, Debug, PartialEq, Eq)]
 pub struct Places {
-    /// How many numbers there are at least.
+    /// The least number of numbers.
     pub least: usize,
-    /// How many there are at most.
+    /// The most numbers.
     pub most: usize,
-    /// The largest that each may be.
+    /// The largest value of each.
     pub limit: u64,
-    /// Whether a dash may stand for one.
+    /// Whether a dash can stand for a number.
     pub may_be_absent: bool,
 }
 
@@ -32,7 +31,7 @@ pub fn any_numbers(least: usize, most: usize) -> Places
     }
 }
 
-/// The argument in a place, if there is one; None where a dash stands for it.
+/// The argument at a place. None: it is a dash, or there is none.
 pub fn argument_at(arguments: &[Option<u64>], place: usize) -> Option<u64>
     ensures { result ≡ argument_at arguments.now place }
 {
@@ -42,14 +41,14 @@ pub fn argument_at(arguments: &[Option<u64>], place: usize) -> Option<u64>
     }
 }
 
-/// The number in a place, or 0.
+/// The number at a place, or 0 if it is a dash or there is none.
 pub fn number_at(arguments: &[Option<u64>], place: usize) -> u64
     ensures { result ≡ number_at arguments.now place }
 {
     argument_at(arguments, place).unwrap_or(0)
 }
 
-/// The number in a place, or another one if there are fewer.
+/// The number at a place, or `other` if there are fewer arguments.
 pub fn number_or(other: u64, arguments: &[Option<u64>], place: usize) -> u64
     ensures { result ≡ number_or other arguments.now place }
 {

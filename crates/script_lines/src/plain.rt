@@ -1,15 +1,15 @@
-//! The parts of a line that stands in the form in which steps are printed.
+//! The parts of a line in the form in which steps are printed.
 use crate::op_shape::OpShape;
 use crate::said::Said;
 use board_terms::Actor;
 
-/// The parts of a line, but for its number and its operation's numbers.
+/// The parts of a line, without its number and its operation's numbers.
 #[derive(Clone, Copy)]
 pub struct Plain {
-    /// Who makes the step.
+    /// The actor of the step.
     pub actor: Actor,
-    /// What it does.
+    /// The shape of the operation.
     pub op: OpShape,
-    /// What it gave, in a trace.
+    /// The reply or refusal, in a trace.
     pub said: Option<Said>,
 }

@@ -1,48 +1,48 @@
-//! What a trace says was given.
+//! Replies and refusals, as a trace says them.
 ghost use Rattle.std.specs.Prelude.{◌↔◌, ◌≡◌, true};
 ghost use Rattle.script_lines.specs.Agreeing.{said_of};
 
 use board_terms::{Refusal, Reply};
 
-/// What a trace says that a step gave: a reply or a refusal, with its numbers as they are written (profile).
+/// The answer of a step as a trace says it: a reply or a refusal, with its numbers as written (profile).
 #[derive(Clone, Copy, Debug, PartialEq, Eq)]
 pub enum Said {
-    /// `ret`: a call answered.
+    /// `ret`: a call returned.
     Ret {
-        /// The error, as a0 has it.
+        /// The error, in a0.
         error: i64,
-        /// The value, as a1 has it.
+        /// The value, in a1.
         value: u64,
     },
-    /// `waiting`: the hart is inside a call.
+    /// `waiting`: the hart waits inside a call.
     Waiting,
     /// `gone`: the call doesn't return.
     Gone,
-    /// `entry`: the hart entered supervisor mode.
+    /// `entry`: the hart begins at an address.
     Entry {
         /// The address.
         addr: u64,
-        /// The hart's id, as a0 has it.
+        /// The hart's id, in a0.
         hart: u64,
-        /// The opaque value, as a1 has it.
+        /// The opaque value, in a1.
         opaque: u64,
     },
-    /// `value`: what was read.
+    /// `value`: the value read.
     Value(u64),
-    /// `fault`: a fault, by the code of its cause.
+    /// `fault`: the exception code of a fault.
     Fault(u64),
     /// `served`: a waiting fence was applied.
     Served,
-    /// `moved`: the hart's new state, by its number.
+    /// `moved`: the number of the hart's new state.
     Moved(u64),
-    /// `done`: nothing more is to be said.
+    /// `done`: the step is done, and has no value.
     Done,
-    /// `refused`: a refusal, by its number.
+    /// `refused`: the number of a refusal.
     Refused(u64),
 }
 
 impl Said {
-    /// What would be written of an answer (profile).
+    /// An answer as a trace says it (profile).
     pub fn of(answer: &Result<Reply, Refusal>) -> Said
         ensures { result ≡ said_of answer.now }
     {
@@ -67,7 +67,7 @@ impl Said {
         }
     }
 
-    /// Whether this is what was answered (profile).
+    /// Whether a trace says this answer so (profile).
     pub fn agrees(&self, answer: &Result<Reply, Refusal>) -> bool
         ensures { (result ≡ true) ↔ (self.now ≡ said_of answer.now) }
     {

@@ -1,4 +1,4 @@
-//! Replies and refusals by their names: the word of each, and the numbers that may follow it.
+//! Replies and refusals by their names: the word of each, and the numbers that can follow it.
 ghost use Rattle.std.specs.Prelude.{◌≡◌, ◌≤◌, MatchOption, None, length};
 ghost use Rattle.script_lines.specs.Names.{name_of_said, said_from, said_named, said_places, said_word};
 ghost use Rattle.script_lines.specs.Packing.{named_said_shape};
@@ -7,7 +7,7 @@ use crate::places::{Places, any_numbers, number_at};
 use crate::said::Said;
 use crate::said_shape::{SAID_NUMBERS, SaidShape};
 
-/// What is said of a step, by its name.
+/// The name of a reply, or `refused`.
 #[derive(Clone, Copy, Debug, PartialEq, Eq)]
 pub enum SaidName {
     /// `ret`
@@ -32,7 +32,7 @@ pub enum SaidName {
     Refused,
 }
 
-/// All of them.
+/// All names.
 const SAID_NAMES: [SaidName; 10] = [
     SaidName::Ret,
     SaidName::Waiting,
@@ -47,14 +47,14 @@ const SAID_NAMES: [SaidName; 10] = [
 ];
 
 impl SaidName {
-    /// What a word names.
+    /// The name that a word spells.
     pub fn of(word: &[u8]) -> Option<SaidName>
         ensures { MatchOption result (said_named word.now ≡ None) (λ name. word.now ≡ said_word name) }
     {
         SAID_NAMES.iter().find(|name| word == name.word()).copied()
     }
 
-    /// The word that names it.
+    /// The word that spells the name.
     #[inline(always)]
     pub fn word(self) -> &'static [u8]
         ensures word { result.now ≡ said_word self }
@@ -74,7 +74,7 @@ impl SaidName {
         }
     }
 
-    /// What may follow its name. The first number of `ret` is a signed one.
+    /// The numbers that can follow the name. The first number of `ret` is signed.
     #[inline(always)]
     pub fn places(self) -> Places
         ensures form { result ≡ said_places self }
@@ -92,7 +92,7 @@ impl SaidName {
         }
     }
 
-    /// What is said under this name, with its arguments; the error of `ret` by its bits.
+    /// The reply or refusal of this name, with its arguments; the error of `ret` is given by its bits.
     pub fn said(self, arguments: &[Option<u64>]) -> Said
         ensures { result ≡ said_from self arguments.now }
     {
@@ -117,7 +117,7 @@ impl SaidName {
         }
     }
 
-    /// The shape in which it is kept.
+    /// The packed shape of the reply or refusal.
     #[inline(always)]
     pub fn shape(self) -> SaidShape
         ensures { result ≡ named_said_shape self }
@@ -136,7 +136,7 @@ impl SaidName {
         }
     }
 
-    /// The name of what is said.
+    /// The name of a reply or refusal.
     #[inline(always)]
     pub fn of_said(said: &Said) -> SaidName
         ensures { result ≡ name_of_said said.now }

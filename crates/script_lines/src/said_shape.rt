@@ -1,14 +1,14 @@
-//! What is said of a step, without its numbers.
+//! Replies and refusals without their numbers.
 ghost use Rattle.std.specs.Prelude.{◌≡◌, ◌+◌, ◌≤◌, ◌++◌, vec_len, vec_capacity};
 ghost use Rattle.script_lines.specs.Packing.{said_count, said_made, said_numbers, said_shape_of};
 
 use crate::op_shape::number_from;
 use crate::said::Said;
 
-/// How many numbers a reply has at most.
+/// The most numbers of a reply.
 pub const SAID_NUMBERS: usize = 3;
 
-/// What is said of a step, without its numbers, if something is.
+/// A reply or refusal without its numbers, or nothing.
 #[derive(Clone, Copy, Debug)]
 pub enum SaidShape {
     Nothing,
@@ -25,7 +25,7 @@ pub enum SaidShape {
 }
 
 impl SaidShape {
-    /// The shape of what is said. Its numbers are put behind the others.
+    /// The shape of a reply or refusal. Its numbers are appended.
     #[inline(always)]
     pub fn put(said: Option<Said>, numbers: &mut Vec<u64>) -> SaidShape
         requires { vec_len numbers.old + SAID_NUMBERS ≤ vec_capacity numbers.old }
@@ -72,7 +72,7 @@ impl SaidShape {
         }
     }
 
-    /// How many numbers it has.
+    /// The number of its numbers.
     pub fn count(self) -> usize
         ensures { result ≡ said_count self }
     {
@@ -85,7 +85,7 @@ impl SaidShape {
         }
     }
 
-    /// What is said in this shape, with its numbers.
+    /// The reply or refusal of this shape, with these numbers.
     pub fn said(self, numbers: &[u64]) -> Option<Said>
         ensures { result ≡ said_made self numbers.now }
     {

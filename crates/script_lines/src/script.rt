@@ -3,34 +3,34 @@ use crate::lines::Lines;
 use crate::said::Said;
 use board_terms::{Actor, Config, Op};
 
-/// A script: the board, and what its lines say (profile).
+/// A script: the numbers of its board, and its body (profile).
 #[derive(Debug, Drop)]
 pub struct Script {
-    /// What the board line says.
+    /// The numbers of the board line.
     pub config: Config,
-    /// What the lines after it say.
+    /// The lines after the board line.
     pub body: Body,
 }
 
-/// What the lines of a script say, by its kind (profile).
+/// The body of a script, by its kind (profile).
 #[derive(Debug, Drop)]
 pub enum Body {
-    /// No line but the board's. It serves as an empty script of each kind.
+    /// No line after the board's: an empty script of each kind.
     Empty,
     /// Blocks of guests' operations, and the clock's ticks.
     Program {
-        /// The blocks in their order. No two have one address.
+        /// The blocks, in their order. No two have the same address.
         blocks: Vec<Block>,
-        /// The ticks of the clock's block, in their order; none where it has no block.
+        /// The ticks of the clock's block, in their order; empty if there is no such block.
         clock: Vec<u64>,
     },
-    /// Who does what, in order.
+    /// The steps, in order.
     Schedule(Lines),
-    /// Who did what, in order, and what it gave.
+    /// The steps, in order, each with its reply or refusal.
     Trace(Lines),
 }
 
-/// What a guest does that is entered at an address (profile).
+/// The operations of a guest that is entered at an address (profile).
 #[derive(Debug, Drop)]
 pub struct Block {
     /// The address of the entry.
@@ -39,14 +39,14 @@ pub struct Block {
     pub ops: Vec<Op>,
 }
 
-/// What a line does (profile).
+/// The action of a line (profile).
 #[derive(Clone, Copy, Debug, PartialEq, Eq)]
 pub enum Doing {
-    /// An actor makes a step.
+    /// A step of an actor.
     Step {
-        /// Who makes it.
+        /// The actor.
         actor: Actor,
-        /// What it does.
+        /// The operation.
         op: Op,
     },
     /// `cut`: the board's history is cut.
@@ -58,8 +58,8 @@ pub enum Doing {
 pub struct Line {
     /// The line's number, from 1.
     pub number: u64,
-    /// What it does.
+    /// The action.
     pub doing: Doing,
-    /// The reply, only in a trace.
+    /// The reply or refusal, if the line is a trace's.
     pub said: Option<Said>,
 }

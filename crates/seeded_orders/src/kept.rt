@@ -1,4 +1,4 @@
-//! The choices of a record, which distinguish it.
+//! The choices of a record, which identify it.
 ghost use Rattle.std.specs.Prelude.{◌≡◌, List, IfOk, map, reverse};
 ghost use Rattle.board_core.specs.Opening.{Opening};
 ghost use Rattle.board_core.specs.History.{Event};
@@ -10,11 +10,11 @@ ghost use Rattle.guest_programs.specs.Steps.{AreOwn, Task};
 use board_core::{Actor, Event, Op};
 use std::alloc::{AllocError, Global};
 
-/// The choices of a record: for each step, oldest first, its actor, and which of the actor's steps it was.
+/// The choices of a record: for each step, oldest first, its actor and its kind.
 ///
 /// # Errors
 ///
-/// Memory was refused.
+/// Out of memory.
 pub fn choices(alloc: Global, events: &[Event]) -> Result<Vec<u16>, AllocError>
     ensures { IfOk result (λ v. v.items ≡ map choice_of events.now) }
 {
@@ -25,7 +25,7 @@ pub fn choices(alloc: Global, events: &[Event]) -> Result<Vec<u16>, AllocError>
     Ok(found)
 }
 
-/// A number for the actor of a step, whose harts are below 128, and for which of its steps it is.
+/// The number of a step's choice, from its actor and its kind. Hart ids are below 128.
 fn choice_of(event: &Event) -> u16
     ensures { result ≡ choice_of event.now }
 {
@@ -35,7 +35,7 @@ fn choice_of(event: &Event) -> u16
     }
 }
 
-/// Which of the four kinds of steps of a hart an operation is.
+/// The number of an operation's kind, of a hart's four.
 fn own_number(op: Op) -> u16
     ensures { result ≡ own_number op }
 {
@@ -47,7 +47,7 @@ fn own_number(op: Op) -> u16
     }
 }
 
-/// Two records of one program on one board with the same choices are the same. A law: there is nothing to run.
+/// Two records of the same program on the same board are equal if their choices are. A law: there is nothing to run.
 pub fn choices_tell_records()
     ensures { (o : Opening) (p : Task) (one other : List Event) → IsGood o.config → IsLegal o one → IsLegal o other
         → AreOwn p one → AreOwn p other

@@ -1,4 +1,4 @@
-//! Orders of a program's steps: a generator with a seed picks each step, instead of threads.
+//! Seeded orders of a program's steps: a generator picks each step, instead of threads.
 #![tactic(auto)]
 
 mod kept;

@@ -1,4 +1,4 @@
-//! The order that a seed and a number give, and its record.
+//! The order of a seed and a number, and its record.
 ghost use Rattle.std.specs.Prelude.{◌≡◌, ◌↔◌, ◌⊎◌, IfErr, IfOk, IsErrOf, OnOk, Some};
 ghost use Rattle.board_terms.specs.Limits.{IsGood};
 ghost use Rattle.board_core.specs.Opening.{opening_at};
@@ -18,12 +18,12 @@ use guest_programs::{
 use guest_script::Script;
 use std::alloc::{AllocError, Global};
 
-/// Runs a program on a new board in the order that a seed and a number pick: each turn one of all steps that its actors can
-/// take on their own.
+/// Runs a program on a new board, in the order of a seed and a number: each turn takes one of the steps that the
+/// program's actors can take on their own (profile).
 ///
 /// # Errors
 ///
-/// The board line is outside the board's limits, or memory was refused.
+/// `BadConfig`: a number of the board line is outside the limits. `NoMemory`: out of memory.
 pub fn try_order(alloc: Global, script: &Script, seed: u64, order: u64) -> Result<RunEnd, RunFault>
     requires { IsProgram (content script.now.body) }
     ensures bad { IsErrOf result BadConfig ↔ ¬ IsGood script.now.config }
@@ -39,12 +39,12 @@ pub fn try_order(alloc: Global, script: &Script, seed: u64, order: u64) -> Resul
     Ok(RunEnd { end, board })
 }
 
-/// Runs guests and a clock's ticks on a board, which begins anew, in the order that a seed and a number pick: each turn one of
-/// all steps that these actors can take on their own.
+/// Puts a board back to its first opening, and runs guests and a clock's ticks on it, in the order of a seed and a
+/// number: each turn takes one of the steps that these actors can take on their own (profile).
 ///
 /// # Errors
 ///
-/// Memory was refused.
+/// Out of memory.
 pub fn try_order_on<G: Guests>(
     alloc: Global,
     guests: &G,
@@ -65,7 +65,7 @@ pub fn try_order_on<G: Guests>(
     ended
 }
 
-/// Runs guests and ticks on a board, which begins anew, in the order of a seed and a number.
+/// Puts a board back to its first opening, and runs guests and ticks on it, in the order of a seed and a number.
 fn follow_anew<G: Guests>(
     alloc: Global,
     guests: &G,
@@ -88,11 +88,11 @@ fn follow_anew<G: Guests>(
     end_of(alloc, board, guests, met)
 }
 
-/// Takes a step each turn until none can be taken or the history is full, and returns which.
+/// Takes a step each turn until no step can be taken or the history is full, and returns which of the two.
 ///
 /// # Errors
 ///
-/// Memory was refused.
+/// Out of memory.
 fn follow<G: Guests>(
     alloc: Global,
     board: &mut Board,
@@ -120,7 +120,7 @@ fn follow<G: Guests>(
     Ok(met_before(&steps))
 }
 
-/// What an order that ends before these steps has met.
+/// What an order has met that ends while these steps are left.
 fn met_before(left: &[Step]) -> Met
     ensures { result ≡ met_before left.now }
 {

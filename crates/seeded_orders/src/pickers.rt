@@ -1,4 +1,4 @@
-//! How the next step is picked: uniformly, or by ranks.
+//! How the next step is picked: uniformly, or by ranks (profile).
 ghost use Rattle.std.specs.Prelude.{◌≡◌, ◌≤◌, IfOk};
 ghost use Rattle.seeded_orders.specs.Orders.{pick, picked, picker_of};
 
@@ -13,7 +13,7 @@ use std::alloc::{AllocError, Global};
 pub(crate) enum Picker {
     /// The generator's next word: each step is equally likely.
     Even(Pcg64Dxsm),
-    /// The rank of its kind.
+    /// The step whose kind has the highest rank.
     Ranked(Ranks),
 }
 
@@ -22,7 +22,7 @@ impl Picker {
     ///
     /// # Errors
     ///
-    /// Memory was refused.
+    /// Out of memory.
     pub(crate) fn new(
         alloc: Global,
         harts: u64,
@@ -39,7 +39,7 @@ impl Picker {
         Ok(Picker::Ranked(Ranks::new(alloc, harts, &mut words)?))
     }
 
-    /// Picks one of these steps in a turn, from 0, if there is one.
+    /// Picks one of these steps, if there is one, in a turn; turns count from 0.
     pub(crate) fn pick(&mut self, turn: u64, steps: &[Step]) -> Option<Step>
         ensures { (result, self.new) ≡ pick self.old turn steps.now }
     {
@@ -50,7 +50,7 @@ impl Picker {
     }
 }
 
-/// The step that a word picks of these, if there is one.
+/// The step that a word picks, if there is one.
 #[tactic(auto, using(crate::proofs::Picking::picked_none, crate::proofs::Picking::picked_some))]
 fn picked(word: u64, steps: &[Step]) -> Option<Step>
     ensures { result ≡ picked word steps.now }

@@ -1,4 +1,4 @@
-//! The ranks of actors, which change at few places.
+//! Ranks of kinds of steps, which change in two turns.
 ghost use Rattle.std.specs.Prelude.{◌≡◌, ◌^◌, ◌*◌, ◌+◌, ◌%◌, ◌<◌, ◌≤◌, zero, slice_set, IfOk, None, Some};
 ghost use Rattle.seeded_orders.specs.Ranks.{higher, highest, place_of, rank_of, ranking, ranks_from, reranked};
 
@@ -8,7 +8,7 @@ use rand_pcg::Pcg64Dxsm;
 use std::alloc::{AllocError, Global};
 use std::marker::Model;
 
-/// The ranks of all kinds of steps, the clock's and each hart's, and the turns in which one of them falls.
+/// The ranks of all kinds of steps, the clock's and each hart's, and the two turns in which a rank falls.
 #[derive(Drop)]
 pub(crate) struct Ranks {
     ranks: Vec<u64>,
@@ -25,11 +25,11 @@ impl Model for Ranks {
 }
 
 impl Ranks {
-    /// The ranks that a generator gives this many harts and the clock, and two of the first turns, at most 2,048.
+    /// The ranks that a generator gives the kinds of steps of so many harts and the clock, and two turns below 2,048.
     ///
     /// # Errors
     ///
-    /// Memory was refused.
+    /// Out of memory.
     pub(crate) fn new(alloc: Global, harts: u64, words: &mut Pcg64Dxsm) -> Result<Ranks, AllocError>
         requires { harts ≤ 128 }
         ensures { IfOk result (λ ranks. ranks ≡ ranking harts words.old) }
@@ -45,7 +45,7 @@ impl Ranks {
         })
     }
 
-    /// The step of the highest rank, if there is one. In two turns, the kind that would go first falls in rank.
+    /// The step of the highest rank, if there is one. In two turns the rank of the kind that would go first falls.
     pub(crate) fn pick(&mut self, turn: u64, steps: &[Step]) -> Option<Step>
         ensures ranks { self.new ≡ reranked self.old turn (highest self.old.ranks None steps.now) }
         ensures step { result ≡ highest self.new.ranks None steps.now }
@@ -74,7 +74,7 @@ impl Ranks {
     }
 }
 
-/// How many turns the change of a rank may be in: a power of 2, so that small ones are as likely as large ones.
+/// The bound of the turns in which a rank falls: a power of 2 below 4,096, so early turns are likely too.
 fn span(word: u64) -> u64
     ensures value { result ≡ 2 ^ (word % 12) }
     ensures some { 0 < result }
@@ -82,7 +82,11 @@ fn span(word: u64) -> u64
     1 << (word % 12)
 }
 
-/// This many ranks, all above those after a fall.
+/// So many ranks, all above those after a fall.
+///
+/// # Errors
+///
+/// Out of memory.
 fn drawn(alloc: Global, many: u64, words: &mut Pcg64Dxsm) -> Result<Vec<u64>, AllocError>
     ensures { IfOk result (λ v. v.items ≡ ranks_from many words.old) }
 {
@@ -93,7 +97,7 @@ fn drawn(alloc: Global, many: u64, words: &mut Pcg64Dxsm) -> Result<Vec<u64>, Al
     Ok(ranks)
 }
 
-/// The place of the rank of a step's kind: of the clock's the first, of each hart's four in turn. A hart is below 128.
+/// The place of the rank of a step's kind: first the clock's, then four for each hart. Hart ids are below 128.
 fn place_of(step: Step) -> usize
     ensures { result ≡ place_of step }
 {
@@ -106,14 +110,14 @@ fn place_of(step: Step) -> usize
     }
 }
 
-/// The rank of the step's actor.
+/// The rank of a step's kind.
 fn rank_of(ranks: &[u64], step: Step) -> u64
     ensures { result ≡ rank_of ranks.now step }
 {
     ranks.get(place_of(step)).copied().unwrap_or(0)
 }
 
-/// The step of the highest rank, if there is one; of equal ones the first.
+/// The step of the highest rank, if there is one; the first among equals.
 fn highest(ranks: &[u64], steps: &[Step]) -> Option<Step>
     ensures { result ≡ highest ranks.now None steps.now }
 {
@@ -124,7 +128,7 @@ fn highest(ranks: &[u64], steps: &[Step]) -> Option<Step>
     best
 }
 
-/// The step of the higher rank, of equal ones the one before.
+/// The step of the higher rank; the earlier one if the ranks are equal.
 fn higher(ranks: &[u64], best: Option<Step>, step: Step) -> Step
     ensures { result ≡ higher ranks.now best step }
 {

@@ -1,4 +1,4 @@
--- Why accesses fail, and the exception codes of it (Privileged 4.1.8).
+-- The causes of failed accesses, and their exception codes (Privileged 4.1.8).
 use Rattle.std.specs.Prelude.{ℕ}
 use Rattle.sv39.specs.declared.cause.Kind.{Kind}
 use Rattle.sv39.specs.declared.cause.Kind.TheVariants.{Fetch, Load, Store}
@@ -17,19 +17,19 @@ cause_number InstructionPageFault = 12
 cause_number LoadPageFault = 13
 cause_number StorePageFault = 15
 
--- An address that isn't aligned, by the kind of the access.
+-- The cause of an access to an address that isn't aligned, by its kind.
 abbrev pub misaligned : Kind → Cause
 misaligned Fetch = InstructionAddressMisaligned
 misaligned Load = LoadAddressMisaligned
 misaligned Store = StoreAddressMisaligned
 
--- A physical address outside the RAM, by the kind of the access that needs it.
+-- The cause of an access that needs a physical address outside the RAM, by its kind.
 abbrev pub access_fault : Kind → Cause
 access_fault Fetch = InstructionAccessFault
 access_fault Load = LoadAccessFault
 access_fault Store = StoreAccessFault
 
--- An access that the page tables don't allow, by its kind.
+-- The cause of an access that the page tables don't allow, by its kind.
 abbrev pub page_fault : Kind → Cause
 page_fault Fetch = InstructionPageFault
 page_fault Load = LoadPageFault

@@ -28,7 +28,7 @@ has_w = has_bit 2
 abbrev pub has_x : ℕ → Bool
 has_x = has_bit 3
 
--- U: the page is the user's.
+-- U: the page is accessible to user mode.
 abbrev pub has_u : ℕ → Bool
 has_u = has_bit 4
 
@@ -48,12 +48,12 @@ has_d = has_bit 7
 abbrev pub page_number : ℕ → ℕ
 page_number entry = entry / 2 ^ 10 % 2 ^ PPN_BITS
 
--- An entry can be a pointer or a leaf only with V, and with bits 63 to 54 all 0: those are reserved, or of an extension
+-- V is 1, and bits 63 to 54 are 0: otherwise the entry is invalid. Those bits are reserved, or used by an extension
 -- (Privileged 4.3.2, 4.4.1, 4.5.1; that a board has neither Svnapot nor Svpbmt: profile).
 abbrev pub is_present : ℕ → Bool
 is_present entry = has_v entry && (entry / 2 ^ 54 == 0)
 
--- The entry is a good pointer to a table of the level below: it has none of R, W and X, and none of A, D and U, which
+-- The entry is a valid pointer to a table of the level below. It has none of R, W and X, and none of A, D and U, which
 -- are reserved in a pointer (Privileged 4.3.1, 4.3.2).
 abbrev pub is_pointer : Level → ℕ → Bool
 is_pointer level entry =
@@ -61,19 +61,18 @@ is_pointer level entry =
     && not (has_r entry || has_w entry || has_x entry)
     && not (has_a entry || has_d entry || has_u entry)
 
--- The low parts of a superpage's PPN, one of 9 bits for each level below, are 0 (Privileged 4.3.2).
+-- The PPN of a superpage is aligned: its low parts, 9 bits for each level below, are 0 (Privileged 4.3.2).
 abbrev pub is_aligned : Level → ℕ → Bool
 is_aligned level entry = page_number entry % TABLE_ENTRIES ^ level_number level == 0
 
--- The entry is a right leaf, whatever the access: it has R or X, and W only with R; the page isn't the user's (a board
--- has no SUM: profile), was accessed (a board faults in place of setting A: profile), and is aligned (Privileged 4.3.1,
--- 4.3.2, 4.4.1, 4.5.1).
+-- The entry is a valid leaf, for some access. It has R or X, and W only with R. U is 0 (a board has no SUM: profile). A
+-- is 1 (a board faults instead of setting A: profile). The PPN is aligned (Privileged 4.3.1, 4.3.2, 4.4.1, 4.5.1).
 abbrev pub is_leaf : Level → ℕ → Bool
 is_leaf level entry =
     is_present entry && (has_r entry || has_x entry) && (has_r entry || not (has_w entry))
     && not (has_u entry) && has_a entry && is_aligned level entry
 
--- What a right leaf says of the page that has the address. It is global by the entry, or by a pointer above it
+-- The leaf of a valid entry, for the page with the address. It is global by the entry, or by a pointer above it
 -- (Privileged 4.3.1).
 abbrev pub leaf_of : (entry va : ℕ) → Level → (global_above : Bool) → Leaf
 leaf_of entry va level global_above = record {

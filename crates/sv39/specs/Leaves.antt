@@ -6,13 +6,12 @@ use Rattle.sv39.specs.declared.cause.Cause.{Cause}
 use Rattle.sv39.specs.declared.page.Leaf.{Leaf}
 use Rattle.sv39.specs.Causes.{page_fault}
 
--- A fetch needs X, a load R, and a store W and D, since D is never set by an access (Privileged 4.3.1; that a board
--- faults in place of setting D: profile).
+-- A fetch needs X, a load R, and a store W and D (Privileged 4.3.1; that a board faults instead of setting D: profile).
 abbrev pub allows : Kind → Leaf → Bool
 allows Fetch leaf = leaf.x
 allows Load leaf = leaf.r
 allows Store leaf = leaf.w && leaf.d
 
--- The leaf, where it allows the access, and else a page fault.
+-- The leaf if it allows the access, else a page fault.
 abbrev pub by_right : Kind → Leaf → Result Leaf Cause
 by_right kind leaf = if allows kind leaf then Ok leaf else Err (page_fault kind)

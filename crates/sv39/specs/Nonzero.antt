@@ -1,11 +1,11 @@
--- Words that are 0, and the next one that isn't.
+-- Words that are 0, and the next word that isn't.
 use Rattle.std.specs.Prelude.{◌≡◌, ℕ, ◌<◌, ◌≤◌, List, slice_index}
 
--- each word from a place on, up to another place, is 0
+-- each word from one place on and before another is 0
 abbrev pub IsClear : (words : List ℕ) (from to : ℕ) → Type 0
 IsClear words from to = (k : ℕ) → from ≤ k → k < to → slice_index words k ≡ 0
 
--- the place of the first word that isn't 0, from a place on, up to another one
+-- the place of the first word that isn't 0, from one place on and before another
 pub record IsNextSet (words : List ℕ) (from to place : ℕ) : Type 0 where
   pub not_before : from ≤ place
   pub within : place < to

@@ -1,20 +1,20 @@
-//! Kinds of accesses, and why they fail.
+//! Kinds of accesses, and the causes of their faults.
 ghost use Rattle.std.specs.Prelude.{◌≡◌};
 ghost use Rattle.sv39.specs.Causes.{access_fault, cause_number, misaligned, page_fault};
 
 /// The kinds of access (Privileged 4.1.8).
 #[derive(Clone, Copy, Debug, PartialEq, Eq)]
 pub enum Kind {
-    /// An instruction is fetched.
+    /// An instruction fetch.
     Fetch,
-    /// A word is loaded.
+    /// A load.
     Load,
-    /// A word is stored.
+    /// A store.
     Store,
 }
 
 impl Kind {
-    /// Why an access of this kind at an address that isn't aligned fails.
+    /// The cause if the address isn't aligned (Privileged 4.1.8).
     pub fn misaligned(self) -> Cause
         ensures { result ≡ misaligned self }
     {
@@ -25,7 +25,7 @@ impl Kind {
         }
     }
 
-    /// Why an access of this kind at an address outside the RAM fails.
+    /// The cause if the physical address is outside the RAM (Privileged 4.1.8).
     pub fn access_fault(self) -> Cause
         ensures { result ≡ access_fault self }
     {
@@ -36,7 +36,7 @@ impl Kind {
         }
     }
 
-    /// Why an access of this kind fails that no page allows.
+    /// The cause if no page allows the access (Privileged 4.1.8).
     pub fn page_fault(self) -> Cause
         ensures { result ≡ page_fault self }
     {
@@ -72,7 +72,7 @@ pub enum Cause {
 }
 
 impl Cause {
-    /// The cause's exception code, as scause holds it.
+    /// The exception code, as scause holds it (Privileged 4.1.8).
     pub fn number(self) -> u64
         ensures { result ≡ cause_number self }
     {

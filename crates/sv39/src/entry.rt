@@ -48,14 +48,14 @@ impl TableEntry {
         self.has(G)
     }
 
-    /// The physical address of the page that the entry names.
+    /// The physical address of the page that the entry's PPN names.
     pub fn address(self) -> u64
         ensures { result ≡ PAGE_BYTES * page_number self.bits }
     {
         (self.bits >> 10) % (1 << PPN_BITS) * PAGE_BYTES
     }
 
-    /// The level of the table that the entry points to, where it is a good pointer.
+    /// The level of the table that the entry points to. None: it isn't a valid pointer.
     pub fn pointed(self, level: Level) -> Option<Level>
         ensures { result ≡ (if is_pointer level self.bits then below level else None) }
     {
@@ -66,14 +66,14 @@ impl TableEntry {
         }
     }
 
-    /// V, and no bit from 54 on.
+    /// V is 1, and bits 63 to 54 are 0.
     fn is_present(self) -> bool
         ensures { result ≡ is_present self.bits }
     {
         self.has(V) && self.bits >> 54 == 0
     }
 
-    /// Whether the entry is a good pointer, at a level with another one below.
+    /// Whether the entry is a valid pointer, at a level that isn't the lowest.
     fn is_branch(self) -> bool
         ensures { result ≡ is_pointer Level.Mega self.bits }
     {
@@ -82,7 +82,7 @@ impl TableEntry {
             && !(self.has(A) || self.has(D) || self.has(U))
     }
 
-    /// Whether the entry is a right leaf of the level.
+    /// Whether the entry is a valid leaf at the level.
     fn is_leaf(self, level: Level) -> bool
         ensures { result ≡ is_leaf level self.bits }
     {
@@ -94,14 +94,14 @@ impl TableEntry {
             && self.is_aligned(level)
     }
 
-    /// Whether the page that the entry names begins where a page of the level may.
+    /// Whether the entry's physical page is aligned to the size of the level's pages.
     fn is_aligned(self, level: Level) -> bool
         ensures { result ≡ is_aligned level self.bits }
     {
         self.address() % level.size() == 0
     }
 
-    /// What the entry gives, where the walk ends at it.
+    /// The result of a walk that ends at this entry (Privileged 4.3.2).
     pub fn outcome(self, va: u64, kind: Kind, level: Level, global: bool) -> Result<Leaf, Cause>
         ensures { result ≡ outcome (Some self.bits) va kind level global }
     {
@@ -116,7 +116,7 @@ impl TableEntry {
         }
     }
 
-    /// The leaf that this entry is, at its level, of the page of an address.
+    /// This entry as the leaf, at its level, of the page with the address.
     fn leaf(self, va: u64, level: Level, global: bool) -> Leaf
         ensures { result ≡ leaf_of self.bits va level global }
     {

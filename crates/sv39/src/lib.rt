@@ -1,4 +1,4 @@
-//! The memory of a board, satp, and the walk of its page tables by Sv39 and by Sv48 (Privileged 4.1.11, 4.3.2, 4.4, 4.5).
+//! The memory of a board, satp, and the walk of page tables by Sv39 and Sv48 (Privileged 4.1.11, 4.3.2, 4.4, 4.5).
 #![tactic(auto)]
 
 mod cause;

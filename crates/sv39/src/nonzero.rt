@@ -1,15 +1,15 @@
-//! The words that aren't 0, among many that are.
+//! Finds the words that aren't 0, among many that are.
 
 ghost use Rattle.std.specs.Prelude.{◌≡◌, ◌+◌, ◌<◌, ◌≤◌, ◌↔◌, IsTrue, MatchOption, length, slice_index};
 ghost use Rattle.sv39.specs.Nonzero.{IsClear, IsNextSet};
 
-/// So many words are passed over at once where all of them are 0.
+/// The number of words passed over at once, if all of them are 0.
 const ROW: usize = 64;
 
-/// And so many where not all words of a row are.
+/// The number passed over at once, if not all words of a row are 0.
 const GROUP: usize = 8;
 
-/// The place of the first of these words that isn't 0, from a place on, up to another one.
+/// The place of the first word that isn't 0, from the place `from` on and before the place `to`.
 pub fn next_set(words: &[u64], from: usize, to: usize) -> Option<usize>
     requires { to ≤ length words.now }
     ensures { MatchOption result (IsClear words.now from to) (IsNextSet words.now from to) }
@@ -24,7 +24,7 @@ pub fn next_set(words: &[u64], from: usize, to: usize) -> Option<usize>
     None
 }
 
-/// So many words are 0 from a place on, where the first one is.
+/// A number of words that are 0 from a place on, the first of which is 0.
 #[inline(always)]
 fn clear_from(words: &[u64], place: usize, to: usize) -> usize
     requires all { to ≤ length words.now }
@@ -45,7 +45,7 @@ fn clear_from(words: &[u64], place: usize, to: usize) -> usize
     }
 }
 
-/// Whether so many words are there from a place on, up to another one, and each of them is 0.
+/// Whether there are `many` words from a place on and before the place `to`, and all of them are 0.
 #[inline(always)]
 fn are_clear_at(words: &[u64], place: usize, to: usize, many: usize) -> bool
     requires all { to ≤ length words.now }
@@ -55,7 +55,7 @@ fn are_clear_at(words: &[u64], place: usize, to: usize, many: usize) -> bool
     to - place >= many && are_clear(&words[place..place + many])
 }
 
-/// Whether each of these words is 0. (No word is looked at apart from the others: many of them fit into a register.)
+/// Whether all these words are 0. (No branch for each word, so the compiler can use vector registers.)
 #[inline(always)]
 fn are_clear(words: &[u64]) -> bool
     ensures { IsTrue result ↔ IsClear words.now 0 (length words.now) }

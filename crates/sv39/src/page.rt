@@ -1,17 +1,17 @@
-//! Levels of page tables, and leaves.
+//! Levels of page tables, and leaves of page tables.
 ghost use Rattle.std.specs.Prelude.{◌≡◌};
 ghost use Rattle.sv39.specs.Leaves.{allows};
 ghost use Rattle.sv39.specs.Pages.{below, level_number, part, size};
 
 use crate::cause::Kind;
 
-/// The bytes of a page of the lowest level, which a page table fills, too (Privileged 4.3.1).
+/// The bytes of a page of the lowest level, and of a page table (Privileged 4.3.1).
 pub const PAGE_BYTES: u64 = 4096;
 
-/// The entries of a page table, of 8 bytes each (Privileged 4.3.1).
+/// The number of entries of a page table; each has 8 bytes (Privileged 4.3.1).
 pub const TABLE_ENTRIES: u64 = 512;
 
-/// The levels of page tables, each by the page that a leaf in it maps (Privileged 4.4.1, 4.5.1).
+/// The levels of page tables, named by the pages that their leaves map (Privileged 4.4.1, 4.5.1).
 #[derive(Clone, Copy, Debug, PartialEq, Eq)]
 pub enum Level {
     /// Level 0: pages of 4 KiB.
@@ -37,7 +37,7 @@ impl Level {
         }
     }
 
-    /// The bytes of a page of this level.
+    /// The size of a page of this level, in bytes.
     pub fn size(self) -> u64
         ensures { result ≡ size self }
     {
@@ -61,7 +61,7 @@ impl Level {
         }
     }
 
-    /// The place of an address's entry in a table of this level.
+    /// The index of an address's entry in a table of this level: the address's VPN part (Privileged 4.4.1, 4.5.1).
     pub(crate) fn part(self, va: u64) -> u64
         ensures { result ≡ part self va }
     {
@@ -69,16 +69,16 @@ impl Level {
     }
 }
 
-/// What a leaf of the page tables says of a page (Privileged 4.3.1, 4.4.1, 4.5.1).
+/// A leaf of the page tables: where it maps a page, and what it allows (Privileged 4.3.1, 4.4.1, 4.5.1).
 #[derive(Clone, Copy, Debug, PartialEq, Eq)]
 pub struct Leaf {
     /// The page's first virtual address.
     pub page: u64,
     /// The physical address of the page's first byte.
     pub pa: u64,
-    /// The level at which the leaf stands, which gives the page's size.
+    /// The leaf's level, which gives the page's size.
     pub level: Level,
-    /// Whether the mapping is global, by the leaf's G or that of a pointer above it.
+    /// Whether the mapping is global: G is set in the leaf or in a pointer above it.
     pub global: bool,
     /// R: the page may be read.
     pub r: bool,
@@ -86,12 +86,12 @@ pub struct Leaf {
     pub w: bool,
     /// X: instructions may be fetched from the page.
     pub x: bool,
-    /// D: the page is dirty, as a store needs it to be.
+    /// D: the page is dirty, which a store needs.
     pub d: bool,
 }
 
 impl Leaf {
-    /// Whether the page may be accessed so.
+    /// Whether the page allows accesses of this kind (Privileged 4.3.2).
     pub fn allows(&self, kind: Kind) -> bool
         ensures { result ≡ allows kind self.now }
     {

@@ -11,9 +11,9 @@ use crate::page::Leaf;
 use crate::ram::Ram;
 use crate::satp::Satp;
 
-/// What the page tables in the RAM say of a virtual address: the leaf that maps it and allows an access of this kind,
-/// or why the access fails (Privileged 4.3.2, 4.4.1, 4.5.1). At most four words are looked at. The tables are those that
-/// satp names, whatever its MODE.
+/// Walks the page tables in the RAM for a virtual address. It returns the leaf, if the leaf allows an access of this
+/// kind, or why the access fails (Privileged 4.3.2, 4.4.1, 4.5.1). It reads at most four words. With MODE Bare it walks
+/// as by Sv39.
 pub fn walk(ram: &Ram, satp: Satp, va: u64, kind: Kind) -> Result<Leaf, Cause>
     ensures { result ≡ maps (word_in ram.now) satp va kind }
 {
@@ -38,15 +38,16 @@ pub fn walk(ram: &Ram, satp: Satp, va: u64, kind: Kind) -> Result<Leaf, Cause>
     }
 }
 
-/// What `walk` gives is the rule: there is one level with good pointers at all levels above and none there, and the
-/// entry there decides (Privileged 4.3.2, 4.4.1, 4.5.1). A law: there is nothing to run.
+/// The result of `walk` is the rule's: at exactly one level there is no valid pointer while all levels above have one,
+/// and the entry at that level decides (Privileged 4.3.2, 4.4.1, 4.5.1). A law: there is nothing to run.
 pub fn maps_is_the_rule()
     ensures { (memory : ℕ → Option ℕ) (satp va : ℕ) (kind : Kind) (result : Result Leaf Cause)
         → Maps memory satp va kind result ↔ (result ≡ maps memory satp va kind) }
 {}
 
-/// The leaf that maps an address is of the page of its level that has the address, and decides each access to that page:
-/// one that it allows gets it, and another one a page fault (Privileged 4.3.2). A law: there is nothing to run.
+/// The leaf that maps an address maps the page of its level that has the address. It decides each access to that page:
+/// an access that it allows gets the leaf, and any other gets a page fault (Privileged 4.3.2). A law: there is nothing
+/// to run.
 pub fn one_leaf_for_a_page()
     ensures page { (memory : ℕ → Option ℕ) (satp va : ℕ) (kind : Kind) (leaf : Leaf)
         → maps memory satp va kind ≡ Ok leaf

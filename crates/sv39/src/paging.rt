@@ -1,13 +1,13 @@
-//! Paging modes, and how wide address spaces are.
+//! Paging modes, and the widths of virtual addresses and ASIDs.
 ghost use Rattle.std.specs.Prelude.{◌≡◌, ◌≤◌, ◌<◌, ◌^◌};
 ghost use Rattle.sv39.specs.Paging.{cut_asid, is_valid_by, named, scheme};
 
 use crate::page::Level;
 
-/// The bits of an ASID, of which a board may keep fewer (Privileged 4.1.11).
+/// The number of bits of an ASID. A board may implement fewer (Privileged 4.1.11).
 pub const ASID_BITS: u64 = 16;
 
-/// The paging modes, by which page tables translate addresses (Privileged 4.1.11).
+/// The paging modes (Privileged 4.1.11).
 #[derive(Clone, Copy, Debug, PartialEq, Eq)]
 pub enum Paging {
     /// Sv39: virtual addresses of 39 bits, and three levels (Privileged 4.4).
@@ -17,7 +17,7 @@ pub enum Paging {
 }
 
 impl Paging {
-    /// The mode that has this number in satp's MODE, if there is one (Privileged 4.1.11).
+    /// The mode with this number in satp's MODE, if there is one (Privileged 4.1.11).
     pub(crate) fn named(number: u64) -> Option<Paging>
         ensures { result ≡ named number }
     {
@@ -28,7 +28,7 @@ impl Paging {
         }
     }
 
-    /// How many bits the mode's virtual addresses have.
+    /// The number of bits of the mode's virtual addresses.
     pub fn width(self) -> u64
         ensures { result ≡ (scheme self).width }
     {
@@ -48,7 +48,7 @@ impl Paging {
         }
     }
 
-    /// Whether a virtual address of 64 bits is one of the mode: all its bits from the mode's width on equal the one below
+    /// Whether a virtual address is valid by the mode: all bits from the mode's width up to bit 63 equal the bit below
     /// them (Privileged 4.4.1, 4.5.1).
     #[tactic(auto, using(crate::proofs::Addresses::is_valid_by_top))]
     pub fn is_valid(self, va: u64) -> bool
@@ -62,17 +62,17 @@ impl Paging {
     }
 }
 
-/// How wide the address spaces of a board are.
+/// The widths of a board's virtual addresses and ASIDs.
 #[derive(Clone, Copy, Debug, PartialEq, Eq)]
 pub struct Spaces {
-    /// ASIDLEN: how many bits of an ASID are kept, the lowest ones; 16 at most (Privileged 4.1.11).
+    /// ASIDLEN: the number of ASID bits that are kept, the lowest ones; at most 16 (Privileged 4.1.11).
     pub asid_len: u64,
-    /// The widest mode that the board has. It has all narrower ones too (Privileged 4.1.11).
+    /// The widest mode that the board implements. It implements all narrower modes too (Privileged 4.1.11).
     pub widest: Paging,
 }
 
 impl Spaces {
-    /// What is kept of an ASID: its low ASIDLEN bits (Privileged 4.1.11, 4.2.1).
+    /// The low ASIDLEN bits of an ASID, which are kept (Privileged 4.1.11, 4.2.1).
     pub fn cut_asid(self, asid: u64) -> u64
         requires { self.asid_len ≤ ASID_BITS }
         ensures kept { result ≡ cut_asid self asid }

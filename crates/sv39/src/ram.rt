@@ -9,14 +9,14 @@ use std::marker::Model;
 /// The RAM's first address (profile).
 pub const RAM_START: u64 = 0x8000_0000;
 
-/// The words of a page.
+/// The number of words in a page.
 pub const PAGE_WORDS: usize = 512;
 
 /// The RAM: from 1 to 256 pages of 4,096 bytes from 0x80000000 on, in words of 8 bytes (profile).
 #[derive(Debug, Drop)]
 pub struct Ram {
     words: Vec<u64>,
-    // (from this place on each word is 0: most boards use the beginning of their RAM alone)
+    // (from this place on every word is 0: most boards use only the beginning of their RAM)
     used: usize,
 }
 
@@ -34,7 +34,11 @@ impl Model for Ram {
 }
 
 impl Ram {
-    /// A RAM of so many pages, each word of which is 0. It fails where memory runs out.
+    /// A RAM of so many pages, with every word 0.
+    ///
+    /// # Errors
+    ///
+    /// Out of memory.
     pub fn new(alloc: Global, pages: u64) -> Result<Ram, AllocError>
         requires some { 1 ≤ pages }
         requires limit { pages ≤ 256 }
@@ -46,7 +50,7 @@ impl Ram {
         Ok(Ram { words, used: 0 })
     }
 
-    /// The RAM of these words, which take no more room than they need. From the place `used` on each is 0.
+    /// The RAM of these words, which have no spare capacity. From the place `used` on every word is 0.
     pub(crate) fn of(words: Vec<u64>, used: usize) -> Ram
         requires ram { IsRam words.items }
         requires room { vec_capacity words ≡ vec_len words }
@@ -57,7 +61,11 @@ impl Ram {
         Ram { words, used }
     }
 
-    /// A RAM that is equal to this one. It fails where memory runs out.
+    /// A copy.
+    ///
+    /// # Errors
+    ///
+    /// Out of memory.
     pub fn try_copy(&self, alloc: Global) -> Result<Ram, AllocError>
         ensures copy { IfOk result (λ copy. copy ≡ self.now) }
         ensures pages { IsRam self.now }
@@ -71,7 +79,7 @@ impl Ram {
         })
     }
 
-    /// Its words, from its start on.
+    /// The words, from the RAM's first address on.
     pub fn words(&self) -> &[u64]
         ensures words { result.now ≡ self.now }
         ensures ram { IsRam self.now }
@@ -79,7 +87,7 @@ impl Ram {
         &self.words
     }
 
-    /// From this place on each of its words is 0. (Most boards use the beginning of their RAM alone.)
+    /// The place from which on every word is 0. (Most boards use only the beginning of their RAM.)
     pub fn used(&self) -> usize
         ensures within { result ≤ length self.now }
         ensures clear { IsClear self.now result (length self.now) }
@@ -87,7 +95,7 @@ impl Ram {
         self.used
     }
 
-    /// Whether a word of the RAM stands at the address, which then is aligned to 8 and not outside the RAM.
+    /// Whether the RAM has a word at the physical address: it lies in the RAM and is aligned to 8.
     #[tactic(auto, using(crate::proofs::Words::nat_tests, crate::proofs::Words::word_at), unfolding(crate::specs::Memory::is_in_ram))]
     pub fn holds(&self, at: u64) -> bool
         ensures word { result ≡ is_some (word_in self.now at) }
@@ -99,7 +107,7 @@ impl Ram {
         offset % 8 == 0 && offset / 8 < self.words.len() as u64
     }
 
-    /// The word at the address.
+    /// The word at the physical address.
     pub fn load(&self, at: u64) -> u64
         requires { IsTrue (is_some (word_in self.now at)) }
         ensures { word_in self.now at ≡ Some result }
@@ -108,7 +116,7 @@ impl Ram {
         self.words[place]
     }
 
-    /// Puts another word at the address. All others stay.
+    /// Writes a word at the physical address. All other words stay.
     pub fn store(&mut self, at: u64, value: u64)
         requires { IsTrue (is_some (word_in self.old at)) }
         ensures words { word_in self.new ≡ written (word_in self.old) at value }
@@ -119,7 +127,7 @@ impl Ram {
         self.used = self.used.max(there + 1);
     }
 
-    /// Each word becomes 0.
+    /// Every word becomes 0.
     pub fn clear(&mut self)
         ensures words { word_in self.new ≡ zero_memory (pages_of self.old) }
         ensures pages { pages_of self.new ≡ pages_of self.old }
@@ -129,7 +137,11 @@ impl Ram {
     }
 }
 
-/// So many words, each of which is 0, in the room that they take. It fails where memory runs out.
+/// So many words, all 0, without spare capacity.
+///
+/// # Errors
+///
+/// Out of memory.
 pub(crate) fn zeros(alloc: Global, count: usize) -> Result<Vec<u64>, AllocError>
     ensures items { IfOk result (λ words. words.items ≡ replicate count 0) }
     ensures room { IfOk result (λ words. vec_capacity words ≡ count) }
@@ -139,7 +151,7 @@ pub(crate) fn zeros(alloc: Global, count: usize) -> Result<Vec<u64>, AllocError>
     Ok(words)
 }
 
-/// These words more, for which there is room.
+/// Appends words, for which there is room.
 fn put_reserved(words: &mut Vec<u64>, more: &[u64])
     requires { vec_len words.old + length more.now ≤ vec_capacity words.old }
     ensures items { words.new.items ≡ words.old.items ++ more.now }
@@ -150,7 +162,7 @@ fn put_reserved(words: &mut Vec<u64>, more: &[u64])
     }
 }
 
-/// So many words more, each of which is 0, for which there is room.
+/// Appends so many words that are 0, for which there is room.
 fn put_zeros(words: &mut Vec<u64>, count: usize)
     requires { vec_len words.old + count ≤ vec_capacity words.old }
     ensures items { words.new.items ≡ words.old.items ++ replicate count 0 }
@@ -161,7 +173,7 @@ fn put_zeros(words: &mut Vec<u64>, count: usize)
     }
 }
 
-/// The place of the word at an address among the RAM's words.
+/// The place among the RAM's words of the word at a physical address.
 fn word_place(at: u64) -> usize
     requires { RAM_START ≤ at }
     ensures { result ≡ (at - RAM_START) / 8 }

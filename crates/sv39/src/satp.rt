@@ -1,4 +1,4 @@
-//! The satp register, as it is kept.
+//! The satp register.
 ghost use Rattle.std.specs.Prelude.{◌≡◌, ◌≤◌, false};
 ghost use Rattle.sv39.specs.Satp.{asid_of, is_valid, kept_of, paging_of, root_address, satp_written, translates};
 
@@ -6,13 +6,13 @@ use crate::page::PAGE_BYTES;
 use crate::paging::{ASID_BITS, Paging, Spaces};
 use std::marker::Model;
 
-/// The bits of a PPN, the number of a physical page, which stands in satp below the ASID (Privileged 4.1.11, 4.3.1).
+/// The number of bits of a PPN, a physical page number. In satp it stands below the ASID (Privileged 4.1.11, 4.3.1).
 pub const PPN_BITS: u64 = 44;
 
 /// The lowest bit of satp's MODE (Privileged 4.1.11).
 pub const MODE_BIT: u64 = 60;
 
-/// satp, which says whether and by which page tables addresses are translated (Privileged 4.1.11).
+/// satp: whether addresses are translated, and by which page tables (Privileged 4.1.11).
 #[derive(Clone, Copy, Debug, PartialEq, Eq)]
 pub struct Satp {
     bits: u64,
@@ -32,14 +32,15 @@ impl Model for Satp {
 }
 
 impl Satp {
-    /// No address is translated: satp is 0.
+    /// satp is 0: no address is translated.
     pub fn bare() -> Satp
         ensures { result ≡ 0 }
     {
         Satp { bits: 0 }
     }
 
-    /// What satp holds once this value was written to it, on a board with these address spaces.
+    /// satp after a write of this value, on a board with these widths. A MODE that the board doesn't implement changes
+    /// nothing (Privileged 4.1.11).
     pub fn write(self, value: u64, spaces: Spaces) -> Satp
         requires { spaces.asid_len ≤ ASID_BITS }
         ensures { result ≡ satp_written spaces self value }
@@ -61,7 +62,7 @@ impl Satp {
         self.bits
     }
 
-    /// Whether addresses are translated, by one of the paging modes. Where they aren't, satp is 0.
+    /// Whether satp's MODE is a paging mode. If it isn't, satp is 0.
     pub fn translates(self) -> bool
         ensures answer { result ≡ translates self }
         ensures bare { result ≡ false → self ≡ 0 }
@@ -69,21 +70,21 @@ impl Satp {
         Paging::named(self.bits >> MODE_BIT).is_some()
     }
 
-    /// The mode by which addresses are translated, where they are.
+    /// The paging mode, if addresses are translated; otherwise it has no meaning.
     pub fn paging(self) -> Paging
         ensures { result ≡ paging_of self }
     {
         Paging::named(self.bits >> MODE_BIT).unwrap_or(Paging::Sv39)
     }
 
-    /// Whether a virtual address of 64 bits is one of satp's mode (Privileged 4.4.1, 4.5.1).
+    /// Whether a virtual address is valid by satp's mode (Privileged 4.4.1, 4.5.1).
     pub fn is_valid(self, va: u64) -> bool
         ensures { result ≡ is_valid self va }
     {
         self.paging().is_valid(va)
     }
 
-    /// ASID: the address space.
+    /// ASID: the address space (Privileged 4.1.11).
     pub fn asid(self) -> u64
         ensures { result ≡ asid_of self }
     {
@@ -98,7 +99,7 @@ impl Satp {
     }
 }
 
-/// What is kept of a value that is stored: all but the bits of its ASID above ASIDLEN (Privileged 4.1.11).
+/// The value that a write keeps: the bits of its ASID above ASIDLEN are cleared (Privileged 4.1.11).
 fn kept(value: u64, spaces: Spaces) -> u64
     requires { spaces.asid_len ≤ ASID_BITS }
     ensures { result ≡ kept_of spaces value }

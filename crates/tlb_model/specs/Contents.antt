@@ -1,4 +1,4 @@
--- What a cache is, for its contracts: its next number, and its live fills.
+-- The model of a cache: the number of its next fill, and its live fills (profile).
 use Rattle.std.specs.Prelude.{ℕ, ◌+◌, nat_lt, List, [], ◌∷◌, Bool, not, filter, find, Option, Some, None, option_map}
 use Rattle.tlb_model.specs.declared.cache.Numbered.{Numbered}
 
@@ -8,15 +8,15 @@ pub record Contents (E : Type 0) : Type 0 where
   pub live : List (Numbered E)
 
 module _ {E : Type 0} where
-  -- Nothing was filled.
+  -- An empty cache.
   abbrev pub empty : Contents E
   empty = record { next = 0; live = [] }
 
-  -- Whether a fill outlives the one of this number, which replaces the one sixteen before it (profile).
+  -- Whether a fill outlives the fill of this number, which replaces the fill 16 before it (profile).
   abbrev pub is_young : ℕ → Numbered E → Bool
   is_young number fill = nat_lt number (fill.number + 16)
 
-  -- A fill at a date takes the next number, and replaces the fill sixteen before it (profile).
+  -- A fill takes the next number, and replaces the fill 16 before it (profile).
   abbrev pub filled : Contents E → (date : ℕ) → E → Contents E
   filled cache date item =
       record {
@@ -25,7 +25,7 @@ module _ {E : Type 0} where
             ∷ filter (is_young cache.next) cache.live;
       }
 
-  -- the cache after this fill, or after none
+  -- the cache after this fill, or unchanged if there is none
   abbrev pub filled_if : Contents E → (date : ℕ) → Option E → Contents E
   filled_if cache date (Some item) = filled cache date item
   filled_if cache date None = cache
@@ -34,10 +34,10 @@ module _ {E : Type 0} where
   abbrev pub fenced : {F : Type 0} → (covers : F → E → Bool) → Contents E → F → Contents E
   fenced covers cache flush = record cache { live = filter (λ fill. not (covers flush fill.item)) cache.live }
 
-  -- Nothing is live any more, and the numbers go on (profile).
+  -- Nothing is live any more; the next number stays (profile).
   abbrev pub cleared : Contents E → Contents E
   cleared cache = record cache { live = [] }
 
-  -- The hit is the item of the key's that was filled last, of those that are live (profile).
+  -- The hit is the live item that matches the key and was filled last (profile).
   abbrev pub hit : {K : Type 0} → (holds : K → E → Bool) → K → Contents E → Option E
   hit holds key cache = option_map (λ fill. fill.item) (find (λ fill. holds key fill.item) cache.live)

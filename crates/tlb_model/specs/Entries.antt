@@ -1,4 +1,4 @@
--- Entries of TLBs: which addresses they translate, and what fences drop (Privileged 4.2.1).
+-- TLB entries: the addresses that they translate, and the fences that drop them (Privileged 4.2.1).
 use Rattle.std.specs.Prelude.{ℕ, ◌+◌, nat_le, nat_lt, Bool, true, false, not, ◌==◌, ◌&&◌, ◌||◌, Option, Some, None}
 use Rattle.sv39.specs.declared.page.Leaf.{Leaf}
 use Rattle.sv39.specs.Pages.{size}
@@ -8,7 +8,7 @@ use Rattle.tlb_model.specs.declared.fence.Flush.TheVariants.{Words, Entries}
 use Rattle.tlb_model.specs.declared.fence.Range.{Range}
 use Rattle.tlb_model.specs.Fences.{meets}
 
--- An entry of a TLB: a leaf of the page tables, and the ASID of satp when it was found (Privileged 4.2.1).
+-- A TLB entry: a leaf of the page tables, and satp's ASID when it was found (Privileged 4.2.1).
 pub record Entry : Type 0 where
   pub leaf : Leaf
   pub asid : ℕ
@@ -17,17 +17,19 @@ pub record Entry : Type 0 where
 abbrev pub has_address : Leaf → ℕ → Bool
 has_address leaf va = nat_le leaf.page va && nat_lt va (leaf.page + size leaf.level)
 
--- An entry matches an address of its page, in its address space or, where it is global, in any (Privileged 4.2.1).
+-- An entry matches an address of its page in its address space, or in any address space if it is global (Privileged
+-- 4.2.1).
 abbrev pub matches : Address → Entry → Bool
 matches at entry = has_address entry.leaf at.va && (entry.leaf.global || (entry.asid == at.asid))
 
--- A fence of an address space is of the entries that have its ASID and aren't global; one of none is of all entries
--- (Privileged 4.2.1).
+-- A fence of an address space covers entries that have its ASID and aren't global. A fence without an ASID covers
+-- entries of all address spaces (Privileged 4.2.1).
 abbrev pub is_in_space : Option ℕ → Entry → Bool
 is_in_space None entry = true
 is_in_space (Some asid) entry = not entry.leaf.global && (entry.asid == asid)
 
--- A fence of a range is of the pages that have an address of it, and one of none is of all pages (Privileged 4.2.1; SBI 8).
+-- A fence of a range reaches pages that have an address of the range. A fence without a range reaches all pages
+-- (Privileged 4.2.1; SBI 8).
 abbrev pub reaches : Option Range → Leaf → Bool
 reaches None leaf = true
 reaches (Some range) leaf = meets range leaf.page (size leaf.level)

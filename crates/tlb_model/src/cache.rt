@@ -1,4 +1,4 @@
-//! One cache of a hart: fills in their order, of which the latest are kept.
+//! A cache of a hart: the latest fills, in their order.
 ghost use Rattle.std.specs.Prelude.{◌≡◌, ◌-◌, ◌/◌, ◌%◌, ◌<◌, ◌≤◌, ◌^◌, ℕ, Bool, Ok, find, length, reverse};
 ghost use Rattle.std.specs.Int.{bit_at};
 ghost use Rattle.tlb_model.specs.Contents.{cleared, empty, fenced, filled, hit};
@@ -10,46 +10,46 @@ use arrayvec::ArrayVec;
 use std::alloc::AllocError;
 use std::marker::Model;
 
-/// What a cache keeps.
+/// An item of a cache.
 pub trait Cached: Copy + Default + Drop {
     ghost use Rattle.tlb_model.specs.declared.fence.Flush.{Flush};
 
-    /// What an item is looked up by.
+    /// The type by which an item is looked up.
     type Key: Copy;
 
     ghost holds: { Self.Key → Self → Bool };
 
     ghost covers: { Flush → Self → Bool };
 
-    /// Whether the item is one of this key's.
+    /// Whether the item matches the key.
     fn holds(&self, key: Self::Key) -> bool
         ensures { result ≡ holds key self.now };
 
-    /// Whether a fence that drops this drops the item.
+    /// Whether the fence covers the item, and so drops it.
     fn is_covered_by(&self, flush: Flush) -> bool
         ensures { result ≡ covers flush self.now };
 }
 
-/// An item of a cache, by when it was filled.
+/// An item of a cache, with the date and number of its fill.
 #[derive(Clone, Copy, Debug, PartialEq, Eq)]
 pub struct Numbered<E> {
-    /// The date of its fill.
+    /// The date of its fill: the number of events before it.
     pub date: u64,
-    /// The number of its fill: how many fills of the cache were made before it.
+    /// The number of its fill: the number of fills of this cache before it.
     pub number: u64,
     /// The item.
     pub item: E,
 }
 
-/// A cache of a hart: its live fills, in sixteen places (profile). Fill n is in place n mod 16, and stays there until
-/// fill n + 16; a fence moves none.
+/// A cache of a hart: its live fills, in 16 places (profile). Fill n stays in place n mod 16 until fill n + 16. A fence
+/// moves no fill.
 #[derive(Debug, Drop)]
 pub struct Cache<E> {
     next: u64,
     // (a bit for each place)
     dropped: u16,
     places: ArrayVec<E, 16>,
-    // (beside the places, which a look-up goes over)
+    // (apart from the places, because a look-up scans only those)
     dates: [u64; 16],
 }
 
@@ -66,7 +66,7 @@ impl<E> Model for Cache<E> {
 }
 
 impl<E: Cached> Cache<E> {
-    /// A cache in which nothing was filled.
+    /// An empty cache.
     pub fn new() -> Cache<E>
         ensures { result ≡ empty }
     {
@@ -78,12 +78,12 @@ impl<E: Cached> Cache<E> {
         }
     }
 
-    /// Of the live items that are this key's, the one that was filled last (profile).
+    /// The hit: of the live items that match the key, the one filled last (profile).
     #[inline(always)]
     pub fn lookup(&self, key: E::Key) -> Option<E>
         ensures { result ≡ hit E.holds key self.now }
     {
-        // (most often no fence dropped what is in the places)
+        // (the usual case: no fence dropped an item)
         if self.dropped != 0 {
             return self.latest_kept(key);
         }
@@ -94,7 +94,7 @@ impl<E: Cached> Cache<E> {
         }
     }
 
-    /// The look-up where some are dropped.
+    /// The look-up if some items are dropped.
     fn latest_kept(&self, key: E::Key) -> Option<E>
         ensures { result ≡ hit E.holds key self.now }
     {
@@ -106,7 +106,7 @@ impl<E: Cached> Cache<E> {
         }
     }
 
-    /// Fills an item in, at this date. The one that was filled sixteen fills before goes, where it is still live (profile).
+    /// Fills an item, with this date. It replaces the item filled sixteen fills before (profile).
     pub fn fill(&mut self, date: u64, item: E)
         requires { self.old.next < 2 ^ 63 }
         ensures { self.new ≡ filled self.old date item }
@@ -122,7 +122,7 @@ impl<E: Cached> Cache<E> {
         self.next += 1;
     }
 
-    /// Drops exactly what this covers.
+    /// Drops exactly the items that the fence covers (Privileged 4.2.1; Zifencei).
     pub fn apply(&mut self, flush: Flush)
         ensures { self.new ≡ fenced E.covers self.old flush }
     {
@@ -138,21 +138,21 @@ impl<E: Cached> Cache<E> {
         self.dropped = dropped;
     }
 
-    /// Drops everything, as a stop of the hart or a reset does (profile).
+    /// Drops all items, as a stop of the hart or a reset does (profile).
     pub fn clear(&mut self)
         ensures { self.new ≡ cleared self.old }
     {
         self.dropped = u16::MAX;
     }
 
-    /// The number of its next fill: how many fills were made of it.
+    /// The number of the next fill, which is the number of fills so far.
     pub fn fills(&self) -> u64
         ensures { result ≡ self.now.next }
     {
         self.next
     }
 
-    /// A cache that is equal to this one. It takes no memory.
+    /// A copy. It allocates nothing, and never fails.
     #[inline(always)]
     pub fn try_copy(&self) -> Result<Cache<E>, AllocError>
         ensures { result ≡ Ok self.now }
@@ -169,7 +169,7 @@ impl<E: Cached> Cache<E> {
         })
     }
 
-    /// What is live, in the order of filling.
+    /// The live fills, oldest first.
     pub fn live(&self) -> Live<'_, E>
         ensures live { reverse result ≡ self.now.live }
         ensures room { length result ≤ 16 }
@@ -178,7 +178,7 @@ impl<E: Cached> Cache<E> {
     }
 }
 
-/// A bit for each of so many places, set where what was filled into it last isn't dropped.
+/// A bit for each of so many places. It is set if the place's last fill isn't dropped.
 #[inline(always)]
 fn kept_places(places: u64, dropped: u16) -> u32
     requires { places ≤ 16 }
@@ -188,7 +188,7 @@ fn kept_places(places: u64, dropped: u16) -> u32
     u32::from(!dropped) % (1 << places)
 }
 
-/// Of the items at these places, a bit for each, that are this key's, the one at the last place.
+/// The last item that matches the key, at a place whose bit is set in `marks`.
 #[inline(always)]
 fn latest_at<E: Cached>(places: &[E], marks: u32, key: E::Key) -> Option<E>
     requires few { length places.now ≤ 16 }
@@ -207,7 +207,7 @@ fn latest_at<E: Cached>(places: &[E], marks: u32, key: E::Key) -> Option<E>
     None
 }
 
-/// Of the items that are this key's, the last one.
+/// The last item that matches the key.
 #[inline(always)]
 fn latest<E: Cached>(items: &[E], key: E::Key) -> Option<E>
     ensures { result ≡ find (E.holds key) (reverse items.now) }

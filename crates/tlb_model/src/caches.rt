@@ -13,20 +13,20 @@ use std::alloc::AllocError;
 /// The cache of a hart's translations (Privileged 4.2.1).
 pub type Tlb = Cache<Entry>;
 
-/// The cache of the words that a hart fetched (Zifencei).
+/// The instruction cache: the words that a hart fetched (Zifencei).
 pub type ICache = Cache<FetchWord>;
 
-/// The caches of one hart.
+/// The caches of a hart.
 #[derive(Debug, Drop)]
 pub struct Caches {
-    /// Its translations.
+    /// The translations.
     pub tlb: Tlb,
-    /// Its fetched words.
+    /// The fetched words.
     pub words: ICache,
 }
 
 impl Caches {
-    /// Caches in which nothing was filled.
+    /// Empty caches.
     pub fn new() -> Caches
         ensures { result ≡ record { tlb = empty; words = empty } }
     {
@@ -36,7 +36,8 @@ impl Caches {
         }
     }
 
-    /// Drops exactly what this covers, in either cache: a fence of translations covers no word, and one of words no translation.
+    /// Drops exactly what the fence covers in each cache. An SFENCE.VMA covers no fetched word, and a FENCE.I no
+    /// translation (Privileged 4.2.1; Zifencei).
     pub fn apply(&mut self, flush: Flush)
         ensures tlb { self.new.tlb ≡ fenced covers_entry self.old.tlb flush }
         ensures words { self.new.words ≡ fenced covers_word self.old.words flush }
@@ -47,7 +48,7 @@ impl Caches {
         }
     }
 
-    /// Caches that are equal to these. It takes no memory.
+    /// A copy. It allocates nothing, and never fails.
     #[inline(always)]
     pub fn try_copy(&self) -> Result<Caches, AllocError>
         ensures { result ≡ Ok self.now }
@@ -58,7 +59,7 @@ impl Caches {
         })
     }
 
-    /// Drops everything in both, as a stop of the hart or a reset does (profile).
+    /// Drops everything in both caches, as a stop of the hart or a reset does (profile).
     pub fn clear(&mut self)
         ensures tlb { self.new.tlb ≡ cleared self.old.tlb }
         ensures words { self.new.words ≡ cleared self.old.words }

@@ -15,18 +15,18 @@ use sv39::{Kind, Leaf, Level};
 pub struct Address {
     /// The address.
     pub va: u64,
-    /// The address space, as satp has it.
+    /// The address space: satp's ASID.
     pub asid: u16,
 }
 
-/// An entry of a TLB: a leaf of the page tables, and the address space for which it was found (Privileged 4.2.1).
+/// A TLB entry: a leaf of the page tables, and the ASID with which it was found (Privileged 4.2.1).
 #[derive(Clone, Copy, PartialEq, Eq)]
 pub struct Entry {
     page: u64,
     pa: u64,
     asid: u16,
     level: Level,
-    // (whether the page is global and what it allows: a look-up hands all of it on at once)
+    // (whether the page is global, and what it allows: packed, since a look-up copies the entry)
     rights: u8,
 }
 
@@ -67,7 +67,7 @@ impl fmt::Debug for Entry {
     }
 }
 
-/// The entry that stands in a place which nothing was filled into yet.
+/// The entry in a place that has no fill yet.
 impl Default for Entry {
     fn default() -> Entry {
         Entry {
@@ -103,7 +103,7 @@ impl Cached for Entry {
 }
 
 impl Entry {
-    /// The entry of a leaf that was found for an address space.
+    /// The entry of a leaf that was found with this ASID.
     pub fn new(leaf: Leaf, asid: u16) -> Entry
         ensures { result ≡ record { leaf = leaf; asid = asid } }
     {
@@ -116,21 +116,21 @@ impl Entry {
         }
     }
 
-    /// The leaf.
+    /// The leaf, as the page tables gave it.
     pub fn leaf(&self) -> Leaf
         ensures { result ≡ self.now.leaf }
     {
         leaf_in(self.page, self.pa, self.level, self.rights)
     }
 
-    /// The ASID of satp when the leaf was found.
+    /// satp's ASID when the leaf was found.
     pub fn asid(&self) -> u16
         ensures { result ≡ self.now.asid }
     {
         self.asid
     }
 
-    /// The leaf's page, by its first virtual address.
+    /// The first virtual address of the leaf's page.
     pub fn page(&self) -> u64
         ensures { result ≡ self.now.leaf.page }
     {
@@ -144,7 +144,7 @@ impl Entry {
         self.pa
     }
 
-    /// Whether the page may be accessed so.
+    /// Whether the page allows accesses of this kind (Privileged 4.3.2).
     pub fn allows(&self, kind: Kind) -> bool
         ensures { result ≡ allows kind self.now.leaf }
     {
@@ -155,8 +155,8 @@ impl Entry {
         }
     }
 
-    /// Whether a fence of this address space, or of all, is of the entry's: one of a single space spares what is
-    /// global (Privileged 4.2.1).
+    /// Whether a fence of this address space, or of all (None), covers the entry's. A fence of one address space spares
+    /// global entries (Privileged 4.2.1).
     fn is_in_space(&self, asid: Option<u16>) -> bool
         ensures { result ≡ is_in_space asid self.now }
     {
@@ -166,7 +166,7 @@ impl Entry {
         }
     }
 
-    /// Whether a fence of these addresses, or of all, is of the entry's page.
+    /// Whether a fence of these addresses, or of all (None), reaches the entry's page.
     fn is_reached_by(&self, range: Option<Range>) -> bool
         ensures { result ≡ reaches range self.now.leaf }
     {

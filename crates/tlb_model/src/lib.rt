@@ -1,5 +1,5 @@
-//! The two caches of a hart, of translations and of fetched words, and the fences that drop from them (Privileged 4.2.1;
-//! Zifencei). Each cache numbers its fills, and keeps the last sixteen but for what fences dropped (profile).
+//! The two caches of a hart, of translations and of fetched words, and the fences that drop items from them (Privileged
+//! 4.2.1; Zifencei). Each cache numbers its fills, and keeps the last 16, without those that fences dropped (profile).
 #![tactic(auto)]
 
 mod cache;

@@ -1,4 +1,4 @@
-//! What of a cache is live, in order.
+//! An iterator over the live fills of a cache.
 ghost use Rattle.std.specs.Prelude.{◌≡◌, length, min, reverse};
 ghost use Rattle.std.specs.Iterator.{YieldsFirst, item_count};
 ghost use Rattle.tlb_model.specs.Inside.Places.{seen};
@@ -7,14 +7,14 @@ use crate::cache::Numbered;
 use std::iter::ExactSizeIterator;
 use std::marker::Model;
 
-/// What lives in a cache and is still to come, in the order of filling.
+/// The live fills of a cache that are still to come, oldest first.
 #[derive(Drop)]
 pub struct Live<'a, E> {
     places: &'a [E],
     dates: &'a [u64; 16],
     dropped: u16,
     next: u64,
-    // (how many of the last fills are still to come)
+    // (the number of the last fills that are still to come)
     left: u64,
 }
 
@@ -31,8 +31,8 @@ impl<'a, E> Model for Live<'a, E> {
 }
 
 impl<'a, E> Live<'a, E> {
-    /// What lives of the fills in these places, by their dates, the word of those that were dropped and the number of the
-    /// next fill.
+    /// The live fills in these places: `dates` has their dates, `dropped` a bit for each dropped one, and `next` is the
+    /// number of the next fill.
     pub(crate) fn of(places: &'a [E], dates: &'a [u64; 16], dropped: u16, next: u64) -> Live<'a, E>
         requires { length places.now ≡ min 16 next }
         ensures { result ≡ reverse (seen next 16 places.now dates.now dropped) }

@@ -1,4 +1,4 @@
-//! What a leaf says of its page but for the addresses and the level, in a byte.
+//! A leaf's rights, and whether it is global, in a byte.
 ghost use Rattle.std.specs.Prelude.{◌≡◌, ◌≤◌, ◌<◌};
 ghost use Rattle.sv39.specs.Entries.{has_bit};
 ghost use Rattle.tlb_model.specs.Inside.KeptRights.{bit, leaf_in, rights_of};
@@ -17,7 +17,7 @@ pub const X: u64 = 3;
 
 pub const D: u64 = 4;
 
-/// What a leaf says of its page, a bit each.
+/// The rights of a leaf, one bit each.
 pub fn rights_of(leaf: Leaf) -> u8
     ensures { result ≡ rights_of leaf }
 {
@@ -48,7 +48,7 @@ pub fn is_global(rights: u8) -> bool
     has(rights, GLOBAL)
 }
 
-/// Whether the bit is 1.
+/// Whether this bit of the byte is 1.
 pub fn has(rights: u8, bit: u64) -> bool
     requires { bit < 8 }
     ensures { result ≡ has_bit bit rights }
@@ -56,7 +56,7 @@ pub fn has(rights: u8, bit: u64) -> bool
     rights >> bit & 1 == 1
 }
 
-/// 1 where it is so, and else 0.
+/// 1 for true, 0 for false.
 fn bit(is: bool) -> u8
     ensures value { result ≡ bit is }
     ensures bound { result ≤ 1 }

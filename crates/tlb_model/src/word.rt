@@ -1,15 +1,15 @@
-//! A word that was fetched.
+//! A fetched word.
 ghost use Rattle.tlb_model.specs.Words.{covers_word, is_at};
 
 use crate::cache::Cached;
 use crate::fence::Flush;
 
-/// A word that was fetched.
+/// A fetched word.
 #[derive(Clone, Copy, Debug, Default, PartialEq, Eq)]
 pub struct FetchWord {
-    /// Its physical address.
+    /// The word's physical address.
     pub pa: u64,
-    /// The word of 8 bytes that was there when it was fetched.
+    /// The value of the 8 bytes there when they were fetched.
     pub word: u64,
 }
 

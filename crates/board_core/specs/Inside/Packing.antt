@@ -1,4 +1,4 @@
--- How a packed machine stands for the machine: private.
+-- The machine that a packed machine stands for: private.
 use Rattle.board_machine.specs.declared.machine.Machine.{Machine}
 use Rattle.board_core.specs.declared.packed.PackedMachine.{PackedMachine}
 

@@ -1,4 +1,4 @@
--- What the lock, a seat, a receipt and a record keep: private.
+-- The invariants of the lock, seats, receipts and records: private.
 use Rattle.std.specs.Prelude.{◌≡◌, ℕ, ◌+◌, ◌≤◌, if◌then◌else◌, List, [], ◌∷◌, ◌++◌, length, reverse, slice_index_or}
 use Rattle.std.specs.List.{AllByRecursion}
 use mathlib.Core.List.{IsPrefix}
@@ -19,18 +19,18 @@ use Rattle.board_lock.specs.Receipts.{AcceptedCall}
 use Rattle.board_lock.specs.Inside.Rests.{IsRests}
 use Rattle.board_lock.specs.declared.rests.Rests.{Rests}
 
--- an actor's number: a hart's id, and after those the clock's
+-- an actor's number: a hart's id, or for the clock the number of harts
 abbrev pub number_of : Config → Actor → ℕ
 number_of c (Hart h) = h
 number_of c Clock = c.harts
 
--- how many of the events are the actor's
+-- the number of the actor's events
 abbrev pub count_of : Actor → List Event → ℕ
 count_of a [] = 0
 count_of a (e ∷ es) = (if is_same a e.actor then 1 else 0) + count_of a es
 
--- What is counted under the lock: the events of each actor, by its number, the total of the ledger's book, and how many parts are
--- left of the ledger, with what amount.
+-- The counts under the lock: the events of each actor, by its number, the total of the ledger's book, and the parts
+-- that are left of the ledger, with their amount.
 pub record Tally : Type 0 where
   pub counts : List ℕ
   pub total : ℕ
@@ -40,8 +40,9 @@ pub record Tally : Type 0 where
 abbrev pub tally : List ℕ → (total parts amount : ℕ) → Tally
 tally counts total parts amount = record { counts = counts; total = total; parts = parts; amount = amount }
 
--- Under the lock: the board began as the room says, which is good; the log is its history, and the ledger's total its length; each
--- actor's count is that of its events, which are the actors' alone; those that rest are the board's; and what is left of the ledger is nothing.
+-- The invariant of the lock. The board has the room's opening, whose numbers are within the limits. The log is the
+-- board's history, and the ledger's total its length. Each actor's count is that of its events, and only actors have
+-- events. The resting seats are the board's. Nothing is left of the ledger.
 pub record IsDesk (opening : Opening) (room : ℕ) (board : Course) (rests : Rests) (t : Tally) (log : Log Event)
     : Type 0 where
   pub good : IsGood opening.config
@@ -57,7 +58,7 @@ pub record IsDesk (opening : Opening) (room : ℕ) (board : Course) (rests : Res
   pub no_parts : t.parts ≡ 0
   pub no_amount : t.amount ≡ 0
 
--- What a seat counts: its actor, its accepted calls, and its parts of the ledger, with their amount.
+-- The counts of a seat: its actor, its accepted calls, and its parts of the ledger, with their amount.
 pub record Counter : Type 0 where
   pub actor : Actor
   pub count : ℕ
@@ -67,8 +68,8 @@ pub record Counter : Type 0 where
 abbrev pub counter : Actor → (count parts amount : ℕ) → Counter
 counter actor count parts amount = record { actor = actor; count = count; parts = parts; amount = amount }
 
--- A seat: its actor is one of the board's, it has one part of the ledger with its count for amount, and had seen as many
--- events of its own at its last accepted call, which is no later than when it looked last.
+-- The invariant of a seat. Its actor is one of the board's. It has one part of the ledger, whose amount is its count.
+-- At its last accepted call it had seen as many events of its own, and it hasn't looked earlier than that since.
 pub record IsSeated (c : Config) (room : ℕ) (s : Counter) (seen last : Prefix Event) : Type 0 where
   pub acting : IsActor c s.actor
   pub one_part : s.parts ≡ 1
@@ -78,7 +79,7 @@ pub record IsSeated (c : Config) (room : ℕ) (s : Counter) (seen last : Prefix 
   pub last_named : last.name ≡ room
   pub later : IsPrefix seen.list last.list
 
--- A receipt: its event was the last of those that were seen, the first of which had place `first`.
+-- The invariant of a receipt: its event was the last of the events seen, the first of which had the place `first`.
 pub record IsReceiptOf (first room : ℕ) (t : AcceptedCall) (seen : Prefix Event) : Type 0 where
   pub before : List Event
   pub event : Event
@@ -90,18 +91,18 @@ pub record IsReceiptOf (first room : ℕ) (t : AcceptedCall) (seen : Prefix Even
   pub placed : first + length before ≡ t.place
   pub counted : count_of t.actor before ≡ t.ordinal
 
--- The log of a room, under its name, has these events.
+-- The room's log has these events.
 pub record IsKeptLog (room : ℕ) (log : ClosedLog Event) (events : List Event) : Type 0 where
   pub named : log.name ≡ room
   pub logged : log.list ≡ events
 
--- A record: the board began as the room says, and the log is its history.
+-- The invariant of a record: the board has the room's opening, and the log is its history.
 pub record IsRecord (opening : Opening) (room : ℕ) (board : Course) (log : ClosedLog Event) : Type 0 where
   pub opened : board.opening ≡ opening
   pub kept : IsKeptLog room log (events_in board)
 
--- What a record left: it began as the room says, with an opening that a board comes to; its events are a legal history within
--- the limit, and the log is those.
+-- The invariant of a past: it has the room's opening, which a board can reach; its events are a legal history within
+-- the limit; and the log has these events.
 pub record IsPast (opening : Opening) (room : ℕ) (began : Opening) (events : List Event) (log : ClosedLog Event)
     : Type 0 where
   pub opened : began ≡ opening

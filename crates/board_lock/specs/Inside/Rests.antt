@@ -1,4 +1,4 @@
--- Rests: which seats rest, until what, and when a rest is over (profile).
+-- Rests: which seats rest, until when, and when a rest is over (profile).
 use Rattle.std.specs.Prelude.{◌≡◌, ◌≢◌, ℕ, ◌<◌, ◌&&◌, Bool, true, false, not, List, [], length, Option}
 use Rattle.hart_mask.specs.Ids.{IsIdSet, has, ids_where, with_bit, with_id}
 use Rattle.board_terms.specs.declared.op.Actor.{Actor}
@@ -25,21 +25,21 @@ abbrev pub is_any : Until → Bool
 is_any Event = true
 is_any (For awaits) = false
 
--- whether work for its hart's firmware ends it
+-- whether work for its hart's firmware ends a rest
 abbrev pub for_firmware : Until → Bool
 for_firmware Event = false
 for_firmware (For Firmware) = true
 for_firmware (For Wake) = true
 for_firmware (For End) = false
 
--- whether wake ends it, too
+-- whether wake ends a rest too
 abbrev pub for_wake : Until → Bool
 for_wake Event = false
 for_wake (For Firmware) = false
 for_wake (For Wake) = true
 for_wake (For End) = false
 
--- an actor's seat rests too
+-- the rests, where this actor's seat rests too
 abbrev pub resting : Rests → Actor → Until → Rests
 resting r (Hart h) until = record {
   harts = with_id r.harts h;
@@ -66,7 +66,7 @@ less ids others = ids_where (λ i. has ids i && not (has others i))
 abbrev pub none_woken : Woken
 none_woken = record { harts = []; clock = false }
 
--- these seats rest no more
+-- the rests, where these seats no longer rest
 abbrev pub awake : Rests → Woken → Rests
 awake r w = record {
   harts = less r.harts w.harts;
@@ -77,17 +77,17 @@ awake r w = record {
   clock_events = r.clock_events;
 }
 
--- Every seat of a board of so many harts rests: each hart's, and the clock's.
+-- Every seat of a board of so many harts rests: the harts' and the clock's.
 pub record AllRest (harts : ℕ) (r : Rests) : Type 0 where
   pub clock : r.clock ≡ true
   pub each : (h : ℕ) → h < harts → has r.harts h ≡ true
 
--- The harts that rest are a set of the board's.
+-- The harts that rest are a set of the board's harts.
 pub record IsRests (harts : ℕ) (r : Rests) : Type 0 where
   pub set : IsIdSet r.harts
   pub below : (h : ℕ) → has r.harts h ≡ true → h < harts
 
--- What the lock holds: the board, who rests, and whether the end was called for, or every seat rested.
+-- What the lock protects: the board, the rests, and whether an end was asked for or every seat rested.
 pub record Held : Type 0 where
   pub board : Course
   pub rests : Rests
@@ -96,7 +96,7 @@ pub record Held : Type 0 where
 abbrev pub held : Course → Rests → Bool → Held
 held board rests ended = record { board = board; rests = rests; ended = ended }
 
--- The actor's seat rests too, and was the last one or not.
+-- The actor's seat rests too. Either it was the last, or another seat doesn't rest.
 abbrev pub IsStay : Pause → (old new : Held) → Actor → Until → Type 0
 IsStay (Over r) old new a until = ⊥
 IsStay Waits old new a until =
@@ -104,16 +104,15 @@ IsStay Waits old new a until =
 IsStay Last old new a until =
     (new ≡ held old.board (resting old.rests a until) true) × AllRest old.board.opening.config.harts new.rests
 
--- What an actor's seat that has seen so many events is answered when it would rest. Every rest is over just where the end was
--- called for or all rested before; else it has changed just where another number of events is there; else the seat rests.
+-- The result of a seat's attempt to rest, if it has seen so many events. AllRest if and only if an end was asked for,
+-- or all rested before. Otherwise Changed if and only if the number of events is another. Otherwise the seat rests.
 abbrev pub IsPause : Pause → (old new : Held) → Actor → (seen : ℕ) → Type 0
 IsPause (Over rest.AllRest) old new a seen = (old.ended ≡ true) × (new ≡ old)
 IsPause (Over rest.Changed) old new a seen = (old.ended ≡ false) × (length old.board.past ≢ seen) × (new ≡ old)
 IsPause Waits old new a seen = (old.ended ≡ false) × (length old.board.past ≡ seen) × IsStay Waits old new a Event
 IsPause Last old new a seen = (old.ended ≡ false) × (length old.board.past ≡ seen) × IsStay Last old new a Event
 
--- The same of a seat that would rest for what it waits for, where this is what its hart shows: it has changed just where that
--- has come.
+-- The same for a seat that waits for something, if its hart is so now: Changed if and only if that has come.
 abbrev pub IsPauseFor : Pause → (old new : Held) → Actor → Awaits → (now : Option HartNow) → Type 0
 IsPauseFor (Over rest.AllRest) old new a awaits now = (old.ended ≡ true) × (new ≡ old)
 IsPauseFor (Over rest.Changed) old new a awaits now = (old.ended ≡ false) × (has_come_to awaits now ≡ true)

@@ -1,4 +1,4 @@
--- Whom an event wakes, of the seats that rest (profile).
+-- The resting seats that an event wakes (profile).
 use Rattle.std.specs.Prelude.{ℕ, Bool, ◌&&◌, ◌||◌, if◌then◌else◌, nat_lt, List, [], length, Option, Some, None}
 use Rattle.sbi_abi.specs.declared.call.Call.{Call}
 use Rattle.sbi_abi.specs.declared.call.Call.TheVariants as calls
@@ -27,11 +27,11 @@ abbrev pub all_or_none : Option (List ℕ) → List ℕ
 all_or_none (Some ids) = ids
 all_or_none None = []
 
--- the harts that a hart list names; none where it is refused
+-- the harts that a hart list names; none if it is invalid
 abbrev pub named : (harts mask base : ℕ) → List ℕ
 named harts mask base = all_or_none (targets_of mask base harts)
 
--- the set of one hart, if there is such a hart
+-- the set of only this hart; empty if there is no such hart
 abbrev pub alone : (harts h : ℕ) → List ℕ
 alone harts h = if nat_lt h harts then with_id [] h else []
 
@@ -50,8 +50,8 @@ concerned_by_hsm harts (HartSuspend kind addr opaque) = []
 abbrev pub concerned_by_ipi : (harts : ℕ) → IpiCall → List ℕ
 concerned_by_ipi harts (SendIpi mask base) = named harts mask base
 
--- The harts whose seats a call may concern, besides that of its caller, on a board of so many: an interrupt and a fence those
--- that it names, a start the one that it starts, and a stop and a reset all.
+-- The harts, of so many, whose seats a call may concern, besides its caller's: of an IPI and a fence those that it
+-- names, of a start the target, and of a stop and a reset all.
 abbrev pub concerned_by : (harts : ℕ) → Call → List ℕ
 concerned_by harts (calls.Ipi call) = concerned_by_ipi harts call
 concerned_by harts (calls.Rfence call) = named_by harts call
@@ -59,7 +59,7 @@ concerned_by harts (calls.Hsm call) = concerned_by_hsm harts call
 concerned_by harts (calls.Srst call) = ids_below harts
 concerned_by harts call = []
 
--- The harts whose seats an operation may concern, besides that of its actor: a call those above, and a served fence and a tick
+-- The harts whose seats an operation may concern, besides its actor's: of a call those above, and of a serve and a tick
 -- all.
 abbrev pub concerned : (harts : ℕ) → Op → List ℕ
 concerned harts (Ecall regs) = concerned_by harts (call_of regs)
@@ -67,7 +67,7 @@ concerned harts Serve = ids_below harts
 concerned harts (Tick n) = ids_below harts
 concerned harts op = []
 
--- what hart h may do next
+-- hart h as it is now
 abbrev pub now_of : Course → ℕ → HartNow
 now_of b h = record {
   state = state b.opening b.past h;
@@ -76,12 +76,12 @@ now_of b h = record {
   wake = wake b.opening b.past h;
 }
 
--- whether what hart h's seat waits for has come, where it waits for its firmware's work
+-- whether what hart h's seat waits for has come; it waits for work for its firmware
 abbrev pub comes_to : Held → ℕ → Bool
 comes_to d h = has_come (if has d.rests.wakes h then Wake else Firmware) (now_of d.board h)
 
--- The seats that rest and are woken after an event of this operation: those whose rest any event ends, and of those that wait
--- for their firmware's work, and whom it may concern, those to whom that has come.
+-- The resting seats that an event of this operation wakes: those whose rest any event ends, and those that wait for
+-- work for their firmware, may be concerned, and now have it.
 abbrev pub woken : Held → Op → Woken
 woken d op = record {
   harts = ids_where (λ h. has d.rests.harts h

@@ -9,7 +9,8 @@ use board_terms::Reply;
 use sbi_abi::call::BaseCall;
 use sbi_abi::is_extension;
 
-/// The reply to a call of the Base extension (SBI 4; the ids and versions of the implementation are the profile's).
+/// The reply to a call of the Base extension (SBI 4). The ids and versions are this implementation's (profile), except
+/// the specification's version.
 pub fn base_reply(call: BaseCall) -> Reply
     ensures { result ≡ as_reply (base_reply call) }
 {

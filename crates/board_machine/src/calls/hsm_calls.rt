@@ -21,7 +21,7 @@ use sbi_abi::call::HsmCall;
 use sbi_abi::{SbiError, SuspendKind};
 
 impl Machine {
-    /// Carries out a call of the Hart State Management extension by hart `h`, which is STARTED (SBI 9).
+    /// Performs a call of the Hart State Management extension by hart `h`, which is STARTED (SBI 9).
     pub(crate) fn hsm_call(&mut self, config: &Config, h: u64, call: HsmCall) -> Reply
         requires good { IsGood config.now }
         requires sized { IsSized config.now self.old }
@@ -72,8 +72,8 @@ impl Machine {
         }
     }
 
-    /// Stops hart `h`, which calls: its deadline is forgotten, the fences that wait at it count as applied, and its caches
-    /// are emptied (SBI 9.2; profile).
+    /// Stops the calling hart `h` (SBI 9.2). Its deadline is removed, the fences that wait there count as applied, and
+    /// its caches are emptied (profile).
     fn hart_stop(&mut self, config: &Config, h: u64) -> Reply
         requires good { IsGood config.now }
         requires sized { IsSized config.now self.old }
@@ -95,7 +95,7 @@ impl Machine {
         Reply::Gone
     }
 
-    /// Suspends hart `h`, which calls (SBI 9.4).
+    /// Suspends the calling hart `h` (SBI 9.4).
     fn hart_suspend(
         &mut self,
         config: &Config,
@@ -129,7 +129,7 @@ impl Machine {
         }
     }
 
-    /// Tells the state of hart `t` (SBI 9.3).
+    /// Returns the state of hart `t` (SBI 9.3).
     fn hart_get_status(&self, config: &Config, t: u64) -> Reply
         requires { IsSized config.now self.now }
         ensures { (x : ℕ) (o : Opening) (past : List Event) → StandsFor (on config.now o) past self.now →

@@ -18,8 +18,8 @@ use hart_mask::targets;
 use sbi_abi::call::IpiCall;
 
 impl Machine {
-    /// Carries out a call of the IPI extension: sends an IPI to the harts of a hart list, and skips those that aren't in an
-    /// interruptible state (SBI 7.1).
+    /// Performs a call of the IPI extension: sends an IPI to the harts of a hart list (SBI 7.1), and skips those that
+    /// aren't in an interruptible state (profile).
     pub(crate) fn ipi_call(&mut self, config: &Config, call: IpiCall) -> Reply
         requires sized { IsSized config.now self.old }
         requires most { config.now.harts ≤ 128 }

@@ -25,8 +25,8 @@ use sv39::Spaces;
 use tlb_model::{Fence, Flush, is_wrong_range};
 
 impl Machine {
-    /// Carries out a call of the RFENCE extension by hart `h`, as the event of this place: asks its fence of the harts of its
-    /// hart list (SBI 8).
+    /// Performs a call of the RFENCE extension by hart `h`, as the event at this place: asks the harts of its hart list
+    /// for its fence (SBI 8).
     pub(crate) fn rfence_call(
         &mut self,
         config: &Config,
@@ -74,8 +74,8 @@ impl Machine {
         }
     }
 
-    /// Asks a fence of the harts of a hart list, for hart `h`, which calls, and skips those that aren't in an
-    /// interruptible state (SBI 8; that it skips them: profile).
+    /// Asks the harts of a hart list for a fence, on behalf of the calling hart `h` (SBI 8). It skips harts that aren't
+    /// in an interruptible state (profile).
     #[inline(always)]
     fn remote_fence(
         &mut self,
@@ -115,7 +115,7 @@ impl Machine {
     }
 }
 
-/// What a remote SFENCE.VMA of a range drops, or the error that its range brings (SBI 8; what a wrong range is: profile).
+/// What a remote SFENCE.VMA of a range drops, or the error for its range (SBI 8; which ranges are invalid: profile).
 fn flush_of_range(
     spaces: Spaces,
     start: u64,

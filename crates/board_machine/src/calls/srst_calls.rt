@@ -22,9 +22,10 @@ use sbi_abi::call::SrstCall;
 use sbi_abi::{Reset, ResetKind};
 
 impl Machine {
-    /// Carries out a call of the System Reset extension, and resets the board (SBI 10.1): every hart becomes STOPPED, every fence that waits counts as
-    /// applied, every call is dropped, the caches are emptied, and the harts' registers are 0. A reboot starts the boot hart
-    /// anew, a cold one clears the memory too, and after a shutdown the power is off (profile).
+    /// Performs a call of the System Reset extension, and resets the board (SBI 10.1). Every hart becomes STOPPED,
+    /// every waiting fence counts as applied, every call is dropped, all caches are emptied, and the harts' CSRs become
+    /// 0. A reboot starts the boot hart again, and a cold one clears the memory. After a shutdown the power is off
+    /// (profile).
     pub(crate) fn srst_call(&mut self, config: &Config, call: SrstCall) -> Reply
         requires good { IsGood config.now }
         requires sized { IsSized config.now self.old }
@@ -50,7 +51,7 @@ impl Machine {
     }
 }
 
-/// Whether the firmware starts the boot hart anew after a reset.
+/// Whether the firmware starts the boot hart again after a reset.
 fn begins_anew(kind: ResetKind) -> bool
     ensures { result ≡ begins_anew kind }
 {
@@ -64,7 +65,7 @@ fn is_cold(kind: ResetKind) -> bool
     matches!(kind, ResetKind::ColdReboot)
 }
 
-/// What the boot hart begins with, if it does.
+/// The boot hart's entry point, if it is started again.
 fn boot(config: &Config, begins: bool) -> Option<EntryPoint>
     ensures { result ≡ (if begins then Some
         (record { addr = config.now.boot_addr; opaque = config.now.boot_opaque }) else None) }
@@ -75,7 +76,7 @@ fn boot(config: &Config, begins: bool) -> Option<EntryPoint>
     })
 }
 
-/// Whether the power is off, by the last reset.
+/// Whether the power is off: the last reset is a shutdown (SBI 10.1).
 pub fn is_shutdown(last: Option<Reset>) -> bool
     ensures { result ≡ is_shutdown last }
 {

@@ -17,7 +17,7 @@ use board_terms::Reply;
 use sbi_abi::call::TimeCall;
 
 impl Machine {
-    /// Carries out a call of the Timer extension by hart `h`, which sets its deadline (SBI 6.1).
+    /// Performs a call of the Timer extension by hart `h`: sets its deadline (SBI 6.1).
     pub(crate) fn time_call(&mut self, h: u64, call: TimeCall) -> Reply
         requires { h < length self.old.interrupts.timers.deadlines }
         ensures answered { result ≡ as_reply (time_reply call) }

@@ -1,11 +1,11 @@
--- The Base extension (SBI 4): what its calls answer. They do nothing.
+-- The Base extension (SBI 4): the replies of its calls, which have no effect.
 use Rattle.std.specs.Prelude.{None, if◌then◌else◌}
 use Rattle.sbi_abi.specs.declared.call.base.BaseCall.{BaseCall}
 use Rattle.sbi_abi.specs.declared.call.base.BaseCall.TheVariants.{GetSpecVersion, GetImplId, GetImplVersion, ProbeExtension, GetMvendorid, GetMarchid, GetMimpid}
 use Rattle.sbi_abi.specs.Calls.{is_extension_id}
 use Rattle.board_rules.specs.Returns.{CallReply, Returns}
 
--- The ids and versions of the implementation are the profile's (SBI 4).
+-- The specification's version is 1.0 (SBI 4.1). The other ids and versions are this implementation's (profile).
 abbrev pub base_reply : BaseCall → CallReply
 base_reply GetSpecVersion = Returns None 0x1000000
 base_reply GetImplId = Returns None 0x5A5A5A

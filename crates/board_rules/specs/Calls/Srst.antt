@@ -1,4 +1,4 @@
--- The System Reset extension (SBI 10): what its calls answer, and which resets they are.
+-- The System Reset extension (SBI 10): the replies of its calls, and their resets.
 use Rattle.std.specs.Prelude.{Option, Some, None, Result, Ok, Err}
 use Rattle.sbi_abi.specs.declared.answer.SbiError.{SbiError}
 use Rattle.sbi_abi.specs.declared.call.srst.SrstCall.{SrstCall}
@@ -11,7 +11,7 @@ use Rattle.board_terms.specs.declared.reply.Reply.{Reply}
 use Rattle.board_terms.specs.declared.reply.Reply.TheVariants.{Gone}
 use Rattle.board_rules.specs.Returns.{CallReply, Leaves, Returns}
 
--- A system reset doesn't return (SBI 10.1), or answers why its type or its reason is refused.
+-- The reply to a system reset: it doesn't return, or it returns the error for its type or reason (SBI 10.1).
 abbrev pub reset_reply : Result Reset SbiError → CallReply
 reset_reply (Err error) = Returns (Some error) 0
 reset_reply (Ok reset) = Leaves
@@ -19,12 +19,12 @@ reset_reply (Ok reset) = Leaves
 abbrev pub srst_reply : SrstCall → CallReply
 srst_reply (SystemReset reset) = reset_reply reset
 
--- A reset is a call of system_reset that doesn't return.
+-- The reset of a call: a system_reset that doesn't return (SBI 10.1).
 abbrev pub reset_by_srst : SrstCall → Reply → Option Reset
 reset_by_srst (SystemReset (Ok reset)) Gone = Some reset
 reset_by_srst call reply = None
 
--- what a call means for fences: a reset drops every fence and every call
+-- what a call means for fences: a reset applies every waiting fence and drops every call
 abbrev pub turn_by_srst : SrstCall → Reply → Turn Flush
 turn_by_srst (SystemReset (Ok reset)) Gone = turns.Reset
 turn_by_srst call reply = turns.Quiet

@@ -1,6 +1,6 @@
--- How an event is kept: who made it and what was answered stand in the room beside the operation's tag, but for the reply's
--- first number, where it isn't a call's, and the opaque value of an entry. Private: an event's clauses name the record of four
--- alone.
+-- How an event is packed: the actor and the reply fill the padding beside the operation's tag, except a reply's first
+-- number, if it isn't a call's, and the opaque value of an entry. Private: an event's clauses name only the record of
+-- four.
 use Rattle.std.specs.Prelude.{◌≡◌, ℕ, Option, None, if◌then◌else◌, nat_lt}
 use Rattle.tlb_model.specs.Entries.{Entry}
 use Rattle.board_terms.specs.declared.op.Actor.{Actor}
@@ -34,7 +34,7 @@ said_of replies.Served = says.Served
 said_of (replies.Moved state) = says.Moved state
 said_of replies.Done = says.Done
 
--- the opaque value of an entry, and 0 of another reply
+-- the opaque value of an entry, and 0 for any other reply
 abbrev pub opaque_of : Reply → ℕ
 opaque_of (replies.Entry addr hart opaque) = opaque
 opaque_of reply = 0
@@ -127,7 +127,7 @@ used_in (kept.Serve head) = None
 used_in (kept.Advance head first opaque) = None
 used_in (kept.Tick head n) = None
 
--- the first number of the answer that is kept
+-- the stored first number of the reply
 abbrev pub first_in : What → ℕ
 first_in (kept.Ecall head first regs) = first
 first_in (kept.Load head va first used) = first
@@ -136,7 +136,7 @@ first_in (kept.ReadSip head first) = first
 first_in (kept.Advance head first opaque) = first
 first_in what = 0
 
--- the opaque value of an entry that is kept
+-- the stored opaque value of an entry
 abbrev pub opaque_in : What → ℕ
 opaque_in (kept.Advance head first opaque) = opaque
 opaque_in what = 0
@@ -149,10 +149,10 @@ actor_in what = actor_of (head_in what).by
 abbrev pub reply_in : What → Reply
 reply_in what = reply_of (head_in what).said (head_in what).by (first_in what) (opaque_in what)
 
--- what is kept of an event
+-- the packed form of an event
 abbrev pub what_of_event : Actor → Op → Reply → Option Entry → What
 what_of_event actor op reply used = what_of (head_of actor reply) op used (first_of reply) (opaque_of reply)
 
--- what is kept is what its parts are kept as
+-- packing the parts of the packed form gives it back
 abbrev pub IsKeptWell : What → Type 0
 IsKeptWell what = what_of_event (actor_in what) (op_in what) (reply_in what) (used_in what) ≡ what

@@ -1,4 +1,4 @@
--- A ring for each hart, and how the rings stand for the queues.
+-- The rings of the harts, and the queues that they stand for.
 use Rattle.std.specs.Prelude.{◌≡◌, ℕ, ◌-◌, ◌<◌, ◌≤◌, List, length, map, sum_by}
 use Rattle.std.specs.List.{All}
 use Rattle.circular_buffer.specs.Buffer.{Buffer}
@@ -14,8 +14,8 @@ module _ {F : Type 0} where
   abbrev pub queues_of : List (Buffer (Request F)) → List (List (Request F))
   queues_of rings = map queue_in rings
 
-  -- The rings of a board's harts, in which so many wait: each holds a queue, and has room for one request of each
-  -- other hart.
+  -- The rings of a board's harts, with so many requests in all. Each holds a queue, and has room for one request of
+  -- each other hart.
   pub record AreKept (rings : List (Buffer (Request F))) (total : ℕ) : Type 0 where
     pub limit : length rings ≤ 128
     pub room : All (λ (ring : Buffer (Request F)). ring.capacity ≡ length rings - 1) rings

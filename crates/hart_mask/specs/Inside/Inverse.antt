@@ -1,4 +1,4 @@
--- The ids of a number give the number back, as a set that is copied needs.
+-- The ids of a number make up that number, which the copy of a set needs.
 use Rattle.std.proofs.Common.{◌≡◌, ℕ, ◌+◌, ◌*◌, ◌%◌, ◌^◌, ◌<◌, suc, zero, Bool, cond, [], ◌∷◌, ◌++◌, sym, ap, ◌∙◌, arith, inl, inr, eqb, add-one}
 use Rattle.std.specs.Int.{bit_at}
 use Rattle.std.specs.List.{filter, range_with_len, sum_by}

@@ -1,4 +1,4 @@
--- What is kept of a hart shows its state, and what its pending start or its suspend keeps.
+-- The hart that a phase stands for.
 use Rattle.std.specs.Prelude.{◌≡◌, ◌≤◌, ℕ, List, length}
 use Rattle.hsm.specs.declared.phase.Phase.{Phase}
 use Rattle.hsm.specs.declared.phase.Phase.TheVariants.{Started, Stopped, StartPending, StopPending, SuspendPending, Suspended, ResumePending}
@@ -14,7 +14,7 @@ hart_of (SuspendPending kept) = suspending kept
 hart_of (Suspended kept) = sleeping kept
 hart_of (ResumePending kept) = resuming kept
 
--- What is kept of all harts: there are at most 128 of them (profile), and the set is that of the interruptible ones.
+-- There are at most 128 harts (profile), and the set has the interruptible ones.
 pub record AreKept (harts : List Hart) (set : List ℕ) : Type 0 where
   pub limit : length harts ≤ 128
   pub interruptible : set ≡ interruptible_ids harts

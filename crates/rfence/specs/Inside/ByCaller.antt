@@ -1,4 +1,4 @@
--- How the callers' ids and their fences stand for the requests that wait.
+-- The waiting requests that the callers' ids and their fences stand for.
 use Rattle.std.specs.Prelude.{◌≡◌, ℕ, ◌<◌, false, List, length, map, slice_index_or}
 use Rattle.fence_queue.specs.declared.request.Request.{Request}
 use Rattle.fence_queue.specs.Queues.{has_from, queue_at}
@@ -8,7 +8,7 @@ module _ {F : Type 0} where
   abbrev pub request_by : List F → (idle : F) → Request (Unit {0}) → Request F
   request_by fences idle caller = record { from = caller.from; flush = slice_index_or fences caller.from idle }
 
-  -- the requests of some callers, and of those at each hart
+  -- the requests of these callers, and those at each hart
   abbrev pub queue_by : List F → (idle : F) → List (Request (Unit {0})) → List (Request F)
   queue_by fences idle callers = map (request_by fences idle) callers
 

@@ -8,7 +8,7 @@ use Rattle.sbi_abi.specs.declared.call.rfence.RfenceCall.TheVariants.{RemoteFenc
 abbrev pub rfence_id : ℕ
 rfence_id = 0x52464E43
 
--- The function listing (SBI 8). Its functions 3 to 6 are the hypervisor's, and aren't implemented here (profile).
+-- The function listing (SBI 8). The functions 3 to 6 are the hypervisor's, and aren't implemented (profile).
 abbrev pub rfence_listing : Regs → List (ℕ × Call)
 rfence_listing regs =
     (0, Rfence (RemoteFenceI (slice_index regs.a 0) (slice_index regs.a 1)))

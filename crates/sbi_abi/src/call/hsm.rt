@@ -19,9 +19,9 @@ pub enum HsmCall {
     HartStart {
         /// The hart's id.
         hart: u64,
-        /// Where the hart is to begin.
+        /// The address at which the hart begins.
         addr: u64,
-        /// What it is to be handed over in a1.
+        /// The value that the hart finds in a1.
         opaque: u64,
     },
     /// Stops the calling hart (SBI 9.2).
@@ -30,11 +30,11 @@ pub enum HsmCall {
     HartGetStatus(u64),
     /// Suspends the calling hart (SBI 9.4).
     HartSuspend {
-        /// The kind of suspend, or why its type is refused.
+        /// The kind of suspend, or the error for its type.
         kind: Result<SuspendKind, SbiError>,
-        /// Where the hart is to begin after a non-retentive suspend.
+        /// The address at which the hart begins after a non-retentive suspend.
         addr: u64,
-        /// What it is to be handed over in a1 then.
+        /// The value that the hart then finds in a1.
         opaque: u64,
     },
 }

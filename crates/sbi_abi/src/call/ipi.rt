@@ -13,11 +13,11 @@ pub const IPI: u64 = 0x73_5049;
 /// A call of the IPI extension (SBI 7).
 #[derive(Clone, Copy, Debug, PartialEq, Eq)]
 pub enum IpiCall {
-    /// Sends an interrupt to the harts of a list (SBI 7.1).
+    /// Makes a software interrupt pending at the harts of a list (SBI 7.1).
     SendIpi {
         /// Bit i names hart `base + i`.
         mask: u64,
-        /// The id that bit 0 names; 2^64-1 names all harts, whatever the mask (SBI 3).
+        /// The hart id of bit 0; 2^64-1 names all harts, whatever the mask (SBI 3).
         base: u64,
     },
 }

@@ -13,36 +13,35 @@ pub const RFENCE: u64 = 0x5246_4E43;
 /// A call of the RFENCE extension (SBI 8).
 #[derive(Clone, Copy, Debug, PartialEq, Eq)]
 pub enum RfenceCall {
-    /// Has the harts of a list drop their fetched words, by a FENCE.I (SBI 8.1).
+    /// Asks the harts of a list for a FENCE.I (SBI 8.1).
     RemoteFenceI {
         /// Bit i names hart `base + i`.
         mask: u64,
-        /// The id that bit 0 names; 2^64-1 names all harts, whatever the mask (SBI 3).
+        /// The hart id of bit 0; 2^64-1 names all harts, whatever the mask (SBI 3).
         base: u64,
     },
-    /// Has the harts of a list drop the translations of a range of addresses, by an SFENCE.VMA (SBI 8.2).
+    /// Asks the harts of a list for an SFENCE.VMA of a range of virtual addresses (SBI 8.2).
     RemoteSfenceVma {
         /// Bit i names hart `base + i`.
         mask: u64,
-        /// The id that bit 0 names; 2^64-1 names all harts, whatever the mask (SBI 3).
+        /// The hart id of bit 0; 2^64-1 names all harts, whatever the mask (SBI 3).
         base: u64,
-        /// The first address, in bytes.
+        /// The first virtual address.
         start: u64,
-        /// How many bytes; all addresses where this and `start` are 0, or where it is 2^64-1.
+        /// The number of bytes. The range is all addresses if this and `start` are 0, or if this is 2^64-1 (SBI 8).
         size: u64,
     },
-    /// Has the harts of a list drop the translations of a range of addresses in one address space, by an SFENCE.VMA with
-    /// an ASID (SBI 8.3).
+    /// Asks the harts of a list for an SFENCE.VMA of a range of virtual addresses in one address space (SBI 8.3).
     RemoteSfenceVmaAsid {
         /// Bit i names hart `base + i`.
         mask: u64,
-        /// The id that bit 0 names; 2^64-1 names all harts, whatever the mask (SBI 3).
+        /// The hart id of bit 0; 2^64-1 names all harts, whatever the mask (SBI 3).
         base: u64,
-        /// The first address, in bytes.
+        /// The first virtual address.
         start: u64,
-        /// How many bytes; all addresses where this and `start` are 0, or where it is 2^64-1.
+        /// The number of bytes. The range is all addresses if this and `start` are 0, or if this is 2^64-1 (SBI 8).
         size: u64,
-        /// The address space, in the low 16 bits (profile).
+        /// The ASID, in the low 16 bits; the upper bits are ignored (profile).
         asid: u64,
     },
 }

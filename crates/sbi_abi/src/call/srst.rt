@@ -15,7 +15,7 @@ pub const SRST: u64 = 0x5352_5354;
 /// A call of the System Reset extension (SBI 10).
 #[derive(Clone, Copy, Debug, PartialEq, Eq)]
 pub enum SrstCall {
-    /// Resets the board (SBI 10.1): the reset, or why its type or its reason is refused.
+    /// Resets the board (SBI 10.1): the reset, or the error for its type or reason.
     SystemReset(Result<Reset, SbiError>),
 }
 

@@ -13,7 +13,7 @@ pub const TIME: u64 = 0x5449_4D45;
 /// A call of the Timer extension (SBI 6).
 #[derive(Clone, Copy, Debug, PartialEq, Eq)]
 pub enum TimeCall {
-    /// Sets the calling hart's deadline, in ticks (SBI 6.1).
+    /// Sets the calling hart's deadline to this time, in ticks (SBI 6.1).
     SetTimer(u64),
 }
 

@@ -1,5 +1,5 @@
--- What a leaf says of its page but for the addresses and the level, as an entry keeps it: a bit each. Private: an entry's
--- clauses name the leaf.
+-- A leaf's rights and whether it is global, as an entry keeps them: one bit each. Private: an entry's clauses name the
+-- leaf.
 use Rattle.std.specs.Prelude.{ℕ, ◌+◌, ◌*◌, Bool, true, false}
 use Rattle.sv39.specs.declared.page.Leaf.{Leaf}
 use Rattle.sv39.specs.declared.page.Level.{Level}

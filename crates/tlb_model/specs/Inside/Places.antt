@@ -1,17 +1,17 @@
--- Where a cache keeps its fills: sixteen places, which they take in turn, over and over (profile).
+-- The 16 places of a cache, which the fills take in turn (profile).
 use Rattle.std.specs.Prelude.{ℕ, zero, suc, ◌%◌, List, [], ◌∷◌, ◌++◌, Bool, true, false, ◌==◌, Option, Some, None, slice_get, slice_index}
 use Rattle.std.specs.Int.{bit_at}
 use Rattle.tlb_model.specs.declared.cache.Numbered.{Numbered}
 
 module _ {E : Type 0} where
-  -- the fill of this number, by what is in its place, unless it was dropped
+  -- the fill of this number, from the item in its place, unless it was dropped
   abbrev pub kept : Option E → (is_dropped : Bool) → (date number : ℕ) → List (Numbered E)
   kept (Some item) false date number = record { date = date; number = number; item = item } ∷ []
   kept (Some item) true date number = []
   kept None is_dropped date number = []
 
-  -- What is kept of so many fills before this number, newest first: fill n is in place n mod 16, its date beside it, and the
-  -- place's bit of the word says that it was dropped.
+  -- The live ones of so many fills before this number, newest first. Fill n is in place n mod 16, with its date at the
+  -- same index; the place's bit in the word `dropped` is 1 if it was dropped.
   abbrev pub seen : (number count : ℕ) → (places : List E) → (dates : List ℕ) → (dropped : ℕ) → List (Numbered E)
   seen zero count places dates dropped = []
   seen (suc number) zero places dates dropped = []
@@ -25,7 +25,7 @@ module _ {E : Type 0} where
   marked_at (Some item) false = []
   marked_at None is_marked = []
 
-  -- The items of those of so many places whose bits are set in the word, from the last place down.
+  -- The items of so many places whose bits are set in the word, from the last place down.
   abbrev pub marked : (count : ℕ) → (places : List E) → (word : ℕ) → List E
   marked zero places word = []
   marked (suc place) places word = marked_at (slice_get places place) (bit_at word place == 1)
