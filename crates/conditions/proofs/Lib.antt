@@ -6,3 +6,4 @@ pub mod Named
 pub mod OneReading
 pub mod Asked
 pub mod LinesRead
+pub mod Unheld

@@ -3,6 +3,7 @@ pub mod FirstFault
 pub mod Grammar
 pub mod Inside
 pub mod Items
+pub mod Misfits
 pub mod Patterns
 pub mod Rules
 pub mod Vacuity

@@ -1,4 +1,12 @@
 //! Words of patterns that no step of a board can have in their places.
+ghost use Rattle.std.specs.Prelude.{◌≡◌, ◌↔◌, ◌⊎◌, ◌<◌, ◌≤◌, ℕ, MatchOption, Some, true};
+ghost use Rattle.conditions.specs.declared.items.Item.{Item as Value};
+ghost use Rattle.conditions.specs.declared.items.Item.TheVariants.{Word};
+ghost use Rattle.conditions.specs.declared.misfits.Misfit.{Misfit as MisfitValue};
+ghost use Rattle.conditions.specs.declared.names.Name.TheVariants as names;
+ghost use Rattle.conditions.specs.Misfits.{IsActorMisfit, IsMisfit, IsMisfitOf, IsOpMisfit, IsReplyMisfit, IsWrongInReply, OpCanHave, ReplyCanHave, IsWordAt};
+ghost use Rattle.conditions.specs.Inside.Held.{HasHeldAt, HasRightAt};
+
 use crate::items::Item;
 use crate::names::Name;
 use crate::patterns::Pattern;
@@ -21,64 +29,161 @@ pub enum Misfit {
 
 impl Rule {
     /// The first word of its patterns that no step of a board with this many harts can have in its place.
-    pub fn misfit(&self, harts: u64) -> Option<Misfit> {
+    pub fn misfit(&self, harts: u64) -> Option<Misfit>
+        ensures { MatchOption result ((any : MisfitValue) → ¬ IsMisfit harts self.now any) (IsMisfit harts self.now) }
+    {
         match self {
             Rule::Never(p) | Rule::OfSome(p) | Rule::Each(p) => in_pattern(p, harts),
-            Rule::NeverAfter(p, q) | Rule::Before(p, q) => {
-                in_pattern(p, harts).or(in_pattern(q, harts))
-            }
+            Rule::NeverAfter(p, q) | Rule::Before(p, q) => in_patterns(p, q, harts),
             Rule::End(_) | Rule::CanEnd(_) => None,
         }
     }
 }
 
+/// The first such word of two patterns.
+fn in_patterns(p: &Pattern, q: &Pattern, harts: u64) -> Option<Misfit>
+    ensures { MatchOption result ((any : MisfitValue) → ¬ (IsMisfitOf harts p.now any ⊎ IsMisfitOf harts q.now any))
+        (λ misfit. IsMisfitOf harts p.now misfit ⊎ IsMisfitOf harts q.now misfit) }
+{
+    match in_pattern(p, harts) {
+        Some(misfit) => Some(misfit),
+        None => in_pattern(q, harts),
+    }
+}
+
 /// The first such word of a pattern.
-fn in_pattern(p: &Pattern, harts: u64) -> Option<Misfit> {
-    if let Some(Some(Item::Number(hart))) = p.step.first()
-        && *hart >= harts
-    {
-        return Some(Misfit::NoHart(*hart));
+fn in_pattern(p: &Pattern, harts: u64) -> Option<Misfit>
+    ensures { MatchOption result ((any : MisfitValue) → ¬ IsMisfitOf harts p.now any) (IsMisfitOf harts p.now) }
+{
+    match in_step(p, harts) {
+        Some(misfit) => Some(misfit),
+        None => in_reply(p, harts),
     }
-    if let Some(Some(Item::Word(Name::Op(op)))) = p.step.get(1) {
-        for item in p.step.iter().skip(2) {
-            if let Some(item) = item
-                && !holds_in_op(*op, *item)
-            {
-                return Some(Misfit::Unheld(Name::Op(*op), *item));
-            }
-        }
+}
+
+/// The first such word of a pattern's actor and operation.
+fn in_step(p: &Pattern, harts: u64) -> Option<Misfit>
+    ensures { MatchOption result ((any : MisfitValue) → ¬ (IsActorMisfit harts p.now any ⊎ IsOpMisfit p.now any))
+        (λ misfit. IsActorMisfit harts p.now misfit ⊎ IsOpMisfit p.now misfit) }
+{
+    match in_actor(p, harts) {
+        Some(misfit) => Some(misfit),
+        None => in_op(p),
     }
-    match p.reply.first() {
-        Some(Some(Item::Word(Name::Said(said)))) => in_reply(p, *said, harts),
+}
+
+/// The pattern's actor, if it is a hart that the board doesn't have.
+fn in_actor(p: &Pattern, harts: u64) -> Option<Misfit>
+    ensures { MatchOption result ((any : MisfitValue) → ¬ IsActorMisfit harts p.now any) (IsActorMisfit harts p.now) }
+{
+    match p.step.first() {
+        Some(Some(Item::Number(hart))) if *hart >= harts => Some(Misfit::NoHart(*hart)),
         _ => None,
     }
 }
 
-/// The first such word of a reply.
-fn in_reply(p: &Pattern, said: SaidName, harts: u64) -> Option<Misfit> {
-    for (place, item) in p.reply.iter().enumerate() {
-        let Some(item) = item else {
-            continue;
-        };
-        if place == 0 {
-            continue;
-        }
-        if said == SaidName::Entry
-            && place == 2
-            && let Item::Number(hart) = item
-        {
-            if *hart >= harts {
-                return Some(Misfit::NoHart(*hart));
-            }
-        } else if !holds_in_reply(said, place, *item) {
-            return Some(Misfit::Unheld(Name::Said(said), *item));
+/// The first such word behind a pattern's operation.
+fn in_op(p: &Pattern) -> Option<Misfit>
+    ensures { MatchOption result ((any : MisfitValue) → ¬ IsOpMisfit p.now any) (IsOpMisfit p.now) }
+{
+    match p.step.get(1) {
+        Some(Some(Item::Word(Name::Op(op)))) => behind_op(p, *op),
+        _ => None,
+    }
+}
+
+/// The first word behind a pattern's operation that it can't have.
+fn behind_op(p: &Pattern, op: OpName) -> Option<Misfit>
+    requires { IsWordAt p.now.step.items 1 (Word (names.Op op)) }
+    ensures { MatchOption result ((any : MisfitValue) → ¬ IsOpMisfit p.now any) (IsOpMisfit p.now) }
+{
+    for place in 2..p.step.len() {
+        if let Some(misfit) = op_misfit_at(p, op, place) {
+            return Some(misfit);
         }
     }
     None
 }
 
-/// Whether an operation can have this number.
-fn holds_in_op(op: OpName, item: Item) -> bool {
+/// The word in this place behind a pattern's operation, if it can't have it.
+fn op_misfit_at(p: &Pattern, op: OpName, place: usize) -> Option<Misfit>
+    requires named { IsWordAt p.now.step.items 1 (Word (names.Op op)) }
+    requires behind { 2 ≤ place }
+    ensures { MatchOption result (HasHeldAt p.now op place) (IsOpMisfit p.now) }
+{
+    match p.step.get(place) {
+        Some(Some(item)) if !op_can_have(op, *item) => Some(Misfit::Unheld(Name::Op(op), *item)),
+        _ => None,
+    }
+}
+
+/// The first such word behind a pattern's reply.
+fn in_reply(p: &Pattern, harts: u64) -> Option<Misfit>
+    ensures { MatchOption result ((any : MisfitValue) → ¬ IsReplyMisfit harts p.now any) (IsReplyMisfit harts p.now) }
+{
+    match p.reply.first() {
+        Some(Some(Item::Word(Name::Said(said)))) => behind_said(p, *said, harts),
+        _ => None,
+    }
+}
+
+/// The first word behind a pattern's reply that is wrong there.
+fn behind_said(p: &Pattern, said: SaidName, harts: u64) -> Option<Misfit>
+    requires { IsWordAt p.now.reply.items 0 (Word (names.Said said)) }
+    ensures { MatchOption result ((any : MisfitValue) → ¬ IsReplyMisfit harts p.now any) (IsReplyMisfit harts p.now) }
+{
+    for place in 1..p.reply.len() {
+        if let Some(misfit) = reply_misfit_at(p, said, harts, place) {
+            return Some(misfit);
+        }
+    }
+    None
+}
+
+/// Why the word in this place behind a pattern's reply is wrong there.
+fn reply_misfit_at(p: &Pattern, said: SaidName, harts: u64, place: usize) -> Option<Misfit>
+    requires named { IsWordAt p.now.reply.items 0 (Word (names.Said said)) }
+    requires behind { 1 ≤ place }
+    ensures { MatchOption result (HasRightAt harts p.now said place) (IsReplyMisfit harts p.now) }
+{
+    match reply_word(p, place) {
+        Some(item) => wrong_in_reply(harts, said, place, item),
+        None => None,
+    }
+}
+
+/// The word in this place of a pattern's reply, unless it is `_`.
+fn reply_word(p: &Pattern, place: usize) -> Option<Item>
+    ensures { (item : Value) → (result ≡ Some item) ↔ IsWordAt p.now.reply.items place item }
+{
+    match p.reply.get(place) {
+        Some(Some(item)) => Some(*item),
+        _ => None,
+    }
+}
+
+/// Why a word can't stand in this place behind a reply's name.
+fn wrong_in_reply(harts: u64, said: SaidName, place: usize, item: Item) -> Option<Misfit>
+    ensures { MatchOption result ((any : MisfitValue) → ¬ IsWrongInReply harts said place item any)
+        (IsWrongInReply harts said place item) }
+{
+    if said == SaidName::Entry
+        && place == 2
+        && let Item::Number(hart) = item
+        && hart >= harts
+    {
+        return Some(Misfit::NoHart(hart));
+    }
+    if !reply_can_have(said, place, item) {
+        return Some(Misfit::Unheld(Name::Said(said), item));
+    }
+    None
+}
+
+/// Whether an operation can have this word.
+fn op_can_have(op: OpName, item: Item) -> bool
+    ensures { (result ≡ true) ↔ OpCanHave op item }
+{
     match item {
         Item::Number(n) => op != OpName::Sstatus || n <= 1,
         Item::Absent => op == OpName::Sfence,
@@ -86,14 +191,18 @@ fn holds_in_op(op: OpName, item: Item) -> bool {
     }
 }
 
-/// Whether a reply can have this number in this place behind its name.
-fn holds_in_reply(said: SaidName, place: usize, item: Item) -> bool {
-    match (said, item) {
-        (SaidName::Ret, Item::Below(_)) => place == 1,
-        (SaidName::Ret, Item::Number(n)) => place != 1 || i64::try_from(n).is_ok(),
-        (SaidName::Moved, Item::Number(n)) => n <= LAST_STATE,
-        (SaidName::Fault, Item::Number(n)) => n <= LAST_CAUSE,
-        (_, Item::Number(_)) => true,
-        _ => false,
+/// Whether a reply can have this word in this place behind its name.
+fn reply_can_have(said: SaidName, place: usize, item: Item) -> bool
+    ensures { (result ≡ true) ↔ ReplyCanHave said place item }
+{
+    match item {
+        Item::Number(n) => match said {
+            SaidName::Ret => place != 1 || i64::try_from(n).is_ok(),
+            SaidName::Moved => n <= LAST_STATE,
+            SaidName::Fault => n <= LAST_CAUSE,
+            _ => true,
+        },
+        Item::Below(_) => said == SaidName::Ret && place == 1,
+        Item::Absent | Item::Word(_) => false,
     }
 }

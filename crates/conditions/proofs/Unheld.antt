@@ -1,0 +1,89 @@
+-- Words of patterns that no step can have, one by one.
+use Rattle.std.proofs.Common.{◌≡◌, ℕ, ◌+◌, ◌<◌, ◌≤◌, List, length, sym, ap, ◌∙◌, ◌⊎◌, inl, inr, subst, below_more, arith}
+use Rattle.std.specs.Prelude.{MatchOption, Option, Some, None}
+use Rattle.std.proofs.lemmas.Option.{same_Some, slice_get_within}
+use Rattle.script_lines.specs.declared.op_name.OpName.{OpName}
+use Rattle.script_lines.specs.declared.said_name.SaidName.{SaidName}
+use Rattle.conditions.specs.declared.items.Item.{Item}
+use Rattle.conditions.specs.declared.items.Item.TheVariants.{Word}
+use Rattle.conditions.specs.declared.misfits.Misfit.{Misfit}
+use Rattle.conditions.specs.declared.names.Name.TheVariants.{Op, Said}
+use Rattle.conditions.specs.declared.patterns.Pattern.{Pattern}
+use Rattle.conditions.specs.Inside.Held.{HasHeldAt, HasRightAt}
+use Rattle.conditions.specs.Misfits.{IsOpMisfit, IsReplyMisfit, IsWrongInReply, OpCanHave, IsWordAt}
+
+-- ---- an operation's words
+
+abbrev pub HeldBefore : Pattern → OpName → ℕ → Type 0
+HeldBefore p op n = (k : ℕ) → k < n → 2 ≤ k → HasHeldAt p op k
+
+pub op-keep : (p : Pattern) (op : OpName) (n : ℕ) → HasHeldAt p op n → HeldBefore p op n → HeldBefore p op (n + 1)
+op-keep p op n here before =
+    let P : ℕ → Type 0 = λ k. 2 ≤ k → HasHeldAt p op k in
+    below_more P n before (λ behind. here)
+
+named_op : OpName → Option (Option Item) → OpName
+named_op other (Some (Some (Word (Op op)))) = op
+named_op other _ = other
+
+same-op : (words : List (Option Item)) (a b : OpName) → IsWordAt words 1 (Word (Op a)) → IsWordAt words 1 (Word (Op b)) → a ≡ b
+unfolding named_op
+same-op words a b first second = ap (named_op a) (sym first ∙ second)
+
+pub no-op-misfit : (p : Pattern) (op : OpName) (n : ℕ) → IsWordAt p.step.items 1 (Word (Op op)) → length p.step.items ≤ n → HeldBefore p op n
+    → (any : Misfit) → ¬ IsOpMisfit p any
+no-op-misfit p op n named long before any is =
+    let within : is.place < length p.step.items = slice_get_within p.step.items is.place (Some is.item) is.stands in
+    let held : OpCanHave op is.item = before is.place (omega arith) is.behind is.item is.stands in
+    let P : OpName → Type 0 = λ name. OpCanHave name is.item in
+    is.unheld (subst P (same-op p.step.items op is.op named is.named) held)
+
+-- ---- a reply's words
+
+abbrev pub RightBefore : ℕ → Pattern → SaidName → ℕ → Type 0
+RightBefore harts p said n = (k : ℕ) → k < n → 1 ≤ k → HasRightAt harts p said k
+
+pub reply-keep : (harts : ℕ) (p : Pattern) (said : SaidName) (n : ℕ) → HasRightAt harts p said n → RightBefore harts p said n → RightBefore harts p said (n + 1)
+reply-keep harts p said n here before =
+    let P : ℕ → Type 0 = λ k. 1 ≤ k → HasRightAt harts p said k in
+    below_more P n before (λ behind. here)
+
+named_said : SaidName → Option (Option Item) → SaidName
+named_said other (Some (Some (Word (Said said)))) = said
+named_said other _ = other
+
+same-said : (words : List (Option Item)) (a b : SaidName) → IsWordAt words 0 (Word (Said a)) → IsWordAt words 0 (Word (Said b)) → a ≡ b
+unfolding named_said
+same-said words a b first second = ap (named_said a) (sym first ∙ second)
+
+pub no-reply-misfit : (harts : ℕ) (p : Pattern) (said : SaidName) (n : ℕ) → IsWordAt p.reply.items 0 (Word (Said said)) → length p.reply.items ≤ n
+    → RightBefore harts p said n → (any : Misfit) → ¬ IsReplyMisfit harts p any
+no-reply-misfit harts p said n named long before any is =
+    let within : is.place < length p.reply.items = slice_get_within p.reply.items is.place (Some is.item) is.stands in
+    let P : SaidName → Type 0 = λ name. IsWrongInReply harts name is.place is.item any in
+    before is.place (omega arith) is.behind is.item is.stands any (subst P (sym (same-said p.reply.items said is.said named is.named)) is.wrong)
+
+pub reply-at : (harts : ℕ) (p : Pattern) (said : SaidName) (place : ℕ) → IsWordAt p.reply.items 0 (Word (Said said)) → 1 ≤ place
+    → (item : Item) → IsWordAt p.reply.items place item → (o : Option Misfit)
+    → MatchOption o ((any : Misfit) → ¬ IsWrongInReply harts said place item any) (IsWrongInReply harts said place item)
+    → MatchOption o (HasRightAt harts p said place) (IsReplyMisfit harts p)
+reply-at harts p said place named behind item stands None right = λ other at any wrong.
+    let same : other ≡ item = same_Some other item (same_Some (Some other) (Some item) (sym at ∙ stands)) in
+    let P : Item → Type 0 = λ x. IsWrongInReply harts said place x any in
+    right any (subst P same wrong)
+reply-at harts p said place named behind item stands (Some misfit) wrong = record {
+  said = said;
+  named = named;
+  place = place;
+  item = item;
+  behind = behind;
+  stands = stands;
+  wrong = wrong;
+}
+
+-- ---- one part after the other
+
+pub none-or : (A B : Misfit → Type 0) (o : Option Misfit) → ((any : Misfit) → ¬ A any) → MatchOption o ((any : Misfit) → ¬ B any) B
+    → MatchOption o ((any : Misfit) → ¬ (A any ⊎ B any)) (λ misfit. A misfit ⊎ B misfit)
+none-or A B None first second = λ any is. elim is [ inl a ↦ first any a | inr b ↦ second any b ]
+none-or A B (Some misfit) first is = inr is

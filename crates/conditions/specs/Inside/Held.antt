@@ -1,0 +1,17 @@
+-- A word of a pattern that is none of its misfits.
+use Rattle.std.specs.Prelude.{ℕ}
+use Rattle.script_lines.specs.declared.op_name.OpName.{OpName}
+use Rattle.script_lines.specs.declared.said_name.SaidName.{SaidName}
+use Rattle.conditions.specs.declared.items.Item.{Item}
+use Rattle.conditions.specs.declared.misfits.Misfit.{Misfit}
+use Rattle.conditions.specs.declared.patterns.Pattern.{Pattern}
+use Rattle.conditions.specs.Misfits.{IsWrongInReply, OpCanHave, IsWordAt}
+
+-- the operation can have the word in this place, if there is one
+abbrev pub HasHeldAt : Pattern → OpName → ℕ → Type 0
+HasHeldAt p op place = (item : Item) → IsWordAt p.step.items place item → OpCanHave op item
+
+-- the word in this place is not wrong behind the reply, if there is one
+abbrev pub HasRightAt : ℕ → Pattern → SaidName → ℕ → Type 0
+HasRightAt harts p said place =
+    (item : Item) → IsWordAt p.reply.items place item → (any : Misfit) → ¬ IsWrongInReply harts said place item any
