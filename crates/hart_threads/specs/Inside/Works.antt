@@ -11,22 +11,24 @@ use Rattle.board_terms.specs.declared.reply.Refusal.TheVariants.{HistoryFull}
 use Rattle.board_core.specs.History.{Event}
 use Rattle.board_core.specs.Opening.{Opening}
 use Rattle.board_lock.specs.Events.{IsActor}
+use Rattle.board_lock.specs.Receipts.{AcceptedCall}
 use Rattle.board_lock.specs.Seats.{Sitting, sitting}
 use Rattle.guest_programs.specs.declared.met.Met.{Met}
 use Rattle.guest_programs.specs.declared.met.Met.TheVariants.{Nothing, FullHistory, ClosedGate}
 use Rattle.guest_programs.specs.Guests.{IsAt, Next, Rest}
 use Rattle.guest_programs.specs.Met.{met_by_both}
-use Rattle.hart_threads.specs.Shares.{ChoosesNone, EachOf, IsDue, IsTurn, Refuses, gate_number, many_of}
+use Rattle.hart_threads.specs.Shares.{ChoosesNone, EachOf, IsDue, IsTold, IsTurn, Refuses, gate_number, many_of}
 
--- what a run has its threads do: its gate's answers, its board's opening, its guests and its clock's ticks
+-- what a run has its threads do: its gate's answers and what it is told, its board's opening, its guests and its clock's ticks
 pub record Task : Type 1 where
   pub lets : ℕ → ℕ → Bool → Type 0
+  pub heard : AcceptedCall → Type 0
   pub opening : Opening
   pub guests : Next
   pub ticks : List ℕ
 
-abbrev pub task : (ℕ → ℕ → Bool → Type 0) → Opening → Next → List ℕ → Task
-task lets opening guests ticks = record { lets = lets; opening = opening; guests = guests; ticks = ticks }
+abbrev pub task : (ℕ → ℕ → Bool → Type 0) → (AcceptedCall → Type 0) → Opening → Next → List ℕ → Task
+task lets heard opening guests ticks = record { lets = lets; heard = heard; opening = opening; guests = guests; ticks = ticks }
 
 -- A seat counts n events of actor a, and saw this past: after a beginning of it with no fewer of them, this holds if there are
 -- as many.
@@ -55,10 +57,11 @@ HasMet t a n past Nothing = Unit {0}
 HasMet t a n past FullHistory = Stops t a n past FullHistory
 HasMet t a n past ClosedGate = Stops t a n past ClosedGate
 
--- Each event of the seat's actor that the seat saw was due.
+-- Each event of the seat's actor that the seat saw was due, and the gate told of it.
 pub record IsAtWork (t : Task) (a : Actor) (n : ℕ) (past : List Event) : Type 0 where
   pub no_fewer : n ≤ many_of a past
   pub due : many_of a past ≡ n → EachOf (IsDue t.lets t.opening t.guests t.ticks a) a past
+  pub told : many_of a past ≡ n → EachOf (IsTold t.heard t.opening) a past
 
 -- what a guest does from here on, at a hart's seat
 abbrev pub IsAtSeat : Next → Rest → List Event → Actor → Type 0
@@ -95,9 +98,10 @@ abbrev pub met_by_all : List Met → Met
 met_by_all [] = Nothing
 met_by_all (m ∷ ms) = met_by_both m (met_by_all ms)
 
--- what a gate answers is what the plan says that it may
-abbrev pub IsGate : (lets plan : ℕ → ℕ → Bool → Type 0) → Type 0
-IsGate lets plan = (n k : ℕ) (answer : Bool) → lets n k answer → plan n k answer
+-- what a gate answers is what the plan says that it may, and what it was told of is what the plan says so
+abbrev pub IsGate : (lets plan : ℕ → ℕ → Bool → Type 0) → (heard planned : AcceptedCall → Type 0) → Type 0
+IsGate lets plan heard planned =
+    ((n k : ℕ) (answer : Bool) → lets n k answer → plan n k answer) × ((call : AcceptedCall) → heard call → planned call)
 
 -- a seat of a new board
 pub record IsFresh (c : Config) (s : Sitting) : Type 0 where
