@@ -24,7 +24,7 @@ use Rattle.guest_programs.specs.Steps.{AreOwn, IsActorsOwn, IsOwn, Task, is_cloc
 use Rattle.guest_programs.specs.Histories.{IsHistory}
 use Rattle.guest_programs.specs.declared.ends.End.{End}
 use Rattle.hart_threads.specs.Choices.{first_choice}
-use Rattle.hart_threads.specs.Shares.{AreTold, EachOf, IsDue, IsRun, IsTold, IsTurn, many_of}
+use Rattle.hart_threads.specs.Shares.{AreTold, EachOf, IsDue, IsRun, WasTold, IsTurn, many_of}
 use Rattle.hart_threads.proofs.Counting.{none-since, rest-still}
 
 -- ---- a hart's operation
@@ -88,7 +88,7 @@ there-is o past Clock op reply accepted = tt
 
 -- of each event the gate was told
 pub all-told : (heard : AcceptedCall → Type 0) (o : Opening) (past : List Event) → IsLegal o past
-    → ((a : Actor) → IsActor o.config a → EachOf (IsTold heard o) a past) → AreTold heard o past
+    → ((a : Actor) → IsActor o.config a → EachOf (WasTold heard o) a past) → AreTold heard o past
 all-told heard o [] legal told = tt
 all-told heard o (e ∷ past) legal told =
     ((told e.actor (there-is o past e.actor e.op e.reply legal.0)).0 (same-actor e.actor), all-told heard o past legal.2 (λ a acting. (told a acting).1))

@@ -14,7 +14,7 @@ use Rattle.guest_programs.specs.declared.met.Met.{Met}
 use Rattle.guest_programs.specs.declared.met.Met.TheVariants.{Nothing, FullHistory, ClosedGate}
 use Rattle.guest_programs.specs.Met.{met_by_both}
 use Rattle.hart_threads.specs.Inside.Works.{met_by_all, At, HasWorked, SeesNoMore, Stops, Task, WorkedAt}
-use Rattle.hart_threads.specs.Shares.{AreThreads, ChoosesNone, Earlier, EachOf, HasNoMore, HasStopped, IsDue, IsTold, Refuses, gate_number, many_of}
+use Rattle.hart_threads.specs.Shares.{AreThreads, ChoosesNone, Earlier, EachOf, HasNoMore, HasStopped, IsDue, WasTold, Refuses, gate_number, many_of}
 use Rattle.hart_threads.proofs.Counting.{earlier-of, length-events}
 use Rattle.hart_threads.proofs.Working.{each-later, same-then}
 
@@ -41,13 +41,13 @@ stopped-whole t a n past whole Nothing since all stops = no-more-whole t a n pas
 -- what holds of an actor whose thread met this
 pub record Share (t : Task) (whole : List Event) (a : Actor) (met : Met) : Type 0 where
   pub due : EachOf (IsDue t.lets t.opening t.guests t.ticks a) a whole
-  pub told : EachOf (IsTold t.heard t.opening) a whole
+  pub told : EachOf (WasTold t.heard t.opening) a whole
   pub stopped : HasStopped t.lets t.opening t.guests t.ticks whole a met
 
 pub share : (t : Task) (a : Actor) (n : ℕ) (past whole : List Event) (met : Met) → IsSuffix past whole → many_of a whole ≡ n → HasWorked t a n past met → Share t whole a met
 share t a n past whole met since all worked = record {
   due = each-later a n past whole since worked.work.no_fewer all (IsDue t.lets t.opening t.guests t.ticks a) worked.work.due;
-  told = each-later a n past whole since worked.work.no_fewer all (IsTold t.heard t.opening) worked.work.told;
+  told = each-later a n past whole since worked.work.no_fewer all (WasTold t.heard t.opening) worked.work.told;
   stopped = stopped-whole t a n past whole met since all worked.stopped;
 }
 

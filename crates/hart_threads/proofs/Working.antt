@@ -22,7 +22,7 @@ use Rattle.guest_programs.specs.declared.met.Met.{Met}
 use Rattle.guest_programs.specs.declared.met.Met.TheVariants.{Nothing, FullHistory, ClosedGate}
 use Rattle.hart_threads.specs.Choices.{choice_of, first_choice}
 use Rattle.guest_programs.specs.Guests.{IsAt, Next, Rest, next_op}
-use Rattle.hart_threads.specs.Shares.{ChoosesNone, EachOf, IsDue, IsTold, IsTurn, Refuses, gate_number, many_of}
+use Rattle.hart_threads.specs.Shares.{ChoosesNone, EachOf, IsDue, WasTold, IsTurn, Refuses, gate_number, many_of}
 use Rattle.hart_threads.specs.Inside.Works.{At, Goes, HasMet, HasTurn, IsAtWork, IsGoing, IsAtSeat, SeesNoMore, Stops, Task}
 use Rattle.hart_threads.proofs.Counting.{each-still, earlier-of, length-events, no-more, none-since, own-one-more, rest-still}
 
@@ -68,7 +68,7 @@ pub work-later : (t : Task) (a : Actor) (n : ℕ) (past later : List Event) → 
 work-later t a n past later since work = record {
   no_fewer = (let more = no-more a past later since in let few = work.no_fewer in omega arith);
   due = λ same. each-later a n past later since work.no_fewer same (IsDue t.lets t.opening t.guests t.ticks a) work.due;
-  told = λ same. each-later a n past later since work.no_fewer same (IsTold t.heard t.opening) work.told;
+  told = λ same. each-later a n past later since work.no_fewer same (WasTold t.heard t.opening) work.told;
 }
 
 pub going-later : (t : Task) (a : Actor) (n : ℕ) (past later : List Event) (rest : Rest) (met : Met) → IsSuffix past later
@@ -143,7 +143,7 @@ module _ (t : Task) (a : Actor) (n : ℕ) (seen before : List Event) (op : Op) (
   one-more : (many_of a (e ∷ before) ≡ n + 1) → many_of a before ≡ n
   one-more same = let more = own-one-more a e before own in omega arith
 
-  is-told : many_of a before ≡ n → t.heard (accepted_call a n (t.opening.places + length before) op reply) → IsTold t.heard t.opening e before
+  is-told : many_of a before ≡ n → t.heard (accepted_call a n (t.opening.places + length before) op reply) → WasTold t.heard t.opening e before
   is-told now heard = rw by rw asked rw answered rw now heard
 
   pub work-more : IsAtWork t a n seen → HasTurn t a n seen op → t.lets (gate_number t.opening.config a) n true
@@ -161,7 +161,7 @@ module _ (t : Task) (a : Actor) (n : ℕ) (seen before : List Event) (op : Op) (
     told = λ same.
         let now = one-more same in (
           (λ is. is-told now heard),
-          each-later a n seen before since work.no_fewer now (IsTold t.heard t.opening) work.told,
+          each-later a n seen before since work.no_fewer now (WasTold t.heard t.opening) work.told,
         );
   }
 

@@ -75,13 +75,13 @@ IsDue lets o guests ticks a e past = lets (gate_number o.config a) (many_of a pa
 
 -- The gate was told of the event: who made it, how many events of that actor and how many of all came before, the operation and
 -- the reply.
-abbrev pub IsTold : (heard : AcceptedCall → Type 0) → Opening → Event → List Event → Type 0
-IsTold heard o e past = heard (accepted_call e.actor (many_of e.actor past) (o.places + length past) e.op e.reply)
+abbrev pub WasTold : (heard : AcceptedCall → Type 0) → Opening → Event → List Event → Type 0
+WasTold heard o e past = heard (accepted_call e.actor (many_of e.actor past) (o.places + length past) e.op e.reply)
 
 -- The gate was told of each event.
 abbrev pub AreTold : (heard : AcceptedCall → Type 0) → Opening → List Event → Type 0
 AreTold heard o [] = Unit {0}
-AreTold heard o (e ∷ past) = IsTold heard o e past × AreTold heard o past
+AreTold heard o (e ∷ past) = WasTold heard o e past × AreTold heard o past
 
 -- ---- why a thread stopped
 
@@ -121,7 +121,7 @@ HasStopped lets o guests ticks past a Nothing = HasNoMore o guests ticks past a
 pub record AreThreads (lets : ℕ → ℕ → Bool → Type 0) (heard : AcceptedCall → Type 0) (o : Opening) (guests : Next)
     (ticks : List ℕ) (past : List Event) (met : Met) : Type 0 where
   pub due : (a : Actor) → IsActor o.config a → EachOf (IsDue lets o guests ticks a) a past
-  pub told : (a : Actor) → IsActor o.config a → EachOf (IsTold heard o) a past
+  pub told : (a : Actor) → IsActor o.config a → EachOf (WasTold heard o) a past
   pub stopped : (a : Actor) → IsActor o.config a
       → (m : Met) × (met_by_both m met ≡ met) × HasStopped lets o guests ticks past a m
   pub met_by : (a : Actor) × IsActor o.config a × HasStopped lets o guests ticks past a met

@@ -17,7 +17,7 @@ use Rattle.guest_programs.specs.declared.met.Met.{Met}
 use Rattle.guest_programs.specs.declared.met.Met.TheVariants.{Nothing, FullHistory, ClosedGate}
 use Rattle.guest_programs.specs.Guests.{IsAt, Next, Rest}
 use Rattle.guest_programs.specs.Met.{met_by_both}
-use Rattle.hart_threads.specs.Shares.{ChoosesNone, EachOf, IsDue, IsTold, IsTurn, Refuses, gate_number, many_of}
+use Rattle.hart_threads.specs.Shares.{ChoosesNone, EachOf, IsDue, WasTold, IsTurn, Refuses, gate_number, many_of}
 
 -- what a run has its threads do: its gate's answers and what it is told, its board's opening, its guests and its clock's ticks
 pub record Task : Type 1 where
@@ -61,7 +61,7 @@ HasMet t a n past ClosedGate = Stops t a n past ClosedGate
 pub record IsAtWork (t : Task) (a : Actor) (n : ℕ) (past : List Event) : Type 0 where
   pub no_fewer : n ≤ many_of a past
   pub due : many_of a past ≡ n → EachOf (IsDue t.lets t.opening t.guests t.ticks a) a past
-  pub told : many_of a past ≡ n → EachOf (IsTold t.heard t.opening) a past
+  pub told : many_of a past ≡ n → EachOf (WasTold t.heard t.opening) a past
 
 -- what a guest does from here on, at a hart's seat
 abbrev pub IsAtSeat : Next → Rest → List Event → Actor → Type 0
