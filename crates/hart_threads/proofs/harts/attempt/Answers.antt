@@ -17,7 +17,7 @@ returns-in-Ok-clause-going g c =
     let rest' : Rest = g.P.Guests.rest c.args.work.now.guests.now c.guest_place_after.result in
     let tells : Tells g.K.Plan.guests c.args.op c.in-Ok.receipt.reply rest rest' = (λ past h e by asked answered is.
     subst (λ (guests : Next). IsAt rest' guests (e ∷ past) h) c.args.work.now.guided
-    (c.guest_place_after.ensures past h e by asked (answered ∙ sym c.reply.ensures) (subst (λ (guests : Next). IsAt rest guests past h) (sym c.args.work.now.guided) is))) in
+    (c.guest_place_after.ensures past h e by asked (answered ∙ sym c.reply-reply.ensures) (subst (λ (guests : Next). IsAt rest guests past h) (sym c.args.work.now.guided) is))) in
     let r : AcceptedCall = c.in-Ok.receipt in
     let told : r ≡ accepted_call c.args.seat.now.actor c.args.seat.now.count (t.opening.places + length (reverse c.in-Ok.ensures.done.before)) c.args.op r.reply =
     receipt-is t c.args.seat.now c.call_and_view.new.seat c.args.op r.reply c.in-Ok.ensures.done r c.in-Ok.ensures.receipt.0 c.in-Ok.ensures.receipt.1 c.in-Ok.ensures.receipt.2 refl c.in-Ok.ensures.place in
