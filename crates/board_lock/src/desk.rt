@@ -65,6 +65,7 @@ impl<K: Room> Desk<K> {
     pub(crate) fn call(&mut self, seat: &mut Seat<K>, op: &Op) -> Result<Answered, Refusal>
         ensures receipt { IfOk result (λ r. IsReceiptOf K.opening.places K.log
             (accepted_call seat.old.actor seat.old.count r.place op.now r.reply) r.seen) }
+        ensures place { IfOk result (λ r. K.opening.places + length seat.new.saw ≡ r.place + 1) }
         ensures reply { IfOk result
             (λ r. answer self.old.board.opening self.old.board.past seat.old.actor op.now ≡ Ok r.reply) }
         ensures after { OnOk result
@@ -108,6 +109,7 @@ impl<K: Room> Desk<K> {
     ) -> Result<(Answered, HartView), Refusal>
         ensures receipt { IfOk result (λ r. IsReceiptOf K.opening.places K.log
             (accepted_call seat.old.actor seat.old.count r.0.place op.now r.0.reply) r.0.seen) }
+        ensures place { IfOk result (λ r. K.opening.places + length seat.new.saw ≡ r.0.place + 1) }
         ensures view { IfOk result (λ r. IsView K.opening seat.new r.1) }
         ensures actor { seat.new.actor ≡ seat.old.actor }
         ensures accepted { OnOk result (seat.new.count ≡ seat.old.count + 1) }

@@ -121,6 +121,7 @@ impl<K: Room> SharedBoard<K> {
     #[inline(always)]
     pub fn call(&self, rt: &impl Wait, seat: &mut Seat<K>, op: Op) -> Result<Receipt<K>, Refusal>
         ensures receipt { IfOk result (λ r. (r.actor ≡ seat.old.actor) × (r.op ≡ op) × (r.ordinal ≡ seat.old.count)) }
+        ensures place { IfOk result (λ r. K.opening.places + length seat.new.saw ≡ r.place + 1) }
         ensures actor { seat.new.actor ≡ seat.old.actor }
         ensures accepted { OnOk result (seat.new.count ≡ seat.old.count + 1) }
         ensures ops { OnOk result (seat.new.ops ≡ seat.old.ops ++ op ∷ []) }
@@ -151,6 +152,7 @@ impl<K: Room> SharedBoard<K> {
     ) -> Result<(Receipt<K>, HartView), Refusal>
         ensures receipt { IfOk result
             (λ r. (r.0.actor ≡ seat.old.actor) × (r.0.op ≡ op) × (r.0.ordinal ≡ seat.old.count)) }
+        ensures place { IfOk result (λ r. K.opening.places + length seat.new.saw ≡ r.0.place + 1) }
         ensures view { IfOk result (λ r. IsView K.opening seat.new r.1) }
         ensures actor { seat.new.actor ≡ seat.old.actor }
         ensures accepted { OnOk result (seat.new.count ≡ seat.old.count + 1) }

@@ -14,6 +14,7 @@ use Rattle.board_core.specs.Opening.{Opening}
 use Rattle.board_core.specs.Refusals.{first_that_holds, has_nothing_to_do, is_full, is_out_of_phase, is_tick, situation}
 use Rattle.board_core.specs.Replies.{answer, refused_or, reply}
 use Rattle.board_core.specs.Resets.{is_off}
+use Rattle.board_lock.specs.Receipts.{AcceptedCall}
 use Rattle.guest_programs.specs.Guests.{Next}
 use Rattle.guest_programs.specs.declared.ends.End.{End}
 use Rattle.guest_programs.specs.declared.ends.End.TheVariants.{GateLimit, Off, HistoryFull, Quiet, Stuck}
@@ -99,8 +100,8 @@ module _ (lets : ℕ → ℕ → Bool → Type 0) (o : Opening) (guests : Next) 
   why a FullHistory end within part stopped by = inr (inl (stopped, full-over end part (is-at-limit a within stopped) by))
   why a Nothing end within part stopped by = inr (inr stopped)
 
-  pub is-run : (end : End) → length past ≤ o.config.limit → AreThreads lets o guests ticks past met → IsEndBy met o past guests end → IsRun lets o guests ticks past end
-  is-run end within threads by = record {
+  pub is-run : (heard : AcceptedCall → Type 0) (end : End) → length past ≤ o.config.limit → AreThreads lets heard o guests ticks past met → IsEndBy met o past guests end → IsRun lets o guests ticks past end
+  is-run heard end within threads by = record {
     due = threads.due;
     stopped = λ a acting. let s = threads.stopped a acting in why a s.0 end within s.1 s.2 by;
     closed = λ is. let s = threads.met_by in (s.0, s.1, subst (HasStopped lets o guests ticks past s.0) (was-closed end is by) s.2);

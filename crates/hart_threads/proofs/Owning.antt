@@ -17,13 +17,14 @@ use Rattle.board_core.specs.Replies.{IsLegal, answer, refused_or}
 use Rattle.board_core.specs.Resets.{is_off}
 use Rattle.board_lock.specs.Coming.{chosen}
 use Rattle.board_lock.specs.Events.{IsActor, is_same}
+use Rattle.board_lock.specs.Receipts.{AcceptedCall}
 use Rattle.board_lock.specs.declared.views.HartNow.{HartNow}
 use Rattle.guest_programs.specs.Guests.{IsAt, Next, Rest, did, last_entry, next_for, next_op}
 use Rattle.guest_programs.specs.Steps.{AreOwn, IsActorsOwn, IsOwn, Task, is_clock, ticked}
 use Rattle.guest_programs.specs.Histories.{IsHistory}
 use Rattle.guest_programs.specs.declared.ends.End.{End}
 use Rattle.hart_threads.specs.Choices.{first_choice}
-use Rattle.hart_threads.specs.Shares.{EachOf, IsDue, IsRun, IsTurn, many_of}
+use Rattle.hart_threads.specs.Shares.{AreTold, EachOf, IsDue, IsRun, WasTold, IsTurn, many_of}
 use Rattle.hart_threads.proofs.Counting.{none-since, rest-still}
 
 -- ---- a hart's operation
@@ -84,6 +85,13 @@ not-out false false rest gives reply is = refl
 there-is : (o : Opening) (past : List Event) (a : Actor) (op : Op) (reply : Reply) → answer o past a op ≡ Ok reply → IsActor o.config a
 there-is o past (Hart h) op reply accepted = leb-false o.config.harts h (not-out (is_off o past) (nat_le o.config.harts h) _ _ reply accepted)
 there-is o past Clock op reply accepted = tt
+
+-- of each event the gate was told
+pub all-told : (heard : AcceptedCall → Type 0) (o : Opening) (past : List Event) → IsLegal o past
+    → ((a : Actor) → IsActor o.config a → EachOf (WasTold heard o) a past) → AreTold heard o past
+all-told heard o [] legal told = tt
+all-told heard o (e ∷ past) legal told =
+    ((told e.actor (there-is o past e.actor e.op e.reply legal.0)).0 (same-actor e.actor), all-told heard o past legal.2 (λ a acting. (told a acting).1))
 
 module _ (lets : ℕ → ℕ → Bool → Type 0) (o : Opening) (p : Task) where
   all-own : (past : List Event) → IsLegal o past → ((a : Actor) → IsActor o.config a → EachOf (IsDue lets o p.guests p.ticks a) a past) → AreOwn p past

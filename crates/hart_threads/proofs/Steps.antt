@@ -13,6 +13,7 @@ use Rattle.board_terms.specs.declared.reply.Reply.{Reply}
 use Rattle.board_core.specs.History.{Event}
 use Rattle.board_lock.specs.declared.views.HartView.{HartView}
 use Rattle.board_lock.specs.Events.{IsActor}
+use Rattle.board_lock.specs.Receipts.{accepted_call}
 use Rattle.board_lock.specs.Seats.{Sitting, seeing, sitting}
 use Rattle.board_lock.specs.Views.{IsDone, IsRefused, IsView}
 use Rattle.guest_programs.specs.declared.met.Met.{Met}
@@ -32,7 +33,7 @@ rest-fresh t (Hart h) rest is = is h
 rest-fresh t Clock rest is = tt
 
 work-fresh : (t : Task) (a : Actor) → IsAtWork t a 0 []
-work-fresh t a = record { no_fewer = omega arith; due = λ same. tt }
+work-fresh t a = record { no_fewer = omega arith; due = λ same. tt; told = λ same. tt }
 
 -- at first
 pub fresh-going : (t : Task) (s : Sitting) (rest : Rest) → s ≡ sitting s.actor 0 [] [] → ((h : ℕ) → IsAt rest t.guests [] h) → Goes t s rest Nothing
@@ -116,11 +117,13 @@ clock-fresh t s fresh = subst (λ (x : Sitting). IsAtWork t Clock x.count (rever
 
 -- a tick was accepted
 pub clock-done : (t : Task) (s s' : Sitting) (n : ℕ) (reply : Reply) → s.actor ≡ Clock → IsAtWork t Clock s.count (reverse s.saw) → slice_get t.ticks s.count ≡ Some n
-    → t.lets (gate_number t.opening.config s.actor) s.count true → IsDone t.opening s s' (Tick n) reply → s'.count ≡ s.count + 1 → IsAtWork t Clock s'.count (reverse s'.saw)
-clock-done t s s' n reply clock work next told done count =
+    → t.lets (gate_number t.opening.config s.actor) s.count true → (done : IsDone t.opening s s' (Tick n) reply)
+    → t.heard (accepted_call s.actor s.count (t.opening.places + length (reverse done.before)) (Tick n) reply) → s'.count ≡ s.count + 1 → IsAtWork t Clock s'.count (reverse s'.saw)
+clock-done t s s' n reply clock work next told done heard count =
     rw count rw (saw-then t s s' (Tick n) reply done)
     (work-more t Clock s.count (reverse s.saw) (reverse done.before) (Tick n) reply (event t s s' (Tick n) reply done) (earlier-of s.saw done.before done.later) clock refl refl
-    work (tick-turn t s.count n (reverse s.saw) next) (subst (λ (a : Actor). t.lets (gate_number t.opening.config a) s.count true) clock told))
+    work (tick-turn t s.count n (reverse s.saw) next) (subst (λ (a : Actor). t.lets (gate_number t.opening.config a) s.count true) clock told)
+    (subst (λ (a : Actor). t.heard (accepted_call a s.count (t.opening.places + length (reverse done.before)) (Tick n) reply)) clock heard))
 
 clock-is : (t : Task) (s : Sitting) (met : Met) → s.actor ≡ Clock → HasWorked t Clock s.count (reverse s.saw) met → WorkedAt t s met
 clock-is t s met clock worked = subst (λ (a : Actor). HasWorked t a s.count (reverse s.saw) met) (sym clock) worked

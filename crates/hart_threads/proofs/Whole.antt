@@ -14,7 +14,7 @@ use Rattle.guest_programs.specs.declared.met.Met.{Met}
 use Rattle.guest_programs.specs.declared.met.Met.TheVariants.{Nothing, FullHistory, ClosedGate}
 use Rattle.guest_programs.specs.Met.{met_by_both}
 use Rattle.hart_threads.specs.Inside.Works.{met_by_all, At, HasWorked, SeesNoMore, Stops, Task, WorkedAt}
-use Rattle.hart_threads.specs.Shares.{AreThreads, ChoosesNone, Earlier, EachOf, HasNoMore, HasStopped, IsDue, Refuses, gate_number, many_of}
+use Rattle.hart_threads.specs.Shares.{AreThreads, ChoosesNone, Earlier, EachOf, HasNoMore, HasStopped, IsDue, WasTold, Refuses, gate_number, many_of}
 use Rattle.hart_threads.proofs.Counting.{earlier-of, length-events}
 use Rattle.hart_threads.proofs.Working.{each-later, same-then}
 
@@ -41,11 +41,13 @@ stopped-whole t a n past whole Nothing since all stops = no-more-whole t a n pas
 -- what holds of an actor whose thread met this
 pub record Share (t : Task) (whole : List Event) (a : Actor) (met : Met) : Type 0 where
   pub due : EachOf (IsDue t.lets t.opening t.guests t.ticks a) a whole
+  pub told : EachOf (WasTold t.heard t.opening) a whole
   pub stopped : HasStopped t.lets t.opening t.guests t.ticks whole a met
 
 pub share : (t : Task) (a : Actor) (n : ℕ) (past whole : List Event) (met : Met) → IsSuffix past whole → many_of a whole ≡ n → HasWorked t a n past met → Share t whole a met
 share t a n past whole met since all worked = record {
   due = each-later a n past whole since worked.work.no_fewer all (IsDue t.lets t.opening t.guests t.ticks a) worked.work.due;
+  told = each-later a n past whole since worked.work.no_fewer all (WasTold t.heard t.opening) worked.work.told;
   stopped = stopped-whole t a n past whole met since all worked.stopped;
 }
 
@@ -133,9 +135,10 @@ module _ (t : Task) (es : List Event) {A : Type 0} (seat : A → Sitting) (met :
   some-of (x ∷ xs) one all = some x xs all
 
   pub are-threads : (xs : List A) → ((a : Actor) → IsActor t.opening.config a → seats_of a (map seat xs) ≡ 1) → AllByRecursion Settled xs
-      → AreThreads t.lets t.opening t.guests t.ticks (reverse es) (together xs)
+      → AreThreads t.lets t.heard t.opening t.guests t.ticks (reverse es) (together xs)
   are-threads xs one all = record {
     due = λ a acting. (found a xs (one a acting) all).2.due;
+    told = λ a acting. (found a xs (one a acting) all).2.told;
     stopped = λ a acting. let f = found a xs (one a acting) all in (f.0, f.1, f.2.stopped);
     met_by = let s = some-of xs (one Clock tt) all in (s.0, s.1, s.2.stopped);
   }

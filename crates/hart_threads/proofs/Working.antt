@@ -1,7 +1,7 @@
 -- Threads go on: what they know stays true of what they see later, and grows by what they do.
-use Rattle.std.proofs.Common.{◌≡◌, ◌≢◌, ℕ, ◌+◌, ◌≤◌, Bool, true, false, List, [], ◌∷◌, ◌++◌, refl, sym, ap, subst, ◌∙◌, inl, inr, arith}
+use Rattle.std.proofs.Common.{◌≡◌, ◌≢◌, ℕ, ◌+◌, ◌≤◌, Bool, true, false, List, [], ◌∷◌, ◌++◌, length, refl, sym, ap, subst, ◌∙◌, inl, inr, arith}
 use Rattle.std.specs.Prelude.{reverse, if◌then◌else◌, Option, Some, None, Result, Err}
-use Rattle.std.proofs.lemmas.List.{reverse-reverse}
+use Rattle.std.proofs.lemmas.List.{length-reverse, reverse-reverse}
 use mathlib.Core.List.{IsSuffix, IsSuffix-trans, suffix_refl}
 use Rattle.board_terms.specs.declared.op.Actor.{Actor}
 use Rattle.board_terms.specs.declared.op.Actor.TheVariants.{Hart, Clock}
@@ -15,13 +15,14 @@ use Rattle.board_core.specs.Replies.{answer, recorded}
 use Rattle.board_core.specs.Resets.{is_off}
 use Rattle.board_lock.specs.declared.views.HartNow.{HartNow}
 use Rattle.board_lock.specs.Events.{is_same}
+use Rattle.board_lock.specs.Receipts.{AcceptedCall, accepted_call}
 use Rattle.board_lock.specs.Seats.{Sitting}
 use Rattle.board_lock.specs.Views.{IsDone, IsRefused, ShowsTo}
 use Rattle.guest_programs.specs.declared.met.Met.{Met}
 use Rattle.guest_programs.specs.declared.met.Met.TheVariants.{Nothing, FullHistory, ClosedGate}
 use Rattle.hart_threads.specs.Choices.{choice_of, first_choice}
 use Rattle.guest_programs.specs.Guests.{IsAt, Next, Rest, next_op}
-use Rattle.hart_threads.specs.Shares.{ChoosesNone, EachOf, IsDue, IsTurn, Refuses, gate_number, many_of}
+use Rattle.hart_threads.specs.Shares.{ChoosesNone, EachOf, IsDue, WasTold, IsTurn, Refuses, gate_number, many_of}
 use Rattle.hart_threads.specs.Inside.Works.{At, Goes, HasMet, HasTurn, IsAtWork, IsGoing, IsAtSeat, SeesNoMore, Stops, Task}
 use Rattle.hart_threads.proofs.Counting.{each-still, earlier-of, length-events, no-more, none-since, own-one-more, rest-still}
 
@@ -67,6 +68,7 @@ pub work-later : (t : Task) (a : Actor) (n : ℕ) (past later : List Event) → 
 work-later t a n past later since work = record {
   no_fewer = (let more = no-more a past later since in let few = work.no_fewer in omega arith);
   due = λ same. each-later a n past later since work.no_fewer same (IsDue t.lets t.opening t.guests t.ticks a) work.due;
+  told = λ same. each-later a n past later since work.no_fewer same (WasTold t.heard t.opening) work.told;
 }
 
 pub going-later : (t : Task) (a : Actor) (n : ℕ) (past later : List Event) (rest : Rest) (met : Met) → IsSuffix past later
@@ -141,8 +143,12 @@ module _ (t : Task) (a : Actor) (n : ℕ) (seen before : List Event) (op : Op) (
   one-more : (many_of a (e ∷ before) ≡ n + 1) → many_of a before ≡ n
   one-more same = let more = own-one-more a e before own in omega arith
 
-  pub work-more : IsAtWork t a n seen → HasTurn t a n seen op → t.lets (gate_number t.opening.config a) n true → IsAtWork t a (n + 1) (e ∷ before)
-  work-more work turn let_ = record {
+  is-told : many_of a before ≡ n → t.heard (accepted_call a n (t.opening.places + length before) op reply) → WasTold t.heard t.opening e before
+  is-told now heard = rw by rw asked rw answered rw now heard
+
+  pub work-more : IsAtWork t a n seen → HasTurn t a n seen op → t.lets (gate_number t.opening.config a) n true
+      → t.heard (accepted_call a n (t.opening.places + length before) op reply) → IsAtWork t a (n + 1) (e ∷ before)
+  work-more work turn let_ heard = record {
     no_fewer = (let more = own-one-more a e before own in let few = work.no_fewer in let later = no-more a seen before since in omega arith);
     due = λ same.
         let now = one-more same in (
@@ -152,16 +158,28 @@ module _ (t : Task) (a : Actor) (n : ℕ) (seen before : List Event) (op : Op) (
           )),
           each-later a n seen before since work.no_fewer now (IsDue t.lets t.opening t.guests t.ticks a) work.due,
         );
+    told = λ same.
+        let now = one-more same in (
+          (λ is. is-told now heard),
+          each-later a n seen before since work.no_fewer now (WasTold t.heard t.opening) work.told,
+        );
   }
 
   pub going-more : (rest rest' : Rest) → IsGoing t a n seen rest Nothing → HasTurn t a n seen op → t.lets (gate_number t.opening.config a) n true
-      → Tells t.guests op reply rest rest' → IsGoing t a (n + 1) (e ∷ before) rest' Nothing
-  going-more rest rest' going turn let_ tells = record {
-    work = work-more going.work turn let_;
+      → t.heard (accepted_call a n (t.opening.places + length before) op reply) → Tells t.guests op reply rest rest' → IsGoing t a (n + 1) (e ∷ before) rest' Nothing
+  going-more rest rest' going turn let_ heard tells = record {
+    work = work-more going.work turn let_ heard;
     rest_is = λ same. told-to t.guests op reply rest rest' a before e tells by asked answered
         (rest-later a n seen before since going.work.no_fewer (one-more same) t.guests rest going.rest_is);
     met_is = tt;
   }
+
+call-is : (r : AcceptedCall) (actor : Actor) (ordinal place : ℕ) (op : Op) (reply : Reply) → r.actor ≡ actor → r.ordinal ≡ ordinal → r.place ≡ place → r.op ≡ op → r.reply ≡ reply
+    → r ≡ accepted_call actor ordinal place op reply
+call-is r actor ordinal place op reply by counted placed asked answered =
+    ap (λ (x : Actor). accepted_call x r.ordinal r.place r.op r.reply) by ∙ ap (λ (x : ℕ). accepted_call actor x r.place r.op r.reply) counted
+    ∙ ap (λ (x : ℕ). accepted_call actor ordinal x r.op r.reply) placed ∙ ap (λ (x : Op). accepted_call actor ordinal place x r.reply) asked
+    ∙ ap (accepted_call actor ordinal place op) answered
 
 -- what a seat saw after its call was accepted
 module _ (t : Task) (s s' : Sitting) (op : Op) (reply : Reply) (done : IsDone t.opening s s' op reply) where
@@ -177,11 +195,20 @@ module _ (t : Task) (s s' : Sitting) (op : Op) (reply : Reply) (done : IsDone t.
       ∙ reverse-reverse _
       ∙ ap (λ (r : Result Reply Refusal). (recorded (record { opening = t.opening; past = before }) s.actor op r).past) done.answered
 
+  -- its receipt has the place of its event
+  pub receipt-is : (r : AcceptedCall) → r.actor ≡ s.actor → r.op ≡ op → r.ordinal ≡ s.count → r.reply ≡ reply → t.opening.places + length s'.saw ≡ r.place + 1
+      → r ≡ accepted_call s.actor s.count (t.opening.places + length before) op reply
+  receipt-is r actor asked ordinal answered placed =
+      let long : length s'.saw ≡ length before + 1 = sym (length-reverse s'.saw) ∙ ap length saw-then ∙ (omega arith) in
+      let place : r.place ≡ t.opening.places + length before = omega arith in
+      call-is r s.actor s.count (t.opening.places + length before) op reply actor ordinal place asked answered
+
   pub done-going : (rest rest' : Rest) → Goes t s rest Nothing → HasTurn t s.actor s.count (reverse s.saw) op → t.lets (gate_number t.opening.config s.actor) s.count true
-      → Tells t.guests op reply rest rest' → s'.actor ≡ s.actor → s'.count ≡ s.count + 1 → Goes t s' rest' Nothing
-  done-going rest rest' going turn let_ tells actor count =
+      → t.heard (accepted_call s.actor s.count (t.opening.places + length before) op reply) → Tells t.guests op reply rest rest' → s'.actor ≡ s.actor → s'.count ≡ s.count + 1
+      → Goes t s' rest' Nothing
+  done-going rest rest' going turn let_ heard tells actor count =
       rw actor rw count rw saw-then
-      (going-more t s.actor s.count (reverse s.saw) before op reply event (earlier-of s.saw done.before done.later) refl refl refl rest rest' going turn let_ tells)
+      (going-more t s.actor s.count (reverse s.saw) before op reply event (earlier-of s.saw done.before done.later) refl refl refl rest rest' going turn let_ heard tells)
 
 -- a call is refused as the board refuses it, where as many of its actor's events were seen as its seat counts
 refused-there : (t : Task) (s : Sitting) (op : Op) (r : Refusal) → IsRefused t.opening s op r → many_of s.actor (reverse s.saw) ≡ s.count

@@ -14,6 +14,7 @@ use Rattle.board_core.specs.Replies.{answer}
 use Rattle.board_core.specs.Resets.{is_off}
 use Rattle.board_lock.specs.declared.views.HartNow.{HartNow}
 use Rattle.board_lock.specs.Events.{IsActor, is_same}
+use Rattle.board_lock.specs.Receipts.{AcceptedCall, accepted_call}
 use Rattle.board_lock.specs.Views.{Shows}
 use Rattle.guest_programs.specs.declared.ends.End.{End}
 use Rattle.guest_programs.specs.declared.ends.End.TheVariants as ends
@@ -70,6 +71,18 @@ abbrev pub IsDue : (lets : ℕ → ℕ → Bool → Type 0) → Opening → Next
 IsDue lets o guests ticks a e past = lets (gate_number o.config a) (many_of a past) true
     × IsTurn o guests ticks a e.op past
 
+-- ---- what the gate was told
+
+-- The gate was told of the event: who made it, how many events of that actor and how many of all came before, the operation and
+-- the reply.
+abbrev pub WasTold : (heard : AcceptedCall → Type 0) → Opening → Event → List Event → Type 0
+WasTold heard o e past = heard (accepted_call e.actor (many_of e.actor past) (o.places + length past) e.op e.reply)
+
+-- The gate was told of each event.
+abbrev pub AreTold : (heard : AcceptedCall → Type 0) → Opening → List Event → Type 0
+AreTold heard o [] = Unit {0}
+AreTold heard o (e ∷ past) = WasTold heard o e past × AreTold heard o past
+
 -- ---- why a thread stopped
 
 -- an operation that was its actor's turn was refused after these events
@@ -103,11 +116,12 @@ HasStopped lets o guests ticks past a ClosedGate = IsClosed lets o past a
 HasStopped lets o guests ticks past a FullHistory = HasMetFull o guests ticks past a
 HasStopped lets o guests ticks past a Nothing = HasNoMore o guests ticks past a
 
--- The threads of a run, which met this together. Each event was due, each thread stopped for what it met, and one of
--- them met what they all met together.
-pub record AreThreads (lets : ℕ → ℕ → Bool → Type 0) (o : Opening) (guests : Next) (ticks : List ℕ)
-    (past : List Event) (met : Met) : Type 0 where
+-- The threads of a run, which met this together. Each event was due, and the gate was told of it. Each thread stopped for
+-- what it met, and one of them met what they all met together.
+pub record AreThreads (lets : ℕ → ℕ → Bool → Type 0) (heard : AcceptedCall → Type 0) (o : Opening) (guests : Next)
+    (ticks : List ℕ) (past : List Event) (met : Met) : Type 0 where
   pub due : (a : Actor) → IsActor o.config a → EachOf (IsDue lets o guests ticks a) a past
+  pub told : (a : Actor) → IsActor o.config a → EachOf (WasTold heard o) a past
   pub stopped : (a : Actor) → IsActor o.config a
       → (m : Met) × (met_by_both m met ≡ met) × HasStopped lets o guests ticks past a m
   pub met_by : (a : Actor) × IsActor o.config a × HasStopped lets o guests ticks past a met

@@ -21,9 +21,9 @@ pub(crate) fn tick<K: Plan, G: Gate, P: Guests, R: Wait>(
     seat: Seat<K>,
 ) -> Worked<K>
     requires fresh { seat ≡ sitting Clock 0 [] [] }
-    requires gate { IsGate (G.lets work.now.gate.now) K.lets }
+    requires gate { IsGate (G.lets work.now.gate.now) K.lets (G.heard work.now.gate.now) K.heard }
     ensures actor { result.seat.actor ≡ seat.actor }
-    ensures worked { WorkedAt (task K.lets K.opening K.guests K.ticks) result.seat result.met }
+    ensures worked { WorkedAt (task K.lets K.heard K.opening K.guests K.ticks) result.seat result.met }
 {
     let mut seat = seat;
     let met = tick_all(rt, work, &mut seat);
@@ -38,17 +38,17 @@ fn tick_all<K: Plan, G: Gate, P: Guests, R: Wait>(
     seat: &mut Seat<K>,
 ) -> Met
     requires fresh { seat.old ≡ sitting Clock 0 [] [] }
-    requires gate { IsGate (G.lets work.now.gate.now) K.lets }
+    requires gate { IsGate (G.lets work.now.gate.now) K.lets (G.heard work.now.gate.now) K.heard }
     ensures actor { seat.new.actor ≡ Clock }
     ensures ticks { AreFirst K.ticks seat.new.ops }
-    ensures worked { WorkedAt (task K.lets K.opening K.guests K.ticks) seat.new result }
+    ensures worked { WorkedAt (task K.lets K.heard K.opening K.guests K.ticks) seat.new result }
 {
     for n in work.ticks {
         if !work.is_let(seat) {
             return Met::ClosedGate;
         }
         match work.board.call(rt, seat, Op::Tick(*n)) {
-            Ok(receipt) => work.tell(&receipt),
+            Ok(receipt) => work.tell(receipt),
             Err(refusal) => return Met::by_refusal(refusal),
         }
     }

@@ -26,9 +26,9 @@ pub(crate) fn follow<K: Plan, G: Gate, P: Guests, R: Wait>(
     requires hart { seat.actor ≢ Clock }
     requires acting { IsActor K.opening.config seat.actor }
     requires fresh { seat ≡ sitting seat.actor 0 [] [] }
-    requires gate { IsGate (G.lets work.now.gate.now) K.lets }
+    requires gate { IsGate (G.lets work.now.gate.now) K.lets (G.heard work.now.gate.now) K.heard }
     ensures actor { result.seat.actor ≡ seat.actor }
-    ensures worked { WorkedAt (task K.lets K.opening K.guests K.ticks) result.seat result.met }
+    ensures worked { WorkedAt (task K.lets K.heard K.opening K.guests K.ticks) result.seat result.met }
 {
     let mut seat = seat;
     let mut place = work.guests.nowhere();
@@ -88,14 +88,14 @@ fn attempt<K: Plan, G: Gate, P: Guests, R: Wait>(
     view: &mut HartView,
     op: Op,
 ) -> Met
-    requires gate { IsGate (G.lets work.now.gate.now) K.lets }
-    requires going { Goes (task K.lets K.opening K.guests K.ticks) seat.old (P.rest work.now.guests.now place.old)
+    requires gate { IsGate (G.lets work.now.gate.now) K.lets (G.heard work.now.gate.now) K.heard }
+    requires going { Goes (task K.lets K.heard K.opening K.guests K.ticks) seat.old (P.rest work.now.guests.now place.old)
         Nothing }
-    requires turn { HasTurn (task K.lets K.opening K.guests K.ticks) seat.old.actor seat.old.count
+    requires turn { HasTurn (task K.lets K.heard K.opening K.guests K.ticks) seat.old.actor seat.old.count
         (reverse seat.old.saw) op }
     requires view { IsView K.opening seat.old view.old }
     ensures actor { seat.new.actor ≡ seat.old.actor }
-    ensures going { Goes (task K.lets K.opening K.guests K.ticks) seat.new (P.rest work.now.guests.now place.new)
+    ensures going { Goes (task K.lets K.heard K.opening K.guests K.ticks) seat.new (P.rest work.now.guests.now place.new)
         result }
     ensures view { IsView K.opening seat.new view.new }
 {
@@ -104,8 +104,9 @@ fn attempt<K: Plan, G: Gate, P: Guests, R: Wait>(
     }
     match work.board.call_and_view(rt, seat, op) {
         Ok((receipt, now)) => {
-            work.tell(&receipt);
-            *place = guest_place_after(work.guests, *place, op, receipt.reply());
+            let reply = receipt.reply();
+            work.tell(receipt);
+            *place = guest_place_after(work.guests, *place, op, reply);
             *view = now;
             Met::Nothing
         }

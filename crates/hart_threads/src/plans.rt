@@ -5,6 +5,7 @@ use std::marker::Brand;
 /// A room whose threads have this work. Like a room, it is a type whose values exist only in proofs.
 pub(crate) trait Plan: Room {
     ghost use Rattle.std.specs.Prelude.{ℕ, Bool, List};
+    ghost use Rattle.board_lock.specs.Receipts.{AcceptedCall};
     ghost use Rattle.guest_programs.specs.Guests.{Next};
 
     // The clock's ticks, in order.
@@ -13,6 +14,8 @@ pub(crate) trait Plan: Room {
     ghost guests: { Next };
     // What the gate may answer an actor, by its number and how many of its operations were accepted.
     ghost lets: { ℕ → ℕ → Bool → Type 0 };
+    // That the gate was told of an event.
+    ghost heard: { AcceptedCall → Type 0 };
 }
 
 impl Plan for Brand {
@@ -23,4 +26,6 @@ impl Plan for Brand {
     ghost guests = { λ _ _. None };
 
     ghost lets = { λ _ _ _. Unit {0} };
+
+    ghost heard = { λ _. Unit {0} };
 }

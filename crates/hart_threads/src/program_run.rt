@@ -11,7 +11,7 @@ ghost use Rattle.guest_script.specs.Grammar.{content};
 ghost use Rattle.guest_programs.specs.Ends.{IsEnd};
 ghost use Rattle.hart_threads.specs.Inside.Works.{met_by_all, IsGate};
 ghost use Rattle.guest_programs.specs.Programs.{AreFirst, IsProgram, blocks_of, ticks_of};
-ghost use Rattle.hart_threads.specs.Shares.{AreThreads, IsRun};
+ghost use Rattle.hart_threads.specs.Shares.{AreThreads, AreTold, IsRun};
 ghost use Rattle.guest_programs.specs.declared.ends.RunFault.TheVariants.{BadConfig};
 
 use crate::gate::Gate;
@@ -47,6 +47,7 @@ pub fn run<G: Gate + Sync, R: AllocGlobal + Threads + Wait + Sync>(
     ensures threads { IfOk result
         (λ run. IsRun (G.lets gate.now) run.board.opening (blocks_of (content script.now.body))
         (ticks_of (content script.now.body)) run.board.past run.end) }
+    ensures told { IfOk result (λ run. AreTold (G.heard gate.now) run.board.opening run.board.past) }
 {
     run_in::<Brand, G, R>(rt, NewRoom::new(&script.config), &script.body, gate)
 }
@@ -63,7 +64,7 @@ fn run_in<K: Plan + Send + Sync, G: Gate + Sync, R: AllocGlobal + Threads + Wait
     requires ledger { (room.ledger ≡ K.name) × (room.parts ≡ K.parts) × (K.all ≡ K.parts) }
     requires ticks { ticks_of (content body.now) ≡ K.ticks }
     requires guests { blocks_of (content body.now) ≡ K.guests }
-    requires gate { IsGate (G.lets gate.now) K.lets }
+    requires gate { IsGate (G.lets gate.now) K.lets (G.heard gate.now) K.heard }
     ensures bad { IsErrOf result BadConfig ↔ ¬ IsGood K.opening.config }
     ensures opening { IfOk result (λ run. run.board.opening ≡ K.opening) }
     ensures legal { IfOk result (λ run. IsLegal run.board.opening run.board.past) }
@@ -71,6 +72,7 @@ fn run_in<K: Plan + Send + Sync, G: Gate + Sync, R: AllocGlobal + Threads + Wait
     ensures ticks { IfOk result (λ run. AreFirst K.ticks (ops_of Clock (events_in run.board))) }
     ensures end { IfOk result (λ run. IsEnd run.end run.board.opening run.board.past K.guests) }
     ensures threads { IfOk result (λ run. IsRun K.lets run.board.opening K.guests K.ticks run.board.past run.end) }
+    ensures told { IfOk result (λ run. AreTold K.heard run.board.opening run.board.past) }
 {
     let (shared, seats) = opened::<K>(rt.alloc(), room)?;
     let program = program_in(rt.alloc(), body)?;
@@ -101,11 +103,11 @@ where
     requires seats { seats.items ≡ new_seats K.opening.config }
     requires ticks { ticks.now ≡ K.ticks }
     requires guests { P.next guests.now ≡ K.guests }
-    requires gate { IsGate (G.lets gate.now) K.lets }
+    requires gate { IsGate (G.lets gate.now) K.lets (G.heard gate.now) K.heard }
     ensures board { ¬ IsErrOf result BadConfig }
     ensures opening { IfOk result (λ r. r.0.opening ≡ K.opening) }
     ensures ticks { IfOk result (λ r. AreFirst K.ticks (ops_of Clock (events_in r.0))) }
-    ensures threads { IfOk result (λ r. AreThreads K.lets K.opening K.guests K.ticks r.0.past r.1) }
+    ensures threads { IfOk result (λ r. AreThreads K.lets K.heard K.opening K.guests K.ticks r.0.past r.1) }
 {
     let work = Work {
         board: &board,

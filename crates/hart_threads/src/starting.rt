@@ -21,7 +21,7 @@ struct SeatOf(Actor);
 
 impl<K: Plan> Promise<Worked<K>> for SeatOf {
     ghost kept_by = { λ p worked. (worked.seat.actor ≡ p.0)
-        × WorkedAt (task K.lets K.opening K.guests K.ticks) worked.seat worked.met };
+        × WorkedAt (task K.lets K.heard K.opening K.guests K.ticks) worked.seat worked.met };
 }
 
 /// Runs a thread for each seat, and returns what they did once all have ended. If a thread is refused, those that run are
@@ -35,11 +35,11 @@ pub(crate) fn work_all<
 where
     P::Place: Send + Sync,
     requires fresh { All (IsFresh K.opening.config) seats.items }
-    requires gate { IsGate (G.lets work.now.gate.now) K.lets }
+    requires gate { IsGate (G.lets work.now.gate.now) K.lets (G.heard work.now.gate.now) K.heard }
     ensures seats { IfOk result
         (λ all. map (λ worked. worked.seat.actor) all.items ≡ map (λ seat. seat.actor) seats.items) }
     ensures worked { IfOk result (λ all.
-        All (λ worked. WorkedAt (task K.lets K.opening K.guests K.ticks) worked.seat worked.met) all.items) }
+        All (λ worked. WorkedAt (task K.lets K.heard K.opening K.guests K.ticks) worked.seat worked.met) all.items) }
     ensures board { ¬ IsErrOf result BadConfig }
 {
     thread::scope(
@@ -47,12 +47,12 @@ where
         rt,
         |scope| -> Result<Vec<Worked<K>>, RunFault>
             requires fresh { All (IsFresh K.opening.config) seats.items }
-            requires gate { IsGate (G.lets work.now.gate.now) K.lets }
+            requires gate { IsGate (G.lets work.now.gate.now) K.lets (G.heard work.now.gate.now) K.heard }
             ensures board { ¬ IsErrOf result BadConfig }
             ensures seats { IfOk result
                 (λ all. map (λ worked. worked.seat.actor) all.items ≡ map (λ seat. seat.actor) seats.items) }
             ensures worked { IfOk result (λ all.
-                All (λ worked. WorkedAt (task K.lets K.opening K.guests K.ticks) worked.seat worked.met) all.items) }
+                All (λ worked. WorkedAt (task K.lets K.heard K.opening K.guests K.ticks) worked.seat worked.met) all.items) }
         {
             let mut threads = Vec::new(rt.alloc());
             for seat in seats {
@@ -60,7 +60,7 @@ where
                     SeatOf(seat.actor()),
                     move ||
                         requires fresh { IsFresh K.opening.config seat }
-                        requires gate { IsGate (G.lets work.now.gate.now) K.lets }
+                        requires gate { IsGate (G.lets work.now.gate.now) K.lets (G.heard work.now.gate.now) K.heard }
                     { work_at(rt, work, seat) },
                 ) else {
                     work.board.end(rt);
@@ -86,9 +86,9 @@ fn work_at<K: Plan, G: Gate, P: Guests, R: Wait>(
     seat: Seat<K>,
 ) -> Worked<K>
     requires fresh { IsFresh K.opening.config seat }
-    requires gate { IsGate (G.lets work.now.gate.now) K.lets }
+    requires gate { IsGate (G.lets work.now.gate.now) K.lets (G.heard work.now.gate.now) K.heard }
     ensures actor { result.seat.actor ≡ seat.actor }
-    ensures worked { WorkedAt (task K.lets K.opening K.guests K.ticks) result.seat result.met }
+    ensures worked { WorkedAt (task K.lets K.heard K.opening K.guests K.ticks) result.seat result.met }
 {
     match seat.actor() {
         Actor::Hart(_) => follow(rt, work, seat),

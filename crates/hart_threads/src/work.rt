@@ -30,7 +30,7 @@ pub(crate) struct Work<'a, K: Plan, G: Gate, P: Guests> {
 impl<'a, K: Plan, G: Gate, P: Guests> Work<'a, K, G, P> {
     /// Whether the gate allows the seat's actor an operation. No lock is held.
     pub(crate) fn is_let(&self, seat: &Seat<K>) -> bool
-        requires { IsGate (G.lets self.now.gate.now) K.lets }
+        requires { IsGate (G.lets self.now.gate.now) K.lets (G.heard self.now.gate.now) K.heard }
         ensures { K.lets (gate_number K.opening.config seat.now.actor) seat.now.count result }
     {
         let number = match seat.actor() {
@@ -40,14 +40,12 @@ impl<'a, K: Plan, G: Gate, P: Guests> Work<'a, K, G, P> {
         self.gate.turn(number as usize, seat.count() as usize)
     }
 
-    /// Passes the event of a receipt to the gate. No lock is held.
-    pub(crate) fn tell(&self, receipt: &Receipt<K>) {
-        self.gate.told(
-            receipt.place(),
-            receipt.actor(),
-            receipt.op(),
-            receipt.reply(),
-        );
+    /// Tells the gate of an event, and gives the receipt away. No lock is held.
+    pub(crate) fn tell(&self, receipt: Receipt<K>)
+        requires { IsGate (G.lets self.now.gate.now) K.lets (G.heard self.now.gate.now) K.heard }
+        ensures { K.heard receipt }
+    {
+        self.gate.told(receipt);
     }
 }
 

@@ -1,8 +1,9 @@
 -- The first step that a pattern means is where a record fails.
-use Rattle.std.proofs.Common.{◌≡◌, ℕ, zero, suc, ◌+◌, ◌<◌, ◌≤◌, List, [], ◌∷◌, refl, sym, ◌∙◌, subst, inl, inr, arith}
-use Rattle.std.specs.Prelude.{Option, Some, None, MatchOption, slice_get, take}
+use Rattle.std.proofs.Common.{◌≡◌, ℕ, suc, ◌+◌, ◌<◌, ◌≤◌, List, length, sym, ap, ◌∙◌, subst, inl, inr, arith}
+use Rattle.std.specs.Prelude.{Option, Some, None, MatchOption, take}
 use Rattle.std.proofs.lemmas.Bool.{cases_order}
-use Rattle.std.proofs.lemmas.Option.{none-some, slice_get_within}
+use Rattle.std.proofs.lemmas.List.{get_or-take, length-take}
+use Rattle.std.proofs.lemmas.Option.{get_or_from_slice_get, slice_get-get_or, slice_get_within}
 use Rattle.board_core.specs.History.{Event}
 use Rattle.conditions.specs.declared.patterns.Pattern.{Pattern}
 use Rattle.conditions.specs.declared.rules.Rule.{Rule}
@@ -10,25 +11,23 @@ use Rattle.conditions.specs.declared.rules.Rule.TheVariants.{Never, NeverAfter, 
 use Rattle.conditions.specs.Rules.{IsAt, IsFirstFrom, IsFirstUnfit, RepliesFit}
 use Rattle.outcome_statistics.specs.Failing.{FailsAt, IsFailingStep}
 
-take-slice : {X : Type 0} (xs : List X) (n k : ℕ) → k < n → slice_get (take n xs) k ≡ slice_get xs k
-take-slice xs zero k below = absurd (omega arith)
-take-slice [] (suc n) k below = refl
-take-slice (x ∷ xs) (suc n) zero below = refl
-take-slice (x ∷ xs) (suc n) (suc k) below = take-slice xs n k (omega arith)
-
-take-within : {X : Type 0} (xs : List X) (n k : ℕ) (x : X) → slice_get (take n xs) k ≡ Some x → k < n
-take-within xs zero k x at = absurd (none-some x at)
-take-within [] (suc n) k x at = absurd (none-some x at)
-take-within (y ∷ xs) (suc n) zero x at = omega arith
-take-within (y ∷ xs) (suc n) (suc k) x at = let below = take-within xs n k x at in omega arith
-
+-- what stands in the first n steps
 at-of : (p : Pattern) (events : List Event) (n k : ℕ) → IsAt p (take n events) k → (k < n) × IsAt p events k
 at-of p events n k at =
-    let below = take-within events n k at.0 at.1 in
-    (below, (at.0, sym (take-slice events n k below) ∙ at.1, at.2))
+    let short = length-take n events in
+    let within = slice_get_within (take n events) k at.0 at.1 in
+    let below : k < n = grind arith in
+    let there : k < length events = grind arith in
+    let same = sym (get_or-take n events k at.0 below) ∙ get_or_from_slice_get (take n events) k at.0 at.0 at.1 in
+    (below, (at.0, slice_get-get_or events k at.0 there ∙ ap (λ (x : Event). Some x) same, at.2))
 
 at-in : (p : Pattern) (events : List Event) (n k : ℕ) → k < n → IsAt p events k → IsAt p (take n events) k
-at-in p events n k below at = (at.0, take-slice events n k below ∙ at.1, at.2)
+at-in p events n k below at =
+    let short = length-take n events in
+    let within = slice_get_within events k at.0 at.1 in
+    let there : k < length (take n events) = grind arith in
+    let same = get_or-take n events k at.0 below ∙ get_or_from_slice_get events k at.0 at.0 at.1 in
+    (at.0, slice_get-get_or (take n events) k at.0 there ∙ ap (λ (x : Event). Some x) same, at.2)
 
 never-fails : (p : Pattern) (events : List Event) (k : ℕ) → IsFirstFrom p events 0 k → FailsAt (Never p) events k
 never-fails p events k first = record {

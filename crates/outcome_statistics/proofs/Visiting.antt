@@ -19,6 +19,7 @@ use Rattle.board_core.specs.ErrorLaw.{is_error}
 use Rattle.board_core.specs.History.{Event}
 use Rattle.guest_programs.specs.Guests.{Did, Entered, Meaning, did, did_after, entry_after, is_guest, last_entry, meaning_by, meaning_of}
 use Rattle.guest_programs.specs.Guests.Meaning.{Does, Enters as Into, Still}
+use Rattle.guest_programs.proofs.Following.{IsNoEntry, turn-does, turn-still}
 use Rattle.seeded_orders.specs.Choices.{choice_of}
 use Rattle.outcome_statistics.specs.declared.visits.Spot.{Spot}
 use Rattle.outcome_statistics.specs.declared.visits.Visits.{Visits}
@@ -41,27 +42,8 @@ meaning-enters op Served addr at = absurd (let t = at in cc)
 meaning-enters op (Moved x) addr at = absurd (let t = at in cc)
 meaning-enters op Done addr at = absurd (let t = at in cc)
 
-meaning-does : (op : Op) (reply : Reply) → is_guest op ≡ true → entry_at reply ≡ None → meaning_by op reply ≡ Does op reply
-meaning-does op (Entry a h o) guest none = absurd (let t = none in cc)
-meaning-does op (Ret x) guest none = rw guest refl
-meaning-does op Waiting guest none = rw guest refl
-meaning-does op Gone guest none = rw guest refl
-meaning-does op (Value x) guest none = rw guest refl
-meaning-does op (Fault x) guest none = rw guest refl
-meaning-does op Served guest none = rw guest refl
-meaning-does op (Moved x) guest none = rw guest refl
-meaning-does op Done guest none = rw guest refl
-
-meaning-still : (op : Op) (reply : Reply) → is_guest op ≡ false → entry_at reply ≡ None → meaning_by op reply ≡ Still
-meaning-still op (Entry a h o) other none = absurd (let t = none in cc)
-meaning-still op (Ret x) other none = rw other refl
-meaning-still op Waiting other none = rw other refl
-meaning-still op Gone other none = rw other refl
-meaning-still op (Value x) other none = rw other refl
-meaning-still op (Fault x) other none = rw other refl
-meaning-still op Served other none = rw other refl
-meaning-still op (Moved x) other none = rw other refl
-meaning-still op Done other none = rw other refl
+no-entry-of : (reply : Reply) → entry_at reply ≡ None → IsNoEntry reply
+no-entry-of reply none addr hart opaque is = let t = sym none ∙ ap entry_at is in cc
 
 abbrev place : Option Entered → Did → Option Spot
 place entry before = option_map (λ x. record { addr = x.addr; before = min (length before) (2 ^ 64 - 1) }) entry
@@ -87,10 +69,10 @@ module _ (past : List Event) (h : ℕ) (e : Event) (mine : is_hart h e.actor ≡
   pub spot-done : (guest : Option Spot) → entry_at e.reply ≡ None → is_guest e.op ≡ true → guest ≡ spot_of past h → place_behind guest ≡ spot_of (e ∷ past) h
   spot-done guest none does at =
       ap place_behind at ∙ behind-one (last_entry past h) (did past h) ((e.op, e.reply) ∷ did past h) refl
-      ∙ turned (Does e.op e.reply) (meaning-does e.op e.reply does none)
+      ∙ turned (Does e.op e.reply) (turn-does e.op e.reply does (no-entry-of e.reply none))
 
   pub spot-still : (guest : Option Spot) → entry_at e.reply ≡ None → is_guest e.op ≡ false → guest ≡ spot_of past h → guest ≡ spot_of (e ∷ past) h
-  spot-still guest none other at = at ∙ turned Still (meaning-still e.op e.reply other none)
+  spot-still guest none other at = at ∙ turned Still (turn-still e.op e.reply other (no-entry-of e.reply none))
 
 spot-other : (past : List Event) (h : ℕ) (e : Event) → is_hart h e.actor ≡ false → spot_of past h ≡ spot_of (e ∷ past) h
 spot-other past h e other =
@@ -199,15 +181,15 @@ iff-both first later = (
 pub with-nothing : (E : ℕ → Type 0) (C : Spot → Bool → Type 0) (before : Visits) → ((addr : ℕ) → ¬ E addr) → ((spot : Spot) (fails : Bool) → ¬ C spot fails) → IsWith E C before before
 with-nothing E C before none never = record {
   entered = λ addr. iff-kept (none addr);
-  answered = λ spot. iff-kept (never spot false);
+  succeeded = λ spot. iff-kept (never spot false);
   failed = λ spot. iff-kept (never spot true);
 }
 
 pub with-entry : (reply : Reply) (addr : ℕ) (before after : Visits) → entry_at reply ≡ Some addr → Updates nat_cmp before.entered after.entered addr true
-    → after.answered ≡ before.answered → after.failed ≡ before.failed → IsWith (λ a. entry_at reply ≡ Some a) (λ spot fails. ⊥) before after
-with-entry reply addr before after at inserts answered failed = record {
+    → after.succeeded ≡ before.succeeded → after.failed ≡ before.failed → IsWith (λ a. entry_at reply ≡ Some a) (λ spot fails. ⊥) before after
+with-entry reply addr before after at inserts succeeded failed = record {
   entered = λ a. iff-by (number-insert before.entered after.entered addr a inserts) (λ same. at ∙ ap (λ (n : ℕ). Some n) same) (λ is. let t = sym at ∙ is in cc);
-  answered = λ spot. subst (λ s. HasKey s.keys spot ↔ (HasKey before.answered.keys spot ⊎ ⊥)) (sym answered) (iff-kept (λ no. no));
+  succeeded = λ spot. subst (λ s. HasKey s.keys spot ↔ (HasKey before.succeeded.keys spot ⊎ ⊥)) (sym succeeded) (iff-kept (λ no. no));
   failed = λ spot. subst (λ s. HasKey s.keys spot ↔ (HasKey before.failed.keys spot ⊎ ⊥)) (sym failed) (iff-kept (λ no. no));
 }
 
@@ -228,20 +210,20 @@ module _ (guest : Option Spot) (e : Event) (spot : Spot) (before after : Visits)
   call-not : (fails told : Bool) (s : Spot) → is_error e.reply ≡ told → told ≢ fails → IsCallAt guest e s fails → ⊥
   call-not fails told s is apart call = apart (sym is ∙ call.2)
 
-  pub with-failed : is_error e.reply ≡ true → Updates spot_cmp before.failed after.failed spot true → after.entered ≡ before.entered → after.answered ≡ before.answered
+  pub with-failed : is_error e.reply ≡ true → Updates spot_cmp before.failed after.failed spot true → after.entered ≡ before.entered → after.succeeded ≡ before.succeeded
       → IsWith (λ a. ⊥) (IsCallAt guest e) before after
-  with-failed is inserts entered answered = record {
+  with-failed is inserts entered succeeded = record {
     entered = λ a. subst (λ s. HasKey s.keys a ↔ (HasKey before.entered.keys a ⊎ ⊥)) (sym entered) (iff-kept (λ no. no));
-    answered = λ s. subst (λ x. HasKey x.keys s ↔ (HasKey before.answered.keys s ⊎ IsCallAt guest e s false)) (sym answered)
+    succeeded = λ s. subst (λ x. HasKey x.keys s ↔ (HasKey before.succeeded.keys s ⊎ IsCallAt guest e s false)) (sym succeeded)
         (iff-kept (call-not false true s is (λ bad. let t = bad in cc)));
     failed = λ s. iff-by (spot-insert before.failed after.failed spot s inserts) (call-here true s is) (call-there true s);
   }
 
-  pub with-answered : is_error e.reply ≡ false → Updates spot_cmp before.answered after.answered spot true → after.entered ≡ before.entered → after.failed ≡ before.failed
+  pub with-succeeded : is_error e.reply ≡ false → Updates spot_cmp before.succeeded after.succeeded spot true → after.entered ≡ before.entered → after.failed ≡ before.failed
       → IsWith (λ a. ⊥) (IsCallAt guest e) before after
-  with-answered is inserts entered failed = record {
+  with-succeeded is inserts entered failed = record {
     entered = λ a. subst (λ s. HasKey s.keys a ↔ (HasKey before.entered.keys a ⊎ ⊥)) (sym entered) (iff-kept (λ no. no));
-    answered = λ s. iff-by (spot-insert before.answered after.answered spot s inserts) (call-here false s is) (call-there false s);
+    succeeded = λ s. iff-by (spot-insert before.succeeded after.succeeded spot s inserts) (call-here false s is) (call-there false s);
     failed = λ s. subst (λ x. HasKey x.keys s ↔ (HasKey before.failed.keys s ⊎ IsCallAt guest e s true)) (sym failed)
         (iff-kept (call-not true false s is (λ bad. let t = bad in cc)));
   }
@@ -253,7 +235,7 @@ with-step guest e a b c first later = record {
     | inl d ↦ d
     | inr never ↦ absurd never
   ]) (λ d. inl d);
-  answered = λ spot. iff-by (iff-both (first.answered spot) (later.answered spot)) (λ either. elim either [
+  succeeded = λ spot. iff-by (iff-both (first.succeeded spot) (later.succeeded spot)) (λ either. elim either [
     | inl never ↦ absurd never
     | inr d ↦ d
   ]) (λ d. inr d);
@@ -278,7 +260,7 @@ pub with-next : (harts : ℕ) (past : List Event) (e : Event) (a b c : Visits) �
     → IsWith (λ addr. entry_at e.reply ≡ Some addr) (IsCallAt (spot_at harts past e.actor) e) b c → IsWith (Enters (e ∷ past)) (Calls harts (e ∷ past)) a c
 with-next harts past e a b c first later = record {
   entered = λ addr. iff-both (first.entered addr) (later.entered addr);
-  answered = λ spot. iff-both (first.answered spot) (later.answered spot);
+  succeeded = λ spot. iff-both (first.succeeded spot) (later.succeeded spot);
   failed = λ spot. iff-both (first.failed spot) (later.failed spot);
 }
 
@@ -308,10 +290,10 @@ iff-more R tried more is here there = (
   ]),
 )
 
-pub visited-none : (harts : ℕ) (visits : Visits) → IsEmpty visits.entered → IsEmpty visits.answered → IsEmpty visits.failed → AreVisited harts [] visits
-visited-none harts visits entered answered failed = record {
+pub visited-none : (harts : ℕ) (visits : Visits) → IsEmpty visits.entered → IsEmpty visits.succeeded → IsEmpty visits.failed → AreVisited harts [] visits
+visited-none harts visits entered succeeded failed = record {
   entered = λ addr. some-none (λ y. y ≡ addr) visits.entered.keys entered;
-  answered = λ spot. some-none (λ y. y ≡ spot) visits.answered.keys answered;
+  succeeded = λ spot. some-none (λ y. y ≡ spot) visits.succeeded.keys succeeded;
   failed = λ spot. some-none (λ y. y ≡ spot) visits.failed.keys failed;
 }
 
@@ -322,17 +304,17 @@ visited-next harts x events tried before after same sees have =
     let C : Spot → Bool → List Event → Type 0 = λ spot fails xs. Calls harts (reverse xs) spot fails in
     record {
       entered = λ addr. iff-next (sees.entered addr) (subst (E addr) (sym same)) (subst (E addr) same) (have.entered addr);
-      answered = λ spot. iff-next (sees.answered spot) (subst (C spot false) (sym same)) (subst (C spot false) same) (have.answered spot);
+      succeeded = λ spot. iff-next (sees.succeeded spot) (subst (C spot false) (sym same)) (subst (C spot false) same) (have.succeeded spot);
       failed = λ spot. iff-next (sees.failed spot) (subst (C spot true) (sym same)) (subst (C spot true) same) (have.failed spot);
     }
 
 pub visited-both : (harts : ℕ) (tried more : List Tried) (one other both : Visits) → InsertsAll nat_cmp one.entered other.entered.keys both.entered
-    → InsertsAll spot_cmp one.answered other.answered.keys both.answered → InsertsAll spot_cmp one.failed other.failed.keys both.failed
+    → InsertsAll spot_cmp one.succeeded other.succeeded.keys both.succeeded → InsertsAll spot_cmp one.failed other.failed.keys both.failed
     → AreVisited harts tried one → AreVisited harts more other → AreVisited harts (more ++ tried) both
-visited-both harts tried more one other both entered answered failed here there = record {
+visited-both harts tried more one other both entered succeeded failed here there = record {
   entered = λ addr. iff-more (λ x. Enters (reverse x.events) addr) tried more (number-append one.entered both.entered other.entered.keys addr entered) (here.entered addr) (there.entered addr);
-  answered = λ spot.
-      iff-more (λ x. Calls harts (reverse x.events) spot false) tried more (spot-append one.answered both.answered other.answered.keys spot answered) (here.answered spot) (there.answered spot);
+  succeeded = λ spot.
+      iff-more (λ x. Calls harts (reverse x.events) spot false) tried more (spot-append one.succeeded both.succeeded other.succeeded.keys spot succeeded) (here.succeeded spot) (there.succeeded spot);
   failed = λ spot.
       iff-more (λ x. Calls harts (reverse x.events) spot true) tried more (spot-append one.failed both.failed other.failed.keys spot failed) (here.failed spot) (there.failed spot);
 }

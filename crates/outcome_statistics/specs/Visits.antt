@@ -47,7 +47,8 @@ abbrev pub is_call : Op → Bool
 is_call (Ecall call) = true
 is_call op = false
 
--- An event answers the call of a guest at this place, with an error or without one.
+-- The event is a call of a guest at this place. It fails if it returns with an error. Else it succeeds: it returns SUCCESS, waits for
+-- its poll, which answers SUCCESS, or doesn't return.
 abbrev pub IsCallAt : Option Spot → Event → Spot → (fails : Bool) → Type 0
 IsCallAt guest e spot fails = (guest ≡ Some spot) × (is_call e.op ≡ true) × (is_error e.reply ≡ fails)
 
@@ -58,7 +59,7 @@ abbrev pub Enters : List Event → ℕ → Type 0
 Enters [] addr = ⊥
 Enters (e ∷ past) addr = Enters past addr ⊎ (entry_at e.reply ≡ Some addr)
 
--- A guest's call at this place was answered, with an error or without one.
+-- A guest made a call at this place that failed, or one that succeeded.
 abbrev pub Calls : (harts : ℕ) → List Event → Spot → (fails : Bool) → Type 0
 Calls harts [] spot fails = ⊥
 Calls harts (e ∷ past) spot fails = Calls harts past spot fails ⊎ IsCallAt (spot_at harts past e.actor) e spot fails
@@ -68,14 +69,14 @@ Calls harts (e ∷ past) spot fails = Calls harts past spot fails ⊎ IsCallAt (
 -- `after` has these entries and calls, and those of `before`.
 pub record IsWith (E : ℕ → Type 0) (C : Spot → Bool → Type 0) (before after : Visits) : Type 0 where
   pub entered : (addr : ℕ) → HasKey after.entered.keys addr ↔ (HasKey before.entered.keys addr ⊎ E addr)
-  pub answered : (spot : Spot) → HasKey after.answered.keys spot ↔ (HasKey before.answered.keys spot ⊎ C spot false)
+  pub succeeded : (spot : Spot) → HasKey after.succeeded.keys spot ↔ (HasKey before.succeeded.keys spot ⊎ C spot false)
   pub failed : (spot : Spot) → HasKey after.failed.keys spot ↔ (HasKey before.failed.keys spot ⊎ C spot true)
 
--- What guests met in some of these records: the entries, and the calls that were answered without an error, and with one. (Nothing
--- is said of the kept steps.)
+-- What guests met in some of these records: the entries, the calls that succeeded, and those that failed. (Nothing is said of the
+-- kept steps.)
 pub record AreVisited (harts : ℕ) (tried : List Tried) (visits : Visits) : Type 0 where
   pub entered : (addr : ℕ) → HasKey visits.entered.keys addr ↔ SomeIs (λ x. Enters (reverse x.events) addr) tried
-  pub answered : (spot : Spot) → HasKey visits.answered.keys spot ↔ SomeIs (λ x. Calls harts (reverse x.events) spot false) tried
+  pub succeeded : (spot : Spot) → HasKey visits.succeeded.keys spot ↔ SomeIs (λ x. Calls harts (reverse x.events) spot false) tried
   pub failed : (spot : Spot) → HasKey visits.failed.keys spot ↔ SomeIs (λ x. Calls harts (reverse x.events) spot true) tried
 
 -- The different records, each as its choices, are exactly those of these.

@@ -57,9 +57,9 @@ impl Deed {
 pub struct Visits {
     /// The addresses at which harts were entered.
     pub entered: BTreeSet<u64>,
-    /// The calls of which some answer was no error.
-    pub answered: BTreeSet<Spot>,
-    /// The calls of which some answer was an error.
+    /// The calls that some time succeeded: they returned SUCCESS, waited for their poll, or didn't return.
+    pub succeeded: BTreeSet<Spot>,
+    /// The calls that some time returned with an error.
     pub failed: BTreeSet<Spot>,
     /// The different steps, each with one event, of orders without a step that a condition needs.
     pub deeds: BTreeMap<Deed, Event>,
@@ -72,7 +72,7 @@ impl Visits {
     {
         Visits {
             entered: BTreeSet::new(alloc),
-            answered: BTreeSet::new(alloc),
+            succeeded: BTreeSet::new(alloc),
             failed: BTreeSet::new(alloc),
             deeds: BTreeMap::new(alloc),
         }
@@ -167,15 +167,15 @@ impl Visits {
             self.failed.insert(spot)?;
             return Ok(());
         }
-        self.answered.insert(spot)?;
+        self.succeeded.insert(spot)?;
         Ok(())
     }
 
-    /// Whether a call was answered, each time with an error.
+    /// Whether a call was made, and failed each time.
     pub fn is_only_failed(&self, spot: &Spot) -> bool
-        ensures { (result ≡ true) ↔ (HasKey self.now.failed.keys spot.now × ¬ HasKey self.now.answered.keys spot.now) }
+        ensures { (result ≡ true) ↔ (HasKey self.now.failed.keys spot.now × ¬ HasKey self.now.succeeded.keys spot.now) }
     {
-        self.failed.contains(spot) && !self.answered.contains(spot)
+        self.failed.contains(spot) && !self.succeeded.contains(spot)
     }
 
     /// Adds what other orders met.
@@ -188,7 +188,7 @@ impl Visits {
             → AreVisited harts more later.old → AreVisited harts (more ++ tried) self.new) }
     {
         self.entered.append(&mut later.entered)?;
-        self.answered.append(&mut later.answered)?;
+        self.succeeded.append(&mut later.succeeded)?;
         self.failed.append(&mut later.failed)?;
         self.deeds.append(&mut later.deeds)
     }

@@ -6,6 +6,7 @@ ghost use Rattle.printed_lines.specs.Words.{event_words, as_line};
 ghost use Rattle.sbiboard.specs.Keeping.{AppendsLines};
 
 use board_core::{Actor, Config, Op, Reply};
+use board_lock::{Receipt, Room};
 use hart_threads::Gate;
 use monitor::{Failed, Page, Sink, print_head};
 use std::alloc::{AllocFailed, Global};
@@ -162,8 +163,12 @@ impl<'r, R: Wait, K: Sink> Gate for Keeper<'r, R, K> {
         true
     }
 
-    fn told(&self, place: u64, actor: Actor, op: Op, reply: Reply) {
-        let step = Step { actor, op, reply };
-        self.growing.lock(self.rt).add(place, step);
+    fn told<B: Room>(&self, receipt: Receipt<B>) {
+        let step = Step {
+            actor: receipt.actor(),
+            op: receipt.op(),
+            reply: receipt.reply(),
+        };
+        self.growing.lock(self.rt).add(receipt.place(), step);
     }
 }

@@ -1,5 +1,6 @@
 //! A gate that makes threads wait for each other, and records what it was asked.
 
+use board_lock::{Receipt, Room};
 use hart_threads::Gate;
 use std::hint;
 use std::sync::atomic::{AtomicUsize, Ordering};
@@ -126,4 +127,6 @@ impl<'a> Gate for Holding<'a> {
             .iter()
             .all(|hold| hold.turn != turn || self.waits_for(hold.after))
     }
+
+    fn told<K: Room>(&self, _receipt: Receipt<K>) {}
 }

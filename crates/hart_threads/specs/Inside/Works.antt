@@ -11,22 +11,24 @@ use Rattle.board_terms.specs.declared.reply.Refusal.TheVariants.{HistoryFull}
 use Rattle.board_core.specs.History.{Event}
 use Rattle.board_core.specs.Opening.{Opening}
 use Rattle.board_lock.specs.Events.{IsActor}
+use Rattle.board_lock.specs.Receipts.{AcceptedCall}
 use Rattle.board_lock.specs.Seats.{Sitting, sitting}
 use Rattle.guest_programs.specs.declared.met.Met.{Met}
 use Rattle.guest_programs.specs.declared.met.Met.TheVariants.{Nothing, FullHistory, ClosedGate}
 use Rattle.guest_programs.specs.Guests.{IsAt, Next, Rest}
 use Rattle.guest_programs.specs.Met.{met_by_both}
-use Rattle.hart_threads.specs.Shares.{ChoosesNone, EachOf, IsDue, IsTurn, Refuses, gate_number, many_of}
+use Rattle.hart_threads.specs.Shares.{ChoosesNone, EachOf, IsDue, WasTold, IsTurn, Refuses, gate_number, many_of}
 
--- the task of a run's threads: its gate's answers, its board's opening, its guests and its clock's ticks
+-- the task of a run's threads: its gate's answers and what the gate is told, its board's opening, its guests and its clock's ticks
 pub record Task : Type 1 where
   pub lets : ℕ → ℕ → Bool → Type 0
+  pub heard : AcceptedCall → Type 0
   pub opening : Opening
   pub guests : Next
   pub ticks : List ℕ
 
-abbrev pub task : (ℕ → ℕ → Bool → Type 0) → Opening → Next → List ℕ → Task
-task lets opening guests ticks = record { lets = lets; opening = opening; guests = guests; ticks = ticks }
+abbrev pub task : (ℕ → ℕ → Bool → Type 0) → (AcceptedCall → Type 0) → Opening → Next → List ℕ → Task
+task lets heard opening guests ticks = record { lets = lets; heard = heard; opening = opening; guests = guests; ticks = ticks }
 
 -- A seat counts n events of actor a, and saw this past: it has a prefix with at least n of them, after which P holds if
 -- there are exactly n.
@@ -55,10 +57,11 @@ HasMet t a n past Nothing = Unit {0}
 HasMet t a n past FullHistory = Stops t a n past FullHistory
 HasMet t a n past ClosedGate = Stops t a n past ClosedGate
 
--- Each event of the seat's actor that the seat saw was due.
+-- Each event of the seat's actor that the seat saw was due, and the gate told of it.
 pub record IsAtWork (t : Task) (a : Actor) (n : ℕ) (past : List Event) : Type 0 where
   pub no_fewer : n ≤ many_of a past
   pub due : many_of a past ≡ n → EachOf (IsDue t.lets t.opening t.guests t.ticks a) a past
+  pub told : many_of a past ≡ n → EachOf (WasTold t.heard t.opening) a past
 
 -- `rest` is what the guest of a hart's seat does from here on
 abbrev pub IsAtSeat : Next → Rest → List Event → Actor → Type 0
@@ -95,9 +98,10 @@ abbrev pub met_by_all : List Met → Met
 met_by_all [] = Nothing
 met_by_all (m ∷ ms) = met_by_both m (met_by_all ms)
 
--- a gate gives only answers that the plan allows
-abbrev pub IsGate : (lets plan : ℕ → ℕ → Bool → Type 0) → Type 0
-IsGate lets plan = (n k : ℕ) (answer : Bool) → lets n k answer → plan n k answer
+-- a gate gives only answers that the plan allows, and is told only of calls that the plan allows
+abbrev pub IsGate : (lets plan : ℕ → ℕ → Bool → Type 0) → (heard planned : AcceptedCall → Type 0) → Type 0
+IsGate lets plan heard planned =
+    ((n k : ℕ) (answer : Bool) → lets n k answer → plan n k answer) × ((call : AcceptedCall) → heard call → planned call)
 
 -- a seat of a new board
 pub record IsFresh (c : Config) (s : Sitting) : Type 0 where

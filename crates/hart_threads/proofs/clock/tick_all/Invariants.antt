@@ -9,4 +9,4 @@ invariant-loop-n g l =
     (l.seat.actor ≡ Clock)
     × (l.seat.ops ≡ map Tick (take l.n-index g.K.Plan.ticks))
     × (l.seat.count ≡ l.n-index)
-    × IsAtWork (task g.K.Plan.lets g.K.Room.opening g.K.Plan.guests g.K.Plan.ticks) Clock l.seat.count (reverse l.seat.saw)
+    × IsAtWork (task g.K.Plan.lets g.K.Plan.heard g.K.Room.opening g.K.Plan.guests g.K.Plan.ticks) Clock l.seat.count (reverse l.seat.saw)

@@ -12,18 +12,18 @@ use Rattle.hart_threads.proofs.harts.follow.Goals.{in-None, in-Some+in_default+i
 
 pub attempt-met-requires-clause-going : goal.attempt-met-requires-clause-going
 attempt-met-requires-clause-going g c =
-    let t : Task = task g.K.Plan.lets g.K.Room.opening g.K.Plan.guests g.K.Plan.ticks in
+    let t : Task = task g.K.Plan.lets g.K.Plan.heard g.K.Room.opening g.K.Plan.guests g.K.Plan.ticks in
     subst (λ (m : Met). Goes t c.loop.seat (g.P.Guests.rest c.args.work.now.guests.now c.loop.place) m) (met-nothing c.loop.view c.loop.met _ c.in-Some-next.op (sym (rw c.in-Some-next.is at c.next-in-loop.ensures))) c.loop.invariant.1
 
 pub attempt-met-requires-clause-turn : goal.attempt-met-requires-clause-turn
 attempt-met-requires-clause-turn g c =
-    let t : Task = task g.K.Plan.lets g.K.Room.opening g.K.Plan.guests g.K.Plan.ticks in
+    let t : Task = task g.K.Plan.lets g.K.Plan.heard g.K.Room.opening g.K.Plan.guests g.K.Plan.ticks in
     view-turn t c.loop.seat c.loop.view c.loop.met (g.P.Guests.rest c.args.work.now.guests.now c.loop.place) c.in-Some-next.op c.loop.invariant.2 c.loop.invariant.1
     (subst (λ guest. next_choice c.loop.view c.loop.met guest ≡ Some c.in-Some-next.op) c.op_at-guest.ensures (sym (rw c.in-Some-next.is at c.next-in-loop.ensures)))
 
 pub loop-init : goal.loop-init
 loop-init g c =
-    let t : Task = task g.K.Plan.lets g.K.Room.opening g.K.Plan.guests g.K.Plan.ticks in (
+    let t : Task = task g.K.Plan.lets g.K.Plan.heard g.K.Room.opening g.K.Plan.guests g.K.Plan.ticks in (
       ap (λ (s : Sitting). s.actor) c.view-view.ensures.seat,
       looked t c.args.seat c.view-view.new.seat (g.P.Guests.rest c.args.work.now.guests.now c.nowhere-place.result) Nothing c.view-view.ensures.seat c.view-view.ensures.later
           (fresh-going t c.args.seat (g.P.Guests.rest c.args.work.now.guests.now c.nowhere-place.result) c.requires.fresh (λ h. c.nowhere-place.ensures)),
@@ -32,7 +32,7 @@ loop-init g c =
 
 pub loop-preserved : goal.loop-preserved
 loop-preserved g c =
-    let t : Task = task g.K.Plan.lets g.K.Room.opening g.K.Plan.guests g.K.Plan.ticks in (
+    let t : Task = task g.K.Plan.lets g.K.Plan.heard g.K.Room.opening g.K.Plan.guests g.K.Plan.ticks in (
       ap (λ (s : Sitting). s.actor) c.rest_for.ensures.seat ∙ c.loop.invariant.0,
       looked t c.loop.seat c.rest_for.new.seat (g.P.Guests.rest c.args.work.now.guests.now c.loop.place) c.loop.met c.rest_for.ensures.seat c.rest_for.ensures.later c.loop.invariant.1,
       c.in-Some-rest_for.ensures.view,
@@ -40,7 +40,7 @@ loop-preserved g c =
 
 pub returns-clause-worked : goal.returns-clause-worked
 returns-clause-worked g c =
-    let t : Task = task g.K.Plan.lets g.K.Room.opening g.K.Plan.guests g.K.Plan.ticks in
+    let t : Task = task g.K.Plan.lets g.K.Plan.heard g.K.Room.opening g.K.Plan.guests g.K.Plan.ticks in
     elim c.match-next.branch [
       | in-None w ↦ absurd (let none = w.in-None.ensures.steps in cc)
       | in-Some+in_default+in_default-rest_for w ↦

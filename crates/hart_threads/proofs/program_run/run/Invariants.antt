@@ -12,6 +12,7 @@ ghosts-run_in-K-Plan g a = record {
   ticks = ticks_of (content a.body.now);
   guests = blocks_of (content a.body.now);
   lets = λ number ordinal answer. g.G.Gate.lets a.gate.now number ordinal answer;
+  heard = λ call. g.G.Gate.heard a.gate.now call;
 }
 
 abbrev pub ghosts-run_in-K-Room : goal.ghosts-run_in-K-Room

@@ -38,7 +38,7 @@ returns-clause-ticks g c =
 
 pub returns-clause-threads : goal.returns-clause-threads
 returns-clause-threads g c =
-    let t : Task = task g.K.Plan.lets g.K.Room.opening g.K.Plan.guests g.K.Plan.ticks in
+    let t : Task = task g.K.Plan.lets g.K.Plan.heard g.K.Room.opening g.K.Plan.guests g.K.Plan.ticks in
     let es : List Event = events_in c.in-Ok.record in
     let same = c.in_ok-seats.ensures.same in
     let all = c.in_ok-all.all.items in
@@ -49,4 +49,4 @@ returns-clause-threads g c =
     let threads = are-threads t es (λ worked. worked.seat) (λ worked. worked.met) all
     (λ a acting. subst (λ (seats : List Sitting). seats_of a seats ≡ 1) same (one a acting)) settled in
     rw c.into_board.ensures rw c.in_ok-seats.ensures.met
-    (subst (λ (past : List Event). AreThreads t.lets t.opening t.guests t.ticks past (met_by_all (map (λ worked. worked.met) all))) (reverse-reverse c.in-Ok.record.past) threads)
+    (subst (λ (past : List Event). AreThreads t.lets t.heard t.opening t.guests t.ticks past (met_by_all (map (λ worked. worked.met) all))) (reverse-reverse c.in-Ok.record.past) threads)

@@ -1,5 +1,5 @@
 use Rattle.std.proofs.Common.{◌≡◌, ◌≢◌, ◌+◌, List, [], ◌∷◌, ◌++◌, length, inr, refl, arith, sym, ap, subst, ◌∙◌}
-use Rattle.std.proofs.lemmas.List.{length-reverse}
+use Rattle.std.proofs.lemmas.List.{length-append, length-reverse}
 use mathlib.Core.List.{IsPrefix}
 use Rattle.ghost_log.specs.declared.tokens.Log.{Log}
 use Rattle.board_terms.specs.declared.op.Actor.{Actor}
@@ -95,6 +95,20 @@ returns-clause-receipt g c =
     c.prefix-3.ensures.2 ∙ ap (λ (l : Log Event). l.list) same ∙ c.push.ensures.1 ∙ ap (λ (e : Event). c.self.inside.log.list ++ e ∷ []) at in
     subst (λ (x : Sitting). IsReceiptOf g.K.Room.opening.places g.K.Room.log (accepted_call x.actor x.count c.place-place.result s.op s.reply) c.prefix-3.result) (c.seat.view_is ∙ c.see.ensures.seat)
     (is-receipt s g.K.Room.opening.places g.K.Room.log c.self.inside.log c.prefix-3.result c.seat.inside.count c.place-place.result d.named counted placed named saw)
+
+pub returns-clause-place : goal.returns-clause-place
+returns-clause-place g c =
+    let d = c.self.invariant in
+    let s : Step = step c.self.inside.board c.step.new.self c.seat.inside.actor c.args.op.now c.in_ok-reply.reply c.in_ok-reply.ensures.answer c.step.ensures.after in
+    let at : c.index-history-index.result ≡ event s =
+    last s c.history-index.result.now c.history.result.now c.index-history-index.result c.history-index.ensures.events c.history.ensures.events c.index-history-index.is in
+    let long : length c.self.inside.log.list ≡ length s.old.past = ap length d.logged ∙ length-reverse s.old.past in
+    let opened : s.old.opening.places ≡ g.K.Room.opening.places = ap (λ (o : Opening). o.places) d.opened in
+    let is : c.place-place.result ≡ s.old.opening.places + length s.old.past = c.place-place.ensures in
+    let longer : c.prefix-2.result.list ≡ c.self.inside.log.list ++ event s ∷ [] =
+    c.prefix-2.ensures.2 ∙ ap (λ (l : Log Event). l.list) c.prefix.ensures.0 ∙ c.push.ensures.1 ∙ ap (λ (e : Event). c.self.inside.log.list ++ e ∷ []) at in
+    let more : length c.prefix-2.result.list ≡ length c.self.inside.log.list + 1 = ap length longer ∙ length-append c.self.inside.log.list (event s ∷ []) in
+    omega arith
 
 pub returns-clause-ops : goal.returns-clause-ops
 returns-clause-ops g c =

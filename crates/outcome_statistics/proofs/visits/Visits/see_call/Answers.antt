@@ -1,7 +1,7 @@
 use Rattle.std.proofs.Common.{ap, inl, inr, refl, sym, ◌∙◌}
 use Rattle.board_core.specs.ErrorLaw.{is_error}
 use Rattle.outcome_statistics.specs.Visits.{is_call}
-use Rattle.outcome_statistics.proofs.Visiting.{no-call, with-answered, with-failed}
+use Rattle.outcome_statistics.proofs.Visiting.{no-call, with-succeeded, with-failed}
 use Rattle.outcome_statistics.proofs.visits.Visits.see_call.Goals as goal
 
 pub returns-in_default : goal.returns-in_default
@@ -16,6 +16,6 @@ returns-then-is_error c = with-failed c.args.guest c.args.event.now c.in-Some.sp
     (ap is_error (sym c.reply.ensures) ∙ sym c.is_error.ensures ∙ c.if-is_error.true) c.in_ok-insert.ensures.updates refl refl
 
 pub returns : goal.returns
-returns c = with-answered c.args.guest c.args.event.now c.in-Some.spot c.args.self.now _ c.in-Some.is
+returns c = with-succeeded c.args.guest c.args.event.now c.in-Some.spot c.args.self.now _ c.in-Some.is
     (ap is_call (sym c.op.ensures) ∙ sym c.is_call.ensures ∙ c.if-not-is_call.false)
     (ap is_error (sym c.reply.ensures) ∙ sym c.is_error.ensures ∙ c.if-is_error.false) c.in_ok-insert-2.ensures.updates refl refl

@@ -19,6 +19,6 @@ returns-in-Ok-join_promised g c =
       board = λ e. absurd (let t = e in cc);
       seats = kept_all _ (λ worked. worked.seat.actor) (λ p. p.0) (λ p r kept. kept.0) _ at.threads.items c.in-Ok-join_promised.all.items (omega arith) (let long = told.len in omega arith) told.each
           ∙ at.invariant.2 ∙ ap (map (λ seat. seat.actor)) all;
-      worked = kept_each _ (λ worked. WorkedAt (task g.K.Plan.lets g.K.Room.opening g.K.Plan.guests g.K.Plan.ticks) worked.seat worked.met) (λ p r kept. kept.1) _
+      worked = kept_each _ (λ worked. WorkedAt (task g.K.Plan.lets g.K.Plan.heard g.K.Room.opening g.K.Plan.guests g.K.Plan.ticks) worked.seat worked.met) (λ p r kept. kept.1) _
           at.threads.items c.in-Ok-join_promised.all.items (omega arith) (let long = told.len in omega arith) told.each;
     }
