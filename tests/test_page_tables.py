@@ -5,6 +5,7 @@ import random
 import subprocess
 
 from board_model import RAM, Board, Fault, allows
+from elf import Names
 from page_tables import found_in, instruction_of, mappings, size_of
 from records import read as read_record
 from stale import LEFT_OUT, MAPPED_ANEW, Stale
@@ -174,6 +175,14 @@ class PageTables(Test):
         for text, wanted in ((BEGIN, []), (BEGIN + "1 sfence - -\n", ["sfence"]), (BEGIN + fence(3), ["call"]), (BEGIN + page(1, 0x80200) + fence(3), []), (BEGIN + page(1, 0) + "1 sfence 0x1000 -\n", []), (BEGIN + svinval(), ["sinval"]), (BEGIN + page(1, 0) + svinval() + svinval(), ["sinval"])):
             found = [line.kind for line in Stale(read_record(text.encode())).needless]
             must(f"{found}, not {wanted}, of {text}", found == wanted)
+
+    def test_page_tables__names_of_functions(self):
+        """By lines of `nm`: the last function that begins at or before an address; data and what lies behind the last symbol have none."""
+        names = Names(b"ffffffff80000000 T start\n80000100 t $x\n80000100 r table\n80000100 t sbi\nU none\n80000180 W weak\n80000200 D data\n80000300 T last\n").function
+        found = [names(at) for at in (0x800000FF, 0x80000100, 0x8000017F, 0x80000180, 0x800001FF, 0x80000200, 0x80000300, 0xFFFFFFFF7FFFFFFF, 0xFFFFFFFF80000000)]
+        must(f"{found}", found == [None, "sbi", "sbi", "weak", "weak", None, "last", "last", None])
+        neither = subprocess.run([os.path.join(ROOT, "tools/to-trace"), "--symbols", write(os.path.join(self.room, "none"), "x"), os.path.join(RECORDS, "kernel.record")], capture_output=True, timeout=60)
+        must(f"{neither}", neither.returncode == 1 and b"neither an ELF file nor lines of nm" in neither.stderr)
 
     def test_page_tables__the_stored_record(self):
         """The kernel of the examples forgets two harts, once: the report names them, the fence, and its function; and by its status."""
