@@ -185,16 +185,17 @@ class PageTables(Test):
         must(f"{neither}", neither.returncode == 1 and b"neither an ELF file nor lines of nm" in neither.stderr)
 
     def test_page_tables__the_stored_record(self):
-        """The kernel of the examples forgets two harts, once: the report names them, the fence, and its function; and by its status."""
+        """The kernel of the examples forgets two harts, once: the report names them, the fence, and its functions by the lines of `nm`; and
+        by its status."""
         path = os.path.join(RECORDS, "kernel-tables.record")
         for text, status in ((read(path), 6), (read(path).replace(" 0x1 0x3 0x0 0x1000 0x1000 ", " 0x1 0xf 0x0 0x1000 0x1000 ", 1), 6), (without_tables(read(path)), 0)):
             made = write(os.path.join(self.room, "kernel-tables.record"), text)
-            found = subprocess.run([os.path.join(ROOT, "tools/to-trace"), "--report", made], stdin=subprocess.DEVNULL, capture_output=True, text=True, timeout=60)
+            found = subprocess.run([os.path.join(ROOT, "tools/to-trace"), "--report", "--symbols", path.replace(".record", ".nm"), made], stdin=subprocess.DEVNULL, capture_output=True, text=True, timeout=60)
             must(f"status {found.returncode}, and it said {found.stderr}", found.returncode == status)
             if text == read(path):
                 must(f"{found.stdout}", found.stdout == read(path.replace(".record", ".report")))
         told = [it for it in read(path.replace(".record", ".report")).splitlines() if LEFT_OUT in it]
-        must(f"{told}", len(told) == 2 and "hart 2 may hold 0x1000" in told[0] and "hart 3 may hold 0x1000" in told[1])
+        must(f"{told}", len(told) == 2 and all(" in sbi from boot_main, " in it for it in told) and "hart 2 may hold 0x1000" in told[0] and "hart 3 may hold 0x1000" in told[1])
 
 
 def without_tables(text):
