@@ -5,6 +5,7 @@ import random
 import subprocess
 
 from board_model import RAM, Board, Fault, allows
+from elf import Names
 from page_tables import found_in, instruction_of, mappings, size_of
 from records import read as read_record
 from stale import LEFT_OUT, MAPPED_ANEW, Stale
@@ -62,6 +63,10 @@ def fence(mask, start=0x1000, size=0x1000, fid=1, asid=0):
     return f"0 call 0x52464e43 {fid} {mask} 0 {start:#x} {size:#x} {asid} 0\n0 ret 0 0\n"
 
 
+def svinval(hart=1, va="0x1000", asid="-", begins=True, ends=True):
+    return f"{hart} winval\n" * begins + f"{hart} sinval {va} {asid}\n" + f"{hart} invalir\n" * ends
+
+
 TICK = "0 call 0x54494d45 0 5 0 0 0 0 0\n0 ret 0 0\n"
 BEGIN = HEAD + TABLES + page(1, 0x80100) + page(2, 0x80101) + satp()
 # What each gives: how many findings of each kind.
@@ -93,12 +98,31 @@ SUPERVISORS = [
     ("a page that is mapped anew behind a fence", BEGIN + page(1, 0) + "0 sfence - -\n" + fence(3) + page(1, 0x80200) + TICK, {}),
     ("a page that is mapped again as it was", BEGIN + page(1, 0) + TICK + page(1, 0x80100) + TICK, {}),
     ("a reset", BEGIN + page(1, 0x80200) + "m reset\n0 entry 0x80200000 0 0\n" + fence(1), {}),
+    ("Svinval", BEGIN + page(1, 0x80200) + svinval() + fence(1), {}),
+    ("Svinval of another page", BEGIN + page(1, 0x80200) + svinval(va="0x2000") + fence(1), {LEFT_OUT: 1}),
+    ("Svinval of everything", BEGIN + page(1, 0x80200) + svinval(va="-") + fence(1), {}),
+    ("Svinval without sfence.w.inval", BEGIN + page(1, 0x80200) + svinval(begins=False) + fence(1), {LEFT_OUT: 1}),
+    ("Svinval without sfence.inval.ir", BEGIN + page(1, 0x80200) + svinval(ends=False) + fence(1), {LEFT_OUT: 1}),
+    ("Svinval without sinval.vma", BEGIN + page(1, 0x80200) + "1 winval\n1 invalir\n" + fence(1), {LEFT_OUT: 1}),
+    ("Svinval, and a change behind sfence.w.inval", BEGIN + "1 winval\n" + page(1, 0x80200) + svinval(begins=False) + fence(1), {LEFT_OUT: 1}),
+    ("Svinval of another hart", BEGIN + page(1, 0x80200) + svinval(0) + fence(1), {LEFT_OUT: 1}),
+    ("Svinval across a reset", BEGIN + "1 winval\n1 sinval - -\nm reset\n0 entry 0x80200000 0 0\n" + HEAD.partition("0 0\n")[2] + satp() + page(1, 0x80200) + "1 invalir\n" + fence(1), {LEFT_OUT: 1}),
+    ("Svinval of an ASID, by its low 16 bits", HEAD + TABLES + page(1, 0x80100) + satp(OTHER) + page(1, 0x80200) + svinval(asid="0x70009") + fence(1), {}),
+    ("a fence of an ASID, by its low 16 bits", HEAD + TABLES + page(1, 0x80100) + satp(OTHER) + page(1, 0x80200) + "1 sfence - 0x70009\n" + fence(1), {}),
+    ("tables that a hart has left, and a remote fence of everything", BEGIN + "1 satp 0\n" + fence(3, 0, 0) + page(1, 0x80200) + fence(1), {}),
+    ("tables that a hart has left, and a remote fence of another hart", BEGIN + "1 satp 0\n" + fence(1, 0, 0) + page(1, 0x80200) + fence(1), {LEFT_OUT: 1}),
+    ("tables that a hart has left, and a remote fence of one page", BEGIN + "1 satp 0\n" + fence(3) + page(1, 0x80200) + fence(1), {LEFT_OUT: 1}),
+    ("tables that a hart leaves while everything is fenced", BEGIN + fence(3, 0, 0).replace("0 ret", "1 satp 0\n0 ret") + page(1, 0x80200) + fence(1), {LEFT_OUT: 1}),
+    ("tables that a hart has left, and a fence of their ASID", HEAD + TABLES + page(1, 0x80100) + satp(OTHER) + "1 satp 0\n1 sfence - 9\n" + page(1, 0x80200) + fence(1), {}),
+    ("tables that a hart has left, and a fence of another ASID", HEAD + TABLES + page(1, 0x80100) + satp(OTHER) + "1 satp 0\n1 sfence - 8\n" + page(1, 0x80200) + fence(1), {LEFT_OUT: 1}),
+    ("tables that change while no hart can have them", BEGIN + satp(0) + page(1, 0x80200) + satp() + page(7, 0x80100) + fence(1), {}),
     ("a firmware that is seen, and fences nobody", BEGIN + page(1, 0x80200) + "0 sfence 0x1000 - firmware=1\n" + fence(3), {LEFT_OUT: 1}),
     ("a firmware that is seen, and fences all", BEGIN + page(1, 0x80200) + fence(3).replace("0 ret", "1 sfence 0x1000 - firmware=1\n0 ret"), {}),
 ]  # fmt: skip
 WORDS = [
-    ("sfence", 0x12000073), ("sfence", 0x12B50073), ("sfence", 0x16B50073), ("fencei", 0x0000100F), ("satp", 0x18051073), ("satp", 0x18052073), ("satp", 0x18005073),
-    ("satp", 0x180F77F3), (None, 0x18002573), (None, 0x18000073), (None, 0x18100073), (None, 0x00000073), (None, 0x10200073), (None, 0x0FF0000F), (None, 0x14051073),
+    ("sfence", 0x12000073), ("sfence", 0x12B50073), ("sinval", 0x16B50073), ("fencei", 0x0000100F), ("satp", 0x18051073), ("satp", 0x18052073), ("satp", 0x18005073),
+    ("satp", 0x180F77F3), ("sinval", 0x16000073), ("winval", 0x18000073), ("invalir", 0x18100073), (None, 0x18002573), (None, 0x18200073), (None, 0x18008073), (None, 0x00000073),
+    (None, 0x10200073), (None, 0x0FF0000F), (None, 0x14051073), (None, 0x26B50073),
 ]  # fmt: skip
 
 
@@ -148,21 +172,30 @@ class PageTables(Test):
 
     def test_page_tables__costs(self):
         """Fences before which nothing had changed are counted, by their kinds."""
-        for text, wanted in ((BEGIN, []), (BEGIN + "1 sfence - -\n", ["sfence"]), (BEGIN + fence(3), ["call"]), (BEGIN + page(1, 0x80200) + fence(3), []), (BEGIN + page(1, 0) + "1 sfence 0x1000 -\n", [])):
+        for text, wanted in ((BEGIN, []), (BEGIN + "1 sfence - -\n", ["sfence"]), (BEGIN + fence(3), ["call"]), (BEGIN + page(1, 0x80200) + fence(3), []), (BEGIN + page(1, 0) + "1 sfence 0x1000 -\n", []), (BEGIN + svinval(), ["sinval"]), (BEGIN + page(1, 0) + svinval() + svinval(), ["sinval"])):
             found = [line.kind for line in Stale(read_record(text.encode())).needless]
             must(f"{found}, not {wanted}, of {text}", found == wanted)
 
+    def test_page_tables__names_of_functions(self):
+        """By lines of `nm`: the last function that begins at or before an address; data and what lies behind the last symbol have none."""
+        names = Names(b"ffffffff80000000 T start\n80000100 t $x\n80000100 r table\n80000100 t sbi\nU none\n80000180 W weak\n80000200 D data\n80000300 T last\n").function
+        found = [names(at) for at in (0x800000FF, 0x80000100, 0x8000017F, 0x80000180, 0x800001FF, 0x80000200, 0x80000300, 0xFFFFFFFF7FFFFFFF, 0xFFFFFFFF80000000)]
+        must(f"{found}", found == [None, "sbi", "sbi", "weak", "weak", None, "last", "last", None])
+        neither = subprocess.run([os.path.join(ROOT, "tools/to-trace"), "--symbols", write(os.path.join(self.room, "none"), "x"), os.path.join(RECORDS, "kernel.record")], capture_output=True, timeout=60)
+        must(f"{neither}", neither.returncode == 1 and b"neither an ELF file nor lines of nm" in neither.stderr)
+
     def test_page_tables__the_stored_record(self):
-        """The kernel of the examples forgets two harts, once: the report names them, the fence, and its function; and by its status."""
+        """The kernel of the examples forgets two harts, once: the report names them, the fence, and its functions by the lines of `nm`; and
+        by its status."""
         path = os.path.join(RECORDS, "kernel-tables.record")
         for text, status in ((read(path), 6), (read(path).replace(" 0x1 0x3 0x0 0x1000 0x1000 ", " 0x1 0xf 0x0 0x1000 0x1000 ", 1), 6), (without_tables(read(path)), 0)):
             made = write(os.path.join(self.room, "kernel-tables.record"), text)
-            found = subprocess.run([os.path.join(ROOT, "tools/to-trace"), "--report", made], stdin=subprocess.DEVNULL, capture_output=True, text=True, timeout=60)
+            found = subprocess.run([os.path.join(ROOT, "tools/to-trace"), "--report", "--symbols", path.replace(".record", ".nm"), made], stdin=subprocess.DEVNULL, capture_output=True, text=True, timeout=60)
             must(f"status {found.returncode}, and it said {found.stderr}", found.returncode == status)
             if text == read(path):
                 must(f"{found.stdout}", found.stdout == read(path.replace(".record", ".report")))
         told = [it for it in read(path.replace(".record", ".report")).splitlines() if LEFT_OUT in it]
-        must(f"{told}", len(told) == 2 and "hart 2 may hold 0x1000" in told[0] and "hart 3 may hold 0x1000" in told[1])
+        must(f"{told}", len(told) == 2 and all(" in sbi from boot_main, " in it for it in told) and "hart 2 may hold 0x1000" in told[0] and "hart 3 may hold 0x1000" in told[1])
 
 
 def without_tables(text):

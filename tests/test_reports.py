@@ -44,6 +44,8 @@ def noted(eid, fid, *numbers, was, now):
     return f"{call(eid, fid, *numbers)[:-1]} {was}\n0 ret 0 0 {now}\n"
 
 
+# A suspend that fails, and what comes meanwhile.
+FAILS = TWO + call(HSM, 3, 0x7FFFFFFF, hart=1) + "..1 ret -2 0\n"
 CHANGED = [("sie", "sie=0x2", "sie=0x0"), ("sie, in an IPI's bit", "sie=0x20", "sie=0x22"), ("sstatus", "sstatus=0", "sstatus=1")]
 
 WRONG = [
@@ -78,6 +80,12 @@ WRONG = [
     ("a stopped hart that isn't available", TWO + answered(HSM, 0, 2, 0x80200100, ret="-6 0"), UNEXPLAINED, 6),
     ("an error of the timer", TWO + answered(TIME, 0, 5, ret="-3 0"), UNEXPLAINED, 6),
     ("another state", TWO + answered(HSM, 2, 1, ret="0 1"), UNEXPLAINED, 6),
+    *((f"a state of {state} while a suspend fails", FAILS.replace("..", answered(HSM, 2, 1, ret=f"0 {state}")), UNEXPLAINED, 7) for state in (1, 2, 3)),
+    ("a state of another hart while a suspend fails", FAILS.replace("..", answered(HSM, 2, 0, ret="0 4")), UNEXPLAINED, 7),
+    ("a start of a hart whose suspend fails, that succeeds", FAILS.replace("..", answered(HSM, 0, 1, 0x80200100)), "breaks", 7),
+    ("a state behind a suspend that failed", FAILS.replace("..", "") + answered(HSM, 2, 1, ret="0 4"), UNEXPLAINED, 8),
+    ("a state before a suspend that fails", TWO + answered(HSM, 2, 1, ret="0 4") + FAILS.replace(TWO, "").replace("..", ""), UNEXPLAINED, 6),
+    ("a start that is invalid behind a suspend that failed", FAILS.replace("..", "") + answered(HSM, 0, 1, 0x80200100, ret="-3 0"), UNEXPLAINED, 8),
     ("a stop that succeeds and returns", TWO + answered(HSM, 1, hart=1), "breaks", 6),
     ("a non-retentive suspend that succeeds and returns", TWO + answered(HSM, 3, 1 << 31, 0x80200100, hart=1), "breaks", 6),
     ("a reserved suspend that succeeds", TWO + answered(HSM, 3, 5, hart=1), "breaks", 6),
@@ -148,6 +156,9 @@ TOLD = [
     ("a start that fails", TWO + answered(HSM, 0, 2, 0x80200100, ret="-1 0"), "open", 6),
     ("a stop that fails", TWO + answered(HSM, 1, hart=1, ret="-1 0"), "open", 6),
     ("a suspend that isn't there", TWO + answered(HSM, 3, 0, hart=1, ret="-2 0"), "open", 6),
+    *((f"a state of {state} while a suspend fails", FAILS.replace("..", answered(HSM, 2, 1, ret=f"0 {state}")), "open", 7) for state in (4, 5, 6)),
+    ("a start of a hart whose suspend fails", FAILS.replace("..", answered(HSM, 0, 1, 0x80200100, ret="-3 0")), "open", 7),
+    ("a state that is asked before a suspend fails, and told behind it", TWO + call(HSM, 2, 1) + answered(HSM, 3, 0x7FFFFFFF, hart=1, ret="-2 0") + "0 ret 0 4\n", "open", 6),
     ("a platform's suspend", TWO + call(HSM, 3, 0x90000000, 0x80200100, 9, hart=1) + "m end off\n", "open", 6),
     ("a warm reboot that isn't there", TWO + answered(SRST, 0, 2, ret="-2 0"), "open", 6),
     ("an extension that isn't offered", BOOT + answered(BASE, 3, TIME) + answered(TIME, 0, 5, ret="-2 0"), "open", 5),

@@ -1,7 +1,7 @@
 """Differences between recorded answers and the board's: what is compared, and each difference's verdict."""
 from bisect import bisect_right
 
-from board_model import ALL, BASE, GONE, HSM, INVALID_ADDRESS, IPI, LOW, RESUME_PENDING, RFENCE, SSI, STARTED, STI, TIME, WAITING, spelled_answer
+from board_model import ALL, BASE, GONE, HSM, INVALID_ADDRESS, INVALID_PARAM, IPI, LOW, RESUME_PENDING, RFENCE, SSI, STARTED, STI, SUSPEND_PENDING, SUSPENDED, TIME, WAITING, spelled_answer
 from liveness import shown as spelled_call
 from records import UNSEEN, is_reset, is_suspend
 from rules import TELLS, TOLD, UNEXPLAINED_VERDICT, by_this_state, certain, rule_of_entry, rule_of_wake, verdict_of
@@ -9,6 +9,7 @@ from standard import FUNCTIONS, LEGACY, UNJUDGED, WITH_VALUE, Verdict, version_o
 from states import Difference
 
 READ_SIE = SSI | STI
+SUSPENDING = (SUSPENDED, SUSPEND_PENDING, RESUME_PENDING)
 SUSP = 0x53555350
 BEYOND = Verdict(UNJUDGED, "an address that isn't in this board's RAM was refused, and what the machine has there isn't recorded", "9.1, 9.4")
 WITHOUT_ANSWER = Verdict(UNJUDGED, "a call returned to an interrupt, and its answer wasn't seen", "3")
@@ -82,7 +83,7 @@ class Differences:
         line = self.lines[call.place]
         verdict = certain(state.board, call.op, line.numbers, answer, shown, self.version, line.numbers[0] in self.offered)
         if verdict is None and not self.origin(state, line, answer):
-            verdict = self.of_woken(state, call.op, shown) or by_this_state(state.board, call.op, answer, shown)
+            verdict = self.of_woken(state, call.op, shown) or self.of_failing(state, call, shown) or by_this_state(state.board, call.op, answer, shown)
         self.found(state, line, self.name(line), answer, self.said(call.place), verdict, self.touched(hart, call.op))
         if call.op[1:3] == (IPI, 0):
             state.missed |= {h: line.number for h in self.named(line.numbers[2:4])}
@@ -191,6 +192,19 @@ class Differences:
             return None
         rule = rule_of_wake(state, op[3])
         return verdict_of(rule) if rule else None
+
+    def of_failing(self, state, call, shown):
+        """A hart that is STARTED here is in a suspend there, which fails later: its state, and what a start of it answers."""
+        (fid, hart), seen = call.op[2:4], shown[1:]
+        is_suspending = fid == 2 and seen[0] == 0 and seen[1] in SUSPENDING or fid == 0 and seen[0] == INVALID_PARAM
+        if call.op[1] != HSM or shown[0] != "ret" or hart >= self.record.harts or state.board.harts[hart].state != STARTED or not is_suspending:
+            return None
+        return verdict_of("failing suspends") if any(self.fails_beside(place, call.place) for place in self.places[hart]) else None
+
+    def fails_beside(self, place, other):
+        """Whether a line is a suspend that fails, and overlaps with this other call."""
+        line, end = self.lines[place], self.lines[other].reply
+        return line.kind == "call" and is_suspend(line.numbers) and line.reply is not None and bool(self.lines[line.reply].numbers[0]) and place < end and other < line.reply
 
     def of_wake(self, state, hart, answer):
         rule = rule_of_wake(state, hart) if answer[0] == "refused" else None

@@ -1,4 +1,5 @@
-"""What the tools read of an ELF file: its segments, and the names of its functions."""
+"""What the tools read of an ELF file: its segments, and the names of its functions; these also from the lines of `nm`."""
+import re
 import struct
 from bisect import bisect_right
 
@@ -32,7 +33,8 @@ class Elf:
             texts = heads[link][4]
             for place in range(offset, offset + length, 24):
                 name, info, _, _, value, _ = struct.unpack_from("<IBBHQQ", self.data, place)
-                if info & 15 in (0, FUNCTION) and value and self.data[texts + name]:
+                # (names that begin with `$` mark what code is, and name no function)
+                if info & 15 in (0, FUNCTION) and value and self.data[texts + name] not in (0, ord("$")):
                     end = self.data.index(b"\0", texts + name)
                     yield value, self.data[texts + name : end].decode(errors="replace")
 
@@ -44,3 +46,26 @@ class Elf:
             if at and inside:
                 return self.names[at - 1][1]
         return None
+
+
+class Names:
+    """The names of functions in lines `ADDRESS TYPE NAME`, as `nm` prints them, and as Linux's System.map has them."""
+
+    def __init__(self, data):
+        found = re.findall(rb"^([0-9a-fA-F]{1,16}) ([A-Za-z]) ([^$\s]\S*)$", data, re.M)
+        # (at one address a function's name is the last, behind those of data)
+        self.names = sorted((int(address, 16), kind.lower() in b"tw", name.decode(errors="replace")) for address, kind, name in found)
+
+    def function(self, address):
+        at = bisect_right(self.names, (address, True, "\U0010ffff"))
+        # (behind the last symbol nothing tells where it ends)
+        return self.names[at - 1][2] if 0 < at < len(self.names) and self.names[at - 1][1] else None
+
+
+def functions_of(path):
+    """Gives the function of an address, by an ELF file or by lines of `nm`; None where the file is neither."""
+    elf = Elf(path)
+    if elf.is_elf:
+        return elf.function
+    names = Names(elf.data)
+    return names.function if names.names else None

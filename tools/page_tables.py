@@ -61,6 +61,24 @@ def tables(satp, table_at):
             waiting += [(address_of(pte), level - 1, va + at * size_of(level), above | pte & G) for at, pte in enumerate(entries) if is_pointer(pte)]
 
 
+def reached(satps, table_at):
+    """The tables of several satps, by their addresses: the level and the entries of each. A table that is reached twice is
+    read once."""
+    found = {}
+    waiting = [(root_of(satp), levels_of(satp) - 1) for satp in satps if levels_of(satp)]
+    done = set(waiting)
+    while waiting:
+        address, level = waiting.pop()
+        entries = found[address][1] if address in found else table_at(address)
+        if entries is None:
+            continue
+        found[address] = max(level, found.get(address, (0,))[0]), entries
+        below = {(address_of(pte), level - 1) for pte in entries if is_pointer(pte)} - done if level else set()
+        done |= below
+        waiting += below
+    return found
+
+
 class Mapping:
     """What a leaf maps; its entry has G also where one above it has."""
 
@@ -97,8 +115,11 @@ def takes_away(before, after):
 # (what it is, mask, value)
 INSTRUCTIONS = [
     ("sfence", 0xFE007FFF, 0x12000073),  # sfence.vma
-    ("sfence", 0xFE007FFF, 0x16000073),  # sinval.vma
     ("fencei", 0xFFFFFFFF, 0x0000100F),
+    # Svinval (Privileged Architecture 20211203, 7)
+    ("sinval", 0xFE007FFF, 0x16000073),  # sinval.vma
+    ("winval", 0xFFFFFFFF, 0x18000073),  # sfence.w.inval
+    ("invalir", 0xFFFFFFFF, 0x18100073),  # sfence.inval.ir
 ]
 
 
@@ -110,7 +131,7 @@ def is_satp_write(word):
 
 
 def instruction_of(word):
-    """`sfence`, `fencei` or `satp`, or None."""
+    """The kind of its line in a record, or None."""
     if is_satp_write(word):
         return "satp"
     return next((name for name, mask, value in INSTRUCTIONS if word & mask == value), None)

@@ -64,6 +64,8 @@ class Recorder:
         self.open, self.late = {}, []
         self.awaited = {hart: {} for hart in range(HARTS)}
         self.is_resetting = False
+        if self.tables:
+            self.tables.fresh(HARTS)
 
     def stop_at(self, address):
         if address not in self.stops_at:
@@ -83,9 +85,10 @@ class Recorder:
     def stopped(self):
         hart, pc = gdb.selected_thread().num - 1, register("pc")
         if self.tables:
-            self.tables.look(hart, register)
+            self.tables.look(hart, register("satp"))
             if pc in self.tables.stops:
                 self.tables.instruction(hart, pc, register)
+            self.stop_at_fences()
         if pc in self.vectors:
             if register("mcause") == FROM_S_MODE:
                 self.called(hart)
@@ -160,7 +163,9 @@ class Recorder:
                 self.put("m reset")
             self.has_begun = True
             self.fresh()
-            self.look_for_fences()
+            if self.tables:
+                self.tables.look_for_the_firmware()
+                self.stop_at_fences()
         self.awaited[hart] = {}
         self.open.pop(hart, None)
         vector = register("mtvec") & ~3
@@ -168,12 +173,10 @@ class Recorder:
         self.stop_at(vector)
         self.write(hart, "entry", f"{pc:#x}", f"{register('a0'):#x}", f"{register('a1'):#x}")
 
-    def look_for_fences(self):
-        """Where the supervisor and the firmware fence: both are in memory now."""
-        if self.tables:
-            self.tables.look_for_the_firmware()
-            for address in self.tables.stops:
-                self.stop_at(address)
+    def stop_at_fences(self):
+        """Where the supervisor and the firmware fence, once both are in memory."""
+        for address in self.tables.stops.keys() - self.stops_at if self.has_begun else ():
+            self.stop_at(address)
 
 
 def watch(recorder):

@@ -2,9 +2,9 @@
 from board_model import ALL, HSM, IPI, RFENCE, SRST
 
 NOTES = ("time", "sie", "sip", "sstatus", "pc", "ra", "firmware")
-COUNTS = {"call": 8, "ret": 2, "entry": 3, "satp": 1, "sfence": 2, "fencei": 0}
+COUNTS = {"call": 8, "ret": 2, "entry": 3, "satp": 1, "sfence": 2, "fencei": 0, "sinval": 2, "winval": 0, "invalir": 0}
 # Lines of page tables, which a trace has nothing of.
-OF_TABLES = ("satp", "sfence", "fencei", "store")
+OF_TABLES = ("satp", "sfence", "fencei", "sinval", "winval", "invalir", "store")
 ENDS = ("limit", "off", "closed")
 # How records without a line `m end` say it.
 ENDED = {"# ended: the limit of ": "limit", "# ended: the machine was switched off": "off"}
@@ -86,7 +86,7 @@ def line_of(words, at):
         raise Broken(at, f"'{kind}' has {COUNTS[kind]} numbers, and here are {len(plain)}{cut}")
     if kind == "ret" and plain == ["-", "-"]:
         numbers = UNSEEN
-    elif kind == "sfence":
+    elif kind in ("sfence", "sinval"):
         numbers = tuple(None if word == "-" else number_of(word, at) for word in plain)
     else:
         numbers = tuple(number_of(word, at, kind == "ret" and i == 0) for i, word in enumerate(plain))

@@ -55,6 +55,7 @@ RULES = {
         0, FAILED, NOT_SUPPORTED, INVALID_PARAM, "gone",
     ),  # fmt: skip
     "suspends": Rule("both default suspends are implemented", HARTS, OPEN, "9.4", NOT_SUPPORTED),
+    "failing suspends": Rule("a suspend that fails leaves its hart STARTED all the time", HARTS, OPEN, "9.4", "value", INVALID_PARAM),
     "resume addresses": Rule("the resume address is looked at for type 0x80000000 alone", HARTS, OPEN, "9.4", INVALID_ADDRESS),
     "resumes keep": Rule("a non-retentive resume keeps sie, SSIP and the deadline", HARTS, OPEN, "9.4", "any"),
     "wake": Rule("SSIP with SSIE, or STIP with STIE, wakes a suspended hart", HARTS, OPEN, "9.4", 0),

@@ -39,12 +39,15 @@ class Stale:
 
     def __init__(self, record, names=lambda address: None):
         self.record, self.names = record, names
-        self.entries, self.satp, self.used = {}, {}, {h: set() for h in range(record.harts)}
+        # Of each hart the satps by which it may hold something: the line at which it left each, or None while it uses it.
+        self.entries, self.satp, self.used = {}, {}, {h: {} for h in range(record.harts)}
         # Of each hart what it may still hold, and of each satp what it maps.
         self.held, self.maps = {h: [] for h in range(record.harts)}, {}
         self.findings, self.needless, self.changes = [], [], 0
         # Of each hart whether anything has changed since its last fence: its satp, or an entry of tables that it used.
         self.has_news = dict.fromkeys(range(record.harts), False)
+        # Svinval: of each hart the line of its last sfence.w.inval, and what its sinval.vmas invalidate at the next sfence.inval.ir.
+        self.ordered, self.invalid = {}, {h: [] for h in range(record.harts)}
         self.calls = {record.lines[call.reply].number: call for call in record.lines if call.reply is not None}
         # If the firmware's own fences are recorded, they count instead of its answers.
         self.is_trusted = not any("firmware" in line.notes for line in record.tables)
@@ -107,8 +110,8 @@ class Stale:
     def do_reset(self, line):
         """No hart holds anything of before."""
         for hart in range(self.record.harts):
-            self.held[hart], self.used[hart], self.satp[hart] = [], set(), 0
-        self.maps = {}
+            self.held[hart], self.used[hart], self.satp[hart], self.invalid[hart] = [], {}, 0, []
+        self.maps, self.ordered = {}, {}
 
     def do_call(self, line):
         if is_reset(line.numbers) and line.reply is None:
@@ -117,23 +120,47 @@ class Stale:
             self.needless.append(line)
 
     def do_satp(self, line):
-        self.satp[line.hart] = satp = line.numbers[0]
+        used, before, satp = self.used[line.hart], self.satp.get(line.hart), line.numbers[0]
+        self.satp[line.hart] = satp
         self.has_news[line.hart] = True
+        if before in used and before != satp:
+            used[before] = line.number
         if levels_of(satp):
-            self.used[line.hart].add(satp)
-            self.maps.setdefault(satp, mappings(satp, self.table_at))
+            if not any(satp in others for others in self.used.values()):
+                # (nobody has looked at these tables meanwhile)
+                self.maps[satp] = mappings(satp, self.table_at)
+            used[satp] = None
 
     def do_sfence(self, line):
+        self.fenced(line.hart, *self.asked(line), line.number, line.number)
+
+    def asked(self, line):
+        """What a fence of one address, or of all, covers."""
         va, asid = line.numbers
         if not self.has_news[line.hart] and "firmware" not in line.notes:
             self.needless.append(line)
-        self.fenced(line.hart, None if va is None else (va, va + 1), asid, line.number, line.number)
-        if va is None:
-            self.used[line.hart] = {it for it in self.used[line.hart] if it == self.satp.get(line.hart) or asid is not None and asid_of(it) != asid}
+        return None if va is None else (va, va + 1), None if asid is None else asid & 0xFFFF
+
+    def do_winval(self, line):
+        self.ordered[line.hart] = line.number
+
+    def do_sinval(self, line):
+        """It covers what was changed before the hart's last sfence.w.inval; without one nothing that is certain."""
+        covered = self.asked(line)
+        if line.hart in self.ordered:
+            self.invalid[line.hart].append((*covered, self.ordered[line.hart]))
+
+    def do_invalir(self, line):
+        for span, asid, since in self.invalid[line.hart]:
+            self.fenced(line.hart, span, asid, since, line.number)
+        self.invalid[line.hart] = []
 
     def fenced(self, hart, span, asid, since, at):
-        """Drops what is covered and was taken away before a line."""
+        """Drops what is covered and was taken away before a line; and, if all addresses are, the tables that the hart left before it."""
         self.has_news[hart] = False
+        if span is None:
+            used = self.used[hart].items()
+            self.used[hart] = {satp: left for satp, left in used if left is None or left > since or asid not in (None, asid_of(satp))}
         dropped = [change for change in self.held[hart] if change.end <= since and change.is_covered(span, asid)]
         self.held[hart] = [change for change in self.held[hart] if change not in dropped]
         for finding in self.findings:

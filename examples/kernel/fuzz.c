@@ -22,6 +22,7 @@ struct line {
     u64 time, kind, numbers[8], sie, sip, sstatus;
 };
 static struct line lines[HARTS][LINES] __attribute__((section(".stacks")));
+static u64 turns[HARTS] __attribute__((section(".stacks")));
 static u64 boot;
 static volatile u64 count[HARTS];
 static u64 next[HARTS], lost_registers[HARTS];
@@ -126,8 +127,9 @@ static struct dice dice_of(u64 hart, u64 at) { return (struct dice){ mixed(mixed
 #define ONE_OF(dice, list) (list)[below(dice, sizeof(list) / sizeof *(list))]
 
 /* Where one processor plays all harts, the others have their turn: a WFI with an interrupt pending goes on at once. */
-static void yield(void)
+static void yield(u64 hart)
 {
+    turns[hart]++;
     u64 sie = READ(sie), ssip = READ(sip) & SSIE;
     SET(sip, SSIE);
     SET(sie, SSIE);
@@ -137,13 +139,25 @@ static void yield(void)
     WRITE(sie, sie);
 }
 
-static void pause_for(u64 ticks)
+static void pause_for(u64 hart, u64 ticks)
 {
     for (u64 until = READ(time) + ticks; READ(time) < until;)
-        yield();
+        yield(hart);
 }
 
-static int is_over(u64 since, u64 ticks) { return READ(time) - since > ticks; }
+/* Since when a hart waits: a limit counts only if the hart has also looked often enough. Where a busy machine gives its harts
+   little time, what they wait for comes late, but isn't lost. */
+enum { LOOKS = 100000 };
+struct since {
+    u64 time, turns;
+};
+
+static struct since since_now(u64 hart) { return (struct since){ READ(time), turns[hart] }; }
+
+static int is_over(u64 hart, struct since since, u64 ticks)
+{
+    return READ(time) - since.time > ticks && ++turns[hart] - since.turns > LOOKS;
+}
 
 /* ---- random calls */
 
@@ -300,7 +314,7 @@ static void operation(u64 hart, u64 at)
     else if (kind == 16)
         CLEAR(sip, SSIE);
     else
-        pause_for(below(&dice, 3000));
+        pause_for(hart, below(&dice, 3000));
 }
 
 /* ---- what no answer shows */
@@ -309,13 +323,14 @@ static void operation(u64 hart, u64 at)
    which would clear it. */
 static void meet(u64 hart, int yields)
 {
-    u64 step = steps[hart] + 1, since = READ(time);
+    u64 step = steps[hart] + 1;
+    struct since since = since_now(hart);
     reach(hart, step);
     for (u64 other = 0; other < asked.harts; other++)
         while (steps[other] < step && !has_failed) {
             if (yields)
-                yield();
-            if (is_over(since, asked.limit))
+                yield(hart);
+            if (is_over(hart, since, asked.limit) && steps[other] < step)
                 has_failed = 1;
         }
     __asm__ volatile("fence rw, rw" : : : "memory");
@@ -341,14 +356,15 @@ static u64 list_of_check(struct dice *dice, u64 list[2])
 
 static void check_ipi(u64 hart, u64 leader, struct dice *dice)
 {
-    u64 list[2], mask = list_of_check(dice, list), wanted = mask >> hart & 1, since;
+    u64 list[2], mask = list_of_check(dice, list), wanted = mask >> hart & 1;
+    struct since since;
     CLEAR(sip, SSIE);
     meet(hart, 0);
     if (hart == leader)
         last_error = made(hart, IPI, 0, list[0], list[1], 0, 0, 0).error;
     meet(hart, 0);
-    since = READ(time);
-    while (wanted && !(READ(sip) & SSIE) && !is_over(since, asked.limit / 2))
+    since = since_now(hart);
+    while (wanted && !(READ(sip) & SSIE) && !is_over(hart, since, asked.limit / 2))
         ;
     if (!last_error)
         tell(hart, IPIS, wanted, READ(sip) >> 1 & 1);
@@ -359,7 +375,8 @@ static void check_ipi(u64 hart, u64 leader, struct dice *dice)
 static void check_fence(u64 hart, u64 leader, struct dice *dice)
 {
     static const u64 ranges[][2] = { { PAGE, PAGE }, { 0, 0 }, { 0, -1UL }, { PAGE, -1UL }, { 0, 0x40000000 }, { PAGE + 8, 8 }, { 0, 3 * PAGE } };
-    u64 list[2], mask = list_of_check(dice, list), at = below(dice, sizeof ranges / sizeof *ranges), fid = 1 + below(dice, 2), seen, since;
+    u64 list[2], mask = list_of_check(dice, list), at = below(dice, sizeof ranges / sizeof *ranges), fid = 1 + below(dice, 2), seen;
+    struct since since;
     if (hart == leader)
         leaves[1] = (u64)page_a >> 12 << 10 | 0xc7;
     meet(hart, 1);
@@ -373,10 +390,10 @@ static void check_fence(u64 hart, u64 leader, struct dice *dice)
         last_error = made(hart, RFENCE, fid, list[0], list[1], ranges[at][0], ranges[at][1], READ(satp) >> 44 & 0xffff).error;
     }
     meet(hart, 1);
-    since = READ(time);
+    since = since_now(hart);
     do
         seen = *(volatile u64 *)PAGE;
-    while (mask >> hart & 1 && seen != 0x22 && !is_over(since, asked.limit / 2));
+    while (mask >> hart & 1 && seen != 0x22 && !is_over(hart, since, asked.limit / 2));
     if (mask >> hart & 1 && !last_error)
         tell(hart, FENCES, 0x22, seen);
     WRITE(satp, 0);
@@ -389,7 +406,8 @@ static void check_timer(u64 hart, struct dice *dice)
     u64 due = READ(time) + 2000 + below(dice, 20000), is_early = 0, has_come = 0;
     if (made(hart, TIME, 0, due, 0, 0, 0, 0).error)
         return;
-    while (!has_come && !(READ(time) > due && is_over(due, asked.limit / 2))) {
+    struct since since = since_now(hart);
+    while (!has_come && !(READ(time) > due && is_over(hart, since, asked.limit / 2))) {
         u64 sip = READ(sip);
         has_come = sip >> 5 & 1;
         is_early |= has_come && READ(time) < due;
@@ -401,7 +419,7 @@ static void check_timer(u64 hart, struct dice *dice)
 
 static void check_all(u64 hart)
 {
-    pause_for(20000);
+    pause_for(hart, 20000);
     for (u64 round = 0; round < asked.checks && !has_failed; round++) {
         struct dice dice = dice_of(HARTS, round);
         u64 leader = below(&dice, asked.harts);
@@ -522,13 +540,14 @@ static void leave(u64 hart)
 /* The first hart that is through starts and wakes the others, until all are, or for some time none of them does anything. */
 static void ward(u64 hart)
 {
-    u64 since = READ(time), wait = 10000, missing, before = 0, lines_now;
+    u64 wait = 10000, missing, before = 0, lines_now;
+    struct since since = since_now(hart);
     do {
         missing = lines_now = 0;
-        pause_for(wait);
+        pause_for(hart, wait);
         for (u64 other = 0; other < asked.harts; other++)
             lines_now += other == hart ? 0 : count[other] + steps[other];
-        since = lines_now == before ? since : READ(time);
+        since = lines_now == before ? since : since_now(hart);
         before = lines_now;
         for (u64 other = 0; other < asked.harts; other++) {
             if (steps[other] || !has_room(hart))
@@ -541,7 +560,7 @@ static void ward(u64 hart)
                 made(hart, IPI, 0, 1, other, 0, 0, 0);
         }
         wait += wait < asked.limit / 8 ? wait / 4 : 0;
-    } while (missing && !is_over(since, asked.limit));
+    } while (missing && !is_over(hart, since, asked.limit));
     has_failed |= missing;
 }
 
@@ -552,7 +571,7 @@ static void live(u64 hart)
         if (asked.kept[hart][at / 64] >> at % 64 & 1)
             operation(hart, at);
         if (mixed(asked.seed ^ hart << 8 ^ at) & 1)
-            yield();
+            yield(hart);
     }
     WRITE(sie, 0);
     reach(hart, 1);
@@ -562,7 +581,7 @@ static void live(u64 hart)
         phase = has_failed ? OVER : CHECKS;
     }
     while (phase == RUNS)
-        yield();
+        yield(hart);
     if (phase == CHECKS)
         check_all(hart);
     if (is_warden)
