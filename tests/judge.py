@@ -112,22 +112,34 @@ def lacking(asked, steps):
 
 # The most that a number can be behind the name of an operation or a reply; others hold each number from 0 on.
 MOST = {"sstatus": 1, "moved": 6, "fault": 15}
+# The replies of each operation that is accepted, where it isn't done.
+REPLIES = {"ecall": ("ret", "waiting", "gone"), "load": ("value", "fault"), "store": ("done", "fault"), "fetch": ("value", "fault"), "sip": ("value",), "poll": ("ret",), "serve": ("served",), "advance": ("entry", "moved", "ret")}
 
 
 def misfit(asked, harts):
     """Which word of a condition no step of a board with so many harts has, in the words of the documents; None: each can be there."""
-    for step, reply in asked.patterns:
-        if isinstance(step[0], int) and step[0] >= harts:
-            return f"the board has no hart {step[0]}"
-        for name, places in ((step[1:2], step[2:]), (reply[:1], reply[1:])):
-            for place, word in enumerate(places):
-                if name[0] is None or word is None:
-                    continue
-                if name[0] == "entry" and place == 1 and isinstance(word, int) and word >= harts:
-                    return f"the board has no hart {word}"
-                if not can_be(name[0], place, word):
-                    return f"no {name[0]} has {word}"
-    return None
+    return next((why for step, reply in asked.patterns for why in misfits(step, reply, harts)), None)
+
+
+def misfits(step, reply, harts):
+    """Why no step is a pattern's: first by its actor and its operation, then by what that can be answered."""
+    if isinstance(step[0], int) and step[0] >= harts:
+        yield f"the board has no hart {step[0]}"
+    op, said = (*step[1:2], None)[0], (*reply[:1], None)[0]
+    yield from wrong_words(op, step[2:], harts)
+    if op is not None and said is not None and said not in REPLIES.get(op, ("done",)):
+        yield f"no {op} has the reply {said}"
+    yield from wrong_words(said, reply[1:], harts)
+
+
+def wrong_words(name, words, harts):
+    for place, word in enumerate(words):
+        if name is None or word is None:
+            continue
+        if name == "entry" and place == 1 and isinstance(word, int) and word >= harts:
+            yield f"the board has no hart {word}"
+        elif not can_be(name, place, word):
+            yield f"no {name} has {word}"
 
 
 def can_be(name, place, word):

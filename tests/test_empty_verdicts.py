@@ -52,9 +52,13 @@ MISFITS = (
     ("never 1 store 0x80002000 -", "no store has -"), ("never 1 load -5", "no load has -5"), ("never 1 advance -> moved 7", "no moved has 7"), ("never 1 load -> fault 16", "no fault has 16"),
     ("never 1 load -> value -1", "no value has -1"), ("never 1 advance -> entry _ 2", "the board has no hart 2"), ("each 0 ecall -> ret 0xffffffffffffffff", "no ret has 18446744073709551615"),
     ("never 0 ecall -> ret 0 -1", "no ret has -1"), ("maybe never 9 load", "the board has no hart 9"), ("never 1 load -> value -", "no value has -"),
+    ("never _ load 0x1000 -> done", "no load has the reply done"), ("never 1 sip -> done", "no sip has the reply done"), ("each 0 store -> value 1", "no store has the reply value"),
+    ("never 0 sstatus 1 -> ret 0", "no sstatus has the reply ret"), ("some 0 ecall -> entry", "no ecall has the reply entry"), ("never 0 poll -> waiting", "no poll has the reply waiting"),
+    ("never 1 load after 0 serve -> done", "no serve has the reply done"), ("before 0 advance -> served, 1 load", "no advance has the reply served"), ("never c tick -> moved", "no tick has the reply moved"),
+    ("never 1 sfence - - -> fault 13", "no sfence has the reply fault"),
 )  # fmt: skip
 # And some of which each word can be there.
-FITTING = ("never 0 sstatus 1 -> ret 0", "never 1 sfence - -", "never 1 load -> fault 15", "never 1 advance -> moved 6", "never 0 ecall -> ret -9223372036854775808", "never 0 advance -> entry _ 1", "never 0 poll -> ret 9223372036854775807")
+FITTING = ("never 0 sstatus 1 -> done", "never 1 sfence - -", "never 1 load -> fault 15", "never 0 store -> fault 5", "never _ _ -> fault 15", "never 1 advance -> moved 6", "never 0 ecall -> ret -9223372036854775808", "never 0 advance -> entry _ 1", "never 0 poll -> ret 9223372036854775807")
 
 # No order of it ends: hart 0 begins anew again and again. And one of which some order ends, and one that ends off.
 ENDLESS = "board 1 1 50 0 0x80000000 0\nat 0x80000000\necall 0x53525354 0 2 0\n"

@@ -122,6 +122,9 @@ FAULTS = (
     ("#!/usr/bin/env sbiboard", 3, "unknown condition"), ("#! NEVER 1 load", 4, "unknown condition"), ("#! end quiet, off", 8, "unknown word"),
     ("#! can", 7, "too few or too many words"), ("#! can quiet", 8, "unknown word"), ("#! can end soon", 12, "unknown word"), ("#! can end quiet history-full", 18, "unknown word"), ("#! can end soon history-full", 12, "unknown word"), ("#! can end history-full soon", 12, "unknown word"),
     ("#! can maybe end", 8, "unknown word"), ("#! maybe can", 13, "too few or too many words"), ("#! cann end", 4, "unknown condition"),
+    ("#! never -> done", 10, "too few or too many words"), ("#! never after 0 sip", 10, "too few or too many words"), ("#! never 1 load -> value 1 -> value 2", 28, "too few or too many words"),
+    ("#! before , 1 load", 11, "too few or too many words"), ("#! before 0 ->, 1", 13, "too few or too many words"), ("#! before 0 sip ,, 1", 17, "not a number"), ("#! before 0 store 1 2, 3, 4", 24, "unknown word"),
+    ("#! some 1 load after 2", 16, "not a number"), ("#! each 1 load ->", 18, "too few or too many words"), ("#! end quiet end", 14, "unknown word"), ("\t #!   maybe   can end   quiet   soon#of", 34, "unknown word"),
 )  # fmt: skip
 
 # What can't be tested: a file's text, and what is said of it: the place, what is wrong, and the word.

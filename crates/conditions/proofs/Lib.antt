@@ -7,3 +7,4 @@ pub mod OneReading
 pub mod Asked
 pub mod LinesRead
 pub mod Unheld
+pub mod GoingOn

@@ -1,5 +1,6 @@
 -- Bytes have one list of conditions at most.
-use Rattle.std.proofs.Common.{◌≡◌, ℕ, ◌+◌, Bool, true, false, List, [], ◌∷◌, Option, Some, None, codes, refl, sym, ap, ◌∙◌, subst, inl, inr}
+use Rattle.std.proofs.Common.{◌≡◌, ℕ, zero, suc, ◌+◌, ◌<◌, ◌≤◌, Bool, true, false, List, [], ◌∷◌, ◌++◌, take, Option, Some, None, codes, refl, sym, ap, ◌∙◌, subst, inl, inr, append_assoc, arith}
+use Rattle.std.proofs.lemmas.Bool.{cases_order}
 use Rattle.std.specs.List.{AllZip}
 use Rattle.std.specs.Str.{bytes_eq}
 use Rattle.std.specs.Str.Lines.{lines}
@@ -11,7 +12,7 @@ use Rattle.conditions.specs.declared.keywords.Keyword.{Keyword}
 use Rattle.conditions.specs.declared.keywords.Keyword.TheVariants as keywords
 use Rattle.conditions.specs.Grammar.{AreEndings, ArePatterns, RuleValue, IsRuleOf, AsksActor, AsksName, AsksNumber, HasCondition, HaveConditions, IsAsked, IsAsking, IsNameAndNumbers, IsNameOf, IsPattern, IsRule, IsStepPattern, IsOperation, ConditionValue, Wanted, ending_named, ending_word, keyword_named, keyword_word, number_item, with_commas}
 use Rattle.conditions.specs.declared.rules.Ending.{Ending}
-use Rattle.conditions.specs.FirstFault.{HasOneReading, IsFirstUnreadable, IsReadable, IsUnreadable}
+use Rattle.conditions.specs.FirstFault.{HasOneReading, IsBeginning, IsCondition, IsFaultColumn, IsFirstUnreadable, IsLongestBeginning, IsReadable, IsUnreadable, column_behind}
 use Rattle.conditions.proofs.Named.{any_is_no_hart, any_is_no_number, any_is_no_op, any_is_no_said, clock_is_no_hart, dash_is_no_number, ending_own, keyword_own, maybe_is_no_keyword, none_named, one_named, op_own, said_own}
 
 -- a word with a value isn't one without
@@ -168,11 +169,11 @@ condition_one n text c d a b =
     let rule = rule_one (words_in a.rest) c.is_maybe d.is_maybe c.asked d.asked a.is_rule (subst (λ (r : List ℕ). IsRule (words_in r) d.is_maybe d.asked) same b.is_rule) in
     told_same c d (a.is_line ∙ sym b.is_line) rule.0 rule.1
 
-not_readable : (n : ℕ) (text : List ℕ) → IsReadable n text → IsUnreadable n text → ⊥
-not_readable n text (inl silent) un = silent un.rest un.is_asking
-not_readable n text (inr (c, has)) un =
+not_readable : (n : ℕ) (text : List ℕ) (column : ℕ) → IsReadable n text → IsUnreadable n text column → ⊥
+not_readable n text column (inl silent) un = silent un.rest un.is_asking
+not_readable n text column (inr (c, has)) un =
     let same = asking_one n text has.rest un.rest has.is_asking un.is_asking in
-    un.no_rule c.is_maybe c.asked (subst (λ (r : List ℕ). IsRule (words_in r) c.is_maybe c.asked) same has.is_rule)
+    un.no_condition (c.is_maybe, c.asked, subst (λ (r : List ℕ). IsRule (words_in r) c.is_maybe c.asked) same has.is_rule)
 
 conditions_one : (n : ℕ) (texts : List (List ℕ)) (s t : List ConditionValue) → HaveConditions n texts s → HaveConditions n texts t → s ≡ t
 conditions_one n [] s t a b = a ∙ sym b
@@ -182,23 +183,58 @@ conditions_one n (text ∷ texts) s t (inr a) (inl b) = absurd (b.0 a.2.rest a.2
 conditions_one n (text ∷ texts) s t (inr a) (inr b) =
     rw (a.4, b.4, condition_one n text a.0 b.0 a.2 b.2, conditions_one (n + 1) texts a.1 b.1 a.3 b.3) refl
 
-not_both : (n : ℕ) (texts : List (List ℕ)) (s : List ConditionValue) (line : ℕ) → HaveConditions n texts s → IsFirstUnreadable n texts line → ⊥
-not_both n [] s line a wrong = wrong
-not_both n (text ∷ texts) s line (inl a) (inl wrong) = not_both (n + 1) texts s line a.1 wrong.1
-not_both n (text ∷ texts) s line (inl a) (inr wrong) = not_readable n text (inl a.0) wrong.1
-not_both n (text ∷ texts) s line (inr a) (inl wrong) = not_both (n + 1) texts a.1 line a.3 wrong.1
-not_both n (text ∷ texts) s line (inr a) (inr wrong) = not_readable n text (inr (a.0, a.2)) wrong.1
+not_both : (n : ℕ) (texts : List (List ℕ)) (s : List ConditionValue) (line column : ℕ) → HaveConditions n texts s → IsFirstUnreadable n texts line column → ⊥
+not_both n [] s line column a wrong = wrong
+not_both n (text ∷ texts) s line column (inl a) (inl wrong) = not_both (n + 1) texts s line column a.1 wrong.1
+not_both n (text ∷ texts) s line column (inl a) (inr wrong) = not_readable n text column (inl a.0) wrong.1
+not_both n (text ∷ texts) s line column (inr a) (inl wrong) = not_both (n + 1) texts a.1 line column a.3 wrong.1
+not_both n (text ∷ texts) s line column (inr a) (inr wrong) = not_readable n text column (inr (a.0, a.2)) wrong.1
 
-one_line : (n : ℕ) (texts : List (List ℕ)) (j k : ℕ) → IsFirstUnreadable n texts j → IsFirstUnreadable n texts k → j ≡ k
-one_line n [] j k a b = absurd a
-one_line n (text ∷ texts) j k (inl a) (inl b) = one_line (n + 1) texts j k a.1 b.1
-one_line n (text ∷ texts) j k (inl a) (inr b) = absurd (not_readable n text a.0 b.1)
-one_line n (text ∷ texts) j k (inr a) (inl b) = absurd (not_readable n text b.0 a.1)
-one_line n (text ∷ texts) j k (inr a) (inr b) = a.0 ∙ sym b.0
+-- words up to a place, and then those up to a later one
+front_of : (words : List (List ℕ)) (few many : ℕ) → few ≤ many → (rest : List (List ℕ)) × (take few words ++ rest ≡ take many words)
+front_of words zero many le = (take many words, refl)
+front_of words (suc few) zero le = absurd (omega (arith, le))
+front_of [] (suc few) (suc many) le = ([], refl)
+front_of (word ∷ words) (suc few) (suc many) le =
+    let front = front_of words few many (omega (arith, le)) in
+    (front.0, ap (λ ws. word ∷ ws) front.1)
+
+-- a condition begins with fewer words, too
+pub fewer_begin : (words : List (List ℕ)) (few many : ℕ) → few ≤ many → IsBeginning (take many words) → IsBeginning (take few words)
+fewer_begin words few many le is =
+    let front = front_of words few many le in
+    (front.0 ++ is.0, subst IsCondition (ap (λ ws. ws ++ is.0) (sym front.1) ∙ append_assoc (take few words) front.0 is.0) is.1)
+
+no_longer : (words : List (List ℕ)) (i j : ℕ) → IsLongestBeginning words i → IsLongestBeginning words j → i < j → ⊥
+no_longer words i j a b less = a.stops (omega (arith, less, b.within)) (fewer_begin words (i + 1) j (omega (arith, less)) b.goes_on)
+
+longest_one : (words : List (List ℕ)) (i j : ℕ) → IsLongestBeginning words i → IsLongestBeginning words j → i ≡ j
+longest_one words i j a b = elim (cases_order i j) [
+  | inl same ↦ same
+  | inr (inl less) ↦ absurd (no_longer words i j a b less)
+  | inr (inr more) ↦ absurd (no_longer words j i b a more)
+]
+
+column_one : (line rest : List ℕ) (a b : ℕ) → IsFaultColumn line rest a → IsFaultColumn line rest b → a ≡ b
+column_one line rest a b x y =
+    x.is_behind ∙ ap (λ many. column_behind line rest many) (longest_one (words_in rest) x.many y.many x.is_longest y.is_longest) ∙ sym y.is_behind
+
+unreadable_one : (n : ℕ) (text : List ℕ) (a b : ℕ) → IsUnreadable n text a → IsUnreadable n text b → a ≡ b
+unreadable_one n text a b x y =
+    let same : y.rest ≡ x.rest = asking_one n text y.rest x.rest y.is_asking x.is_asking in
+    column_one text x.rest a b x.is_there (subst (λ (r : List ℕ). IsFaultColumn text r b) same y.is_there)
+
+one_place : (n : ℕ) (texts : List (List ℕ)) (j k a b : ℕ) → IsFirstUnreadable n texts j a → IsFirstUnreadable n texts k b → (j ≡ k) × (a ≡ b)
+one_place n [] j k a b x y = absurd x
+one_place n (text ∷ texts) j k a b (inl x) (inl y) = one_place (n + 1) texts j k a b x.1 y.1
+one_place n (text ∷ texts) j k a b (inl x) (inr y) = absurd (not_readable n text b x.0 y.1)
+one_place n (text ∷ texts) j k a b (inr x) (inl y) = absurd (not_readable n text a y.0 x.1)
+one_place n (text ∷ texts) j k a b (inr x) (inr y) = (x.0 ∙ sym y.0, unreadable_one n text a b x.1 y.1)
 
 pub one_reading : (bytes : List ℕ) → HasOneReading bytes
 one_reading bytes = record {
   at_most_one = λ s t a b. conditions_one 1 (lines bytes) s t a b;
-  not_both = λ s line a wrong. not_both 1 (lines bytes) s line a wrong;
-  one_line = λ j k a b. one_line 1 (lines bytes) j k a b;
+  not_both = λ s line column a wrong. not_both 1 (lines bytes) s line column a wrong;
+  one_line = λ j k a b x y. (one_place 1 (lines bytes) j k a b x y).0;
+  one_column = λ j k a b x y. (one_place 1 (lines bytes) j k a b x y).1;
 }

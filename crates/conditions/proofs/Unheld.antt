@@ -1,16 +1,18 @@
 -- Words of patterns that no step can have, one by one.
-use Rattle.std.proofs.Common.{◌≡◌, ℕ, ◌+◌, ◌<◌, ◌≤◌, List, length, sym, ap, ◌∙◌, ◌⊎◌, inl, inr, subst, below_more, arith}
-use Rattle.std.specs.Prelude.{MatchOption, Option, Some, None}
-use Rattle.std.proofs.lemmas.Option.{same_Some, slice_get_within}
+use Rattle.std.proofs.Common.{◌≡◌, ℕ, ◌+◌, ◌<◌, ◌≤◌, Bool, true, false, List, length, refl, sym, ap, ◌∙◌, ◌⊎◌, inl, inr, subst, below_more, arith}
+use Rattle.std.specs.Prelude.{◌↔◌, if◌then◌else◌, MatchOption, Option, Some, None}
+use Rattle.std.proofs.lemmas.Option.{none-some, same_Some, slice_get_within}
 use Rattle.script_lines.specs.declared.op_name.OpName.{OpName}
 use Rattle.script_lines.specs.declared.said_name.SaidName.{SaidName}
 use Rattle.conditions.specs.declared.items.Item.{Item}
 use Rattle.conditions.specs.declared.items.Item.TheVariants.{Word}
 use Rattle.conditions.specs.declared.misfits.Misfit.{Misfit}
+use Rattle.conditions.specs.declared.misfits.Misfit.TheVariants.{NoReply}
 use Rattle.conditions.specs.declared.names.Name.TheVariants.{Op, Said}
 use Rattle.conditions.specs.declared.patterns.Pattern.{Pattern}
-use Rattle.conditions.specs.Inside.Held.{HasHeldAt, HasRightAt}
-use Rattle.conditions.specs.Misfits.{IsOpMisfit, IsReplyMisfit, IsWrongInReply, OpCanHave, IsWordAt}
+use Rattle.conditions.specs.declared.rules.Rule.{Rule}
+use Rattle.conditions.specs.Inside.Held.{HasHeldAt, HasRightAt, no_reply}
+use Rattle.conditions.specs.Misfits.{IsAnswerMisfit, IsMisfit, IsOpMisfit, IsReplyMisfit, IsWrongInReply, OpCanHave, IsWordAt, is_reply_to}
 
 -- ---- an operation's words
 
@@ -87,3 +89,33 @@ pub none-or : (A B : Misfit → Type 0) (o : Option Misfit) → ((any : Misfit) 
     → MatchOption o ((any : Misfit) → ¬ (A any ⊎ B any)) (λ misfit. A misfit ⊎ B misfit)
 none-or A B None first second = λ any is. elim is [ inl a ↦ first any a | inr b ↦ second any b ]
 none-or A B (Some misfit) first is = inr is
+
+-- ---- an operation and a reply
+
+kind-by : (p : Pattern) (op : OpName) (said : SaidName) (can : Bool) → is_reply_to op said ≡ can → IsWordAt p.step.items 1 (Word (Op op))
+    → IsWordAt p.reply.items 0 (Word (Said said)) → (found : Option Misfit) → found ≡ (if can then None else Some (NoReply op said))
+    → MatchOption found ((any : Misfit) → ¬ IsAnswerMisfit p any) (IsAnswerMisfit p)
+kind-by p op said true is named replied found same = rw same (λ any x.
+    let P : OpName → SaidName → Type 0 = λ o s. is_reply_to o s ≡ true in
+    let on-op : is_reply_to x.op said ≡ true = subst (λ o. P o said) (same-op p.step.items op x.op named x.named) is in
+    let on-said : is_reply_to x.op x.said ≡ true = subst (λ s. P x.op s) (same-said p.reply.items said x.said replied x.replied) on-op in
+    let clash = sym x.unheld ∙ on-said in
+    cc)
+kind-by p op said false is named replied found same =
+    rw same (record { op = op; named = named; said = said; replied = replied; unheld = is; told = refl })
+
+pub kind-of : (p : Pattern) (op : Option OpName) (said : Option SaidName) (found : Option Misfit)
+    → ((o : OpName) → (op ≡ Some o) ↔ IsWordAt p.step.items 1 (Word (Op o))) → ((s : SaidName) → (said ≡ Some s) ↔ IsWordAt p.reply.items 0 (Word (Said s)))
+    → found ≡ no_reply op said → MatchOption found ((any : Misfit) → ¬ IsAnswerMisfit p any) (IsAnswerMisfit p)
+kind-of p (Some op) (Some said) found ops saids same = kind-by p op said (is_reply_to op said) refl ((ops op).0 refl) ((saids said).0 refl) found same
+kind-of p (Some op) None found ops saids same = rw same (λ any x. none-some x.said ((saids x.said).1 x.replied))
+kind-of p None said found ops saids same = rw same (λ any x. none-some x.op ((ops x.op).1 x.named))
+
+-- ---- conditions
+
+pub misfit-by : (harts : ℕ) (self rule : Rule) → self ≡ rule → (found : Option Misfit)
+    → MatchOption found ((any : Misfit) → ¬ IsMisfit harts rule any) (IsMisfit harts rule)
+    → MatchOption found ((any : Misfit) → ¬ IsMisfit harts self any) (IsMisfit harts self)
+misfit-by harts self rule same found is =
+    let P : Rule → Type 0 = λ r. MatchOption found ((any : Misfit) → ¬ IsMisfit harts r any) (IsMisfit harts r) in
+    subst P (sym same) is

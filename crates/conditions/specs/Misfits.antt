@@ -1,13 +1,13 @@
 -- Words of patterns that no step of a board can have in their places (profile).
-use Rattle.std.specs.Prelude.{◌≡◌, ℕ, ◌^◌, ◌<◌, ◌≤◌, ◌⊎◌, List, slice_get, Option, Some}
+use Rattle.std.specs.Prelude.{◌≡◌, ℕ, ◌^◌, ◌<◌, ◌≤◌, ◌⊎◌, Bool, true, false, List, slice_get, Option, Some}
 use Rattle.script_lines.specs.declared.op_name.OpName.{OpName}
-use Rattle.script_lines.specs.declared.op_name.OpName.TheVariants.{Sfence, Sstatus}
+use Rattle.script_lines.specs.declared.op_name.OpName.TheVariants.{Ecall, Load, Store, Fetch, Satp, Sie, Sstatus, Sip, Clearssip, Sfence, Fencei, Wfi, Poll, Serve, Advance, Tick}
 use Rattle.script_lines.specs.declared.said_name.SaidName.{SaidName}
 use Rattle.script_lines.specs.declared.said_name.SaidName.TheVariants as saids
 use Rattle.conditions.specs.declared.items.Item.{Item}
 use Rattle.conditions.specs.declared.items.Item.TheVariants.{Word, Number, Below, Absent}
 use Rattle.conditions.specs.declared.misfits.Misfit.{Misfit}
-use Rattle.conditions.specs.declared.misfits.Misfit.TheVariants.{NoHart, Unheld}
+use Rattle.conditions.specs.declared.misfits.Misfit.TheVariants.{NoHart, Unheld, NoReply}
 use Rattle.conditions.specs.declared.names.Name.TheVariants.{Op, Said}
 use Rattle.conditions.specs.declared.patterns.Pattern.{Pattern}
 use Rattle.conditions.specs.declared.rules.Rule.{Rule}
@@ -34,6 +34,35 @@ ReplyCanHave said place (Below n) = (said ≡ saids.Ret) × (place ≡ 1)
 ReplyCanHave said place Absent = ⊥
 ReplyCanHave said place (Word name) = ⊥
 
+-- Whether a reply is one that an accepted operation can have. A call returns, waits or doesn't return (SBI 3); an access has its word
+-- or a fault (Privileged 4.1.8); a fence call ends with a return; a hart that is brought further enters, has moved, or returns from
+-- its suspend (SBI 9); what else has no value is done.
+abbrev pub is_reply_to : OpName → SaidName → Bool
+is_reply_to Ecall saids.Ret = true
+is_reply_to Ecall saids.Waiting = true
+is_reply_to Ecall saids.Gone = true
+is_reply_to Load saids.Value = true
+is_reply_to Load saids.Fault = true
+is_reply_to Store saids.Done = true
+is_reply_to Store saids.Fault = true
+is_reply_to Fetch saids.Value = true
+is_reply_to Fetch saids.Fault = true
+is_reply_to Satp saids.Done = true
+is_reply_to Sie saids.Done = true
+is_reply_to Sstatus saids.Done = true
+is_reply_to Sip saids.Value = true
+is_reply_to Clearssip saids.Done = true
+is_reply_to Sfence saids.Done = true
+is_reply_to Fencei saids.Done = true
+is_reply_to Wfi saids.Done = true
+is_reply_to Poll saids.Ret = true
+is_reply_to Serve saids.Served = true
+is_reply_to Advance saids.Entry = true
+is_reply_to Advance saids.Moved = true
+is_reply_to Advance saids.Ret = true
+is_reply_to Tick saids.Done = true
+is_reply_to op said = false
+
 -- Behind its name the operation of a pattern has a word that it can't have.
 pub record IsOpMisfit (p : Pattern) (misfit : Misfit) : Type 0 where
   pub op : OpName
@@ -44,6 +73,15 @@ pub record IsOpMisfit (p : Pattern) (misfit : Misfit) : Type 0 where
   pub stands : IsWordAt p.step.items place item
   pub unheld : ¬ OpCanHave op item
   pub told : misfit ≡ Unheld (Op op) item
+
+-- The operation of a pattern can't have its reply.
+pub record IsAnswerMisfit (p : Pattern) (misfit : Misfit) : Type 0 where
+  pub op : OpName
+  pub named : IsWordAt p.step.items 1 (Word (Op op))
+  pub said : SaidName
+  pub replied : IsWordAt p.reply.items 0 (Word (Said said))
+  pub unheld : is_reply_to op said ≡ false
+  pub told : misfit ≡ NoReply op said
 
 module _ (harts : ℕ) where
   -- The word is a hart that a board with so many harts doesn't have.
@@ -71,12 +109,12 @@ module _ (harts : ℕ) where
     pub stands : IsWordAt p.reply.items place item
     pub wrong : IsWrongInReply said place item misfit
 
-  -- A word of the pattern is one that no step of a board with so many harts can have in its place.
+  -- The pattern has a word that no step of a board with so many harts can have in its place, or a reply that its operation can't have.
   abbrev pub IsMisfitOf : Pattern → Misfit → Type 0
-  IsMisfitOf p misfit = (IsActorMisfit p misfit ⊎ IsOpMisfit p misfit) ⊎ IsReplyMisfit p misfit
+  IsMisfitOf p misfit = (IsActorMisfit p misfit ⊎ IsOpMisfit p misfit) ⊎ (IsAnswerMisfit p misfit ⊎ IsReplyMisfit p misfit)
 
--- A word of one of a condition's patterns is: the board has no such hart, or the operation or the reply can't have the word in its
--- place.
+-- One of a condition's patterns has such a word: the board has no such hart, the operation or the reply can't have the word in its
+-- place, or the operation can't have the reply.
 abbrev pub IsMisfit : ℕ → Rule → Misfit → Type 0
 IsMisfit harts (Never p) misfit = IsMisfitOf harts p misfit
 IsMisfit harts (NeverAfter p q) misfit = IsMisfitOf harts p misfit ⊎ IsMisfitOf harts q misfit

@@ -45,11 +45,27 @@ pub struct Fault {
     pub wrong: Wrong,
 }
 
-/// What is wrong with a text, and how many bytes there are from there on.
+/// What is wrong with a line, and in which column.
 #[derive(Clone, Copy, Debug)]
 pub(crate) struct Unread {
-    pub(crate) left: usize,
+    pub(crate) column: u64,
     pub(crate) wrong: Wrong,
+}
+
+impl From<AllocError> for Wrong {
+    ghost from_gives = { λ _ wrong. wrong ≡ Lacks };
+
+    fn from(_: AllocError) -> Wrong {
+        Wrong::NoMemory
+    }
+}
+
+impl<T: Drop> From<AllocFailed<T>> for Wrong {
+    ghost from_gives = { λ _ wrong. wrong ≡ Lacks };
+
+    fn from(_: AllocFailed<T>) -> Wrong {
+        Wrong::NoMemory
+    }
 }
 
 impl From<AllocError> for Unread {
@@ -57,7 +73,7 @@ impl From<AllocError> for Unread {
 
     fn from(_: AllocError) -> Unread {
         Unread {
-            left: 0,
+            column: 0,
             wrong: Wrong::NoMemory,
         }
     }
@@ -68,7 +84,7 @@ impl<T: Drop> From<AllocFailed<T>> for Unread {
 
     fn from(_: AllocFailed<T>) -> Unread {
         Unread {
-            left: 0,
+            column: 0,
             wrong: Wrong::NoMemory,
         }
     }

@@ -2,6 +2,8 @@
 #![tactic(auto)]
 
 mod asking;
+mod beginnings;
+mod columns;
 mod endings;
 mod faults;
 mod items;

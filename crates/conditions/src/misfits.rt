@@ -2,10 +2,12 @@
 ghost use Rattle.std.specs.Prelude.{◌≡◌, ◌↔◌, ◌⊎◌, ◌<◌, ◌≤◌, ℕ, MatchOption, Some, true};
 ghost use Rattle.conditions.specs.declared.items.Item.{Item as Value};
 ghost use Rattle.conditions.specs.declared.items.Item.TheVariants.{Word};
+ghost use Rattle.script_lines.specs.declared.op_name.OpName.{OpName as OpValue};
+ghost use Rattle.script_lines.specs.declared.said_name.SaidName.{SaidName as SaidValue};
 ghost use Rattle.conditions.specs.declared.misfits.Misfit.{Misfit as MisfitValue};
 ghost use Rattle.conditions.specs.declared.names.Name.TheVariants as names;
-ghost use Rattle.conditions.specs.Misfits.{IsActorMisfit, IsMisfit, IsMisfitOf, IsOpMisfit, IsReplyMisfit, IsWrongInReply, OpCanHave, ReplyCanHave, IsWordAt};
-ghost use Rattle.conditions.specs.Inside.Held.{HasHeldAt, HasRightAt};
+ghost use Rattle.conditions.specs.Misfits.{IsActorMisfit, IsAnswerMisfit, IsMisfit, IsMisfitOf, IsOpMisfit, IsReplyMisfit, IsWrongInReply, OpCanHave, ReplyCanHave, IsWordAt, is_reply_to};
+ghost use Rattle.conditions.specs.Inside.Held.{HasHeldAt, HasRightAt, no_reply};
 
 use crate::items::Item;
 use crate::names::Name;
@@ -25,6 +27,8 @@ pub enum Misfit {
     NoHart(u64),
     /// This operation or reply can't have this value in this place.
     Unheld(Name, Item),
+    /// This operation can't have this reply.
+    NoReply(OpName, SaidName),
 }
 
 impl Rule {
@@ -33,8 +37,11 @@ impl Rule {
         ensures { MatchOption result ((any : MisfitValue) → ¬ IsMisfit harts self.now any) (IsMisfit harts self.now) }
     {
         match self {
-            Rule::Never(p) | Rule::OfSome(p) | Rule::Each(p) => in_pattern(p, harts),
-            Rule::NeverAfter(p, q) | Rule::Before(p, q) => in_patterns(p, q, harts),
+            Rule::Never(p) => in_pattern(p, harts),
+            Rule::NeverAfter(p, q) => in_patterns(p, q, harts),
+            Rule::OfSome(p) => in_pattern(p, harts),
+            Rule::Each(p) => in_pattern(p, harts),
+            Rule::Before(p, q) => in_patterns(p, q, harts),
             Rule::End(_) | Rule::CanEnd(_) => None,
         }
     }
@@ -51,13 +58,84 @@ fn in_patterns(p: &Pattern, q: &Pattern, harts: u64) -> Option<Misfit>
     }
 }
 
-/// The first such word of a pattern.
+/// The first such word of a pattern, or of its operation and reply together.
 fn in_pattern(p: &Pattern, harts: u64) -> Option<Misfit>
     ensures { MatchOption result ((any : MisfitValue) → ¬ IsMisfitOf harts p.now any) (IsMisfitOf harts p.now) }
 {
     match in_step(p, harts) {
         Some(misfit) => Some(misfit),
+        None => in_answer(p, harts),
+    }
+}
+
+/// The pattern's reply, if its operation can't have it; or the first such word of the reply.
+fn in_answer(p: &Pattern, harts: u64) -> Option<Misfit>
+    ensures { MatchOption result ((any : MisfitValue) → ¬ (IsAnswerMisfit p.now any ⊎ IsReplyMisfit harts p.now any))
+        (λ misfit. IsAnswerMisfit p.now misfit ⊎ IsReplyMisfit harts p.now misfit) }
+{
+    match in_kind(p) {
+        Some(misfit) => Some(misfit),
         None => in_reply(p, harts),
+    }
+}
+
+/// The pattern's reply, if its operation can't have it.
+fn in_kind(p: &Pattern) -> Option<Misfit>
+    ensures { MatchOption result ((any : MisfitValue) → ¬ IsAnswerMisfit p.now any) (IsAnswerMisfit p.now) }
+{
+    no_reply(op_of(p), said_of(p))
+}
+
+/// A reply that an operation can't have, where a pattern has both.
+fn no_reply(op: Option<OpName>, said: Option<SaidName>) -> Option<Misfit>
+    ensures { result ≡ no_reply op said }
+{
+    match (op, said) {
+        (Some(op), Some(said)) => {
+            if is_reply_to(op, said) {
+                None
+            } else {
+                Some(Misfit::NoReply(op, said))
+            }
+        }
+        _ => None,
+    }
+}
+
+/// The operation of a pattern, unless it is `_` or missing.
+fn op_of(p: &Pattern) -> Option<OpName>
+    ensures { (op : OpValue) → (result ≡ Some op) ↔ IsWordAt p.now.step.items 1 (Word (names.Op op)) }
+{
+    match p.step.get(1) {
+        Some(Some(Item::Word(Name::Op(op)))) => Some(*op),
+        _ => None,
+    }
+}
+
+/// The reply of a pattern, unless it is `_` or missing.
+fn said_of(p: &Pattern) -> Option<SaidName>
+    ensures { (said : SaidValue) → (result ≡ Some said) ↔ IsWordAt p.now.reply.items 0 (Word (names.Said said)) }
+{
+    match p.reply.first() {
+        Some(Some(Item::Word(Name::Said(said)))) => Some(*said),
+        _ => None,
+    }
+}
+
+/// Whether a reply is one that an accepted operation can have.
+fn is_reply_to(op: OpName, said: SaidName) -> bool
+    ensures { result ≡ is_reply_to op said }
+{
+    match op {
+        OpName::Ecall => matches!(said, SaidName::Ret | SaidName::Waiting | SaidName::Gone),
+        OpName::Load | OpName::Fetch => matches!(said, SaidName::Value | SaidName::Fault),
+        OpName::Store => matches!(said, SaidName::Done | SaidName::Fault),
+        OpName::Sip => said == SaidName::Value,
+        OpName::Poll => said == SaidName::Ret,
+        OpName::Serve => said == SaidName::Served,
+        OpName::Advance => matches!(said, SaidName::Entry | SaidName::Moved | SaidName::Ret),
+        OpName::Satp | OpName::Sie | OpName::Sstatus | OpName::Clearssip => said == SaidName::Done,
+        OpName::Sfence | OpName::Fencei | OpName::Wfi | OpName::Tick => said == SaidName::Done,
     }
 }
 

@@ -4,78 +4,65 @@ ghost use Rattle.conditions.specs.Grammar.{AreNumberWords, AsksActor, AsksName, 
 ghost use Rattle.conditions.specs.Inside.Reading.{Gives, Puts, texts};
 ghost use Rattle.conditions.specs.declared.items.Item.{Item as Word};
 
-use crate::faults::{Unread, Wrong};
+use crate::faults::Wrong;
 use crate::items::{Item, signed_item};
 use crate::names::Name;
-use crate::words::{Word as Placed, missing};
+use crate::words::Word as Placed;
 use line_words::{number as unsigned_number, signed_number};
 use script_lines::{LAST_HART, OP_NUMBERS, OpName, SAID_NUMBERS, SaidName};
 use std::alloc::Global;
 
 /// Reads words as a step: an actor, and its operation.
-pub(crate) fn step(
-    alloc: Global,
-    words: &[Placed<'_>],
-    end: usize,
-) -> Result<Vec<Option<Item>>, Unread>
+pub(crate) fn step(alloc: Global, words: &[Placed<'_>]) -> Result<Vec<Option<Item>>, Wrong>
     ensures { Gives (λ found. found.items) (IsStepPattern (texts words.now)) result }
 {
     let Some((first, rest)) = words.split_first() else {
-        return Err(missing(end));
+        return Err(Wrong::WordCount);
     };
     let Some(item) = actor(first.text) else {
-        return Err(first.is(no_number(first.text, true)));
+        return Err(no_number(first.text, true));
     };
     let mut found = Vec::new(alloc);
     found.push(item)?;
     if !rest.is_empty() {
-        named(rest, false, end, &mut found)?;
+        named(rest, false, &mut found)?;
     }
     Ok(found)
 }
 
 /// Reads words as a reply.
-pub(crate) fn reply(
-    alloc: Global,
-    words: &[Placed<'_>],
-    end: usize,
-) -> Result<Vec<Option<Item>>, Unread>
+pub(crate) fn reply(alloc: Global, words: &[Placed<'_>]) -> Result<Vec<Option<Item>>, Wrong>
     ensures { Gives (λ found. found.items) (IsNameAndNumbers true (texts words.now)) result }
 {
     let mut found = Vec::new(alloc);
-    named(words, true, end, &mut found)?;
+    named(words, true, &mut found)?;
     Ok(found)
 }
 
 /// Appends a name and its numbers.
-fn named(
-    words: &[Placed<'_>],
-    is_reply: bool,
-    end: usize,
-    found: &mut Vec<Option<Item>>,
-) -> Result<(), Unread>
+fn named(words: &[Placed<'_>], is_reply: bool, found: &mut Vec<Option<Item>>) -> Result<(), Wrong>
     ensures { Puts found.old.items found.new.items (IsNameAndNumbers is_reply (texts words.now)) result }
 {
     let Some((first, rest)) = words.split_first() else {
-        return Err(missing(end));
+        return Err(Wrong::WordCount);
     };
     match name(first.text, is_reply) {
         Some((item, most)) => {
             found.push(item)?;
             numbers(rest, most, found)
         }
-        None => Err(first.is(no_name(first.text, is_reply))),
+        None => Err(no_name(first.text, is_reply)),
     }
 }
 
 /// Appends numbers, at most `most`.
-fn numbers(words: &[Placed<'_>], most: usize, found: &mut Vec<Option<Item>>) -> Result<(), Unread>
+fn numbers(words: &[Placed<'_>], most: usize, found: &mut Vec<Option<Item>>) -> Result<(), Wrong>
     ensures { Puts found.old.items found.new.items (AreNumberWords most (texts words.now)) result }
 {
     for (k, word) in words.iter().enumerate() {
         match number_within(word.text, k < most) {
             Some(item) => found.push(item)?,
-            None => return Err(word.is(no_number(word.text, k < most))),
+            None => return Err(no_number(word.text, k < most)),
         }
     }
     Ok(())

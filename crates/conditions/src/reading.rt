@@ -1,13 +1,16 @@
 //! The conditions of a script's text, read from its comments.
 ghost use Rattle.std.specs.Prelude.{◌≡◌, ◌≢◌, ◌⊎◌, IfErr, IfOk, List, MatchOption, MatchResult, map};
-ghost use Rattle.conditions.specs.FirstFault.{IsFaulty, IsUnreadable};
-ghost use Rattle.conditions.specs.Grammar.{IsAsking, IsSilent, ReadsConditions, ConditionValue, behind_blanks, condition_value};
-ghost use Rattle.conditions.specs.Inside.Reading.{IsLineRead, IsPut};
+ghost use Rattle.line_words.specs.Values.{words_in};
+ghost use Rattle.conditions.specs.FirstFault.{IsFaultColumn, IsFaulty, IsUnreadable};
+ghost use Rattle.conditions.specs.Grammar.{IsAsking, IsSilent, ReadsConditions, ConditionValue, condition_value};
+ghost use Rattle.conditions.specs.Inside.Reading.{IsLineRead, IsPut, texts};
 
 use crate::asking::asked_rule;
+use crate::beginnings::longest_beginning;
+use crate::columns::{behind_blanks, column_behind};
 use crate::faults::{Fault, Unread, Wrong};
 use crate::rules::Rule;
-use crate::words::words;
+use crate::words::{Word, words};
 use line_words::next_line;
 use std::alloc::Global;
 
@@ -33,8 +36,8 @@ pub fn conditions(alloc: Global, text: &[u8]) -> Result<Vec<Condition>, Fault>
     // Bytes that have conditions are read as those, unless an allocation failed.
     ensures only { (s : List ConditionValue) → ReadsConditions text.now s
         → MatchResult result (λ found. map condition_value found.items ≡ s) (λ e. e.wrong ≡ Wrong.NoMemory) }
-    // Any other fault is at the first line that can't be read.
-    ensures fault { IfErr result (λ e. e.wrong ≢ Wrong.NoMemory → IsFaulty text.now e.line) }
+    // Any other fault is at the first line that can't be read, and at the first word of it with which no condition goes on.
+    ensures fault { IfErr result (λ e. e.wrong ≢ Wrong.NoMemory → IsFaulty text.now e.line e.column) }
 {
     let mut found = Vec::new(alloc);
     let mut rest = text;
@@ -43,7 +46,7 @@ pub fn conditions(alloc: Global, text: &[u8]) -> Result<Vec<Condition>, Fault>
         let (bytes, after) = next_line(rest);
         match read_line(alloc, line, bytes, &mut found) {
             Ok(()) => {}
-            Err(unread) => return Err(located(line, bytes, unread)),
+            Err(unread) => return Err(located(line, unread)),
         }
         rest = after;
         line += 1;
@@ -59,7 +62,7 @@ fn read_line(
     found: &mut Vec<Condition>,
 ) -> Result<(), Unread>
     ensures { MatchResult result (λ _. IsPut line text.now found.old.items found.new.items)
-        (λ unread. (unread.wrong ≡ Wrong.NoMemory) ⊎ IsUnreadable line text.now) }
+        (λ unread. (unread.wrong ≡ Wrong.NoMemory) ⊎ IsUnreadable line text.now unread.column) }
 {
     if let Some(condition) = condition_of(alloc, line, text)? {
         found.push(condition)?;
@@ -74,13 +77,47 @@ fn condition_of(alloc: Global, line: u64, text: &[u8]) -> Result<Option<Conditio
     let Some(rest) = asked(line, text) else {
         return Ok(None);
     };
-    let (words, end) = words(alloc, rest)?;
-    let (is_maybe, rule) = asked_rule(alloc, &words, end)?;
-    Ok(Some(Condition {
-        line,
-        is_maybe,
-        rule,
-    }))
+    let words = words(alloc, &[], rest)?;
+    condition_in(alloc, line, text, rest, &words)
+}
+
+/// The condition that a line's words are, behind `#!`.
+fn condition_in(
+    alloc: Global,
+    line: u64,
+    text: &[u8],
+    rest: &[u8],
+    words: &[Word<'_>],
+) -> Result<Option<Condition>, Unread>
+    requires asking { IsAsking line text.now rest.now }
+    requires words { texts words.now ≡ words_in rest.now }
+    ensures { IsLineRead line text.now result }
+{
+    match asked_rule(alloc, words) {
+        Ok((is_maybe, rule)) => Ok(Some(Condition {
+            line,
+            is_maybe,
+            rule,
+        })),
+        Err(wrong) => Err(unread(alloc, text, rest, words, wrong)),
+    }
+}
+
+/// What is wrong with a line's words, and from which column on.
+fn unread(alloc: Global, text: &[u8], rest: &[u8], words: &[Word<'_>], wrong: Wrong) -> Unread
+    requires { texts words.now ≡ words_in rest.now }
+    ensures { (result.wrong ≡ Wrong.NoMemory) ⊎ ((result.wrong ≡ wrong) × IsFaultColumn text.now rest.now result.column) }
+{
+    match longest_beginning(alloc, words) {
+        Ok(many) => Unread {
+            column: column_behind(text, rest, many),
+            wrong,
+        },
+        Err(lacking) => Unread {
+            column: 0,
+            wrong: lacking,
+        },
+    }
 }
 
 /// The text behind `#!`, if a line begins with it, blanks aside.
@@ -93,26 +130,15 @@ fn asked(line: u64, text: &[u8]) -> Option<&[u8]>
     behind_blanks(text).strip_prefix(b"#!")
 }
 
-/// A text from its first byte that isn't blank.
-fn behind_blanks(text: &[u8]) -> &[u8]
-    ensures { result.now ≡ behind_blanks text.now }
-{
-    for (i, byte) in text.iter().enumerate() {
-        if *byte != b' ' && *byte != b'\t' {
-            return &text[i..];
-        }
-    }
-    &text[text.len()..]
-}
-
-/// Where in a line something can't be read.
-fn located(line: u64, text: &[u8], unread: Unread) -> Fault
+/// What can't be read in a line.
+fn located(line: u64, unread: Unread) -> Fault
     ensures line { result.line ≡ line }
+    ensures column { result.column ≡ unread.column }
     ensures wrong { result.wrong ≡ unread.wrong }
 {
     Fault {
         line,
-        column: (text.len().saturating_sub(unread.left) as u64).saturating_add(1),
+        column: unread.column,
         wrong: unread.wrong,
     }
 }

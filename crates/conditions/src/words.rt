@@ -1,52 +1,34 @@
-//! The words of a condition, with their places.
+//! The words of a condition.
 ghost use Rattle.std.specs.Prelude.{◌≡◌, ◌+◌, ◌<◌, ◌++◌, IfOk, MatchOption, drop, false, length, take, true};
 ghost use Rattle.line_words.specs.Values.{words_in};
 ghost use Rattle.conditions.specs.Grammar.{behind, comma_apart, has_mark, up_to, with_commas};
 ghost use Rattle.conditions.specs.Inside.Reading.{texts};
 
-use crate::faults::{Unread, Wrong};
 use line_words::next_word;
 use std::alloc::{AllocError, Global};
 
-/// A word, and how many bytes of its line there are from it on.
+/// A word.
 #[derive(Clone, Copy)]
 pub(crate) struct Word<'a> {
     pub(crate) text: &'a [u8],
-    pub(crate) left: usize,
 }
 
-impl<'a> Word<'a> {
-    /// Something is wrong with it.
-    pub(crate) fn is(self, wrong: Wrong) -> Unread
-        ensures { result.wrong ≡ wrong }
-    {
-        Unread {
-            left: self.left,
-            wrong,
-        }
-    }
-}
-
-/// Words are missing, or are too many, where `left` bytes of the line are left.
-pub(crate) fn missing(left: usize) -> Unread {
-    Unread {
-        left,
-        wrong: Wrong::WordCount,
-    }
-}
-
-/// The words of a text, and how many bytes follow them.
-pub(crate) fn words<'a>(alloc: Global, text: &'a [u8]) -> Result<(Vec<Word<'a>>, usize), AllocError>
-    ensures { IfOk result (λ found. texts found.0.items ≡ words_in text.now) }
+/// These words, and the words of a text behind them.
+pub(crate) fn words<'a>(
+    alloc: Global,
+    front: &[Word<'a>],
+    text: &'a [u8],
+) -> Result<Vec<Word<'a>>, AllocError>
+    ensures { IfOk result (λ found. texts found.items ≡ texts front.now ++ words_in text.now) }
 {
     let mut found = Vec::new(alloc);
+    found.extend_from_slice(front)?;
     let mut rest = text;
     while let Some((word, after)) = next_word(rest) {
-        let left = word.len().saturating_add(after.len());
-        found.push(Word { text: word, left })?;
+        found.push(Word { text: word })?;
         rest = after;
     }
-    Ok((found, rest.len()))
+    Ok(found)
 }
 
 /// The place of the first word that is this one.
@@ -87,13 +69,7 @@ fn push_parts<'a>(word: &Word<'a>, found: &mut Vec<Word<'a>>) -> Result<(), Allo
         return Ok(());
     }
     let (front, comma) = word.text.split_at(word.text.len() - 1);
-    found.push(Word {
-        text: front,
-        ..*word
-    })?;
-    found.push(Word {
-        text: comma,
-        ..*word
-    })?;
+    found.push(Word { text: front })?;
+    found.push(Word { text: comma })?;
     Ok(())
 }

@@ -207,5 +207,10 @@ fn write_misfit<W: fmt::Write>(f: &mut fmt::Formatter<W>, misfit: Misfit) -> fmt
                 Item::Word(_) => Ok(()),
             }
         }
+        Misfit::NoReply(op, said) => {
+            let op = str::from_utf8(op.word()).unwrap_or("");
+            let said = str::from_utf8(said.word()).unwrap_or("");
+            write!(f, ": no {op} has the reply {said}")
+        }
     }
 }

@@ -1,11 +1,12 @@
 -- A word of a pattern that is none of its misfits.
-use Rattle.std.specs.Prelude.{ℕ}
+use Rattle.std.specs.Prelude.{ℕ, if◌then◌else◌, Option, Some, None}
 use Rattle.script_lines.specs.declared.op_name.OpName.{OpName}
 use Rattle.script_lines.specs.declared.said_name.SaidName.{SaidName}
 use Rattle.conditions.specs.declared.items.Item.{Item}
 use Rattle.conditions.specs.declared.misfits.Misfit.{Misfit}
+use Rattle.conditions.specs.declared.misfits.Misfit.TheVariants.{NoReply}
 use Rattle.conditions.specs.declared.patterns.Pattern.{Pattern}
-use Rattle.conditions.specs.Misfits.{IsWrongInReply, OpCanHave, IsWordAt}
+use Rattle.conditions.specs.Misfits.{IsWrongInReply, OpCanHave, IsWordAt, is_reply_to}
 
 -- the operation can have the word in this place, if there is one
 abbrev pub HasHeldAt : Pattern → OpName → ℕ → Type 0
@@ -15,3 +16,9 @@ HasHeldAt p op place = (item : Item) → IsWordAt p.step.items place item → Op
 abbrev pub HasRightAt : ℕ → Pattern → SaidName → ℕ → Type 0
 HasRightAt harts p said place =
     (item : Item) → IsWordAt p.reply.items place item → (any : Misfit) → ¬ IsWrongInReply harts said place item any
+
+-- what is found of an operation and a reply, where a pattern has both
+abbrev pub no_reply : Option OpName → Option SaidName → Option Misfit
+no_reply (Some op) (Some said) = if is_reply_to op said then None else Some (NoReply op said)
+no_reply (Some op) None = None
+no_reply None said = None

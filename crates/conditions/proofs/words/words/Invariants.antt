@@ -4,7 +4,7 @@ use Rattle.conditions.specs.Inside.Reading.{texts}
 use Rattle.conditions.proofs.words.words.Given as goal
 
 abbrev pub invariant-loop-word : goal.invariant-loop-word
-invariant-loop-word l = words_in l.text ≡ texts l.found.items ++ words_in l.rest
+invariant-loop-word l = texts l.front ++ words_in l.text ≡ texts l.found.items ++ words_in l.rest
 
 abbrev pub decreases-loop-word : goal.decreases-loop-word
 decreases-loop-word l = length l.rest
