@@ -57,7 +57,7 @@ pub fn has(rights: u8, bit: u64) -> bool
 }
 
 /// 1 where it is so, and else 0.
-pub fn bit(is: bool) -> u8
+pub(crate) fn bit(is: bool) -> u8
     ensures value { result ≡ bit is }
     ensures bound { result ≤ 1 }
 {
