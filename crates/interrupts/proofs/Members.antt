@@ -7,7 +7,7 @@ use Rattle.std.proofs.lemmas.Bool.{cases_lt, lt-ltb}
 use Rattle.std.proofs.lemmas.List.Elements.{All-tail}
 use Rattle.std.proofs.lemmas.List.Quantifiers.{position-Some}
 use Rattle.std.proofs.lemmas.List.Sums.{fails_before_first}
-use Rattle.std.proofs.lemmas.List.{drop_at, get_or-drop, length-drop, length-take-le, take-append-drop}
+use Rattle.std.proofs.lemmas.List.{drop_at, get_or-drop, get_or_default, length-drop, length-take-le, take-append-drop}
 use Rattle.std.proofs.lemmas.List.Edits.{get_or-remove_above, get_or-remove_below, insert-append_right, length-remove, remove-append_right}
 use Rattle.std.proofs.lemmas.List.Sorted.{IsNonDecreasingBy-insert}
 use Rattle.interrupts.specs.declared.ahead.Member.{Member}
@@ -105,3 +105,18 @@ IsNonDecreasingBy-placed members deadline hart start place up within at =
     let same = get_or-drop start members k d in
     let is = at.later (start + k) d (omega (arith, from, above)) (omega (arith, long, inside)) in
     rw same (omega (arith, is)))
+
+-- where a member of a list in order is later than a deadline, each from it on is
+pub later-from : (members : List Member) (deadline start middle : ℕ) (e : Member) → IsNonDecreasingBy (λ (m : Member). m.deadline) (drop start members)
+    → start ≤ middle → deadline < (get_or members middle e).deadline
+    → (k : ℕ) (m : Member) → middle ≤ k → k < length members → deadline < (get_or members k m).deadline
+later-from members deadline start middle e up from later k m above inside =
+    let low = up (middle - start) (k - start) m (omega (arith, above)) (omega (arith, length-drop start members, from, above, inside)) in
+    let back : start + (middle - start) ≡ middle = omega (arith, from) in
+    let back_too : start + (k - start) ≡ k = omega (arith, from, above) in
+    let here : get_or (drop start members) (middle - start) m ≡ get_or members middle e =
+    get_or-drop start members (middle - start) m ∙ ap (λ n. get_or members n m) back ∙ get_or_default members middle m e (omega (arith, above, inside)) in
+    let there : get_or (drop start members) (k - start) m ≡ get_or members k m =
+    get_or-drop start members (k - start) m ∙ ap (λ n. get_or members n m) back_too in
+    let order : (get_or members middle e).deadline ≤ (get_or members k m).deadline = rw (← here, ← there) low in
+    omega (arith, later, order)

@@ -2,6 +2,7 @@
 
 ghost use Rattle.std.specs.Prelude.{◌≡◌, ◌+◌, ◌<◌, ◌≤◌, drop, length, [], ◌==◌, MatchOption};
 ghost use Rattle.std.specs.List.{insert, position};
+ghost use Rattle.std.specs.List.Sorted.{IsNonDecreasingBy};
 ghost use Rattle.interrupts.specs.declared.ahead.Member.{Member};
 ghost use Rattle.interrupts.specs.Inside.Ahead.{AreLater, IsFirst, IsInserted, IsPlaceOf, member_of, without_hart};
 
@@ -122,16 +123,27 @@ fn with_room(members: &mut ArrayVec<Member, ROOM>, start: usize) -> usize
     0
 }
 
-/// The place for a deadline: before those that are later, and after the others.
+/// The place for a deadline: before those that are later, and after the others. Most often that is the end; otherwise the
+/// place is found by halving.
 fn place_of(members: &[Member], start: usize, deadline: u64) -> usize
-    requires { start ≤ length members.now }
+    requires within { start ≤ length members.now }
+    requires in_order { IsNonDecreasingBy (λ (m : Member). m.deadline) (drop start members.now) }
     ensures { IsPlaceOf deadline start members.now result }
 {
-    let mut place = members.len();
-    while place > start && deadline < members[place - 1].deadline {
-        place -= 1;
+    let mut low = start;
+    let mut high = members.len();
+    if low < high && members[high - 1].deadline <= deadline {
+        low = high;
     }
-    place
+    while low < high {
+        let middle = low + (high - low) / 2;
+        if deadline < members[middle].deadline {
+            high = middle;
+        } else {
+            low = middle + 1;
+        }
+    }
+    low
 }
 
 /// Inserts a member at a place; there is room for it. At the end no member moves.
