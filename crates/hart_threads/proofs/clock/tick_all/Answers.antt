@@ -32,7 +32,7 @@ loop-n-preserved g c =
     let r : AcceptedCall = c.in-Ok.receipt in
     let told : r ≡ accepted_call c.loop-n.seat.actor c.loop-n.seat.count (t.opening.places + length (reverse e.done.before)) _ r.reply =
     receipt-is t c.loop-n.seat c.call.new.seat _ r.reply e.done r e.receipt.0 e.receipt.1 e.receipt.2 refl e.place in
-    let heard = subst t.heard told c.tell.ensures in (
+    let heard = subst t.heard told search in (
       e.actor ∙ c.loop-n.invariant.0,
       one-more c.loop-n.seat.ops c.call.new.seat.ops program g.K.Plan.ticks c.loop-n.n-index c.args.work.now.planned c.loop-n-test.true c.loop-n.invariant.1 e.ops,
       e.accepted ∙ ap (λ n. n + 1) c.loop-n.invariant.2,

@@ -21,7 +21,7 @@ returns-in-Ok-clause-going g c =
     let r : AcceptedCall = c.in-Ok.receipt in
     let told : r ≡ accepted_call c.args.seat.now.actor c.args.seat.now.count (t.opening.places + length (reverse c.in-Ok.ensures.done.before)) c.args.op r.reply =
     receipt-is t c.args.seat.now c.call_and_view.new.seat c.args.op r.reply c.in-Ok.ensures.done r c.in-Ok.ensures.receipt.0 c.in-Ok.ensures.receipt.1 c.in-Ok.ensures.receipt.2 refl c.in-Ok.ensures.place in
-    let heard = subst t.heard told c.tell.ensures in
+    let heard = subst t.heard told search in
     done-going t c.args.seat.now c.call_and_view.new.seat c.args.op c.in-Ok.receipt.reply c.in-Ok.ensures.done rest rest' c.requires.going c.requires.turn c.if-not-is_let.ensures heard tells
     c.in-Ok.ensures.actor c.in-Ok.ensures.accepted
 
