@@ -4,28 +4,21 @@
 #![tactic(auto)]
 
 mod command_line;
-mod course;
 mod early;
-mod loading;
-mod output;
-mod record_names;
-mod stale;
-mod steps;
-mod testing;
+mod folder;
 
 use command_line::options_of;
 use early::{Early, told};
-use output::Output;
-use record_names::record_names;
+use folder::Folder;
 use std::env;
-use std::io::IsTerminal;
+use std::io::{self, IsTerminal};
 use std::process::ExitCode;
 use std::rt::{Clock, Env, Files};
 use std::sync::Wait;
 use std::thread::Threads;
-use test_report::{Report, Status};
-use test_terms::{Options, Screen, Stop};
-use testing::test_file;
+use test_report::Status;
+use test_runner::test_all;
+use test_terms::Screen;
 
 fn main(rt: HostRuntime) -> ExitCode {
     let screen = Screen {
@@ -47,25 +40,5 @@ fn run<R: AllocGlobal + Clock + Env + Eprint + Files + Print + Sync + Threads + 
 ) -> Result<Status, Early> {
     let words = env::args(rt)?.collect::<Vec<String>>(rt.alloc())?;
     let options = options_of(rt, words.as_slice(), screen)?;
-    Ok(test_all(rt, &options)?)
-}
-
-/// Tests each file, and prints its points as soon as they are known; then the plan and the summary.
-fn test_all<R: AllocGlobal + Clock + Eprint + Files + Print + Sync + Threads + Wait>(
-    rt: &R,
-    options: &Options<'_>,
-) -> Result<Status, Stop> {
-    let mut output = Output::begin(rt, options)?;
-    let mut report = Report::new(rt.alloc(), options.mode);
-    let names = record_names(rt.alloc(), &options.files)?;
-    for (file, record) in options.files.iter().zip(names.iter()) {
-        let found = test_file(rt, options, file, record.as_str())?;
-        output.tell_file(&found)?;
-        report.files.push(found)?;
-    }
-    output.end(&report)?;
-    if let Some(unwritten) = report.unwritten() {
-        return Err(Stop::Unwritten(unwritten.copied(rt.alloc())?));
-    }
-    Ok(report.status())
+    Ok(test_all(rt, &Folder { rt }, &options, &mut io::writer(rt))?)
 }

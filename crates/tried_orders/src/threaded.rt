@@ -1,7 +1,12 @@
 //! Runs of a program on threads, judged.
-ghost use Rattle.std.specs.Prelude.{◌≡◌, IfOk, length};
+ghost use Rattle.std.specs.Prelude.{◌≡◌, ◌≢◌, ◌∷◌, ℕ, List, [], IfOk, OnOk, false, length, reverse};
+ghost use Rattle.conditions.specs.Endings.{ending};
 ghost use Rattle.guest_script.specs.Grammar.{content};
 ghost use Rattle.guest_programs.specs.Programs.{IsProgram};
+ghost use Rattle.outcome_statistics.specs.Findings.{AreFound};
+ghost use Rattle.outcome_statistics.specs.Records.{Tried as Record};
+ghost use Rattle.test_report.specs.Statuses.{verdicts};
+ghost use Rattle.tried_orders.specs.Verdicts.{AddsVerdicts, AreRunsOf};
 
 use crate::pace::Pace;
 use crate::points::{Source, Tried, judged, keep_first, put_points, tells_first};
@@ -25,29 +30,53 @@ pub fn test_runs<R: AllocGlobal + Clock + Eprint + Files + Sync + Threads + Wait
     file: &mut FileReport,
 ) -> Result<(), Stop>
     requires { IsProgram (content trial.now.script.now.body) }
+    ensures none { trial.now.options.now.runs ≡ 0 → verdicts file.new ≡ verdicts file.old }
+    ensures runs { OnOk result (trial.now.options.now.runs ≢ 0
+        → AddsVerdicts (AreRunsOf trial.now.script.now.config (content trial.now.script.now.body) trial.now.options.now.runs
+        file.new.is_cut) trial.now.case.conditions.now (verdicts file.old) (verdicts file.new)) }
+    ensures cut { file.new.is_cut ≡ false → file.old.is_cut ≡ false }
 {
-    let runs = trial.options.runs;
-    if runs == 0 {
+    if trial.options.runs == 0 {
         return Ok(());
     }
     let mut tried = untried(trial)?;
     let mut pace = Pace::begin(trial.rt, trial.options.screen.is_watched)?;
-    for number in 0..runs {
-        if trial.options.limit.is_over(trial.rt)? {
-            file.is_cut = true;
-            break;
-        }
-        let ended = run(trial.rt, trial.script, &Open)?;
-        judge_run(trial, number, &ended, &mut tried)?;
-        pace.see(trial.rt, "runs", number.saturating_add(1), runs)?;
-    }
+    run_each(trial, &mut pace, &mut tried, file)?;
     pace.end(trial.rt);
     Ok(put_points(trial, tried, file)?)
 }
 
+/// Runs a program as often as requested while there is time, and judges each record.
+fn run_each<R: AllocGlobal + Clock + Eprint + Files + Sync + Threads + Wait>(
+    trial: &Trial<'_, R>,
+    pace: &mut Pace,
+    tried: &mut Tried,
+    file: &mut FileReport,
+) -> Result<(), Stop>
+    requires program { IsProgram (content trial.now.script.now.body) }
+    requires none { AreFound trial.now.script.now.config.harts trial.now.case.conditions.now [] tried.old.found }
+    ensures runs { OnOk result ((records : List Record)
+        × AreRunsOf trial.now.script.now.config (content trial.now.script.now.body) trial.now.options.now.runs file.new.is_cut
+        records × AreFound trial.now.script.now.config.harts trial.now.case.conditions.now records tried.new.found) }
+    ensures same { verdicts file.new ≡ verdicts file.old }
+    ensures cut { file.new.is_cut ≡ false → file.old.is_cut ≡ false }
+{
+    let runs = trial.options.runs;
+    for number in 0..runs {
+        if trial.options.limit.is_over(trial.rt)? {
+            file.is_cut = true;
+            return Ok(());
+        }
+        let ended = run(trial.rt, trial.script, &Open)?;
+        judge_run(trial, number, &ended, tried)?;
+        pace.see(trial.rt, "runs", number.saturating_add(1), runs)?;
+    }
+    Ok(())
+}
+
 /// Before the first run.
 fn untried<R: AllocGlobal>(trial: &Trial<'_, R>) -> Result<Tried, AllocError>
-    ensures { IfOk result (λ tried. length tried.found.judged.items ≡ length trial.now.case.conditions.now) }
+    ensures { IfOk result (λ tried. (harts : ℕ) → AreFound harts trial.now.case.conditions.now [] tried.found) }
 {
     let alloc = trial.rt.alloc();
     let conditions = trial.case.conditions.len();
@@ -71,7 +100,10 @@ fn judge_run<R: AllocGlobal + Files>(
     tried: &mut Tried,
 ) -> Result<(), AllocError>
     requires many { length tried.old.found.judged.items ≡ length trial.now.case.conditions.now }
-    ensures { length tried.new.found.judged.items ≡ length trial.now.case.conditions.now }
+    ensures { OnOk result ((records : List Record) (x : Record) → x.number ≡ number
+        → x.events ≡ reverse ended.now.board.past → x.end ≡ ending ended.now.end
+        → AreFound ended.now.board.opening.config.harts trial.now.case.conditions.now records tried.old.found
+        → AreFound ended.now.board.opening.config.harts trial.now.case.conditions.now (x ∷ records) tried.new.found) }
 {
     let alloc = trial.rt.alloc();
     tried.found.see(

@@ -1,11 +1,10 @@
 //! Reads a file with its conditions, or returns why it can't be tested.
+use crate::texts::Texts;
 use conditions::{Condition, Wrong, conditions};
 use diagnostics::{bad_board, bad_condition, faulty};
 use guest_script::{FaultKind, Script, locate};
 use std::alloc::{AllocError, Global};
-use std::fs;
 use std::io::{self, ErrorKind, Read};
-use std::rt::Files;
 
 /// One byte more than a script may have.
 const READ_LIMIT: u64 = 16_777_217;
@@ -13,9 +12,7 @@ const READ_LIMIT: u64 = 16_777_217;
 /// A script that can be tested.
 #[derive(Drop)]
 pub(crate) struct Loaded {
-    /// Its bytes.
-    pub(crate) text: Vec<u8>,
-    /// What they are.
+    /// What its bytes are.
     pub(crate) script: Script,
     /// Its conditions.
     pub(crate) conditions: Vec<Condition>,
@@ -45,31 +42,36 @@ fn unread(kind: ErrorKind) -> &'static str {
     }
 }
 
-/// Reads a script and its conditions.
-pub(crate) fn load<R: AllocGlobal + Files>(rt: &R, file: &str) -> Result<Loaded, Unloaded> {
-    let alloc = rt.alloc();
-    let text = match read(rt, file) {
-        Ok(text) => text,
-        Err(error) => return Err(unreadable(alloc, error.kind())?),
-    };
-    let script = match locate(alloc, &text) {
+/// The bytes of a file, at most one more than a script may have.
+pub(crate) fn read<T: Texts>(alloc: Global, texts: &T, file: &str) -> Result<Vec<u8>, Unloaded> {
+    match bytes_of(alloc, texts, file) {
+        Ok(text) => Ok(text),
+        Err(error) => Err(unreadable(alloc, error.kind())?),
+    }
+}
+
+fn bytes_of<T: Texts>(alloc: Global, texts: &T, file: &str) -> io::Result<Vec<u8>> {
+    let mut text = Vec::new(alloc);
+    texts.open(file)?.take(READ_LIMIT).read_to_end(&mut text)?;
+    Ok(text)
+}
+
+/// The script that bytes are, and its conditions.
+pub(crate) fn load(alloc: Global, text: &[u8]) -> Result<Loaded, Unloaded> {
+    let script = match locate(alloc, text) {
         Ok(script) => script,
         Err(found) if found.wrong.fault() == FaultKind::NoMemory => return Err(Unloaded::NoMemory),
-        Err(found) => return Err(Unloaded::File(faulty(alloc, &text, found)?)),
+        Err(found) => return Err(Unloaded::File(faulty(alloc, text, found)?)),
     };
     if !script.config.is_good() {
         return Err(Unloaded::File(bad_board(alloc, &script.config)?));
     }
-    let conditions = match conditions(alloc, &text) {
+    let conditions = match conditions(alloc, text) {
         Ok(conditions) => conditions,
         Err(found) if found.wrong == Wrong::NoMemory => return Err(Unloaded::NoMemory),
-        Err(found) => return Err(Unloaded::File(bad_condition(alloc, &text, found)?)),
+        Err(found) => return Err(Unloaded::File(bad_condition(alloc, text, found)?)),
     };
-    Ok(Loaded {
-        text,
-        script,
-        conditions,
-    })
+    Ok(Loaded { script, conditions })
 }
 
 fn unreadable(alloc: Global, kind: ErrorKind) -> Result<Unloaded, AllocError> {
@@ -78,11 +80,4 @@ fn unreadable(alloc: Global, kind: ErrorKind) -> Result<Unloaded, AllocError> {
     }
     let why = unread(kind);
     Ok(Unloaded::File(format!(in alloc; ": {why}")?))
-}
-
-/// Reads a file, at most one byte more than a script may have.
-fn read<R: AllocGlobal + Files>(rt: &R, file: &str) -> io::Result<Vec<u8>> {
-    let mut text = Vec::new(rt.alloc());
-    fs::open(rt, file)?.take(READ_LIMIT).read_to_end(&mut text)?;
-    Ok(text)
 }

@@ -1,4 +1,4 @@
-//! Where a report goes: standard output, and the file of `--tap`.
+//! Where a report goes: to a writer, and into the file of `--tap`.
 use std::alloc::{AllocError, Global};
 use std::fs;
 use std::io::{self, ErrorKind, Write};
@@ -12,14 +12,14 @@ use test_terms::{Options, Stop};
 pub(crate) struct Output<'a, R: Files> {
     rt: &'a R,
     options: &'a Options<'a>,
-    /// What is printed.
+    /// What the writer gets.
     shown: Page,
     /// What is written into the named file.
     kept: Page,
     file: Option<R::File>,
 }
 
-impl<'a, R: AllocGlobal + Clock + Files + Print> Output<'a, R> {
+impl<'a, R: AllocGlobal + Clock + Files> Output<'a, R> {
     /// Creates the file of `--tap`, which must not be one of the tested files.
     pub(crate) fn begin(rt: &'a R, options: &'a Options<'a>) -> Result<Output<'a, R>, Stop> {
         let alloc = rt.alloc();
@@ -44,32 +44,37 @@ impl<'a, R: AllocGlobal + Clock + Files + Print> Output<'a, R> {
         })
     }
 
-    /// Prints the points of a file.
-    pub(crate) fn tell_file(&mut self, file: &FileReport) -> Result<(), Stop> {
+    /// Writes the points of a file.
+    pub(crate) fn tell_file<W: Write>(
+        &mut self,
+        out: &mut W,
+        file: &FileReport,
+    ) -> Result<(), Stop> {
         let alloc = self.rt.alloc();
         self.shown.put_file(alloc, file)?;
         if self.file.is_some() {
             self.kept.put_file(alloc, file)?;
         }
-        self.tell()
+        self.tell(out)
     }
 
-    /// Prints the plan and the summary, and on a terminal the time taken.
-    pub(crate) fn end(&mut self, report: &Report) -> Result<(), Stop> {
+    /// Writes the plan and the summary, and on a terminal the time taken.
+    pub(crate) fn end<W: Write>(&mut self, out: &mut W, report: &Report) -> Result<(), Stop> {
         let alloc = self.rt.alloc();
         self.shown.put_summary(alloc, report)?;
         self.kept.put_summary(alloc, report)?;
-        self.tell()?;
+        self.tell(out)?;
         if self.options.screen.is_read {
             let millis = self.options.limit.millis(self.rt)?;
-            println!(self.rt; "time: {}.{} s", millis / 1_000, millis % 1_000 / 100)?;
+            let time = format!(in alloc; "time: {}.{} s\n", millis / 1_000, millis % 1_000 / 100)?;
+            out.write_all(time.as_bytes())?;
         }
         Ok(())
     }
 
-    /// Prints what isn't printed yet, and writes it into the file of `--tap`.
-    fn tell(&mut self) -> Result<(), Stop> {
-        self.rt.print(self.shown.text.as_str())?;
+    /// Writes what isn't written yet, also into the file of `--tap`.
+    fn tell<W: Write>(&mut self, out: &mut W) -> Result<(), Stop> {
+        out.write_all(self.shown.text.as_bytes())?;
         self.shown.text.clear();
         if let Some(file) = &mut self.file
             && let Some(path) = self.options.tap

@@ -3,8 +3,9 @@ ghost use Rattle.std.specs.Prelude.{◌≡◌, true};
 ghost use Rattle.guest_script.specs.Grammar.{content};
 ghost use Rattle.guest_programs.specs.Programs.{IsProgram};
 
-use crate::loading::{Unloaded, load};
+use crate::loading::{Unloaded, load, read};
 use crate::steps::test_steps;
+use crate::texts::Texts;
 use all_orders::{explore_program, test_all_orders};
 use diagnostics::Case;
 use guest_script::Body;
@@ -17,27 +18,42 @@ use test_terms::{Options, Stop, Trial, comments, unasked};
 use tried_orders::{test_orders, test_runs};
 
 /// Tests a file. A file that can't be read, or has a fault, is a failing point.
-pub(crate) fn test_file<'a, R: AllocGlobal + Clock + Eprint + Files + Sync + Threads + Wait>(
+pub(crate) fn test_file<
+    'a,
+    R: AllocGlobal + Clock + Eprint + Files + Sync + Threads + Wait,
+    T: Texts,
+>(
     rt: &'a R,
+    texts: &T,
     options: &'a Options<'a>,
     file: &'a str,
     record: &'a str,
 ) -> Result<FileReport, Stop> {
+    match read(rt.alloc(), texts, file) {
+        Ok(text) => test_text(rt, options, file, record, &text),
+        Err(unloaded) => untested(rt.alloc(), file, unloaded),
+    }
+}
+
+/// Tests a file of these bytes.
+fn test_text<'a, R: AllocGlobal + Clock + Eprint + Files + Sync + Threads + Wait>(
+    rt: &'a R,
+    options: &'a Options<'a>,
+    file: &'a str,
+    record: &'a str,
+    text: &'a [u8],
+) -> Result<FileReport, Stop> {
     let alloc = rt.alloc();
-    let loaded = match load(rt, file) {
+    let loaded = match load(alloc, text) {
         Ok(loaded) => loaded,
-        Err(Unloaded::NoMemory) => return Err(Stop::NoMemory),
-        Err(Unloaded::File(why)) => {
-            let name = format!(in alloc; "{file}{why}")?;
-            return Ok(failing(alloc, name)?);
-        }
+        Err(unloaded) => return untested(alloc, file, unloaded),
     };
     let trial = Trial {
         rt,
         options,
         case: Case {
             file,
-            text: &loaded.text,
+            text,
             conditions: &loaded.conditions,
         },
         record,
@@ -52,6 +68,17 @@ pub(crate) fn test_file<'a, R: AllocGlobal + Clock + Eprint + Files + Sync + Thr
         found.push(Point::new(alloc, name, Verdict::Fails))?;
     }
     Ok(found)
+}
+
+/// The report about a file that can't be tested.
+fn untested(alloc: Global, file: &str, unloaded: Unloaded) -> Result<FileReport, Stop> {
+    match unloaded {
+        Unloaded::NoMemory => Err(Stop::NoMemory),
+        Unloaded::File(why) => {
+            let name = format!(in alloc; "{file}{why}")?;
+            Ok(failing(alloc, name)?)
+        }
+    }
 }
 
 /// One point alone, which fails.

@@ -1,0 +1,29 @@
+use Rattle.std.proofs.Common.{◌∷◌, ◌++◌, ℕ, List, [], inl, inr, subst, sym, ap, ◌∙◌, arith}
+use Rattle.std.specs.Prelude.{slice_get}
+use Rattle.std.proofs.lemmas.List.{append_assoc, length-append}
+use Rattle.conditions.specs.declared.reading.Condition.{Condition}
+use Rattle.test_report.specs.declared.verdict.Verdict.{Verdict}
+use Rattle.tried_orders.specs.Verdicts.{IsFoundBy}
+use Rattle.tried_orders.proofs.Trying.{slice_get-either}
+use Rattle.tried_orders.proofs.points.put_points.Goals as goal
+
+pub loop-place-preserved : goal.loop-place-preserved
+loop-place-preserved g c =
+    let before = c.loop-place.invariant in
+    let one = c.in_ok-put_found.ensures.found in
+    let old : List Verdict = before.1.0 in
+    let conditions : List Condition = c.args.trial.now.case.conditions.now in (
+      c.put_found.ensures.cut ∙ before.0,
+      (
+        old ++ one.0 ∷ [],
+        one.1 ∙ ap (λ (all : List Verdict). all ++ one.0 ∷ []) before.1.1 ∙ append_assoc _ old (one.0 ∷ []),
+        (let long = before.1.2 in let is = length-append old (one.0 ∷ []) in omega arith),
+        (λ harts records right place verdict at.
+            elim (slice_get-either old one.0 place verdict at) [
+              | inl earlier ↦ before.1.3 harts records right place verdict earlier
+              | inr last ↦
+                  subst (λ (n : ℕ). IsFoundBy (slice_get conditions n) records verdict) (sym (last.0 ∙ before.1.2))
+                  (subst (λ (v : Verdict). IsFoundBy (slice_get conditions c.loop-place.place) records v) last.1 (one.2 harts records right))
+            ]),
+      ),
+    )

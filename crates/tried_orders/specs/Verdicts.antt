@@ -1,0 +1,113 @@
+-- What is found of a program's conditions by orders that were tried, or by runs on threads (profile).
+use Rattle.std.specs.Prelude.{◌≡◌, ◌⊎◌, ℕ, ◌+◌, ◌≤◌, max, Bool, true, false, List, [], ◌++◌, length, reverse, slice_get, Option, Some, None}
+use Rattle.std.specs.Global.{Vec}
+use Rattle.board_core.specs.Opening.{opening_at}
+use Rattle.board_terms.specs.declared.config.Config.{Config}
+use Rattle.conditions.specs.declared.reading.Condition.{Condition}
+use Rattle.conditions.specs.declared.rules.Ending.{Ending}
+use Rattle.conditions.specs.declared.rules.Rule.TheVariants.{CanEnd}
+use Rattle.conditions.specs.declared.vacuity.NeedsMet.{NeedsMet}
+use Rattle.conditions.specs.Endings.{ending}
+use Rattle.guest_script.specs.Grammar.{Content}
+use Rattle.guest_programs.specs.declared.ends.End.{End}
+use Rattle.guest_programs.specs.Ends.{IsEnd}
+use Rattle.guest_programs.specs.Programs.{blocks_of, ticks_of}
+use Rattle.hart_threads.specs.Shares.{IsRun}
+use Rattle.outcome_statistics.specs.declared.ends.Ends.{Ends}
+use Rattle.outcome_statistics.specs.declared.judgement.Judgement.{Judgement}
+use Rattle.outcome_statistics.specs.declared.judgement.Judgement.TheVariants as says
+use Rattle.outcome_statistics.specs.Findings.{AreEnded, AreOrders}
+use Rattle.outcome_statistics.specs.Judgements.{IsJudged}
+use Rattle.outcome_statistics.specs.Met.{AreNeedsMet}
+use Rattle.outcome_statistics.specs.Records.{EachIs, Tried}
+use Rattle.test_report.specs.declared.verdict.Unjudged.{Unjudged}
+use Rattle.test_report.specs.declared.verdict.Unjudged.TheVariants.{NoTime, NoOrder, NotAllOrders, TooMany}
+use Rattle.test_report.specs.declared.verdict.Verdict.{Verdict}
+use Rattle.test_report.specs.declared.verdict.Verdict.TheVariants.{Holds, Fails, Vacuous, NoEnd, Misfit, NotJudged}
+use Rattle.test_terms.specs.declared.options.Orders.{Orders}
+use Rattle.test_terms.specs.declared.options.Orders.TheVariants.{First, One}
+
+-- ---- what is tried
+
+-- the number of the first order that is asked for, and the number behind the last
+abbrev pub first_asked : Orders → ℕ
+first_asked (First many) = 0
+first_asked (One order) = order
+
+abbrev pub behind_asked : Orders → ℕ
+behind_asked (First many) = many
+behind_asked (One order) = order + 1
+
+-- These are the records of a program's orders that are asked for, the last in front: of each, or of the first ones if the time was over.
+pub record AreTriedOf (c : Config) (content : Content) (seed : ℕ) (asked : Orders) (is_cut : Bool) (tried : List Tried) : Type 0 where
+  pub to : ℕ
+  pub are : AreOrders c content seed (first_asked asked) tried to
+  pub most : to ≤ behind_asked asked
+  pub whole : is_cut ≡ false → to ≡ behind_asked asked
+
+-- The record, with its end, is that of a run of the program on threads that no gate held back.
+pub record IsRunRecord (c : Config) (content : Content) (x : Tried) : Type 0 where
+  pub end : End
+  pub ended : x.end ≡ ending end
+  pub is : IsEnd end (opening_at c) (reverse x.events) (blocks_of content)
+  pub run : IsRun (λ actor ordinal answer. answer ≡ true) (opening_at c) (blocks_of content) (ticks_of content) (reverse x.events) end
+
+-- These are the records of so many runs on threads, or of fewer if the time was over.
+pub record AreRunsOf (c : Config) (content : Content) (runs : ℕ) (is_cut : Bool) (tried : List Tried) : Type 0 where
+  pub each : EachIs (IsRunRecord c content) tried
+  pub most : length tried ≤ runs
+  pub whole : is_cut ≡ false → length tried ≡ runs
+
+-- ---- what is found of it
+
+-- which of the steps that a condition needs some of these records has
+abbrev pub AreItsNeeds : Option Condition → List Tried → NeedsMet → Type 0
+AreItsNeeds None tried met = Unit {0}
+AreItsNeeds (Some condition) tried met = AreNeedsMet condition.rule tried met
+
+-- These records say this of a condition, or of a program without any.
+pub record Say (asked : Option Condition) (tried : List Tried) (judgement : Judgement) : Type 0 where
+  pub met : NeedsMet
+  pub ends : Ends
+  pub needs : AreItsNeeds asked tried met
+  pub ended : AreEnded tried ends
+  pub judged : IsJudged asked tried met ends judgement
+
+-- No record has the step that one of the condition's patterns needs.
+abbrev pub SayVacuous : Option Condition → List Tried → Type 0
+SayVacuous asked tried = Say asked tried says.LacksFirst ⊎ Say asked tried says.LacksSecond
+
+-- a condition is about all orders together: how they can still end
+abbrev pub IsOfAll : Option Condition → Type 0
+IsOfAll None = ⊥
+IsOfAll (Some condition) = (ends : Vec Ending) × (condition.rule ≡ CanEnd ends)
+
+-- why these records don't judge it: there are none, or it is about all orders
+abbrev pub IsUnjudgedBy : Option Condition → List Tried → Unjudged → Type 0
+IsUnjudgedBy asked tried NoTime = tried ≡ []
+IsUnjudgedBy asked tried NoOrder = tried ≡ []
+IsUnjudgedBy asked tried NotAllOrders = IsOfAll asked
+IsUnjudgedBy asked tried (TooMany states) = ⊥
+
+-- What is found of a condition, or of a program without any, is what these records say. (Which words no step can have is tested.)
+abbrev pub IsFoundBy : Option Condition → List Tried → Verdict → Type 0
+IsFoundBy asked tried Holds = Say asked tried says.Holds
+IsFoundBy asked tried Fails = Say asked tried says.Fails ⊎ SayVacuous asked tried
+IsFoundBy asked tried (Vacuous missing) = SayVacuous asked tried
+IsFoundBy asked tried NoEnd = Say asked tried says.NoEnd
+IsFoundBy asked tried (Misfit misfit) = Unit {0}
+IsFoundBy asked tried (NotJudged why) = IsUnjudgedBy asked tried why
+
+-- Each of these is found of the condition in its place.
+abbrev pub EachIsFoundBy : List Condition → List Tried → List Verdict → Type 0
+EachIsFoundBy conditions tried found =
+    (place : ℕ) (verdict : Verdict) → slice_get found place ≡ Some verdict → IsFoundBy (slice_get conditions place) tried verdict
+
+-- By records that were tried, one verdict more is found of each condition, or of a program without any, in the conditions' order.
+pub record AddsVerdicts (Tries : List Tried → Type 0) (conditions : List Condition) (before after : List Verdict) : Type 0 where
+  pub tried : List Tried
+  pub are : Tries tried
+  pub more : List Verdict
+  pub added : after ≡ before ++ more
+  pub many : length more ≡ max (length conditions) 1
+  pub each : EachIsFoundBy conditions tried more
