@@ -43,7 +43,7 @@ fn ends<R: AllocGlobal + Print + Threads + Wait + Sync>(rt: &R) -> io::Result<()
     show(rt, "quiet-at-the-limit", scripts::EXACT, &Open)?;
     show(rt, "stuck-at-the-limit", scripts::ASLEEP, &Open)?;
     show(rt, "run-ends, quiet", scripts::ONE_ORDER, &Open)?;
-    show(rt, "run-ends, stuck", scripts::WAITING, &Open)?;
+    show(rt, "run-ends, stuck", scripts::ASLEEP, &Open)?;
     show(rt, "run-history-full", scripts::ENTERING, &Open)?;
     show(rt, "run-off", scripts::SHUTDOWN, &Open)?;
     show(rt, "run-clock", scripts::ONE_TICK, &Open)
@@ -51,7 +51,7 @@ fn ends<R: AllocGlobal + Print + Threads + Wait + Sync>(rt: &R) -> io::Result<()
 
 /// A clock does all of three thousand ticks, or as many as there is room for beside a hart that is through.
 fn many_ticks<R: AllocGlobal + Print + Threads + Wait + Sync>(rt: &R) -> io::Result<()> {
-    let lines = (3000, scripts::TICK);
+    let lines = (3000, scripts::TICK_LINE);
     show_with(rt, "many_ticks", scripts::CLOCK, lines, &Open)?;
     let lines = (3000, scripts::NO_TIME);
     show_with(
@@ -73,7 +73,7 @@ fn rests_before_the_clock<R: AllocGlobal + Print + Threads + Wait + Sync>(
         rt,
         "rests_before_the_clock",
         scripts::RESTING,
-        (2000, scripts::SIP),
+        (2000, scripts::SIP_LINE),
         &Holding::new(&holds, None),
     )
 }

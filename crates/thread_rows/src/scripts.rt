@@ -21,7 +21,7 @@ ecall 0x48534d 1
 ";
 
 /// A hart that waits for an interrupt which none sends.
-pub const WAITING: &[u8] = b"board 1 1 10 0 0x80000000 0x0
+pub const ASLEEP: &[u8] = b"board 1 1 10 0 0x80000000 0x0
 at 0x80000000
 wfi
 ";
@@ -176,7 +176,7 @@ clock
 ";
 
 /// A tick of one.
-pub const TICK: &[u8] = b"tick 1\n";
+pub const TICK_LINE: &[u8] = b"tick 1\n";
 
 /// A tick in which no time passes.
 pub const NO_TIME: &[u8] = b"tick 0\n";
@@ -196,4 +196,4 @@ ecall 0x48534d 0 2 0x80001000 0
 ";
 
 /// A hart reads sip.
-pub const SIP: &[u8] = b"sip\n";
+pub const SIP_LINE: &[u8] = b"sip\n";
