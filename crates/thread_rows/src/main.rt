@@ -43,7 +43,7 @@ fn ends<R: AllocGlobal + Print + Threads + Wait + Sync>(rt: &R) -> io::Result<()
     show(rt, "quiet-at-the-limit", scripts::EXACT, &Open)?;
     show(rt, "stuck-at-the-limit", scripts::ASLEEP, &Open)?;
     show(rt, "run-ends, quiet", scripts::ONE_ORDER, &Open)?;
-    show(rt, "run-ends, stuck", scripts::ASLEEP, &Open)?;
+    show(rt, "run-ends, stuck", scripts::NEVER_WOKEN, &Open)?;
     show(rt, "run-history-full", scripts::ENTERING, &Open)?;
     show(rt, "run-off", scripts::SHUTDOWN, &Open)?;
     show(rt, "run-clock", scripts::ONE_TICK, &Open)

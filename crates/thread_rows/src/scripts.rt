@@ -21,7 +21,7 @@ ecall 0x48534d 1
 ";
 
 /// A hart that waits for an interrupt which none sends.
-pub const ASLEEP: &[u8] = b"board 1 1 10 0 0x80000000 0x0
+pub const NEVER_WOKEN: &[u8] = b"board 1 1 10 0 0x80000000 0x0
 at 0x80000000
 wfi
 ";
