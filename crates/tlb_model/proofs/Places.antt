@@ -1,25 +1,23 @@
 -- What sixteen places keep: after a fill, after a fence, and as a look-up goes over them.
-use Rattle.std.proofs.Common.{◌≡◌, ◌≢◌, add-one, ℕ, zero, suc, ◌+◌, ◌-◌, ◌*◌, ◌/◌, ◌%◌, ◌^◌, ◌<◌, ◌≤◌, max, min, Bool, true, false, cond, not, ◌||◌, ◌==◌, List, [], ◌∷◌, ◌++◌, length, take, drop, get_or, set, ltb, refl, sym, ap, ◌∙◌, Option, Some, None, arith, append-nil, append_assoc}
-use Rattle.std.specs.Prelude.{◌&&◌, if◌then◌else◌, filter, find, map, option_map, reverse, slice_get}
-use Rattle.std.proofs.Math.Nat.{mod-eq_of_lt, mod-lt, pow-succ'}
-use Rattle.std.proofs.Math.Pow.{pow_mono}
-use Rattle.std.specs.Int.{bit_at}
-use Rattle.std.specs.Int.Count.{count_leading_zeros}
-use Rattle.std.specs.Int.RustNames.{bit_and, bit_or}
+use Rattle.std.proofs.Common.{◌≡◌, ◌≢◌, add-one, ℕ, zero, suc, ◌+◌, ◌-◌, ◌*◌, ◌/◌, ◌%◌, ◌^◌, ◌<◌, ◌≤◌, min, Bool, true, false, cond, not, ◌||◌, ◌==◌, List, [], ◌∷◌, ◌++◌, length, take, drop, get_or, set, ltb, refl, sym, ap, ◌∙◌, Option, Some, None, arith, append-nil, append_assoc}
+use Rattle.std.specs.Prelude.{filter, find, map, option_map, reverse, slice_get}
+use Rattle.std.proofs.Math.Nat.{mod-lt, pow-succ'}
+use Rattle.std.specs.Int.{bit_at, w32}
+use Rattle.std.specs.Int.Count.{count_leading_zeros, count_trailing_zeros}
+use Rattle.std.specs.Int.RustNames.{bit_and}
 use Rattle.std.specs.List.{refill}
 use Rattle.std.specs.Option.{option_or}
 use Rattle.std.proofs.lemmas.Bool.{eqb-false, eqb-true, le-ltb, lt-ltb, ltb-false, ltb-true}
-use Rattle.std.proofs.lemmas.List.{length-append, length-drop, map-append, reverse-append, take-append-le, take_all}
+use Rattle.std.proofs.lemmas.List.{drop-append-le, drop_all, length-append, length-take, map-append, reverse-append, take-append-le, take_all}
 use Rattle.std.proofs.lemmas.List.Folds.{find-append}
 use Rattle.std.proofs.lemmas.Nat.{and_le_l, div-add-mod', div-mul-add, leading_top, pow_pos}
-use Rattle.std.proofs.lemmas.Nat.Bits.{bit_at-lt, bit_at-suc, bit_at-zero, bit_at_above, bit_at_and, bit_at_cat_high, bit_at_cat_low, bit_at_lowest, bit_at_or}
+use Rattle.std.proofs.lemmas.Nat.Bits.{bit_at-lt, bit_at-trailing_zeros, bit_at-zero, bit_at_above, bit_at_cat_high, bit_at_cat_low, bit_at_clear_other, bit_at_clear_same}
 use Rattle.tlb_model.specs.declared.cache.Numbered.{Numbered}
 use Rattle.tlb_model.specs.Contents.{Contents, filled, is_young}
-use Rattle.tlb_model.specs.Inside.Places.{IsLast, kept, marked, marked_at, newest, seen, word_of}
-use Rattle.tlb_model.specs.Inside.KeptRights.{bit}
+use Rattle.tlb_model.specs.Inside.Places.{kept, marked, marked_at, seen}
 
 -- a set bit of a word is one of its bits
-pub bit-below : (a k i : ℕ) → a < 2 ^ k → bit_at a i ≡ 1 → i < k
+bit-below : (a k i : ℕ) → a < 2 ^ k → bit_at a i ≡ 1 → i < k
 bit-below a k i small set = by_size (ltb i k) refl
   where
     by_size : (b : Bool) → ltb i k ≡ b → i < k
@@ -29,18 +27,6 @@ bit-below a k i small set = by_size (ltb i k) refl
 -- the low bits of a word
 pub bit-mod : (a k i : ℕ) → i < k → bit_at (a % 2 ^ k) i ≡ bit_at a i
 bit-mod a k i below = sym (ap (λ v. bit_at v i) (sym (div-add-mod' a (2 ^ k))) ∙ bit_at_cat_low (a / 2 ^ k) k (a % 2 ^ k) i below)
-
--- a word without its low bits
-bit-rest_low : (a k i : ℕ) → i < k → bit_at (a - a % 2 ^ k) i ≡ 0
-bit-rest_low a k i below =
-    let rest : a - a % 2 ^ k ≡ (a / 2 ^ k) * 2 ^ k + 0 = omega (arith, div-add-mod' a (2 ^ k)) in
-    ap (λ v. bit_at v i) rest ∙ bit_at_cat_low (a / 2 ^ k) k 0 i below ∙ bit_at-zero i
-
-bit-rest_high : (a k i : ℕ) → k ≤ i → bit_at (a - a % 2 ^ k) i ≡ bit_at a i
-bit-rest_high a k i from =
-    let rest : a - a % 2 ^ k ≡ (a / 2 ^ k) * 2 ^ k + 0 = omega (arith, div-add-mod' a (2 ^ k)) in
-    ap (λ v. bit_at v i) rest ∙ bit_at_cat_high (a / 2 ^ k) k 0 i (pow_pos k) from
-    ∙ sym (ap (λ v. bit_at v i) (sym (div-add-mod' a (2 ^ k))) ∙ bit_at_cat_high (a / 2 ^ k) k (a % 2 ^ k) i (mod-lt a (pow_pos k)) from)
 
 -- an item of a list written over, and one more at its end
 module _ {E : Type 0} where
@@ -76,25 +62,6 @@ module _ {E : Type 0} where
   at [] i below = absurd (omega arith)
   at (x ∷ xs) zero below = record { item = x; here = refl; more = refl }
   at (x ∷ xs) (suc i) below = let next = at xs i (omega arith) in record { item = next.item; here = next.here; more = ap (λ ys. x ∷ ys) next.more }
-
-  pub below_length : (xs : List E) (i : ℕ) (x : E) → slice_get xs i ≡ Some x → i < length xs
-  below_length [] i x here = cc
-  below_length (y ∷ xs) zero x here = omega arith
-  below_length (y ∷ xs) (suc i) x here = let l = below_length xs i x here in omega arith
-
-pub last-bit : (a : ℕ) → 0 < a → a < 2 ^ 32 → IsLast a (31 - count_leading_zeros 32 a)
-last-bit a some word =
-    let top = leading_top 32 a some word in
-    let j = top.0 in
-    let at : 31 - count_leading_zeros 32 a ≡ j = omega (arith, top.1) in
-    let two : 2 ^ suc j ≡ 2 * 2 ^ j = pow-succ' 2 j in
-    let one : a / 2 ^ j ≡ 1 =
-    ap (λ v. v / 2 ^ j) (let e : a ≡ 1 * 2 ^ j + (a - 2 ^ j) = omega (arith, top.2) in e) ∙ div-mul-add 1 (2 ^ j) (a - 2 ^ j) (omega (arith, top.2, top.3, two)) in
-    let set : bit_at a j ≡ 1 = ap (λ v. v % 2) one in
-    rw at (record {
-      set = set;
-      none = λ i up. bit_at_above a (suc j) i top.3 (omega arith);
-    })
 
 module _ {E : Type 0} where
   length-kept : (place : Option E) (is_dropped : Bool) (date number : ℕ) → length (kept place is_dropped date number) ≤ 1
@@ -230,7 +197,7 @@ module _ {E : Type 0} where
   refill-same xs ws long = take-append-le (length xs) ws (drop (length ws) xs) (omega arith) ∙ take_all (length xs) ws (omega arith)
 
   -- what a fence leaves, by its places
-  pub fenced-places : (p : Numbered E → Bool) (q : E → Bool) → ((fill : Numbered E) → p fill ≡ not (q fill.item)) → (n k : ℕ) (places : List E) (ds : List ℕ) (d w : ℕ)
+  fenced-places : (p : Numbered E → Bool) (q : E → Bool) → ((fill : Numbered E) → p fill ≡ not (q fill.item)) → (n k : ℕ) (places : List E) (ds : List ℕ) (d w : ℕ)
       → ((i : ℕ) (item : E) → i < 16 → slice_get places i ≡ Some item → (bit_at w i == 1) ≡ (bit_at d i == 1) || q item)
       → seen n k places ds w ≡ filter p (seen n k places ds d)
   fenced-places p q is zero k places ds d w which = refl
@@ -255,6 +222,85 @@ module _ {E : Type 0} where
       by_place (Some item) here rest =
           by_bits item (bit_at w (n % 16) == 1) (bit_at d (n % 16) == 1) (q item) (here item (omega arith) refl) (is (record { date = get_or ds (n % 16) 0; number = n; item = item })) rest
 
+  -- a fence that has looked at all places but those whose bits are left
+  pub record IsFenced (q : E → Bool) (places : List E) (d left w : ℕ) : Type 0 where
+    pub done : (i : ℕ) (item : E) → i < 16 → slice_get places i ≡ Some item → bit_at left i ≡ 0 → (bit_at w i == 1) ≡ (bit_at d i == 1) || q item
+    pub undone : (i : ℕ) → i < 16 → bit_at left i ≡ 1 → (bit_at w i ≡ 0) × (bit_at d i ≡ 0)
+
+  -- no two items stand in one place
+  same_place : (q : E → Bool) (places : List E) (i j : ℕ) (x y : E) → i ≡ j → slice_get places i ≡ Some x → slice_get places j ≡ Some y → q x ≡ q y
+  same_place q places i j x y e here there = ap test (sym here ∙ ap (slice_get places) e ∙ there)
+    where
+      test : Option E → Bool
+      test None = false
+      test (Some z) = q z
+
+  pub fence_begins : (q : E → Bool) (places : List E) (d left : ℕ) → length places ≤ 16 → left < 2 ^ length places
+      → ((i : ℕ) → i < length places → bit_at left i ≡ 1 - bit_at d i) → IsFenced q places d left d
+  fence_begins q places d left few small bits = record {
+    done = λ i item below here clear.
+        let within = below_length places i item here in
+        let gone : bit_at d i ≡ 1 = omega (arith, bits i within, clear, bit_at-lt d i) in
+        rw gone refl;
+    undone = λ i below set.
+        let kept : bit_at d i ≡ 0 = omega (arith, bits i (bit-below left (length places) i small set), set) in
+        (kept, kept);
+  }
+    where
+      below_length : (xs : List E) (i : ℕ) (x : E) → slice_get xs i ≡ Some x → i < length xs
+      below_length [] i x here = cc
+      below_length (y ∷ xs) zero x here = omega arith
+      below_length (y ∷ xs) (suc i) x here = let l = below_length xs i x here in omega arith
+
+  pub fence_drops : (q : E → Bool) (places : List E) (d left w rest v place : ℕ) (item : E) → IsFenced q places d left w → place < 16
+      → slice_get places place ≡ Some item → q item ≡ true → bit_at left place ≡ 1 → bit_at rest place ≡ 0
+      → ((i : ℕ) → i < 16 → i ≢ place → bit_at rest i ≡ bit_at left i) → bit_at v place ≡ 1 → ((i : ℕ) → i ≢ place → bit_at v i ≡ bit_at w i)
+      → IsFenced q places d rest v
+  fence_drops q places d left w rest v place item before below here covered set clear same dropped others = record {
+    done = λ i x within there looked. done i x within there looked (i == place) refl;
+    undone = λ i within is.
+        let other : i ≢ place = λ e. absurd (omega (arith, is, ap (bit_at rest) e, clear)) in
+        let was = before.undone i within (sym (same i within other) ∙ is) in
+        (others i other ∙ was.0, was.1);
+  }
+    where
+      done : (i : ℕ) (x : E) → i < 16 → slice_get places i ≡ Some x → bit_at rest i ≡ 0 → (b : Bool) → (i == place) ≡ b → (bit_at v i == 1) ≡ (bit_at d i == 1) || q x
+      done i x within there looked true is =
+          let e = eqb-true i place is in
+          let old : bit_at d i ≡ 0 = ap (bit_at d) e ∙ (before.undone place below set).1 in
+          let new : bit_at v i ≡ 1 = ap (bit_at v) e ∙ dropped in
+          let one : q x ≡ true = same_place q places i place x item e there here ∙ covered in
+          rw (old, new, one) refl
+      done i x within there looked false is =
+          let other = eqb-false i place is in
+          ap (λ b. b == 1) (others i other) ∙ before.done i x within there (sym (same i within other) ∙ looked)
+
+  pub fence_spares : (q : E → Bool) (places : List E) (d left w rest place : ℕ) (item : E) → IsFenced q places d left w → place < 16
+      → slice_get places place ≡ Some item → q item ≡ false → bit_at left place ≡ 1 → bit_at rest place ≡ 0
+      → ((i : ℕ) → i < 16 → i ≢ place → bit_at rest i ≡ bit_at left i) → IsFenced q places d rest w
+  fence_spares q places d left w rest place item before below here spared set clear same = record {
+    done = λ i x within there looked. done i x within there looked (i == place) refl;
+    undone = λ i within is.
+        let other : i ≢ place = λ e. absurd (omega (arith, is, ap (bit_at rest) e, clear)) in
+        before.undone i within (sym (same i within other) ∙ is);
+  }
+    where
+      done : (i : ℕ) (x : E) → i < 16 → slice_get places i ≡ Some x → bit_at rest i ≡ 0 → (b : Bool) → (i == place) ≡ b → (bit_at w i == 1) ≡ (bit_at d i == 1) || q x
+      done i x within there looked true is =
+          let e = eqb-true i place is in
+          let was = before.undone place below set in
+          let old : bit_at d i ≡ 0 = ap (bit_at d) e ∙ was.1 in
+          let new : bit_at w i ≡ 0 = ap (bit_at w) e ∙ was.0 in
+          let one : q x ≡ false = same_place q places i place x item e there here ∙ spared in
+          rw (old, new, one) refl
+      done i x within there looked false is =
+          let other = eqb-false i place is in
+          before.done i x within there (sym (same i within other) ∙ looked)
+
+  pub fence_ends : (p : Numbered E → Bool) (q : E → Bool) → ((fill : Numbered E) → p fill ≡ not (q fill.item)) → (n k : ℕ) (places : List E) (ds : List ℕ) (d w : ℕ)
+      → IsFenced q places d 0 w → seen n k places ds w ≡ filter p (seen n k places ds d)
+  fence_ends p q is n k places ds d w all = fenced-places p q is n k places ds d w (λ i item below here. all.done i item below here (bit_at-zero i))
+
   -- the newest fills, and the others
   seen-split : (n a b k m : ℕ) (places : List E) (ds : List ℕ) (d : ℕ) → m + a ≡ n → a + b ≡ k → seen n k places ds d ≡ seen n a places ds d ++ seen m b places ds d
   seen-split n zero b k m places ds d parts whole =
@@ -267,6 +313,53 @@ module _ {E : Type 0} where
       ap (λ zs. kept (slice_get places (n % 16)) (bit_at d (n % 16) == 1) (get_or ds (n % 16) 0) n ++ zs) (seen-split n a b k m places ds d (omega arith) (omega arith))
       ∙ sym (append_assoc (kept (slice_get places (n % 16)) (bit_at d (n % 16) == 1) (get_or ds (n % 16) 0) n) (seen n a places ds d) (seen m b places ds d))
 
+  -- so many fills within one turn over the places, by the items of the places, from the last one down
+  items_down : (n base i j : ℕ) (places : List E) (ds : List ℕ) → n ≡ base + i → base % 16 ≡ 0 → i ≤ 16 → i ≤ length places → j ≤ i
+      → map (λ fill. fill.item) (seen n j places ds 0) ≡ reverse (drop (i - j) (take i places))
+  items_down n base i zero places ds is turn within full down =
+      ap (map (λ fill. fill.item)) (seen-none n places ds 0) ∙ sym (ap reverse (drop_all (i - 0) (take i places) (omega (arith, length-take i places))))
+  items_down n base zero (suc j) places ds is turn within full down = absurd (omega arith)
+  items_down n base (suc i) (suc j) places ds is turn within full down =
+      let x = at places i (omega arith) in
+      let place : (base + i) % 16 ≡ i = omega arith in
+      let one : map (λ fill. fill.item) (seen n (suc j) places ds 0) ≡ x.item ∷ map (λ fill. fill.item) (seen (base + i) j places ds 0) =
+      ap (map (λ fill. fill.item)) (seen-at n (suc j) (base + i) j places ds 0 (omega arith) refl
+      ∙ ap (λ b. kept (slice_get places ((base + i) % 16)) (b == 1) (get_or ds ((base + i) % 16) 0) (base + i) ++ seen (base + i) j places ds 0) (bit_at-zero ((base + i) % 16))
+      ∙ ap (λ q. kept (slice_get places q) false (get_or ds ((base + i) % 16) 0) (base + i) ++ seen (base + i) j places ds 0) place
+      ∙ ap (λ q. kept q false (get_or ds ((base + i) % 16) 0) (base + i) ++ seen (base + i) j places ds 0) x.here) in
+      let less : suc i - suc j ≡ i - j = omega arith in
+      let cut : drop (suc i - suc j) (take (suc i) places) ≡ drop (i - j) (take i places) ++ x.item ∷ [] =
+      ap (λ q. drop q (take (suc i) places)) less ∙ ap (drop (i - j)) x.more
+      ∙ drop-append-le (i - j) (take i places) (x.item ∷ []) (omega (arith, length-take i places)) in
+      one ∙ ap (λ zs. x.item ∷ zs) (items_down (base + i) base i j places ds refl turn (omega arith) (omega arith) (omega arith))
+      ∙ sym (ap reverse cut ∙ reverse-append (drop (i - j) (take i places)) (x.item ∷ []))
+
+  -- all of them, where none was dropped: those before the place of the next fill, and then those from it on
+  items_all : (n : ℕ) (places : List E) (ds : List ℕ) → length places ≡ min 16 n
+      → map (λ fill. fill.item) (seen n 16 places ds 0) ≡ reverse (take (n % 16) places) ++ reverse (drop (n % 16) places)
+  items_all n places ds full =
+      let c = n % 16 in
+      let whole : c + (16 - c) ≡ 16 = omega arith in
+      let nothing : c - c ≡ 0 = omega arith in
+      let newer : map (λ fill. fill.item) (seen n c places ds 0) ≡ reverse (take c places) =
+      items_down n (n - c) c c places ds (omega arith) (omega arith) (omega arith) (omega (arith, full)) (omega arith)
+      ∙ ap (λ q. reverse (drop q (take c places))) nothing in
+      ap (map (λ fill. fill.item)) (seen-split n c (16 - c) 16 (n - c) places ds 0 (omega arith) whole)
+      ∙ map-append (λ fill. fill.item) (seen n c places ds 0) (seen (n - c) (16 - c) places ds 0)
+      ∙ ap (λ zs. zs ++ map (λ fill. fill.item) (seen (n - c) (16 - c) places ds 0)) newer
+      ∙ ap (λ zs. reverse (take c places) ++ zs) (older (ltb n 16) refl)
+    where
+      older : (b : Bool) → ltb n 16 ≡ b → map (λ fill. fill.item) (seen (n - n % 16) (16 - n % 16) places ds 0) ≡ reverse (drop (n % 16) places)
+      older true young =
+          let few = ltb-true n 16 young in
+          let none : n - n % 16 ≡ 0 = omega arith in
+          ap (λ m. map (λ fill. fill.item) (seen m (16 - n % 16) places ds 0)) none ∙ sym (ap reverse (drop_all (n % 16) places (omega (arith, full))))
+      older false old =
+          let many = ltb-false n 16 old in
+          let cut : 16 - (16 - n % 16) ≡ n % 16 = omega arith in
+          items_down (n - n % 16) (n - n % 16 - 16) 16 (16 - n % 16) places ds (omega arith) (omega arith) (omega arith) (omega (arith, full)) (omega arith)
+          ∙ ap (λ q. reverse (drop q (take 16 places))) cut ∙ ap (λ zs. reverse (drop (n % 16) zs)) (take_all 16 places (omega (arith, full)))
+
   find_item : (h : E → Bool) (fills : List (Numbered E)) → option_map (λ fill. fill.item) (find (λ fill. h fill.item) fills) ≡ find h (map (λ fill. fill.item) fills)
   find_item h [] = refl
   find_item h (fill ∷ fills) = by_test (h fill.item) (find_item h fills)
@@ -275,6 +368,13 @@ module _ {E : Type 0} where
           → option_map (λ other. other.item) (cond b (Some fill) (find (λ other. h other.item) fills)) ≡ cond b (Some fill.item) (find h (map (λ other. other.item) fills))
       by_test true rest = refl
       by_test false rest = rest
+
+  -- the look-up where none was dropped, in two parts
+  pub hit-halves : (h : E → Bool) (n : ℕ) (places : List E) (ds : List ℕ) → length places ≡ min 16 n
+      → option_map (λ fill. fill.item) (find (λ fill. h fill.item) (seen n 16 places ds 0))
+      ≡ option_or (find h (reverse (take (n % 16) places))) (find h (reverse (drop (n % 16) places)))
+  hit-halves h n places ds full =
+      find_item h (seen n 16 places ds 0) ∙ ap (find h) (items_all n places ds full) ∙ find-append h (reverse (take (n % 16) places)) (reverse (drop (n % 16) places))
 
   -- none of so many places has its bit set
   pub marked-none : (k : ℕ) (places : List E) (w : ℕ) → ((i : ℕ) → i < k → bit_at w i ≡ 0) → marked k places w ≡ []
@@ -303,6 +403,27 @@ module _ {E : Type 0} where
           let above = ltb-false k j is in
           ap (λ b. marked_at (slice_get places k) (b == 1) ++ marked k places w) (none k above (omega arith)) ∙ out (slice_get places k) ∙ rest above
 
+  marked-agree : (k : ℕ) (places : List E) (v w : ℕ) → ((i : ℕ) → i < k → bit_at v i ≡ bit_at w i) → marked k places v ≡ marked k places w
+  marked-agree zero places v w same = refl
+  marked-agree (suc k) places v w same =
+      ap (λ b. marked_at (slice_get places k) (b == 1) ++ marked k places v) (same k (omega arith))
+      ∙ ap (λ zs. marked_at (slice_get places k) (bit_at w k == 1) ++ zs) (marked-agree k places v w (λ i below. same i (omega arith)))
+
+  -- the item of the last place whose bit is set, and the others
+  pub marked-last : (j k : ℕ) (places : List E) (v w : ℕ) (item : E) → j < k → slice_get places j ≡ Some item → bit_at v j ≡ 1
+      → ((i : ℕ) → j < i → i < k → bit_at v i ≡ 0) → bit_at w j ≡ 0 → ((i : ℕ) → i < k → i ≢ j → bit_at w i ≡ bit_at v i)
+      → marked k places v ≡ item ∷ marked k places w
+  marked-last j k places v w item below here set none clear same =
+      marked-low (suc j) k places v below (λ i from to. none i from to)
+      ∙ ap (λ b. marked_at (slice_get places j) (b == 1) ++ marked j places v) set
+      ∙ ap (λ place. marked_at place true ++ marked j places v) here
+      ∙ ap (λ zs. item ∷ zs) (marked-agree j places v w (λ i few. sym (same i (omega arith) (λ e. omega arith)))
+      ∙ sym (marked-low j k places w (omega arith) (λ i from to. above i from to (ltb j i) refl)))
+    where
+      above : (i : ℕ) → j ≤ i → i < k → (b : Bool) → ltb j i ≡ b → bit_at w i ≡ 0
+      above i from to true is = let up = ltb-true j i is in same i to (λ e. omega arith) ∙ none i up to
+      above i from to false is = let e : i ≡ j = omega (arith, ltb-false j i is) in ap (bit_at w) e ∙ clear
+
   -- so many fills within one turn over the places, from the last place down
   seen_marked : (n base i j : ℕ) (places : List E) (ds : List ℕ) (d w : ℕ) → n ≡ base + i → base % 16 ≡ 0 → i ≤ 16 → j ≤ i
       → ((q : ℕ) → q < i → i ≤ q + j → bit_at w q ≡ 1 - bit_at d q) → ((q : ℕ) → q + j < i → bit_at w q ≡ 0)
@@ -325,8 +446,8 @@ module _ {E : Type 0} where
       one (Some item) (suc zero) new small is = rw is refl
       one (Some item) (suc (suc old)) new small is = absurd (omega arith)
 
-  -- the look-up in two parts: the bits of the places before that of the next fill, and the others
-  hit-marked : (h : E → Bool) (n : ℕ) (places : List E) (ds : List ℕ) (d w : ℕ) → length places ≡ min 16 n → w < 2 ^ length places
+  -- the look-up where some were dropped, in two parts: the bits of the places before that of the next fill, and the others
+  pub hit-marked : (h : E → Bool) (n : ℕ) (places : List E) (ds : List ℕ) (d w : ℕ) → length places ≡ min 16 n → w < 2 ^ length places
       → ((q : ℕ) → q < length places → bit_at w q ≡ 1 - bit_at d q)
       → option_map (λ fill. fill.item) (find (λ fill. h fill.item) (seen n 16 places ds d))
       ≡ option_or (find h (marked (length places) places (w % 2 ^ (n % 16)))) (find h (marked (length places) places (w - w % 2 ^ (n % 16))))
@@ -377,189 +498,6 @@ module _ {E : Type 0} where
           (λ q below from. high q (omega arith) ∙ bits q (omega (arith, full)))
           (λ q below. bit_at_cat_low (w / 2 ^ (n % 16)) (n % 16) 0 q (omega arith) ∙ bit_at-zero q)
 
-  -- a word has the bits of the marked places whose items pass
-  abbrev Narrows : (h : E → Bool) (places : List E) (w v : ℕ) → Type 0
-  Narrows h places w v = (i : ℕ) (item : E) → slice_get places i ≡ Some item → (bit_at v i == 1) ≡ ((bit_at w i == 1) && h item)
-
-  -- the first item that passes, from the last place down, is at the last bit of those whose items pass
-  find-narrow : (h : E → Bool) (k : ℕ) (places : List E) (w v : ℕ) → Narrows h places w v → find h (marked k places w) ≡ find (λ x. true) (marked k places v)
-  find-narrow h zero places w v both = refl
-  find-narrow h (suc k) places w v both = by_place (slice_get places k) (both k) (find-narrow h k places w v both)
-    where
-      by_bits : (item : E) (old new met : Bool) → new ≡ (old && met) → h item ≡ met → find h (marked k places w) ≡ find (λ x. true) (marked k places v)
-          → find h (marked_at (Some item) old ++ marked k places w) ≡ find (λ x. true) (marked_at (Some item) new ++ marked k places v)
-      by_bits item false false met e is rest = rest
-      by_bits item false true met e is rest = cc
-      by_bits item true true true e is rest = rw is refl
-      by_bits item true false false e is rest = rw is rest
-      by_bits item true true false e is rest = cc
-      by_bits item true false true e is rest = cc
-
-      by_place : (place : Option E) → ((item : E) → place ≡ Some item → (bit_at v k == 1) ≡ ((bit_at w k == 1) && h item)) → find h (marked k places w) ≡ find (λ x. true) (marked k places v)
-          → find h (marked_at place (bit_at w k == 1) ++ marked k places w) ≡ find (λ x. true) (marked_at place (bit_at v k == 1) ++ marked k places v)
-      by_place None here rest = rest
-      by_place (Some item) here rest = by_bits item (bit_at w k == 1) (bit_at v k == 1) (h item) (here item refl) refl rest
-
-  find-last : (k j : ℕ) (places : List E) (v : ℕ) (item : E) → j < k → slice_get places j ≡ Some item → bit_at v j ≡ 1 → ((i : ℕ) → j < i → bit_at v i ≡ 0)
-      → find (λ x. true) (marked k places v) ≡ Some item
-  find-last k j places v item below here set none =
-      ap (find (λ x. true)) (marked-low (suc j) k places v below (λ i from to. none i from)
-      ∙ ap (λ b. marked_at (slice_get places j) (b == 1) ++ marked j places v) set
-      ∙ ap (λ place. marked_at place true ++ marked j places v) here)
-
-  -- the same of the bits before a place, and of the others
-  narrow-low : (h : E → Bool) (places : List E) (w v c : ℕ) → Narrows h places w v → Narrows h places (w % 2 ^ c) (v % 2 ^ c)
-  narrow-low h places w v c both i item here = by_size (ltb i c) refl
-    where
-      by_size : (b : Bool) → ltb i c ≡ b → (bit_at (v % 2 ^ c) i == 1) ≡ ((bit_at (w % 2 ^ c) i == 1) && h item)
-      by_size true is = let below = ltb-true i c is in rw (bit-mod v c i below, bit-mod w c i below) (both i item here)
-      by_size false is =
-          let from = ltb-false i c is in
-          rw (bit_at_above (v % 2 ^ c) c i (mod-lt v (pow_pos c)) from, bit_at_above (w % 2 ^ c) c i (mod-lt w (pow_pos c)) from) refl
-
-  narrow-rest : (h : E → Bool) (places : List E) (w v c : ℕ) → Narrows h places w v → Narrows h places (w - w % 2 ^ c) (v - v % 2 ^ c)
-  narrow-rest h places w v c both i item here = by_size (ltb i c) refl
-    where
-      by_size : (b : Bool) → ltb i c ≡ b → (bit_at (v - v % 2 ^ c) i == 1) ≡ ((bit_at (w - w % 2 ^ c) i == 1) && h item)
-      by_size true is = let below = ltb-true i c is in rw (bit-rest_low v c i below, bit-rest_low w c i below) refl
-      by_size false is = let from = ltb-false i c is in rw (bit-rest_high v c i from, bit-rest_high w c i from) (both i item here)
-
-  -- whether there is an item that passes
-  abbrev passes : (h : E → Bool) → Option E → Bool
-  passes h None = false
-  passes h (Some item) = h item
-
-  -- a word of what passes
-  pub bit-word_of : (h : E → Bool) (items : List E) (i : ℕ) (item : E) → slice_get items i ≡ Some item → (bit_at (word_of h items) i == 1) ≡ h item
-  bit-word_of h [] i item here = cc
-  bit-word_of h (x ∷ items) zero item here = first (h x) ∙ ap (passes h) here
-    where
-      first : (b : Bool) → (bit_at (bit b + 2 * word_of h items) 0 == 1) ≡ b
-      first true = ap (λ n. n == 1) (bit_at_lowest (1 + 2 * word_of h items) ∙ let e : (1 + 2 * word_of h items) % 2 ≡ 1 = omega arith in e)
-      first false = ap (λ n. n == 1) (bit_at_lowest (0 + 2 * word_of h items) ∙ let e : (0 + 2 * word_of h items) % 2 ≡ 0 = omega arith in e)
-  bit-word_of h (x ∷ items) (suc i) item here =
-      ap (λ n. n == 1) (bit_at-suc (bit (h x) + 2 * word_of h items) i ∙ ap (λ n. bit_at n i) (half (h x))) ∙ bit-word_of h items i item here
-    where
-      half : (b : Bool) → (bit b + 2 * word_of h items) / 2 ≡ word_of h items
-      half true = omega arith
-      half false = omega arith
-
-  pub word_of-lt : (h : E → Bool) (items : List E) → word_of h items < 2 ^ length items
-  word_of-lt h [] = omega arith
-  word_of-lt h (x ∷ items) = by_test (h x) (word_of-lt h items)
-    where
-      by_test : (b : Bool) → word_of h items < 2 ^ length items → bit b + 2 * word_of h items < 2 ^ suc (length items)
-      by_test true rest = omega (arith, rest, pow-succ' 2 (length items))
-      by_test false rest = omega (arith, rest, pow-succ' 2 (length items))
-
-  -- of sixteen items or fewer, in a word of 16 bits
-  pub word_of-fits : (h : E → Bool) (items : List E) (i : ℕ) → length items ≤ 16 → word_of h (drop i items) < 65536
-  word_of-fits h items i few =
-      let left : length (drop i items) ≤ 16 = omega (arith, few, length-drop i items) in
-      omega (arith, word_of-lt h (drop i items), pow_mono left)
-
-  pub word_of-append : (h : E → Bool) (xs ys : List E) → word_of h (xs ++ ys) ≡ word_of h xs + word_of h ys * 2 ^ length xs
-  word_of-append h [] ys = omega arith
-  word_of-append h (x ∷ xs) ys = omega (arith, word_of-append h xs ys, two)
-    where
-      two : word_of h ys * 2 ^ suc (length xs) ≡ 2 * (word_of h ys * 2 ^ length xs)
-      two = ap (λ q. word_of h ys * q) (pow-succ' 2 (length xs)) ∙ omega arith
-
-  -- the bits of a fence: of the places whose items it covers, beside those that were dropped before
-  pub covers-bits : (q : E → Bool) (places : List E) (d : ℕ) (i : ℕ) (item : E) → slice_get places i ≡ Some item
-      → (bit_at (bit_or d (word_of q places)) i == 1) ≡ (bit_at d i == 1) || q item
-  covers-bits q places d i item here =
-      rw (bit_at_or d (word_of q places) i) (both (bit_at d i) (bit_at (word_of q places) i) (bit_at-lt d i) (bit_at-lt (word_of q places) i) (bit-word_of q places i item here))
-    where
-      both : (a b : ℕ) → a < 2 → b < 2 → (b == 1) ≡ q item → (max a b == 1) ≡ (a == 1) || q item
-      both zero zero x y is = is
-      both zero (suc zero) x y is = is
-      both (suc zero) zero x y is = refl
-      both (suc zero) (suc zero) x y is = refl
-      both (suc (suc a)) b x y is = absurd (omega arith)
-      both zero (suc (suc b)) x y is = absurd (omega arith)
-      both (suc zero) (suc (suc b)) x y is = absurd (omega arith)
-
-  -- The look-up by bits: those of the places whose items pass and, by this word, weren't dropped.
-  module _ (h : E → Bool) (n : ℕ) (places : List E) (ds : List ℕ) (d : ℕ) (full : length places ≡ min 16 n) (u : ℕ)
-      (others : (i : ℕ) → i < 16 → bit_at u i ≡ 1 - bit_at d i) where
-    abbrev pub live-word : ℕ
-    live-word = bit_and (word_of h places) u
-
-    abbrev kept-word : ℕ
-    kept-word = u % 2 ^ length places
-
-    kept-bit : (i : ℕ) → i < length places → bit_at kept-word i ≡ 1 - bit_at d i
-    kept-bit i below = bit-mod u (length places) i below ∙ others i (omega (arith, full, below))
-
-    narrows : Narrows h places kept-word live-word
-    narrows i item here =
-        let below = below_length places i item here in
-        rw (bit_at_and (word_of h places) u i, bit-mod u (length places) i below)
-        (both (bit_at (word_of h places) i) (bit_at u i) (bit_at-lt (word_of h places) i) (bit_at-lt u i) (bit-word_of h places i item here))
-      where
-        both : (a b : ℕ) → a < 2 → b < 2 → (a == 1) ≡ h item → (min a b == 1) ≡ ((b == 1) && h item)
-        both zero zero x y is = refl
-        both zero (suc zero) x y is = is
-        both (suc zero) zero x y is = refl
-        both (suc zero) (suc zero) x y is = is
-        both (suc (suc a)) b x y is = absurd (omega arith)
-        both zero (suc (suc b)) x y is = absurd (omega arith)
-        both (suc zero) (suc (suc b)) x y is = absurd (omega arith)
-
-    abbrev looked : Option E
-    looked = option_map (λ fill. fill.item) (find (λ fill. h fill.item) (seen n 16 places ds d))
-
-    abbrev first : ℕ → Option E
-    first v = find (λ x. true) (marked (length places) places v)
-
-    in_halves : looked ≡ option_or (first (live-word % 2 ^ (n % 16))) (first (live-word - live-word % 2 ^ (n % 16)))
-    in_halves =
-        hit-marked h n places ds d kept-word full (mod-lt u (pow_pos (length places))) kept-bit
-        ∙ ap (λ o. option_or o (find h (marked (length places) places (kept-word - kept-word % 2 ^ (n % 16)))))
-        (find-narrow h (length places) places (kept-word % 2 ^ (n % 16)) (live-word % 2 ^ (n % 16)) (narrow-low h places kept-word live-word (n % 16) narrows))
-        ∙ ap (option_or (first (live-word % 2 ^ (n % 16))))
-        (find-narrow h (length places) places (kept-word - kept-word % 2 ^ (n % 16)) (live-word - live-word % 2 ^ (n % 16)) (narrow-rest h places kept-word live-word (n % 16) narrows))
-
-    nothing : first 0 ≡ None
-    nothing = ap (find (λ x. true)) (marked-none (length places) places 0 (λ i below. bit_at-zero i))
-
-    pub live-lt : live-word < 2 ^ length places
-    live-lt = omega (arith, and_le_l (word_of h places) u, word_of-lt h places)
-
-    pub miss : live-word ≡ 0 → looked ≡ None
-    miss none =
-        let low : live-word % 2 ^ (n % 16) ≡ 0 = ap (λ v. v % 2 ^ (n % 16)) none ∙ mod-eq_of_lt (pow_pos (n % 16)) in
-        let rest : live-word - live-word % 2 ^ (n % 16) ≡ 0 = omega (arith, none) in
-        in_halves ∙ ap (λ w. option_or (first w) (first (live-word - live-word % 2 ^ (n % 16)))) low
-        ∙ ap (λ o. option_or o (first (live-word - live-word % 2 ^ (n % 16)))) nothing ∙ ap first rest ∙ nothing
-
-    pub newest-lt : newest live-word (n % 16) < 2 ^ length places
-    newest-lt = by_test (live-word % 2 ^ (n % 16) == 0)
-      where
-        by_test : (b : Bool) → (if b then live-word else live-word % 2 ^ (n % 16)) < 2 ^ length places
-        by_test true = live-lt
-        by_test false = omega (arith, live-lt, div-add-mod' live-word (2 ^ (n % 16)))
-
-    pub newest-some : live-word ≢ 0 → newest live-word (n % 16) ≢ 0
-    newest-some some = by_test (live-word % 2 ^ (n % 16) == 0) refl
-      where
-        by_test : (b : Bool) → (live-word % 2 ^ (n % 16) == 0) ≡ b → (if b then live-word else live-word % 2 ^ (n % 16)) ≢ 0
-        by_test true is = some
-        by_test false is = eqb-false (live-word % 2 ^ (n % 16)) 0 is
-
-    pub meet : (place : ℕ) (item : E) → IsLast (newest live-word (n % 16)) place → slice_get places place ≡ Some item → looked ≡ Some item
-    meet place item last here = in_halves ∙ by_test (live-word % 2 ^ (n % 16) == 0) refl (find-last (length places) place places _ item (bit-below _ (length places) place newest-lt last.set) here last.set last.none)
-      where
-        by_test : (b : Bool) → (live-word % 2 ^ (n % 16) == 0) ≡ b → first (if b then live-word else live-word % 2 ^ (n % 16)) ≡ Some item
-            → option_or (first (live-word % 2 ^ (n % 16))) (first (live-word - live-word % 2 ^ (n % 16))) ≡ Some item
-        by_test true is found =
-            let none = eqb-true (live-word % 2 ^ (n % 16)) 0 is in
-            let all : live-word - live-word % 2 ^ (n % 16) ≡ live-word = omega (arith, none) in
-            ap (λ w. option_or (first w) (first (live-word - live-word % 2 ^ (n % 16)))) none
-            ∙ ap (λ o. option_or o (first (live-word - live-word % 2 ^ (n % 16)))) nothing ∙ ap first all ∙ found
-        by_test false is found = ap (λ o. option_or o (first (live-word - live-word % 2 ^ (n % 16)))) found
-
   -- what is left to show, from the oldest on: the fill of this number first, or not where it was dropped
   pub live-first : (n k m : ℕ) (places : List E) (ds : List ℕ) (d : ℕ) (item : E) → m + suc k ≡ n → slice_get places (m % 16) ≡ Some item → bit_at d (m % 16) ≡ 0
       → reverse (seen n (suc k) places ds d) ≡ record { date = get_or ds (m % 16) 0; number = m; item = item } ∷ reverse (seen n k places ds d)
@@ -588,6 +526,67 @@ module _ {E : Type 0} where
       ap length (seen-more n k m places ds d last ∙ ap (λ place. seen n k places ds d ++ kept place (bit_at d (m % 16) == 1) (get_or ds (m % 16) 0) m) x.here
       ∙ ap (λ bit. seen n k places ds d ++ kept (Some x.item) (bit == 1) (get_or ds (m % 16) 0) m) even)
       ∙ length-append (seen n k places ds d) (record { date = get_or ds (m % 16) 0; number = m; item = x.item } ∷ [])
+
+-- the last bit of a word that is set, and the word without it
+pub record IsLast (a place : ℕ) : Type 0 where
+  pub set : bit_at a place ≡ 1
+  pub none : (i : ℕ) → place < i → bit_at a i ≡ 0
+  pub clear : bit_at (bit_and a (4294967295 - 1 * 2 ^ place % 4294967296)) place ≡ 0
+  pub same : (i : ℕ) → i < 32 → i ≢ place → bit_at (bit_and a (4294967295 - 1 * 2 ^ place % 4294967296)) i ≡ bit_at a i
+  pub less : bit_and a (4294967295 - 1 * 2 ^ place % 4294967296) < a
+  pub below : (k : ℕ) → a < 2 ^ k → place < k
+  pub small : place < 32
+
+-- a word without one of its bits is less
+pub bit-less : (a place w : ℕ) → bit_at a place ≡ 1 → bit_at (bit_and a w) place ≡ 0 → bit_and a w < a
+bit-less a place w set clear = by_size (ltb (bit_and a w) a) refl
+  where
+    by_size : (b : Bool) → ltb (bit_and a w) a ≡ b → bit_and a w < a
+    by_size true is = ltb-true (bit_and a w) a is
+    by_size false is =
+        let e : bit_and a w ≡ a = omega (arith, ltb-false (bit_and a w) a is, and_le_l a w) in
+        absurd (omega (arith, set, clear, ap (λ v. bit_at v place) e))
+
+pub last-bit : (a : ℕ) → 0 < a → a < 2 ^ 32 → IsLast a (31 - count_leading_zeros 32 a)
+last-bit a some word =
+    let top = leading_top 32 a some word in
+    let j = top.0 in
+    let at : 31 - count_leading_zeros 32 a ≡ j = omega (arith, top.1) in
+    let small : j < 32 = omega (arith, top.1) in
+    let two : 2 ^ suc j ≡ 2 * 2 ^ j = pow-succ' 2 j in
+    let one : a / 2 ^ j ≡ 1 =
+    ap (λ v. v / 2 ^ j) (let e : a ≡ 1 * 2 ^ j + (a - 2 ^ j) = omega (arith, top.2) in e) ∙ div-mul-add 1 (2 ^ j) (a - 2 ^ j) (omega (arith, top.2, top.3, two)) in
+    let set : bit_at a j ≡ 1 = ap (λ v. v % 2) one in
+    let clear = bit_at_clear_same w32 a j small in
+    rw at (record {
+      set = set;
+      none = λ i up. bit_at_above a (suc j) i top.3 (omega arith);
+      clear = clear;
+      same = λ i within other. bit_at_clear_other w32 a j small i within other;
+      less = bit-less a j (4294967295 - 1 * 2 ^ j % 4294967296) set clear;
+      below = λ k few. bit-below a k j few set;
+      small = small;
+    })
+
+-- the first bit of a word that is set, and the word without it
+pub record IsFirst (a place : ℕ) : Type 0 where
+  pub set : bit_at a place ≡ 1
+  pub clear : bit_at (bit_and a (4294967295 - 1 * 2 ^ place % 4294967296)) place ≡ 0
+  pub same : (i : ℕ) → i < 32 → i ≢ place → bit_at (bit_and a (4294967295 - 1 * 2 ^ place % 4294967296)) i ≡ bit_at a i
+  pub less : bit_and a (4294967295 - 1 * 2 ^ place % 4294967296) < a
+  pub below : (k : ℕ) → a < 2 ^ k → place < k
+
+pub first-bit : (a : ℕ) → 0 < a → a < 2 ^ 32 → IsFirst a (count_trailing_zeros 32 a)
+first-bit a some word =
+    let first = bit_at-trailing_zeros w32 a some word in
+    let clear = bit_at_clear_same w32 a (count_trailing_zeros 32 a) first.0 in
+    record {
+      set = first.1;
+      clear = clear;
+      same = λ i within other. bit_at_clear_other w32 a (count_trailing_zeros 32 a) first.0 i within other;
+      less = bit-less a (count_trailing_zeros 32 a) (4294967295 - 1 * 2 ^ count_trailing_zeros 32 a % 4294967296) first.1 clear;
+      below = λ k few. bit-below a k (count_trailing_zeros 32 a) few first.1;
+    }
 
 pub eq_holds : (x y : ℕ) → (x == y) ≡ true → x ≡ y
 eq_holds x y same = eqb-true x y same

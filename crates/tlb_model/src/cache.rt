@@ -1,12 +1,11 @@
 //! A cache of a hart: the latest fills, in their order.
-ghost use Rattle.std.specs.Prelude.{◌≡◌, ◌-◌, ◌<◌, ◌≤◌, ◌^◌, ℕ, Bool, Ok, length, reverse};
+ghost use Rattle.std.specs.Prelude.{◌≡◌, ◌-◌, ◌/◌, ◌%◌, ◌<◌, ◌≤◌, ◌^◌, ℕ, Bool, Ok, find, length, reverse};
 ghost use Rattle.std.specs.Int.{bit_at};
 ghost use Rattle.tlb_model.specs.Contents.{cleared, empty, fenced, filled, hit};
-ghost use Rattle.tlb_model.specs.Inside.Places.{IsLast, newest, word_of};
+ghost use Rattle.tlb_model.specs.Inside.Places.{marked};
 
 use crate::fence::Flush;
 use crate::live::Live;
-use crate::rights::bit;
 use arrayvec::ArrayVec;
 use std::alloc::AllocError;
 use std::marker::Model;
@@ -84,12 +83,27 @@ impl<E: Cached> Cache<E> {
     pub fn lookup(&self, key: E::Key) -> Option<E>
         ensures { result ≡ hit E.holds key self.now }
     {
-        let live = held_places(&self.places, key) & kept_places(self.dropped);
-        if live == 0 {
-            return None;
+        // (the usual case: no fence dropped an item)
+        if self.dropped != 0 {
+            return self.latest_kept(key);
         }
-        let place = last_place(newest(live, self.next % 16));
-        Some(self.places[place as usize])
+        let (newer, older) = self.places.split_at((self.next % 16) as usize);
+        match latest(newer, key) {
+            Some(item) => Some(item),
+            None => latest(older, key),
+        }
+    }
+
+    /// The look-up if some items are dropped.
+    fn latest_kept(&self, key: E::Key) -> Option<E>
+        ensures { result ≡ hit E.holds key self.now }
+    {
+        let kept = kept_places(self.places.len() as u64, self.dropped);
+        let newer = kept % (1 << (self.next % 16));
+        match latest_at(&self.places, newer, key) {
+            Some(item) => Some(item),
+            None => latest_at(&self.places, kept - newer, key),
+        }
     }
 
     /// Fills an item, with this date. It replaces the item filled sixteen fills before (profile).
@@ -112,7 +126,16 @@ impl<E: Cached> Cache<E> {
     pub fn apply(&mut self, flush: Flush)
         ensures { self.new ≡ fenced E.covers self.old flush }
     {
-        self.dropped |= covered_places(&self.places, flush) as u16;
+        let mut left = kept_places(self.places.len() as u64, self.dropped);
+        let mut dropped = self.dropped;
+        while left != 0 {
+            let place = left.trailing_zeros();
+            left &= !(1 << place);
+            if self.places[place as usize].is_covered_by(flush) {
+                dropped |= 1 << place;
+            }
+        }
+        self.dropped = dropped;
     }
 
     /// Drops all items, as a stop of the hart or a reset does (profile).
@@ -155,70 +178,39 @@ impl<E: Cached> Cache<E> {
     }
 }
 
-/// A bit for each place. It is set if the place's last fill isn't dropped.
+/// A bit for each of so many places. It is set if the place's last fill isn't dropped.
 #[inline(always)]
-fn kept_places(dropped: u16) -> u32
-    ensures { (place : ℕ) → place < 16 → bit_at result place ≡ 1 - bit_at dropped place }
+fn kept_places(places: u64, dropped: u16) -> u32
+    requires { places ≤ 16 }
+    ensures within { result < 2 ^ places }
+    ensures kept { (place : ℕ) → place < places → bit_at result place ≡ 1 - bit_at dropped place }
 {
-    u32::from(!dropped)
+    u32::from(!dropped) % (1 << places)
 }
 
-/// The marked places before the place of the next fill, or all marked places if there are none. The last of them holds the
-/// latest fill.
+/// The last item that matches the key, at a place whose bit is set in `marks`.
 #[inline(always)]
-fn newest(marks: u32, next: u64) -> u32
-    requires { next < 16 }
-    ensures { result ≡ newest marks next }
+fn latest_at<E: Cached>(places: &[E], marks: u32, key: E::Key) -> Option<E>
+    requires few { length places.now ≤ 16 }
+    requires within { marks < 2 ^ length places.now }
+    ensures { result ≡ find (E.holds key) (marked (length places.now) places.now marks) }
 {
-    let before = marks % (1 << next);
-    if before == 0 { marks } else { before }
-}
-
-/// The place of a word's last bit that is set.
-#[inline(always)]
-fn last_place(marks: u32) -> u32
-    requires { 0 < marks }
-    ensures { IsLast marks result }
-{
-    31 - marks.leading_zeros()
-}
-
-/// A bit for each place, set where its item is this key's: all are compared. Sixteen are two loops of a fixed length, which
-/// take no branch a place.
-#[inline(always)]
-fn held_places<E: Cached>(places: &[E], key: E::Key) -> u32
-    requires { length places.now ≤ 16 }
-    ensures { result ≡ word_of (E.holds key) places.now }
-{
-    if places.len() != 16 {
-        return held(places, key);
+    let mut left = marks;
+    while left != 0 {
+        let place = 31 - left.leading_zeros();
+        left &= !(1 << place);
+        let item = &places[place as usize];
+        if item.holds(key) {
+            return Some(*item);
+        }
     }
-    let (low, high) = places.split_at(8);
-    held(low, key) + (held(high, key) << 8)
+    None
 }
 
-/// A bit for each item. It is set if the item matches the key.
+/// The last item that matches the key.
 #[inline(always)]
-fn held<E: Cached>(items: &[E], key: E::Key) -> u32
-    requires { length items.now ≤ 16 }
-    ensures { result ≡ word_of (E.holds key) items.now }
+fn latest<E: Cached>(items: &[E], key: E::Key) -> Option<E>
+    ensures { result ≡ find (E.holds key) (reverse items.now) }
 {
-    let mut marks = 0;
-    for place in (0..items.len()).rev() {
-        marks = 2 * marks + u32::from(bit(items[place].holds(key)));
-    }
-    marks
-}
-
-/// A bit for each place. It is set if the fence covers its item; all are compared.
-#[inline(always)]
-fn covered_places<E: Cached>(places: &[E], flush: Flush) -> u32
-    requires { length places.now ≤ 16 }
-    ensures { result ≡ word_of (E.covers flush) places.now }
-{
-    let mut marks = 0;
-    for place in (0..places.len()).rev() {
-        marks = 2 * marks + u32::from(bit(places[place].is_covered_by(flush)));
-    }
-    marks
+    items.iter().rev().find(|item| item.holds(key)).copied()
 }

@@ -88,9 +88,8 @@ impl Cached for Entry {
     ghost covers = { covers_entry };
 
     fn holds(&self, at: Address) -> bool {
-        // (all of it is looked at, without a branch)
-        let is_in_page = (self.page <= at.va) & (at.va.wrapping_sub(self.page) < self.level.size());
-        is_in_page & (is_global(self.rights) | (self.asid == at.asid))
+        let is_in_page = self.page <= at.va && at.va - self.page < self.level.size();
+        is_in_page && (is_global(self.rights) || self.asid == at.asid)
     }
 
     fn is_covered_by(&self, flush: Flush) -> bool {

@@ -57,7 +57,7 @@ pub fn has(rights: u8, bit: u64) -> bool
 }
 
 /// 1 for true, 0 for false.
-pub(crate) fn bit(is: bool) -> u8
+fn bit(is: bool) -> u8
     ensures value { result ≡ bit is }
     ensures bound { result ≤ 1 }
 {

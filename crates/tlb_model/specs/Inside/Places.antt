@@ -1,8 +1,7 @@
 -- The 16 places of a cache, which the fills take in turn (profile).
-use Rattle.std.specs.Prelude.{◌≡◌, ◌<◌, ℕ, zero, suc, ◌+◌, ◌*◌, ◌^◌, ◌%◌, if◌then◌else◌, List, [], ◌∷◌, ◌++◌, Bool, true, false, ◌==◌, Option, Some, None, slice_get, slice_index}
+use Rattle.std.specs.Prelude.{ℕ, zero, suc, ◌%◌, List, [], ◌∷◌, ◌++◌, Bool, true, false, ◌==◌, Option, Some, None, slice_get, slice_index}
 use Rattle.std.specs.Int.{bit_at}
 use Rattle.tlb_model.specs.declared.cache.Numbered.{Numbered}
-use Rattle.tlb_model.specs.Inside.KeptRights.{bit}
 
 module _ {E : Type 0} where
   -- the fill of this number, from the item in its place, unless it was dropped
@@ -31,17 +30,3 @@ module _ {E : Type 0} where
   marked zero places word = []
   marked (suc place) places word = marked_at (slice_get places place) (bit_at word place == 1)
       ++ marked place places word
-
-  -- a bit for each item, from the lowest one on, set where it passes the test
-  abbrev pub word_of : (test : E → Bool) → List E → ℕ
-  word_of test [] = 0
-  word_of test (item ∷ items) = bit (test item) + 2 * word_of test items
-
--- Of a word's bits those before this place, or all where none of those is set.
-abbrev pub newest : (word next : ℕ) → ℕ
-newest word next = if word % 2 ^ next == 0 then word else word % 2 ^ next
-
--- a word's last bit that is set
-pub record IsLast (word place : ℕ) : Type 0 where
-  pub set : bit_at word place ≡ 1
-  pub none : (i : ℕ) → place < i → bit_at word i ≡ 0

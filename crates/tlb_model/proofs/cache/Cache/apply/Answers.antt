@@ -1,21 +1,81 @@
-use Rattle.std.proofs.Common.{◌≡◌, ◌≤◌, length, not, ap, refl, ◌∙◌, arith}
-use Rattle.std.proofs.Math.Pow.{pow_mono}
+use Rattle.std.proofs.Common.{◌≡◌, ◌-◌, ◌*◌, ◌%◌, ◌^◌, ◌<◌, Some, bit_and, bit_or, get_or, length, not, slice_get, ap, sym, refl, ◌∙◌, arith}
+use Rattle.std.specs.Int.{w16}
+use Rattle.std.specs.Int.Count.{count_trailing_zeros}
+use Rattle.std.proofs.lemmas.Nat.Bits.{bit_at_set_other, bit_at_set_same}
+use Rattle.std.proofs.lemmas.Option.{slice_get-get_or}
 use Rattle.tlb_model.specs.declared.cache.Numbered.{Numbered}
-use Rattle.tlb_model.specs.Inside.Places.{word_of}
-use Rattle.tlb_model.proofs.Places.{covers-bits, fenced-places, same_contents, word_of-lt}
+use Rattle.tlb_model.proofs.Places.{fence_begins, fence_drops, fence_ends, fence_spares, first-bit, same_contents}
 use Rattle.tlb_model.proofs.cache.Cache.apply.Goals as goal
 
-pub overflow_cast-self : goal.overflow_cast-self
-overflow_cast-self g c =
-    let few : length c.deref.result.now ≤ 16 = omega (arith, c.deref.ensures.1) in
-    omega (arith, c.covered_places.ensures, word_of-lt (g.E.Cached.covers c.args.flush) c.deref.result.now, pow_mono few)
+pub loop-left-init : goal.loop-left-init
+loop-left-init g c =
+    let places = c.self.inside.places.items in
+    let small : c.kept_places-left.result < 2 ^ length places = omega (arith, c.kept_places-left.ensures.within, ap (λ k. 2 ^ k) c.len.ensures.value) in (
+      small,
+      fence_begins (g.E.Cached.covers c.args.flush) places c.self.inside.dropped c.kept_places-left.result (omega (arith, c.self.invariant)) small
+          (λ i below. c.kept_places-left.ensures.kept i (omega (arith, below, c.len.ensures.value))),
+    )
+
+pub bounds-deref-place : goal.bounds-deref-place
+bounds-deref-place g c =
+    let within = (first-bit c.loop-left.left (omega (arith, c.loop-left-test.true)) (omega (arith, c.loop-left.auto.left-fits))).below (length c.self.inside.places.items) c.loop-left.invariant.0 in
+    omega (arith, within, ap length c.deref.ensures.0)
+
+pub offset_bounds-deref-place : goal.offset_bounds-deref-place
+offset_bounds-deref-place g c = omega (arith, bounds-deref-place g c)
+
+pub overflow_shl-dropped : goal.overflow_shl-dropped
+overflow_shl-dropped g c =
+    let within = (first-bit c.loop-left.left (omega (arith, c.loop-left-test.true)) (omega (arith, c.loop-left.auto.left-fits))).below (length c.self.inside.places.items) c.loop-left.invariant.0 in
+    omega (arith, within, c.self.invariant)
+
+pub loop-left-smaller-then-is_covered_by : goal.loop-left-smaller-then-is_covered_by
+loop-left-smaller-then-is_covered_by g c = (first-bit c.loop-left.left (omega (arith, c.loop-left-test.true)) (omega (arith, c.loop-left.auto.left-fits))).less
+
+pub loop-left-smaller : goal.loop-left-smaller
+loop-left-smaller g c = (first-bit c.loop-left.left (omega (arith, c.loop-left-test.true)) (omega (arith, c.loop-left.auto.left-fits))).less
+
+pub loop-left-preserved-then-is_covered_by : goal.loop-left-preserved-then-is_covered_by
+loop-left-preserved-then-is_covered_by g c =
+    let places = c.self.inside.places.items in
+    let left = c.loop-left.left in
+    let first = first-bit left (omega (arith, c.loop-left-test.true)) (omega (arith, c.loop-left.auto.left-fits)) in
+    let place = count_trailing_zeros 32 left in
+    let item = c.index-deref-place.result in
+    let within = first.below (length places) c.loop-left.invariant.0 in
+    let small : place < 16 = omega (arith, within, c.self.invariant) in
+    let is : item ≡ get_or places place item = c.index-deref-place.is ∙ ap (λ xs. get_or xs place item) c.deref.ensures.0 in
+    let here : slice_get places place ≡ Some item = slice_get-get_or places place item within ∙ ap Some (sym is) in
+    let less = first.less in (
+      omega (arith, less, c.loop-left.invariant.0),
+      fence_drops (g.E.Cached.covers c.args.flush) places c.self.inside.dropped left c.loop-left.dropped (bit_and left (4294967295 - 1 * 2 ^ place % 4294967296))
+          (bit_or c.loop-left.dropped (1 * 2 ^ place % 65536)) place item c.loop-left.invariant.1 small here (sym c.is_covered_by.ensures ∙ c.if-is_covered_by.true)
+          first.set first.clear (λ i below other. first.same i (omega arith) other) (bit_at_set_same w16 c.loop-left.dropped place small)
+          (λ i other. bit_at_set_other w16 c.loop-left.dropped place small i other),
+    )
+
+pub loop-left-preserved : goal.loop-left-preserved
+loop-left-preserved g c =
+    let places = c.self.inside.places.items in
+    let left = c.loop-left.left in
+    let first = first-bit left (omega (arith, c.loop-left-test.true)) (omega (arith, c.loop-left.auto.left-fits)) in
+    let place = count_trailing_zeros 32 left in
+    let item = c.index-deref-place.result in
+    let within = first.below (length places) c.loop-left.invariant.0 in
+    let small : place < 16 = omega (arith, within, c.self.invariant) in
+    let is : item ≡ get_or places place item = c.index-deref-place.is ∙ ap (λ xs. get_or xs place item) c.deref.ensures.0 in
+    let here : slice_get places place ≡ Some item = slice_get-get_or places place item within ∙ ap Some (sym is) in
+    let less = first.less in (
+      omega (arith, less, c.loop-left.invariant.0),
+      fence_spares (g.E.Cached.covers c.args.flush) places c.self.inside.dropped left c.loop-left.dropped (bit_and left (4294967295 - 1 * 2 ^ place % 4294967296)) place item
+          c.loop-left.invariant.1 small here (sym c.is_covered_by.ensures ∙ c.if-is_covered_by.false) first.set first.clear (λ i below other. first.same i (omega arith) other),
+    )
 
 pub returns : goal.returns
 returns g c =
     let n = c.self.inside.next in
     let places = c.self.inside.places.items in
     let covers = g.E.Cached.covers c.args.flush in
-    let covered : c.covered_places.result ≡ word_of covers places = c.covered_places.ensures ∙ ap (word_of covers) c.deref.ensures.0 in
-    let all = fenced-places (λ (fill : Numbered g.row.E.Denot). not (covers fill.item)) covers (λ fill. refl) n 16 places c.self.inside.dates c.self.inside.dropped _
-    (λ i item below here. covers-bits covers places c.self.inside.dropped i item here) in
-    rw (covered, ← c.self.view_is) (same_contents n n _ _ refl all)
+    let all = fence_ends (λ (fill : Numbered g.row.E.Denot). not (covers fill.item)) covers (λ fill. refl) n 16 places c.self.inside.dates c.self.inside.dropped c.loop-left.dropped
+    (rw (← c.loop-left-test.false) c.loop-left.invariant.1) in
+    rw (← c.self.view_is) (same_contents n n _ _ refl all)
