@@ -9,13 +9,16 @@ ghost use Rattle.guest_script.specs.Inside.Drafts.{in_guest, steps_of};
 ghost use Rattle.guest_script.specs.Reading.{GoesOn};
 ghost use Rattle.guest_script.specs.Inside.PlainLines.{BeginsActor, BeginsArgument, BeginsDigits, BeginsGuest, BeginsLine, BeginsName, BeginsNamed, BeginsNumber, BeginsNumbers, BeginsOp, BeginsSaid, BeginsSaidName, BeginsSigned, BeginsWord};
 ghost use Rattle.script_lines.specs.KeptLines.{plain_line};
+ghost use Rattle.script_lines.specs.Names.{op_word, said_word};
 ghost use Rattle.script_lines.specs.Packing.{FitsKept, op_made};
 
 use crate::numbers::MOST_ARGUMENTS;
 use arrayvec::ArrayVec;
 use board_terms::{Actor, Op};
 use line_words::{LAST_ABOVE, LAST_BELOW, below_zero, push_digit};
-use script_lines::{LAST_HART, Lines, MOST_LINES, OpName, OpShape, Places, Plain, Said, SaidName};
+use script_lines::{
+    LAST_HART, Lines, MOST_LINES, OpName, OpShape, Places, Plain, Said, SaidName, words,
+};
 use std::alloc::AllocError;
 
 /// Puts the lines from number `first` on, which the bytes are, behind the others, as long as they stand in the form in which
@@ -95,34 +98,12 @@ fn plain_line<'a>(
         let replies = after(rest, b" ->")?;
         let (said, end) = plain_said(replies)?;
         let after = after(end, b"\n")?;
-        Some((told(actor, op, said), after))
+        let said = Some(said);
+        Some((Plain { actor, op, said }, after))
     } else {
         let after = after(rest, b"\n")?;
-        Some((step(actor, op), after))
-    }
-}
-
-/// The parts of a schedule's line.
-#[inline(always)]
-fn step(actor: Actor, op: OpShape) -> Plain
-    ensures { result ≡ record { actor = actor; op = op; said = None } }
-{
-    Plain {
-        actor,
-        op,
-        said: None,
-    }
-}
-
-/// The parts of a trace's line.
-#[inline(always)]
-fn told(actor: Actor, op: OpShape, said: Said) -> Plain
-    ensures { result ≡ record { actor = actor; op = op; said = Some said } }
-{
-    Plain {
-        actor,
-        op,
-        said: Some(said),
+        let said = None;
+        Some((Plain { actor, op, said }, after))
     }
 }
 
@@ -190,7 +171,7 @@ fn plain_guest<'a>(
     if !name.is_guests() {
         return None;
     }
-    let (op, rest) = plain_named(name, bytes, numbers)?;
+    let (op, rest) = plain_named(name, name.word(), bytes, numbers)?;
     let after = after(rest, b"\n")?;
     Some((op, after))
 }
@@ -264,22 +245,22 @@ fn plain_by_letters<'a>(
     ensures shorter { IfSome result (λ found. length found.1.now ≤ length bytes.now) }
 {
     match bytes {
-        [b'e', ..] => plain_named(OpName::Ecall, bytes, numbers),
-        [b'l', ..] => plain_named(OpName::Load, bytes, numbers),
-        [b't', ..] => plain_named(OpName::Tick, bytes, numbers),
-        [b'a', ..] => plain_named(OpName::Advance, bytes, numbers),
-        [b'p', ..] => plain_named(OpName::Poll, bytes, numbers),
-        [b'w', ..] => plain_named(OpName::Wfi, bytes, numbers),
-        [b'c', ..] => plain_named(OpName::Clearssip, bytes, numbers),
-        [b'f', b'e', b't', ..] => plain_named(OpName::Fetch, bytes, numbers),
-        [b'f', ..] => plain_named(OpName::Fencei, bytes, numbers),
-        [b's', b'i', b'p', ..] => plain_named(OpName::Sip, bytes, numbers),
-        [b's', b'i', ..] => plain_named(OpName::Sie, bytes, numbers),
-        [b's', b't', ..] => plain_named(OpName::Store, bytes, numbers),
-        [b's', b'a', ..] => plain_named(OpName::Satp, bytes, numbers),
-        [b's', b'f', ..] => plain_named(OpName::Sfence, bytes, numbers),
-        [b's', b'e', ..] => plain_named(OpName::Serve, bytes, numbers),
-        [b's', ..] => plain_named(OpName::Sstatus, bytes, numbers),
+        [b'e', ..] => plain_named(OpName::Ecall, words::ECALL, bytes, numbers),
+        [b'l', ..] => plain_named(OpName::Load, words::LOAD, bytes, numbers),
+        [b't', ..] => plain_named(OpName::Tick, words::TICK, bytes, numbers),
+        [b'a', ..] => plain_named(OpName::Advance, words::ADVANCE, bytes, numbers),
+        [b'p', ..] => plain_named(OpName::Poll, words::POLL, bytes, numbers),
+        [b'w', ..] => plain_named(OpName::Wfi, words::WFI, bytes, numbers),
+        [b'c', ..] => plain_named(OpName::Clearssip, words::CLEARSSIP, bytes, numbers),
+        [b'f', b'e', b't', ..] => plain_named(OpName::Fetch, words::FETCH, bytes, numbers),
+        [b'f', ..] => plain_named(OpName::Fencei, words::FENCEI, bytes, numbers),
+        [b's', b'i', b'p', ..] => plain_named(OpName::Sip, words::SIP, bytes, numbers),
+        [b's', b'i', ..] => plain_named(OpName::Sie, words::SIE, bytes, numbers),
+        [b's', b't', ..] => plain_named(OpName::Store, words::STORE, bytes, numbers),
+        [b's', b'a', ..] => plain_named(OpName::Satp, words::SATP, bytes, numbers),
+        [b's', b'f', ..] => plain_named(OpName::Sfence, words::SFENCE, bytes, numbers),
+        [b's', b'e', ..] => plain_named(OpName::Serve, words::SERVE, bytes, numbers),
+        [b's', ..] => plain_named(OpName::Sstatus, words::SSTATUS, bytes, numbers),
         _ => None,
     }
 }
@@ -288,17 +269,19 @@ fn plain_by_letters<'a>(
 #[inline(always)]
 fn plain_named<'a>(
     name: OpName,
+    word: &[u8],
     bytes: &'a [u8],
     numbers: &mut ArrayVec<u64, MOST_ARGUMENTS>,
 ) -> Option<(OpShape, &'a [u8])>
-    requires { numbers.old.items ≡ [] }
+    requires word { word.now ≡ op_word name }
+    requires none { numbers.old.items ≡ [] }
     ensures named { IfSome result
         (λ found. BeginsNamed name bytes.now (op_made found.0 numbers.new.items) found.1.now) }
     ensures op { IfSome result
         (λ found. BeginsOp (32 ∷ bytes.now) (op_made found.0 numbers.new.items) found.1.now) }
     ensures shorter { IfSome result (λ found. length found.1.now ≤ length bytes.now) }
 {
-    let rest = after_name(name, bytes)?;
+    let rest = after(bytes, word)?;
     match name {
         OpName::Sfence => plain_fence(rest, numbers),
         _ => {
@@ -401,15 +384,6 @@ fn plain_places<'a>(
     Some(rest)
 }
 
-/// What follows a name.
-#[inline(always)]
-fn after_name(name: OpName, bytes: &[u8]) -> Option<&[u8]>
-    ensures name { IfSome result (λ rest. BeginsName bytes.now name rest.now) }
-    ensures shorter { IfSome result (λ rest. length rest.now ≤ length bytes.now) }
-{
-    after(bytes, name.word())
-}
-
 /// What follows a front, which the bytes may have.
 #[tactic(auto, using(crate::proofs::PlainParts::stripped))]
 fn after<'a>(bytes: &'a [u8], front: &[u8]) -> Option<&'a [u8]>
@@ -504,7 +478,7 @@ fn plain_said(bytes: &[u8]) -> Option<(Said, &[u8])>
     ensures said { IfSome result (λ found. BeginsSaid bytes.now found.0 found.1.now) }
     ensures shorter { IfSome result (λ found. length found.1.now ≤ length bytes.now) }
 {
-    match after_said(SaidName::Ret, bytes) {
+    match after_said(words::RET, bytes) {
         Some([b' ', rest @ ..]) => plain_ret(rest),
         _ => plain_named_said(bytes),
     }
@@ -555,41 +529,42 @@ fn plain_named_said(bytes: &[u8]) -> Option<(Said, &[u8])>
     ensures shorter { IfSome result (λ found. length found.1.now ≤ length bytes.now) }
 {
     match bytes {
-        [_, b'w', ..] => plain_said_as(SaidName::Waiting, bytes),
-        [_, b'g', ..] => plain_said_as(SaidName::Gone, bytes),
-        [_, b's', ..] => plain_said_as(SaidName::Served, bytes),
-        [_, b'd', ..] => plain_said_as(SaidName::Done, bytes),
-        [_, b'e', ..] => plain_said_as(SaidName::Entry, bytes),
-        [_, b'v', ..] => plain_said_as(SaidName::Value, bytes),
-        [_, b'f', ..] => plain_said_as(SaidName::Fault, bytes),
-        [_, b'm', ..] => plain_said_as(SaidName::Moved, bytes),
-        [_, b'r', ..] => plain_said_as(SaidName::Refused, bytes),
+        [_, b'w', ..] => plain_said_as(SaidName::Waiting, words::WAITING, bytes),
+        [_, b'g', ..] => plain_said_as(SaidName::Gone, words::GONE, bytes),
+        [_, b's', ..] => plain_said_as(SaidName::Served, words::SERVED, bytes),
+        [_, b'd', ..] => plain_said_as(SaidName::Done, words::DONE, bytes),
+        [_, b'e', ..] => plain_said_as(SaidName::Entry, words::ENTRY, bytes),
+        [_, b'v', ..] => plain_said_as(SaidName::Value, words::VALUE, bytes),
+        [_, b'f', ..] => plain_said_as(SaidName::Fault, words::FAULT, bytes),
+        [_, b'm', ..] => plain_said_as(SaidName::Moved, words::MOVED, bytes),
+        [_, b'r', ..] => plain_said_as(SaidName::Refused, words::REFUSED, bytes),
         _ => None,
     }
 }
 
 /// The same for one name. `ret` is none of these, since its error is a signed number.
 #[inline(always)]
-fn plain_said_as(name: SaidName, bytes: &[u8]) -> Option<(Said, &[u8])>
-    requires { name ≢ SaidName.Ret }
+fn plain_said_as<'a>(name: SaidName, word: &[u8], bytes: &'a [u8]) -> Option<(Said, &'a [u8])>
+    requires word { word.now ≡ said_word name }
+    requires named { name ≢ SaidName.Ret }
     ensures said { IfSome result (λ found. BeginsSaid bytes.now found.0 found.1.now) }
     ensures shorter { IfSome result (λ found. length found.1.now ≤ length bytes.now) }
 {
-    let rest = after_said(name, bytes)?;
+    let rest = after_said(word, bytes)?;
     let mut numbers = ArrayVec::new();
     let rest = plain_places(name.places(), rest, &mut numbers)?;
     let said = name.shape().said(&numbers)?;
     Some((said, rest))
 }
 
-/// What follows a blank and a name.
+/// What follows a blank and a word.
 #[inline(always)]
-fn after_said(name: SaidName, bytes: &[u8]) -> Option<&[u8]>
-    ensures name { IfSome result (λ rest. BeginsSaidName bytes.now name rest.now) }
+fn after_said<'a>(word: &[u8], bytes: &'a [u8]) -> Option<&'a [u8]>
+    ensures name { IfSome result (λ rest. bytes.now ≡ 32 ∷ (word.now ++ rest.now)) }
     ensures shorter { IfSome result (λ rest. length rest.now ≤ length bytes.now) }
 {
     match bytes {
-        [b' ', named @ ..] => after(named, name.word()),
+        [b' ', named @ ..] => after(named, word),
         _ => None,
     }
 }

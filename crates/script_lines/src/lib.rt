@@ -13,6 +13,7 @@ mod said;
 mod said_name;
 mod said_shape;
 mod script;
+pub mod words;
 
 pub use kept_line::KeptLine;
 pub use laws::{words_name_ops, words_name_saids};

@@ -5,6 +5,7 @@ ghost use Rattle.script_lines.specs.Packing.{named_shape};
 
 use crate::op_shape::{OP_NUMBERS, OpShape};
 use crate::places::{Places, any_numbers, argument_at, number_at};
+use crate::words;
 use board_terms::Op;
 use sbi_abi::Regs;
 
@@ -80,22 +81,22 @@ impl OpName {
         ensures len { length result.now ≤ 9 }
     {
         match self {
-            OpName::Ecall => b"ecall",
-            OpName::Load => b"load",
-            OpName::Store => b"store",
-            OpName::Fetch => b"fetch",
-            OpName::Satp => b"satp",
-            OpName::Sie => b"sie",
-            OpName::Sstatus => b"sstatus",
-            OpName::Sip => b"sip",
-            OpName::Clearssip => b"clearssip",
-            OpName::Sfence => b"sfence",
-            OpName::Fencei => b"fencei",
-            OpName::Wfi => b"wfi",
-            OpName::Poll => b"poll",
-            OpName::Serve => b"serve",
-            OpName::Advance => b"advance",
-            OpName::Tick => b"tick",
+            OpName::Ecall => words::ECALL,
+            OpName::Load => words::LOAD,
+            OpName::Store => words::STORE,
+            OpName::Fetch => words::FETCH,
+            OpName::Satp => words::SATP,
+            OpName::Sie => words::SIE,
+            OpName::Sstatus => words::SSTATUS,
+            OpName::Sip => words::SIP,
+            OpName::Clearssip => words::CLEARSSIP,
+            OpName::Sfence => words::SFENCE,
+            OpName::Fencei => words::FENCEI,
+            OpName::Wfi => words::WFI,
+            OpName::Poll => words::POLL,
+            OpName::Serve => words::SERVE,
+            OpName::Advance => words::ADVANCE,
+            OpName::Tick => words::TICK,
         }
     }
 

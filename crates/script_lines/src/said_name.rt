@@ -6,6 +6,7 @@ ghost use Rattle.script_lines.specs.Packing.{named_said_shape};
 use crate::places::{Places, any_numbers, number_at};
 use crate::said::Said;
 use crate::said_shape::{SAID_NUMBERS, SaidShape};
+use crate::words;
 
 /// What is said of a step, by its name.
 #[derive(Clone, Copy, Debug, PartialEq, Eq)]
@@ -61,16 +62,16 @@ impl SaidName {
         ensures len { length result.now ≤ 7 }
     {
         match self {
-            SaidName::Ret => b"ret",
-            SaidName::Waiting => b"waiting",
-            SaidName::Gone => b"gone",
-            SaidName::Entry => b"entry",
-            SaidName::Value => b"value",
-            SaidName::Fault => b"fault",
-            SaidName::Served => b"served",
-            SaidName::Moved => b"moved",
-            SaidName::Done => b"done",
-            SaidName::Refused => b"refused",
+            SaidName::Ret => words::RET,
+            SaidName::Waiting => words::WAITING,
+            SaidName::Gone => words::GONE,
+            SaidName::Entry => words::ENTRY,
+            SaidName::Value => words::VALUE,
+            SaidName::Fault => words::FAULT,
+            SaidName::Served => words::SERVED,
+            SaidName::Moved => words::MOVED,
+            SaidName::Done => words::DONE,
+            SaidName::Refused => words::REFUSED,
         }
     }
 

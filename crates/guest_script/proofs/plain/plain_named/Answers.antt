@@ -1,4 +1,5 @@
-use Rattle.std.specs.Prelude.{Option, Some, None, IfSome}
+use Rattle.std.proofs.Common.{ap, ◌∙◌}
+use Rattle.std.specs.Prelude.{ℕ, ◌++◌, List, Option, Some, None, IfSome}
 use Rattle.board_terms.specs.declared.op.Op.TheVariants.{Advance}
 use Rattle.guest_script.specs.Forms.{form_of}
 use Rattle.guest_script.specs.Inside.PlainLines.{BeginsNamed}
@@ -14,7 +15,8 @@ returns-in_ok-rest-in_default-clause-named c =
     let ns = c.plain_places.new.numbers.items in
     rw c.shape.ensures
     (named_begins form_of Advance c.args.bytes.now (op_word name) c.in_ok-rest.rest.now c.places.result ns c.in_ok-rest-in_default.rest.now
-    (op_made (named_shape name) ns) c.in_ok-rest.ensures.name (op_form_at name c.places.result c.places.ensures.form)
+    (op_made (named_shape name) ns) (c.in_ok-rest.ensures.front ∙ ap (λ (b : List ℕ). b ++ c.in_ok-rest.rest.now) c.requires.word)
+    (op_form_at name c.places.result c.places.ensures.form)
     c.in_ok-rest-in_default.ensures.any c.in_ok-rest-in_default.ensures.numbers c.in_ok-rest-in_default.ensures.least c.in_ok-rest-in_default.ensures.most
     (op_makes name c.places.result ns c.places.ensures.form c.in_ok-rest-in_default.ensures.any c.in_ok-rest-in_default.ensures.least))
 
@@ -24,7 +26,8 @@ returns-in_ok-rest-in_default-clause-op c =
     let ns = c.plain_places.new.numbers.items in
     let named : BeginsNamed name c.args.bytes.now (op_made (named_shape name) ns) c.in_ok-rest-in_default.rest.now =
     named_begins form_of Advance c.args.bytes.now (op_word name) c.in_ok-rest.rest.now c.places.result ns c.in_ok-rest-in_default.rest.now
-    (op_made (named_shape name) ns) c.in_ok-rest.ensures.name (op_form_at name c.places.result c.places.ensures.form)
+    (op_made (named_shape name) ns) (c.in_ok-rest.ensures.front ∙ ap (λ (b : List ℕ). b ++ c.in_ok-rest.rest.now) c.requires.word)
+    (op_form_at name c.places.result c.places.ensures.form)
     c.in_ok-rest-in_default.ensures.any c.in_ok-rest-in_default.ensures.numbers c.in_ok-rest-in_default.ensures.least c.in_ok-rest-in_default.ensures.most
     (op_makes name c.places.result ns c.places.ensures.form c.in_ok-rest-in_default.ensures.any c.in_ok-rest-in_default.ensures.least) in
     rw c.shape.ensures (op_behind name c.args.bytes.now (op_made (named_shape name) ns) c.in_ok-rest-in_default.rest.now named)
@@ -35,4 +38,4 @@ on_some (Some x) f h = f x h
 
 pub returns-in-Sfence-clause-named : goal.returns-in-Sfence-clause-named
 returns-in-Sfence-clause-named c =
-    rw c.in-Sfence.is (on_some c.plain_fence.result (λ found fence. fence c.args.bytes.now (rw c.in-Sfence.is at c.in_ok-rest.ensures.name)) c.plain_fence.ensures.named)
+    rw c.in-Sfence.is (on_some c.plain_fence.result (λ found fence. fence c.args.bytes.now (rw c.in-Sfence.is at (c.in_ok-rest.ensures.front ∙ ap (λ (b : List ℕ). b ++ c.in_ok-rest.rest.now) c.requires.word))) c.plain_fence.ensures.named)

@@ -1,4 +1,4 @@
-use Rattle.std.proofs.Common.{◌∷◌, ◌++◌, inr, refl, sym, ◌∙◌}
+use Rattle.std.proofs.Common.{ℕ, List, ◌∷◌, ◌++◌, ap, inr, refl, sym, ◌∙◌}
 use Rattle.script_lines.specs.declared.said.Said.TheVariants.{Done}
 use Rattle.guest_script.specs.Forms.{said_form_of}
 use Rattle.script_lines.specs.Names.{said_word}
@@ -14,6 +14,6 @@ returns-clause-said c =
     let begun = said_word name ++ c.in_ok-rest.rest.now in
     let named =
     named_begins said_form_of Done begun
-    (said_word name) c.in_ok-rest.rest.now c.places.result ns c.in_ok-rest-2.rest.now c.in_ok-said.said refl (said_form_at name c.places.result c.requires c.places.ensures.form)
-    c.in_ok-rest-2.ensures.any c.in_ok-rest-2.ensures.numbers c.in_ok-rest-2.ensures.least c.in_ok-rest-2.ensures.most (said_made_from name ns c.in_ok-said.said c.requires made) in
-    (said_word name ∷ named.0, c.in_ok-rest.ensures.name ∙ behind_blank begun (said_word name) named.0 c.in_ok-rest-2.rest.now named.1, inr named.2)
+    (said_word name) c.in_ok-rest.rest.now c.places.result ns c.in_ok-rest-2.rest.now c.in_ok-said.said refl (said_form_at name c.places.result c.requires.named c.places.ensures.form)
+    c.in_ok-rest-2.ensures.any c.in_ok-rest-2.ensures.numbers c.in_ok-rest-2.ensures.least c.in_ok-rest-2.ensures.most (said_made_from name ns c.in_ok-said.said c.requires.named made) in
+    (said_word name ∷ named.0, c.in_ok-rest.ensures.name ∙ ap (λ (b : List ℕ). 32 ∷ (b ++ c.in_ok-rest.rest.now)) c.requires.word ∙ behind_blank begun (said_word name) named.0 c.in_ok-rest-2.rest.now named.1, inr named.2)

@@ -1,0 +1,79 @@
+//! The words of operations, and of what is said of a step. Each stands here alone, so that a reader can compare with a constant.
+
+/// An operation's word.
+pub const ECALL: &[u8] = b"ecall";
+
+/// An operation's word.
+pub const LOAD: &[u8] = b"load";
+
+/// An operation's word.
+pub const STORE: &[u8] = b"store";
+
+/// An operation's word.
+pub const FETCH: &[u8] = b"fetch";
+
+/// An operation's word.
+pub const SATP: &[u8] = b"satp";
+
+/// An operation's word.
+pub const SIE: &[u8] = b"sie";
+
+/// An operation's word.
+pub const SSTATUS: &[u8] = b"sstatus";
+
+/// An operation's word.
+pub const SIP: &[u8] = b"sip";
+
+/// An operation's word.
+pub const CLEARSSIP: &[u8] = b"clearssip";
+
+/// An operation's word.
+pub const SFENCE: &[u8] = b"sfence";
+
+/// An operation's word.
+pub const FENCEI: &[u8] = b"fencei";
+
+/// An operation's word.
+pub const WFI: &[u8] = b"wfi";
+
+/// An operation's word.
+pub const POLL: &[u8] = b"poll";
+
+/// An operation's word.
+pub const SERVE: &[u8] = b"serve";
+
+/// An operation's word.
+pub const ADVANCE: &[u8] = b"advance";
+
+/// An operation's word.
+pub const TICK: &[u8] = b"tick";
+
+/// A reply's word.
+pub const RET: &[u8] = b"ret";
+
+/// A reply's word.
+pub const WAITING: &[u8] = b"waiting";
+
+/// A reply's word.
+pub const GONE: &[u8] = b"gone";
+
+/// A reply's word.
+pub const ENTRY: &[u8] = b"entry";
+
+/// A reply's word.
+pub const VALUE: &[u8] = b"value";
+
+/// A reply's word.
+pub const FAULT: &[u8] = b"fault";
+
+/// A reply's word.
+pub const SERVED: &[u8] = b"served";
+
+/// A reply's word.
+pub const MOVED: &[u8] = b"moved";
+
+/// A reply's word.
+pub const DONE: &[u8] = b"done";
+
+/// A reply's word.
+pub const REFUSED: &[u8] = b"refused";
