@@ -1,4 +1,4 @@
-//! The words of operations, and of what is said of a step. Each stands here alone, so that a reader can compare with a constant.
+//! The words of operations, and of what is said of a step: constants, so that a reader compares with literals.
 
 /// An operation's word.
 pub const ECALL: &[u8] = b"ecall";
@@ -75,5 +75,5 @@ pub const MOVED: &[u8] = b"moved";
 /// A reply's word.
 pub const DONE: &[u8] = b"done";
 
-/// A reply's word.
+/// A refusal's word.
 pub const REFUSED: &[u8] = b"refused";
