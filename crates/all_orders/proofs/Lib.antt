@@ -1,1 +1,3 @@
+mod Explored
+mod StepsTold
 mod Verdicts
