@@ -170,7 +170,7 @@ class FuzzFirmware(Test):
         for name in ("qemu-system-riscv64", "riscv64-linux-gnu-gcc", "/usr/lib/riscv64-linux-gnu/opensbi/generic/fw_dynamic.bin"):
             if shutil.which(name) is None and not os.path.isfile(name):
                 raise SkipTest(f"{name} is missing")
-        found = subprocess.run([TOOL, "--seeds", "2-3", "--operations", "10", "--runs", "0", "--keep", self.room], stdin=subprocess.DEVNULL, capture_output=True, timeout=200)
+        found = subprocess.run([TOOL, "--seeds", "2-3", "--operations", "10", "--runs", "0", "--seconds", "90", "--keep", self.room], stdin=subprocess.DEVNULL, capture_output=True, timeout=200)
         must(f"status {found.returncode}, and it said {shown(found.stderr)}", found.returncode in (3, 5) and b"\nfaults: " in b"\n" + found.stdout)
         told = re.findall(r"^  \d+ seeds: ([^:]*): (\w+)", found.stdout.decode(), re.M)
         must(f"{told}", not any(kind in ("unexplained", "the record can't be read") for kind, _ in told))

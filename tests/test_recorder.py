@@ -162,6 +162,23 @@ def ran(words, status):
     return found
 
 
+def recorded_now(room, source, words, is_raw=False):
+    """The record of a supervisor of tests/records-data that is built and run here and now, and its file."""
+    for name in ("qemu-system-riscv64", "gdb-multiarch", "riscv64-linux-gnu-gcc", FIRMWARE):
+        if shutil.which(name) is None and not os.path.isfile(name):
+            raise SkipTest(f"{name} is missing")
+    image, out = os.path.join(room, "image"), os.path.join(room, "out")
+    gcc = ["riscv64-linux-gnu-gcc", "-nostdlib", "-static", "-Wl,--build-id=none,--no-warn-rwx-segments", "-Wl,-T", os.path.join(ROOT, "examples/kernel/kernel.ld")]
+    ran([*gcc, "-o", image, os.path.join(RECORDS, source)], 0)
+    if is_raw:
+        ran(["riscv64-linux-gnu-objcopy", "-O", "binary", image], 0)
+    found = ran([os.path.join(ROOT, "tools/record"), *words, "--seconds", "30", "--grace", "1", "--out", out, image], None)
+    if found.returncode in (1, 3) and b"was over" in found.stderr:
+        raise SkipTest("QEMU is too slow here: the supervisor didn't end in 30 s")
+    must(f"tools/record: status {found.returncode}, and it said {shown(found.stderr)}", not found.returncode)
+    return read(out), out
+
+
 class Recorders(Test):
     programs = ()
 
@@ -266,22 +283,25 @@ class Recorders(Test):
 
     def test_a_fresh_record__interrupts(self):
         """A supervisor whose timers come right behind returns, built and recorded here and now: no return is lost, and all agree."""
-        for name in ("qemu-system-riscv64", "gdb-multiarch", "riscv64-linux-gnu-gcc", FIRMWARE):
-            if shutil.which(name) is None and not os.path.isfile(name):
-                raise SkipTest(f"{name} is missing")
-        image, out = os.path.join(self.room, "image"), os.path.join(self.room, "out")
-        words = ["riscv64-linux-gnu-gcc", "-nostdlib", "-static", "-Wl,--build-id=none,--no-warn-rwx-segments", "-Wl,-T", os.path.join(ROOT, "examples/kernel/kernel.ld")]
-        ran([*words, "-o", image, os.path.join(RECORDS, "interrupts.S")], 0)
-        found = ran([os.path.join(ROOT, "tools/record"), "--harts", "2", "--seconds", "30", "--grace", "1", "--out", out, image], None)
-        if found.returncode in (1, 3) and b"was over" in found.stderr:
-            raise SkipTest("QEMU is too slow here: the supervisor didn't end in 30 s")
-        must(f"tools/record: status {found.returncode}, and it said {shown(found.stderr)}", not found.returncode)
-        text = read(out)
+        text, out = recorded_now(self.room, "interrupts.S", ["--harts", "2"])
         late = re.findall(r"^([01]) ret 0 (0x0|0x1000000)$", text, re.M)
         must(f"interrupts came right behind {len(late)} returns, and not of both harts; or an answer wasn't seen", {hart for hart, _ in late} == {"0", "1"} and "ret - -" not in text)
         report = ran([os.path.join(ROOT, "tools/to-trace"), "--report", out], 0).stdout.decode()
         calls = text.count(" call ")
         must(f"the report is {report}", report.startswith(f"calls {calls}, entries 2: {calls + 2} agree\n"))
+
+    def test_a_fresh_record__page_tables_of_a_raw_image(self):
+        """A raw image whose tables map it at other addresses, too: its fences are seen there, and what it changes before one."""
+        text, out = recorded_now(self.room, "raw-image.S", ["--harts", "1", "--tables"], True)
+        lines = [line for line in text.splitlines() if line.split()[1:2] in (["store"], ["satp"], ["sfence"], ["fencei"]) and "firmware" not in line]
+        root = int(lines[0].split()[2], 0) & -4096
+        wanted = [
+            f"m store {root + 8:#x} 0x100000c7", f"m store {root + 16:#x} 0x200000cf", f"m store {root + 2048:#x} 0x200000cf", f"0 satp {8 << 60 | root >> 12:#x}",
+            "0 sfence - - pc=0x802000", "0 sfence - - pc=0xffffffc0002000", f"m store {root + 8:#x} 0x0", "0 sfence 0x1000 - pc=", "0 fencei pc=",
+        ]  # fmt: skip
+        must(f"{lines}, and not {wanted}", len(lines) == len(wanted) and all(line.startswith(it) for line, it in zip(lines, wanted)))
+        report = ran([os.path.join(ROOT, "tools/to-trace"), "--report", out], 0).stdout.decode()
+        must(f"the report is {report}", "1 mappings taken away, 0 findings" in report)
 
 
 for play in PLAYS:
