@@ -1,4 +1,8 @@
 //! Reads a file with its conditions, or returns why it can't be tested.
+ghost use Rattle.std.specs.Prelude.{◌≡◌, IfOk, IfSome, take};
+ghost use Rattle.test_runner.specs.Inside.Loaded.{IsLoaded};
+ghost use Rattle.test_runner.specs.Reporting.{most_read};
+
 use crate::texts::Texts;
 use conditions::{Condition, Wrong, conditions};
 use diagnostics::{bad_board, bad_condition, faulty};
@@ -43,21 +47,27 @@ fn unread(kind: ErrorKind) -> &'static str {
 }
 
 /// The bytes of a file, at most one more than a script may have.
-pub(crate) fn read<T: Texts>(alloc: Global, texts: &T, file: &str) -> Result<Vec<u8>, Unloaded> {
+pub(crate) fn read<T: Texts>(alloc: Global, texts: &T, file: &str) -> Result<Vec<u8>, Unloaded>
+    ensures { IfOk result (λ text. IfSome (T.bytes texts.now file.now) (λ all. text.items ≡ take most_read all)) }
+{
     match bytes_of(alloc, texts, file) {
         Ok(text) => Ok(text),
         Err(error) => Err(unreadable(alloc, error.kind())?),
     }
 }
 
-fn bytes_of<T: Texts>(alloc: Global, texts: &T, file: &str) -> io::Result<Vec<u8>> {
+fn bytes_of<T: Texts>(alloc: Global, texts: &T, file: &str) -> io::Result<Vec<u8>>
+    ensures { IfOk result (λ text. IfSome (T.bytes texts.now file.now) (λ all. text.items ≡ take most_read all)) }
+{
     let mut text = Vec::new(alloc);
     texts.open(file)?.take(READ_LIMIT).read_to_end(&mut text)?;
     Ok(text)
 }
 
 /// The script that bytes are, and its conditions.
-pub(crate) fn load(alloc: Global, text: &[u8]) -> Result<Loaded, Unloaded> {
+pub(crate) fn load(alloc: Global, text: &[u8]) -> Result<Loaded, Unloaded>
+    ensures { IfOk result (IsLoaded text.now) }
+{
     let script = match locate(alloc, text) {
         Ok(script) => script,
         Err(found) if found.wrong.fault() == FaultKind::NoMemory => return Err(Unloaded::NoMemory),

@@ -1,4 +1,8 @@
 //! Where a report goes: to a writer, and into the file of `--tap`.
+ghost use Rattle.std.specs.Prelude.{◌≡◌, IfOk, OnOk, false};
+ghost use Rattle.test_report.specs.declared.page.Style.TheVariants.{Tap};
+ghost use Rattle.test_runner.specs.Inside.Telling.{HasTold, IsBegun, TellsEnd, TellsFile};
+
 use std::alloc::{AllocError, Global};
 use std::fs;
 use std::io::{self, ErrorKind, Write};
@@ -13,7 +17,7 @@ pub(crate) struct Output<'a, R: Files> {
     rt: &'a R,
     options: &'a Options<'a>,
     /// What the writer gets.
-    shown: Page,
+    pub(crate) shown: Page,
     /// What is written into the named file.
     kept: Page,
     file: Option<R::File>,
@@ -21,7 +25,9 @@ pub(crate) struct Output<'a, R: Files> {
 
 impl<'a, R: AllocGlobal + Clock + Files> Output<'a, R> {
     /// Creates the file of `--tap`, which must not be one of the tested files.
-    pub(crate) fn begin(rt: &'a R, options: &'a Options<'a>) -> Result<Output<'a, R>, Stop> {
+    pub(crate) fn begin(rt: &'a R, options: &'a Options<'a>) -> Result<Output<'a, R>, Stop>
+        ensures { IfOk result (λ output. options.now.screen.is_read ≡ false → IsBegun output.shown) }
+    {
         let alloc = rt.alloc();
         let style = if options.screen.is_read {
             Style::Plain
@@ -45,46 +51,88 @@ impl<'a, R: AllocGlobal + Clock + Files> Output<'a, R> {
     }
 
     /// Writes the points of a file.
-    pub(crate) fn tell_file<W: Write>(
-        &mut self,
-        out: &mut W,
-        file: &FileReport,
-    ) -> Result<(), Stop> {
+    pub(crate) fn tell_file<W: Write>(&mut self, out: &mut W, file: &FileReport) -> Result<(), Stop>
+        ensures { OnOk result (self.old.shown.style ≡ Tap
+            → TellsFile self.old.shown self.new.shown file.now (W.contents out.old) (W.contents out.new)) }
+    {
         let alloc = self.rt.alloc();
         self.shown.put_file(alloc, file)?;
-        if self.file.is_some() {
-            self.kept.put_file(alloc, file)?;
-        }
-        self.tell(out)
+        put_kept(alloc, self.file.is_some(), file, &mut self.kept)?;
+        self.tell(out)?;
+        Ok(())
     }
 
     /// Writes the plan and the summary, and on a terminal the time taken.
-    pub(crate) fn end<W: Write>(&mut self, out: &mut W, report: &Report) -> Result<(), Stop> {
+    pub(crate) fn end<W: Write>(&mut self, out: &mut W, report: &Report) -> Result<(), Stop>
+        ensures { OnOk result (self.old.shown.style ≡ Tap
+            → TellsEnd self.old.shown (W.contents out.old) (W.contents out.new)) }
+    {
         let alloc = self.rt.alloc();
         self.shown.put_summary(alloc, report)?;
         self.kept.put_summary(alloc, report)?;
         self.tell(out)?;
-        if self.options.screen.is_read {
-            let millis = self.options.limit.millis(self.rt)?;
-            let time = format!(in alloc; "time: {}.{} s\n", millis / 1_000, millis % 1_000 / 100)?;
-            out.write_all(time.as_bytes())?;
-        }
+        self.tell_time(out)?;
         Ok(())
     }
 
+    /// Writes the time taken, where a reader at a terminal wants it.
+    fn tell_time<W: Write>(&self, out: &mut W) -> Result<(), Stop>
+        ensures { self.now.shown.style ≡ Tap → W.contents out.new ≡ W.contents out.old }
+    {
+        if self.shown.style == Style::Tap {
+            return Ok(());
+        }
+        let millis = self.options.limit.millis(self.rt)?;
+        let (whole, tenth) = (millis / 1_000, millis % 1_000 / 100);
+        let alloc = self.rt.alloc();
+        let time = format!(in alloc; "time: {whole}.{tenth} s\n")?;
+        Ok(out.write_all(time.as_bytes())?)
+    }
+
     /// Writes what isn't written yet, also into the file of `--tap`.
-    fn tell<W: Write>(&mut self, out: &mut W) -> Result<(), Stop> {
+    fn tell<W: Write>(&mut self, out: &mut W) -> Result<(), Stop>
+        ensures { OnOk result (HasTold self.old.shown self.new.shown (W.contents out.old) (W.contents out.new)) }
+    {
         out.write_all(self.shown.text.as_bytes())?;
         self.shown.text.clear();
-        if let Some(file) = &mut self.file
-            && let Some(path) = self.options.tap
-            && let Err(error) = file.write_all(self.kept.text.as_bytes())
-        {
-            return Err(unwritten(self.rt.alloc(), path, &error)?);
-        }
-        self.kept.text.clear();
+        keep(
+            self.rt.alloc(),
+            self.options.tap,
+            &mut self.file,
+            &mut self.kept,
+        )?;
         Ok(())
     }
+}
+
+/// Adds the report of a file, if it is kept.
+fn put_kept(
+    alloc: Global,
+    is_kept: bool,
+    file: &FileReport,
+    kept: &mut Page,
+) -> Result<(), AllocError> {
+    if is_kept {
+        kept.put_file(alloc, file)?;
+    }
+    Ok(())
+}
+
+/// Writes what isn't written yet into the file of this name, if there is one.
+fn keep<F: Write>(
+    alloc: Global,
+    path: Option<&str>,
+    file: &mut Option<F>,
+    kept: &mut Page,
+) -> Result<(), Stop> {
+    if let Some(file) = file
+        && let Some(path) = path
+        && let Err(error) = file.write_all(kept.text.as_bytes())
+    {
+        return Err(unwritten(alloc, path, &error)?);
+    }
+    kept.text.clear();
+    Ok(())
 }
 
 /// Creates the file of the points, which must not be one of the tested files.

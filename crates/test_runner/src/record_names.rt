@@ -1,10 +1,14 @@
 //! What the names of records begin with.
+ghost use Rattle.std.specs.Prelude.{◌≡◌, IfOk, length};
+
 use std::alloc::{AllocError, Global};
 use std::collections::BTreeSet;
 
 /// For each file, how the names of its records begin: its own name without folders, with a number behind it if an earlier file
 /// has that name. So no record overwrites another file's.
-pub(crate) fn record_names(alloc: Global, files: &[&str]) -> Result<Vec<String>, AllocError> {
+pub(crate) fn record_names(alloc: Global, files: &[&str]) -> Result<Vec<String>, AllocError>
+    ensures { IfOk result (λ names. length names.items ≡ length files.now) }
+{
     let mut taken: BTreeSet<String> = BTreeSet::new(alloc);
     for file in files {
         taken.insert(String::from_str(alloc, name_of(file))?)?;

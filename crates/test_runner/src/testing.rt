@@ -1,7 +1,13 @@
 //! Tests one file of `test` or `explore`, by its kind.
-ghost use Rattle.std.specs.Prelude.{◌≡◌, true};
+ghost use Rattle.std.specs.Prelude.{◌≡◌, ◌↔◌, ◌∷◌, ◌++◌, List, [], IfOk, OnOk, true};
 ghost use Rattle.guest_script.specs.Grammar.{content};
 ghost use Rattle.guest_programs.specs.Programs.{IsProgram};
+ghost use Rattle.outcome_statistics.specs.Records.{EachIs};
+ghost use Rattle.test_report.specs.Statuses.{verdicts};
+ghost use Rattle.test_report.specs.declared.verdict.Verdict.{Verdict as Told};
+ghost use Rattle.test_report.specs.declared.verdict.Verdict.TheVariants.{Fails};
+ghost use Rattle.test_runner.specs.Findings.{IsFoundOf, IsFoundOfFile, AreTried};
+ghost use Rattle.test_runner.specs.Reporting.{IsReportOf};
 
 use crate::loading::{Unloaded, load, read};
 use crate::steps::test_steps;
@@ -28,10 +34,12 @@ pub(crate) fn test_file<
     options: &'a Options<'a>,
     file: &'a str,
     record: &'a str,
-) -> Result<FileReport, Stop> {
+) -> Result<FileReport, Stop>
+    ensures { IfOk result (λ found. IsReportOf (T.bytes texts.now file.now) options.now found) }
+{
     match read(rt.alloc(), texts, file) {
-        Ok(text) => test_text(rt, options, file, record, &text),
-        Err(unloaded) => untested(rt.alloc(), file, unloaded),
+        Ok(text) => Ok(test_text(rt, options, file, record, &text)?),
+        Err(unloaded) => Ok(untested(rt.alloc(), file, unloaded)?),
     }
 }
 
@@ -42,11 +50,13 @@ fn test_text<'a, R: AllocGlobal + Clock + Eprint + Files + Sync + Threads + Wait
     file: &'a str,
     record: &'a str,
     text: &'a [u8],
-) -> Result<FileReport, Stop> {
+) -> Result<FileReport, Stop>
+    ensures { IfOk result (λ found. IsFoundOfFile options.now text.now found.is_cut (verdicts found)) }
+{
     let alloc = rt.alloc();
     let loaded = match load(alloc, text) {
         Ok(loaded) => loaded,
-        Err(unloaded) => return untested(alloc, file, unloaded),
+        Err(unloaded) => return Ok(untested(alloc, file, unloaded)?),
     };
     let trial = Trial {
         rt,
@@ -61,17 +71,34 @@ fn test_text<'a, R: AllocGlobal + Clock + Eprint + Files + Sync + Threads + Wait
     };
     let mut found = test_script(&trial)?;
     found.note_all(comments(alloc, &trial.case)?)?;
+    put_unasked(&trial, &mut found)?;
+    Ok(found)
+}
+
+/// Adds a failing point for each comment that looks like a condition.
+fn put_unasked<R: AllocGlobal>(
+    trial: &Trial<'_, R>,
+    found: &mut FileReport,
+) -> Result<(), AllocError>
+    ensures odd { OnOk result ((odd : List Told) × (verdicts found.new ≡ verdicts found.old ++ odd)
+        × EachIs (λ verdict. verdict ≡ Fails) odd) }
+    ensures cut { found.new.is_cut ≡ found.old.is_cut }
+{
+    let alloc = trial.rt.alloc();
+    let file = trial.case.file;
     for (line, asked) in unasked(alloc, &trial.case)? {
         let name = format!(in alloc;
             "{file}: line {line}: '# !{asked}' is a comment, and no condition"
         )?;
         found.push(Point::new(alloc, name, Verdict::Fails))?;
     }
-    Ok(found)
+    Ok(())
 }
 
 /// The report about a file that can't be tested.
-fn untested(alloc: Global, file: &str, unloaded: Unloaded) -> Result<FileReport, Stop> {
+fn untested(alloc: Global, file: &str, unloaded: Unloaded) -> Result<FileReport, Stop>
+    ensures { IfOk result (λ found. verdicts found ≡ Fails ∷ []) }
+{
     match unloaded {
         Unloaded::NoMemory => Err(Stop::NoMemory),
         Unloaded::File(why) => {
@@ -82,7 +109,9 @@ fn untested(alloc: Global, file: &str, unloaded: Unloaded) -> Result<FileReport,
 }
 
 /// One point alone, which fails.
-fn failing(alloc: Global, name: String) -> Result<FileReport, AllocError> {
+fn failing(alloc: Global, name: String) -> Result<FileReport, AllocError>
+    ensures { IfOk result (λ found. verdicts found ≡ Fails ∷ []) }
+{
     let mut file = FileReport::new(alloc);
     file.push(Point::new(alloc, name, Verdict::Fails))?;
     Ok(file)
@@ -91,16 +120,21 @@ fn failing(alloc: Global, name: String) -> Result<FileReport, AllocError> {
 /// Tests a script by its kind.
 fn test_script<R: AllocGlobal + Clock + Eprint + Files + Sync + Threads + Wait>(
     trial: &Trial<'_, R>,
-) -> Result<FileReport, Stop> {
+) -> Result<FileReport, Stop>
+    ensures { IfOk result (λ found. IsFoundOf trial.now.options.now trial.now.script.now trial.now.case.conditions.now
+        trial.now.options.now.mode found.is_cut (verdicts found)) }
+{
     if is_program(&trial.script.body) {
         return test_program(trial);
     }
-    if trial.options.mode == Mode::Explore {
-        let alloc = trial.rt.alloc();
-        let name = named(alloc, &trial.case, None, ": only a program has orders")?;
-        return Ok(failing(alloc, name)?);
+    match trial.options.mode {
+        Mode::Explore => {
+            let alloc = trial.rt.alloc();
+            let name = named(alloc, &trial.case, None, ": only a program has orders")?;
+            Ok(failing(alloc, name)?)
+        }
+        Mode::Test => Ok(test_steps(trial)?),
     }
-    test_steps(trial)
 }
 
 /// Tests a program: by all orders for `explore` or if its states are few, otherwise by some.
@@ -108,13 +142,26 @@ fn test_program<R: AllocGlobal + Clock + Eprint + Files + Sync + Threads + Wait>
     trial: &Trial<'_, R>,
 ) -> Result<FileReport, Stop>
     requires { IsProgram (content trial.now.script.now.body) }
+    ensures { IfOk result (λ found. IsFoundOf trial.now.options.now trial.now.script.now trial.now.case.conditions.now
+        trial.now.options.now.mode found.is_cut (verdicts found)) }
 {
-    if trial.options.mode == Mode::Explore {
-        return explore_program(trial);
+    match trial.options.mode {
+        Mode::Explore => Ok(explore_program(trial)?),
+        Mode::Test => match test_all_orders(trial)? {
+            Some(file) => Ok(file),
+            None => Ok(test_some(trial)?),
+        },
     }
-    if let Some(file) = test_all_orders(trial)? {
-        return Ok(file);
-    }
+}
+
+/// Tests a program by some of its orders, and by runs on threads if they are asked for.
+fn test_some<R: AllocGlobal + Clock + Eprint + Files + Sync + Threads + Wait>(
+    trial: &Trial<'_, R>,
+) -> Result<FileReport, Stop>
+    requires { IsProgram (content trial.now.script.now.body) }
+    ensures { IfOk result (λ found. AreTried trial.now.options.now trial.now.script.now trial.now.case.conditions.now
+        found.is_cut (verdicts found)) }
+{
     let mut file = FileReport::new(trial.rt.alloc());
     test_orders(trial, &mut file)?;
     test_runs(trial, &mut file)?;
@@ -123,7 +170,7 @@ fn test_program<R: AllocGlobal + Clock + Eprint + Files + Sync + Threads + Wait>
 
 /// Whether a script is a program. An empty one is of each kind.
 fn is_program(body: &Body) -> bool
-    ensures { result ≡ true → IsProgram (content body.now) }
+    ensures { (result ≡ true) ↔ IsProgram (content body.now) }
 {
     match body {
         Body::Empty | Body::Program { .. } => true,

@@ -1,0 +1,4 @@
+pub mod Lists
+pub mod Meeting
+pub mod Printing
+pub mod Reports

@@ -1,0 +1,4 @@
+pub mod Findings
+pub mod Meeting
+pub mod Reporting
+pub mod Inside

@@ -1,0 +1,55 @@
+-- What a file's bytes meet if each of its points holds (profile).
+use Rattle.std.specs.Prelude.{◌≡◌, ◌≢◌, ◌⊎◌, ℕ, ◌+◌, ◌<◌, ◌==◌, if◌then◌else◌, Bool, List, length, map, slice_get}
+use Rattle.conditions.specs.declared.reading.Condition.{Condition}
+use Rattle.conditions.specs.Grammar.{ReadsConditions, condition_value}
+use Rattle.guest_script.specs.Grammar.{Reads, Written}
+use Rattle.guest_programs.specs.Programs.{IsProgram}
+use Rattle.guest_programs.specs.Steps.{task_of}
+use Rattle.outcome_statistics.specs.declared.judgement.Judgement.TheVariants as says
+use Rattle.outcome_statistics.specs.Records.{Tried}
+use Rattle.test_report.specs.declared.report.Mode.{Mode}
+use Rattle.test_report.specs.declared.report.Mode.TheVariants.{Test, Explore}
+use Rattle.test_report.specs.declared.verdict.Verdict.{Verdict}
+use Rattle.test_terms.specs.declared.options.Options.{Options}
+use Rattle.all_orders.specs.Verdicts.{IsSatisfied, points_of, rule_at, widest}
+use Rattle.tried_orders.specs.Verdicts.{AreRunsOf, AreTriedOf, Say}
+
+-- The bytes are this program, and have these conditions.
+pub record IsProgramWith (bytes : List ℕ) (script : Written) (conditions : List Condition) : Type 0 where
+  pub reads : Reads bytes script
+  pub program : IsProgram script.content
+  pub have : ReadsConditions bytes (map condition_value conditions)
+
+-- The bytes are a program. All of its orders, on its board with the widest limit, meet each condition that the bytes have, and some order has the step of each `some`; without a condition none ends stuck. So many verdicts were found.
+pub record AreMetByAll (bytes : List ℕ) (found : List Verdict) : Type 0 where
+  pub script : Written
+  pub conditions : List Condition
+  pub are : IsProgramWith bytes script conditions
+  pub each : (place : ℕ) → place < points_of conditions
+      → IsSatisfied (widest script.config) (task_of script.content) (rule_at conditions place)
+  pub many : length found ≡ points_of conditions
+
+-- Records were tried, some at least, and they meet each of these conditions; without a condition none ended stuck.
+pub record AreMetBy (Tries : List Tried → Type 0) (conditions : List Condition) : Type 0 where
+  pub tried : List Tried
+  pub are : Tries tried
+  pub each : (place : ℕ) → place < points_of conditions → Say (slice_get conditions place) tried says.Holds
+
+-- The bytes are a program. Those of its orders that were tried meet each condition that the bytes have, and so do the records of runs on threads, if some were asked for. So many verdicts were found.
+pub record AreMetByTried (options : Options) (is_cut : Bool) (bytes : List ℕ) (found : List Verdict) : Type 0 where
+  pub script : Written
+  pub conditions : List Condition
+  pub are : IsProgramWith bytes script conditions
+  pub orders : AreMetBy (AreTriedOf script.config script.content options.seed options.orders is_cut) conditions
+  pub runs : options.runs ≢ 0 → AreMetBy (AreRunsOf script.config script.content options.runs is_cut) conditions
+  pub many : length found ≡ points_of conditions + (if options.runs == 0 then 0 else points_of conditions)
+
+-- The bytes are a schedule or a trace.
+abbrev pub IsStepScript : List ℕ → Type 0
+IsStepScript bytes = (script : Written) × Reads bytes script × (¬ IsProgram script.content)
+
+-- What is so of bytes if each point of their file holds. (What schedules and traces meet is tested.)
+abbrev pub AreAllMet : Options → Mode → Bool → List ℕ → List Verdict → Type 0
+AreAllMet options Explore is_cut bytes found = AreMetByAll bytes found
+AreAllMet options Test is_cut bytes found =
+    AreMetByAll bytes found ⊎ AreMetByTried options is_cut bytes found ⊎ IsStepScript bytes
