@@ -11,7 +11,7 @@ use Rattle.test_report.specs.declared.report.Mode.TheVariants.{Test, Explore}
 use Rattle.test_report.specs.declared.verdict.Verdict.{Verdict}
 use Rattle.test_report.specs.declared.verdict.Verdict.TheVariants.{Holds, Fails}
 use Rattle.test_terms.specs.declared.options.Options.{Options}
-use Rattle.all_orders.specs.Verdicts.{IsFound as IsFoundBy, points_of, rule_at, widest}
+use Rattle.all_orders.specs.Verdicts.{IsFound as IsFoundBy, points_of, widest}
 use Rattle.tried_orders.specs.Verdicts.{AddsVerdicts, AreRunsOf, AreTriedOf}
 use Rattle.tried_orders.specs.Verdicts.{IsFoundBy as IsFoundByTried}
 use Rattle.test_runner.specs.Findings.{IsExplored, IsFoundOfScript, IsFoundOf, IsFoundOfFile, AreTried}
@@ -25,7 +25,7 @@ by-all options bytes is_cut found it explored each = record {
   conditions = it.conditions;
   are = record { reads = it.reads; program = explored.program; have = it.have };
   each = (λ place below.
-      holds-in (λ place verdict. IsFoundBy (widest it.script.config) (task_of (content it.script.body)) (rule_at it.conditions place) verdict)
+      holds-in (λ place verdict. IsFoundBy (widest it.script.config) (task_of (content it.script.body)) options.limit.seconds (slice_get it.conditions place) verdict)
       it.judged each explored.are.each place (let many = explored.are.many in omega arith));
   many = explored.are.many;
 }

@@ -19,7 +19,7 @@ module _ (options : Options) (script : Script) (conditions : List Condition) whe
   -- By all orders of a program, on its board with the widest limit, one verdict is found of each condition.
   pub record IsExplored (found : List Verdict) : Type 0 where
     pub program : IsProgram (content script.body)
-    pub are : AreVerdicts (widest script.config) (task_of (content script.body)) conditions found
+    pub are : AreVerdicts (widest script.config) (task_of (content script.body)) options.limit.seconds conditions found
 
   -- By the orders of a program that were tried one verdict is found of each condition, and, if runs on threads were asked for, one more by their records.
   pub record AreTried (is_cut : Bool) (found : List Verdict) : Type 0 where

@@ -11,7 +11,7 @@ use Rattle.test_report.specs.declared.report.Mode.{Mode}
 use Rattle.test_report.specs.declared.report.Mode.TheVariants.{Test, Explore}
 use Rattle.test_report.specs.declared.verdict.Verdict.{Verdict}
 use Rattle.test_terms.specs.declared.options.Options.{Options}
-use Rattle.all_orders.specs.Verdicts.{IsSatisfied, points_of, rule_at, widest}
+use Rattle.all_orders.specs.Verdicts.{HoldsSo, points_of, widest}
 use Rattle.tried_orders.specs.Verdicts.{AreRunsOf, AreTriedOf, Say}
 
 -- The bytes are this program, and have these conditions.
@@ -20,13 +20,15 @@ pub record IsProgramWith (bytes : List ℕ) (script : Written) (conditions : Lis
   pub program : IsProgram script.content
   pub have : ReadsConditions bytes (map condition_value conditions)
 
--- The bytes are a program. All of its orders, on its board with the widest limit, meet each condition that the bytes have, and some order has the step of each `some`; without a condition none ends stuck. So many verdicts were found.
+-- The bytes are a program. All of its orders, on its board with the widest limit, meet each condition that the bytes have, and
+-- some order has the step of each `some`; without a condition none ends stuck. Each condition fits the board, and says something
+-- unless it begins with `maybe`. So many verdicts were found.
 pub record AreMetByAll (bytes : List ℕ) (found : List Verdict) : Type 0 where
   pub script : Written
   pub conditions : List Condition
   pub are : IsProgramWith bytes script conditions
   pub each : (place : ℕ) → place < points_of conditions
-      → IsSatisfied (widest script.config) (task_of script.content) (rule_at conditions place)
+      → HoldsSo (widest script.config) (task_of script.content) (slice_get conditions place)
   pub many : length found ≡ points_of conditions
 
 -- Records were tried, some at least, and they meet each of these conditions; without a condition none ended stuck.
