@@ -501,7 +501,7 @@ class Orders(Test):
             first = lines[records[0]].split('"')[1]
             must(f"{words}: {found}", found.returncode == 7 and found.stderr.startswith(f"sbiboard: {first}: ") and found.stderr.count("\n") == 1)
         # (that of a later file, behind one that fails and one that holds)
-        told(self.room, f"#! each 0 advance -> gone\n{HEAD}0 advance -> gone\n", name="c.trace")
+        told(self.room, f"#! never 0 advance\n{HEAD}0 advance -> gone\n", name="c.trace")
         told(self.room, HEAD + "0 advance\n", name="d.sched")
         for files, first in ((["d.sched", "b.sched"], "b.sched"), (["d.sched", "d.sched", "c.trace", "b.sched"], "c.trace")):
             found = tester(self.room, "--failed", "nowhere", *files)
