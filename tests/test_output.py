@@ -66,9 +66,10 @@ class Made(Test):
             os.makedirs(out)
             shutil.copy(path, out)
 
-    def called(self, *words, stdin=b""):
+    def called(self, *words, stdin=b"", within=()):
+        """The status, and what is printed and said; or those of words before the call."""
         path = os.path.join(self.room, "bin") + ":" + os.environ.get("PATH", "")
-        found = subprocess.run([self.front, *words], input=stdin, capture_output=True, timeout=300, cwd=self.room, env={"PATH": path, "RT_LOG": os.path.join(self.room, "rt.log"), "TMPDIR": self.room})
+        found = subprocess.run([*within, self.front, *words], input=stdin, capture_output=True, timeout=300, cwd=self.room, env={"PATH": path, "RT_LOG": os.path.join(self.room, "rt.log"), "TMPDIR": self.room})
         must(f"{words}: a build began", not os.path.exists(os.path.join(self.room, "rt.log")))
         return found.returncode, found.stdout.decode(), found.stderr.decode()
 
@@ -131,7 +132,7 @@ class JsonLines(Made):
             plain = self.called("replay", name)
             status, found, said = self.json("replay", "--json", name)
             must(f"{name}: {status} {found} {said}", (status, found, said) == (1, [], plain[2]))
-        must_end(self.called("replay", "--json", "none"), 7, "", "sbiboard: input or output failed\n")
+        must(f"{self.json('replay', '--json', 'none')}", self.json("replay", "--json", "none") == (7, [], "sbiboard: input or output failed\n"))
 
     def test_json__a_check_has_its_verdict(self):
         """A check tells how many lines agree, or which line differs, what it wants and what the board answers; also from standard input."""
@@ -198,6 +199,56 @@ class Xml(Made):
         must("an error", status == 6 and root.get("errors") == "1" and "status 6" in root[0][0][0].get("message"))
         status, out, said = self.called("test", "--junit", "none/made.xml", "a.sched")
         must(f"{said}", (status, out) == (7, "") and said.startswith("sbiboard: none/made.xml: "))
+
+    def test_junit__a_file_that_is_needed(self):
+        """--junit names no FILE, by whatever path, and not the file of --tap: nothing is tested or written, as with --tap."""
+        for name, text in (("a.sched", BOARD + "0 sip\n"), ("a.program", RACE)):
+            self.put(name, text)
+            os.symlink(name, os.path.join(self.room, "to " + name))
+            os.link(os.path.join(self.room, name), os.path.join(self.room, "as " + name))
+        for words, named in (
+            (["test", "--junit", "a.sched", "a.sched"], "a.sched"), (["test", "--junit=./a.sched", "a.sched"], "./a.sched"), (["test", "--junit", "to a.sched", "a.program", "a.sched"], "to a.sched"),
+            (["test", "--junit", "as a.sched", "a.sched"], "as a.sched"), (["explore", "a.program", "--junit=a.program"], "a.program"), (["test", "--junit", "x", "--tap", "./x", "a.sched"], "x"),
+            (["test", "--tap", "a.sched", "a.sched"], "a.sched"),
+        ):  # fmt: skip
+            must_end(self.called(*words), 7, "", f"sbiboard: {named}: entity already exists\n")
+            must(f"{words}: a file changed", (read(os.path.join(self.room, "a.sched")), read(os.path.join(self.room, "a.program"))) == (BOARD + "0 sip\n", RACE) and not os.path.exists(os.path.join(self.room, "x")))
+
+    def test_junit__what_can_t_be_written(self):
+        """A write of the XML that fails names its file; where nobody reads the points, the script ends by SIGPIPE, and the XML says that they aren't all told."""
+        self.put("a.sched", BOARD + "0 sip\n")
+        status, _, said = self.called("test", "--junit", "/dev/full", "a.sched")
+        must(f"{status} {said}", (status, said) == (7, "sbiboard: /dev/full: No space left on device\n"))
+        within = ["bash", "-c", '{ sleep 0.3; "$@"; } | true; echo "${PIPESTATUS[0]}"', "-"]
+        _, out, _ = self.called("test", "--junit", "made.xml", "a.sched", within=within)
+        must(f"{out}", out == "141\n" and "not all points were told" in read(os.path.join(self.room, "made.xml")))
+
+    def test_names_with_control_characters(self):
+        """A name with control characters, which a point shows as `?`, is the file's name in JSON and in the XML."""
+        for name in ("a\tb.sched", "a\nb.sched", "a\x7fb\x85.sched"):
+            self.put(name, BOARD + "0 fly\n")
+            _, found, _ = self.json("test", "--json", name)
+            must(f"{found}", [(it["file"], it["line"]) for it in found if it["kind"] == "point"] == [(name, 2)])
+            *_, root = self.junit(name)
+            must(f"{name!r}", [it.get("name") for it in root] == [name])
+
+    def test_json__what_was_said(self):
+        """The last line has the status and what standard error has, and the first is there, also where nothing could be read or written."""
+        self.put("a.sched", BOARD + "0 sip\n")
+        shutil.copy(os.path.join(EXAMPLES, "orders/lost-wakeup.program"), self.room)
+        for words in (
+            ["test", "--json", "--tap", "a.sched", "a.sched"], ["test", "--json", "--failed", "none", "lost-wakeup.program"], ["explore", "--json", "--junit", "none/x", "lost-wakeup.program"],
+            ["check", "--json", "none"], ["replay", "--json", "none"], ["replay", "--json", "--explain", "none"],
+        ):  # fmt: skip
+            status, out, said = self.called(*words)
+            found = [json.loads(it) for it in out.splitlines()]
+            must(f"{words}: {found}", status == 7 and found[0] == {"format": "sbiboard", "version": 1, "task": words[0], "files": words[-1:]} and said and found[-1] == {"kind": "end", "status": 7, "said": said.strip()})
+
+    def test_standard_input_that_is_closed(self):
+        """Where standard input is closed, `-` is a file that can't be read."""
+        for words in (["test"], ["test", "--json"], ["test", "--junit", "made.xml"], ["explore"], ["explore", "--json"]):
+            status, out, said = self.called(*words, "-", within=["bash", "-c", '"$@" <&-', "-"])
+            must(f"{words}: {out} {said}", (status, said) == (7, "sbiboard: -: Bad file descriptor\n") and ('"kind": "end"' in out) == ("--json" in words))
 
     def test_points_of_both_versions(self):
         """Points are of version 13; --tap-version 14 writes its first line, in the file of --tap too, and nothing else is otherwise."""

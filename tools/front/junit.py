@@ -52,5 +52,9 @@ def junit(name, files, points, is_whole, status):
 
 
 def write(path, *of):
-    with open(path, "w", encoding="utf-8") as file:
-        file.write('<?xml version="1.0" encoding="UTF-8"?>\n' + junit(*of) + "\n")
+    try:
+        with open(path, "w", encoding="utf-8") as file:
+            file.write('<?xml version="1.0" encoding="UTF-8"?>\n' + junit(*of) + "\n")
+    except OSError as error:
+        # (a write that fails doesn't name its file)
+        raise OSError(error.errno, error.strerror, path) from None

@@ -19,7 +19,7 @@ class Point:
 
     def __init__(self, number, is_ok, text, files):
         self.number, self.is_ok, self.text, self.details = number, is_ok, text, {}
-        self.file = max((it for it in files if text.startswith(it)), key=len, default=None)
+        self.file = max((it for it in files if text.startswith(as_shown(it))), key=len, default=None)
         rest = text[len(self.file or "") :]
         found = re.match(r": line (\d+): (.*)", rest)
         self.line, self.condition, self.column, self.why = None, None, None, ""
@@ -66,6 +66,11 @@ class Point:
             last[-1][found[1]] = scalar(found[2])
         else:
             last.append(row.strip())
+
+
+def as_shown(name):
+    """A name as a point has it."""
+    return re.sub("[\\x00-\\x1f\\x7f-\\x9f]", "?", name)
 
 
 def scalar(word):

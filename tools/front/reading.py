@@ -1,13 +1,16 @@
 """What the script does with what a program reads and prints, by the options that the program doesn't know: JSON lines, JUnit XML, pages,
 the board at a line, what each step changed, and faults explained."""
 import contextlib
+import errno
 import os
+import select
 import shutil
 import signal
 import stat
 import subprocess
 import sys
 import tempfile
+import threading
 from concurrent.futures import ThreadPoolExecutor
 
 from commands import AT, DIFF, EXPLAIN, HTML, JSON, JUNIT, TAP_VERSION, TESTER
@@ -44,7 +47,12 @@ def run_read(program, command, words, given):
             return Points(program, command, words, given).run()
         return Script(program, command, words, given).run()
     except OSError as error:
-        return BAD_FILE, f"sbiboard: {error.filename}: {error.strerror}\n" if error.filename else FAILED_IO
+        return failed(error)
+
+
+def failed(error):
+    """The status and the words of a system call that failed."""
+    return BAD_FILE, f"sbiboard: {error.filename}: {error.strerror}\n" if error.filename else FAILED_IO
 
 
 def program_words(command, words):
@@ -99,7 +107,8 @@ class Script:
                 self.text = file.read(MOST_BYTES + 1)
         except OSError:
             why = why_unread(self.file.encode()) if self.asks(EXPLAIN) else ""
-            return BAD_FILE, f"sbiboard: {self.file}: {why}\n" if why else FAILED_IO
+            said = f"sbiboard: {self.file}: {why}\n" if why else FAILED_IO
+            return self.tell(BAD_FILE, "", said) if self.asks(JSON) else (BAD_FILE, said)
         is_read = any(self.asks(it) for it in (JSON, AT, DIFF))
         status, out, said = self.done(None if self.is_regular else self.text, is_read)
         if is_read:
@@ -208,13 +217,33 @@ class Points:
     def __init__(self, program, command, words, given):
         self.program, self.command, self.words, self.given = program, command, words, given
         self.files = [STDIN if it == "-" else it for it in given[""]]
+        # What the program has said on standard error, where that is read.
+        self.said = ""
 
     def asked(self, name):
         """The value of an option, or None."""
         return next(iter(self.given.get(name, ())), None)
 
     def run(self):
+        if JSON.name not in self.given:
+            return self.done()
+        from json_lines import end, head
+
+        written(head(self.command.word, self.files))
+        try:
+            status, said = self.done()
+        except OSError as error:
+            status, said = failed(error)
+        written(end(status, self.said + said))
+        return status, said
+
+    def done(self):
+        """Runs the program, and does what is asked for. Returns the status, and what is left to say."""
         tap, folder, junit = self.asked("tap"), self.asked(HTML.name), self.asked(JUNIT.name)
+        if STDIN in self.files and sys.stdin is None:
+            return BAD_FILE, f"sbiboard: -: {os.strerror(errno.EBADF)}\n"
+        if junit and any(is_same(junit, it) for it in [*self.files, *([tap] if tap else [])]):
+            return BAD_FILE, f"sbiboard: {junit}: entity already exists\n"
         if folder and os.path.exists(folder) and not os.path.isdir(folder):
             return BAD_FILE, f"sbiboard: {folder}: not a folder\n"
         is_read = folder or junit or tap and self.asked(TAP_VERSION.name) == "14"
@@ -238,6 +267,8 @@ class Points:
         if self.asked("tap") and lines and self.asked(TAP_VERSION.name) == "14":
             with open(tap, "r+b") as file:
                 file.write(TAP_14)
+        if status == BAD_FILE and is_closed_pipe():
+            os.kill(os.getpid(), signal.SIGPIPE)
         return status, said
 
     def stream(self, stdin):
@@ -246,21 +277,31 @@ class Points:
         is_json, is_14 = JSON.name in self.given, self.asked(TAP_VERSION.name) == "14" and not os.isatty(1)
         if not is_json and not is_14:
             return subprocess.run(encoded(self.words), check=False, **how).returncode
-        with subprocess.Popen(encoded(self.words), stdout=subprocess.PIPE, **how) as run:
+        # (on a terminal it shows the progress)
+        is_heard = is_json and sys.stderr is not None and not os.isatty(2)
+        with subprocess.Popen(encoded(self.words), stdout=subprocess.PIPE, stderr=subprocess.PIPE if is_heard else None, **how) as run:
             if is_json:
-                from json_lines import end, head, of_items
+                from json_lines import of_items
                 from points import read_points
 
-                written(head(self.command.word, self.files))
+                hearing = threading.Thread(target=self.hear, args=[run.stderr if is_heard else ()])
+                hearing.start()
                 for it in of_items(read_points((it.decode("utf-8", "surrogateescape") for it in run.stdout), self.files)):
                     written(it)
-                written(end(run.wait()))
+                hearing.join()
             else:
                 first = run.stdout.readline()
                 with output("wb") as file:
                     file.write(TAP_14 if first == TAP_13 else first)
                     shutil.copyfileobj(run.stdout, file)
         return run.returncode
+
+    def hear(self, lines):
+        """Passes on what the program says, and keeps it."""
+        for line in lines:
+            self.said += line.decode("utf-8", "replace")
+            with contextlib.suppress(OSError):
+                os.write(2, line)
 
     def behind(self, status, lines, folder, junit):
         """Draws pages and writes XML of the points. Returns what is said."""
@@ -302,6 +343,21 @@ def kept_input():
     kept.write(sys.stdin.buffer.read(MOST_BYTES + 1))
     kept.seek(0)
     return kept
+
+
+def is_closed_pipe():
+    """Whether standard output is a pipe from which nobody reads."""
+    poll = select.poll()
+    poll.register(1, select.POLLOUT)
+    return any(of & select.POLLERR for _, of in poll.poll(0))
+
+
+def is_same(path, other):
+    """Whether two paths name one file, which may not be there yet. (One terminal can be both input and output.)"""
+    path, other = path.encode(), other.encode()
+    with contextlib.suppress(OSError):
+        return os.path.samefile(path, other) and os.path.isfile(path)
+    return os.path.realpath(path) == os.path.realpath(other)
 
 
 def read_lines(path):
