@@ -4,10 +4,10 @@ use Rattle.std.specs.Prelude.{Option, Some, None, MatchOption, is_some, not, nat
 use Rattle.std.proofs.lemmas.Bool.{cases_order, lt-ltb, ltb-true}
 use Rattle.std.proofs.lemmas.Option.{get_or_from_slice_get, none-some, slice_get-get_or, slice_get_within}
 use Rattle.board_core.specs.History.{Event}
-use Rattle.conditions.specs.declared.patterns.Pattern.{Pattern}
+use Rattle.condition_script.specs.declared.patterns.Pattern.{Pattern}
 use Rattle.conditions.specs.Patterns.{FitsReply, FitsStep, Matches}
-use Rattle.conditions.specs.declared.rules.Ending.{Ending}
-use Rattle.conditions.specs.declared.rules.Rule.{Rule}
+use Rattle.condition_script.specs.declared.rules.Ending.{Ending}
+use Rattle.condition_script.specs.declared.rules.Rule.{Rule}
 use Rattle.conditions.specs.Rules.{Holds, IsAt, IsFirst, IsFirstFrom, IsFirstUnfit, RepliesFit}
 
 pub same-event : (events : List Event) (k : ℕ) (e d : Event) → slice_get events k ≡ Some e → d ≡ get_or events k d → e ≡ d

@@ -2,7 +2,7 @@
 use Rattle.std.proofs.Common.{◌≡◌, ℕ, ◌+◌, ◌<◌, ◌≤◌, List, Bool, true, false, length, get_or, sym, ◌∙◌, subst, below_more, arith}
 use Rattle.std.specs.Prelude.{Option, Some, None, slice_get}
 use Rattle.std.proofs.lemmas.Option.{get_or_from_slice_get, slice_get-get_or, slice_get_within}
-use Rattle.conditions.specs.declared.items.Item.{Item}
+use Rattle.condition_script.specs.declared.items.Item.{Item}
 use Rattle.conditions.specs.Patterns.{Fits, FitsWord}
 
 -- the words before a place fit

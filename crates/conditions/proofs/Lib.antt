@@ -2,9 +2,4 @@ pub mod Places
 pub mod Fitting
 pub mod Firsts
 pub mod Saying
-pub mod Named
-pub mod OneReading
-pub mod Asked
-pub mod LinesRead
 pub mod Unheld
-pub mod GoingOn

@@ -3,8 +3,8 @@ use Rattle.std.proofs.Common.{◌≡◌, ℕ, zero, suc, ◌-◌, ◌≤◌, Lis
 use Rattle.std.proofs.lemmas.List.{length-map}
 use Rattle.std.proofs.lemmas.Option.{slice_get_past}
 use Rattle.std.specs.Prelude.{None, slice_get}
-use Rattle.conditions.specs.declared.items.Item.{Item}
-use Rattle.conditions.specs.declared.items.Item.TheVariants.{Number}
+use Rattle.condition_script.specs.declared.items.Item.{Item}
+use Rattle.condition_script.specs.declared.items.Item.TheVariants.{Number}
 
 pub behind : (x : Item) (xs : List Item) (place : ℕ) → 1 ≤ place → slice_get (x ∷ xs) place ≡ slice_get xs (place - 1)
 behind x xs zero some = absurd (omega arith)

@@ -3,10 +3,10 @@ use Rattle.std.proofs.Common.{◌≡◌, ℕ, ◌+◌, ◌<◌, ◌≤◌, List,
 use Rattle.std.specs.Prelude.{Option, Some, slice_get}
 use Rattle.std.proofs.lemmas.Option.{slice_get_within}
 use Rattle.board_core.specs.History.{Event}
-use Rattle.conditions.specs.declared.patterns.Pattern.{Pattern}
-use Rattle.conditions.specs.declared.rules.Ending.{Ending}
-use Rattle.conditions.specs.declared.rules.Rule.{Rule}
-use Rattle.conditions.specs.declared.rules.Rule.TheVariants.{Never, NeverAfter, OfSome, Each, End, Before, CanEnd}
+use Rattle.condition_script.specs.declared.patterns.Pattern.{Pattern}
+use Rattle.condition_script.specs.declared.rules.Ending.{Ending}
+use Rattle.condition_script.specs.declared.rules.Rule.{Rule}
+use Rattle.condition_script.specs.declared.rules.Rule.TheVariants.{Never, NeverAfter, OfSome, Each, End, Before, CanEnd}
 use Rattle.conditions.specs.Patterns.{FitsStep}
 use Rattle.conditions.specs.Rules.{IsAt}
 use Rattle.conditions.specs.Vacuity.{HasFitting, IsVacuous, SaysNothing}

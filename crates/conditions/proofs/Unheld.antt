@@ -4,13 +4,13 @@ use Rattle.std.specs.Prelude.{◌↔◌, if◌then◌else◌, MatchOption, Optio
 use Rattle.std.proofs.lemmas.Option.{none-some, same_Some, slice_get_within}
 use Rattle.script_lines.specs.declared.op_name.OpName.{OpName}
 use Rattle.script_lines.specs.declared.said_name.SaidName.{SaidName}
-use Rattle.conditions.specs.declared.items.Item.{Item}
-use Rattle.conditions.specs.declared.items.Item.TheVariants.{Word}
+use Rattle.condition_script.specs.declared.items.Item.{Item}
+use Rattle.condition_script.specs.declared.items.Item.TheVariants.{Word}
 use Rattle.conditions.specs.declared.misfits.Misfit.{Misfit}
 use Rattle.conditions.specs.declared.misfits.Misfit.TheVariants.{NoReply}
-use Rattle.conditions.specs.declared.names.Name.TheVariants.{Op, Said}
-use Rattle.conditions.specs.declared.patterns.Pattern.{Pattern}
-use Rattle.conditions.specs.declared.rules.Rule.{Rule}
+use Rattle.condition_script.specs.declared.names.Name.TheVariants.{Op, Said}
+use Rattle.condition_script.specs.declared.patterns.Pattern.{Pattern}
+use Rattle.condition_script.specs.declared.rules.Rule.{Rule}
 use Rattle.conditions.specs.Inside.Held.{HasHeldAt, HasRightAt, no_reply}
 use Rattle.conditions.specs.Misfits.{IsAnswerMisfit, IsMisfit, IsOpMisfit, IsReplyMisfit, IsWrongInReply, OpCanHave, IsWordAt, is_reply_to}
 

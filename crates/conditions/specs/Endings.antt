@@ -1,7 +1,7 @@
 -- How runs end, by the names that conditions use (profile).
 use Rattle.std.specs.Prelude.{Option, Some, None}
-use Rattle.conditions.specs.declared.rules.Ending.{Ending}
-use Rattle.conditions.specs.declared.rules.Ending.TheVariants as endings
+use Rattle.condition_script.specs.declared.rules.Ending.{Ending}
+use Rattle.condition_script.specs.declared.rules.Ending.TheVariants as endings
 use Rattle.guest_programs.specs.declared.ends.End.{End}
 use Rattle.guest_programs.specs.declared.ends.End.TheVariants as ends
 

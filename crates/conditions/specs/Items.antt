@@ -1,5 +1,5 @@
 -- An accepted step as words (profile).
-use Rattle.std.specs.Prelude.{ℕ, ℤ, pos, negsuc, Bool, true, false, List, [], ◌∷◌, map, Option, Some, None, Ok, suc}
+use Rattle.std.specs.Prelude.{ℕ, Bool, true, false, List, [], ◌∷◌, map, Option, Some, None, Ok}
 use Rattle.board_terms.specs.declared.op.Actor.{Actor}
 use Rattle.board_terms.specs.declared.op.Actor.TheVariants as actors
 use Rattle.board_terms.specs.declared.op.Op.{Op}
@@ -9,9 +9,10 @@ use Rattle.script_lines.specs.Agreeing.{said_of}
 use Rattle.script_lines.specs.declared.said.Said.{Said as Saying}
 use Rattle.script_lines.specs.declared.said.Said.TheVariants as says
 use Rattle.script_lines.specs.Names.{name_of, name_of_said}
-use Rattle.conditions.specs.declared.items.Item.{Item}
-use Rattle.conditions.specs.declared.items.Item.TheVariants.{Word, Number, Below, Absent}
-use Rattle.conditions.specs.declared.names.Name.TheVariants as names
+use Rattle.condition_script.specs.declared.items.Item.{Item}
+use Rattle.condition_script.specs.declared.items.Item.TheVariants.{Word, Number, Absent}
+use Rattle.condition_script.specs.declared.names.Name.TheVariants as names
+use Rattle.condition_script.specs.Grammar.{signed_item}
 
 abbrev pub actor_item : Actor → Item
 actor_item (actors.Hart h) = Number h
@@ -47,10 +48,6 @@ op_arguments (ops.Tick n) = Number n ∷ []
 -- an operation: its name, and its numbers
 abbrev pub op_items : Op → List Item
 op_items op = Word (names.Op (name_of op)) ∷ op_arguments op
-
-abbrev pub signed_item : ℤ → Item
-signed_item (pos n) = Number n
-signed_item (negsuc n) = Below (suc n)
 
 -- a reply's numbers
 abbrev pub said_arguments : Saying → List Item

@@ -1,6 +1,13 @@
+pub use Rattle.condition_script.specs.FirstFault
+pub use Rattle.condition_script.specs.Grammar
+pub use Rattle.condition_script.specs.contracts.items.ItemPartialEq
+pub use Rattle.condition_script.specs.declared.items.Item
+pub use Rattle.condition_script.specs.declared.names.Name
+pub use Rattle.condition_script.specs.declared.patterns.Pattern
+pub use Rattle.condition_script.specs.declared.reading.Condition
+pub use Rattle.condition_script.specs.declared.rules.Ending
+pub use Rattle.condition_script.specs.declared.rules.Rule
 pub mod Endings
-pub mod FirstFault
-pub mod Grammar
 pub mod Inside
 pub mod Items
 pub mod Misfits

@@ -4,14 +4,14 @@ use Rattle.script_lines.specs.declared.op_name.OpName.{OpName}
 use Rattle.script_lines.specs.declared.op_name.OpName.TheVariants.{Ecall, Load, Store, Fetch, Satp, Sie, Sstatus, Sip, Clearssip, Sfence, Fencei, Wfi, Poll, Serve, Advance, Tick}
 use Rattle.script_lines.specs.declared.said_name.SaidName.{SaidName}
 use Rattle.script_lines.specs.declared.said_name.SaidName.TheVariants as saids
-use Rattle.conditions.specs.declared.items.Item.{Item}
-use Rattle.conditions.specs.declared.items.Item.TheVariants.{Word, Number, Below, Absent}
+use Rattle.condition_script.specs.declared.items.Item.{Item}
+use Rattle.condition_script.specs.declared.items.Item.TheVariants.{Word, Number, Below, Absent}
 use Rattle.conditions.specs.declared.misfits.Misfit.{Misfit}
 use Rattle.conditions.specs.declared.misfits.Misfit.TheVariants.{NoHart, Unheld, NoReply}
-use Rattle.conditions.specs.declared.names.Name.TheVariants.{Op, Said}
-use Rattle.conditions.specs.declared.patterns.Pattern.{Pattern}
-use Rattle.conditions.specs.declared.rules.Rule.{Rule}
-use Rattle.conditions.specs.declared.rules.Rule.TheVariants.{Never, NeverAfter, OfSome, Each, End, Before, CanEnd}
+use Rattle.condition_script.specs.declared.names.Name.TheVariants.{Op, Said}
+use Rattle.condition_script.specs.declared.patterns.Pattern.{Pattern}
+use Rattle.condition_script.specs.declared.rules.Rule.{Rule}
+use Rattle.condition_script.specs.declared.rules.Rule.TheVariants.{Never, NeverAfter, OfSome, Each, End, Before, CanEnd}
 
 -- this word stands in a place of a pattern's part, from 0, where `_` is none
 abbrev pub IsWordAt : List (Option Item) → ℕ → Item → Type 0

@@ -1,8 +1,8 @@
 -- Which steps a pattern matches (profile).
 use Rattle.std.specs.Prelude.{◌≡◌, ℕ, List, slice_get, Option, Some, None}
 use Rattle.board_core.specs.History.{Event}
-use Rattle.conditions.specs.declared.items.Item.{Item}
-use Rattle.conditions.specs.declared.patterns.Pattern.{Pattern}
+use Rattle.condition_script.specs.declared.items.Item.{Item}
+use Rattle.condition_script.specs.declared.patterns.Pattern.{Pattern}
 use Rattle.conditions.specs.Items.{reply_items, step_items}
 
 -- A word of a pattern fits the word in its place, if there is one: `_` fits any, another word only itself.

@@ -1,10 +1,10 @@
 -- When a record meets a condition (profile).
 use Rattle.std.specs.Prelude.{◌≡◌, ℕ, suc, ◌<◌, ◌≤◌, List, length, slice_get, take, Option, Some}
 use Rattle.board_core.specs.History.{Event}
-use Rattle.conditions.specs.declared.patterns.Pattern.{Pattern}
-use Rattle.conditions.specs.declared.rules.Ending.{Ending}
-use Rattle.conditions.specs.declared.rules.Rule.{Rule}
-use Rattle.conditions.specs.declared.rules.Rule.TheVariants.{Never, NeverAfter, OfSome, Each, End, Before, CanEnd}
+use Rattle.condition_script.specs.declared.patterns.Pattern.{Pattern}
+use Rattle.condition_script.specs.declared.rules.Ending.{Ending}
+use Rattle.condition_script.specs.declared.rules.Rule.{Rule}
+use Rattle.condition_script.specs.declared.rules.Rule.TheVariants.{Never, NeverAfter, OfSome, Each, End, Before, CanEnd}
 use Rattle.conditions.specs.Patterns.{FitsReply, FitsStep, Matches}
 
 -- the pattern matches step k of a record, from 0, the oldest first

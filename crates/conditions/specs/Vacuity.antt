@@ -2,12 +2,12 @@
 use Rattle.std.specs.Prelude.{◌≡◌, ◌≢◌, ◌⊎◌, ℕ, List, [], slice_get, Option, Some}
 use Rattle.board_core.specs.History.{Event}
 use Rattle.script_lines.specs.declared.op_name.OpName.TheVariants.{Ecall}
-use Rattle.conditions.specs.declared.items.Item.TheVariants.{Word}
-use Rattle.conditions.specs.declared.names.Name.TheVariants.{Op}
-use Rattle.conditions.specs.declared.patterns.Pattern.{Pattern}
-use Rattle.conditions.specs.declared.rules.Ending.{Ending}
-use Rattle.conditions.specs.declared.rules.Rule.{Rule}
-use Rattle.conditions.specs.declared.rules.Rule.TheVariants.{Never, NeverAfter, OfSome, Each, End, Before, CanEnd}
+use Rattle.condition_script.specs.declared.items.Item.TheVariants.{Word}
+use Rattle.condition_script.specs.declared.names.Name.TheVariants.{Op}
+use Rattle.condition_script.specs.declared.patterns.Pattern.{Pattern}
+use Rattle.condition_script.specs.declared.rules.Ending.{Ending}
+use Rattle.condition_script.specs.declared.rules.Rule.{Rule}
+use Rattle.condition_script.specs.declared.rules.Rule.TheVariants.{Never, NeverAfter, OfSome, Each, End, Before, CanEnd}
 use Rattle.conditions.specs.Patterns.{FitsStep}
 use Rattle.conditions.specs.Rules.{Holds, IsAt}
 

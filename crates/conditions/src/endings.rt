@@ -2,7 +2,7 @@
 ghost use Rattle.std.specs.Prelude.{◌≡◌};
 ghost use Rattle.conditions.specs.Endings.{ending};
 
-use crate::rules::Ending;
+use condition_script::Ending;
 use guest_programs::End;
 
 /// The name of an end, if conditions have one.

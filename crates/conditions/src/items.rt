@@ -1,26 +1,13 @@
-//! The words of a pattern, one after the other.
+//! The words of an accepted step, one after the other.
 ghost use Rattle.std.specs.Prelude.{◌≡◌, ◌∷◌, [], slice_get};
-ghost use Rattle.conditions.specs.Items.{actor_item, number_or_dash, op_arguments, op_items, reply_items, said_arguments, said_items, signed_item, step_items};
+ghost use Rattle.conditions.specs.Items.{actor_item, number_or_dash, op_arguments, op_items, reply_items, said_arguments, said_items, step_items};
 ghost use Rattle.board_terms.specs.declared.op.Op.TheVariants.{Ecall};
-ghost use Rattle.conditions.specs.declared.items.Item.TheVariants as words;
+ghost use Rattle.condition_script.specs.declared.items.Item.TheVariants as words;
 
-use crate::names::Name;
 use board_core::{Actor, Event, Op};
+use condition_script::{Item, Name};
 use sbi_abi::Regs;
 use script_lines::{OpName, Said, SaidName};
-
-/// A word of a step.
-#[derive(Clone, Copy, Debug, PartialEq, Eq)]
-pub enum Item {
-    /// A name.
-    Word(Name),
-    /// A number from 0 on, as the number of the actor's hart.
-    Number(u64),
-    /// A number below 0, by how much: the error of a reply `ret`.
-    Below(u64),
-    /// A dash: no address or no ASID.
-    Absent,
-}
 
 /// The word of an actor.
 fn actor_item(actor: Actor) -> Item
@@ -105,17 +92,6 @@ fn number_or_dash(number: Option<u64>) -> Item
     }
 }
 
-/// The word of an error.
-pub(crate) fn signed_item(error: i64) -> Item
-    ensures { result ≡ signed_item error }
-{
-    if error >= 0 {
-        Item::Number(error as u64)
-    } else {
-        Item::Below(error.unsigned_abs())
-    }
-}
-
 /// The word at a place of a step's reply, from 0.
 pub(crate) fn reply_item(event: &Event, place: usize) -> Option<Item>
     ensures { result ≡ slice_get (reply_items event.now) place }
@@ -138,7 +114,7 @@ fn said_argument(said: Said, place: usize) -> Option<Item>
     ensures { result ≡ slice_get (said_arguments said) place }
 {
     match said {
-        Said::Ret { error, value } => { item_of(&[signed_item(error), Item::Number(value)], place) }
+        Said::Ret { error, value } => { item_of(&[Item::signed(error), Item::Number(value)], place) }
         Said::Entry { addr, hart, opaque } => item_of(
             &[Item::Number(addr), Item::Number(hart), Item::Number(opaque)],
             place,

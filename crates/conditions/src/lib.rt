@@ -1,31 +1,18 @@
-//! Conditions of scripts: comments that begin with `#!`, and what they say of each record (profile).
+//! What conditions say: which steps a pattern matches, which records meet a condition, and what no record can meet (profile).
 #![tactic(auto)]
 
-mod asking;
-mod beginnings;
-mod columns;
 mod endings;
-mod faults;
 mod items;
-mod keywords;
-mod laws;
 mod misfits;
-mod names;
-mod pattern_words;
 mod patterns;
-mod reading;
 mod rules;
 mod vacuity;
-mod words;
 
+pub use condition_script::{
+    Condition, Ending, Fault, Item, Keyword, Name, Pattern, Rule, Wrong, conditions, one_reading,
+};
 pub use endings::ending;
-pub use faults::{Fault, Wrong};
-pub use items::Item;
-pub use keywords::Keyword;
-pub use laws::one_reading;
-pub use misfits::Misfit;
-pub use names::Name;
-pub use patterns::Pattern;
-pub use reading::{Condition, conditions};
-pub use rules::{Ending, Rule, first_from, first_other_reply};
+pub use misfits::{Misfit, first_misfit};
+pub use patterns::{fits_reply, fits_step, matches};
+pub use rules::{first_from, first_other_reply, holds, names_end};
 pub use vacuity::{NeedsMet, has_fitting, vacuous_conditions_say_nothing};

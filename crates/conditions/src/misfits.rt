@@ -1,18 +1,15 @@
 //! Words of patterns that no step of a board can have in their places.
 ghost use Rattle.std.specs.Prelude.{◌≡◌, ◌↔◌, ◌⊎◌, ◌<◌, ◌≤◌, ℕ, MatchOption, Some, true};
-ghost use Rattle.conditions.specs.declared.items.Item.{Item as Value};
-ghost use Rattle.conditions.specs.declared.items.Item.TheVariants.{Word};
+ghost use Rattle.condition_script.specs.declared.items.Item.{Item as Value};
+ghost use Rattle.condition_script.specs.declared.items.Item.TheVariants.{Word};
 ghost use Rattle.script_lines.specs.declared.op_name.OpName.{OpName as OpValue};
 ghost use Rattle.script_lines.specs.declared.said_name.SaidName.{SaidName as SaidValue};
 ghost use Rattle.conditions.specs.declared.misfits.Misfit.{Misfit as MisfitValue};
-ghost use Rattle.conditions.specs.declared.names.Name.TheVariants as names;
+ghost use Rattle.condition_script.specs.declared.names.Name.TheVariants as names;
 ghost use Rattle.conditions.specs.Misfits.{IsActorMisfit, IsAnswerMisfit, IsMisfit, IsMisfitOf, IsOpMisfit, IsReplyMisfit, IsWrongInReply, OpCanHave, ReplyCanHave, IsWordAt, is_reply_to};
 ghost use Rattle.conditions.specs.Inside.Held.{HasHeldAt, HasRightAt, no_reply};
 
-use crate::items::Item;
-use crate::names::Name;
-use crate::patterns::Pattern;
-use crate::rules::Rule;
+use condition_script::{Item, Name, Pattern, Rule};
 use script_lines::{OpName, SaidName};
 
 /// The most that the number of a hart's state, or of a fault's cause, can be.
@@ -31,19 +28,17 @@ pub enum Misfit {
     NoReply(OpName, SaidName),
 }
 
-impl Rule {
-    /// The first word of its patterns that no step of a board with this many harts can have in its place.
-    pub fn misfit(&self, harts: u64) -> Option<Misfit>
-        ensures { MatchOption result ((any : MisfitValue) → ¬ IsMisfit harts self.now any) (IsMisfit harts self.now) }
-    {
-        match self {
-            Rule::Never(p) => in_pattern(p, harts),
-            Rule::NeverAfter(p, q) => in_patterns(p, q, harts),
-            Rule::OfSome(p) => in_pattern(p, harts),
-            Rule::Each(p) => in_pattern(p, harts),
-            Rule::Before(p, q) => in_patterns(p, q, harts),
-            Rule::End(_) | Rule::CanEnd(_) => None,
-        }
+/// The first word of a condition's patterns that no step of a board with this many harts can have in its place.
+pub fn first_misfit(rule: &Rule, harts: u64) -> Option<Misfit>
+    ensures { MatchOption result ((any : MisfitValue) → ¬ IsMisfit harts rule.now any) (IsMisfit harts rule.now) }
+{
+    match rule {
+        Rule::Never(p) => in_pattern(p, harts),
+        Rule::NeverAfter(p, q) => in_patterns(p, q, harts),
+        Rule::OfSome(p) => in_pattern(p, harts),
+        Rule::Each(p) => in_pattern(p, harts),
+        Rule::Before(p, q) => in_patterns(p, q, harts),
+        Rule::End(_) | Rule::CanEnd(_) => None,
     }
 }
 

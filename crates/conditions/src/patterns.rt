@@ -2,49 +2,39 @@
 ghost use Rattle.std.specs.Prelude.{◌↔◌, ◌≡◌, true};
 ghost use Rattle.conditions.specs.Patterns.{FitsReply, FitsStep, FitsWord, Matches};
 
-use crate::items::{Item, reply_item, step_item};
+use crate::items::{reply_item, step_item};
 use board_core::Event;
+use condition_script::{Item, Pattern};
 
-/// A pattern of steps: the words of an actor's line and of its reply, None for `_`.
-#[derive(Debug, Drop)]
-pub struct Pattern {
-    /// The actor, the operation, and its numbers.
-    pub step: Vec<Option<Item>>,
-    /// The reply, and its numbers.
-    pub reply: Vec<Option<Item>>,
+/// Whether a pattern matches a step.
+pub fn matches(p: &Pattern, event: &Event) -> bool
+    ensures { (result ≡ true) ↔ Matches p.now event.now }
+{
+    fits_step(p, event) && fits_reply(p, event)
 }
 
-impl Pattern {
-    /// Whether it matches a step.
-    pub fn matches(&self, event: &Event) -> bool
-        ensures { (result ≡ true) ↔ Matches self.now event.now }
-    {
-        self.fits_step(event) && self.fits_reply(event)
-    }
-
-    /// Whether the actor and the operation of a step fit.
-    pub fn fits_step(&self, event: &Event) -> bool
-        ensures { (result ≡ true) ↔ FitsStep self.now event.now }
-    {
-        for (place, wanted) in self.step.iter().enumerate() {
-            if !fits(*wanted, step_item(event, place)) {
-                return false;
-            }
+/// Whether the actor and the operation of a step fit a pattern.
+pub fn fits_step(p: &Pattern, event: &Event) -> bool
+    ensures { (result ≡ true) ↔ FitsStep p.now event.now }
+{
+    for (place, wanted) in p.step.iter().enumerate() {
+        if !fits(*wanted, step_item(event, place)) {
+            return false;
         }
-        true
     }
+    true
+}
 
-    /// Whether the reply of a step fits.
-    pub fn fits_reply(&self, event: &Event) -> bool
-        ensures { (result ≡ true) ↔ FitsReply self.now event.now }
-    {
-        for (place, wanted) in self.reply.iter().enumerate() {
-            if !fits(*wanted, reply_item(event, place)) {
-                return false;
-            }
+/// Whether the reply of a step fits a pattern.
+pub fn fits_reply(p: &Pattern, event: &Event) -> bool
+    ensures { (result ≡ true) ↔ FitsReply p.now event.now }
+{
+    for (place, wanted) in p.reply.iter().enumerate() {
+        if !fits(*wanted, reply_item(event, place)) {
+            return false;
         }
-        true
     }
+    true
 }
 
 /// Whether a word of a pattern fits the word in its place.

@@ -1,95 +1,39 @@
 //! What a condition says of a record, and whether the record meets it.
-ghost use Rattle.std.specs.Prelude.{◌↔◌, ◌≡◌, ◌<◌, ◌≤◌, ℕ, MatchOption, None, Some, length, slice_get, true};
-ghost use Rattle.conditions.specs.Grammar.{ending_named, ending_word};
+ghost use Rattle.std.specs.Prelude.{◌↔◌, ◌≡◌, ◌<◌, ◌≤◌, ℕ, MatchOption, Some, length, slice_get, true};
+ghost use Rattle.condition_script.specs.declared.rules.Ending.{Ending as HowEnded};
 ghost use Rattle.conditions.specs.Rules.{Holds, IsAt, IsFirst, IsFirstFrom, IsFirstUnfit, Names, RepliesFit};
-ghost use Rattle.conditions.specs.declared.rules.Ending.{Ending as HowEnded};
 
-use crate::patterns::Pattern;
+use crate::patterns::{fits_reply, fits_step, matches};
 use board_core::Event;
+use condition_script::{Ending, Pattern, Rule};
 
-/// How a run ended, as conditions name it.
-#[derive(Clone, Copy, Debug, PartialEq, Eq)]
-pub enum Ending {
-    /// `off`
-    Off,
-    /// `history-full`
-    HistoryFull,
-    /// `quiet`
-    Quiet,
-    /// `stuck`
-    Stuck,
-}
-
-impl Ending {
-    /// The end that a word names.
-    #[tactic(auto, unfolding(crate::specs::Grammar::ending_named))]
-    pub(crate) fn of(word: &[u8]) -> Option<Ending>
-        ensures { MatchOption result (ending_named word.now ≡ None) (λ ending. word.now ≡ ending_word ending) }
-    {
-        if word == b"off".as_slice() {
-            return Some(Ending::Off);
-        }
-        if word == b"history-full".as_slice() {
-            return Some(Ending::HistoryFull);
-        }
-        if word == b"quiet".as_slice() {
-            return Some(Ending::Quiet);
-        }
-        if word == b"stuck".as_slice() {
-            return Some(Ending::Stuck);
-        }
-        None
+/// Whether a record meets a condition: the accepted steps, oldest first, and, for a program, how the run ended.
+pub fn holds(rule: &Rule, events: &[Event], end: Option<Ending>) -> bool
+    ensures { (result ≡ true) ↔ Holds rule.now events.now end }
+{
+    match rule {
+        Rule::Never(p) => first_from(p, events, 0).is_none(),
+        Rule::NeverAfter(p, q) => no_later(p, q, events),
+        Rule::OfSome(p) => first_from(p, events, 0).is_some(),
+        Rule::Each(p) => first_other_reply(p, events).is_none(),
+        Rule::End(ends) => is_among(ends, end),
+        Rule::Before(p, q) => is_before(p, q, events),
+        Rule::CanEnd(_) => false,
     }
 }
 
-/// A condition on records.
-#[derive(Debug, Drop)]
-pub enum Rule {
-    /// `never P`: P matches no step.
-    Never(Pattern),
-    /// `never P after Q`: no step that P matches comes later than one that Q matches.
-    NeverAfter(Pattern, Pattern),
-    /// `some P`: P matches some step.
-    OfSome(Pattern),
-    /// `each P`: each step whose actor and operation fit P has a reply that fits.
-    Each(Pattern),
-    /// `end E ..`: the run ended in one of these ways.
-    End(Vec<Ending>),
-    /// `before P, Q`: the first step that P matches comes before the first that Q matches, if both come.
-    Before(Pattern, Pattern),
-    /// `can end E ..`: from each state that an order reaches, some order ends in one of these ways. No record alone says so.
-    CanEnd(Vec<Ending>),
-}
-
-impl Rule {
-    /// Whether a record meets it: the accepted steps, oldest first, and, for a program, how the run ended.
-    pub fn holds(&self, events: &[Event], end: Option<Ending>) -> bool
-        ensures { (result ≡ true) ↔ Holds self.now events.now end }
-    {
-        match self {
-            Rule::Never(p) => first_from(p, events, 0).is_none(),
-            Rule::NeverAfter(p, q) => no_later(p, q, events),
-            Rule::OfSome(p) => first_from(p, events, 0).is_some(),
-            Rule::Each(p) => first_other_reply(p, events).is_none(),
-            Rule::End(ends) => is_among(ends, end),
-            Rule::Before(p, q) => is_before(p, q, events),
-            Rule::CanEnd(_) => false,
-        }
-    }
-
-    /// Whether it names an end: in one of the ways that it names a run may end, or an order can.
-    pub fn names(&self, end: Option<Ending>) -> bool
-        ensures { (result ≡ true) ↔ Names self.now end }
-    {
-        match self {
-            Rule::End(ends) => is_among(ends, end),
-            Rule::CanEnd(ends) => is_among(ends, end),
-            Rule::Never(_)
-            | Rule::NeverAfter(_, _)
-            | Rule::OfSome(_)
-            | Rule::Each(_)
-            | Rule::Before(_, _) => false,
-        }
+/// Whether a condition names an end: in one of the ways that it names a run may end, or an order can.
+pub fn names_end(rule: &Rule, end: Option<Ending>) -> bool
+    ensures { (result ≡ true) ↔ Names rule.now end }
+{
+    match rule {
+        Rule::End(ends) => is_among(ends, end),
+        Rule::CanEnd(ends) => is_among(ends, end),
+        Rule::Never(_)
+        | Rule::NeverAfter(_, _)
+        | Rule::OfSome(_)
+        | Rule::Each(_)
+        | Rule::Before(_, _) => false,
     }
 }
 
@@ -98,7 +42,7 @@ pub fn first_from(p: &Pattern, events: &[Event], from: usize) -> Option<usize>
     ensures { MatchOption result ((k : ℕ) → from ≤ k → ¬ IsAt p.now events.now k) (IsFirstFrom p.now events.now from) }
 {
     for k in from..events.len() {
-        if p.matches(&events[k]) {
+        if matches(p, &events[k]) {
             return Some(k);
         }
     }
@@ -134,7 +78,7 @@ pub fn first_other_reply(p: &Pattern, events: &[Event]) -> Option<usize>
         (IsFirstUnfit p.now events.now) }
 {
     for (k, event) in events.iter().enumerate() {
-        if p.fits_step(event) && !p.fits_reply(event) {
+        if fits_step(p, event) && !fits_reply(p, event) {
             return Some(k);
         }
     }

@@ -1,15 +1,14 @@
 //! Whether a condition is vacuous: whether some record has the steps that it needs.
 ghost use Rattle.std.specs.Prelude.{◌≡◌, ◌≢◌, ◌↔◌, ◌⊎◌, ℕ, [], List, Option, Some, slice_get, true, false};
 ghost use Rattle.board_core.specs.History.{Event as Step};
-ghost use Rattle.conditions.specs.declared.rules.Ending.{Ending as HowEnded};
-ghost use Rattle.conditions.specs.declared.rules.Rule.{Rule as RuleValue};
+ghost use Rattle.condition_script.specs.declared.rules.Ending.{Ending as HowEnded};
+ghost use Rattle.condition_script.specs.declared.rules.Rule.{Rule as RuleValue};
 ghost use Rattle.conditions.specs.Vacuity.{HasFitting, HasMatching, IsOfCall, IsVacuous, MeetsFirst, MeetsSecond, NeedsFirst, NeedsSecond, SaysNothing};
 
-use crate::items::Item;
-use crate::names::Name;
-use crate::patterns::Pattern;
-use crate::rules::{Rule, first_from};
+use crate::patterns::fits_step;
+use crate::rules::first_from;
 use board_core::Event;
+use condition_script::{Item, Name, Pattern, Rule};
 use script_lines::OpName;
 
 /// Which of the steps that a condition needs were met in some record.
@@ -103,7 +102,7 @@ pub fn has_fitting(p: &Pattern, events: &[Event]) -> bool
     ensures { (result ≡ true) ↔ HasFitting p.now events.now }
 {
     for event in events {
-        if p.fits_step(event) {
+        if fits_step(p, event) {
             return true;
         }
     }

@@ -1,9 +1,9 @@
 -- Tallies, record by record.
 use Rattle.std.proofs.Common.{◌≡◌, ℕ, suc, ◌+◌, ◌-◌, ◌^◌, ◌<◌, List, [], ◌∷◌, ◌++◌, refl, sym, ap, ◌∙◌, subst, inl, inr, ◌⊎◌, length, arith}
 use Rattle.std.specs.Prelude.{Bool, true, false, min, Option, Some, None, is_some, not, ◌↔◌}
-use Rattle.conditions.specs.declared.patterns.Pattern.{Pattern}
-use Rattle.conditions.specs.declared.rules.Rule.{Rule}
-use Rattle.conditions.specs.declared.rules.Rule.TheVariants.{OfSome}
+use Rattle.conditions.specs.Pattern.{Pattern}
+use Rattle.conditions.specs.Rule.{Rule}
+use Rattle.conditions.specs.Rule.TheVariants.{OfSome}
 use Rattle.outcome_statistics.specs.Records.{AllMeet, EachIs, IsCount, IsCounted, IsFirstOther, IsSo, SomeIs, Tells, Tried}
 use Rattle.outcome_statistics.specs.declared.tally.Tally.{Tally}
 

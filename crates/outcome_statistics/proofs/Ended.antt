@@ -1,8 +1,8 @@
 -- Records that ended in one way or another.
 use Rattle.std.proofs.Common.{◌≡◌, ◌≢◌, ◌⊎◌, ℕ, ◌+◌, List, [], ◌∷◌, refl, sym, ◌∙◌, inl, inr, arith}
 use Rattle.std.specs.Prelude.{Option, Some, None, ◌-◌, ◌^◌, min}
-use Rattle.conditions.specs.declared.rules.Ending.{Ending}
-use Rattle.conditions.specs.declared.rules.Ending.TheVariants.{Off, HistoryFull, Quiet, Stuck}
+use Rattle.conditions.specs.Ending.{Ending}
+use Rattle.conditions.specs.Ending.TheVariants.{Off, HistoryFull, Quiet, Stuck}
 use Rattle.outcome_statistics.specs.declared.ends.Ends.{Ends}
 use Rattle.outcome_statistics.specs.Records.{IsCount, IsCounted, Tried}
 use Rattle.outcome_statistics.specs.Findings.{AreEnded, HaveSomeEnd}

@@ -5,9 +5,9 @@ use Rattle.std.proofs.lemmas.Bool.{cases_order}
 use Rattle.std.proofs.lemmas.List.{get_or-take, length-take}
 use Rattle.std.proofs.lemmas.Option.{get_or_from_slice_get, slice_get-get_or, slice_get_within}
 use Rattle.board_core.specs.History.{Event}
-use Rattle.conditions.specs.declared.patterns.Pattern.{Pattern}
-use Rattle.conditions.specs.declared.rules.Rule.{Rule}
-use Rattle.conditions.specs.declared.rules.Rule.TheVariants.{Never, NeverAfter, Each, Before}
+use Rattle.conditions.specs.Pattern.{Pattern}
+use Rattle.conditions.specs.Rule.{Rule}
+use Rattle.conditions.specs.Rule.TheVariants.{Never, NeverAfter, Each, Before}
 use Rattle.conditions.specs.Rules.{IsAt, IsFirstFrom, IsFirstUnfit, RepliesFit}
 use Rattle.outcome_statistics.specs.Failing.{FailsAt, IsFailingStep}
 

@@ -4,7 +4,7 @@ use Rattle.std.specs.Prelude.{reverse}
 use Rattle.std.proofs.lemmas.List.{reverse-reverse}
 use Rattle.board_terms.specs.declared.config.Config.{Config}
 use Rattle.board_core.specs.History.{Event}
-use Rattle.conditions.specs.declared.reading.Condition.{Condition}
+use Rattle.conditions.specs.Condition.{Condition}
 use Rattle.guest_script.specs.Grammar.{Content}
 use Rattle.guest_programs.specs.declared.blocks.Program.{Program}
 use Rattle.guest_programs.specs.declared.ends.End.{End}

@@ -1,7 +1,7 @@
 -- Which steps that a condition needs were met, record by record.
 use Rattle.std.proofs.Common.{◌≡◌, ◌↔◌, ◌⊎◌, Bool, true, false, List, [], ◌∷◌, ◌++◌, sym, subst, ◌∙◌, inl, inr}
 use Rattle.board_core.specs.History.{Event}
-use Rattle.conditions.specs.declared.rules.Rule.{Rule}
+use Rattle.conditions.specs.Rule.{Rule}
 use Rattle.conditions.specs.declared.vacuity.NeedsMet.{NeedsMet}
 use Rattle.conditions.specs.Vacuity.{MeetsFirst, MeetsSecond}
 use Rattle.outcome_statistics.specs.Records.{SomeIs, Tried}

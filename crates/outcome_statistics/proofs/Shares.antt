@@ -2,7 +2,7 @@
 use Rattle.std.proofs.Common.{◌≡◌, ℕ, suc, ◌+◌, ◌-◌, ◌*◌, ◌<◌, ◌≤◌, List, [], ◌∷◌, subst, length, get_or, arith}
 use Rattle.std.specs.Prelude.{min, Result}
 use Rattle.board_terms.specs.declared.config.Config.{Config}
-use Rattle.conditions.specs.declared.reading.Condition.{Condition}
+use Rattle.conditions.specs.Condition.{Condition}
 use Rattle.guest_script.specs.Grammar.{Content}
 use Rattle.guest_programs.specs.declared.ends.RunFault.{RunFault}
 use Rattle.outcome_statistics.specs.declared.findings.Findings.{Findings}

@@ -2,7 +2,7 @@
 use Rattle.std.proofs.Common.{◌≡◌, ◌≢◌, ◌⊎◌, ℕ, zero, suc, ◌+◌, ◌<◌, ◌≤◌, List, [], ◌∷◌, refl, ap, subst, sym, inl, inr, length, get_or, set, arith}
 use Rattle.std.specs.Prelude.{Some, Result, Ok, Err, OnOk, slice_get}
 use Rattle.std.proofs.lemmas.Option.{slice_get-get_or}
-use Rattle.conditions.specs.declared.reading.Condition.{Condition}
+use Rattle.conditions.specs.Condition.{Condition}
 use Rattle.outcome_statistics.specs.declared.findings.Judged.{Judged}
 use Rattle.outcome_statistics.specs.Records.{Tried}
 use Rattle.outcome_statistics.specs.Findings.{EachTells, IsFoundFor}

@@ -1,8 +1,8 @@
 -- How orders ended, one by one.
 use Rattle.std.proofs.Common.{◌≡◌, refl, sym, ap, ◌∙◌}
 use Rattle.std.specs.Prelude.{Bool, true, false, not, Option, Some, None, ◌↔◌}
-use Rattle.conditions.specs.declared.rules.Ending.{Ending}
-use Rattle.conditions.specs.declared.rules.Ending.TheVariants as endings
+use Rattle.conditions.specs.Ending.{Ending}
+use Rattle.conditions.specs.Ending.TheVariants as endings
 use Rattle.guest_programs.specs.declared.ends.End.{End}
 use Rattle.guest_programs.specs.declared.ends.End.TheVariants as ends
 use Rattle.conditions.specs.Endings.{ending}

@@ -1,8 +1,8 @@
 -- At which step a record fails a condition (profile).
 use Rattle.std.specs.Prelude.{◌≡◌, ℕ, suc, ◌<◌, List, length, take, Option, Some, None, MatchOption}
 use Rattle.board_core.specs.History.{Event}
-use Rattle.conditions.specs.declared.rules.Rule.{Rule}
-use Rattle.conditions.specs.declared.rules.Rule.TheVariants.{Never, NeverAfter, OfSome, Each, End, Before, CanEnd}
+use Rattle.conditions.specs.Rule.{Rule}
+use Rattle.conditions.specs.Rule.TheVariants.{Never, NeverAfter, OfSome, Each, End, Before, CanEnd}
 use Rattle.conditions.specs.Rules.{Holds, IsAt, IsFirst}
 
 -- A record fails a condition at step k, counted from 0: the steps before it meet the condition, and with it they don't.

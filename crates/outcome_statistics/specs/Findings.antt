@@ -1,10 +1,10 @@
 -- What was found of the orders of a program (profile).
 use Rattle.std.specs.Prelude.{◌≡◌, ◌≢◌, ℕ, ◌+◌, List, [], ◌∷◌, length, reverse, slice_get, Some, None}
 use Rattle.board_terms.specs.declared.config.Config.{Config}
-use Rattle.conditions.specs.declared.reading.Condition.{Condition}
-use Rattle.conditions.specs.declared.rules.Ending.{Ending}
-use Rattle.conditions.specs.declared.rules.Ending.TheVariants as endings
-use Rattle.conditions.specs.declared.rules.Rule.{Rule}
+use Rattle.conditions.specs.Condition.{Condition}
+use Rattle.conditions.specs.Ending.{Ending}
+use Rattle.conditions.specs.Ending.TheVariants as endings
+use Rattle.conditions.specs.Rule.{Rule}
 use Rattle.conditions.specs.Endings.{ending}
 use Rattle.guest_script.specs.Grammar.{Content}
 use Rattle.guest_programs.specs.declared.ends.End.{End}

@@ -1,8 +1,8 @@
 -- What orders that were tried say of a condition (profile).
 use Rattle.std.specs.Prelude.{◌≡◌, ◌≢◌, ◌⊎◌, List, [], Option, Some, None, true, false}
 use Rattle.std.specs.Option.{option_map}
-use Rattle.conditions.specs.declared.reading.Condition.{Condition}
-use Rattle.conditions.specs.declared.rules.Rule.{Rule}
+use Rattle.conditions.specs.Condition.{Condition}
+use Rattle.conditions.specs.Rule.{Rule}
 use Rattle.conditions.specs.declared.vacuity.NeedsMet.{NeedsMet}
 use Rattle.conditions.specs.Vacuity.{NeedsFirst, NeedsSecond}
 use Rattle.outcome_statistics.specs.declared.ends.Ends.{Ends}

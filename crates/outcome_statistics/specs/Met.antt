@@ -1,8 +1,8 @@
 -- Which steps that conditions need were met (profile).
 use Rattle.std.specs.Prelude.{◌≡◌, ◌↔◌, true, List}
 use Rattle.board_core.specs.History.{Event}
-use Rattle.conditions.specs.declared.rules.Rule.{Rule}
-use Rattle.conditions.specs.declared.rules.Rule.TheVariants.{Never, NeverAfter, OfSome, Each, End, Before, CanEnd}
+use Rattle.conditions.specs.Rule.{Rule}
+use Rattle.conditions.specs.Rule.TheVariants.{Never, NeverAfter, OfSome, Each, End, Before, CanEnd}
 use Rattle.conditions.specs.declared.vacuity.NeedsMet.{NeedsMet}
 use Rattle.conditions.specs.Vacuity.{HasFitting, MeetsFirst, MeetsSecond}
 use Rattle.outcome_statistics.specs.Records.{SomeIs, Tried}

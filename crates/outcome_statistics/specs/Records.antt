@@ -1,10 +1,10 @@
 -- What conditions say of many records, and tallies of it (profile).
 use Rattle.std.specs.Prelude.{◌≡◌, ◌≢◌, ◌⊎◌, ℕ, suc, ◌-◌, ◌^◌, min, List, [], ◌∷◌, Option, Some, None}
 use Rattle.board_core.specs.History.{Event}
-use Rattle.conditions.specs.declared.rules.Ending.{Ending}
-use Rattle.conditions.specs.declared.rules.Ending.TheVariants as endings
-use Rattle.conditions.specs.declared.rules.Rule.{Rule}
-use Rattle.conditions.specs.declared.rules.Rule.TheVariants.{Never, NeverAfter, OfSome, Each, End, Before, CanEnd}
+use Rattle.conditions.specs.Ending.{Ending}
+use Rattle.conditions.specs.Ending.TheVariants as endings
+use Rattle.conditions.specs.Rule.{Rule}
+use Rattle.conditions.specs.Rule.TheVariants.{Never, NeverAfter, OfSome, Each, End, Before, CanEnd}
 use Rattle.conditions.specs.Rules.{Holds}
 use Rattle.outcome_statistics.specs.declared.tally.Tally.{Tally}
 

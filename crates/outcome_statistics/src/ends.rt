@@ -1,6 +1,6 @@
 //! How many orders ended in which way.
 ghost use Rattle.std.specs.Prelude.{◌≡◌, ◌↔◌, ◌∷◌, ◌++◌, List, Some, true, false, []};
-ghost use Rattle.conditions.specs.declared.rules.Ending.{Ending as HowEnded};
+ghost use Rattle.conditions.specs.Ending.{Ending as HowEnded};
 ghost use Rattle.conditions.specs.Endings.{ending};
 ghost use Rattle.outcome_statistics.specs.Records.{Tried};
 ghost use Rattle.outcome_statistics.specs.Findings.{AreEnded, HaveEnded, HaveSomeEnd};

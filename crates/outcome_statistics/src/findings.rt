@@ -1,6 +1,6 @@
 //! Findings about many orders.
 ghost use Rattle.std.specs.Prelude.{◌≡◌, ◌∷◌, ◌++◌, ℕ, List, [], IfOk, OnOk, length, reverse};
-ghost use Rattle.conditions.specs.declared.reading.Condition.{Condition as Asked};
+ghost use Rattle.conditions.specs.Condition.{Condition as Asked};
 ghost use Rattle.conditions.specs.Endings.{ending};
 ghost use Rattle.outcome_statistics.specs.Records.{Tried};
 ghost use Rattle.outcome_statistics.specs.Findings.{AreFound, EachTells};

@@ -1,12 +1,12 @@
 //! A record, judged by a condition.
 ghost use Rattle.std.specs.Prelude.{◌≡◌, ◌↔◌, ◌∷◌, List, MatchOption, Some, true};
-ghost use Rattle.conditions.specs.declared.rules.Rule.TheVariants.{NeverAfter};
+ghost use Rattle.conditions.specs.Rule.TheVariants.{NeverAfter};
 ghost use Rattle.outcome_statistics.specs.Failing.{IsFailingStep, IsLast};
 ghost use Rattle.outcome_statistics.specs.Records.{IsSo, IsSpared, Meets, Tells, Tried};
 
 use crate::tally::Tally;
 use board_core::Event;
-use conditions::{Ending, Pattern, Rule, first_from, first_other_reply};
+use conditions::{Ending, Pattern, Rule, first_from, first_other_reply, holds};
 
 /// Judges a record of this number by a condition.
 pub fn judge(rule: &Rule, tally: &mut Tally, number: u64, events: &[Event], end: Option<Ending>)
@@ -21,7 +21,7 @@ pub fn judge(rule: &Rule, tally: &mut Tally, number: u64, events: &[Event], end:
 pub fn meets(rule: &Rule, events: &[Event], end: Option<Ending>) -> bool
     ensures { (x : Tried) → x.events ≡ events.now → x.end ≡ end → (result ≡ true) ↔ Meets rule.now x }
 {
-    is_spared(rule, end) || rule.holds(events, end)
+    is_spared(rule, end) || holds(rule, events, end)
 }
 
 /// Whether a condition on ends says nothing of a record, since the limit cut it off.

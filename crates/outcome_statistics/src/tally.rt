@@ -1,6 +1,6 @@
 //! How many records meet a condition.
 ghost use Rattle.std.specs.Prelude.{◌≡◌, ◌↔◌, ◌∷◌, ◌++◌, ◌-◌, ◌^◌, List, Option, Some, length, min, true, []};
-ghost use Rattle.conditions.specs.declared.rules.Rule.{Rule as Asked};
+ghost use Rattle.conditions.specs.Rule.{Rule as Asked};
 ghost use Rattle.outcome_statistics.specs.Records.{AllMeet, EachIs, IsSo, SomeIs, Tells, Tried};
 
 use conditions::Rule;

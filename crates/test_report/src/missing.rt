@@ -1,7 +1,7 @@
 //! A step that a condition needs and no order has, and what its actor does instead.
 use crate::records::event_line;
 use board_core::{Event, Op};
-use conditions::{Condition, Pattern, Rule};
+use conditions::{Condition, Pattern, Rule, fits_step};
 use diagnostics::Case;
 use outcome_statistics::{Deed, Visits};
 use std::alloc::{AllocError, Global};
@@ -68,8 +68,8 @@ impl Missing {
         let like = of_its_kind(alloc, p)?;
         let has_numbers = p.step.len() > 2 && matches!(p.step.get(1), Some(Some(_)));
         for (deed, event) in visits.deeds.iter() {
-            found.has_other_reply = found.has_other_reply || p.fits_step(event);
-            if has_numbers && like.fits_step(event) {
+            found.has_other_reply = found.has_other_reply || fits_step(p, event);
+            if has_numbers && fits_step(&like, event) {
                 found.see(alloc, case, *deed, event)?;
             }
         }

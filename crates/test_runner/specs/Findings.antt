@@ -1,6 +1,6 @@
 -- What is found of a file's bytes, in the order of its conditions (profile).
 use Rattle.std.specs.Prelude.{◌≡◌, ◌≢◌, ◌⊎◌, ℕ, Bool, List, [], ◌∷◌, ◌++◌, map}
-use Rattle.conditions.specs.declared.reading.Condition.{Condition}
+use Rattle.conditions.specs.Condition.{Condition}
 use Rattle.conditions.specs.Grammar.{ReadsConditions, condition_value}
 use Rattle.guest_script.specs.Grammar.{Reads, content, written}
 use Rattle.guest_programs.specs.Programs.{IsProgram}

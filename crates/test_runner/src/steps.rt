@@ -1,6 +1,6 @@
 //! Replays schedules, and compares traces.
 use crate::course::Course;
-use conditions::{Condition, Rule};
+use conditions::{Condition, Rule, first_misfit};
 use diagnostics::Walk;
 use guest_programs::new_board;
 use guest_script::{Body, Lines};
@@ -112,7 +112,7 @@ fn judge<R: AllocGlobal + Files>(
 ) -> Result<(), AllocError> {
     let alloc = trial.rt.alloc();
     let rule = &condition.rule;
-    let verdict = match rule.misfit(trial.script.config.harts) {
+    let verdict = match first_misfit(rule, trial.script.config.harts) {
         Some(misfit) => Verdict::Misfit(misfit),
         None => Verdict::of(meets(rule, record.events, None)),
     };
@@ -128,7 +128,7 @@ fn judge<R: AllocGlobal + Files>(
         keep(trial, "failed", record, place, &mut point.details)?;
     }
     file.push(point)?;
-    if rule.misfit(trial.script.config.harts).is_none() && !is_met(rule, record.events) {
+    if first_misfit(rule, trial.script.config.harts).is_none() && !is_met(rule, record.events) {
         file.note(Note::NeverMet(condition.line))?;
     }
     Ok(())

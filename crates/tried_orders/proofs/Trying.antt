@@ -6,7 +6,7 @@ use Rattle.std.proofs.lemmas.Option.{none-some, same_Some, slice_get_past, slice
 use Rattle.std.specs.Slice.{IsItemAt}
 use denote.Ref.{Bor}
 use Rattle.board_terms.specs.declared.config.Config.{Config}
-use Rattle.conditions.specs.declared.reading.Condition.{Condition}
+use Rattle.conditions.specs.Condition.{Condition}
 use Rattle.conditions.specs.declared.vacuity.NeedsMet.{NeedsMet}
 use Rattle.guest_script.specs.Grammar.{Content}
 use Rattle.guest_programs.specs.declared.blocks.Program.{Program}

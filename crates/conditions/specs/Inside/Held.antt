@@ -2,10 +2,10 @@
 use Rattle.std.specs.Prelude.{ℕ, if◌then◌else◌, Option, Some, None}
 use Rattle.script_lines.specs.declared.op_name.OpName.{OpName}
 use Rattle.script_lines.specs.declared.said_name.SaidName.{SaidName}
-use Rattle.conditions.specs.declared.items.Item.{Item}
+use Rattle.condition_script.specs.declared.items.Item.{Item}
 use Rattle.conditions.specs.declared.misfits.Misfit.{Misfit}
 use Rattle.conditions.specs.declared.misfits.Misfit.TheVariants.{NoReply}
-use Rattle.conditions.specs.declared.patterns.Pattern.{Pattern}
+use Rattle.condition_script.specs.declared.patterns.Pattern.{Pattern}
 use Rattle.conditions.specs.Misfits.{IsWrongInReply, OpCanHave, IsWordAt, is_reply_to}
 
 -- the operation can have the word in this place, if there is one

@@ -2,7 +2,7 @@
 use Rattle.std.specs.Prelude.{◌≡◌, ◌⊎◌, ℕ, ◌+◌, ◌*◌, min, List, [], ◌∷◌, Result, IfErr, IfOk, IsErrOf}
 use Rattle.board_terms.specs.Limits.{IsGood}
 use Rattle.board_terms.specs.declared.config.Config.{Config}
-use Rattle.conditions.specs.declared.reading.Condition.{Condition}
+use Rattle.conditions.specs.Condition.{Condition}
 use Rattle.guest_script.specs.Grammar.{Content}
 use Rattle.guest_programs.specs.declared.ends.RunFault.{RunFault}
 use Rattle.guest_programs.specs.declared.ends.RunFault.TheVariants.{BadConfig, NoMemory}

@@ -1,7 +1,7 @@
 -- What is known of tried records before it is a point: what the functions of this crate tell each other.
 use Rattle.std.specs.Prelude.{ℕ, Bool, List, Option}
 use Rattle.board_terms.specs.declared.config.Config.{Config}
-use Rattle.conditions.specs.declared.reading.Condition.{Condition}
+use Rattle.conditions.specs.Condition.{Condition}
 use Rattle.guest_script.specs.Grammar.{Content}
 use Rattle.outcome_statistics.specs.declared.findings.Findings.{Findings}
 use Rattle.outcome_statistics.specs.declared.findings.Judged.{Judged}

@@ -2,7 +2,7 @@ use Rattle.std.proofs.Common.{◌≡◌, sym, subst, ap, ◌∙◌}
 use Rattle.std.specs.Prelude.{MatchOption, Option, Some, slice_get}
 use Rattle.std.proofs.lemmas.Option.{slice_get-get_or}
 use Rattle.conditions.specs.declared.misfits.Misfit.{Misfit as Word}
-use Rattle.conditions.specs.declared.reading.Condition.{Condition}
+use Rattle.conditions.specs.Condition.{Condition}
 use Rattle.all_orders.specs.Verdicts.{IsMisfitFor, rule_of}
 use Rattle.all_orders.proofs.Verdicts.{no-misfit-beyond}
 use Rattle.all_orders.proofs.points.misfit_at.Goals as goal
@@ -13,8 +13,8 @@ returns-in-Some c =
     let one : Condition = c.in-Some.condition.now in
     let asked : slice_get c.args.conditions.now c.args.place ≡ Some one =
     slice_get-get_or c.args.conditions.now c.args.place one found.3.0 ∙ ap (λ (x : Condition). Some x) (sym found.1) in
-    subst (λ (asked : Option Condition). MatchOption c.misfit.result ((word : Word) → ¬ IsMisfitFor c.args.harts (rule_of asked) word) (IsMisfitFor c.args.harts (rule_of asked)))
-    (sym asked) c.misfit.ensures
+    subst (λ (asked : Option Condition). MatchOption c.first_misfit.result ((word : Word) → ¬ IsMisfitFor c.args.harts (rule_of asked) word) (IsMisfitFor c.args.harts (rule_of asked)))
+    (sym asked) c.first_misfit.ensures
 
 pub returns-in-None : goal.returns-in-None
 returns-in-None c word is = no-misfit-beyond c.args.harts word c.args.conditions.now c.args.place c.in-None.ensures.lookup.3 is

@@ -1,6 +1,6 @@
 use Rattle.std.proofs.Common.{sym, subst, inl}
 use Rattle.std.specs.Prelude.{Option, slice_get}
-use Rattle.conditions.specs.declared.reading.Condition.{Condition}
+use Rattle.conditions.specs.Condition.{Condition}
 use Rattle.model_check.specs.declared.answers.Answer.{Answer}
 use Rattle.test_report.specs.declared.verdict.Verdict.{Verdict}
 use Rattle.all_orders.specs.Inside.Told.{IsEndless}

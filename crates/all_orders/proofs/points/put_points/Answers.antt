@@ -2,7 +2,7 @@ use Rattle.std.proofs.Common.{◌≡◌, ◌∷◌, ◌++◌, ◌+◌, List, [],
 use Rattle.std.specs.Prelude.{Some, slice_get}
 use Rattle.std.proofs.lemmas.List.{length-append}
 use Rattle.std.proofs.lemmas.Option.{slice_get-get_or}
-use Rattle.conditions.specs.declared.reading.Condition.{Condition}
+use Rattle.conditions.specs.Condition.{Condition}
 use Rattle.test_report.specs.declared.verdict.Verdict.{Verdict}
 use Rattle.test_report.specs.Statuses.{verdicts}
 use Rattle.all_orders.specs.declared.points.Told.{Told}

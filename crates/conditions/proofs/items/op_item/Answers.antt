@@ -1,8 +1,8 @@
 use Rattle.std.proofs.Common.{sym, ◌∙◌, arith}
 use Rattle.script_lines.specs.Names.{name_of}
 use Rattle.conditions.specs.Items.{op_arguments}
-use Rattle.conditions.specs.declared.items.Item.TheVariants.{Word}
-use Rattle.conditions.specs.declared.names.Name.TheVariants.{Op}
+use Rattle.condition_script.specs.declared.items.Item.TheVariants.{Word}
+use Rattle.condition_script.specs.declared.names.Name.TheVariants.{Op}
 use Rattle.conditions.proofs.Places.{behind}
 use Rattle.conditions.proofs.items.op_item.Goals as goal
 

@@ -1,6 +1,6 @@
 use Rattle.std.proofs.Common.{◌≡◌, true, subst, sym}
 use Rattle.std.specs.Prelude.{◌↔◌}
-use Rattle.conditions.specs.declared.rules.Rule.{Rule}
+use Rattle.condition_script.specs.declared.rules.Rule.{Rule}
 use Rattle.conditions.specs.Vacuity.{MeetsSecond}
 use Rattle.conditions.proofs.vacuity.meets_second.Goals as goal
 

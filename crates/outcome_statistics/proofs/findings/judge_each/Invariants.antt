@@ -1,6 +1,6 @@
 use Rattle.std.proofs.Common.{◌≡◌, ℕ, ◌<◌, ◌≤◌, List, ◌∷◌, length}
 use Rattle.std.specs.Prelude.{Some, slice_get}
-use Rattle.conditions.specs.declared.reading.Condition.{Condition}
+use Rattle.conditions.specs.Condition.{Condition}
 use Rattle.outcome_statistics.specs.declared.findings.Judged.{Judged}
 use Rattle.outcome_statistics.specs.Findings.{EachTells, IsFoundFor}
 use Rattle.outcome_statistics.specs.Records.{Tried}

@@ -1,5 +1,5 @@
 use Rattle.std.proofs.Common.{refl}
-use Rattle.conditions.specs.declared.rules.Rule.TheVariants.{NeverAfter, OfSome, End, CanEnd}
+use Rattle.conditions.specs.Rule.TheVariants.{NeverAfter, OfSome, End, CanEnd}
 use Rattle.outcome_statistics.proofs.Failing.{failing-before, failing-by, failing-each, failing-never}
 use Rattle.outcome_statistics.proofs.judging.failing_step_of.Goals as goal
 

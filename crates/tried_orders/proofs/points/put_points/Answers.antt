@@ -1,7 +1,7 @@
 use Rattle.std.proofs.Common.{◌∷◌, ◌++◌, ℕ, List, [], inl, inr, subst, sym, ap, ◌∙◌, arith}
 use Rattle.std.specs.Prelude.{slice_get}
 use Rattle.std.proofs.lemmas.List.{append_assoc, length-append}
-use Rattle.conditions.specs.declared.reading.Condition.{Condition}
+use Rattle.conditions.specs.Condition.{Condition}
 use Rattle.test_report.specs.declared.verdict.Verdict.{Verdict}
 use Rattle.tried_orders.specs.Verdicts.{IsFoundBy}
 use Rattle.tried_orders.proofs.Trying.{slice_get-either}

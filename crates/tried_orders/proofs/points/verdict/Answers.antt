@@ -3,7 +3,7 @@ use Rattle.std.specs.Prelude.{Option}
 use Rattle.std.specs.Option.{option_map}
 use Rattle.std.proofs.lemmas.Result.{IfOk-weaker}
 use denote.Ref.{Bor}
-use Rattle.conditions.specs.declared.reading.Condition.{Condition}
+use Rattle.conditions.specs.Condition.{Condition}
 use Rattle.outcome_statistics.specs.Findings.{AreEnded}
 use Rattle.outcome_statistics.specs.Records.{Tried}
 use Rattle.test_report.specs.declared.verdict.Verdict.{Verdict}

@@ -4,7 +4,7 @@ use Rattle.board_core.specs.Course.{Course}
 use Rattle.board_core.specs.History.{Event}
 use Rattle.board_core.specs.Opening.{Opening, opening_at}
 use Rattle.board_terms.specs.declared.config.Config.{Config}
-use Rattle.conditions.specs.declared.reading.Condition.{Condition}
+use Rattle.conditions.specs.Condition.{Condition}
 use Rattle.conditions.specs.Endings.{ending}
 use Rattle.guest_script.specs.Grammar.{Content, content}
 use Rattle.guest_programs.specs.declared.ends.End.{End}

@@ -1,4 +1,4 @@
-use Rattle.conditions.specs.declared.rules.Ending.TheVariants as endings
+use Rattle.conditions.specs.Ending.TheVariants as endings
 use Rattle.guest_programs.specs.declared.ends.End.TheVariants as ends
 use Rattle.outcome_statistics.proofs.Words.{same-end}
 use Rattle.outcome_statistics.proofs.ends.Ends.see.Goals as goal

@@ -1,0 +1,5 @@
+pub mod Named
+pub mod OneReading
+pub mod Asked
+pub mod LinesRead
+pub mod GoingOn

@@ -1,0 +1,3 @@
+pub mod FirstFault
+pub mod Grammar
+pub mod Inside

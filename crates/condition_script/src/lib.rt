@@ -1,0 +1,25 @@
+//! Reads a script's conditions: its comments that begin with `#!` (profile).
+#![tactic(auto)]
+
+mod asking;
+mod beginnings;
+mod columns;
+mod faults;
+mod items;
+mod keywords;
+mod laws;
+mod names;
+mod pattern_words;
+mod patterns;
+mod reading;
+mod rules;
+mod words;
+
+pub use faults::{Fault, Wrong};
+pub use items::Item;
+pub use keywords::Keyword;
+pub use laws::one_reading;
+pub use names::Name;
+pub use patterns::Pattern;
+pub use reading::{Condition, conditions};
+pub use rules::{Ending, Rule};

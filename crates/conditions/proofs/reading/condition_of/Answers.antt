@@ -1,6 +1,0 @@
-use Rattle.std.proofs.Common.{ap, ◌∙◌}
-use Rattle.conditions.specs.Inside.Reading.{texts}
-use Rattle.conditions.proofs.reading.condition_of.Goals as goal
-
-pub condition_in-requires-clause-words : goal.condition_in-requires-clause-words
-condition_in-requires-clause-words c = ap texts c.deref.ensures.value ∙ c.in_ok-words.ensures

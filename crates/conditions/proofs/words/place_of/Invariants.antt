@@ -1,5 +1,0 @@
-use Rattle.conditions.proofs.Asked.{NoneBefore}
-use Rattle.conditions.proofs.words.place_of.Given as goal
-
-abbrev pub invariant-loop-k : goal.invariant-loop-k
-invariant-loop-k l = NoneBefore l.mark l.words l.k

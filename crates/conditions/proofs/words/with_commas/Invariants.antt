@@ -1,7 +1,0 @@
-use Rattle.std.proofs.Common.{◌≡◌, take}
-use Rattle.conditions.specs.Grammar.{with_commas}
-use Rattle.conditions.specs.Inside.Reading.{texts}
-use Rattle.conditions.proofs.words.with_commas.Given as goal
-
-abbrev pub invariant-loop-word : goal.invariant-loop-word
-invariant-loop-word l = texts l.found.items ≡ with_commas (texts (take l.word-index l.words))
