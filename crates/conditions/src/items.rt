@@ -114,7 +114,9 @@ fn said_argument(said: Said, place: usize) -> Option<Item>
     ensures { result ≡ slice_get (said_arguments said) place }
 {
     match said {
-        Said::Ret { error, value } => { item_of(&[Item::signed(error), Item::Number(value)], place) }
+        Said::Ret { error, value } => {
+            item_of(&[Item::signed(error), Item::Number(value)], place)
+        }
         Said::Entry { addr, hart, opaque } => item_of(
             &[Item::Number(addr), Item::Number(hart), Item::Number(opaque)],
             place,
