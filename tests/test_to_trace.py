@@ -117,6 +117,8 @@ OTHERWISE = [
 
 ENTRY = "record 2\n0 entry 0x80000000 0 0\n"
 CALL = "0 call 0x10 0 0 0 0 0 0 0\n"
+# Hart 1 was in a call when the machine was reset.
+RESET = ENTRY + "1 entry 0x80000000 1 0\n" + CALL.replace("0 call", "1 call") + "m reset\n0 entry 0x80000000 0 0\n"
 BROKEN = [
     ("", 1, "the first line is 'record HARTS'"),
     ("record 0\n", 1, "a board has 1 to 128 harts"),
@@ -142,9 +144,14 @@ BROKEN = [
         "its return, '0 ret A0 A1' belongs before this line, or '0 ret - -' where its answer wasn't seen",
     ),
     (ENTRY + CALL.replace("0 call", "1 call"), 3, "hart 1 has not entered before this line"),
+    (RESET + CALL.replace("0 call", "1 call"), 7, "hart 1 has not entered since the reset of line 5"),
+    (RESET + "1 ret 0 0\n", 7, "hart 1 has not entered since the reset of line 5"),
+    (RESET.replace("m reset\n0 entry 0x80000000 0 0\n", "m reset\n") + CALL, 6, "hart 0 has not entered since the reset of line 5"),
     (ENTRY + "0 call 0x10 0 0 0 0 0 0 zero\n", 3, "'zero' is no number"),
     (ENTRY + "0 ret -0x1 0\n", 3, "a reply without its call: hart 0 is in none"),
     (ENTRY + CALL + "0 ret 0 -1\n", 4, "'-1' is no number"),
+    (ENTRY + CALL + "0 ret 0 0x10000000000000000\n", 4, "0x10000000000000000 is more than 64 bits"),
+    *((ENTRY + CALL + f"0 ret {it} 0\n", 4, f"{it} is no error: errors are -2^63 to 2^63-1") for it in ("0xfffffffffffffffe", "9223372036854775808", "-0x8000000000000001", "-0x1ffffffffffffffff")),
     (ENTRY + "0 entry 0x10000000000000000 0 0\n", 3, "0x10000000000000000 is more than 64 bits"),
     (ENTRY + "0 entry 0 0 0 tim=4\n", 3, "'tim=4' is no note; notes are time=, sie=, sip=, sstatus=, pc=, ra=, firmware="),
     (ENTRY + "0 entry 0 0 0 time=4 time=4\n", 3, "a second note time="),
