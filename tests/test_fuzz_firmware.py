@@ -198,8 +198,7 @@ class FuzzFirmware(Test):
 
     def test_fuzz__a_fresh_run(self):
         """Two seeds under QEMU, here and now, with small images for fewer operations: whole but for what the page tells."""
-        self.image()
-        found = subprocess.run([TOOL, "--seeds", "2-3", "--operations", "10", "--runs", "0", "--seconds", "90", "--keep", self.room], stdin=subprocess.DEVNULL, capture_output=True, timeout=200)
+        found = subprocess.run([TOOL, "--seeds", "2-3", "--image", self.image(), "--operations", "10", "--runs", "0", "--seconds", "90", "--keep", self.room], stdin=subprocess.DEVNULL, capture_output=True, timeout=200)
         must(f"status {found.returncode}, and it said {shown(found.stderr)}", found.returncode in (3, 5) and b"\nfaults: " in b"\n" + found.stdout)
         told = re.findall(r"^  \d+ seeds: ([^:]*): (\w+)", found.stdout.decode(), re.M)
         must(f"{told}", not any(kind in ("unexplained", "the record can't be read") for kind, _ in told))

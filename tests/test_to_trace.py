@@ -2,9 +2,7 @@
 import glob
 import os
 import re
-import shutil
 import subprocess
-from unittest import SkipTest
 
 import agree
 from board_model import spelled_answer
@@ -13,16 +11,13 @@ from records import read as read_record
 from rules import RULES
 from states import Difference, Step
 
-from . import fixtures, random_records
+from . import fixtures, random_records, test_recorder
 from .fixtures import EXAMPLES, RECORDS, ROOT, Test, add, checked, must, named, ran, read, read_bytes, script, shown
 from .replays import printed, steps
 
 TO_TRACE = os.path.join(ROOT, "tools/to-trace")
 # The stored records, and the statuses of their reports.
 STORED = {"survey": 5, "wrong-answers": 5, "hangs": 5, "entries": 5, **dict.fromkeys(("u-boot", "kernel", "boot-hart", "newer", "far-pages", "interrupted", "interrupts"), 0)}
-# What QEMU may take of the gate, in seconds, and the firmware that it boots.
-RECORDED = 25
-FIRMWARE = "/usr/lib/riscv64-linux-gnu/opensbi/generic/fw_dynamic.bin"
 
 
 def tool(words, status=0):
@@ -282,16 +277,10 @@ class ToTrace(Test):
 
     def test_a_fresh_record(self):
         """The kernel of the examples, built and recorded here and now, agrees."""
-        for name in ("qemu-system-riscv64", "gdb-multiarch", "riscv64-linux-gnu-gcc", FIRMWARE):
-            if shutil.which(name) is None and not os.path.isfile(name):
-                raise SkipTest(f"{name} is missing")
+        test_recorder.must_have_qemu()
         made = os.path.join(self.room, "kernel.record")
         tool([os.path.join(ROOT, "examples/kernel/build"), self.room])
-        words = [os.path.join(ROOT, "tools/record"), "--seconds", str(RECORDED), "--grace", "1", "--out", made, os.path.join(self.room, "kernel.elf")]
-        found = subprocess.run(words, stdin=subprocess.DEVNULL, stdout=subprocess.PIPE, stderr=subprocess.PIPE, timeout=120)
-        if found.returncode in (1, 3) and b"was over" in found.stderr:
-            raise SkipTest(f"QEMU is too slow here: the kernel didn't end in {RECORDED} s")
-        must(f"tools/record: status {found.returncode}, and it said {shown(found.stderr)}", not found.returncode and open(made, encoding="ascii").read().endswith("\nm end off\n"))
+        test_recorder.recorded_off(os.path.join(self.room, "kernel.elf"), made)
         tool([TO_TRACE, "--report", made])
         trace, _ = tool([TO_TRACE, made])
         checked(self.room, trace, 0, b"agrees %d\n" % trace.count(b" -> "), b"")
