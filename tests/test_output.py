@@ -294,16 +294,18 @@ class Xml(Made):
 
     def test_standard_input_is_a_file(self):
         """`-` is standard input for each task, once, with what the script does besides. A file of that name is `./-`."""
-        for task, name, text in (("run", "a.program", BOARD + "at 0x80000000\nsip\n"), ("replay", "a.sched", BOARD + "0 advance\n0 fly\n"), ("replay", "a.sched", BOARD + "0 advance\n"), ("check", "a.trace", TRACE)):
+        program, schedule = BOARD + "at 0x80000000\nsip\n", BOARD + "0 advance\n"
+        self.put("-", "no script\n")
+        for task, words, name, text in (
+            ("run", [], "a.program", program), ("replay", ["--explain"], "a.sched", schedule + "0 fly\n"), ("replay", ["--at", "2", "--diff"], "a.sched", schedule), ("check", ["--json"], "a.trace", TRACE),
+        ):  # fmt: skip
             self.put(name, text)
-            self.put("-", "no script\n")
-            for words in ([], ["--explain"], *([["--json"]] if task != "run" else []), *([["--at", "2", "--diff"]] if task == "replay" else [])):
-                plain, found = self.called(task, *words, name), self.called(task, *words, "-", stdin=text.encode())
-                must(f"{task} {words}: {found}", found == (plain[0], *(it.replace(name, "/dev/stdin") for it in plain[1:])))
-                must(f"{task} {words}", self.called(task, "-", *words, within=["bash", "-c", f'"$@" < {name}', "-"]) == found == self.called(task, *words, "--", "-", stdin=text.encode()))
-            must("the file of this name", self.called(task, "./-")[0] == 1)
-        text = self.called("run", "--keep", "a.program", "-", within=["bash", "-c", '"$@" < a.program', "-"]), read(os.path.join(self.room, "a.program"))
-        must(f"{text}", text == ((7, "", "sbiboard: input or output failed\n"), BOARD + "at 0x80000000\nsip\n"))
+            plain, found = self.called(task, *words, name), self.called(task, *words, "-", stdin=text.encode())
+            must(f"{task} {words}: {found}", found == (plain[0], *(it.replace(name, "/dev/stdin") for it in plain[1:])))
+            must(f"{task} {words}", self.called(task, *words, "--", "-", within=["bash", "-c", f'"$@" < {name}', "-"]) == found)
+        must("the file of this name", self.called("replay", "./-")[0] == 1)
+        must_end(self.called("run", "--keep", "a.program", "-", within=["bash", "-c", '"$@" < a.program', "-"]), 7, "", "sbiboard: input or output failed\n")
+        must("it was kept over the program", read(os.path.join(self.room, "a.program")) == program)
         text = "#! end quiet\n" + RACE
         self.put("a.program", text)
         for task in ("test", "explore"):

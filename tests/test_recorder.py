@@ -146,7 +146,7 @@ def recorded(room, play, data="an image", talk=()):
     write(image, data)
     given = stand_ins(room, play, talk)
     words = [os.path.join(ROOT, "tools/record"), "--harts", str(play.harts), "--bios", image, "--out", out, *play.words, image]
-    found = subprocess.run(words, stdin=subprocess.DEVNULL, stdout=subprocess.PIPE, stderr=subprocess.PIPE, timeout=60, env=given)
+    found = subprocess.run(words, stdin=subprocess.DEVNULL, stdout=subprocess.PIPE, stderr=subprocess.PIPE, timeout=120, env=given)
     if not os.path.exists(out):
         return found, []
     with open(out, encoding="ascii") as file:
@@ -298,6 +298,12 @@ class Recorders(Test):
             plain = [" ".join(word for word in line.split(" ") if "=" not in word) for line in lines]
             must(f"{what}: status {found.returncode}, lines {plain}, not {[*begun, *wanted]}; it said {found.stderr.decode()}", plain == [*begun, *wanted, "m end off"] and not found.returncode)
         must(f"{lines}", "pc=0x1104" in lines[5])
+
+    def test_recorder__a_machine_that_begins_late(self):
+        """The limit of time begins once the machine runs, however long QEMU and gdb took until then."""
+        play = Play("", [enters(0), calls(0, TIME, 0, 5), is_back(0), OFF], [BOOT, call(0, TIME, 0, 5), "0 ret 0 0x0", "m end off"], words=("--seconds", "1"))
+        with mock.patch.dict(os.environ, {"STAND_IN_LATE": "1.5"}):
+            is_recorded(self.room, play)
 
     def test_recorder__what_was_waited_for(self):
         """Of a supervisor that doesn't switch its machine off the tests say what the recorder says, and where each hart is."""
