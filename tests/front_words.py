@@ -36,5 +36,5 @@ UNWANTED = (
 # Words whose build is wanted: a FILE that the task may take, or whose faults the program says.
 WANTED = (
     ["run", "a.program"], ["run", "empty"], ["replay", "a.sched"], ["replay", "empty"], ["check", "a.trace"], ["check", "empty"], ["check", "faulty.sched"], ["run", "faulty.sched"],
-    ["replay", "/dev/null"], ["test", "a.sched", "a.trace", "a.program", "empty"], ["explore", "a.program", "empty"], ["explore", "faulty.sched"], ["test", "caf\u00e9"], ["replay", "--", "-x"],
+    ["replay", "/dev/null"], ["run", "-"], ["replay", "-"], ["check", "--json", "-"], ["test", "a.sched", "a.trace", "a.program", "empty"], ["explore", "a.program", "empty"], ["explore", "faulty.sched"], ["test", "caf\u00e9"], ["replay", "--", "-x"],
 )  # fmt: skip

@@ -25,9 +25,9 @@ FAULTS = "TAP version 13\nok 1 - b.sched (3 lines)\n# line 3: stale: a walk give
 TOLD = (
     ("not ok 2 - a.sched:2:3: unknown operation 'ecal' (fault 3)", ("a.sched", 2, 3, "unknown operation 'ecal' (fault 3)")), ("not ok 3 - a.program:8:12: unknown word: 'laod'", ("a.program", 8, 12, "unknown word: 'laod'")),
     ("not ok 4 - a.program: line 2: end quiet: fails", ("a.program", 2, 0, "end quiet: fails")), ("not ok 5 - a.sched: bad board: HARTS is 200, at most 128", ("a.sched", 0, 0, "bad board: HARTS is 200, at most 128")),
-    ("not ok 6 - none: no such file", ("none", 0, 0, "no such file")),
+    ("not ok 6 - none: no such file", ("none", 0, 0, "no such file")), ("not ok 7 - a.program: line 3: can end quiet: not judged: no time", ("a.program", 3, 0, "can end quiet: not judged: no time")),
 )  # fmt: skip
-DIFFERS = 'not ok 7 - a.trace (4 lines)\n  ---\n  differing: 2\n  lines:\n    - line: 2\n      wanted: "0 poll -> gone"\n      got: "0 poll -> refused 2"\n    - line: 4\n      wanted: "0 sip -> value 0x2"\n      got: "0 sip -> value 0x0"\n  ...\n'
+DIFFERS = 'not ok 8 - a.trace (4 lines)\n  ---\n  differing: 2\n  lines:\n    - line: 2\n      wanted: "0 poll -> gone"\n      got: "0 poll -> refused 2"\n    - line: 4\n      wanted: "0 sip -> value 0x2"\n      got: "0 sip -> value 0x0"\n  ...\n'
 # What --explain says.
 EXPLAINED = (("a.sched:4:8: not a number, or too large: '0X1' (fault 4): did you mean '0x1'?", ("a.sched", 4, 8, "not a number, or too large: '0X1' (fault 4): did you mean '0x1'?")),)
 # What is said of the one script at hand, without its name.
@@ -256,7 +256,7 @@ class Editors(Test):
         """`:make` finds the place of all that `test`, `replay` and `check` say of a script."""
         for name in ("a.sched", "b.sched", "a.program", "a.trace"):
             write(os.path.join(self.room, name), "board 1 1 10 0 0x80000000 0x0\n" * 20)
-        write(os.path.join(self.room, "said"), FAULTS + "".join(line + "\n" for line, _ in TOLD) + DIFFERS + "1..7\n" + "".join(line + "\n" for line, *_ in (*UNNAMED, *EXPLAINED)))
+        write(os.path.join(self.room, "said"), FAULTS + "".join(line + "\n" for line, _ in TOLD) + DIFFERS + "1..8\n" + "".join(line + "\n" for line, *_ in (*UNNAMED, *EXPLAINED)))
         found = [json.loads(it) for it in self.vim(READS)]
         differing = [["a.trace", 2, 0, '\n"0 poll -> gone"\n"0 poll -> refused 2"'], ["a.trace", 4, 0, '\n"0 sip -> value 0x2"\n"0 sip -> value 0x0"']]
         wanted = [["", 3, 0, "stale: a walk gives another translation"], *(list(it) for _, it in TOLD), *differing, *(["", line, 0, text] for _, line, text in UNNAMED), *(list(it) for _, it in EXPLAINED)]
@@ -269,7 +269,7 @@ class Editors(Test):
         must(f"the page has {len(page.split())} words", len(page.split()) <= 350)
         test, check = json.loads(page.split("```json\n")[1].split("```")[0])["tasks"]
         for line, (path, at, column, text) in TOLD:
-            for said in (line, re.sub(r"^not ok \d+ - ", "FAIL  ", line)):
+            for said in (line, re.sub(r"^not ok \d+ - ", "OPEN  " if "not judged" in text else "FAIL  ", line)):
                 found = [places(it["pattern"], said) for it in test["problemMatcher"]]
                 must(f"{said}: {found}", [it for it in found if it] == ([(path, at, column, text)] if at else []))
         must("no fault", not [it for it in test["problemMatcher"] for line in (FAULTS + DIFFERS).splitlines() if places(it["pattern"], line)])

@@ -157,20 +157,48 @@ class FuzzFirmware(Test):
         text = read(os.path.join(RECORDS, "fuzz-whole.record"))
         asked = asked_of(text)
         words = ["--seeds", str(asked.seed), "--operations", str(asked.operations), "--read", console]
-        for printed, status, said in ((b"OpenSBI v1.1\r\n\r\n" + text.replace("\n", "\r\n").encode(), 0, "faults: 0"), (b"OpenSBI v1.1\n", 5, "faults: 1")):
+        silent = "the console ended before the payload printed its record; the last line is 'OpenSBI v1.1'"
+        for printed, status, said in ((b"OpenSBI v1.1\r\n\r\n" + text.replace("\n", "\r\n").encode(), 0, "faults: 0\n"), (b"OpenSBI v1.1\r\n\r\n", 5, "faults: 1\n"), (b"OpenSBI v1.1\n", 5, silent)):
             write(console, printed)
             found = subprocess.run([TOOL, *words], stdin=subprocess.DEVNULL, capture_output=True, text=True, timeout=60)
-            must(f"status {found.returncode}, and it said {found.stdout} {found.stderr}", found.returncode == status and f"\n{said}\n" in found.stdout)
+            must(f"status {found.returncode}, and it said {found.stdout} {found.stderr}", found.returncode == status and said in found.stdout)
         for wrong in (["--seeds", "5-4"], ["--seeds", "1", "--harts", "9"], ["--seeds", "1", "--operations", "0"]):
             found = subprocess.run([TOOL, *wrong], stdin=subprocess.DEVNULL, capture_output=True, text=True, timeout=60)
             must(f"{wrong}: {found}", found.returncode == 1 and found.stderr.startswith("fuzz-firmware: "))
 
-    def test_fuzz__a_fresh_run(self):
-        """Two seeds under QEMU, here and now, with small images for fewer operations: whole but for what the page tells."""
+    def test_fuzz__a_silent_run(self):
+        """Of a run that prints no record it is told how it ended, and what the console had last."""
+        image = write(os.path.join(self.room, "image"), fuzzing.MARK + bytes(8 * len(fuzzing.FIELDS) + fuzzing.MOST_HARTS * fuzzing.MOST_OPERATIONS // 8))
+        machine = os.path.join(self.room, "qemu-system-riscv64")
+        words = [TOOL, "--seeds", "1", "--image", image, "--seconds", "1", "--runs", "0", "--keep", self.room]
+        for behind, ended in (("exec sleep 60", "1 s were over"), ("exit 0", "the machine was switched off"), ("exit 1", "QEMU ended")):
+            write(machine, f"#!/bin/sh\necho OpenSBI; echo '# fuzz: begun'; echo\n{behind}\n")
+            os.chmod(machine, 0o755)
+            found = subprocess.run(words, stdin=subprocess.DEVNULL, capture_output=True, text=True, timeout=60, env=os.environ | {"PATH": f"{self.room}:{os.environ['PATH']}"})
+            said = f"1 seeds: nothing was printed: the payload; the first is 1: {ended} before the payload printed its record; the last line is '# fuzz: begun'\n"
+            must(f"status {found.returncode}, and it said {found.stdout} {found.stderr}", found.returncode == 5 and said in found.stdout)
+
+    def image(self):
+        """The payload, built here and now; or the test is skipped."""
         for name in ("qemu-system-riscv64", "riscv64-linux-gnu-gcc", "/usr/lib/riscv64-linux-gnu/opensbi/generic/fw_dynamic.bin"):
             if shutil.which(name) is None and not os.path.isfile(name):
                 raise SkipTest(f"{name} is missing")
-        found = subprocess.run([TOOL, "--seeds", "2-3", "--operations", "10", "--runs", "0", "--seconds", "90", "--keep", self.room], stdin=subprocess.DEVNULL, capture_output=True, timeout=200)
+        subprocess.run([os.path.join(ROOT, "examples/kernel/build"), self.room], check=True, timeout=60)
+        return os.path.join(self.room, "fuzz.elf")
+
+    def test_fuzz__a_warden_that_hangs(self):
+        """Where the hart that wakes the others hangs in a call, another one prints the record: it has this call, and says what was waited for."""
+        runs = fuzzing.Runs(self.image(), None, self.room, 90)
+        found = runs.run(fuzzing.Asked(2, 4, 10, flags=fuzzing.HANGS))
+        must(f"{found.faults}: {found.text[:200]}", any(kind == HANGING and what == "get_spec_version" for kind, what in found.faults))
+        awaited = re.match(r"# fuzz: seed 0x2, operations 0x\w+, given up: waited for hart (0x\w)\n", found.text)
+        must(f"{found.text[:200]}", awaited and found.text.endswith("m end limit\n"))
+        last = re.findall(rf"^{int(awaited[1], 16)} .*$", found.text, re.M)[-1]
+        must(f"{last}", last.split()[1:4] == ["call", "0x10", "0x0"])
+
+    def test_fuzz__a_fresh_run(self):
+        """Two seeds under QEMU, here and now, with small images for fewer operations: whole but for what the page tells."""
+        found = subprocess.run([TOOL, "--seeds", "2-3", "--image", self.image(), "--operations", "10", "--runs", "0", "--seconds", "90", "--keep", self.room], stdin=subprocess.DEVNULL, capture_output=True, timeout=200)
         must(f"status {found.returncode}, and it said {shown(found.stderr)}", found.returncode in (3, 5) and b"\nfaults: " in b"\n" + found.stdout)
         told = re.findall(r"^  \d+ seeds: ([^:]*): (\w+)", found.stdout.decode(), re.M)
         must(f"{told}", not any(kind in ("unexplained", "the record can't be read") for kind, _ in told))

@@ -6,8 +6,10 @@ import os
 import random
 import re
 import shutil
+import signal
 import subprocess
 import sys
+import time
 from unittest import SkipTest
 from xml.etree import ElementTree
 
@@ -223,6 +225,26 @@ class Xml(Made):
         _, out, _ = self.called("test", "--junit", "made.xml", "a.sched", within=within)
         must(f"{out}", out == "141\n" and "not all points were told" in read(os.path.join(self.room, "made.xml")))
 
+    def test_junit__a_run_that_is_interrupted(self):
+        """A run that is interrupted leaves no XML, and no older one; where it goes on, all is written at once."""
+        self.put("a.sched", BOARD + "0 sip\n")
+        put(os.path.join(self.room, "clone/crates/sbiboard_test/out/sbiboard_test"), "#!/bin/bash\n: > began\nexec sleep 60\n")
+        for ending, is_whole in ((signal.SIGINT, True), (signal.SIGTERM, False), (signal.SIGKILL, True)):
+            self.put("made.xml", "<testsuites tests='1' failures='0'/>")
+            child = subprocess.Popen(
+                [self.front, "test", "--junit", "made.xml", "a.sched"], stdin=subprocess.DEVNULL, stdout=subprocess.DEVNULL, stderr=subprocess.DEVNULL, cwd=self.room,
+                start_new_session=True, preexec_fn=lambda: signal.signal(signal.SIGINT, signal.SIG_DFL),
+            )  # fmt: skip
+            until = time.monotonic() + 20
+            while not os.path.exists(os.path.join(self.room, "began")) and time.monotonic() < until:
+                time.sleep(0.05)
+            (os.killpg if is_whole else os.kill)(child.pid, ending)
+            must(f"{ending}: {child.returncode}", child.wait(15) == -ending and not glob.glob(os.path.join(self.room, "made.xml*")))
+            os.remove(os.path.join(self.room, "began"))
+        put(os.path.join(self.room, "clone/crates/sbiboard_test/out/sbiboard_test"), "#!/bin/bash\n[ ! -e made.xml ]\n")
+        self.junit("a.sched")
+        must("what is left", glob.glob(os.path.join(self.room, "made.xml*")) == [os.path.join(self.room, "made.xml")])
+
     def test_names_with_control_characters(self):
         """A name with control characters, which a point shows as `?`, is the file's name in JSON and in the XML."""
         for name in ("a\tb.sched", "a\nb.sched", "a\x7fb\x85.sched"):
@@ -246,7 +268,7 @@ class Xml(Made):
 
     def test_standard_input_that_is_closed(self):
         """Where standard input is closed, `-` is a file that can't be read."""
-        for words in (["test"], ["test", "--json"], ["test", "--junit", "made.xml"], ["explore"], ["explore", "--json"]):
+        for words in (["test"], ["test", "--json"], ["test", "--junit", "made.xml"], ["explore"], ["explore", "--json"], ["run"], ["replay", "--json"], ["replay", "--at", "1"], ["check", "--explain"]):
             status, out, said = self.called(*words, "-", within=["bash", "-c", '"$@" <&-', "-"])
             must(f"{words}: {out} {said}", (status, said) == (7, "sbiboard: -: Bad file descriptor\n") and ('"kind": "end"' in out) == ("--json" in words))
 
@@ -271,7 +293,19 @@ class Xml(Made):
             must(f"{found}", found.returncode == status and found.stdout.endswith(end) and "Parse errors" not in found.stdout)
 
     def test_standard_input_is_a_file(self):
-        """`-` is standard input for `test` and `explore`, once, with what the script does besides."""
+        """`-` is standard input for each task, once, with what the script does besides. A file of that name is `./-`."""
+        program, schedule = BOARD + "at 0x80000000\nsip\n", BOARD + "0 advance\n"
+        self.put("-", "no script\n")
+        for task, words, name, text in (
+            ("run", [], "a.program", program), ("replay", ["--explain"], "a.sched", schedule + "0 fly\n"), ("replay", ["--at", "2", "--diff"], "a.sched", schedule), ("check", ["--json"], "a.trace", TRACE),
+        ):  # fmt: skip
+            self.put(name, text)
+            plain, found = self.called(task, *words, name), self.called(task, *words, "-", stdin=text.encode())
+            must(f"{task} {words}: {found}", found == (plain[0], *(it.replace(name, "/dev/stdin") for it in plain[1:])))
+            must(f"{task} {words}", self.called(task, *words, "--", "-", within=["bash", "-c", f'"$@" < {name}', "-"]) == found)
+        must("the file of this name", self.called("replay", "./-")[0] == 1)
+        must_end(self.called("run", "--keep", "a.program", "-", within=["bash", "-c", '"$@" < a.program', "-"]), 7, "", "sbiboard: input or output failed\n")
+        must("it was kept over the program", read(os.path.join(self.room, "a.program")) == program)
         text = "#! end quiet\n" + RACE
         self.put("a.program", text)
         for task in ("test", "explore"):

@@ -5,7 +5,7 @@ import os
 import re
 import shutil
 import subprocess
-from unittest import SkipTest
+from unittest import SkipTest, mock
 
 from .fixtures import HERE, RECORDS, ROOT, Test, add, must, read, shown, write
 
@@ -16,6 +16,8 @@ ENTRY, VECTOR, HANDLER = 0x80200000, 0x80000400, 0x80300000
 AT, TASK, IRQ, OTHER = 0x80201000, 0x80400000, 0x80410000, 0x80420000
 TIME, IPI, HSM, SRST, SUSP = 0x54494D45, 0x735049, 0x48534D, 0x53525354, 0x53555350
 OFF = {"ends": "off"}
+# The seconds that a run under QEMU may take: many times what it takes on a machine that does nothing else.
+LONGEST = 300
 M64 = (1 << 64) - 1
 
 
@@ -130,15 +132,21 @@ def of_all_harts(harts, calls_of_each):
     return [*stops, OFF], [*lines, "m end off"]
 
 
-def recorded(room, play, data="an image", talk=()):
-    """What tools/record makes of a play: its run, and the lines without the head."""
-    image, stops, out = (os.path.join(room, name) for name in ("image", "play", "out"))
-    write(image, data)
+def stand_ins(room, play, talk=()):
+    """The environment in which the stand-ins play."""
+    stops = os.path.join(room, "play")
     with open(stops, "w", encoding="ascii") as file:
         json.dump(play.stops, file)
-    given = os.environ | {"PATH": f"{STAND_IN}:{os.environ.get('PATH', '')}", "STAND_IN_PLAY": stops, "STAND_IN_TALK": json.dumps(talk)}
+    return os.environ | {"PATH": f"{STAND_IN}:{os.environ.get('PATH', '')}", "STAND_IN_PLAY": stops, "STAND_IN_TALK": json.dumps(talk)}
+
+
+def recorded(room, play, data="an image", talk=()):
+    """What tools/record makes of a play: its run, and the lines without the head."""
+    image, out = (os.path.join(room, name) for name in ("image", "out"))
+    write(image, data)
+    given = stand_ins(room, play, talk)
     words = [os.path.join(ROOT, "tools/record"), "--harts", str(play.harts), "--bios", image, "--out", out, *play.words, image]
-    found = subprocess.run(words, stdin=subprocess.DEVNULL, stdout=subprocess.PIPE, stderr=subprocess.PIPE, timeout=60, env=given)
+    found = subprocess.run(words, stdin=subprocess.DEVNULL, stdout=subprocess.PIPE, stderr=subprocess.PIPE, timeout=120, env=given)
     if not os.path.exists(out):
         return found, []
     with open(out, encoding="ascii") as file:
@@ -156,27 +164,37 @@ def is_recorded(room, play):
     must(f"a return has no notes: {lines}", not seen_late or any(word in play.name for word in ("interrupt", "another hart", "reset before")))
 
 
-def ran(words, status):
-    found = subprocess.run(words, stdin=subprocess.DEVNULL, stdout=subprocess.PIPE, stderr=subprocess.PIPE, timeout=120)
+def ran(words, status, timeout=120):
+    found = subprocess.run(words, stdin=subprocess.DEVNULL, stdout=subprocess.PIPE, stderr=subprocess.PIPE, timeout=timeout)
     must(f"{os.path.basename(words[0])}: status {found.returncode}, not {status}; it said {shown(found.stderr)}", not (status is not None and found.returncode != status))
     return found
 
 
-def recorded_now(room, source, words, is_raw=False):
-    """The record of a supervisor of tests/records-data that is built and run here and now, and its file."""
+def must_have_qemu():
     for name in ("qemu-system-riscv64", "gdb-multiarch", "riscv64-linux-gnu-gcc", FIRMWARE):
         if shutil.which(name) is None and not os.path.isfile(name):
             raise SkipTest(f"{name} is missing")
+
+
+def recorded_off(image, out, *words):
+    """The record of an image that switches its machine off, made under QEMU. Where that doesn't come, it is told what was waited for:
+    what the recorder says, and the last line of each hart."""
+    found = ran([os.path.join(ROOT, "tools/record"), *words, "--seconds", str(LONGEST), "--out", out, image], None, LONGEST + 60)
+    text = read(out) if os.path.exists(out) else ""
+    last = {line.split()[0]: line for line in text.splitlines() if line[:1].isdigit()}
+    must(f"tools/record: status {found.returncode}; it said {found.stderr.decode()}; the harts are at {list(last.values())}", not found.returncode and text.endswith("\nm end off\n"))
+    return text
+
+
+def recorded_now(room, source, words, is_raw=False):
+    """The record of a supervisor of tests/records-data that is built and run here and now, and its file."""
+    must_have_qemu()
     image, out = os.path.join(room, "image"), os.path.join(room, "out")
     gcc = ["riscv64-linux-gnu-gcc", "-nostdlib", "-static", "-Wl,--build-id=none,--no-warn-rwx-segments", "-Wl,-T", os.path.join(ROOT, "examples/kernel/kernel.ld")]
     ran([*gcc, "-o", image, os.path.join(RECORDS, source)], 0)
     if is_raw:
         ran(["riscv64-linux-gnu-objcopy", "-O", "binary", image], 0)
-    found = ran([os.path.join(ROOT, "tools/record"), *words, "--seconds", "30", "--grace", "1", "--out", out, image], None)
-    if found.returncode in (1, 3) and b"was over" in found.stderr:
-        raise SkipTest("QEMU is too slow here: the supervisor didn't end in 30 s")
-    must(f"tools/record: status {found.returncode}, and it said {shown(found.stderr)}", not found.returncode)
-    return read(out), out
+    return recorded_off(image, out, *words), out
 
 
 class Recorders(Test):
@@ -280,6 +298,20 @@ class Recorders(Test):
             plain = [" ".join(word for word in line.split(" ") if "=" not in word) for line in lines]
             must(f"{what}: status {found.returncode}, lines {plain}, not {[*begun, *wanted]}; it said {found.stderr.decode()}", plain == [*begun, *wanted, "m end off"] and not found.returncode)
         must(f"{lines}", "pc=0x1104" in lines[5])
+
+    def test_recorder__a_machine_that_begins_late(self):
+        """The limit of time begins once the machine runs, however long QEMU and gdb took until then."""
+        play = Play("", [enters(0), calls(0, TIME, 0, 5), is_back(0), OFF], [BOOT, call(0, TIME, 0, 5), "0 ret 0 0x0", "m end off"], words=("--seconds", "1"))
+        with mock.patch.dict(os.environ, {"STAND_IN_LATE": "1.5"}):
+            is_recorded(self.room, play)
+
+    def test_recorder__what_was_waited_for(self):
+        """Of a supervisor that doesn't switch its machine off the tests say what the recorder says, and where each hart is."""
+        image, play = write(os.path.join(self.room, "image"), "an image"), Play("", [*TWO, calls(1, *FENCE), {"ends": "closed"}], [])
+        with mock.patch.dict(os.environ, stand_ins(self.room, play)), self.assertRaises(AssertionError) as told:
+            recorded_off(image, os.path.join(self.room, "out"), "--bios", image)
+        text = str(told.exception)
+        must(text, "status 3;" in text and "the connection to QEMU was lost" in text and "'0 ret 0 0x0 " in text and f"'{call(1, *FENCE)} " in text)
 
     def test_a_fresh_record__interrupts(self):
         """A supervisor whose timers come right behind returns, built and recorded here and now: no return is lost, and all agree."""

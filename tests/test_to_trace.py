@@ -2,9 +2,7 @@
 import glob
 import os
 import re
-import shutil
 import subprocess
-from unittest import SkipTest
 
 import agree
 from board_model import spelled_answer
@@ -13,16 +11,13 @@ from records import read as read_record
 from rules import RULES
 from states import Difference, Step
 
-from . import fixtures, random_records
+from . import fixtures, random_records, test_recorder
 from .fixtures import EXAMPLES, RECORDS, ROOT, Test, add, checked, must, named, ran, read, read_bytes, script, shown
 from .replays import printed, steps
 
 TO_TRACE = os.path.join(ROOT, "tools/to-trace")
 # The stored records, and the statuses of their reports.
 STORED = {"survey": 5, "wrong-answers": 5, "hangs": 5, "entries": 5, **dict.fromkeys(("u-boot", "kernel", "boot-hart", "newer", "far-pages", "interrupted", "interrupts"), 0)}
-# What QEMU may take of the gate, in seconds, and the firmware that it boots.
-RECORDED = 25
-FIRMWARE = "/usr/lib/riscv64-linux-gnu/opensbi/generic/fw_dynamic.bin"
 
 
 def tool(words, status=0):
@@ -117,6 +112,8 @@ OTHERWISE = [
 
 ENTRY = "record 2\n0 entry 0x80000000 0 0\n"
 CALL = "0 call 0x10 0 0 0 0 0 0 0\n"
+# Hart 1 was in a call when the machine was reset.
+RESET = ENTRY + "1 entry 0x80000000 1 0\n" + CALL.replace("0 call", "1 call") + "m reset\n0 entry 0x80000000 0 0\n"
 BROKEN = [
     ("", 1, "the first line is 'record HARTS'"),
     ("record 0\n", 1, "a board has 1 to 128 harts"),
@@ -142,9 +139,14 @@ BROKEN = [
         "its return, '0 ret A0 A1' belongs before this line, or '0 ret - -' where its answer wasn't seen",
     ),
     (ENTRY + CALL.replace("0 call", "1 call"), 3, "hart 1 has not entered before this line"),
+    (RESET + CALL.replace("0 call", "1 call"), 7, "hart 1 has not entered since the reset of line 5"),
+    (RESET + "1 ret 0 0\n", 7, "hart 1 has not entered since the reset of line 5"),
+    (RESET.replace("m reset\n0 entry 0x80000000 0 0\n", "m reset\n") + CALL, 6, "hart 0 has not entered since the reset of line 5"),
     (ENTRY + "0 call 0x10 0 0 0 0 0 0 zero\n", 3, "'zero' is no number"),
     (ENTRY + "0 ret -0x1 0\n", 3, "a reply without its call: hart 0 is in none"),
     (ENTRY + CALL + "0 ret 0 -1\n", 4, "'-1' is no number"),
+    (ENTRY + CALL + "0 ret 0 0x10000000000000000\n", 4, "0x10000000000000000 is more than 64 bits"),
+    *((ENTRY + CALL + f"0 ret {it} 0\n", 4, f"{it} is no error: errors are -2^63 to 2^63-1") for it in ("0xfffffffffffffffe", "9223372036854775808", "-0x8000000000000001", "-0x1ffffffffffffffff")),
     (ENTRY + "0 entry 0x10000000000000000 0 0\n", 3, "0x10000000000000000 is more than 64 bits"),
     (ENTRY + "0 entry 0 0 0 tim=4\n", 3, "'tim=4' is no note; notes are time=, sie=, sip=, sstatus=, pc=, ra=, firmware="),
     (ENTRY + "0 entry 0 0 0 time=4 time=4\n", 3, "a second note time="),
@@ -275,16 +277,10 @@ class ToTrace(Test):
 
     def test_a_fresh_record(self):
         """The kernel of the examples, built and recorded here and now, agrees."""
-        for name in ("qemu-system-riscv64", "gdb-multiarch", "riscv64-linux-gnu-gcc", FIRMWARE):
-            if shutil.which(name) is None and not os.path.isfile(name):
-                raise SkipTest(f"{name} is missing")
+        test_recorder.must_have_qemu()
         made = os.path.join(self.room, "kernel.record")
         tool([os.path.join(ROOT, "examples/kernel/build"), self.room])
-        words = [os.path.join(ROOT, "tools/record"), "--seconds", str(RECORDED), "--grace", "1", "--out", made, os.path.join(self.room, "kernel.elf")]
-        found = subprocess.run(words, stdin=subprocess.DEVNULL, stdout=subprocess.PIPE, stderr=subprocess.PIPE, timeout=120)
-        if found.returncode in (1, 3) and b"was over" in found.stderr:
-            raise SkipTest(f"QEMU is too slow here: the kernel didn't end in {RECORDED} s")
-        must(f"tools/record: status {found.returncode}, and it said {shown(found.stderr)}", not found.returncode and open(made, encoding="ascii").read().endswith("\nm end off\n"))
+        test_recorder.recorded_off(os.path.join(self.room, "kernel.elf"), made)
         tool([TO_TRACE, "--report", made])
         trace, _ = tool([TO_TRACE, made])
         checked(self.room, trace, 0, b"agrees %d\n" % trace.count(b" -> "), b"")

@@ -66,7 +66,8 @@ class ToTraceOptions(Test):
         must(f"{traces}", len(traces) == 1 and "board 1 " in min(traces) and " 0x80000010 " in min(traces) and "0 entry" not in min(traces))
 
     def test_bounds_of_records_and_traces(self):
-        """A record has 1 to 128 harts; the board of a trace has as many, and a history of as many steps as there are."""
+        """A record has 1 to 128 harts; the board of a trace has as many, and a history of as many steps as there are. An error has 64 bits
+        and a sign, however it is written."""
         for harts in (1, 2, 127, 128):
             trace, _ = printed_by([TO_TRACE, script(self.room, f"record {harts}\n0 entry 0x80000000 0 9\n".encode())])
             board = next(line for line in trace.splitlines() if line.startswith("board "))
@@ -75,6 +76,10 @@ class ToTraceOptions(Test):
         for harts in (0, 129, 130, 1 << 32):
             _, said = printed_by([TO_TRACE, script(self.room, f"record {harts}\n0 entry 0x80000000 0 0\n".encode())], 1)
             must(f"{harts}: {said}", said.endswith(": line 1: a board has 1 to 128 harts\n"))
+        for error, is_least in ((-(1 << 63), True), ((1 << 63) - 1, False)):
+            for word in (str(error), f"{'-' * is_least}{abs(error):#x}"):
+                trace, _ = printed_by([TO_TRACE, script(self.room, (ENTRY + CALL.format("0x10 0", word, 0)).encode())])
+                must(f"{word}: {trace}", f" -> ret {error} 0x0  # " in trace)
         for calls in (1, 9, 130):
             trace, _ = printed_by([TO_TRACE, script(self.room, (ENTRY + CALL.format("0x10 0", 0, 0x1000000) * calls).encode())])
             board = next(line for line in trace.splitlines() if line.startswith("board "))

@@ -132,6 +132,26 @@ class HtmlPages(Test):
         must_end(self.called("test", "good.sched", "--html", "pages"), *good)
         must("older pages", os.listdir(os.path.join(self.work, "pages")) == ["own.html"])
 
+    def test_html__pages_of_somebody_else(self):
+        """A list that --html hasn't made stays, and nothing is tested or taken away; nor does a page take the place of another one."""
+        pages, own = os.path.join(self.work, "pages"), "<!DOCTYPE html>\n<title>mine</title>\n"
+        self.called("test", "--html", "pages", "a.sched")
+        os.remove(os.path.join(self.work, "a.sched.failed"))
+        put(os.path.join(pages, "index.html"), own)
+        kept = {name: read(os.path.join(pages, name)) for name in os.listdir(pages)}
+        must_end(self.called("test", "--html", "pages", "a.sched"), 7, "", "sbiboard: pages/index.html: not a page of --html, which overwrites no other\n")
+        must("it was tested", not os.path.exists(os.path.join(self.work, "a.sched.failed")) and {name: read(os.path.join(pages, name)) for name in os.listdir(pages)} == kept)
+        os.rename(os.path.join(pages, "index.html"), os.path.join(pages, "own"))
+        for make in (os.mkdir, lambda path: os.symlink("own", path), lambda path: os.symlink("none", path)):
+            make(os.path.join(pages, "index.html"))
+            must_end(self.called("explore", "--html=pages", "stuck.program")[:2], 7, "")
+            (os.rmdir if make is os.mkdir else os.remove)(os.path.join(pages, "index.html"))
+        must("what it named was written", sorted(os.listdir(pages)) == ["a.sched.failed.html", "own"] and read(os.path.join(pages, "own")) == own)
+        put(os.path.join(pages, "a.sched.failed.html"), own)
+        self.called("test", "--html", "pages", "a.sched")
+        (page, *_), *_ = rows(os.path.join(pages, "index.html"))
+        must(f"{page}", page == ("a.sched.failed-2", 2) and read(os.path.join(pages, "a.sched.failed.html")) == own)
+
     def test_html__points_that_are_cut_off(self):
         """Where a run ends before it has told all points, it isn't said that none fails, and no older page is left."""
         self.called("test", "--html", "pages", "a.sched")

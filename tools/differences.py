@@ -10,7 +10,8 @@ from states import Difference
 
 READ_SIE = SSI | STI
 SUSPENDING = (SUSPENDED, SUSPEND_PENDING, RESUME_PENDING)
-SUSP = 0x53555350
+# The legacy set_timer, and how many ticks behind its time a timer surely doesn't come any more: on a busy machine it is late.
+SUSP, SET_TIMER, LATE = 0x53555350, 0, 10_000_000
 BEYOND = Verdict(UNJUDGED, "an address that isn't in this board's RAM was refused, and what the machine has there isn't recorded", "9.1, 9.4")
 WITHOUT_ANSWER = Verdict(UNJUDGED, "a call returned to an interrupt, and its answer wasn't seen", "3")
 
@@ -66,6 +67,15 @@ class Differences:
         places = self.places[self.lines[place].hart]
         return self.lines[places[bisect_right(places, place) - 2]]
 
+    def next_place(self, hart, place):
+        places = self.places[hart]
+        at = bisect_right(places, place - 1)
+        return places[at] if at < len(places) else None
+
+    def next_line(self, hart, place):
+        at = self.next_place(hart, place)
+        return None if at is None else self.lines[at]
+
     def returns(self, place):
         """What a return says of a call that was waiting; None where it wasn't seen."""
         numbers = self.lines[place].numbers
@@ -83,7 +93,7 @@ class Differences:
         line = self.lines[call.place]
         verdict = certain(state.board, call.op, line.numbers, answer, shown, self.version, line.numbers[0] in self.offered)
         if verdict is None and not self.origin(state, line, answer):
-            verdict = self.of_woken(state, call.op, shown) or self.of_failing(state, call, shown) or by_this_state(state.board, call.op, answer, shown)
+            verdict = self.of_woken(state, call, shown) or self.of_failing(state, call, shown) or by_this_state(state.board, call.op, answer, shown)
         self.found(state, line, self.name(line), answer, self.said(call.place), verdict, self.touched(hart, call.op))
         if call.op[1:3] == (IPI, 0):
             state.missed |= {h: line.number for h in self.named(line.numbers[2:4])}
@@ -130,6 +140,23 @@ class Differences:
                 later = (self.lines[other].notes["time"] for other in places[at + 2 :] if "time" in self.lines[other].notes)
                 if deadline > next(later, ALL - 1):
                     yield Difference(call.number, f"{self.name(call)}: STIP at its return", "0x0", "0x1", verdict_of("timers"), None)
+
+    def overdue(self):
+        """Of each set_timer that succeeded: those whose hart returned behind the time, and made a call long behind it, while STIP was 0 at
+        each of its lines."""
+        for places in self.places.values():
+            timer, has_returned = None, False
+            for line in (self.lines[place] for place in places):
+                if line.kind == "entry" or line.notes.get("sip", 0) & STI:
+                    timer = None
+                passed = line.notes.get("time", -1) - timer.numbers[2] if timer else -1
+                if has_returned and line.kind == "call" and passed >= LATE and "sip" in line.notes:
+                    yield Difference(timer.number, f"{self.name(timer)}: STIP at line {line.number}", "0x1", "0x0", verdict_of("timers"), None)
+                    timer = None
+                has_returned |= line.kind == "ret" and passed >= 0
+                if line.kind == "call" and line.numbers[0] in (TIME, SET_TIMER):
+                    is_set = line.numbers[:2] == (TIME, 0) and line.reply is not None and self.lines[line.reply].numbers[0] == 0
+                    timer, has_returned = line if is_set else None, False
 
     def named(self, pair):
         """The harts of a list, those of strange bits left out."""
@@ -186,12 +213,11 @@ class Differences:
                 verdict = verdict_of(rule) if rule else SSTATUS
                 state.put(Difference(line.number, f"{self.id(hart)} entry: {name}", f"{value:#x}", f"{there:#x}", verdict, None))
 
-    def of_woken(self, state, op, shown):
+    def of_woken(self, state, call, shown):
         """A hart that sleeps here has the state of one that goes on: there something woke it that doesn't wake it here."""
-        if op[1:3] != (HSM, 2) or op[3] >= self.record.harts or shown not in (("ret", 0, STARTED), ("ret", 0, RESUME_PENDING)):
+        if call.op[1:3] != (HSM, 2) or call.op[3] >= self.record.harts or shown not in (("ret", 0, STARTED), ("ret", 0, RESUME_PENDING)):
             return None
-        rule = rule_of_wake(state, op[3])
-        return verdict_of(rule) if rule else None
+        return self.of_wake(state, call.op[3], self.next_line(call.op[3], call.place))
 
     def of_failing(self, state, call, shown):
         """A hart that is STARTED here is in a suspend there, which fails later: its state, and what a start of it answers."""
@@ -206,8 +232,9 @@ class Differences:
         line, end = self.lines[place], self.lines[other].reply
         return line.kind == "call" and is_suspend(line.numbers) and line.reply is not None and bool(self.lines[line.reply].numbers[0]) and place < end and other < line.reply
 
-    def of_wake(self, state, hart, answer):
-        rule = rule_of_wake(state, hart) if answer[0] == "refused" else None
+    def of_wake(self, state, hart, line):
+        """What woke a hart that sleeps here. line: that at which it went on there, or None."""
+        rule = rule_of_wake(state, hart, line.notes.get("sip", 0) if line else 0)
         return verdict_of(rule) if rule else None
 
 

@@ -1,6 +1,7 @@
 """Follows a record on a board: inserts what the record shows only by its effects (the firmware's steps, ticks, a guest's writes),
 orders overlapping calls so that the board answers as recorded, and reports where it can't."""
 from bisect import bisect_right
+from itertools import islice
 
 from board_model import (
     ALL, ALREADY_AVAILABLE, GONE, HSM, INVALID_PARAM, IPI, RESUME_PENDING, RFENCE, SRST, SSI, START_PENDING, STARTED, STI, STOP_PENDING, STOPPED,
@@ -10,7 +11,7 @@ from differences import READ_SIE, Differences, is_system_suspend
 from numbers_here import Numbers
 from records import Broken, is_reset, is_suspend
 from rules import UNEXPLAINED_VERDICT, ignored_as, verdict_of
-from states import Difference, Open, State
+from states import Choice, Difference, Open, State, is_excused
 
 # How many orders are tried at one place, and how many steps back and forth after a reply that no order at its place gives.
 ORDERS = 200
@@ -27,6 +28,8 @@ class Follower(Differences):
         super().__init__(record, version)
         self.ignored, self.numbers = frozenset(ignored), Numbers(record, maps, PAGES)
         self.passed_over = {}
+        # Lines at which the board does otherwise, as a rule excuses it: the search goes back behind these.
+        self.excused = set()
         self.ipis = {h: self.ipis_to(h) for h in range(record.harts)}
         # Of each hart the lines at which its SSIP is seen.
         self.pending = {h: [place for place in self.places[h] if self.lines[place].notes.get("sip", 0) & SSI] for h in range(record.harts)}
@@ -59,12 +62,12 @@ class Follower(Differences):
         state, place, choices = self.first(), 0, []
         # Where no order was found: the place and the state there, the choices before it, how often another one was tried,
         # and whose choices are yet to be tried.
-        stuck, others, tries, about = None, [], 0, []
+        stuck, others, kept, tries, about = None, [], [], 0, []
         while place < len(self.lines):
-            ways = self.ways(state, place)
-            following = next(ways, None)
+            choice = Choice(place, state, self.tried(state, place))
+            following = choice.next()
             if following is not None:
-                choices.append((place, ways))
+                choices.append(choice)
                 del choices[:-KEPT_CHOICES]
                 state, place = self.settled(following), place + 1
                 if stuck is not None:
@@ -72,7 +75,7 @@ class Follower(Differences):
                     stuck = None if place > stuck[0] else stuck
                 continue
             if stuck is None:
-                stuck, others, tries, about = (place, state), choices, 0, self.about(place)
+                stuck, others, kept, tries, about = (place, state), choices, list(map(self.again, choices)), 0, self.about(place)
                 choices = list(others)
             found = self.back(choices, about[0]) if tries < TRIES else None
             while found is None and len(about) > 1:
@@ -81,10 +84,38 @@ class Follower(Differences):
             tries += 1
             if found is not None:
                 state, place = self.settled(found[0]), found[1]
-            else:
-                place, state = stuck
-                state, place, stuck, choices = self.forced(state, place), place + 1, None, []
+                continue
+            place, before = stuck
+            state = self.forced(before, place)
+            if is_excused(before, state):
+                self.excused.add(place)
+            choices, stuck, place = kept if place in self.excused else [], None, place + 1
         return self.ended(state)
+
+    def tried(self, state, place):
+        """The ways in which a line can be; where there is none, the board does otherwise, if no order helps, or none was found before."""
+        is_possible = False
+        for following in self.ways(state, place):
+            is_possible = True
+            yield following
+        if not is_possible and self.differs_in_each_order(state, place):
+            yield self.forced(state, place)
+        elif not is_possible and place in self.excused and is_excused(state, done := self.forced(state, place)):
+            yield done
+
+    def differs_in_each_order(self, state, place):
+        """Whether the board answers a call otherwise by its numbers alone."""
+        line = self.lines[place]
+        call = Open(place, self.op_of(state, line)) if line.kind == "call" else state.calls.get(line.hart)
+        shown = self.shown(call.place) if call and line.kind != "entry" else None
+        if shown is None or call.op[1] == HSM:
+            return False
+        here = call.answer or state.board.copy().step(line.hart, call.op)
+        return here[0] != "refused" and here != shown
+
+    def again(self, choice):
+        """A choice whose ways are those that are left now, whatever is tried meanwhile."""
+        return Choice(choice.place, choice.state, islice(self.tried(choice.state, choice.place), choice.taken, None), choice.taken)
 
     def about(self, place):
         """The harts whose own lines may have been taken wrongly, where this line fits nowhere: the likeliest first, and then all."""
@@ -99,8 +130,8 @@ class Follower(Differences):
     def back(self, choices, about):
         """Another way at the last place that has one, of those of these harts."""
         while choices:
-            place, ways = choices[-1]
-            following = next(ways, None) if about is None or self.lines[place].hart in about else None
+            place = choices[-1].place
+            following = choices[-1].next() if about is None or self.lines[place].hart in about else None
             if following is not None:
                 return following, place + 1
             choices.pop()
@@ -312,15 +343,6 @@ class Follower(Differences):
             return it.state == STARTED and it.outstanding is None and op[3] < len(board.harts) and board.harts[op[3]].state == shown[2]
         return board.copy().step(hart, op) == shown
 
-    def next_place(self, hart, place):
-        places = self.places[hart]
-        at = bisect_right(places, place - 1)
-        return places[at] if at < len(places) else None
-
-    def next_line(self, hart, place):
-        at = self.next_place(hart, place)
-        return None if at is None else self.lines[at]
-
     def moves(self, state, place):
         """What may have happened before the line: another call, or a step of a firmware."""
         for hart, call in state.calls.items():
@@ -518,7 +540,7 @@ class Follower(Differences):
         early = state.early.pop(hart, None)
         answer = early[0] if early else state.do(hart, ("advance",), line.number, f"line {line.number}", said)
         if answer != said:
-            verdict = self.of_wake(state, hart, answer) if is_asleep else None
+            verdict = self.of_wake(state, hart, line) if is_asleep and answer[0] == "refused" else None
             self.found(state, line, f"{self.id(hart)} entry", answer, said, verdict, set() if verdict else {hart})
             if verdict:
                 self.wake_as_there(state, hart)
@@ -557,7 +579,7 @@ class Follower(Differences):
             self.advance(state, hart)
         answer = state.do(hart, ("advance",), line.number, f"line {line.number}", said)
         if answer[:2] != said[:2]:
-            verdict = self.of_wake(state, hart, answer)
+            verdict = self.of_wake(state, hart, line) if answer[0] == "refused" else None
             self.found(state, line, f"{self.id(hart)} resumes", answer, said, verdict, set() if verdict else {hart})
             if verdict:
                 self.wake_as_there(state, hart)

@@ -16,7 +16,7 @@ from traces import followed
 MARK = b"fuzz-parameters\0"
 FIELDS = ("seed", "harts", "operations", "checks", "flags", "uart", "limit")
 MOST_HARTS, MOST_OPERATIONS = 8, 256
-QUIET, REBOOTS, NOWHERE = 1, 2, 4
+QUIET, REBOOTS, NOWHERE, HANGS = 1, 2, 4, 8
 # What each hart tells in a whole run, by the numbers of rules.TOLD; of fences those tell that one asked.
 TOLD_BY_EACH, FENCES = {5: "IPIs", 7: "timers", 8: "registers"}, 6
 SILENT, GIVEN_UP, NOT_READ = "nothing was printed", "given up", "the record can't be read"
@@ -50,36 +50,43 @@ def image_of(image, asked):
 
 
 def printed_by(path, asked, bios, seconds):
-    """What the console has of a run under QEMU, and whether the machine was switched off."""
+    """What the console has of a run under QEMU, and how it ended, in a record's words."""
     words = ["qemu-system-riscv64", "-machine", "virt", "-smp", str(asked.harts), "-m", "128", "-display", "none", "-monitor", "none", "-serial", "stdio"]
     machine = subprocess.Popen([*words, "-bios", bios or "default", "-kernel", path], stdin=subprocess.DEVNULL, stdout=subprocess.PIPE, stderr=subprocess.STDOUT)
     try:
         said, _ = machine.communicate(timeout=seconds)
-        return said, machine.returncode == 0
+        return said, "closed" if machine.returncode else "off"
     except subprocess.TimeoutExpired:
         machine.kill()
-        return machine.communicate()[0], False
+        return machine.communicate()[0], "limit"
 
 
-def record_in(console, is_off):
+def record_in(console, end):
     """The record that a console's text has; empty where it has none. One that says no end ends as the machine did."""
     text = console.decode("ascii", errors="replace").replace("\r", "")
     at = text.rfind("\n# fuzz: seed ")
     if at < 0:
         return ""
     lines = [line for line in text[at + 1 :].split("\n")[:-1] if re.match(r"# fuzz|record |[0-9m] ", line)]
-    ends = [] if lines[-1].startswith("m end") else ["m end off" if is_off else "m end limit"]
+    ends = [] if lines[-1].startswith("m end") else [f"m end {end}"]
     return "\n".join([*lines, *ends]) + "\n"
+
+
+def silence(console, end=None, seconds=0):
+    """What is said of a run without a record: how it ended, and the last line that the console has."""
+    ended = {"off": "the machine was switched off", "closed": "QEMU ended", "limit": f"{seconds:g} s were over"}.get(end, "the console ended")
+    *_, last = ["", *filter(str.strip, console.decode("ascii", errors="replace").splitlines())]
+    return f"{ended} before the payload printed its record; the last line is {last!r}"
 
 
 class Verdict:
     """What one record says: `faults`, keys of a class and a sentence, each with its first text; the other groups, and what was tried."""
 
-    def __init__(self, text, asked):
+    def __init__(self, text, asked, silence=""):
         self.text, self.asked = text, asked
         self.faults, self.others, self.tried, self.compared, self.total = {}, Counter(), Counter(), 0, 0
         if not text:
-            self.faults[SILENT, "the payload"] = "the machine ended, or its time was over, before the record came"
+            self.faults[SILENT, "the payload"] = silence
             return
         try:
             self.judge(read(text.encode()))
@@ -144,7 +151,8 @@ class Runs:
         path = os.path.join(self.room, "fuzz.elf")
         with open(path, "wb") as file:
             file.write(image_of(self.image, asked))
-        return Verdict(record_in(*printed_by(path, asked, self.bios, self.seconds)), asked)
+        console, end = printed_by(path, asked, self.bios, self.seconds)
+        return Verdict(record_in(console, end), asked, silence(console, end, self.seconds))
 
     def smaller(self, verdict, key, most):
         """A verdict of the same fault on fewer operations, by bisection, in at most so many runs."""

@@ -42,17 +42,20 @@ class Record:
         self.has_sie = any("sie" in line.notes for line in lines)
 
 
-def number_of(word, at, is_signed=False):
-    digits = word[1:] if is_signed and word[:1] == "-" else word
+def number_of(word, at, is_error=False):
+    digits = word[1:] if is_error and word[:1] == "-" else word
     try:
         if not digits.isascii() or not digits.isalnum():
             raise ValueError
         value = int(digits, 16) if digits[:2] == "0x" else int(digits)
     except ValueError:
         raise Broken(at, f"'{word}' is no number") from None
+    value = value if digits is word else -value
+    if is_error and not -(1 << 63) <= value < 1 << 63:
+        raise Broken(at, f"{word} is no error: errors are -2^63 to 2^63-1")
     if value > ALL:
         raise Broken(at, f"{word} is more than 64 bits")
-    return -value if digits is not word else value
+    return value
 
 
 def notes_of(words, at):
@@ -193,16 +196,18 @@ def named_by(numbers):
 
 def join(lines):
     """Joins each call with its return, and each line with the hart's next one."""
-    last, calls = {}, {}
+    last, calls, entered, since = {}, {}, set(), "before this line"
     if lines and lines[0].kind != "entry":
         raise Broken(lines[0].number, "the first line of a hart is the entry of the one that boots")
     for place, line in enumerate(lines):
         hart = line.hart
         if hart is None:
+            entered, since = set(), f"since the reset of line {line.number}"
             continue
-        if line.kind != "entry" and hart not in last:
-            raise Broken(line.number, f"hart {hart} has not entered before this line")
+        if line.kind != "entry" and hart not in entered:
+            raise Broken(line.number, f"hart {hart} has not entered {since}")
         if line.kind == "entry":
+            entered.add(hart)
             calls.pop(hart, None)
         elif line.kind == "call":
             if hart in calls:

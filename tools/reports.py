@@ -64,7 +64,7 @@ class Report:
             raise Broken(1, "nothing was recorded")
         faults = [of_fault(fault) for fault in liveness.faults(self.record) if not self.is_passed_over(fault.at)]
         entries = {fault.at for fault in faults if fault.kind == liveness.OTHERWISE}
-        seen = [item for item in (*follower.unkept(), *follower.untimely()) if not self.is_passed_over(item.at)]
+        seen = [item for item in (*follower.unkept(), *follower.untimely(), *follower.overdue()) if not self.is_passed_over(item.at)]
         found = [of_difference(item) for item in (*items, *seen) if isinstance(item, Difference)]
         # (an entry that nobody asked for is told once)
         found = [item for item in found if item.at not in entries or item.kind not in (UNEXPLAINED, liveness.OTHERWISE, FOLLOWS)]

@@ -30,10 +30,13 @@ class Rule:
 CALLS, LISTS, FENCES, HARTS = "Calls", "Hart lists", "Remote fences", "Starts, stops and suspends"
 TIMES, RESETS, MEMORY, BOARD = "Time and interrupts", "System resets", "Memory, translation and caches", "The board"
 EFFECTS = "Effects that no answer shows"
+# A pending external interrupt, in sip.
+SEI = 1 << 9
 RULES = {
     "extensions": Rule("the legacy extensions, PMU, the debug console and all later ones are unknown: -2, and 0 from the probe", CALLS, OWN, "4.4", "value"),
     "their calls": Rule("a call of an extension that is left out answers -2, and does nothing", CALLS, UNJUDGED, "3", "any"),
     "optional": Rule("TIME, IPI, RFENCE, HSM and SRST are offered", CALLS, OPEN, "4.4", "value", NOT_SUPPORTED),
+    "probes": Rule("the probe answers 1 for an extension that is there", CALLS, OPEN, "4.4", "value"),
     "version": Rule("the version is 1.0", CALLS, OPEN, "4.1", "value"),
     "implementation": Rule("implementation 0x5A5A5A, version 1", CALLS, OPEN, "4.2, 4.3", "value"),
     "machine": Rule("mvendorid, marchid and mimpid are 0", CALLS, OPEN, "4.5 to 4.7", "value"),
@@ -59,6 +62,7 @@ RULES = {
     "resume addresses": Rule("the resume address is looked at for type 0x80000000 alone", HARTS, OPEN, "9.4", INVALID_ADDRESS),
     "resumes keep": Rule("a non-retentive resume keeps sie, SSIP and the deadline", HARTS, OPEN, "9.4", "any"),
     "wake": Rule("SSIP with SSIE, or STIP with STIE, wakes a suspended hart", HARTS, OPEN, "9.4", 0),
+    "externals": Rule("there are no external interrupts, so none wakes a hart", HARTS, OWN, "9.4", 0),
     "starts clear": Rule("an entry by start clears sie and SSIP", TIMES, OPEN, "9.1", "any"),
     "deadlines": Rule("a stop, and an entry by start, forget the deadline", TIMES, OPEN, "9.1", "any"),
     "types of resets": Rule(
@@ -149,6 +153,8 @@ def of_other_extension(eid):
 
 def of_base(board, fid, a, here, there):
     if fid == 3:
+        if here[2] and there[2]:
+            return "probes"
         return "optional" if a[0] in EXTENSIONS and a[0] != BASE else None if a[0] == BASE else "extensions"
     return {0: "version", 1: "implementation", 2: "implementation", 4: "machine", 5: "machine", 6: "machine"}.get(fid)
 
@@ -226,11 +232,13 @@ def rule_of_entry(name, is_start, here, there):
     return None
 
 
-def rule_of_wake(state, hart):
-    """A suspended hart went on there, and has nothing to wake it here."""
+def rule_of_wake(state, hart, sip):
+    """A suspended hart went on there, and has nothing to wake it here. sip: what it had there when it went on."""
     it = state.board.harts[hart]
     if it.state not in (SUSPENDED, SUSPEND_PENDING):
         return None
+    if sip & SEI:
+        return "externals"
     if state.board.sip(hart):
         return "wake"
     return "fences don't wake" if hart in state.fenced else None

@@ -1,5 +1,6 @@
 """The state of following a record: the steps and differences so far, the open calls, and the board."""
 from board_model import spelled_answer, spelled_step
+from standard import OPEN, OWN, UNJUDGED
 
 
 class Step:
@@ -23,6 +24,10 @@ class Difference:
     def rule(self):
         """The name of the rule of the board, or None."""
         return self.verdict.rule if self.verdict else None
+
+    @property
+    def is_excused(self):
+        return self.verdict is not None and self.verdict.kind in (OPEN, OWN, UNJUDGED)
 
 
 class Open:
@@ -74,3 +79,24 @@ class State:
             out, item = out
             found.append(item)
         return found[::-1]
+
+
+class Choice:
+    """A line that is followed in one of its ways: the state before it, its ways that are left, and how many were taken."""
+
+    def __init__(self, place, state, ways, taken=0):
+        self.place, self.state, self.ways, self.taken = place, state, ways, taken
+
+    def next(self):
+        self.taken += 1
+        return next(self.ways, None)
+
+
+def is_excused(before, after):
+    """Whether each difference since an earlier state is excused."""
+    out = after.out
+    while out is not before.out:
+        out, item = out
+        if isinstance(item, Difference) and not item.is_excused:
+            return False
+    return True

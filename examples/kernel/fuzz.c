@@ -5,7 +5,7 @@
 #include "sbi.h"
 
 enum { OPERATIONS = 256, LINES = 1500, PAGE = 0x1000 };
-enum { QUIET = 1, REBOOTS = 2, NOWHERE = 4 };
+enum { QUIET = 1, REBOOTS = 2, NOWHERE = 4, HANGS = 8 };
 
 /* What tools/fuzz-firmware writes into the image. kept: of each hart, which of its operations are made. Times are in ticks. */
 struct asked {
@@ -28,8 +28,9 @@ static volatile u64 count[HARTS];
 static u64 next[HARTS], lost_registers[HARTS];
 
 volatile u64 steps[HARTS];
-static volatile u64 warden, phase, has_failed;
-enum { RUNS, CHECKS, OVER };
+/* warden: the hart that sees to the others, and 1. awaited: where a run has failed, the hart that was waited for. */
+static volatile u64 warden, phase, has_failed, awaited;
+enum { RUNS, CHECKS, OVER, LEAVES };
 #define LIVES ((volatile u64 *)0x80400000)
 enum { MAGIC = 0x66757a7a, OPAQUE = 0x5eed00 };
 
@@ -157,6 +158,12 @@ static struct since since_now(u64 hart) { return (struct since){ READ(time), tur
 static int is_over(u64 hart, struct since since, u64 ticks)
 {
     return READ(time) - since.time > ticks && ++turns[hart] - since.turns > LOOKS;
+}
+
+static void give_up(u64 other)
+{
+    awaited = other;
+    has_failed = 1;
 }
 
 /* ---- random calls */
@@ -331,7 +338,7 @@ static void meet(u64 hart, int yields)
             if (yields)
                 yield(hart);
             if (is_over(hart, since, asked.limit) && steps[other] < step)
-                has_failed = 1;
+                give_up(other);
         }
     __asm__ volatile("fence rw, rw" : : : "memory");
 }
@@ -489,7 +496,10 @@ static void print_all(u64 made_of)
     u64 at[HARTS] = { 0 };
     print_number("\n# fuzz: seed 0x", asked.seed);
     print_number(", operations 0x", made_of);
-    print(has_failed ? ", given up" : ", whole");
+    if (has_failed)
+        print_number(", given up: waited for hart 0x", awaited);
+    else
+        print(", whole");
     print_number("\nrecord 0x", asked.harts);
     print("\n");
     for (;;) {
@@ -505,10 +515,12 @@ static void print_all(u64 made_of)
     }
 }
 
-/* Prints the record, and ends the machine: where a hart hangs, by the limit of time. */
+/* Prints the record, and ends the machine: where a hart hangs, by the limit of time. One hart does. */
 static void leave(u64 hart)
 {
     u64 total = 0;
+    if (__atomic_exchange_n(&phase, LEAVES, __ATOMIC_SEQ_CST) == LEAVES)
+        return;
     for (u64 other = 0; other < asked.harts; other++)
         total += next[other];
     if (!(asked.flags & QUIET))
@@ -542,6 +554,9 @@ static void ward(u64 hart)
 {
     u64 wait = 10000, missing, before = 0, lines_now;
     struct since since = since_now(hart);
+    if (asked.flags & HANGS) /* (as in a call that doesn't return, to test what the others do) */
+        for (*put(hart, CALL)->numbers = BASE;;)
+            ;
     do {
         missing = lines_now = 0;
         pause_for(hart, wait);
@@ -552,7 +567,7 @@ static void ward(u64 hart)
         for (u64 other = 0; other < asked.harts; other++) {
             if (steps[other] || !has_room(hart))
                 continue;
-            missing = 1;
+            missing = other + 1;
             u64 state = made(hart, HSM, 2, other, 0, 0, 0, 0).value;
             if (state == STOPPED)
                 begin(hart, other, (u64)start_entry, 0);
@@ -561,7 +576,25 @@ static void ward(u64 hart)
         }
         wait += wait < asked.limit / 8 ? wait / 4 : 0;
     } while (missing && !is_over(hart, since, asked.limit));
-    has_failed |= missing;
+    if (missing)
+        give_up(missing - 1);
+}
+
+/* Waits for the warden to come to a phase. One that does nothing for long hangs: then this hart leaves. */
+static void await_warden(u64 hart, u64 wanted)
+{
+    u64 other = warden - 1, before = 0, now;
+    struct since since = since_now(hart);
+    while (phase < wanted) {
+        yield(hart);
+        now = count[other] + turns[other];
+        since = now == before ? since : since_now(hart);
+        before = now;
+        if (is_over(hart, since, asked.limit)) {
+            give_up(other);
+            leave(hart);
+        }
+    }
 }
 
 static void live(u64 hart)
@@ -575,17 +608,20 @@ static void live(u64 hart)
     }
     WRITE(sie, 0);
     reach(hart, 1);
-    int is_warden = !__atomic_exchange_n(&warden, 1, __ATOMIC_SEQ_CST);
+    u64 nobody = 0, runs = RUNS;
+    int is_warden = __atomic_compare_exchange_n(&warden, &nobody, hart + 1, 0, __ATOMIC_SEQ_CST, __ATOMIC_SEQ_CST);
     if (is_warden) {
         ward(hart);
-        phase = has_failed ? OVER : CHECKS;
+        __atomic_compare_exchange_n(&phase, &runs, has_failed ? OVER : CHECKS, 0, __ATOMIC_SEQ_CST, __ATOMIC_SEQ_CST);
+    } else {
+        await_warden(hart, CHECKS);
     }
-    while (phase == RUNS)
-        yield(hart);
     if (phase == CHECKS)
         check_all(hart);
     if (is_warden)
         leave(hart);
+    else
+        await_warden(hart, LEAVES);
     for (;;)
         __asm__ volatile("wfi");
 }
@@ -624,6 +660,8 @@ void boot_main(u64 hart, u64 opaque)
     if (__atomic_exchange_n(&has_booted, 1, __ATOMIC_SEQ_CST) && !(asked.flags & REBOOTS && LIVES[0] == MAGIC))
         live(entered((u64)boot_entry, hart, opaque));
     clear_bss();
+    if (!(asked.flags & QUIET))
+        print("\n# fuzz: begun\n");
     boot = hart = entered((u64)boot_entry, hart, opaque);
     made(hart, BASE, 0, 0, 0, 0, 0, 0);
     if (asked.flags & REBOOTS && LIVES[0] == MAGIC) {

@@ -20,7 +20,7 @@ from completions import SHELLS
 from installing import install
 from kinds import kind_of, why_unread
 from man_page import man_page
-from reading import is_asked, run_read
+from reading import STDIN, is_asked, run_read
 
 # The statuses of the program, and that of a program that couldn't be built.
 BAD_SCRIPT, USAGE, BAD_FILE, NO_BUILD = 1, 2, 7, 70
@@ -152,11 +152,12 @@ def look_at(command, given):
         if wrong:
             raise Ended(BAD_SCRIPT, "".join([*wrong, "sbiboard: so nothing is built\n"]))
         return
-    why, is_explained = why_unread(files[0].encode()), EXPLAIN.name in given
-    if why or is_kept_over(files[0], given.get("keep")):
-        raise Ended(BAD_FILE, f"sbiboard: {files[0]}: {why or 'the record would be kept in its place'}\n" if is_explained else FAILED_IO)
-    if kind_of(files[0].encode()) not in (None, *command.kinds):
-        raise Ended(BAD_SCRIPT, explained_kind(command, files[0]) if is_explained else WRONG_KIND)
+    file, is_explained = STDIN if files[0] == "-" else files[0], EXPLAIN.name in given
+    why = why_unread(file.encode())
+    if why or is_kept_over(file, given.get("keep")):
+        raise Ended(BAD_FILE, f"sbiboard: {file}: {why or 'the record would be kept in its place'}\n" if is_explained else FAILED_IO)
+    if file != STDIN and kind_of(file.encode()) not in (None, *command.kinds):
+        raise Ended(BAD_SCRIPT, explained_kind(command, file) if is_explained else WRONG_KIND)
 
 
 def explained_kind(command, file):

@@ -87,7 +87,9 @@ class Pages:
         return [(actor, op, said, why if actor is not None else "the clock") for (actor, op, said, _), why in zip(steps, whys)]
 
     def named(self, name):
-        free = next(it for it in (name, *(f"{name}-{number}" for number in range(2, 1_000_000))) if it not in self.names)
+        """A name that no page has, of this run or of somebody else."""
+        names = (name, *(f"{name}-{number}" for number in range(2, 1_000_000)))
+        free = next(it for it in names if it not in self.names and not os.path.lexists(os.path.join(self.folder, f"{it}.html")))
         self.names.add(free)
         return free
 
@@ -162,13 +164,24 @@ td, th {{ text-align: left; vertical-align: top; padding: 3px 14px 3px 0; border
 """
 
 
+def is_own(path):
+    """Whether a file is a page of an earlier run."""
+    if not os.path.isfile(path):
+        return False
+    with open(path, "rb") as file:
+        return MARK.encode() in file.read(400)
+
+
+def others_list(folder):
+    """The path at which the list of pages would overwrite something else; None: it wouldn't."""
+    path = os.path.join(folder, "index.html")
+    return path if os.path.lexists(path) and not is_own(path) else None
+
+
 def take_away(folder):
     """Takes the pages of an earlier run out of a folder."""
-    for path in glob.glob(os.path.join(glob.escape(folder), "*.html")):
-        with open(path, "rb") as file:
-            is_own = MARK.encode() in file.read(400)
-        if is_own:
-            os.remove(path)
+    for path in filter(is_own, glob.glob(os.path.join(glob.escape(folder), "*.html"))):
+        os.remove(path)
 
 
 def draw(program, folder, points):

@@ -1,5 +1,7 @@
 """`--junit FILE`: points as JUnit XML: a suite for each file under test, with a case for each of its points."""
+import contextlib
 import json
+import os
 import re
 from xml.etree import ElementTree
 
@@ -51,10 +53,28 @@ def junit(name, files, points, is_whole, status):
     return ElementTree.tostring(whole, encoding="unicode", xml_declaration=False)
 
 
+@contextlib.contextmanager
+def place(path):
+    """FILE can be written meanwhile, or this fails. An older file is taken away, so that a run that is interrupted leaves none."""
+    with open(path, "ab"):
+        if os.path.isfile(path) and not os.path.islink(path):
+            with contextlib.suppress(OSError):
+                os.remove(path)
+        yield
+
+
 def write(path, *of):
+    """Writes the XML into FILE: where there is none, by a new file that is renamed once it is whole."""
+    made = path if os.path.lexists(path) else f"{path}.{os.getpid()}.new"
     try:
-        with open(path, "w", encoding="utf-8") as file:
+        with open(made, "w", encoding="utf-8") as file:
             file.write('<?xml version="1.0" encoding="UTF-8"?>\n' + junit(*of) + "\n")
+        if made != path:
+            os.replace(made, path)
     except OSError as error:
         # (a write that fails doesn't name its file)
         raise OSError(error.errno, error.strerror, path) from None
+    finally:
+        if made != path:
+            with contextlib.suppress(OSError):
+                os.remove(made)

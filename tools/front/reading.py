@@ -28,11 +28,12 @@ TAP_13, TAP_14 = b"TAP version 13\n", b"TAP version 14\n"
 # Of so many steps at most each is told with what it changed.
 MOST_DIFFED = 10_000
 STDIN = "/dev/stdin"
+CLOSED = f"sbiboard: -: {os.strerror(errno.EBADF)}\n"
 
 
 def is_asked(command, given):
     """Whether a call asks for something that the program doesn't do itself."""
-    return any(it.name in given for it in command.own) or command.program == TESTER and "-" in given[""]
+    return any(it.name in given for it in command.own) or "-" in given[""]
 
 
 def run_read(program, command, words, given):
@@ -56,14 +57,14 @@ def failed(error):
 
 
 def program_words(command, words):
-    """The words without the script's own options and their values; `-` is standard input for `test` and `explore`."""
+    """The words without the script's own options and their values; the file `-` is standard input."""
     own, taking = {f"--{it.name}": it for it in command.own}, {f"--{it.name}" for it in command.options if it.value}
     left, words, is_behind = [], list(words), False
     while words:
         word = words.pop(0)
         name, has_value, _ = word.partition("=")
         if is_behind or not word.startswith("-") or word == "-":
-            left.append(STDIN if word == "-" and command.program == TESTER else word)
+            left.append(STDIN if word == "-" else word)
             continue
         is_behind = word == "--"
         value = [words.pop(0)] if name in taking and not has_value and words else []
@@ -94,20 +95,21 @@ class Script:
 
     def __init__(self, program, command, words, given):
         self.program, self.command, self.words, self.given = program, command, words, given
-        self.file = given[""][0]
+        self.file = STDIN if given[""] == ["-"] else given[""][0]
         self.is_regular, self.text = True, b""
 
     def asks(self, option):
         return option.name in self.given
 
     def run(self):
+        # (the program can't see whose text it is given)
+        if self.file == STDIN and any(is_same(STDIN, it) for it in self.given.get("keep", ())):
+            return BAD_FILE, FAILED_IO
         try:
-            self.is_regular = stat.S_ISREG(os.stat(self.file.encode()).st_mode)
-            with open(self.file.encode(), "rb") as file:
-                self.text = file.read(MOST_BYTES + 1)
-        except OSError:
+            self.read()
+        except OSError as error:
             why = why_unread(self.file.encode()) if self.asks(EXPLAIN) else ""
-            said = f"sbiboard: {self.file}: {why}\n" if why else FAILED_IO
+            said = CLOSED if error.errno == errno.EBADF else f"sbiboard: {self.file}: {why}\n" if why else FAILED_IO
             return self.tell(BAD_FILE, "", said) if self.asks(JSON) else (BAD_FILE, said)
         is_read = any(self.asks(it) for it in (JSON, AT, DIFF))
         status, out, said = self.done(None if self.is_regular else self.text, is_read)
@@ -120,6 +122,12 @@ class Script:
             told = explained(self.program, self.command, self.file, self.text)
             said = told if status == BAD_SCRIPT and told else told + said
         return status, said
+
+    def read(self):
+        """Reads the script; what isn't a regular file can be read but once."""
+        self.is_regular = self.file != STDIN and stat.S_ISREG(os.stat(self.file.encode()).st_mode)
+        with kept_input() if self.file == STDIN else open(self.file.encode(), "rb") as file:
+            self.text = file.read(MOST_BYTES + 1)
 
     def done(self, given=None, is_captured=True):
         """Runs the program, on the file or on a text in its place."""
@@ -241,7 +249,7 @@ class Points:
         """Runs the program, and does what is asked for. Returns the status, and what is left to say."""
         tap, folder, junit = self.asked("tap"), self.asked(HTML.name), self.asked(JUNIT.name)
         if STDIN in self.files and sys.stdin is None:
-            return BAD_FILE, f"sbiboard: -: {os.strerror(errno.EBADF)}\n"
+            return BAD_FILE, CLOSED
         if junit and any(is_same(junit, it) for it in [*self.files, *([tap] if tap else [])]):
             return BAD_FILE, f"sbiboard: {junit}: entity already exists\n"
         if folder and os.path.exists(folder) and not os.path.isdir(folder):
@@ -251,10 +259,16 @@ class Points:
             return BAD_FILE, f"sbiboard: {tap}: not a file, from which the points could be read\n"
         if folder and os.path.isdir(folder):
             # (what draws is of use here alone)
-            from html_pages import take_away
+            from html_pages import others_list, take_away
 
+            if other := others_list(folder):
+                return BAD_FILE, f"sbiboard: {other}: not a page of --html, which overwrites no other\n"
             take_away(folder)
-        with contextlib.ExitStack() as room, open(junit, "w", encoding="utf-8") if junit else contextlib.nullcontext():
+        with contextlib.ExitStack() as room:
+            if junit:
+                from junit import place
+
+                room.enter_context(place(junit))
             if is_read and not tap:
                 tap = os.path.join(room.enter_context(tempfile.TemporaryDirectory(prefix="sbiboard-points.")), "tap")
                 self.words[1:1] = ["--tap", tap]
@@ -339,6 +353,8 @@ class Points:
 
 def kept_input():
     """Standard input as a file, which can be read again."""
+    if sys.stdin is None:
+        raise OSError(errno.EBADF, os.strerror(errno.EBADF))
     kept = tempfile.TemporaryFile()
     kept.write(sys.stdin.buffer.read(MOST_BYTES + 1))
     kept.seek(0)
