@@ -1,5 +1,5 @@
--- Watched lists that are carried over a cut of the history. What an opening has doesn't say what was possible before it: the lists
--- go on from what they were.
+-- Watched lists that are carried over a cut of the history. An opening doesn't say what was possible before it, so
+-- the lists continue from their former values (profile).
 use Rattle.std.specs.Prelude.{ℕ, List, [], ◌∷◌, ◌++◌}
 use Rattle.tlb_model.specs.Entries.{Entry}
 use Rattle.board_core.specs.History.{Event}
@@ -11,20 +11,20 @@ use Rattle.any_tlb.specs.Effects.{effect_at}
 use Rattle.any_tlb.specs.Watch.{given_by, logged, spared}
 use Rattle.any_tlb.specs.WatchedWords.{spared_words, word_or_none}
 
--- The satps that hart h had and the fences that were applied there, after what was kept before.
+-- The log of hart h's walks after these events, continued from a kept log.
 abbrev pub walks_from : (kept : List Walking) → Opening → List Event → (h : ℕ) → List Walking
 walks_from kept o [] h = kept
 walks_from kept o (event ∷ past) h =
     logged (effect_at o past event h) (walks_from kept o past h) ++ Had (satp o (event ∷ past) h) ∷ []
 
--- The entries that are watched for an address, after what was watched and kept before.
+-- The watched entries of an address after these events, continued from those watched before and from a kept log.
 abbrev pub watched_from : (before : List Entry) → (kept : List Walking) → Opening → List Event → (h va : ℕ) → List Entry
 watched_from before kept o [] h va = before
 watched_from before kept o (event ∷ past) h va =
     spared (effect_at o past event h) (watched_from before kept o past h va)
     ++ given_by (memory o (event ∷ past)) va [] (walks_from kept o (event ∷ past) h)
 
--- The words that are watched for a physical address, after those that were watched before.
+-- The watched words of a physical address after these events, continued from those watched before.
 abbrev pub watched_words_from : (before : List ℕ) → Opening → List Event → (h pa : ℕ) → List ℕ
 watched_words_from before o [] h pa = before
 watched_words_from before o (event ∷ past) h pa =

@@ -1,4 +1,4 @@
--- Events at which nothing has to be watched.
+-- Events after which the same entries and words are possible as before (profile).
 use Rattle.std.specs.Prelude.{◌≡◌, ℕ, List, ◌∷◌}
 use Rattle.rfence.specs.Applied.{Nothing}
 use Rattle.board_core.specs.History.{Event}

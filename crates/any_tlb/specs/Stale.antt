@@ -1,4 +1,4 @@
--- What accesses of this board used that the page tables no longer give.
+-- Accesses of this board by entries that the page tables no longer give (Privileged 4.2.1).
 use Rattle.std.specs.Prelude.{◌≡◌, ℕ, ◌≤◌, true, List, Option, Some, Ok}
 use Rattle.sbi_abi.specs.declared.call.Regs.{Regs}
 use Rattle.sbi_abi.specs.Calls.{call_of}
@@ -21,18 +21,19 @@ use Rattle.board_laws.specs.Fresh.{is_of_page, is_of_space}
 use Rattle.board_laws.specs.Places.{IsAtPlace, past_at}
 use Rattle.any_tlb.specs.Steady.{phys_of}
 
--- The page tables in a memory don't give, by this satp, an access of this kind to the address what the entry gives it: another
--- physical address, or another fault.
+-- By this satp, the page tables in a memory give an access of this kind to the address another physical address, or
+-- another fault, than the entry does.
 abbrev pub IsOtherThan : (memory : ℕ → Option ℕ) → (satp va : ℕ) → Kind → Entry → Type 0
 IsOtherThan memory satp va kind entry = translated entry.leaf va kind ≡ phys_of (maps memory satp va kind) va → ⊥
 
--- The event, an access by hart h, is stale: the entry that it used gave it another physical address or fault than the page tables.
+-- The event, an access by hart h, is stale: the entry that it used gave it another physical address or fault than the
+-- page tables give.
 pub record IsStale (o : Opening) (past : List Event) (h : ℕ) (event : Event) (reach : Reach) : Type 0 where
   pub entry : Entry
   pub uses : event.translation ≡ Some entry
   pub other : IsOtherThan (memory o past) (satp o past h) reach.va (kind_of reach.access) entry
 
--- At this place some hart asked a remote fence, by a call that was accepted (SBI 8).
+-- At this place hart x asked for a remote fence of translations, by a call that was accepted (SBI 8).
 pub record WasAsked (o : Opening) (past : List Event) (x place : ℕ) (fence : Fence) : Type 0 where
   pub event : Event
   pub happened : IsAtPlace o past place event
@@ -44,9 +45,10 @@ pub record WasAsked (o : Opening) (past : List Event) (x place : ℕ) (fence : F
   pub fences : remote_of o.config (call_of regs) ≡ Some remote
   pub drops : remote.flush ≡ Ok (Entries fence)
 
--- The event, an access by hart h, is missed: what the entry that it used gave it the page tables no longer gave when a fence
--- call was asked that is of the address and of the entry's address space, nor at a later place, by the satp that the hart had
--- there or has now; and that call was a success. Which harts the call named doesn't matter.
+-- The event, an access by hart h, was missed by a fence call: the call succeeded, and its fence is of the address and
+-- of the entry's address space. From the place of the ask on, the page tables never gave the access what its entry
+-- gave, neither by the satp of each place nor by the present one. Which harts the call named doesn't matter (SBI 8;
+-- Privileged 4.2.1).
 pub record IsMissed (o : Opening) (past : List Event) (h : ℕ) (event : Event) (reach : Reach) : Type 0 where
   pub entry : Entry
   pub uses : event.translation ≡ Some entry

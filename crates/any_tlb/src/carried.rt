@@ -9,8 +9,9 @@ ghost use Rattle.any_tlb.specs.Carried.{watched_from, watched_words_from};
 ghost use Rattle.any_tlb.specs.Watch.{walks_of, watched};
 ghost use Rattle.any_tlb.specs.WatchedWords.{watched_words};
 
-/// Wherever a board's history is cut, the watched entries that are carried over the cut, and the walks that are kept, become by
-/// the newer events what they become without the cut. So they decide which accesses are steady by the whole history.
+/// Wherever a legal history is cut, the watched entries continue: from those of the older events, and from the log of
+/// their walks, the newer events give the list that all events give without the cut. So it decides which accesses are
+/// steady by the whole history.
 pub fn watched_go_on_over_cuts()
     ensures { (o : Opening) (newer older : List Event) (h va : ℕ)
         → IsOpened o
@@ -20,7 +21,7 @@ pub fn watched_go_on_over_cuts()
         ≡ watched o (newer ++ older) h va }
 {}
 
-/// So do the watched words.
+/// The same of watched words.
 pub fn watched_words_go_on_over_cuts()
     ensures { (o : Opening) (newer older : List Event) (h pa : ℕ)
         → IsOpened o
@@ -29,8 +30,8 @@ pub fn watched_words_go_on_over_cuts()
         ≡ watched_words o (newer ++ older) h pa }
 {}
 
-/// However often a board's history was cut, each part within the limit: the lists that were carried over all cuts become by the
-/// newest part what they become by the whole history, from the first opening on.
+/// The same of any number of cuts, if each part is legal within the limit: after the newest part, the watched entries
+/// carried over all cuts are those of the whole history from the first opening on.
 pub fn watched_go_on_over_many_cuts()
     ensures { (o : Opening) (newer : List Event) (parts : List (List Event)) (h va : ℕ)
         → IsOpened o
@@ -40,7 +41,7 @@ pub fn watched_go_on_over_many_cuts()
         ≡ watched o (newer ++ joined parts) h va }
 {}
 
-/// So do the watched words.
+/// The same of watched words, and any number of cuts.
 pub fn watched_words_go_on_over_many_cuts()
     ensures { (o : Opening) (newer : List Event) (parts : List (List Event)) (h pa : ℕ)
         → IsOpened o

@@ -1,4 +1,4 @@
-//! What accesses of this board used that the page tables no longer give.
+//! Accesses of this board by entries that the page tables no longer give.
 ghost use Rattle.std.specs.Prelude.{◌≡◌, ℕ, List, ◌∷◌, Some};
 ghost use Rattle.tlb_model.specs.declared.fence.Flush.TheVariants.{Entries};
 ghost use Rattle.hart_access.specs.AccessKinds.{kind_of};
@@ -11,14 +11,14 @@ ghost use Rattle.board_laws.specs.Fences.{Asks};
 ghost use Rattle.any_tlb.specs.Stale.{IsMissed, IsStale};
 ghost use Rattle.any_tlb.specs.Steady.{IsSteady};
 
-/// An access that is missed is stale.
+/// An access that a fence call missed is stale.
 pub fn missed_is_stale()
     ensures { (o : Opening) (past : List Event) (h : ℕ) (event : Event) (reach : Reach)
         → IsMissed o past h event reach
         → IsStale o past h event reach }
 {}
 
-/// In every legal history an access that is stale isn't steady.
+/// In every legal history, a stale access isn't steady.
 pub fn stale_is_unsteady()
     ensures { (o : Opening) (event : Event) (past : List Event) (h : ℕ) (reach : Reach)
         → IsLegal o (event ∷ past)
@@ -29,7 +29,8 @@ pub fn stale_is_unsteady()
         → ⊥ }
 {}
 
-/// No access is missed after a fence call that asked its hart: in every legal history on what a board opens with.
+/// In every legal history on an opening that a board can reach, a fence call that asked a hart misses no access of
+/// that hart (SBI 8).
 pub fn asked_harts_miss_nothing()
     ensures { (o : Opening) (event : Event) (past : List Event) (h : ℕ) (reach : Reach)
         → IsOpened o
