@@ -2,6 +2,7 @@
 //! gives one record, in which each receipt's event stands.
 #![tactic(auto)]
 
+mod bells;
 mod closing;
 mod desk;
 mod opening;

@@ -1,5 +1,5 @@
 //! A board behind its lock, for threads.
-ghost use Rattle.std.specs.Prelude.{◌≡◌, ◌≢◌, ◌⊎◌, ℕ, ◌+◌, ◌<◌, ◌≤◌, ◌↔◌, ◌∷◌, ◌++◌, [], All, IfOk, IfErr, IfSome, IsOk, IsErrOf, OnOk, OnErr, length, true};
+ghost use Rattle.std.specs.Prelude.{◌≡◌, ◌≢◌, ◌⊎◌, ℕ, ◌+◌, ◌<◌, ◌≤◌, ◌↔◌, ◌∷◌, ◌++◌, [], All, IfOk, IfErr, IfSome, IsOk, IsErrOf, OnOk, OnErr, length, map, true};
 ghost use mathlib.Core.List.{IsPrefix};
 ghost use Rattle.board_terms.specs.declared.config.BuildFault.TheVariants.{BadConfig, NoMemory};
 ghost use Rattle.board_terms.specs.Limits.{IsGood};
@@ -10,8 +10,10 @@ ghost use Rattle.board_lock.specs.Events.{IsActor, events_in, events_of, ops_of}
 ghost use Rattle.board_lock.specs.Seats.{IsOneEach, new_seats, seeing};
 ghost use Rattle.board_lock.specs.Views.{IsDone, IsRefused, IsView};
 ghost use Rattle.board_lock.specs.Coming.{has_come_to};
+ghost use Rattle.board_lock.specs.Inside.Bells.{actors, actors_of};
 ghost use Rattle.board_lock.specs.declared.rests.Rest.TheVariants.{Changed};
 
+use crate::bells::{Bell, Rung, new_bells};
 use crate::closing::{is_one_each, settle};
 use crate::desk::{Desk, Pause, actor_number};
 use crate::opening::open_desk;
@@ -22,10 +24,10 @@ use crate::rooms::{NewRoom, Room};
 use crate::seats::Seat;
 use crate::views::HartView;
 use board_core::{Actor, Board, BuildFault, Config, HartSet, Op, Refusal};
-use std::alloc::{AllocError, Global};
+use std::alloc::Global;
 use std::fmt::{self, Write};
 use std::marker::PhantomData;
-use std::sync::{Condvar, Mutex, MutexGuard, Wait};
+use std::sync::{Mutex, MutexGuard, Wait};
 use std::thread::yield_now;
 use thiserror::Error;
 
@@ -37,10 +39,10 @@ const LOOKS: u32 = 6;
 pub struct SharedBoard<K: Room> {
     config: Config,
     desk: Mutex<Desk<K>>,
-    /// The condition variable of each seat: the harts' in order, then the clock's.
-    bells: Vec<Condvar>,
+    /// The bell of each seat: the harts' in order, then the clock's.
+    bells: Vec<Bell>,
     ghost opening: { config ≡ K.opening.config },
-    ghost belled: { length bells.items ≡ config.harts + 1 },
+    ghost belled: { map (λ b. b.actor) bells.items ≡ actors config.harts },
     ghost good: { IsGood config },
     ghost whole: { K.all ≡ K.opening.config.harts + 1 },
 }
@@ -100,7 +102,7 @@ impl<K: Room> SharedBoard<K> {
         ensures back { IfErr result (λ e. (e.0 ≡ board) × (e.1 ≡ NoMemory)) }
     {
         let config = *board.config();
-        let Ok(bells) = bells(alloc, config.harts) else {
+        let Ok(bells) = new_bells(alloc, config.harts) else {
             return Err((board, BuildFault::NoMemory));
         };
         let (desk, seats) = open_desk(alloc, room, board)?;
@@ -170,7 +172,7 @@ impl<K: Room> SharedBoard<K> {
         Ok((answered.receipt(actor, ordinal, op), view))
     }
 
-    /// Releases the lock and, if the operation was accepted, wakes the seats whose rest it ends.
+    /// Releases the lock and, if the operation was accepted, rings the bells of the seats whose rest it ends.
     fn let_go(&self, desk: MutexGuard<'_, Desk<K>>, op: &Op, has_more: bool) {
         let mut desk = desk;
         if has_more {
@@ -180,30 +182,36 @@ impl<K: Room> SharedBoard<K> {
         }
     }
 
-    /// Wakes the threads of these seats.
-    fn ring(&self, woken: Woken)
+    /// Rings the bells of these seats.
+    fn ring(&self, woken: Woken) -> Rung
         requires { (h : ℕ) → has woken.harts h ≡ true → h < K.opening.config.harts }
+        ensures { result ≡ actors_of woken }
     {
+        let mut rung = Rung::none();
         let mut left = woken.harts;
         while let Some(h) = left.pop_first() {
-            self.bell(Actor::Hart(h)).notify_one();
+            self.bell(Actor::Hart(h)).ring(&mut rung);
         }
         if woken.clock {
-            self.bell(Actor::Clock).notify_one();
+            self.bell(Actor::Clock).ring(&mut rung);
         }
+        rung
     }
 
-    /// Wakes the threads of all seats.
-    fn ring_all(&self) {
+    /// Rings the bells of all seats.
+    fn ring_all(&self) -> Rung
+        ensures { result ≡ actors K.opening.config.harts }
+    {
         self.ring(Woken {
             harts: HartSet::below(self.config.harts),
             clock: true,
-        });
+        })
     }
 
-    /// The condition variable of the actor's seat.
-    fn bell(&self, actor: Actor) -> &Condvar
+    /// The bell of the actor's seat.
+    fn bell(&self, actor: Actor) -> &Bell
         requires { IsActor K.opening.config actor }
+        ensures { result.now.actor ≡ actor }
     {
         &self.bells[actor_number(&self.config, actor)]
     }
@@ -235,7 +243,7 @@ impl<K: Room> SharedBoard<K> {
                 }
                 Pause::Waits => {}
             }
-            desk = self.bell(seat.actor()).wait(rt, desk);
+            desk = self.bell(seat.actor()).wait(rt, seat, desk);
         }
         unreachable!()
     }
@@ -267,7 +275,7 @@ impl<K: Room> SharedBoard<K> {
                     yield_now();
                     desk = self.desk.lock(rt);
                 }
-                Pause::Waits => desk = self.bell(seat.actor()).wait(rt, desk),
+                Pause::Waits => desk = self.bell(seat.actor()).wait(rt, seat, desk),
             }
         }
         unreachable!()
@@ -300,20 +308,4 @@ impl<K: Room> SharedBoard<K> {
         }
         Ok(settle(self.desk.into_inner(), seats))
     }
-}
-
-/// The condition variables of the seats of so many harts, and of the clock's.
-///
-/// # Errors
-///
-/// Out of memory.
-fn bells(alloc: Global, harts: u64) -> Result<Vec<Condvar>, AllocError>
-    requires { harts ≤ 128 }
-    ensures { IfOk result (λ bells. length bells.items ≡ harts + 1) }
-{
-    let mut bells = Vec::with_capacity(alloc, harts as usize + 1)?;
-    while (bells.len() as u64) <= harts {
-        bells.push(Condvar::new())?;
-    }
-    Ok(bells)
 }
