@@ -1,7 +1,7 @@
 -- The steps that a condition needs, by its patterns (profile).
 use Rattle.std.specs.Prelude.{Bool, true, false, List}
 use Rattle.board_core.specs.History.{Event}
-use Rattle.conditions.specs.declared.rules.Rule.{Rule}
+use Rattle.conditions.specs.Rule.{Rule}
 use Rattle.conditions.specs.Vacuity.{MeetsFirst, MeetsSecond, NeedsFirst, NeedsSecond}
 
 -- A condition needs a step for its first pattern, or for its second.
