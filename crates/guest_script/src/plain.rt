@@ -478,22 +478,26 @@ fn plain_said(bytes: &[u8]) -> Option<(Said, &[u8])>
     ensures said { IfSome result (λ found. BeginsSaid bytes.now found.0 found.1.now) }
     ensures shorter { IfSome result (λ found. length found.1.now ≤ length bytes.now) }
 {
-    match after_said(words::RET, bytes) {
-        Some([b' ', rest @ ..]) => plain_ret(rest),
+    match bytes {
+        [_, b'r', b'e', b't', ..] => plain_ret(bytes),
         _ => plain_named_said(bytes),
     }
 }
 
-/// The error and the value behind `ret`.
+/// `ret`, its error and its value.
 #[inline(always)]
 fn plain_ret(bytes: &[u8]) -> Option<(Said, &[u8])>
-    ensures said { (before : List ℕ) → BeginsSaidName before SaidName.Ret (32 ∷ bytes.now)
-        → IfSome result (λ found. BeginsSaid before found.0 found.1.now) }
+    ensures said { IfSome result (λ found. BeginsSaid bytes.now found.0 found.1.now) }
     ensures shorter { IfSome result (λ found. length found.1.now ≤ length bytes.now) }
 {
-    let (error, rest) = plain_signed(bytes)?;
-    let (value, rest) = plain_number(rest)?;
-    Some((Said::Ret { error, value }, rest))
+    match after_said(words::RET, bytes)? {
+        [b' ', word @ ..] => {
+            let (error, rest) = plain_signed(word)?;
+            let (value, rest) = plain_number(rest)?;
+            Some((Said::Ret { error, value }, rest))
+        }
+        _ => None,
+    }
 }
 
 /// The error that the bytes begin with, a decimal number that may have a sign, and what stands behind it.
