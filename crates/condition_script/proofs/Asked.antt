@@ -10,7 +10,7 @@ use Rattle.std.specs.List.{AllZip}
 use Rattle.condition_script.specs.declared.items.Item.{Item}
 use Rattle.condition_script.specs.declared.words.Word.{Word}
 use Rattle.condition_script.specs.Grammar.{ArePatterns, RuleValue, IsRuleOf, IsAsked, IsPattern, Wanted, rule_value, keyword_named, keyword_word, with_commas, AreNumberWords, AsksActor, AsksName, AsksNumber, IsNameAndNumbers, IsNameOf, IsOperation, IsStepPattern, behind, has_mark, is_mark, up_to}
-use Rattle.condition_script.specs.declared.faults.Wrong.{Wrong}
+use Rattle.condition_script.specs.declared.faults.Unread.{Unread}
 use Rattle.condition_script.specs.Inside.Reading.{Gives, Puts, texts}
 use Rattle.condition_script.proofs.OneReading.{name_one}
 use Rattle.condition_script.proofs.Named.{keyword_own, none_named, one_named}
@@ -135,7 +135,7 @@ name_asked is_reply word None no_any is = none_asked is_reply word no_any is
 name_asked is_reply word (Some f) no_any is = is
 
 pub named_with : (is_reply : Bool) (words : List Word) (first : Word) (rest : List Word) → words ≡ first ∷ rest → (item : Option Item) (most : ℕ) → AsksName is_reply first.text.now item most
-    → (old middle new : List (Option Item)) → middle ≡ old ++ item ∷ [] → {X : Type 0} (result : Result X Wrong) → Puts middle new (AreNumberWords most (texts rest)) result
+    → (old middle new : List (Option Item)) → middle ≡ old ++ item ∷ [] → {X : Type 0} (result : Result X Unread) → Puts middle new (AreNumberWords most (texts rest)) result
     → Puts old new (IsNameAndNumbers is_reply (texts words)) result
 named_with is_reply words first rest parts item most asks old middle new is (Ok x) put =
     rw parts (item ∷ put.0, put.1 ∙ ap (λ xs. xs ++ put.0) is ∙ one_more old item put.0, (item, put.0, most, refl, asks, put.2))
@@ -195,7 +195,7 @@ no_before words commas front back is is_front is_back none a x =
 
 -- ---- conditions
 
-pub rule_with : (words : List Word) (first : Word) (rest : List Word) → words ≡ first ∷ rest → (keyword : Keyword) → first.text.now ≡ keyword_word keyword → (result : Result Rule Wrong)
+pub rule_with : (words : List Word) (first : Word) (rest : List Word) → words ≡ first ∷ rest → (keyword : Keyword) → first.text.now ≡ keyword_word keyword → (result : Result Rule Unread)
     → Gives rule_value (IsRuleOf keyword (texts rest)) result → Gives rule_value (IsAsked (texts words)) result
 rule_with words first rest parts keyword is (Ok r) gives = rw parts (keyword, is, gives)
 rule_with words first rest parts keyword is (Err u) (inl lacks) = inl lacks

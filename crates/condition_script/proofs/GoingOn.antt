@@ -11,14 +11,12 @@ use Rattle.condition_script.specs.declared.keywords.Keyword.{Keyword}
 use Rattle.condition_script.specs.declared.keywords.Keyword.TheVariants as keywords
 use Rattle.condition_script.specs.declared.rules.Ending.{Ending}
 use Rattle.condition_script.specs.declared.rules.Ending.TheVariants.{Quiet}
-use Rattle.condition_script.specs.Grammar.{AreEndings, ArePatterns, AsksNumber, RuleValue, Never, NeverAfter, OfSome, Each, End, Before, CanEnd, IsRuleOf, IsAsked, IsAsking, IsNameAndNumbers, IsPattern, IsRule, IsStepPattern, Wanted, behind, comma_apart, ends_meant, ending_word, has_mark, is_mark, most_numbers, rule_value, up_to, with_commas}
+use Rattle.condition_script.specs.Grammar.{AreEndings, ArePatterns, AsksNumber, RuleValue, Never, NeverAfter, OfSome, Each, End, Before, CanEnd, IsRuleOf, IsAsked, IsNameAndNumbers, IsPattern, IsRule, IsStepPattern, Wanted, behind, comma_apart, ends_meant, ending_word, has_mark, is_mark, most_numbers, rule_value, up_to, with_commas}
 use Rattle.std.specs.Borrow.{Bor}
 use Rattle.condition_script.specs.declared.faults.Unread.{Unread}
-use Rattle.condition_script.specs.declared.faults.Wrong.{Wrong}
-use Rattle.condition_script.specs.declared.faults.Wrong.TheVariants.{NoMemory}
 use Rattle.condition_script.specs.declared.rules.Rule.{Rule}
 use Rattle.condition_script.specs.declared.words.Word.{Word}
-use Rattle.condition_script.specs.FirstFault.{IsBeginning, IsCondition, IsFaultColumn, IsLongestBeginning, IsUnreadable}
+use Rattle.condition_script.specs.FirstFault.{IsBeginning, IsCondition, IsLongestBeginning}
 use Rattle.condition_script.specs.Inside.Reading.{Decides, Gives, GoesOnBy, IsBetween, IsRead, bytes_of, texts}
 
 -- ---- texts that conditions go on with
@@ -496,7 +494,7 @@ none_goes words xs n all none on =
 
 -- ---- what is told of words
 
-pub read_tells : (all words : List (List ℕ)) → words ≡ all → (found : Result (Bool × Rule) Wrong) (result : Result Bool Wrong)
+pub read_tells : (all words : List (List ℕ)) → words ≡ all → (found : Result (Bool × Rule) Unread) (result : Result Bool Unread)
     → Gives {A = Bool × RuleValue} (λ f. (f.0, rule_value f.1)) (λ r. IsRule words r.0 r.1) found → IsRead found result → Decides result (IsCondition all)
 read_tells all words same (Ok f) (Ok is) gives says = ((λ _. (f.0, rule_value f.1, subst (λ ws. IsRule ws f.0 (rule_value f.1)) same gives)), (λ _. says))
 read_tells all words same (Ok f) (Err wrong) gives says = absurd says
@@ -513,20 +511,6 @@ goes_by words begins =
     let on = beginning_goes words begins in
     (on.is_completion.k, on.is_completion.text, on.is_completion.stands, subst (λ more. IsCondition (words ++ more)) on.is_completion.are on.holds)
 
-pub tells_beginning : (words : List (List ℕ)) (result : Result Bool Wrong) → Decides result (GoesOnBy words completions) → Decides result (IsBeginning words)
+pub tells_beginning : (words : List (List ℕ)) (result : Result Bool Unread) → Decides result (GoesOnBy words completions) → Decides result (IsBeginning words)
 tells_beginning words (Ok is) tells = ((λ t. begins_by words (tells.0 t)), (λ begins. tells.1 (goes_by words begins)))
 tells_beginning words (Err wrong) lacks = lacks
-
--- ---- lines
-
-pub line_unread : (n : ℕ) (text rest : List ℕ) (words : List (List ℕ)) → IsAsking n text rest → words ≡ words_in rest → (wrong : Wrong)
-    → (wrong ≡ NoMemory) ⊎ ((a : Bool × RuleValue) → IsRule words a.0 a.1 → ⊥) → (u : Unread) → (u.wrong ≡ NoMemory) ⊎ ((u.wrong ≡ wrong) × IsFaultColumn text rest u.column)
-    → (u.wrong ≡ NoMemory) ⊎ IsUnreadable n text u.column
-line_unread n text rest words asking same wrong found u (inl lacks) = inl lacks
-line_unread n text rest words asking same wrong (inl lacks) u (inr placed) = inl (placed.0 ∙ lacks)
-line_unread n text rest words asking same wrong (inr none) u (inr placed) = inr (record {
-  rest = rest;
-  is_asking = asking;
-  no_condition = λ c. none (c.0, c.1) (subst (λ ws. IsRule ws c.0 c.1) (sym same) c.2);
-  is_there = placed.1;
-})

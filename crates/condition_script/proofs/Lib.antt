@@ -3,3 +3,4 @@ pub mod OneReading
 pub mod Asked
 pub mod LinesRead
 pub mod GoingOn
+pub mod Kinds

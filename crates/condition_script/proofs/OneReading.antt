@@ -1,5 +1,5 @@
 -- Bytes have one list of conditions at most.
-use Rattle.std.proofs.Common.{◌≡◌, ℕ, zero, suc, ◌+◌, ◌<◌, ◌≤◌, Bool, true, false, List, [], ◌∷◌, ◌++◌, take, Option, Some, None, codes, refl, sym, ap, ◌∙◌, subst, inl, inr, append_assoc, arith}
+use Rattle.std.proofs.Common.{◌≡◌, ℕ, zero, suc, ◌+◌, ◌-◌, ◌<◌, ◌≤◌, Bool, true, false, List, [], ◌∷◌, ◌++◌, length, take, drop, Option, Some, None, codes, refl, sym, ap, ◌∙◌, subst, inl, inr, append_assoc, arith}
 use Rattle.std.proofs.lemmas.Bool.{cases_order}
 use Rattle.std.specs.List.{AllZip}
 use Rattle.std.specs.Str.{bytes_eq}
@@ -12,7 +12,10 @@ use Rattle.condition_script.specs.declared.keywords.Keyword.{Keyword}
 use Rattle.condition_script.specs.declared.keywords.Keyword.TheVariants as keywords
 use Rattle.condition_script.specs.Grammar.{AreEndings, ArePatterns, RuleValue, IsRuleOf, AsksActor, AsksName, AsksNumber, HasCondition, HaveConditions, IsAsked, IsAsking, IsNameAndNumbers, IsNameOf, IsPattern, IsRule, IsStepPattern, IsOperation, ConditionValue, Wanted, ending_named, ending_word, keyword_named, keyword_word, number_item, with_commas}
 use Rattle.condition_script.specs.declared.rules.Ending.{Ending}
-use Rattle.condition_script.specs.FirstFault.{HasOneReading, IsBeginning, IsCondition, IsFaultColumn, IsFirstUnreadable, IsLongestBeginning, IsReadable, IsUnreadable, column_behind}
+use Rattle.condition_script.specs.declared.faults.Fault.{Fault}
+use Rattle.condition_script.specs.declared.faults.Wrong.{Wrong}
+use Rattle.condition_script.specs.declared.faults.Wrong.TheVariants.{UnknownCondition, UnknownWord, BadNumber, WordCount, NoComma, Star, Refused}
+use Rattle.condition_script.specs.FirstFault.{ByWhether, HasOneReading, IsBeginning, IsCondition, IsFault, IsFirstUnreadable, IsLongestBeginning, IsReadable, IsUnreadable, IsWrong, IsWrongAt, IsWrongInPattern, IsWrongWord, column_behind}
 use Rattle.condition_script.proofs.Named.{any_is_no_hart, any_is_no_number, any_is_no_op, any_is_no_said, clock_is_no_hart, dash_is_no_number, ending_own, keyword_own, maybe_is_no_keyword, none_named, one_named, op_own, said_own}
 
 -- a word with a value isn't one without
@@ -169,9 +172,9 @@ condition_one n text c d a b =
     let rule = rule_one (words_in a.rest) c.is_maybe d.is_maybe c.asked d.asked a.is_rule (subst (λ (r : List ℕ). IsRule (words_in r) d.is_maybe d.asked) same b.is_rule) in
     told_same c d (a.is_line ∙ sym b.is_line) rule.0 rule.1
 
-not_readable : (n : ℕ) (text : List ℕ) (column : ℕ) → IsReadable n text → IsUnreadable n text column → ⊥
-not_readable n text column (inl silent) un = silent un.rest un.is_asking
-not_readable n text column (inr (c, has)) un =
+not_readable : (n : ℕ) (text : List ℕ) (fault : Fault) → IsReadable n text → IsUnreadable n text fault → ⊥
+not_readable n text fault (inl silent) un = silent un.rest un.is_asking
+not_readable n text fault (inr (c, has)) un =
     let same = asking_one n text has.rest un.rest has.is_asking un.is_asking in
     un.no_condition (c.is_maybe, c.asked, subst (λ (r : List ℕ). IsRule (words_in r) c.is_maybe c.asked) same has.is_rule)
 
@@ -183,12 +186,12 @@ conditions_one n (text ∷ texts) s t (inr a) (inl b) = absurd (b.0 a.2.rest a.2
 conditions_one n (text ∷ texts) s t (inr a) (inr b) =
     rw (a.4, b.4, condition_one n text a.0 b.0 a.2 b.2, conditions_one (n + 1) texts a.1 b.1 a.3 b.3) refl
 
-not_both : (n : ℕ) (texts : List (List ℕ)) (s : List ConditionValue) (line column : ℕ) → HaveConditions n texts s → IsFirstUnreadable n texts line column → ⊥
-not_both n [] s line column a wrong = wrong
-not_both n (text ∷ texts) s line column (inl a) (inl wrong) = not_both (n + 1) texts s line column a.1 wrong.1
-not_both n (text ∷ texts) s line column (inl a) (inr wrong) = not_readable n text column (inl a.0) wrong.1
-not_both n (text ∷ texts) s line column (inr a) (inl wrong) = not_both (n + 1) texts a.1 line column a.3 wrong.1
-not_both n (text ∷ texts) s line column (inr a) (inr wrong) = not_readable n text column (inr (a.0, a.2)) wrong.1
+not_both : (n : ℕ) (texts : List (List ℕ)) (s : List ConditionValue) (fault : Fault) → HaveConditions n texts s → IsFirstUnreadable n texts fault → ⊥
+not_both n [] s fault a wrong = wrong
+not_both n (text ∷ texts) s fault (inl a) (inl wrong) = not_both (n + 1) texts s fault a.1 wrong.1
+not_both n (text ∷ texts) s fault (inl a) (inr wrong) = not_readable n text fault (inl a.0) wrong
+not_both n (text ∷ texts) s fault (inr a) (inl wrong) = not_both (n + 1) texts a.1 fault a.3 wrong.1
+not_both n (text ∷ texts) s fault (inr a) (inr wrong) = not_readable n text fault (inr (a.0, a.2)) wrong
 
 -- words up to a place, and then those up to a later one
 front_of : (words : List (List ℕ)) (few many : ℕ) → few ≤ many → (rest : List (List ℕ)) × (take few words ++ rest ≡ take many words)
@@ -215,26 +218,62 @@ longest_one words i j a b = elim (cases_order i j) [
   | inr (inr more) ↦ absurd (no_longer words j i b a more)
 ]
 
-column_one : (line rest : List ℕ) (a b : ℕ) → IsFaultColumn line rest a → IsFaultColumn line rest b → a ≡ b
-column_one line rest a b x y =
-    x.is_behind ∙ ap (λ many. column_behind line rest many) (longest_one (words_in rest) x.many y.many x.is_longest y.is_longest) ∙ sym y.is_behind
+-- ---- what is wrong
 
-unreadable_one : (n : ℕ) (text : List ℕ) (a b : ℕ) → IsUnreadable n text a → IsUnreadable n text b → a ≡ b
-unreadable_one n text a b x y =
+by_one : {P R S U V A : Type 0} → (R → U → A) → (S → V → A) → ByWhether P R S → ByWhether P U V → A
+by_one yes no (inl a) (inl b) = yes a.1 b.1
+by_one yes no (inl a) (inr b) = absurd (b.0 a.0)
+by_one yes no (inr a) (inl b) = absurd (a.0 b.0)
+by_one yes no (inr a) (inr b) = no a.1 b.1
+
+module _ (u v : Wrong) where
+  told_one : (kind : Wrong) → u ≡ kind → v ≡ kind → u ≡ v
+  told_one kind a b = a ∙ sym b
+
+  in_pattern_one : (front : List (List ℕ)) (word : List ℕ) → IsWrongInPattern front word u → IsWrongInPattern front word v → u ≡ v
+  in_pattern_one front word = by_one (told_one Star) (by_one (told_one Refused) (by_one (told_one BadNumber) (told_one UnknownWord)))
+
+  wrong_one : (front : List (List ℕ)) (word : List ℕ) → IsWrong front word u → IsWrong front word v → u ≡ v
+  wrong_one front word =
+      by_one (told_one WordCount) (by_one (in_pattern_one front word) (by_one (told_one UnknownCondition) (by_one (told_one UnknownWord) (told_one WordCount))))
+
+  wrong_word_one : (front : List (List ℕ)) (word : List ℕ) → IsWrongWord front word u → IsWrongWord front word v → u ≡ v
+  wrong_word_one front word =
+      let part : List ℕ = take (length word - 1) word in
+      by_one (by_one (wrong_one (front ++ part ∷ []) (codes ",")) (wrong_one front part)) (wrong_one front word)
+
+  wrong_at_one : (front behind : List (List ℕ)) → IsWrongAt front behind u → IsWrongAt front behind v → u ≡ v
+  wrong_at_one front [] = by_one (told_one NoComma) (told_one WordCount)
+  wrong_at_one front (word ∷ words) = wrong_word_one front word
+
+fault_same : (f g : Fault) → f.line ≡ g.line → f.column ≡ g.column → f.wrong ≡ g.wrong → f ≡ g
+fault_same f g line column wrong =
+    ap (λ n. record { line = n; column = f.column; wrong = f.wrong }) line
+    ∙ ap (λ n. record { line = g.line; column = n; wrong = f.wrong }) column
+    ∙ ap (λ w. record { line = g.line; column = g.column; wrong = w }) wrong
+
+fault_one : (n : ℕ) (line rest : List ℕ) (f g : Fault) → IsFault n line rest f → IsFault n line rest g → f ≡ g
+fault_one n line rest f g x y =
+    let same : y.many ≡ x.many = longest_one (words_in rest) y.many x.many y.is_longest x.is_longest in
+    fault_same f g (x.is_line ∙ sym y.is_line) (x.is_behind ∙ ap (λ many. column_behind line rest many) (sym same) ∙ sym y.is_behind)
+    (wrong_at_one f.wrong g.wrong (take x.many (words_in rest)) (drop x.many (words_in rest)) x.is_told
+      (subst (λ (many : ℕ). IsWrongAt (take many (words_in rest)) (drop many (words_in rest)) g.wrong) same y.is_told))
+
+unreadable_one : (n : ℕ) (text : List ℕ) (f g : Fault) → IsUnreadable n text f → IsUnreadable n text g → f ≡ g
+unreadable_one n text f g x y =
     let same : y.rest ≡ x.rest = asking_one n text y.rest x.rest y.is_asking x.is_asking in
-    column_one text x.rest a b x.is_there (subst (λ (r : List ℕ). IsFaultColumn text r b) same y.is_there)
+    fault_one n text x.rest f g x.is_there (subst (λ (r : List ℕ). IsFault n text r g) same y.is_there)
 
-one_place : (n : ℕ) (texts : List (List ℕ)) (j k a b : ℕ) → IsFirstUnreadable n texts j a → IsFirstUnreadable n texts k b → (j ≡ k) × (a ≡ b)
-one_place n [] j k a b x y = absurd x
-one_place n (text ∷ texts) j k a b (inl x) (inl y) = one_place (n + 1) texts j k a b x.1 y.1
-one_place n (text ∷ texts) j k a b (inl x) (inr y) = absurd (not_readable n text b x.0 y.1)
-one_place n (text ∷ texts) j k a b (inr x) (inl y) = absurd (not_readable n text a y.0 x.1)
-one_place n (text ∷ texts) j k a b (inr x) (inr y) = (x.0 ∙ sym y.0, unreadable_one n text a b x.1 y.1)
+first_one : (n : ℕ) (texts : List (List ℕ)) (f g : Fault) → IsFirstUnreadable n texts f → IsFirstUnreadable n texts g → f ≡ g
+first_one n [] f g x y = absurd x
+first_one n (text ∷ texts) f g (inl x) (inl y) = first_one (n + 1) texts f g x.1 y.1
+first_one n (text ∷ texts) f g (inl x) (inr y) = absurd (not_readable n text g x.0 y)
+first_one n (text ∷ texts) f g (inr x) (inl y) = absurd (not_readable n text f y.0 x)
+first_one n (text ∷ texts) f g (inr x) (inr y) = unreadable_one n text f g x y
 
 pub one_reading : (bytes : List ℕ) → HasOneReading bytes
 one_reading bytes = record {
   at_most_one = λ s t a b. conditions_one 1 (lines bytes) s t a b;
-  not_both = λ s line column a wrong. not_both 1 (lines bytes) s line column a wrong;
-  one_line = λ j k a b x y. (one_place 1 (lines bytes) j k a b x y).0;
-  one_column = λ j k a b x y. (one_place 1 (lines bytes) j k a b x y).1;
+  not_both = λ s fault a wrong. not_both 1 (lines bytes) s fault a wrong;
+  one_fault = λ f g x y. first_one 1 (lines bytes) f g x y;
 }

@@ -4,7 +4,7 @@ ghost use Rattle.condition_script.specs.Grammar.{AreEndings, RuleValue, IsRuleOf
 ghost use Rattle.condition_script.specs.Inside.Reading.{Gives, texts};
 ghost use Rattle.condition_script.specs.declared.keywords.Keyword.TheVariants as keywords;
 
-use crate::faults::Wrong;
+use crate::faults::Unread;
 use crate::keywords::Keyword;
 use crate::pattern_words::{reply, step};
 use crate::patterns::Pattern;
@@ -13,11 +13,11 @@ use crate::words::{Word, place_of, with_commas};
 use std::alloc::Global;
 
 /// Reads words as a condition, and whether it begins with `maybe`.
-pub(crate) fn asked_rule(alloc: Global, words: &[Word<'_>]) -> Result<(bool, Rule), Wrong>
+pub(crate) fn asked_rule(alloc: Global, words: &[Word<'_>]) -> Result<(bool, Rule), Unread>
     ensures { Gives {A = Bool × RuleValue} (λ found. (found.0, rule_value found.1)) (λ read. IsRule (texts words.now) read.0 read.1) result }
 {
     let Some((first, rest)) = words.split_first() else {
-        return Err(Wrong::WordCount);
+        return Err(Unread::Unlike);
     };
     if first.text == b"maybe".as_slice() {
         return Ok((true, rule(alloc, rest)?));
@@ -26,20 +26,20 @@ pub(crate) fn asked_rule(alloc: Global, words: &[Word<'_>]) -> Result<(bool, Rul
 }
 
 /// Reads words as a condition, without `maybe`.
-fn rule(alloc: Global, words: &[Word<'_>]) -> Result<Rule, Wrong>
+fn rule(alloc: Global, words: &[Word<'_>]) -> Result<Rule, Unread>
     ensures { Gives rule_value (IsAsked (texts words.now)) result }
 {
     let Some((first, rest)) = words.split_first() else {
-        return Err(Wrong::WordCount);
+        return Err(Unread::Unlike);
     };
     match Keyword::of(first.text) {
         Some(keyword) => asks(alloc, keyword, rest),
-        None => Err(Wrong::UnknownCondition),
+        None => Err(Unread::Unlike),
     }
 }
 
 /// Reads the condition of a keyword, which these words follow.
-fn asks(alloc: Global, keyword: Keyword, words: &[Word<'_>]) -> Result<Rule, Wrong>
+fn asks(alloc: Global, keyword: Keyword, words: &[Word<'_>]) -> Result<Rule, Unread>
     ensures { Gives rule_value (IsRuleOf keyword (texts words.now)) result }
 {
     match keyword {
@@ -52,7 +52,7 @@ fn asks(alloc: Global, keyword: Keyword, words: &[Word<'_>]) -> Result<Rule, Wro
     }
 }
 
-fn never(alloc: Global, words: &[Word<'_>]) -> Result<Rule, Wrong>
+fn never(alloc: Global, words: &[Word<'_>]) -> Result<Rule, Unread>
     ensures { Gives rule_value (IsRuleOf keywords.Never (texts words.now)) result }
 {
     match place_of(words, b"after") {
@@ -64,23 +64,23 @@ fn never(alloc: Global, words: &[Word<'_>]) -> Result<Rule, Wrong>
     }
 }
 
-fn some(alloc: Global, words: &[Word<'_>]) -> Result<Rule, Wrong>
+fn some(alloc: Global, words: &[Word<'_>]) -> Result<Rule, Unread>
     ensures { Gives rule_value (IsRuleOf keywords.Some (texts words.now)) result }
 {
     Ok(Rule::OfSome(pattern(alloc, words)?))
 }
 
-fn each(alloc: Global, words: &[Word<'_>]) -> Result<Rule, Wrong>
+fn each(alloc: Global, words: &[Word<'_>]) -> Result<Rule, Unread>
     ensures { Gives rule_value (IsRuleOf keywords.Each (texts words.now)) result }
 {
     let p = pattern(alloc, words)?;
     if p.reply.is_empty() {
-        return Err(Wrong::WordCount);
+        return Err(Unread::Unlike);
     }
     Ok(Rule::Each(p))
 }
 
-fn ordered(alloc: Global, words: &[Word<'_>]) -> Result<Rule, Wrong>
+fn ordered(alloc: Global, words: &[Word<'_>]) -> Result<Rule, Unread>
     ensures { Gives rule_value (IsRuleOf keywords.Before (texts words.now)) result }
 {
     let words = with_commas(alloc, words)?;
@@ -89,34 +89,31 @@ fn ordered(alloc: Global, words: &[Word<'_>]) -> Result<Rule, Wrong>
             let (p, q) = both(alloc, &words, k)?;
             Ok(Rule::Before(p, q))
         }
-        None => match pattern(alloc, &words) {
-            Ok(_) => Err(Wrong::NoComma),
-            Err(wrong) => Err(wrong),
-        },
+        None => Err(Unread::Unlike),
     }
 }
 
-fn ends(alloc: Global, words: &[Word<'_>]) -> Result<Rule, Wrong>
+fn ends(alloc: Global, words: &[Word<'_>]) -> Result<Rule, Unread>
     ensures { Gives rule_value (IsRuleOf keywords.End (texts words.now)) result }
 {
     if words.is_empty() {
-        return Err(Wrong::WordCount);
+        return Err(Unread::Unlike);
     }
     Ok(Rule::End(endings(alloc, words)?))
 }
 
 /// `end`, and the ends that orders can come to. No limit ends such an order.
-fn can_end(alloc: Global, words: &[Word<'_>]) -> Result<Rule, Wrong>
+fn can_end(alloc: Global, words: &[Word<'_>]) -> Result<Rule, Unread>
     ensures { Gives rule_value (IsRuleOf keywords.Can (texts words.now)) result }
 {
     let Some((first, rest)) = words.split_first() else {
-        return Err(Wrong::WordCount);
+        return Err(Unread::Unlike);
     };
     if first.text != b"end".as_slice() {
-        return Err(Wrong::UnknownWord);
+        return Err(Unread::Unlike);
     }
     if place_of(rest, b"history-full").is_some() {
-        return Err(Wrong::UnknownWord);
+        return Err(Unread::Unlike);
     }
     let mut ends = endings(alloc, rest)?;
     if ends.is_empty() {
@@ -128,21 +125,21 @@ fn can_end(alloc: Global, words: &[Word<'_>]) -> Result<Rule, Wrong>
 }
 
 /// The ends that words name.
-fn endings(alloc: Global, words: &[Word<'_>]) -> Result<Vec<Ending>, Wrong>
+fn endings(alloc: Global, words: &[Word<'_>]) -> Result<Vec<Ending>, Unread>
     ensures { Gives (λ ends. ends.items) (AreEndings (texts words.now)) result }
 {
     let mut found = Vec::new(alloc);
     for word in words {
         match Ending::of(word.text) {
             Some(ending) => found.push(ending)?,
-            None => return Err(Wrong::UnknownWord),
+            None => return Err(Unread::Unlike),
         }
     }
     Ok(found)
 }
 
 /// The patterns before and after the word at place k.
-fn both(alloc: Global, words: &[Word<'_>], k: usize) -> Result<(Pattern, Pattern), Wrong>
+fn both(alloc: Global, words: &[Word<'_>], k: usize) -> Result<(Pattern, Pattern), Unread>
     requires { k < length words.now }
     ensures { Gives {A = Wanted × Wanted} (λ found. (wanted found.0, wanted found.1))
         (λ ps. IsPattern (texts (take k words.now)) ps.0 × IsPattern (texts (drop (k + 1) words.now)) ps.1) result }
@@ -153,7 +150,7 @@ fn both(alloc: Global, words: &[Word<'_>], k: usize) -> Result<(Pattern, Pattern
 }
 
 /// Reads words as a pattern.
-fn pattern(alloc: Global, words: &[Word<'_>]) -> Result<Pattern, Wrong>
+fn pattern(alloc: Global, words: &[Word<'_>]) -> Result<Pattern, Unread>
     ensures { Gives wanted (IsPattern (texts words.now)) result }
 {
     match place_of(words, b"->") {

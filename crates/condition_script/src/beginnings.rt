@@ -1,11 +1,11 @@
 //! How far into its words a condition can be read.
-ghost use Rattle.std.specs.Prelude.{◌≡◌, ◌++◌, ◌<◌, MatchResult, false};
+ghost use Rattle.std.specs.Prelude.{◌++◌, ◌<◌};
 ghost use Rattle.line_words.specs.Values.{words_in};
 ghost use Rattle.condition_script.specs.FirstFault.{IsBeginning, IsCondition};
 ghost use Rattle.condition_script.specs.Inside.Reading.{Decides, FindsPlace, GoesOnBy, IsBetween, IsNarrowed, IsRead, bytes_of, texts};
 
 use crate::asking::asked_rule;
-use crate::faults::Wrong;
+use crate::faults::Unread;
 use crate::rules::Rule;
 use crate::words::{Word, words};
 use std::alloc::Global;
@@ -16,7 +16,7 @@ const COMPLETIONS: [&[u8]; 9] = [
 ];
 
 /// With how many of these words a condition begins at most.
-pub(crate) fn longest_beginning(alloc: Global, words: &[Word<'_>]) -> Result<usize, Wrong>
+pub(crate) fn longest_beginning(alloc: Global, words: &[Word<'_>]) -> Result<usize, Unread>
     ensures { FindsPlace (texts words.now) result }
 {
     let mut least = 0;
@@ -35,7 +35,7 @@ fn narrowed(
     words: &[Word<'_>],
     least: usize,
     most: usize,
-) -> Result<(usize, usize), Wrong>
+) -> Result<(usize, usize), Unread>
     requires between { IsBetween words.now least most }
     requires open { least < most }
     ensures { IsNarrowed words.now least most result }
@@ -50,14 +50,14 @@ fn narrowed(
 }
 
 /// Whether a condition begins with these words.
-fn is_beginning(alloc: Global, words: &[Word<'_>]) -> Result<bool, Wrong>
+pub(crate) fn is_beginning(alloc: Global, words: &[Word<'_>]) -> Result<bool, Unread>
     ensures { Decides result (IsBeginning (texts words.now)) }
 {
     goes_on_by(alloc, words, &COMPLETIONS)
 }
 
 /// Whether these words are a condition with those of one of the texts behind them.
-fn goes_on_by(alloc: Global, words: &[Word<'_>], completions: &[&[u8]]) -> Result<bool, Wrong>
+fn goes_on_by(alloc: Global, words: &[Word<'_>], completions: &[&[u8]]) -> Result<bool, Unread>
     ensures { Decides result (GoesOnBy (texts words.now) (bytes_of completions.now)) }
 {
     for more in completions {
@@ -70,7 +70,7 @@ fn goes_on_by(alloc: Global, words: &[Word<'_>], completions: &[&[u8]]) -> Resul
 }
 
 /// Whether these words are a condition, with those of a text behind them.
-fn is_condition(alloc: Global, front: &[Word<'_>], more: &[u8]) -> Result<bool, Wrong>
+pub(crate) fn is_condition(alloc: Global, front: &[Word<'_>], more: &[u8]) -> Result<bool, Unread>
     ensures { Decides result (IsCondition (texts front.now ++ words_in more.now)) }
 {
     let words = words(alloc, front, more)?;
@@ -78,22 +78,12 @@ fn is_condition(alloc: Global, front: &[Word<'_>], more: &[u8]) -> Result<bool, 
 }
 
 /// Whether a condition was read.
-fn is_read(found: Result<(bool, Rule), Wrong>) -> Result<bool, Wrong>
+fn is_read(found: Result<(bool, Rule), Unread>) -> Result<bool, Unread>
     ensures { IsRead found result }
 {
     match found {
         Ok(_) => Ok(true),
-        Err(wrong) => unless_lacking(wrong),
-    }
-}
-
-/// Nothing was read, unless memory was refused.
-fn unless_lacking(wrong: Wrong) -> Result<bool, Wrong>
-    ensures { MatchResult result (λ is. (is ≡ false) × (wrong ≡ Wrong.NoMemory → ⊥)) (λ other. other ≡ Wrong.NoMemory) }
-{
-    if wrong == Wrong::NoMemory {
-        Err(wrong)
-    } else {
-        Ok(false)
+        Err(Unread::Unlike) => Ok(false),
+        Err(Unread::NoMemory) => Err(Unread::NoMemory),
     }
 }

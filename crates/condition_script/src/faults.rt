@@ -1,5 +1,6 @@
 //! What is wrong with a condition's text, and where.
 ghost use Rattle.std.specs.Prelude.{◌≡◌};
+ghost use Rattle.condition_script.specs.declared.faults.Unread.TheVariants.{NoMemory};
 ghost use Rattle.condition_script.specs.declared.faults.Wrong.TheVariants.{NoMemory as Lacks};
 
 use std::alloc::{AllocError, AllocFailed};
@@ -37,7 +38,7 @@ pub enum Wrong {
 /// A condition that can't be read.
 #[derive(Clone, Copy, Debug, PartialEq, Eq)]
 pub struct Fault {
-    /// The line's number, from 1.
+    /// The line's number, from 1; 0 if memory was refused.
     pub line: u64,
     /// The column of the word, from 1; behind the last one where a word is missing.
     pub column: u64,
@@ -45,47 +46,50 @@ pub struct Fault {
     pub wrong: Wrong,
 }
 
-/// What is wrong with a line, and in which column.
-#[derive(Clone, Copy, Debug)]
-pub(crate) struct Unread {
-    pub(crate) column: u64,
-    pub(crate) wrong: Wrong,
-}
+/// Memory was refused, at no line.
+pub(crate) const NO_MEMORY: Fault = Fault {
+    line: 0,
+    column: 0,
+    wrong: Wrong::NoMemory,
+};
 
-impl From<AllocError> for Wrong {
-    ghost from_gives = { λ _ wrong. wrong ≡ Lacks };
+impl From<AllocError> for Fault {
+    ghost from_gives = { λ _ fault. fault.wrong ≡ Lacks };
 
-    fn from(_: AllocError) -> Wrong {
-        Wrong::NoMemory
+    fn from(_: AllocError) -> Fault {
+        NO_MEMORY
     }
 }
 
-impl<T: Drop> From<AllocFailed<T>> for Wrong {
-    ghost from_gives = { λ _ wrong. wrong ≡ Lacks };
+impl<T: Drop> From<AllocFailed<T>> for Fault {
+    ghost from_gives = { λ _ fault. fault.wrong ≡ Lacks };
 
-    fn from(_: AllocFailed<T>) -> Wrong {
-        Wrong::NoMemory
+    fn from(_: AllocFailed<T>) -> Fault {
+        NO_MEMORY
     }
+}
+
+/// Why nothing was read of words.
+#[derive(Clone, Copy, Debug, PartialEq, Eq)]
+pub(crate) enum Unread {
+    /// They are no such thing.
+    Unlike,
+    /// Memory was refused.
+    NoMemory,
 }
 
 impl From<AllocError> for Unread {
-    ghost from_gives = { λ _ unread. unread.wrong ≡ Lacks };
+    ghost from_gives = { λ _ unread. unread ≡ NoMemory };
 
     fn from(_: AllocError) -> Unread {
-        Unread {
-            column: 0,
-            wrong: Wrong::NoMemory,
-        }
+        Unread::NoMemory
     }
 }
 
 impl<T: Drop> From<AllocFailed<T>> for Unread {
-    ghost from_gives = { λ _ unread. unread.wrong ≡ Lacks };
+    ghost from_gives = { λ _ unread. unread ≡ NoMemory };
 
     fn from(_: AllocFailed<T>) -> Unread {
-        Unread {
-            column: 0,
-            wrong: Wrong::NoMemory,
-        }
+        Unread::NoMemory
     }
 }

@@ -7,6 +7,7 @@ mod columns;
 mod faults;
 mod items;
 mod keywords;
+mod kinds;
 mod laws;
 mod names;
 mod pattern_words;

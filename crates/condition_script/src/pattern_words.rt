@@ -4,7 +4,7 @@ ghost use Rattle.condition_script.specs.Grammar.{AreNumberWords, AsksActor, Asks
 ghost use Rattle.condition_script.specs.Inside.Reading.{Gives, Puts, texts};
 ghost use Rattle.condition_script.specs.declared.items.Item.{Item as Word};
 
-use crate::faults::Wrong;
+use crate::faults::Unread;
 use crate::items::Item;
 use crate::names::Name;
 use crate::words::Word as Placed;
@@ -13,14 +13,14 @@ use script_lines::{LAST_HART, OP_NUMBERS, OpName, SAID_NUMBERS, SaidName};
 use std::alloc::Global;
 
 /// Reads words as a step: an actor, and its operation.
-pub(crate) fn step(alloc: Global, words: &[Placed<'_>]) -> Result<Vec<Option<Item>>, Wrong>
+pub(crate) fn step(alloc: Global, words: &[Placed<'_>]) -> Result<Vec<Option<Item>>, Unread>
     ensures { Gives (λ found. found.items) (IsStepPattern (texts words.now)) result }
 {
     let Some((first, rest)) = words.split_first() else {
-        return Err(Wrong::WordCount);
+        return Err(Unread::Unlike);
     };
     let Some(item) = actor(first.text) else {
-        return Err(no_number(first.text, true));
+        return Err(Unread::Unlike);
     };
     let mut found = Vec::new(alloc);
     found.push(item)?;
@@ -31,7 +31,7 @@ pub(crate) fn step(alloc: Global, words: &[Placed<'_>]) -> Result<Vec<Option<Ite
 }
 
 /// Reads words as a reply.
-pub(crate) fn reply(alloc: Global, words: &[Placed<'_>]) -> Result<Vec<Option<Item>>, Wrong>
+pub(crate) fn reply(alloc: Global, words: &[Placed<'_>]) -> Result<Vec<Option<Item>>, Unread>
     ensures { Gives (λ found. found.items) (IsNameAndNumbers true (texts words.now)) result }
 {
     let mut found = Vec::new(alloc);
@@ -40,29 +40,29 @@ pub(crate) fn reply(alloc: Global, words: &[Placed<'_>]) -> Result<Vec<Option<It
 }
 
 /// Appends a name and its numbers.
-fn named(words: &[Placed<'_>], is_reply: bool, found: &mut Vec<Option<Item>>) -> Result<(), Wrong>
+fn named(words: &[Placed<'_>], is_reply: bool, found: &mut Vec<Option<Item>>) -> Result<(), Unread>
     ensures { Puts found.old.items found.new.items (IsNameAndNumbers is_reply (texts words.now)) result }
 {
     let Some((first, rest)) = words.split_first() else {
-        return Err(Wrong::WordCount);
+        return Err(Unread::Unlike);
     };
     match name(first.text, is_reply) {
         Some((item, most)) => {
             found.push(item)?;
             numbers(rest, most, found)
         }
-        None => Err(no_name(first.text, is_reply)),
+        None => Err(Unread::Unlike),
     }
 }
 
 /// Appends numbers, at most `most`.
-fn numbers(words: &[Placed<'_>], most: usize, found: &mut Vec<Option<Item>>) -> Result<(), Wrong>
+fn numbers(words: &[Placed<'_>], most: usize, found: &mut Vec<Option<Item>>) -> Result<(), Unread>
     ensures { Puts found.old.items found.new.items (AreNumberWords most (texts words.now)) result }
 {
     for (k, word) in words.iter().enumerate() {
         match number_within(word.text, k < most) {
             Some(item) => found.push(item)?,
-            None => return Err(no_number(word.text, k < most)),
+            None => return Err(Unread::Unlike),
         }
     }
     Ok(())
@@ -144,24 +144,4 @@ fn number_within(word: &[u8], may_be: bool) -> Option<Option<Item>>
         (λ item. (may_be ≡ true) × AsksNumber word.now item) }
 {
     if may_be { number(word) } else { None }
-}
-
-/// What is wrong with a word that is no number, or is one number too many.
-fn no_number(word: &[u8], may_be: bool) -> Wrong {
-    if word == b"*".as_slice() {
-        Wrong::Star
-    } else if may_be {
-        Wrong::BadNumber
-    } else {
-        Wrong::WordCount
-    }
-}
-
-/// What is wrong with a word that is no name.
-fn no_name(word: &[u8], is_reply: bool) -> Wrong {
-    match word {
-        b"*" => Wrong::Star,
-        b"refused" if is_reply => Wrong::Refused,
-        _ => Wrong::UnknownWord,
-    }
 }

@@ -1,14 +1,15 @@
 //! The conditions of a script's text, read from its comments.
 ghost use Rattle.std.specs.Prelude.{◌≡◌, ◌≢◌, ◌⊎◌, IfErr, IfOk, List, MatchOption, MatchResult, map};
 ghost use Rattle.line_words.specs.Values.{words_in};
-ghost use Rattle.condition_script.specs.FirstFault.{IsFaultColumn, IsFaulty, IsUnreadable};
+ghost use Rattle.condition_script.specs.FirstFault.{IsFault, IsFaulty, IsUnreadable};
 ghost use Rattle.condition_script.specs.Grammar.{IsAsking, IsSilent, ReadsConditions, ConditionValue, condition_value};
 ghost use Rattle.condition_script.specs.Inside.Reading.{IsLineRead, IsPut, texts};
 
 use crate::asking::asked_rule;
 use crate::beginnings::longest_beginning;
 use crate::columns::{behind_blanks, column_behind};
-use crate::faults::{Fault, Unread, Wrong};
+use crate::faults::{Fault, NO_MEMORY, Unread, Wrong};
+use crate::kinds::wrong_at;
 use crate::rules::Rule;
 use crate::words::{Word, words};
 use line_words::next_line;
@@ -36,8 +37,9 @@ pub fn conditions(alloc: Global, text: &[u8]) -> Result<Vec<Condition>, Fault>
     // Bytes that have conditions are read as those, unless an allocation failed.
     ensures only { (s : List ConditionValue) → ReadsConditions text.now s
         → MatchResult result (λ found. map condition_value found.items ≡ s) (λ e. e.wrong ≡ Wrong.NoMemory) }
-    // Any other fault is at the first line that can't be read, and at the first word of it with which no condition goes on.
-    ensures fault { IfErr result (λ e. e.wrong ≢ Wrong.NoMemory → IsFaulty text.now e.line e.column) }
+    // Any other fault is at the first line that can't be read, and at the first word of it with which no condition goes on, and says
+    // what is wrong with that word.
+    ensures fault { IfErr result (λ e. e.wrong ≢ Wrong.NoMemory → IsFaulty text.now e) }
 {
     let mut found = Vec::new(alloc);
     let mut rest = text;
@@ -46,7 +48,7 @@ pub fn conditions(alloc: Global, text: &[u8]) -> Result<Vec<Condition>, Fault>
         let (bytes, after) = next_line(rest);
         match read_line(alloc, line, bytes, &mut found) {
             Ok(()) => {}
-            Err(unread) => return Err(located(line, unread)),
+            Err(fault) => return Err(fault),
         }
         rest = after;
         line += 1;
@@ -60,9 +62,9 @@ fn read_line(
     line: u64,
     text: &[u8],
     found: &mut Vec<Condition>,
-) -> Result<(), Unread>
+) -> Result<(), Fault>
     ensures { MatchResult result (λ _. IsPut line text.now found.old.items found.new.items)
-        (λ unread. (unread.wrong ≡ Wrong.NoMemory) ⊎ IsUnreadable line text.now unread.column) }
+        (λ fault. (fault.wrong ≡ Wrong.NoMemory) ⊎ IsUnreadable line text.now fault) }
 {
     if let Some(condition) = condition_of(alloc, line, text)? {
         found.push(condition)?;
@@ -71,7 +73,7 @@ fn read_line(
 }
 
 /// The condition of a line, if it has one.
-fn condition_of(alloc: Global, line: u64, text: &[u8]) -> Result<Option<Condition>, Unread>
+fn condition_of(alloc: Global, line: u64, text: &[u8]) -> Result<Option<Condition>, Fault>
     ensures { IsLineRead line text.now result }
 {
     let Some(rest) = asked(line, text) else {
@@ -88,7 +90,7 @@ fn condition_in(
     text: &[u8],
     rest: &[u8],
     words: &[Word<'_>],
-) -> Result<Option<Condition>, Unread>
+) -> Result<Option<Condition>, Fault>
     requires asking { IsAsking line text.now rest.now }
     requires words { texts words.now ≡ words_in rest.now }
     ensures { IsLineRead line text.now result }
@@ -99,24 +101,26 @@ fn condition_in(
             is_maybe,
             rule,
         })),
-        Err(wrong) => Err(unread(alloc, text, rest, words, wrong)),
+        Err(Unread::Unlike) => Err(fault_in(alloc, line, text, rest, words)),
+        Err(Unread::NoMemory) => Err(NO_MEMORY),
     }
 }
 
-/// What is wrong with a line's words, and from which column on.
-fn unread(alloc: Global, text: &[u8], rest: &[u8], words: &[Word<'_>], wrong: Wrong) -> Unread
+/// The fault of a line whose words are no condition.
+fn fault_in(alloc: Global, line: u64, text: &[u8], rest: &[u8], words: &[Word<'_>]) -> Fault
     requires { texts words.now ≡ words_in rest.now }
-    ensures { (result.wrong ≡ Wrong.NoMemory) ⊎ ((result.wrong ≡ wrong) × IsFaultColumn text.now rest.now result.column) }
+    ensures { (result.wrong ≡ Wrong.NoMemory) ⊎ IsFault line text.now rest.now result }
 {
-    match longest_beginning(alloc, words) {
-        Ok(many) => Unread {
+    let Ok(many) = longest_beginning(alloc, words) else {
+        return NO_MEMORY;
+    };
+    match wrong_at(alloc, &words[..many], &words[many..]) {
+        Ok(wrong) => Fault {
+            line,
             column: column_behind(text, rest, many),
             wrong,
         },
-        Err(lacking) => Unread {
-            column: 0,
-            wrong: lacking,
-        },
+        Err(_) => NO_MEMORY,
     }
 }
 
@@ -128,17 +132,4 @@ fn asked(line: u64, text: &[u8]) -> Option<&[u8]>
         return None;
     }
     behind_blanks(text).strip_prefix(b"#!")
-}
-
-/// What can't be read in a line.
-fn located(line: u64, unread: Unread) -> Fault
-    ensures line { result.line ≡ line }
-    ensures column { result.column ≡ unread.column }
-    ensures wrong { result.wrong ≡ unread.wrong }
-{
-    Fault {
-        line,
-        column: unread.column,
-        wrong: unread.wrong,
-    }
 }

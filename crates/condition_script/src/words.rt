@@ -1,7 +1,7 @@
 //! The words of a condition.
-ghost use Rattle.std.specs.Prelude.{◌≡◌, ◌+◌, ◌<◌, ◌++◌, IfOk, MatchOption, drop, false, length, take, true};
+ghost use Rattle.std.specs.Prelude.{◌≡◌, ◌+◌, ◌-◌, ◌<◌, [], ◌∷◌, ◌++◌, IfOk, MatchOption, drop, false, length, take, true};
 ghost use Rattle.line_words.specs.Values.{words_in};
-ghost use Rattle.condition_script.specs.Grammar.{behind, comma_apart, has_mark, up_to, with_commas};
+ghost use Rattle.condition_script.specs.Grammar.{behind, comma_apart, has_comma, has_mark, up_to, with_commas};
 ghost use Rattle.condition_script.specs.Inside.Reading.{texts};
 
 use line_words::next_word;
@@ -64,12 +64,37 @@ pub(crate) fn with_commas<'a>(
 fn push_parts<'a>(word: &Word<'a>, found: &mut Vec<Word<'a>>) -> Result<(), AllocError>
     ensures { IfOk result (λ _. texts found.new.items ≡ texts found.old.items ++ comma_apart word.now.text.now) }
 {
-    if word.text.len() < 2 || !word.text.ends_with(b",") {
-        found.push(*word)?;
-        return Ok(());
+    match before_comma(word.text) {
+        Some(said) => {
+            found.push(Word { text: said })?;
+            found.push(Word { text: b"," })?;
+        }
+        None => found.push(*word)?,
     }
-    let (front, comma) = word.text.split_at(word.text.len() - 1);
-    found.push(Word { text: front })?;
-    found.push(Word { text: comma })?;
     Ok(())
+}
+
+/// A word before the comma at its end, if it is something, and then a comma.
+pub(crate) fn before_comma(word: &[u8]) -> Option<&[u8]>
+    ensures { MatchOption result (has_comma word.now ≡ false)
+        (λ said. (has_comma word.now ≡ true) × (said.now ≡ take (length word.now - 1) word.now)) }
+{
+    if word.len() < 2 || !word.ends_with(b",") {
+        return None;
+    }
+    Some(&word[..word.len() - 1])
+}
+
+/// These words, and one behind them.
+pub(crate) fn with_word<'a>(
+    alloc: Global,
+    front: &[Word<'a>],
+    text: &'a [u8],
+) -> Result<Vec<Word<'a>>, AllocError>
+    ensures { IfOk result (λ found. texts found.items ≡ texts front.now ++ text.now ∷ []) }
+{
+    let mut found = Vec::new(alloc);
+    found.extend_from_slice(front)?;
+    found.push(Word { text })?;
+    Ok(found)
 }

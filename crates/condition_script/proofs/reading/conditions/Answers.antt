@@ -6,14 +6,14 @@ use Rattle.condition_script.proofs.reading.conditions.Goals as goal
 
 pub returns-in-Err-clause-only : goal.returns-in-Err-clause-only
 returns-in-Err-clause-only c = λ s reads. elim c.in-Err.ensures [
-  | inl lacks ↦ c.located.ensures.wrong ∙ lacks
+  | inl lacks ↦ lacks
   | inr wrong ↦ absurd (no_reading c.args.text.now c.loop-rest.rest.now c.next_line.result.0.now c.next_line.result.1.now c.loop-rest.line (map condition_value c.loop-rest.found.items) c.next_line.ensures.lines c.loop-rest.invariant.read _ wrong s reads)
 ]
 
 pub returns-in-Err-clause-fault : goal.returns-in-Err-clause-fault
 returns-in-Err-clause-fault c = λ other. elim c.in-Err.ensures [
-  | inl lacks ↦ absurd (other (c.located.ensures.wrong ∙ lacks))
-  | inr wrong ↦ rw (c.located.ensures.line, c.located.ensures.column) (unread_found c.args.text.now c.loop-rest.rest.now c.next_line.result.0.now c.next_line.result.1.now c.loop-rest.line (map condition_value c.loop-rest.found.items) c.next_line.ensures.lines c.loop-rest.invariant.read _ wrong)
+  | inl lacks ↦ absurd (other lacks)
+  | inr wrong ↦ unread_found c.args.text.now c.loop-rest.rest.now c.next_line.result.0.now c.next_line.result.1.now c.loop-rest.line (map condition_value c.loop-rest.found.items) c.next_line.ensures.lines c.loop-rest.invariant.read _ wrong
 ]
 
 pub loop-rest-preserved : goal.loop-rest-preserved
