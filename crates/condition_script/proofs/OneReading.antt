@@ -257,7 +257,7 @@ fault_one n line rest f g x y =
     let same : y.many ≡ x.many = longest_one (words_in rest) y.many x.many y.is_longest x.is_longest in
     fault_same f g (x.is_line ∙ sym y.is_line) (x.is_behind ∙ ap (λ many. column_behind line rest many) (sym same) ∙ sym y.is_behind)
     (wrong_at_one f.wrong g.wrong (take x.many (words_in rest)) (drop x.many (words_in rest)) x.is_told
-      (subst (λ (many : ℕ). IsWrongAt (take many (words_in rest)) (drop many (words_in rest)) g.wrong) same y.is_told))
+    (subst (λ (many : ℕ). IsWrongAt (take many (words_in rest)) (drop many (words_in rest)) g.wrong) same y.is_told))
 
 unreadable_one : (n : ℕ) (text : List ℕ) (f g : Fault) → IsUnreadable n text f → IsUnreadable n text g → f ≡ g
 unreadable_one n text f g x y =

@@ -57,12 +57,7 @@ pub fn conditions(alloc: Global, text: &[u8]) -> Result<Vec<Condition>, Fault>
 }
 
 /// Reads a line, and appends its condition, if it has one.
-fn read_line(
-    alloc: Global,
-    line: u64,
-    text: &[u8],
-    found: &mut Vec<Condition>,
-) -> Result<(), Fault>
+fn read_line(alloc: Global, line: u64, text: &[u8], found: &mut Vec<Condition>) -> Result<(), Fault>
     ensures { MatchResult result (λ _. IsPut line text.now found.old.items found.new.items)
         (λ fault. (fault.wrong ≡ Wrong.NoMemory) ⊎ IsUnreadable line text.now fault) }
 {
