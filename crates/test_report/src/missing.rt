@@ -1,4 +1,7 @@
 //! A step that a condition needs and no order has, and what its actor does instead.
+ghost use Rattle.std.specs.Prelude.{◌≡◌, IfOk, MatchOption, None};
+ghost use Rattle.test_report.specs.Missing.{Needs};
+
 use crate::records::event_line;
 use board_core::{Event, Op};
 use conditions::{Condition, Pattern, Rule};
@@ -30,6 +33,14 @@ struct Instead {
 pub struct Missing {
     /// Its text in the condition.
     pub said: String,
+    /// The condition's second pattern needs it, not the first.
+    pub is_second: bool,
+    others: Others,
+}
+
+/// The steps that orders have in its place.
+#[derive(Debug, Drop)]
+struct Others {
     /// Such a step has another reply.
     has_other_reply: bool,
     /// What the same actors do.
@@ -37,31 +48,41 @@ pub struct Missing {
 }
 
 impl Missing {
-    /// What is missing of a condition's first pattern, or of its second one.
+    /// What is missing of a condition's first pattern, or of its second one; nothing if that needs no step.
+    ///
+    /// # Errors
+    ///
+    /// Memory was refused.
     pub fn of_rule(
         alloc: Global,
         case: &Case<'_>,
         condition: &Condition,
         is_second: bool,
         visits: &Visits,
-    ) -> Result<Option<Missing>, AllocError> {
+    ) -> Result<Option<Missing>, AllocError>
+        ensures { IfOk result (λ found. MatchOption found (¬ Needs condition.now.rule is_second)
+            (λ missing. missing.is_second ≡ is_second)) }
+    {
         let Some((p, with_reply)) = sought(&condition.rule, is_second) else {
             return Ok(None);
         };
-        let said = case.pattern_at(alloc, condition.line, is_second, with_reply)?;
-        Ok(Some(Missing::of(alloc, case, said, p, visits)?))
+        Ok(Some(Missing {
+            said: case.pattern_at(alloc, condition.line, is_second, with_reply)?,
+            is_second,
+            others: Others::of(alloc, case, p, visits)?,
+        }))
     }
+}
 
-    /// What is missing of a pattern, of which the condition of a line says this; the orders have these steps.
+impl Others {
+    /// What orders have in place of a pattern's step; they have these steps.
     fn of(
         alloc: Global,
         case: &Case<'_>,
-        said: String,
         p: &Pattern,
         visits: &Visits,
-    ) -> Result<Missing, AllocError> {
-        let mut found = Missing {
-            said,
+    ) -> Result<Others, AllocError> {
+        let mut found = Others {
             has_other_reply: false,
             instead: Vec::new(alloc),
         };
@@ -146,10 +167,10 @@ impl Instead {
 /// `; hart 1 loads 0x1000 (lines 24, 27), 0x405008 (line 26)`.
 impl fmt::Display for Missing {
     fn fmt<W: fmt::Write>(&self, f: &mut fmt::Formatter<W>) -> fmt::Result {
-        if self.has_other_reply {
+        if self.others.has_other_reply {
             return write!(f, "; such a step has another reply");
         }
-        for (at, instead) in self.instead.iter().enumerate() {
+        for (at, instead) in self.others.instead.iter().enumerate() {
             write!(f, "{}", if at == 0 { "; " } else { ", " })?;
             match instead.actor {
                 Some(hart) => write!(f, "hart {hart}")?,
@@ -188,7 +209,9 @@ fn write_used<W: fmt::Write>(f: &mut fmt::Formatter<W>, used: &[Used]) -> fmt::R
 }
 
 /// The pattern of a condition that needs a step, and whether its reply counts.
-fn sought(rule: &Rule, is_second: bool) -> Option<(&Pattern, bool)> {
+fn sought(rule: &Rule, is_second: bool) -> Option<(&Pattern, bool)>
+    ensures { result ≡ None → ¬ Needs rule.now is_second }
+{
     match (rule, is_second) {
         (Rule::NeverAfter(_, q), true) => Some((q, true)),
         (Rule::Before(_, q), true) => Some((q, false)),
