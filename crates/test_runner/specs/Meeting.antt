@@ -22,7 +22,7 @@ pub record IsProgramWith (bytes : List ℕ) (script : Written) (conditions : Lis
 
 -- The bytes are a program. All of its orders, on its board with the widest limit, meet each condition that the bytes have, and
 -- some order has the step of each `some`; without a condition none ends stuck. Each condition fits the board, and says something
--- unless it begins with `maybe`. So many verdicts were found.
+-- unless it begins with `maybe`; without one, or for an `end`, some order ends. So many verdicts were found.
 pub record AreMetByAll (bytes : List ℕ) (found : List Verdict) : Type 0 where
   pub script : Written
   pub conditions : List Condition
