@@ -276,6 +276,53 @@ class EmptyVerdicts(Test):
         must(f"{kept}", kept == ["./x.sched.failed", "./x.sched~2.failed", "./x.sched~3.failed"])
         must(f"{kept}", [read(os.path.join(self.room, it)).split("\n")[0].split()[6] for it in kept] == ["0x0", "0x1", "0x0"])
 
+    def test_tested_files_are_not_overwritten(self):
+        """No record takes a tested file's place, however its path is written: the next free number stands in the record's name. Where the tested file is a link to it, the point says that it isn't written."""
+        differs = "board 1 1 9 0 0x80000000 0\n0 advance -> gone\n"
+        for folder in ("a", "kept"):
+            os.mkdir(os.path.join(self.room, folder))
+        write(os.path.join(self.room, "x.program"), f"#! end off\n{RACE}")
+        write(os.path.join(self.room, "x.sched"), "#! never 0 advance\nboard 1 1 9 0 0x80000000 0\n0 advance\n")
+        write(os.path.join(self.room, "y.program"), f"#! some 0 advance\n{RACE}")
+        explore, tried = ("sbiboard explore",), ("sbiboard", "--times", "9")
+        rows = (
+            (explore, "x.program", "1.failed", "."), (("sbiboard",), "x.program", "1.failed", "."), (("sbiboard",), "y.program", "1.reached", "."), (explore, "y.program", "1.reached", "kept"),
+            (tried, "x.program", "0-0.failed", "."), (tried, "x.program", "0-0.failed", "./kept"), (("sbiboard",), "x.sched", "failed", "."),
+        )  # fmt: skip
+        for (name, *words), first, label, folder in rows:
+            for shape in ("{}/{}", "./{}/{}", "a/../{}/{}", self.room + "/{}/{}", "{}//{}"):
+                path = os.path.join(self.room, folder, f"{first}.{label}")
+                second = shape.format(folder, f"{first}.{label}")
+                for text in (differs, None):
+                    for it in os.listdir(os.path.join(self.room, folder)):
+                        if "~" in it or it.endswith(label):
+                            os.remove(os.path.join(self.room, folder, it))
+                    if text is not None:
+                        write(path, text)
+                    status, lines = told_of(self.room, *words, "--failed", folder, first, second, name=name)
+                    records = [it.split('"')[1] for it in lines if it.startswith("  record: ")]
+                    must(f"{words} {second}: {lines}", status == 1 and records[:1] == [f"{folder}/{first}~2.{label}"] and len(records) == 1)
+                    must(f"{words} {second}: {lines}", [it for it in lines if it.startswith(("ok ", "not ok "))][-1].startswith("not ok 2 - "))
+                    must(f"{words} {second}", read(path) == text if text is not None else not os.path.exists(path))
+        # (the first record of its name is taken as well, and another file of the name comes behind)
+        write(os.path.join(self.room, "a", "x.program"), f"#! end off\n{RACE}")
+        write(os.path.join(self.room, "x.program~2.1.failed"), differs)
+        names = ("x.program", "y.program", "a/x.program")
+        for others, numbers in (((), ("", "~2")), (("x.program.1.failed",), ("~2", "~3")), (("x.program~2.1.failed",), ("", "~3"))):
+            _, lines = told_of(self.room, *names, *others)
+            records = [it.split('"')[1] for it in lines if it.startswith('  record: "./x')]
+            must(f"{others}: {lines}", records == [f"./x.program{number}.1.failed" for number in numbers])
+        for link in (os.link, os.symlink):
+            path, other = os.path.join(self.room, "x.program.1.failed"), os.path.join(self.room, "good.trace")
+            write(path, differs)
+            link(path, other)
+            for words in (("x.program", "good.trace"), ("good.trace", "x.program")):
+                found = tester(self.room, *words)
+                lines = found.stdout.splitlines()
+                must(f"{found}", found.returncode == 7 and found.stderr.startswith("sbiboard: ./x.program.1.failed: ") and read(path) == differs)
+                must(f"{found}", sum(it.startswith("  unwritten: ") for it in lines) == 1 and sum(it.startswith("not ok ") for it in lines) == 2)
+            os.remove(other)
+
     def test_the_last_order_of_a_seed_is_tried(self):
         """`--order 18446744073709551615` tries that order, as any other."""
         for order in ("18446744073709551615", "18446744073709551614", "0"):

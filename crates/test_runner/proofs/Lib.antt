@@ -1,4 +1,6 @@
 pub mod Lists
 pub mod Meeting
 pub mod Printing
+pub mod Records
 pub mod Reports
+pub mod Trying

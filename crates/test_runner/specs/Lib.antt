@@ -1,4 +1,5 @@
 pub mod Findings
 pub mod Meeting
+pub mod Records
 pub mod Reporting
 pub mod Inside

@@ -6,10 +6,9 @@ ghost use Rattle.test_runner.specs.Inside.Telling.{HasTold, IsBegun, TellsEnd, T
 use std::alloc::{AllocError, Global};
 use std::fs;
 use std::io::{self, ErrorKind, Write};
-use std::os::unix::fs::MetadataExt;
 use std::rt::{Clock, Files};
 use test_report::{FileReport, Page, Report, Style, Unwritten};
-use test_terms::{Options, Stop};
+use test_terms::{Options, Stop, is_one_of};
 
 /// Where a report goes.
 #[derive(Drop)]
@@ -137,20 +136,10 @@ fn keep<F: Write>(
 
 /// Creates the file of the points, which must not be one of the tested files.
 fn created<R: Files>(rt: &R, path: &str, files: &[&str]) -> Result<R::File, io::Error> {
-    for file in files {
-        if are_one(rt, path, file) {
-            return Err(io::Error::from(ErrorKind::AlreadyExists));
-        }
+    if is_one_of(rt, path, files) {
+        return Err(io::Error::from(ErrorKind::AlreadyExists));
     }
     fs::create(rt, path)
-}
-
-/// Whether both paths are of one file that is there.
-fn are_one<R: Files>(rt: &R, path: &str, other: &str) -> bool {
-    match (fs::metadata(rt, path), fs::metadata(rt, other)) {
-        (Ok(one), Ok(another)) => one.dev() == another.dev() && one.ino() == another.ino(),
-        _ => false,
-    }
 }
 
 /// A file of this name could not be written.

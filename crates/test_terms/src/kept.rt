@@ -1,9 +1,11 @@
 //! Records that points keep in files.
+use crate::files::is_one_of;
 use crate::trial::Trial;
 use board_core::Event;
 use guest_programs::End;
 use std::alloc::{AllocError, Global};
 use std::fs;
+use std::io::{self, ErrorKind};
 use std::rt::Files;
 use test_report::{Detail, RecordParts, Unwritten, record, stuck_harts};
 
@@ -26,9 +28,9 @@ pub fn keep<R: AllocGlobal + Files>(
     let alloc = trial.rt.alloc();
     let folder = trial.options.failed;
     let name = trial.record;
-    let path = format!(in alloc; "{folder}/{name}.{label}")?;
+    let path = format!(in alloc; "{folder}/{name}{label}")?;
     let bytes = record(alloc, kept)?;
-    let unwritten = match fs::write(trial.rt, path.as_str(), &bytes) {
+    let unwritten = match write(trial, path.as_str(), &bytes) {
         Ok(()) => None,
         Err(error) => Some(Unwritten::new(alloc, path.as_str(), &error)?),
     };
@@ -43,6 +45,14 @@ pub fn keep<R: AllocGlobal + Files>(
         details.push(Detail::Stuck(stuck_harts(alloc, &trial.case, kept.board)?))?;
     }
     Ok(())
+}
+
+/// Writes a file, which must not be one of the tested files.
+fn write<R: Files>(trial: &Trial<'_, R>, path: &str, bytes: &[u8]) -> io::Result<()> {
+    if is_one_of(trial.rt, path, &trial.options.files) {
+        return Err(io::Error::from(ErrorKind::AlreadyExists));
+    }
+    fs::write(trial.rt, path, bytes)
 }
 
 /// The steps around one, each with its place, from 0.

@@ -2,6 +2,7 @@
 //! early, and the records that are kept.
 #![tactic(auto)]
 
+mod files;
 mod kept;
 mod limit;
 mod odd;
@@ -9,6 +10,7 @@ mod options;
 mod stop;
 mod trial;
 
+pub use files::is_one_of;
 pub use kept::keep;
 pub use limit::Limit;
 pub use odd::{comments, oddities, unasked};

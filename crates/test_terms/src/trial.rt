@@ -12,7 +12,7 @@ pub struct Trial<'a, R> {
     pub options: &'a Options<'a>,
     /// The file's text and conditions.
     pub case: Case<'a>,
-    /// How the names of its records begin, which no other file's do.
+    /// How the names of its records begin, which no other file's do, and no tested file's own name.
     pub record: &'a str,
     /// The script.
     pub script: &'a Script,
