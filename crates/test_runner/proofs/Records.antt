@@ -6,11 +6,11 @@ use Rattle.std.proofs.lemmas.Option.{none-some, same_Some}
 use Rattle.test_runner.specs.Records.{AreApart, AreNoFiles, IsApartFrom, IsNoFile}
 use Rattle.test_runner.proofs.Lists.{each-more}
 
-head-of : List ℕ → ℕ
+abbrev head-of : List ℕ → ℕ
 head-of [] = 0
 head-of (x ∷ xs) = x
 
-tail-of : List ℕ → List ℕ
+abbrev tail-of : List ℕ → List ℕ
 tail-of [] = []
 tail-of (x ∷ xs) = xs
 

@@ -76,8 +76,8 @@ fn is_free(files: &[&str], names: &[String], name: &str) -> bool
 fn is_no_file(files: &[&str], name: &str) -> bool
     ensures { result ≡ true → IsNoFile (map (λ file. file.now) files.now) name.now }
 {
-    for place in 0..files.len() {
-        if begins(own_name(files[place]), name) {
+    for file in files {
+        if begins(own_name(file), name) {
             return false;
         }
     }
