@@ -3,4 +3,5 @@ pub mod Meeting
 pub mod Printing
 pub mod Records
 pub mod Reports
+pub mod Stepping
 pub mod Trying

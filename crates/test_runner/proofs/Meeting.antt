@@ -119,6 +119,36 @@ by-tried options bytes file it tried each =
       time = tried.time;
     }
 
+agrees-if-holds : (b : Course) (body : Content) (conditions : List Condition) (lead : List Verdict) → AreFoundOfLines b body conditions lead
+    → EachIsHolds lead → (lines : List Line) → body ≡ Trace lines → AllAgree b lines
+agrees-if-holds b (Trace own) conditions lead (inl is) each lines same = subst (AllAgree b) (same-lines own lines same) is.1
+agrees-if-holds b (Trace own) conditions lead (inr is) each lines same =
+    absurd (let holds = subst EachIsHolds is.0 each 0 Fails refl in let t = holds in cc)
+agrees-if-holds b (Schedule own) conditions lead is each lines same = absurd (let t = same in cc)
+agrees-if-holds b (Program blocks clock) conditions lead is each lines same = absurd (let t = same in cc)
+agrees-if-holds b Empty conditions lead is each lines same = absurd (let t = same in cc)
+
+by-steps : (options : Options) (bytes : List ℕ) (file : FileReport) (it : IsFoundOfScript options bytes file)
+    → AreStepsFound options it.script it.conditions (verdicts it.judged) → EachIsHolds (verdicts it.judged) → AreMetBySteps bytes
+by-steps options bytes file it steps each =
+    let are = steps.are in
+    let harts : ℕ = it.script.config.harts in
+    let own : Tried = record_of (new_course it.script.config) (lines_in (content it.script.body)) in
+    let all : EachIsHolds (are.lead ++ are.judged) = subst EachIsHolds are.parts each in
+    let judged : EachIsHolds are.judged = back-holds are.lead are.judged all in record {
+      script = written it.script;
+      conditions = it.conditions;
+      reads = it.reads;
+      other = steps.other;
+      have = it.have;
+      agree = agrees-if-holds (new_course it.script.config) (content it.script.body) it.conditions are.lead are.lines
+          (front-holds are.lead are.judged all);
+      each = (λ place condition at.
+          holds-in (λ place verdict. (condition : Condition) → slice_get it.conditions place ≡ Some condition → IsFoundOfRecord harts condition own verdict)
+          are.judged judged are.each place
+          (let within = slice_get_within it.conditions place condition at in let many = are.many in omega arith) condition at);
+    }
+
 one-fails : (found : List Verdict) → found ≡ Fails ∷ [] → EachIsHolds found → ⊥
 one-fails found is each =
     let same : Fails ≡ Holds = subst EachIsHolds is each 0 Fails refl in absurd (let t = same in cc)
@@ -130,7 +160,7 @@ met-as options bytes file it Explore (inl explored) each = by-all options bytes 
 met-as options bytes file it Explore (inr other) each = absurd (one-fails (verdicts it.judged) other.1 each)
 met-as options bytes file it Test (inl explored) each = inl (by-all options bytes file it explored each)
 met-as options bytes file it Test (inr (inl tried)) each = inr (inl (by-tried options bytes file it tried each))
-met-as options bytes file it Test (inr (inr lines)) each = inr (inr (written it.script, it.reads, lines))
+met-as options bytes file it Test (inr (inr lines)) each = inr (inr (by-steps options bytes file it lines each))
 
 -- the same of a file with the same findings
 by-same : (options : Options) (bytes : List ℕ) (one other : FileReport) → verdicts one ≡ verdicts other → extents one ≡ extents other

@@ -6,6 +6,7 @@ use Rattle.guest_script.specs.Grammar.{Reads, content, written}
 use Rattle.guest_programs.specs.Programs.{IsProgram}
 use Rattle.guest_programs.specs.Steps.{task_of}
 use Rattle.outcome_statistics.specs.Records.{EachIs}
+use Rattle.sbiboard.specs.Running.{new_course}
 use Rattle.script_lines.specs.declared.script.Script.{Script}
 use Rattle.test_report.specs.Statuses.{extents, verdicts}
 use Rattle.test_report.specs.declared.report.FileReport.{FileReport}
@@ -17,6 +18,7 @@ use Rattle.test_report.specs.declared.verdict.Verdict.TheVariants.{Fails}
 use Rattle.test_terms.specs.declared.options.Options.{Options}
 use Rattle.all_orders.specs.Verdicts.{AreVerdicts, widest}
 use Rattle.tried_orders.specs.Verdicts.{AddsPoints, AreRunsOf, AreTriedOf, TellsOrders, TellsRuns}
+use Rattle.test_runner.specs.Steps.{AreFoundOfSteps}
 
 module _ (options : Options) (script : Script) (conditions : List Condition) where
   -- By all orders of a program, on its board with the widest limit, one verdict is found of each condition.
@@ -38,10 +40,15 @@ module _ (options : Options) (script : Script) (conditions : List Condition) whe
         file.is_cut conditions first file
     pub time : file.is_cut ≡ true → options.limit.seconds ≢ None
 
-  -- What is found of a script. `explore` looks at all orders of a program, and no other script has orders. `test` looks at all orders or at some. (What it finds of schedules and traces is tested.)
+  -- By the run of a schedule's or a trace's lines on a new board it is found whether they have the board's answers, and what their record says of each condition.
+  pub record AreStepsFound (found : List Verdict) : Type 0 where
+    pub other : ¬ IsProgram (content script.body)
+    pub are : AreFoundOfSteps script.config.harts (new_course script.config) (content script.body) conditions found
+
+  -- What is found of a script. `explore` looks at all orders of a program, and no other script has orders. `test` looks at all orders or at some, and does the lines of a schedule or a trace.
   abbrev pub IsFoundOf : Mode → FileReport → Type 0
   IsFoundOf Explore file = IsExplored (verdicts file) ⊎ ((¬ IsProgram (content script.body)) × (verdicts file ≡ Fails ∷ []))
-  IsFoundOf Test file = IsExplored (verdicts file) ⊎ AreTried file ⊎ (¬ IsProgram (content script.body))
+  IsFoundOf Test file = IsExplored (verdicts file) ⊎ AreTried file ⊎ AreStepsFound (verdicts file)
 
 -- What is found of bytes: they are this script and have these conditions, so much is found of these, and then something fails for each comment that looks like a condition.
 pub record IsFoundOfScript (options : Options) (bytes : List ℕ) (file : FileReport) : Type 0 where

@@ -2,4 +2,5 @@ pub mod Findings
 pub mod Meeting
 pub mod Records
 pub mod Reporting
+pub mod Steps
 pub mod Inside

@@ -1,12 +1,15 @@
 -- What a file's bytes meet if each of its points holds (profile).
-use Rattle.std.specs.Prelude.{◌≡◌, ◌≢◌, ◌⊎◌, ℕ, ◌+◌, ◌<◌, ◌==◌, if◌then◌else◌, List, [], ◌++◌, length, map, slice_get, None, true}
+use Rattle.std.specs.Prelude.{◌≡◌, ◌≢◌, ◌⊎◌, ℕ, ◌+◌, ◌<◌, ◌==◌, if◌then◌else◌, List, [], ◌++◌, length, map, slice_get, None, Some, true}
 use Rattle.conditions.specs.declared.reading.Condition.{Condition}
 use Rattle.conditions.specs.Grammar.{ReadsConditions, condition_value}
-use Rattle.guest_script.specs.Grammar.{Reads, Written}
+use Rattle.guest_script.specs.Grammar.{Reads, Trace, Written}
 use Rattle.guest_programs.specs.Programs.{IsProgram}
 use Rattle.guest_programs.specs.Steps.{task_of}
 use Rattle.outcome_statistics.specs.declared.judgement.Judgement.TheVariants as says
-use Rattle.outcome_statistics.specs.Records.{EachIs, Tried}
+use Rattle.outcome_statistics.specs.Records.{EachIs, Meets, Tried}
+use Rattle.script_lines.specs.declared.script.Line.{Line}
+use Rattle.sbiboard.specs.Check.{AllAgree}
+use Rattle.sbiboard.specs.Running.{new_course}
 use Rattle.test_report.specs.Statuses.{extents, verdicts}
 use Rattle.test_report.specs.declared.report.FileReport.{FileReport}
 use Rattle.test_report.specs.declared.report.Mode.{Mode}
@@ -16,6 +19,7 @@ use Rattle.test_report.specs.declared.verdict.Verdict.{Verdict}
 use Rattle.test_terms.specs.declared.options.Options.{Options}
 use Rattle.all_orders.specs.Verdicts.{HoldsSo, points_of, widest}
 use Rattle.tried_orders.specs.Verdicts.{AreRunsOf, AreTriedOf, HasNoMisfit, Say, TellsOrders, TellsRuns}
+use Rattle.test_runner.specs.Steps.{lines_in, record_of}
 
 -- The bytes are this program, and have these conditions.
 pub record IsProgramWith (bytes : List ℕ) (script : Written) (conditions : List Condition) : Type 0 where
@@ -59,11 +63,19 @@ pub record AreMetByTried (options : Options) (bytes : List ℕ) (file : FileRepo
   pub many : length (verdicts file) ≡ points_of conditions + (if options.runs == 0 then 0 else points_of conditions)
   pub time : file.is_cut ≡ true → options.limit.seconds ≢ None
 
--- The bytes are a schedule or a trace.
-abbrev pub IsStepScript : List ℕ → Type 0
-IsStepScript bytes = (script : Written) × Reads bytes script × (¬ IsProgram script.content)
+-- The bytes are a schedule or a trace. A trace's lines have the answers of a new board. The record of the lines meets each condition that the bytes have, of which a step of the board can have each word.
+pub record AreMetBySteps (bytes : List ℕ) : Type 0 where
+  pub script : Written
+  pub conditions : List Condition
+  pub reads : Reads bytes script
+  pub other : ¬ IsProgram script.content
+  pub have : ReadsConditions bytes (map condition_value conditions)
+  pub agree : (lines : List Line) → script.content ≡ Trace lines → AllAgree (new_course script.config) lines
+  pub each : (place : ℕ) (condition : Condition) → slice_get conditions place ≡ Some condition
+      → HasNoMisfit script.config.harts (Some condition)
+      × Meets condition.rule (record_of (new_course script.config) (lines_in script.content))
 
--- What is so of bytes if each point of their file holds. (What schedules and traces meet is tested.)
+-- What is so of bytes if each point of their file holds.
 abbrev pub AreAllMet : Options → Mode → List ℕ → FileReport → Type 0
 AreAllMet options Explore bytes file = AreMetByAll bytes (verdicts file)
-AreAllMet options Test bytes file = AreMetByAll bytes (verdicts file) ⊎ AreMetByTried options bytes file ⊎ IsStepScript bytes
+AreAllMet options Test bytes file = AreMetByAll bytes (verdicts file) ⊎ AreMetByTried options bytes file ⊎ AreMetBySteps bytes

@@ -1,4 +1,9 @@
 //! A board that does the lines of a schedule or a trace.
+ghost use Rattle.std.specs.Prelude.{◌≡◌, ◌++◌, [], IfOk, OnOk, reverse};
+ghost use Rattle.sbiboard.specs.Running.{after_line, answer_of};
+ghost use Rattle.test_runner.specs.Steps.{returned};
+ghost use Rattle.test_runner.specs.Inside.Stepping.{earlier};
+
 use crate::stale::Expected;
 use board_core::{Board, Event, Refusal, Reply};
 use guest_script::{Doing, KeptLine};
@@ -8,16 +13,19 @@ use test_report::{Note, RecordParts};
 /// A board that does a schedule or a trace, with the events before its cuts.
 #[derive(Drop)]
 pub(crate) struct Course {
-    board: Board,
+    pub(crate) board: Board,
     /// The events before each cut, since the one before.
-    segments: Vec<Vec<Event>>,
+    pub(crate) segments: Vec<Vec<Event>>,
     /// Stale accesses, and refused steps.
     pub(crate) noted: Vec<Note>,
 }
 
 impl Course {
     /// A board without a cut.
-    pub(crate) fn of(alloc: Global, board: Board) -> Course {
+    pub(crate) fn of(alloc: Global, board: Board) -> Course
+        ensures board { result.board ≡ board }
+        ensures none { result.segments.items ≡ [] }
+    {
         Course {
             board,
             segments: Vec::new(alloc),
@@ -30,7 +38,12 @@ impl Course {
         &mut self,
         alloc: Global,
         line: &KeptLine<'_>,
-    ) -> Result<Result<Reply, Refusal>, AllocError> {
+    ) -> Result<Result<Reply, Refusal>, AllocError>
+        ensures answer { IfOk result (λ answer. answer ≡ answer_of self.old.board line.now) }
+        ensures board { OnOk result (self.new.board ≡ after_line self.old.board line.now) }
+        ensures returned { OnOk result (earlier self.new.segments.items
+            ≡ earlier self.old.segments.items ++ returned self.old.board line.now.doing) }
+    {
         let Doing::Step { actor, op } = line.doing() else {
             let Ok(segment) = self.board.cut(alloc) else {
                 return Err(AllocError);
@@ -51,7 +64,9 @@ impl Course {
     }
 
     /// All events, also those before cuts, oldest first.
-    pub(crate) fn events(&self, alloc: Global) -> Result<Vec<Event>, AllocError> {
+    pub(crate) fn events(&self, alloc: Global) -> Result<Vec<Event>, AllocError>
+        ensures { IfOk result (λ events. events.items ≡ earlier self.now.segments.items ++ reverse self.now.board.past) }
+    {
         let mut events = Vec::new(alloc);
         for segment in self.segments.iter() {
             events.extend_from_slice(segment)?;
@@ -61,7 +76,9 @@ impl Course {
     }
 
     /// The record, whose events these are.
-    pub(crate) fn record<'a>(&'a self, events: &'a [Event]) -> RecordParts<'a> {
+    pub(crate) fn record<'a>(&'a self, events: &'a [Event]) -> RecordParts<'a>
+        ensures { result.events.now ≡ events.now }
+    {
         RecordParts {
             board: &self.board,
             segments: &self.segments,

@@ -18,4 +18,4 @@ returns-in_ok-test_steps-in-Test g c =
     let file = c.in_ok-test_steps-in-Test.field-0 in
     subst (λ (mode : Mode). IsFoundOf trial.options.now trial.script.now trial.case.conditions.now mode file)
     (sym c.in-Test.is)
-    (inr (inr (λ program. absurd (let is = c.is_program.ensures.1 program in let no = c.if-is_program.false in cc))))
+    (inr (inr (record { other = (λ program. absurd (let is = c.is_program.ensures.1 program in let no = c.if-is_program.false in cc)); are = c.in_ok-test_steps-in-Test.ensures })))
