@@ -1,0 +1,4 @@
+pub mod Turned
+pub mod Lists
+pub mod Opened
+pub mod Tracking

@@ -1,0 +1,156 @@
+//! What the TLB of one hart may hold for one address.
+ghost use Rattle.std.specs.Prelude.{◌≡◌, ◌<◌, ◌↔◌, [], ◌∷◌, IfOk, IsTrue, map};
+ghost use Rattle.std.specs.List.{All};
+ghost use Rattle.sv39.specs.Memory.{word_in};
+ghost use Rattle.tlb_model.specs.declared.cache.Numbered.{Numbered};
+ghost use Rattle.tlb_model.specs.Entries.{Entry};
+ghost use Rattle.hart_access.specs.Translations.{IsTranslated};
+ghost use Rattle.board_core.specs.Opening.{tlb_at};
+ghost use Rattle.any_tlb.specs.declared.watcher.Walking.TheVariants.{Had};
+ghost use Rattle.any_tlb.specs.Watch.{AgreesWithTables, logged, spared};
+ghost use Rattle.tlb_watch.specs.Effects.{effect_on};
+ghost use Rattle.tlb_watch.specs.Watched.{Watched, after_event, looked};
+
+use crate::effect::CacheEffect;
+use crate::hart_address::HartAddress;
+use any_tlb::{EntryWatch, Walks};
+use board_core::Opening;
+use std::alloc::{AllocError, Global};
+use std::marker::Model;
+use sv39::{Kind, Ram, Satp};
+use tlb_model::Entry;
+
+/// The entries that the TLB of one hart may hold for one address, and the walks by which more may come.
+#[derive(Drop)]
+pub struct AddressWatch {
+    at: HartAddress,
+    walks: Walks,
+    entries: EntryWatch,
+}
+
+impl Model for AddressWatch {
+    ghost use Rattle.tlb_watch.specs.Watched.{Watched};
+
+    ghost Value = { Watched };
+
+    ghost view = { λ w. record { at = w.at; walks = w.walks.items.items; entries = w.entries.entries.items } };
+
+    ghost use Rattle.std.specs.Prelude.{◌≡◌};
+
+    ghost invariant = { λ w. w.entries.va ≡ w.at.address };
+}
+
+impl AddressWatch {
+    /// What is watched of the address at an opening: the entries that live in the hart's TLB, and those that walks may give by this
+    /// RAM and the hart's satp.
+    ///
+    /// # Errors
+    ///
+    /// Out of memory.
+    pub fn new(
+        alloc: Global,
+        opening: &Opening,
+        at: HartAddress,
+        ram: &Ram,
+        satp: Satp,
+    ) -> Result<AddressWatch, AllocError>
+        requires { at.hart < opening.now.config.harts }
+        ensures { IfOk result (λ w. w ≡ looked (word_in ram.now) at (Had satp ∷ [])
+            (map (λ (fill : Numbered Entry). fill.item) (tlb_at opening.now at.hart).live)) }
+    {
+        let mut walks = Walks::new(alloc);
+        walks.has(satp)?;
+        let mut entries = EntryWatch {
+            va: at.address,
+            entries: live_entries(alloc, opening, at.hart)?,
+        };
+        entries.watch(alloc, ram, &walks)?;
+        Ok(AddressWatch { at, walks, entries })
+    }
+
+    /// The address and its hart.
+    pub fn at(&self) -> HartAddress
+        ensures { result ≡ self.now.at }
+    {
+        self.at
+    }
+
+    /// An event with this effect happened. The RAM and the hart's satp are those after it.
+    ///
+    /// # Errors
+    ///
+    /// Out of memory. Then what is watched has no meaning any more.
+    pub fn happened(
+        &mut self,
+        alloc: Global,
+        effect: CacheEffect,
+        ram: &Ram,
+        satp: Satp,
+    ) -> Result<(), AllocError>
+        ensures after { IfOk result (λ _. self.new
+            ≡ after_event (effect_on effect self.old.at.hart) (word_in ram.now) satp self.old) }
+    {
+        self.apply(effect)?;
+        self.walks.has(satp)?;
+        self.entries.watch(alloc, ram, &self.walks)
+    }
+
+    /// Drops what the effect ends at the hart, and notes it for walks.
+    fn apply(&mut self, effect: CacheEffect) -> Result<(), AllocError>
+        ensures at { IfOk result (λ _. self.new.at ≡ self.old.at) }
+        ensures walks { IfOk result (λ _. self.new.walks ≡ logged (effect_on effect self.old.at.hart) self.old.walks) }
+        ensures entries { IfOk result
+            (λ _. self.new.entries ≡ spared (effect_on effect self.old.at.hart) self.old.entries) }
+    {
+        match effect {
+            CacheEffect::Nothing => {}
+            CacheEffect::Applied(hart, flush) => {
+                if hart == self.at.hart {
+                    self.walks.fence(flush)?;
+                    self.entries.fence(flush);
+                }
+            }
+            CacheEffect::Reset => {
+                self.walks.clear();
+                self.entries.clear();
+            }
+        }
+        Ok(())
+    }
+
+    /// Whether an access of this kind to the address is steady, with this RAM and the hart's satp: each watched entry that matches
+    /// gives it what the page tables give.
+    pub fn is_steady(&self, ram: &Ram, satp: Satp, kind: Kind) -> bool
+        ensures { IsTrue result ↔ (IsTranslated satp self.now.at.address
+            → All (AgreesWithTables (word_in ram.now) satp self.now.at.address kind) self.now.entries) }
+    {
+        !is_translated(satp, self.at.address) || self.entries.is_steady(ram, satp, kind)
+    }
+}
+
+/// The entries that live in a hart's TLB at an opening, newest first.
+///
+/// # Errors
+///
+/// Out of memory.
+fn live_entries(alloc: Global, opening: &Opening, h: u64) -> Result<Vec<Entry>, AllocError>
+    requires { h < opening.now.config.harts }
+    ensures { IfOk result (λ entries. entries.items
+        ≡ map (λ (fill : Numbered Entry). fill.item) (tlb_at opening.now h).live) }
+{
+    // (its look-ups determine an opening)
+    let _whole = opening.config();
+    let mut entries = Vec::new(alloc);
+    for fill in opening.view().tlb(h) {
+        entries.push(fill.item)?;
+    }
+    entries.reverse();
+    Ok(entries)
+}
+
+/// Whether satp translates the address: it is aligned to 8 (profile), and valid by satp's paging mode.
+fn is_translated(satp: Satp, va: u64) -> bool
+    ensures { IsTrue result ↔ IsTranslated satp va }
+{
+    va.is_multiple_of(8) && satp.translates() && satp.is_valid(va)
+}
