@@ -7,12 +7,12 @@ use Rattle.script_lines.specs.declared.said_name.SaidName.{SaidName}
 use Rattle.condition_script.specs.declared.items.Item.{Item}
 use Rattle.condition_script.specs.declared.items.Item.TheVariants.{Word}
 use Rattle.conditions.specs.declared.misfits.Misfit.{Misfit}
-use Rattle.conditions.specs.declared.misfits.Misfit.TheVariants.{NoReply}
+use Rattle.conditions.specs.declared.misfits.Misfit.TheVariants.{NoAnswer, NoReply}
 use Rattle.condition_script.specs.declared.names.Name.TheVariants.{Op, Said}
 use Rattle.condition_script.specs.declared.patterns.Pattern.{Pattern}
 use Rattle.condition_script.specs.declared.rules.Rule.{Rule}
-use Rattle.conditions.specs.Inside.Held.{HasHeldAt, HasRightAt, no_reply}
-use Rattle.conditions.specs.Misfits.{IsAnswerMisfit, IsMisfit, IsOpMisfit, IsReplyMisfit, IsWrongInReply, OpCanHave, IsWordAt, is_reply_to}
+use Rattle.conditions.specs.Inside.Held.{HasHeldAt, HasRightAt, no_answer, no_reply}
+use Rattle.conditions.specs.Misfits.{IsAnswerMisfit, IsMisfit, IsOpMisfit, IsReplyMisfit, IsWrongAnswer, IsWrongInReply, MeansOp, OpCanHave, IsWordAt, can_answer, is_reply_to}
 
 -- ---- an operation's words
 
@@ -62,16 +62,16 @@ pub no-reply-misfit : (harts : ℕ) (p : Pattern) (said : SaidName) (n : ℕ) �
     → RightBefore harts p said n → (any : Misfit) → ¬ IsReplyMisfit harts p any
 no-reply-misfit harts p said n named long before any is =
     let within : is.place < length p.reply.items = slice_get_within p.reply.items is.place (Some is.item) is.stands in
-    let P : SaidName → Type 0 = λ name. IsWrongInReply harts name is.place is.item any in
+    let P : SaidName → Type 0 = λ name. IsWrongInReply harts p name is.place is.item any in
     before is.place (omega arith) is.behind is.item is.stands any (subst P (sym (same-said p.reply.items said is.said named is.named)) is.wrong)
 
 pub reply-at : (harts : ℕ) (p : Pattern) (said : SaidName) (place : ℕ) → IsWordAt p.reply.items 0 (Word (Said said)) → 1 ≤ place
     → (item : Item) → IsWordAt p.reply.items place item → (o : Option Misfit)
-    → MatchOption o ((any : Misfit) → ¬ IsWrongInReply harts said place item any) (IsWrongInReply harts said place item)
+    → MatchOption o ((any : Misfit) → ¬ IsWrongInReply harts p said place item any) (IsWrongInReply harts p said place item)
     → MatchOption o (HasRightAt harts p said place) (IsReplyMisfit harts p)
 reply-at harts p said place named behind item stands None right = λ other at any wrong.
     let same : other ≡ item = same_Some other item (same_Some (Some other) (Some item) (sym at ∙ stands)) in
-    let P : Item → Type 0 = λ x. IsWrongInReply harts said place x any in
+    let P : Item → Type 0 = λ x. IsWrongInReply harts p said place x any in
     right any (subst P same wrong)
 reply-at harts p said place named behind item stands (Some misfit) wrong = record {
   said = said;
@@ -92,24 +92,47 @@ none-or A B (Some misfit) first is = inr is
 
 -- ---- an operation and a reply
 
-kind-by : (p : Pattern) (op : OpName) (said : SaidName) (can : Bool) → is_reply_to op said ≡ can → IsWordAt p.step.items 1 (Word (Op op))
+same-meant : (p : Pattern) (a b : OpName) → MeansOp p a → MeansOp p b → a ≡ b
+same-meant p a b (inl first) (inl second) = first.1 ∙ sym second.1
+same-meant p a b (inl first) (inr second) = absurd (second.0 first.0)
+same-meant p a b (inr first) (inl second) = absurd (first.0 second.0)
+same-meant p a b (inr first) (inr second) = same-op p.step.items a b first.1 second.1
+
+kind-by : (p : Pattern) (op : OpName) (said : SaidName) (can : Bool) → is_reply_to op said ≡ can → MeansOp p op
     → IsWordAt p.reply.items 0 (Word (Said said)) → (found : Option Misfit) → found ≡ (if can then None else Some (NoReply op said))
     → MatchOption found ((any : Misfit) → ¬ IsAnswerMisfit p any) (IsAnswerMisfit p)
-kind-by p op said true is named replied found same = rw same (λ any x.
+kind-by p op said true is meant replied found same = rw same (λ any x.
     let P : OpName → SaidName → Type 0 = λ o s. is_reply_to o s ≡ true in
-    let on-op : is_reply_to x.op said ≡ true = subst (λ o. P o said) (same-op p.step.items op x.op named x.named) is in
+    let on-op : is_reply_to x.op said ≡ true = subst (λ o. P o said) (same-meant p op x.op meant x.meant) is in
     let on-said : is_reply_to x.op x.said ≡ true = subst (λ s. P x.op s) (same-said p.reply.items said x.said replied x.replied) on-op in
     let clash = sym x.unheld ∙ on-said in
     cc)
-kind-by p op said false is named replied found same =
-    rw same (record { op = op; named = named; said = said; replied = replied; unheld = is; told = refl })
+kind-by p op said false is meant replied found same =
+    rw same (record { op = op; meant = meant; said = said; replied = replied; unheld = is; told = refl })
 
 pub kind-of : (p : Pattern) (op : Option OpName) (said : Option SaidName) (found : Option Misfit)
-    → ((o : OpName) → (op ≡ Some o) ↔ IsWordAt p.step.items 1 (Word (Op o))) → ((s : SaidName) → (said ≡ Some s) ↔ IsWordAt p.reply.items 0 (Word (Said s)))
+    → ((o : OpName) → (op ≡ Some o) ↔ MeansOp p o) → ((s : SaidName) → (said ≡ Some s) ↔ IsWordAt p.reply.items 0 (Word (Said s)))
     → found ≡ no_reply op said → MatchOption found ((any : Misfit) → ¬ IsAnswerMisfit p any) (IsAnswerMisfit p)
 kind-of p (Some op) (Some said) found ops saids same = kind-by p op said (is_reply_to op said) refl ((ops op).0 refl) ((saids said).0 refl) found same
 kind-of p (Some op) None found ops saids same = rw same (λ any x. none-some x.said ((saids x.said).1 x.replied))
-kind-of p None said found ops saids same = rw same (λ any x. none-some x.op ((ops x.op).1 x.named))
+kind-of p None said found ops saids same = rw same (λ any x. none-some x.op ((ops x.op).1 x.meant))
+
+-- ---- an operation and a word of its reply
+
+answer-by : (p : Pattern) (op : OpName) (said : SaidName) (item : Item) (can : Bool) → can_answer said op item ≡ can → MeansOp p op
+    → (found : Option Misfit) → found ≡ (if can then None else Some (NoAnswer op said item))
+    → MatchOption found ((any : Misfit) → ¬ IsWrongAnswer p said item any) (IsWrongAnswer p said item)
+answer-by p op said item true is meant found same = rw same (λ any x.
+    let on-op : can_answer said x.0 item ≡ true = subst (λ o. can_answer said o item ≡ true) (same-meant p op x.0 meant x.1) is in
+    let clash = sym x.2 ∙ on-op in
+    cc)
+answer-by p op said item false is meant found same = rw same (op, meant, is, refl)
+
+pub answer-of : (p : Pattern) (op : Option OpName) (said : SaidName) (item : Item) (found : Option Misfit)
+    → ((o : OpName) → (op ≡ Some o) ↔ MeansOp p o) → found ≡ no_answer op said item
+    → MatchOption found ((any : Misfit) → ¬ IsWrongAnswer p said item any) (IsWrongAnswer p said item)
+answer-of p (Some op) said item found ops same = answer-by p op said item (can_answer said op item) refl ((ops op).0 refl) found same
+answer-of p None said item found ops same = rw same (λ any x. none-some x.0 ((ops x.0).1 x.1))
 
 -- ---- conditions
 
