@@ -3,16 +3,17 @@ use Rattle.std.proofs.Common.{◌≡◌, ℕ, ◌+◌, ◌<◌, ◌≤◌, Bool,
 use Rattle.std.specs.Prelude.{◌↔◌, if◌then◌else◌, MatchOption, Option, Some, None}
 use Rattle.std.proofs.lemmas.Option.{none-some, same_Some, slice_get_within}
 use Rattle.script_lines.specs.declared.op_name.OpName.{OpName}
+use Rattle.script_lines.specs.declared.op_name.OpName.TheVariants.{Tick}
 use Rattle.script_lines.specs.declared.said_name.SaidName.{SaidName}
 use Rattle.condition_script.specs.declared.items.Item.{Item}
 use Rattle.condition_script.specs.declared.items.Item.TheVariants.{Word}
 use Rattle.conditions.specs.declared.misfits.Misfit.{Misfit}
-use Rattle.conditions.specs.declared.misfits.Misfit.TheVariants.{NoAnswer, NoReply}
+use Rattle.conditions.specs.declared.misfits.Misfit.TheVariants.{NoReply}
 use Rattle.condition_script.specs.declared.names.Name.TheVariants.{Op, Said}
 use Rattle.condition_script.specs.declared.patterns.Pattern.{Pattern}
 use Rattle.condition_script.specs.declared.rules.Rule.{Rule}
-use Rattle.conditions.specs.Inside.Held.{HasHeldAt, HasRightAt, no_answer, no_reply}
-use Rattle.conditions.specs.Misfits.{IsAnswerMisfit, IsMisfit, IsOpMisfit, IsReplyMisfit, IsWrongAnswer, IsWrongInReply, MeansOp, OpCanHave, IsWordAt, can_answer, is_reply_to}
+use Rattle.conditions.specs.Inside.Held.{HasAnswer, HasHeldAt, HasNoAnswer, HasRightAt, IsDoneBy, meant, no_reply}
+use Rattle.conditions.specs.Misfits.{CanDo, IsAnswerMisfit, IsClocks, IsDoerMisfit, IsMisfit, IsOpMisfit, IsReplyMisfit, IsWrongAnswer, IsWrongInReply, MeansOp, OpCanHave, IsWordAt, is_reply_to}
 
 -- ---- an operation's words
 
@@ -119,20 +120,32 @@ kind-of p None said found ops saids same = rw same (λ any x. none-some x.op ((o
 
 -- ---- an operation and a word of its reply
 
-answer-by : (p : Pattern) (op : OpName) (said : SaidName) (item : Item) (can : Bool) → can_answer said op item ≡ can → MeansOp p op
-    → (found : Option Misfit) → found ≡ (if can then None else Some (NoAnswer op said item))
-    → MatchOption found ((any : Misfit) → ¬ IsWrongAnswer p said item any) (IsWrongAnswer p said item)
-answer-by p op said item true is meant found same = rw same (λ any x.
-    let on-op : can_answer said x.0 item ≡ true = subst (λ o. can_answer said o item ≡ true) (same-meant p op x.0 meant x.1) is in
-    let clash = sym x.2 ∙ on-op in
-    cc)
-answer-by p op said item false is meant found same = rw same (op, meant, is, refl)
-
 pub answer-of : (p : Pattern) (op : Option OpName) (said : SaidName) (item : Item) (found : Option Misfit)
-    → ((o : OpName) → (op ≡ Some o) ↔ MeansOp p o) → found ≡ no_answer op said item
+    → ((o : OpName) → (op ≡ Some o) ↔ MeansOp p o) → MatchOption found (HasAnswer op said item) (HasNoAnswer op said item)
     → MatchOption found ((any : Misfit) → ¬ IsWrongAnswer p said item any) (IsWrongAnswer p said item)
-answer-of p (Some op) said item found ops same = answer-by p op said item (can_answer said op item) refl ((ops op).0 refl) found same
-answer-of p None said item found ops same = rw same (λ any x. none-some x.0 ((ops x.0).1 x.1))
+answer-of p op said item None ops has = λ any x. x.2 (has x.0 ((ops x.0).1 x.1))
+answer-of p op said item (Some misfit) ops has = (has.0, (ops has.0).0 has.1, has.2, has.3)
+
+-- ---- an actor and its operation
+
+pub meant-of : (p : Pattern) (is_clocks : Bool) (named found : Option OpName) → (is_clocks ≡ true) ↔ IsClocks p
+    → ((o : OpName) → (named ≡ Some o) ↔ IsWordAt p.step.items 1 (Word (Op o))) → found ≡ meant is_clocks named
+    → (o : OpName) → (found ≡ Some o) ↔ MeansOp p o
+meant-of p true named found clocks is same o = rw same (
+  (λ e. inl (clocks.0 refl, sym (same_Some Tick o e))),
+  (λ m. elim m [ inl a ↦ ap Some (sym a.1) | inr b ↦ absurd (b.0 (clocks.0 refl)) ]),
+)
+meant-of p false named found clocks is same o = rw same (
+  (λ e. inr ((λ at. let clash = clocks.1 at in cc), (is o).0 e)),
+  (λ m. elim m [ inl a ↦ absurd (let clash = clocks.1 a.0 in cc) | inr b ↦ (is o).1 b.1 ]),
+)
+
+pub done-at : (p : Pattern) (actor : Item) → IsWordAt p.step.items 0 actor → (found : Option Misfit)
+    → MatchOption found (IsDoneBy p actor) (IsDoerMisfit p) → MatchOption found ((any : Misfit) → ¬ IsDoerMisfit p any) (IsDoerMisfit p)
+done-at p actor stands None done = λ any is.
+    let same : actor ≡ is.actor = same_Some actor is.actor (same_Some (Some actor) (Some is.actor) (sym stands ∙ is.stands)) in
+    is.unable (subst (λ a. CanDo a is.op) same (done is.op is.named))
+done-at p actor stands (Some misfit) is = is
 
 -- ---- conditions
 

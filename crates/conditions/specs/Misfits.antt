@@ -39,15 +39,15 @@ CanDo Absent op = ⊥
 -- Whether a number is the cause of a fault of such an access: its address is misaligned, or outside of the RAM, or the page tables don't
 -- allow it (Privileged 4.1.8).
 abbrev pub is_cause_of : Kind → ℕ → Bool
-is_cause_of kind n = n == cause_number (misaligned kind) || (n == cause_number (access_fault kind) || n == cause_number (page_fault kind))
+is_cause_of kind n = (n == cause_number (misaligned kind) || n == cause_number (access_fault kind)) || n == cause_number (page_fault kind)
 
 -- Whether it is the cause of a fault of some access.
 abbrev pub is_cause : ℕ → Bool
-is_cause n = is_cause_of kinds.Fetch n || (is_cause_of kinds.Load n || is_cause_of kinds.Store n)
+is_cause n = (is_cause_of kinds.Fetch n || is_cause_of kinds.Load n) || is_cause_of kinds.Store n
 
 -- Whether a hart can be brought to a state of this number, without an entry or a return: STOPPED, SUSPENDED or RESUME_PENDING (SBI 9).
 abbrev pub is_moved_to : ℕ → Bool
-is_moved_to n = n == 1 || (n == 4 || n == 6)
+is_moved_to n = (n == 1 || n == 4) || n == 6
 
 -- What a reply can have in a place behind its name, from 1. The error of `ret` is 0 or one of -1 to -8 (SBI 3).
 abbrev pub ReplyCanHave : SaidName → ℕ → Item → Type 0
@@ -86,33 +86,24 @@ is_reply_to Advance saids.Ret = true
 is_reply_to Tick saids.Done = true
 is_reply_to op said = false
 
--- Whether a word is the cause of a fault of this operation.
-abbrev pub is_fault_of : OpName → Item → Bool
-is_fault_of Load (Number n) = is_cause_of kinds.Load n
-is_fault_of Store (Number n) = is_cause_of kinds.Store n
-is_fault_of Fetch (Number n) = is_cause_of kinds.Fetch n
-is_fault_of op item = false
+-- Whether a number is the cause of a fault of this access.
+abbrev pub IsCauseBy : OpName → ℕ → Type 0
+IsCauseBy op n =
+    (op ≡ Load → is_cause_of kinds.Load n ≡ true) × (op ≡ Store → is_cause_of kinds.Store n ≡ true)
+    × (op ≡ Fetch → is_cause_of kinds.Fetch n ≡ true)
 
--- Whether this operation can read a word: `sip` reads SSIP in bit 1 and STIP in bit 5 (Privileged 4.1.3), an access any value.
-abbrev pub is_read_by : OpName → Item → Bool
-is_read_by Sip (Number n) = n == 0 || (n == 2 || (n == 32 || n == 34))
-is_read_by Sip item = false
-is_read_by op item = true
+-- Whether `sip` can read a number: SSIP is bit 1, STIP bit 5 (Privileged 4.1.3).
+abbrev pub is_pending : ℕ → Bool
+is_pending n = (n == 0 || n == 2) || (n == 32 || n == 34)
 
--- Whether this operation can return a word: the end of a fence call and of a suspend return two zeros (SBI 8, 9), a call any.
-abbrev pub is_returned_by : OpName → Item → Bool
-is_returned_by Poll (Number n) = n == 0
-is_returned_by Poll item = false
-is_returned_by Advance (Number n) = n == 0
-is_returned_by Advance item = false
-is_returned_by op item = true
-
--- Whether a word can stand behind the name of an operation's reply.
-abbrev pub can_answer : SaidName → OpName → Item → Bool
-can_answer saids.Fault op item = is_fault_of op item
-can_answer saids.Value op item = is_read_by op item
-can_answer saids.Ret op item = is_returned_by op item
-can_answer said op item = true
+-- What an operation can have behind the name of its reply: its access's causes; what `sip` can read; and 0, where a fence call or a suspend
+-- ends (SBI 8, 9). Only a call returns errors.
+abbrev pub CanAnswer : OpName → SaidName → Item → Type 0
+CanAnswer op said (Number n) =
+    (said ≡ saids.Fault → IsCauseBy op n) × (said ≡ saids.Value → op ≡ Sip → is_pending n ≡ true) × (said ≡ saids.Ret → op ≢ Ecall → n ≡ 0)
+CanAnswer op said (Below n) = op ≡ Ecall
+CanAnswer op said Absent = ⊥
+CanAnswer op said (Word name) = ⊥
 
 -- The actor of a pattern is the clock.
 abbrev pub IsClocks : Pattern → Type 0
@@ -154,7 +145,7 @@ pub record IsAnswerMisfit (p : Pattern) (misfit : Misfit) : Type 0 where
 -- The operation of a pattern can't have this word in its reply.
 abbrev pub IsWrongAnswer : Pattern → SaidName → Item → Misfit → Type 0
 IsWrongAnswer p said item misfit =
-    (op : OpName) × MeansOp p op × (can_answer said op item ≡ false) × (misfit ≡ NoAnswer op said item)
+    (op : OpName) × MeansOp p op × (¬ CanAnswer op said item) × (misfit ≡ NoAnswer op said item)
 
 module _ (harts : ℕ) where
   -- The word is a hart that a board with so many harts doesn't have.

@@ -6,8 +6,8 @@ ghost use Rattle.script_lines.specs.declared.op_name.OpName.{OpName as OpValue};
 ghost use Rattle.script_lines.specs.declared.said_name.SaidName.{SaidName as SaidValue};
 ghost use Rattle.conditions.specs.declared.misfits.Misfit.{Misfit as MisfitValue};
 ghost use Rattle.condition_script.specs.declared.names.Name.TheVariants as names;
-ghost use Rattle.conditions.specs.Misfits.{CanDo, IsActorMisfit, IsAnswerMisfit, IsClocks, IsDoerMisfit, IsMisfit, IsMisfitOf, IsOpMisfit, IsReplyMisfit, IsWordAt, IsWrongAnswer, IsWrongInReply, IsWrongWord, MeansOp, OpCanHave, ReplyCanHave, can_answer, is_cause, is_cause_of, is_fault_of, is_moved_to, is_read_by, is_reply_to, is_returned_by};
-ghost use Rattle.conditions.specs.Inside.Held.{HasHeldAt, HasRightAt, no_answer, no_reply};
+ghost use Rattle.conditions.specs.Misfits.{CanAnswer, CanDo, IsCauseBy, IsActorMisfit, IsAnswerMisfit, IsClocks, IsDoerMisfit, IsMisfit, IsMisfitOf, IsOpMisfit, IsReplyMisfit, IsWordAt, IsWrongAnswer, IsWrongInReply, IsWrongWord, MeansOp, OpCanHave, ReplyCanHave, is_cause, is_cause_of, is_moved_to, is_pending, is_reply_to};
+ghost use Rattle.conditions.specs.Inside.Held.{HasAnswer, HasHeldAt, HasNoAnswer, HasRightAt, IsDoneBy, meant, no_reply};
 
 use condition_script::{Item, Name, Pattern, Rule};
 use script_lines::{OpName, SaidName};
@@ -104,18 +104,21 @@ fn no_reply(op: Option<OpName>, said: Option<SaidName>) -> Option<Misfit>
 fn op_meant(p: &Pattern) -> Option<OpName>
     ensures { (op : OpValue) → (result ≡ Some op) ↔ MeansOp p.now op }
 {
-    if is_clocks(p) {
-        Some(OpName::Tick)
-    } else {
-        op_of(p)
-    }
+    meant(is_clocks(p), op_of(p))
+}
+
+/// What a pattern means, by whether its actor is the clock, and by the operation that it names.
+fn meant(is_clocks: bool, named: Option<OpName>) -> Option<OpName>
+    ensures { result ≡ meant is_clocks named }
+{
+    if is_clocks { Some(OpName::Tick) } else { named }
 }
 
 /// Whether the actor of a pattern is the clock.
 fn is_clocks(p: &Pattern) -> bool
     ensures { (result ≡ true) ↔ IsClocks p.now }
 {
-    p.step.first() == Some(&Some(Item::Word(Name::Clock)))
+    p.step.get(0) == Some(&Some(Item::Word(Name::Clock)))
 }
 
 /// The operation of a pattern, unless it is `_` or missing.
@@ -181,8 +184,18 @@ fn in_operation(p: &Pattern) -> Option<Misfit>
 fn in_doer(p: &Pattern) -> Option<Misfit>
     ensures { MatchOption result ((any : MisfitValue) → ¬ IsDoerMisfit p.now any) (IsDoerMisfit p.now) }
 {
-    match p.step.first() {
-        Some(Some(actor)) => undone_by(p, *actor),
+    match actor_of(p) {
+        Some(actor) => undone_by(p, actor),
+        None => None,
+    }
+}
+
+/// The actor of a pattern, unless it is `_`.
+fn actor_of(p: &Pattern) -> Option<Item>
+    ensures { (item : Value) → (result ≡ Some item) ↔ IsWordAt p.now.step.items 0 item }
+{
+    match p.step.get(0) {
+        Some(Some(item)) => Some(*item),
         _ => None,
     }
 }
@@ -190,10 +203,12 @@ fn in_doer(p: &Pattern) -> Option<Misfit>
 /// The pattern's operation, if this actor of it can't do it.
 fn undone_by(p: &Pattern, actor: Item) -> Option<Misfit>
     requires { IsWordAt p.now.step.items 0 actor }
-    ensures { MatchOption result ((any : MisfitValue) → ¬ IsDoerMisfit p.now any) (IsDoerMisfit p.now) }
+    ensures { MatchOption result (IsDoneBy p.now actor) (IsDoerMisfit p.now) }
 {
     match p.step.get(1) {
-        Some(Some(Item::Word(Name::Op(op)))) if !can_do(actor, *op) => Some(Misfit::OtherActor(*op)),
+        Some(Some(Item::Word(Name::Op(op)))) if !can_do(actor, *op) => Some(Misfit::OtherActor(
+            *op,
+        )),
         _ => None,
     }
 }
@@ -205,7 +220,7 @@ fn can_do(actor: Item, op: OpName) -> bool
     match actor {
         Item::Word(Name::Clock) => op == OpName::Tick,
         Item::Number(_) => op != OpName::Tick,
-        Item::Word(_) | Item::Below(_) | Item::Absent => false,
+        Item::Word(Name::Op(_) | Name::Said(_)) | Item::Below(_) | Item::Absent => false,
     }
 }
 
@@ -300,7 +315,13 @@ fn reply_word(p: &Pattern, place: usize) -> Option<Item>
 }
 
 /// Why a word can't stand in this place behind the name of a pattern's reply.
-fn wrong_in_reply(p: &Pattern, harts: u64, said: SaidName, place: usize, item: Item) -> Option<Misfit>
+fn wrong_in_reply(
+    p: &Pattern,
+    harts: u64,
+    said: SaidName,
+    place: usize,
+    item: Item,
+) -> Option<Misfit>
     ensures { MatchOption result ((any : MisfitValue) → ¬ IsWrongInReply harts p.now said place item any)
         (IsWrongInReply harts p.now said place item) }
 {
@@ -335,67 +356,49 @@ fn wrong_answer(p: &Pattern, said: SaidName, item: Item) -> Option<Misfit>
     no_answer(op_meant(p), said, item)
 }
 
-/// A word of a reply that an operation can't have.
+/// A word of a reply that an operation can't have, if there is one.
 fn no_answer(op: Option<OpName>, said: SaidName, item: Item) -> Option<Misfit>
-    ensures { result ≡ no_answer op said item }
+    ensures { MatchOption result (HasAnswer op said item) (HasNoAnswer op said item) }
 {
     match op {
-        Some(op) => {
-            if can_answer(said, op, item) {
-                None
-            } else {
-                Some(Misfit::NoAnswer(op, said, item))
-            }
-        }
-        None => None,
+        Some(op) if !can_answer(op, said, item) => Some(Misfit::NoAnswer(op, said, item)),
+        _ => None,
     }
 }
 
-/// Whether a word can stand behind the name of an operation's reply.
-fn can_answer(said: SaidName, op: OpName, item: Item) -> bool
-    ensures { result ≡ can_answer said op item }
+/// Whether an operation can have this word behind the name of its reply.
+fn can_answer(op: OpName, said: SaidName, item: Item) -> bool
+    ensures { (result ≡ true) ↔ CanAnswer op said item }
 {
-    match said {
-        SaidName::Fault => is_fault_of(op, item),
-        SaidName::Value => is_read_by(op, item),
-        SaidName::Ret => is_returned_by(op, item),
-        SaidName::Waiting | SaidName::Gone | SaidName::Entry | SaidName::Served => true,
-        SaidName::Moved | SaidName::Done | SaidName::Refused => true,
+    match item {
+        Item::Number(n) => match said {
+            SaidName::Fault => is_cause_by(op, n),
+            SaidName::Value => op != OpName::Sip || is_pending(n),
+            SaidName::Ret => op == OpName::Ecall || n == 0,
+            _ => true,
+        },
+        Item::Below(_) => op == OpName::Ecall,
+        Item::Absent | Item::Word(_) => false,
     }
 }
 
-/// Whether a word is the cause of a fault of this operation.
-fn is_fault_of(op: OpName, item: Item) -> bool
-    ensures { result ≡ is_fault_of op item }
+/// Whether a number is the cause of a fault of this access.
+fn is_cause_by(op: OpName, n: u64) -> bool
+    ensures { (result ≡ true) ↔ IsCauseBy op n }
 {
-    match (op, item) {
-        (OpName::Load, Item::Number(n)) => is_cause_of(Kind::Load, n),
-        (OpName::Store, Item::Number(n)) => is_cause_of(Kind::Store, n),
-        (OpName::Fetch, Item::Number(n)) => is_cause_of(Kind::Fetch, n),
-        _ => false,
-    }
-}
-
-/// Whether this operation can read a word.
-fn is_read_by(op: OpName, item: Item) -> bool
-    ensures { result ≡ is_read_by op item }
-{
-    match (op, item) {
-        (OpName::Sip, Item::Number(n)) => n == 0 || n == 2 || n == 32 || n == 34,
-        (OpName::Sip, _) => false,
+    match op {
+        OpName::Load => is_cause_of(Kind::Load, n),
+        OpName::Store => is_cause_of(Kind::Store, n),
+        OpName::Fetch => is_cause_of(Kind::Fetch, n),
         _ => true,
     }
 }
 
-/// Whether this operation can return a word.
-fn is_returned_by(op: OpName, item: Item) -> bool
-    ensures { result ≡ is_returned_by op item }
+/// Whether `sip` can read a number.
+fn is_pending(n: u64) -> bool
+    ensures { result ≡ is_pending n }
 {
-    match (op, item) {
-        (OpName::Poll | OpName::Advance, Item::Number(n)) => n == 0,
-        (OpName::Poll | OpName::Advance, _) => false,
-        _ => true,
-    }
+    (n == 0 || n == 2) || (n == 32 || n == 34)
 }
 
 /// Whether a number is the cause of a fault of some access.

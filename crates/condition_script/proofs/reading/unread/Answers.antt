@@ -4,7 +4,7 @@ use Rattle.condition_script.proofs.reading.unread.Goals as goal
 
 pub returns-in-Ok : goal.returns-in-Ok
 returns-in-Ok c = inr (
-  refl,
+  c.wrong_at.ensures,
   record {
     many = c.in-Ok.many;
     is_longest = subst (λ ws. IsLongestBeginning ws c.in-Ok.many) c.requires c.in-Ok.ensures;
