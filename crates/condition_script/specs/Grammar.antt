@@ -255,7 +255,7 @@ from_comment (b ∷ text) = if is_hash b then b ∷ text else from_comment text
 
 -- whether a text begins with `#!`
 abbrev pub is_marked : List ℕ → Bool
-is_marked text = bytes_eq (take 2 text) (codes "#!")
+is_marked text = bytes_eq (codes "#!") (take 2 text)
 
 -- `#!` at the beginning of a comment, as a word
 abbrev pub mark_word : List ℕ → List (List ℕ)

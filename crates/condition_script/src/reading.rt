@@ -1,7 +1,7 @@
 //! The conditions of a script's text, read from its comments.
-ghost use Rattle.std.specs.Prelude.{◌≡◌, ◌≢◌, ◌⊎◌, ℕ, IfErr, IfOk, List, MatchOption, MatchResult, false, map, true};
+ghost use Rattle.std.specs.Prelude.{◌≡◌, ◌≢◌, ◌↔◌, ◌⊎◌, ℕ, IfErr, IfOk, List, MatchOption, MatchResult, false, map, true};
 ghost use Rattle.condition_script.specs.FirstFault.{IsFaultColumn, IsFaulty, IsUnreadable};
-ghost use Rattle.condition_script.specs.Grammar.{BeginsAsking, IsAsking, IsSilent, ReadsConditions, ConditionValue, asked_words, condition_value, from_comment, is_marked};
+ghost use Rattle.condition_script.specs.Grammar.{BeginsAsking, IsAsking, IsShebang, IsSilent, ReadsConditions, ConditionValue, asked_words, condition_value, from_comment, is_marked};
 ghost use Rattle.condition_script.specs.Inside.Reading.{IsLineRead, IsPut, texts};
 
 use crate::asking::asked_rule;
@@ -135,10 +135,29 @@ fn wrong_at(words: &[Word<'_>], many: usize, wrong: Wrong) -> Wrong
 fn asked(line: u64, text: &[u8]) -> Option<&[u8]>
     ensures { MatchOption result (IsSilent line text.now) (λ rest. IsAsking line text.now rest.now) }
 {
-    if line == 1 && text.starts_with(b"#!/") {
-        return None;
+    match asked_in(text) {
+        Some(rest) => unless_shebang(line, text, rest),
+        None => None,
     }
-    asked_in(text)
+}
+
+/// What is asked behind a `#!`, unless it names the program that runs the script.
+fn unless_shebang<'a>(line: u64, text: &[u8], rest: &'a [u8]) -> Option<&'a [u8]>
+    requires { BeginsAsking text.now rest.now }
+    ensures { MatchOption result (IsShebang line text.now) (λ found. IsAsking line text.now found.now) }
+{
+    if is_shebang(line, text) {
+        None
+    } else {
+        Some(rest)
+    }
+}
+
+/// Whether this line names the program that runs the script.
+fn is_shebang(line: u64, text: &[u8]) -> bool
+    ensures { (result ≡ true) ↔ IsShebang line text.now }
+{
+    line == 1 && text.starts_with(b"#!/")
 }
 
 /// The same, of any line.

@@ -8,3 +8,6 @@ returns-in-Some c = done-at c.args.p.now c.in-Some.actor ((c.actor_of.ensures c.
 
 pub returns-in-None : goal.returns-in-None
 returns-in-None c any is = absurd (none-some is.actor (sym c.in-None.is ∙ (c.actor_of.ensures is.actor).1 is.stands))
+
+pub undone_by-requires : goal.undone_by-requires
+undone_by-requires c = (c.actor_of.ensures c.in-Some.actor).0 c.in-Some.is
