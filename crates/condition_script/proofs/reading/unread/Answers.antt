@@ -1,4 +1,4 @@
-use Rattle.std.proofs.Common.{refl, subst, inr}
+use Rattle.std.proofs.Common.{subst, inr}
 use Rattle.condition_script.specs.FirstFault.{IsLongestBeginning}
 use Rattle.condition_script.proofs.reading.unread.Goals as goal
 
