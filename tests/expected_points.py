@@ -432,7 +432,7 @@ def take_runs(case, told, point, folder, runs):
             continue
         name, is_some = re.escape(about(case, it) or f"{case.name}: no order ends stuck"), it is not None and it.word == "some"
         judged = r"(holds|fails) in (some of )?" + f"{runs:,} runs on threads" + r"(?:, of which the limit cut off [\d,]+)?"
-        found = told.match(rf"(not )?ok {point + at} - {name}: (?:{judged}|(vacuous: no step is '.*' in the {runs:,} runs.*|no order ends: the limit cut off all {runs:,}|the board has no hart \d+|no \w+ has .*))")
+        found = told.match(rf"(not )?ok {point + at} - {name}: (?:{judged}|(vacuous: no step is '.*' in the {runs:,} runs.*|no order ends: the limit cut off all {runs:,}|the board has no hart \d+|no \w+(?:'s \w+)? has .*|no \w+ is .*))")
         if found[4]:
             failed += 1
             must(f"{found[0]}", found[1] and must_be_empty(case, it, found[4]))

@@ -110,10 +110,14 @@ def lacking(asked, steps):
     return None
 
 
-# The most that a number can be behind the name of an operation or a reply; others hold each number from 0 on.
-MOST = {"sstatus": 1, "moved": 6, "fault": 15}
 # The replies of each operation that is accepted, where it isn't done.
 REPLIES = {"ecall": ("ret", "waiting", "gone"), "load": ("value", "fault"), "store": ("done", "fault"), "fetch": ("value", "fault"), "sip": ("value",), "poll": ("ret",), "serve": ("served",), "advance": ("entry", "moved", "ret")}
+# The causes of faults, by the access: misaligned, outside of the RAM, not allowed by the page tables.
+CAUSES = {"fetch": (0, 1, 12), "load": (4, 5, 13), "store": (6, 7, 15)}
+# The numbers that can stand in a reply, where not any can: errors are 0 or below, and a hart moves without an entry or a return to STOPPED,
+# SUSPENDED or RESUME_PENDING. And those of one operation: a fence call and a suspend return 0, and sip reads SSIP and STIP.
+NUMBERS = {("ret", 0): range(-8, 1), ("moved", 0): (1, 4, 6), ("fault", 0): sum(CAUSES.values(), ()), ("sstatus", 0): (0, 1)}
+OF_OPERATION = {("poll", "ret"): (0,), ("advance", "ret"): (0,), ("sip", "value"): (0, 2, 32, 34), **{(op, "fault"): causes for op, causes in CAUSES.items()}}
 
 
 def misfit(asked, harts):
@@ -123,31 +127,36 @@ def misfit(asked, harts):
 
 def misfits(step, reply, harts):
     """Why no step is a pattern's: first by its actor and its operation, then by what that can be answered."""
-    if isinstance(step[0], int) and step[0] >= harts:
-        yield f"the board has no hart {step[0]}"
-    op, said = (*step[1:2], None)[0], (*reply[:1], None)[0]
-    yield from wrong_words(op, step[2:], harts)
+    actor, op, said = (*step[:2], None)[0], (*step[1:2], None)[0], (*reply[:1], None)[0]
+    if isinstance(actor, int) and actor >= harts:
+        yield f"the board has no hart {actor}"
+    if actor is not None and op is not None and (actor == "c") != (op == "tick"):
+        yield f"no {op} is {'a hart' if op == 'tick' else 'the clock'}'s"
+    yield from (f"no {op} has {word}" for place, word in enumerate(step[2:]) if op is not None and not can_be(op, place, word))
+    if actor == "c":
+        op = "tick"
     if op is not None and said is not None and said not in REPLIES.get(op, ("done",)):
         yield f"no {op} has the reply {said}"
-    yield from wrong_words(said, reply[1:], harts)
+    if said is not None:
+        yield from (why for place, word in enumerate(reply[1:]) for why in wrong_in_reply(op, said, place, word, harts))
 
 
-def wrong_words(name, words, harts):
-    for place, word in enumerate(words):
-        if name is None or word is None:
-            continue
-        if name == "entry" and place == 1 and isinstance(word, int) and word >= harts:
-            yield f"the board has no hart {word}"
-        elif not can_be(name, place, word):
-            yield f"no {name} has {word}"
+def wrong_in_reply(op, said, place, word, harts):
+    if said == "entry" and place == 1 and isinstance(word, int) and word >= harts:
+        yield f"the board has no hart {word}"
+    if not can_be(said, place, word):
+        yield f"no {said} has {word}"
+    if word is not None and word not in OF_OPERATION.get((op, said), (word,)):
+        yield f"no {op}'s {said} has {word}"
 
 
 def can_be(name, place, word):
+    """Whether a word, or any, can stand in this place behind the name of an operation or a reply."""
+    if word is None:
+        return True
     if word == "-":
         return name == "sfence"
-    if name == "ret" and place == 0:
-        return word < 1 << 63
-    return 0 <= word <= MOST.get(name, word)
+    return word in NUMBERS[name, place] if (name, place) in NUMBERS else word >= 0
 
 
 # ---- conditions, step by step

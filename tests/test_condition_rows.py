@@ -258,3 +258,24 @@ class ConditionRows(Test):
                     asked = BAD if at in (0, many - 1) else GOOD
                     files[f"{at}-{name}"] = (f"#! {asked}\n{text}", [(1, asked)])
                 must_be_points(self.room, way, files)
+
+
+class NoMisfits(Test):
+    programs = ()
+
+    def test_no_step_of_the_worked_rows_is_a_misfit(self):
+        """No accepted step has an actor, an operation, a reply or a number that a condition about it can't have; and each number that one can have, some step has."""
+        seen, many = set(), 0
+        for name, head, lines in replays.worked_rows():
+            if len(head.split()) not in (7, 9):
+                continue
+            harts = int(head.split()[1], 0)
+            for _, _, actor, op, answer in replays.steps("\n".join([head, *lines])):
+                if answer[0] == "refused" or op[0] == "cut":
+                    continue
+                words = judge.step_words(actor, op)
+                must(f"{name}: {words}, {answer}: {list(judge.misfits(words, answer, harts))}", not list(judge.misfits(words, answer, harts)))
+                seen |= {(words[1], answer[0], it) for it in answer[1:]} | {(answer[0], place, it) for place, it in enumerate(answer[1:])}
+                many += 1
+        wanted = {(*key, it) for key, numbers in judge.OF_OPERATION.items() for it in numbers} | {(*key, it) for key, numbers in judge.NUMBERS.items() if key[0] in ("moved", "fault") for it in numbers}
+        must(f"{wanted - seen}", many > 4000 and wanted <= seen)

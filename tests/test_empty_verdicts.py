@@ -33,7 +33,7 @@ VACUOUS = (
     ("before 1 load 0x80005008, 0 store", "1 load 0x80005008", HINT), ("before 0 store, 1 load 0x80005008", "1 load 0x80005008", HINT),
     ("before 0 store, 1 load 0x80005008 -> value 1", "1 load 0x80005008", HINT), ("never 1 wfi -> done", "1 wfi", ""), ("never 1 poll -> ret 0 _", "1 poll", ""),
     ("never 1 load after 0 store 0x80002000 2", "0 store 0x80002000 2", "; hart 0 stores 0x80002000 0x1 (line 5)"),
-    ("never 1 load after 0 poll -> ret -3", "0 poll -> ret -3", "; such a step has another reply"), ("never 0 sip after 1 wfi", "1 wfi", ""),
+    ("never 1 load after 0 ecall 0x48534d -> ret -3", "0 ecall 0x48534d -> ret -3", "; such a step has another reply"), ("never 0 sip after 1 wfi", "1 wfi", ""),
     ("never _ load 0x80005008 -> value 1", "_ load 0x80005008", HINT), ("each c tick 5 -> done", "c tick 5", ""),
     ("each 0 ecall 0x10 0 -> ret 0", "0 ecall 0x10 0", "; hart 0 calls 0x48534d 0x0 0x1 0x80001000 0x0 0x0 0x0 0x0 (line 4), 0x52464e43 0x0 0x2 0x0 0x0 0x0 0x0 0x0 (line 6)"),
     # (it forbids the step itself, or a call)
@@ -49,16 +49,27 @@ WAYS = (("sbiboard", (), ""), ("sbiboard", SEEDS, " in the 40 orders tried"), ("
 MISFITS = (
     ("never 9 load", "the board has no hart 9"), ("never 2 load", "the board has no hart 2"), ("some 127 sip", "the board has no hart 127"), ("never 1 load after 2 store", "the board has no hart 2"),
     ("before 0 store, 5 load", "the board has no hart 5"), ("each 0 sstatus 7 -> done", "no sstatus has 7"), ("never 0 sstatus 2", "no sstatus has 2"), ("never 1 load -", "no load has -"),
-    ("never 1 store 0x80002000 -", "no store has -"), ("never 1 load -5", "no load has -5"), ("never 1 advance -> moved 7", "no moved has 7"), ("never 1 load -> fault 16", "no fault has 16"),
+    ("never 1 store 0x80002000 -", "no store has -"), ("never 1 load -5", "no load has -5"), ("never 1 advance -> moved 7", "no moved has 7"), ("never 1 load -> fault 16", "no fault has 16"), ("never _ _ -> fault 14", "no fault has 14"),
     ("never 1 load -> value -1", "no value has -1"), ("never 1 advance -> entry _ 2", "the board has no hart 2"), ("each 0 ecall -> ret 0xffffffffffffffff", "no ret has 18446744073709551615"),
     ("never 0 ecall -> ret 0 -1", "no ret has -1"), ("maybe never 9 load", "the board has no hart 9"), ("never 1 load -> value -", "no value has -"),
     ("never _ load 0x1000 -> done", "no load has the reply done"), ("never 1 sip -> done", "no sip has the reply done"), ("each 0 store -> value 1", "no store has the reply value"),
     ("never 0 sstatus 1 -> ret 0", "no sstatus has the reply ret"), ("some 0 ecall -> entry", "no ecall has the reply entry"), ("never 0 poll -> waiting", "no poll has the reply waiting"),
     ("never 1 load after 0 serve -> done", "no serve has the reply done"), ("before 0 advance -> served, 1 load", "no advance has the reply served"), ("never c tick -> moved", "no tick has the reply moved"),
     ("never 1 sfence - - -> fault 13", "no sfence has the reply fault"),
+    # (the clock ticks, and a hart does all others)
+    ("never c load", "no load is the clock's"), ("some c advance -> ret 0", "no advance is the clock's"), ("never 1 tick", "no tick is a hart's"), ("before 1 load, 0 tick 3", "no tick is a hart's"),
+    ("never 1 sip after c serve", "no serve is the clock's"), ("each 9 tick -> done", "the board has no hart 9"), ("never c store 0 -", "no store is the clock's"), ("never c _ -> value 1", "no tick has the reply value"),
+    ("some c -> ret 0", "no tick has the reply ret"), ("maybe never c poll", "no poll is the clock's"),
+    # (each access has its own causes)
+    ("never 1 load 0x80002000 -> fault 12", "no load's fault has 12"), ("never _ load -> fault 15", "no load's fault has 15"), ("never 0 fetch -> fault 13", "no fetch's fault has 13"), ("some 0 store 0x80002000 1 -> fault 5", "no store's fault has 5"),
+    ("each 1 fetch -> fault 5", "no fetch's fault has 5"), ("never 1 store -> fault 13", "no store's fault has 13"), ("never 0 load after 1 fetch -> fault 4", "no fetch's fault has 4"), ("never 1 load -> fault 3", "no fault has 3"),
+    # (what a hart is brought to, and what calls return)
+    ("never 1 advance -> moved 0", "no moved has 0"), ("never 1 advance -> moved 2", "no moved has 2"), ("some 1 _ -> moved 5", "no moved has 5"), ("never 0 poll -> ret -3", "no poll's ret has -3"), ("some 0 poll -> ret 0 1", "no poll's ret has 1"),
+    ("never 0 advance -> ret _ 7", "no advance's ret has 7"), ("never 0 ecall -> ret 1", "no ret has 1"), ("never 0 ecall -> ret -9", "no ret has -9"), ("each 1 sip -> value 1", "no sip's value has 1"), ("never 1 sip -> value 0x20000", "no sip's value has 131072"),
 )  # fmt: skip
 # And some of which each word can be there.
-FITTING = ("never 0 sstatus 1 -> done", "never 1 sfence - -", "never 1 load -> fault 15", "never 0 store -> fault 5", "never _ _ -> fault 15", "never 1 advance -> moved 6", "never 0 ecall -> ret -9223372036854775808", "never 0 advance -> entry _ 1", "never 0 poll -> ret 9223372036854775807")
+FITTING = ("never 0 sstatus 1 -> done", "never 1 sfence - -", "never _ _ -> fault 15", "never 1 advance -> moved 6", "never 1 advance -> moved 1", "never 1 _ -> moved 4", "never 0 ecall -> ret -8", "never 0 ecall -> ret 0 9", "never 0 advance -> entry _ 1", "never 1 poll -> ret 0 0",
+    "never 0 advance -> ret 0", "never c tick", "never c _ -> done", "never _ tick", "never _ _ -> ret -8 3", "never 1 sip -> value 0x22", "never 0 _ -> value 1", *(f"never 1 {op} -> fault {cause}" for op, causes in (("load", (4, 5, 13)), ("store", (6, 7, 15)), ("fetch", (0, 1, 12))) for cause in causes))
 
 # No order of it ends: hart 0 begins anew again and again. And one of which some order ends, and one that ends off.
 ENDLESS = "board 1 1 50 0 0x80000000 0\nat 0x80000000\necall 0x53525354 0 2 0\n"
@@ -129,7 +140,7 @@ class EmptyVerdicts(Test):
 
     def test_a_step_that_was_not_seen_makes_nothing_vacuous(self):
         """Where not all orders were seen, a condition may be about a step of those; it isn't judged then, and isn't vacuous."""
-        asked = "#! never 0 sip -> value 1 after 1 load\n"
+        asked = "#! never 0 sip -> value 2 after 1 load\n"
         status, lines = explored(self.room, asked + MANY, "--states", "50")
         must(f"{lines}", status == 8 and lines[1].endswith(": not judged: more than 50 states, none of those seen breaks it"))
 

@@ -162,8 +162,6 @@ class FewStates(Test):
             "# line 8: no order entered the block at 0x80001004", "# a hart was entered at 0x80001000, where no block is",
         ]  # fmt: skip
         must(f"{lines}", are_all(lines) and odd(lines) == wanted and odd(told(self.room, text, *SEEDS)[1]) == wanted)
-        _, lines = told(self.room, RACE.replace("store 0x80002000 0x1", "store 0x80002000 0x1 #! never 0 store"))
-        must(f"{lines}", are_all(lines) and odd(lines) == ["# line 4: behind other words '#!' begins a comment, and no condition"])
         _, lines = told(self.room, FAILING_CALLS)
         must(f"{lines}", are_all(lines) and odd(lines) == FAILING_LINES)
         for text in (RACE, WAKE, SUSPENDED, FENCE, REBOOTS):

@@ -7,7 +7,7 @@ import subprocess
 import threading
 from unittest import SkipTest
 
-from . import programs
+from . import programs, replays
 from .expected_points import said_of
 from .fixtures import HANG, NO_MEMORY, PROGRAM, ROOT, TESTER, Test, allocating, must, named, ran, read, shim, tester, told, told_of, write
 
@@ -118,7 +118,8 @@ FAULTS = (
     ("#! some 1 load -> valu 1", 19, "unknown word"), ("#! each 1 load -> value 1 2", 27, "too few or too many words"), ("#! some 1 load 0x8000000000000000000", 16, "not a number"),
     ("#! some 1 poll -> ret -9223372036854775809", 23, "not a number"), ("#! before 0 store,", 19, "too few or too many words"), ("#! before 0 store, 1 laod", 22, "unknown word"),
     ("#! never * load", 10, "any word is '_'"), ("#! some 1 *", 11, "any word is '_'"), ("#! before 0 store *, 1 load", 19, "any word is '_'"), ("#! each 1 load * -> value 1", 16, "any word is '_'"),
-    ("#! maybe", 9, "too few or too many words"), ("#! maybe maybe never 1 load", 10, "unknown condition"), ("#! perhaps never 1 load", 4, "unknown condition"),
+    ("#! never 1 load #! never 0 store", 17, "a condition stands alone on its line"), ("#! never 1 load#! never 0 store", 16, "a condition stands alone on its line"), ("#! #! never 1 load", 4, "a condition stands alone on its line"), ("#! end  #!", 9, "a condition stands alone on its line"),
+    ("#! never 1 laod #! never 0 store", 12, "unknown word"), ("#! maybe", 9, "too few or too many words"), ("#! maybe maybe never 1 load", 10, "unknown condition"), ("#! perhaps never 1 load", 4, "unknown condition"),
     ("#!/usr/bin/env sbiboard", 3, "unknown condition"), ("#! NEVER 1 load", 4, "unknown condition"), ("#! end quiet, off", 8, "unknown word"),
     ("#! can", 7, "too few or too many words"), ("#! can quiet", 8, "unknown word"), ("#! can end soon", 12, "unknown word"), ("#! can end quiet history-full", 18, "unknown word"), ("#! can end soon history-full", 12, "unknown word"), ("#! can end history-full soon", 12, "unknown word"),
     ("#! can maybe end", 8, "unknown word"), ("#! maybe can", 13, "too few or too many words"), ("#! cann end", 4, "unknown condition"),
@@ -160,6 +161,9 @@ UNTESTED = (
     ("board 1 1 9 0 0x80000000 0 17 40\n", ": bad board: ASIDLEN is 17, at most 16"),
     ("board 1 1 9 0 0x80000000 0 0 40\n", ": bad board: WIDTH is 40, not 39 or 48"),
 )  # fmt: skip
+
+# A schedule of a hart that enters.
+SCHEDULE = HEAD + "0 advance\n0 sip\n"
 
 # Pages 0x1000, to be fetched from, and 0x2000, to be loaded from, change places without a fence.
 STALE = """\
@@ -267,9 +271,28 @@ class Orders(Test):
             status, lines = told(self.room, RACE + line + "\n")
             word = "".join(f": '{it}'" for it in line[column - 1 :].partition("#")[0].split()[:1])
             must(f"{line}: {lines}", status == 1 and lines[1] == f"not ok 1 - race.program:8:{column}: {why}{word}")
+        # (what follows a condition behind a `#` is a comment, and so is a `#!` in one)
+        for asked in ("#! never 9 load # as #! says", "#! never 9 load ##! so"):
+            status, lines = told(self.room, RACE + asked + "\n")
+            must(f"{asked}: {lines}", status == 1 and lines[1].endswith(": the board has no hart 9"))
         # (on the first line it makes a script that can be executed, and says nothing)
         status, lines = told(self.room, f"#!/usr/bin/env -S sbiboard test\n{RACE}", "--times", "3")
         must(f"{lines}", status == 0 and lines[1] == "ok 1 - race.program: no order ends stuck: holds in 3 orders of unknown many, seed 0")
+
+    def test_conditions_behind_other_words_are_told(self):
+        """A `#!` behind other words of a line asks nothing; it is a point that fails, in each task that judges, and a comment for all others."""
+        rows = (("a.program", RACE, "store 0x80002000 0x1"), ("a.sched", SCHEDULE, "0 advance"), ("a.trace", replays.traced(SCHEDULE), "0 advance -> entry 0x80000000 0 0x0"))
+        for name, text, row in rows:
+            must(text, f"\n{row}\n" in text)
+            for behind in (" #! never 0 store", "#!", "\t#! end quiet # so", " #!/usr/bin/env"):
+                status, lines = told(self.room, "#! some 0 advance\n" + text.replace(f"\n{row}\n", f"\n{row}{behind}\n"), name=name)
+                line = 2 + text[: text.index(f"\n{row}\n") + 1].count("\n")
+                column = len(row) + 1 + len(behind) - len(behind.lstrip())
+                must(f"{name}: {behind}: {lines}", status == 1 and lines[1] == f"not ok 1 - {name}:{line}:{column}: a condition stands alone on its line")
+            # (another comment may have one)
+            for behind in (" # as #! says", " ##!", " # !never 1 load"):
+                status, lines = told(self.room, "#! some 0 advance\n" + text.replace(f"\n{row}\n", f"\n{row}{behind}\n"), name=name)
+                must(f"{name}: {behind}: {lines}", status == 0 and not any("stands alone" in it for it in lines))
 
     def test_names_are_escaped(self):
         """No letter of a file's name means something in a point, or in a quoted value."""
@@ -531,8 +554,6 @@ class Orders(Test):
             "# line 8: no order entered the block at 0x80001004", "# a hart was entered at 0x80001000, where no block is",
         ]  # fmt: skip
         must(f"{lines}", [line for line in lines if line.startswith(("# line", "# a "))] == wanted)
-        status, lines = told(self.room, "#! end quiet\n" + RACE.replace("store 0x80002000 0x1", "store 0x80002000 0x1 #! never 0 store"), "--times", "50")
-        must(f"{lines}", "# line 5: behind other words '#!' begins a comment, and no condition" in lines and status == 0 and "1..1" in lines)
         _, lines = told(self.room, "#! end quiet\n" + RACE, "--times", "50")
         must(f"{lines}", not [line for line in lines if line.startswith(("# line", "# a "))])
         # (the firmware's steps are in no block)

@@ -11,7 +11,7 @@ use Rattle.condition_script.specs.declared.keywords.Keyword.{Keyword}
 use Rattle.condition_script.specs.declared.keywords.Keyword.TheVariants as keywords
 use Rattle.condition_script.specs.declared.rules.Ending.{Ending}
 use Rattle.condition_script.specs.declared.rules.Ending.TheVariants.{Quiet}
-use Rattle.condition_script.specs.Grammar.{AreEndings, ArePatterns, AsksNumber, RuleValue, Never, NeverAfter, OfSome, Each, End, Before, CanEnd, IsRuleOf, IsAsked, IsAsking, IsNameAndNumbers, IsPattern, IsRule, IsStepPattern, Wanted, behind, comma_apart, ends_meant, ending_word, has_mark, is_mark, most_numbers, rule_value, up_to, with_commas}
+use Rattle.condition_script.specs.Grammar.{AreEndings, ArePatterns, AsksNumber, Before, CanEnd, Each, End, IsAsked, IsAsking, IsNameAndNumbers, IsPattern, IsRule, IsRuleOf, IsStepPattern, Never, NeverAfter, OfSome, RuleValue, Wanted, asked_words, behind, comma_apart, ending_word, ends_meant, has_mark, is_mark, most_numbers, rule_value, up_to, with_commas}
 use Rattle.std.specs.Borrow.{Bor}
 use Rattle.condition_script.specs.declared.faults.Unread.{Unread}
 use Rattle.condition_script.specs.declared.faults.Wrong.{Wrong}
@@ -519,11 +519,11 @@ tells_beginning words (Err wrong) lacks = lacks
 
 -- ---- lines
 
-pub line_unread : (n : ℕ) (text rest : List ℕ) (words : List (List ℕ)) → IsAsking n text rest → words ≡ words_in rest → (wrong : Wrong)
-    → (wrong ≡ NoMemory) ⊎ ((a : Bool × RuleValue) → IsRule words a.0 a.1 → ⊥) → (u : Unread) → (u.wrong ≡ NoMemory) ⊎ ((u.wrong ≡ wrong) × IsFaultColumn text rest u.column)
+pub line_unread : (n : ℕ) (text rest : List ℕ) (words : List (List ℕ)) → IsAsking n text rest → words ≡ asked_words rest → (wrong : Wrong)
+    → (wrong ≡ NoMemory) ⊎ ((a : Bool × RuleValue) → IsRule words a.0 a.1 → ⊥) → (u : Unread) → (u.wrong ≡ NoMemory) ⊎ ((wrong ≡ NoMemory → u.wrong ≡ NoMemory) × IsFaultColumn text rest u.column)
     → (u.wrong ≡ NoMemory) ⊎ IsUnreadable n text u.column
 line_unread n text rest words asking same wrong found u (inl lacks) = inl lacks
-line_unread n text rest words asking same wrong (inl lacks) u (inr placed) = inl (placed.0 ∙ lacks)
+line_unread n text rest words asking same wrong (inl lacks) u (inr placed) = inl (placed.0 lacks)
 line_unread n text rest words asking same wrong (inr none) u (inr placed) = inr (record {
   rest = rest;
   is_asking = asking;

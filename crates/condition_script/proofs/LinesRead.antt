@@ -1,9 +1,11 @@
 -- The lines of a text, read from the first on.
 use Rattle.std.proofs.Common.{◌≡◌, ℕ, ◌+◌, eqb, map, true, List, [], ◌∷◌, ◌++◌, length, refl, subst, inl, inr, arith}
+use Rattle.std.specs.Prelude.{MatchOption, Option, Some, None}
+use Rattle.std.specs.Borrow.{Bor}
 use Rattle.std.specs.Str.Lines.{lines}
 use Rattle.std.proofs.lemmas.Bool.{eqb-true}
 use Rattle.std.proofs.lemmas.List.{append-nil}
-use Rattle.condition_script.specs.Grammar.{HasCondition, IsSilent, ReadsConditions, ConditionValue, condition_value}
+use Rattle.condition_script.specs.Grammar.{HasCondition, IsAsking, IsShebang, IsSilent, ReadsConditions, ConditionValue, condition_value}
 use Rattle.condition_script.specs.FirstFault.{IsFaulty, IsUnreadable}
 use Rattle.condition_script.specs.Inside.Reading.{HasRead, IsPut}
 use Rattle.condition_script.proofs.Asked.{map_push, one_more}
@@ -45,3 +47,10 @@ nothing (b ∷ rest) e = absurd (omega (arith, eqb-true (length (b ∷ rest)) 0 
 
 pub rest_read : (bytes rest : List ℕ) (n : ℕ) (found : List ConditionValue) → eqb (length rest) 0 ≡ true → HasRead bytes n rest found → ReadsConditions bytes found
 rest_read bytes rest n found none read = all_read bytes n found (subst (λ r. HasRead bytes n r found) (nothing rest none) read)
+
+-- ---- one line
+
+pub silent_if : (n : ℕ) (text : List ℕ) (found : Option (Bor (List ℕ))) → MatchOption found (IsShebang n text) (λ rest. IsAsking n text rest.now)
+    → MatchOption found (IsSilent n text) (λ rest. IsAsking n text rest.now)
+silent_if n text None shebang = λ rest asking. asking.no_shebang shebang
+silent_if n text (Some rest) is = is

@@ -6,11 +6,11 @@ use Rattle.std.specs.Str.{bytes_eq}
 use Rattle.std.specs.Str.Lines.{lines}
 use Rattle.std.proofs.lemmas.Slice.Eq.{bytes_eq-Decides}
 use Rattle.script_lines.specs.Names.{last_hart, op_named, op_word, said_named, said_word}
-use Rattle.line_words.specs.Values.{number_in, words_in}
+use Rattle.line_words.specs.Values.{number_in}
 use Rattle.condition_script.specs.declared.items.Item.{Item}
 use Rattle.condition_script.specs.declared.keywords.Keyword.{Keyword}
 use Rattle.condition_script.specs.declared.keywords.Keyword.TheVariants as keywords
-use Rattle.condition_script.specs.Grammar.{AreEndings, ArePatterns, RuleValue, IsRuleOf, AsksActor, AsksName, AsksNumber, HasCondition, HaveConditions, IsAsked, IsAsking, IsNameAndNumbers, IsNameOf, IsPattern, IsRule, IsStepPattern, IsOperation, ConditionValue, Wanted, ending_named, ending_word, keyword_named, keyword_word, number_item, with_commas}
+use Rattle.condition_script.specs.Grammar.{AreEndings, ArePatterns, AsksActor, AsksName, AsksNumber, BeginsAsking, ConditionValue, HasCondition, HaveConditions, IsAsked, IsAsking, IsNameAndNumbers, IsNameOf, IsOperation, IsPattern, IsRule, IsRuleOf, IsStepPattern, RuleValue, Wanted, asked_words, ending_named, ending_word, keyword_named, keyword_word, number_item, with_commas}
 use Rattle.condition_script.specs.declared.rules.Ending.{Ending}
 use Rattle.condition_script.specs.FirstFault.{HasOneReading, IsBeginning, IsCondition, IsFaultColumn, IsFirstUnreadable, IsLongestBeginning, IsReadable, IsUnreadable, column_behind}
 use Rattle.condition_script.proofs.Named.{any_is_no_hart, any_is_no_number, any_is_no_op, any_is_no_said, clock_is_no_hart, dash_is_no_number, ending_own, keyword_own, maybe_is_no_keyword, none_named, one_named, op_own, said_own}
@@ -154,8 +154,14 @@ rule_one (word ∷ words) true true a b x y = (refl, asked_one words a b x.1 y.1
 
 -- ---- lines
 
+begins_one : (text r s : List ℕ) → BeginsAsking text r → BeginsAsking text s → r ≡ s
+begins_one text r s (inl a) (inl b) = let e = sym a ∙ b in cc
+begins_one text r s (inl a) (inr b) = absurd (b.0 r a)
+begins_one text r s (inr a) (inl b) = absurd (a.0 s b)
+begins_one text r s (inr a) (inr b) = a.2 ∙ sym b.2
+
 asking_one : (n : ℕ) (text r s : List ℕ) → IsAsking n text r → IsAsking n text s → r ≡ s
-asking_one n text r s a b = let e = sym a.begins ∙ b.begins in cc
+asking_one n text r s a b = begins_one text r s a.begins b.begins
 
 told_same : (c d : ConditionValue) → c.line ≡ d.line → c.is_maybe ≡ d.is_maybe → c.asked ≡ d.asked → c ≡ d
 told_same c d line maybe asked =
@@ -166,14 +172,14 @@ told_same c d line maybe asked =
 condition_one : (n : ℕ) (text : List ℕ) (c d : ConditionValue) → HasCondition n text c → HasCondition n text d → c ≡ d
 condition_one n text c d a b =
     let same = asking_one n text b.rest a.rest b.is_asking a.is_asking in
-    let rule = rule_one (words_in a.rest) c.is_maybe d.is_maybe c.asked d.asked a.is_rule (subst (λ (r : List ℕ). IsRule (words_in r) d.is_maybe d.asked) same b.is_rule) in
+    let rule = rule_one (asked_words a.rest) c.is_maybe d.is_maybe c.asked d.asked a.is_rule (subst (λ (r : List ℕ). IsRule (asked_words r) d.is_maybe d.asked) same b.is_rule) in
     told_same c d (a.is_line ∙ sym b.is_line) rule.0 rule.1
 
 not_readable : (n : ℕ) (text : List ℕ) (column : ℕ) → IsReadable n text → IsUnreadable n text column → ⊥
 not_readable n text column (inl silent) un = silent un.rest un.is_asking
 not_readable n text column (inr (c, has)) un =
     let same = asking_one n text has.rest un.rest has.is_asking un.is_asking in
-    un.no_condition (c.is_maybe, c.asked, subst (λ (r : List ℕ). IsRule (words_in r) c.is_maybe c.asked) same has.is_rule)
+    un.no_condition (c.is_maybe, c.asked, subst (λ (r : List ℕ). IsRule (asked_words r) c.is_maybe c.asked) same has.is_rule)
 
 conditions_one : (n : ℕ) (texts : List (List ℕ)) (s t : List ConditionValue) → HaveConditions n texts s → HaveConditions n texts t → s ≡ t
 conditions_one n [] s t a b = a ∙ sym b
@@ -217,7 +223,7 @@ longest_one words i j a b = elim (cases_order i j) [
 
 column_one : (line rest : List ℕ) (a b : ℕ) → IsFaultColumn line rest a → IsFaultColumn line rest b → a ≡ b
 column_one line rest a b x y =
-    x.is_behind ∙ ap (λ many. column_behind line rest many) (longest_one (words_in rest) x.many y.many x.is_longest y.is_longest) ∙ sym y.is_behind
+    x.is_behind ∙ ap (λ many. column_behind line rest many) (longest_one (asked_words rest) x.many y.many x.is_longest y.is_longest) ∙ sym y.is_behind
 
 unreadable_one : (n : ℕ) (text : List ℕ) (a b : ℕ) → IsUnreadable n text a → IsUnreadable n text b → a ≡ b
 unreadable_one n text a b x y =

@@ -1,10 +1,10 @@
--- Where bytes have no conditions: the first line that begins with `#!`, and isn't a condition; and the column in it from which on it
--- is none (profile).
+-- Where bytes have no conditions: the first line that has `#!`, and isn't a condition; and the column in it from which on it is none
+-- (profile).
 use Rattle.std.specs.Prelude.{◌≡◌, ◌⊎◌, ℕ, zero, suc, ◌+◌, ◌-◌, ◌<◌, ◌≤◌, Bool, ◌||◌, if◌then◌else◌, List, [], ◌∷◌, ◌++◌, length, take}
 use Rattle.std.specs.Str.Lines.{lines}
 use Rattle.line_words.specs.Values.{is_filled, words_in}
 use Rattle.line_words.specs.Words.{is_blank, is_hash}
-use Rattle.condition_script.specs.Grammar.{RuleValue, HasCondition, IsAsking, IsRule, IsSilent, ReadsConditions, ConditionValue, behind_blanks}
+use Rattle.condition_script.specs.Grammar.{RuleValue, HasCondition, IsAsking, IsRule, IsSilent, ReadsConditions, ConditionValue, asked_words, behind_blanks, from_comment, is_marked}
 
 -- ---- words
 
@@ -34,9 +34,13 @@ abbrev pub behind_words : (many : ℕ) → List ℕ → List ℕ
 behind_words zero text = text
 behind_words (suc many) text = behind_words many (behind_word (behind_blanks text))
 
+-- a text without words from its `#!` on; the whole text, if it has none
+abbrev pub from_mark : List ℕ → List ℕ
+from_mark text = if is_marked (from_comment text) then behind_blanks text else text
+
 -- a text from its next word on; the whole text, if it has none
 abbrev pub from_next_word : List ℕ → List ℕ
-from_next_word text = if is_filled (words_in text) then behind_blanks text else text
+from_next_word text = if is_filled (words_in text) then behind_blanks text else from_mark text
 
 -- The column in a line, from 1, of the word that follows the first ones of the line's rest; or behind the last one, if none follows.
 abbrev pub column_behind : (line rest : List ℕ) → (many : ℕ) → ℕ
@@ -52,14 +56,14 @@ IsReadable n text = IsSilent n text ⊎ ((c : ConditionValue) × HasCondition n 
 -- it is behind the last one.
 pub record IsFaultColumn (line rest : List ℕ) (column : ℕ) : Type 0 where
   pub many : ℕ
-  pub is_longest : IsLongestBeginning (words_in rest) many
+  pub is_longest : IsLongestBeginning (asked_words rest) many
   pub is_behind : column ≡ column_behind line rest many
 
 -- Line n can't be read from this column on: its words are no condition.
 pub record IsUnreadable (n : ℕ) (text : List ℕ) (column : ℕ) : Type 0 where
   pub rest : List ℕ
   pub is_asking : IsAsking n text rest
-  pub no_condition : IsCondition (words_in rest) → ⊥
+  pub no_condition : IsCondition (asked_words rest) → ⊥
   pub is_there : IsFaultColumn text rest column
 
 -- Of the lines from line n on this is the first that can't be read, from this column on.

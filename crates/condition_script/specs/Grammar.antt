@@ -10,7 +10,7 @@ use Rattle.script_lines.specs.declared.op_name.OpName.{OpName}
 use Rattle.script_lines.specs.declared.said_name.SaidName.{SaidName}
 use Rattle.script_lines.specs.declared.said_name.SaidName.TheVariants.{Refused}
 use Rattle.script_lines.specs.Names.{by_word, last_hart, last_number, op_places, op_word, said_places, said_word}
-use Rattle.line_words.specs.Words.{is_blank}
+use Rattle.line_words.specs.Words.{is_blank, is_hash}
 use Rattle.line_words.specs.Values.{number_in, signed_in, words_in}
 use Rattle.condition_script.specs.declared.items.Item.{Item}
 use Rattle.condition_script.specs.declared.items.Item.TheVariants.{Word, Number, Below, Absent}
@@ -248,25 +248,49 @@ abbrev pub behind_blanks : List ℕ → List ℕ
 behind_blanks [] = []
 behind_blanks (b ∷ text) = if is_blank b then behind_blanks text else b ∷ text
 
+-- a text from its comment on
+abbrev pub from_comment : List ℕ → List ℕ
+from_comment [] = []
+from_comment (b ∷ text) = if is_hash b then b ∷ text else from_comment text
+
+-- whether a text begins with `#!`
+abbrev pub is_marked : List ℕ → Bool
+is_marked text = bytes_eq (codes "#!") (take 2 text)
+
+-- `#!` at the beginning of a comment, as a word
+abbrev pub mark_word : List ℕ → List (List ℕ)
+mark_word comment = if is_marked comment then codes "#!" ∷ [] else []
+
+-- The words behind a line's `#!`, up to a comment. A second `#!` is a word, too, which no condition has.
+abbrev pub asked_words : List ℕ → List (List ℕ)
+asked_words rest = words_in rest ++ mark_word (from_comment rest)
+
 -- The first line of a script may name the program that runs it.
 abbrev pub IsShebang : (n : ℕ) → List ℕ → Type 0
 IsShebang n text = (n ≡ 1) × ((rest : List ℕ) × (text ≡ codes "#!/" ++ rest))
 
--- Line n begins with `#!`, blanks aside, and the rest is its condition's. A comment such as `# !never` begins otherwise.
+-- A text begins with `#!`, blanks aside, and the rest is a condition's. Or its comment begins so behind other words; then the rest begins
+-- with the comment, and is none.
+abbrev pub BeginsAsking : (text rest : List ℕ) → Type 0
+BeginsAsking text rest =
+    (behind_blanks text ≡ codes "#!" ++ rest)
+    ⊎ (((other : List ℕ) → behind_blanks text ≡ codes "#!" ++ other → ⊥) × (is_marked (from_comment text) ≡ true) × (rest ≡ from_comment text))
+
+-- Line n has a `#!`, and the rest is its condition's. A comment such as `# !never` begins otherwise.
 pub record IsAsking (n : ℕ) (text rest : List ℕ) : Type 0 where
-  pub begins : behind_blanks text ≡ codes "#!" ++ rest
+  pub begins : BeginsAsking text rest
   pub no_shebang : IsShebang n text → ⊥
 
 -- Line n has no condition.
 abbrev pub IsSilent : (n : ℕ) → List ℕ → Type 0
 IsSilent n text = (rest : List ℕ) → IsAsking n text rest → ⊥
 
--- Line n has this condition: the words behind `#!`, up to a comment.
+-- Line n has this condition: the words behind its `#!`.
 pub record HasCondition (n : ℕ) (text : List ℕ) (c : ConditionValue) : Type 0 where
   pub rest : List ℕ
   pub is_asking : IsAsking n text rest
   pub is_line : c.line ≡ n
-  pub is_rule : IsRule (words_in rest) c.is_maybe c.asked
+  pub is_rule : IsRule (asked_words rest) c.is_maybe c.asked
 
 -- The lines from line n on have these conditions.
 abbrev pub HaveConditions : (n : ℕ) → List (List ℕ) → List ConditionValue → Type 0

@@ -1,7 +1,7 @@
 //! In which column a word of a line stands.
 ghost use Rattle.std.specs.Prelude.{◌≡◌};
-ghost use Rattle.condition_script.specs.Grammar.{behind_blanks};
-ghost use Rattle.condition_script.specs.FirstFault.{behind_word, behind_words, column_behind, from_next_word};
+ghost use Rattle.condition_script.specs.Grammar.{behind_blanks, from_comment, is_marked};
+ghost use Rattle.condition_script.specs.FirstFault.{behind_word, behind_words, column_behind, from_mark, from_next_word};
 
 use line_words::next_word;
 
@@ -19,7 +19,18 @@ fn from_next_word(text: &[u8]) -> &[u8]
 {
     match next_word(text) {
         Some(_) => behind_blanks(text),
-        None => text,
+        None => from_mark(text),
+    }
+}
+
+/// A text without words from its `#!` on; the whole text, if it has none.
+fn from_mark(text: &[u8]) -> &[u8]
+    ensures { result.now ≡ from_mark text.now }
+{
+    if is_marked(from_comment(text)) {
+        behind_blanks(text)
+    } else {
+        text
     }
 }
 
@@ -58,4 +69,23 @@ pub(crate) fn behind_blanks(text: &[u8]) -> &[u8]
         }
     }
     &text[text.len()..]
+}
+
+/// A text from its comment on.
+pub(crate) fn from_comment(text: &[u8]) -> &[u8]
+    ensures { result.now ≡ from_comment text.now }
+{
+    for (i, byte) in text.iter().enumerate() {
+        if *byte == b'#' {
+            return &text[i..];
+        }
+    }
+    &text[text.len()..]
+}
+
+/// Whether a text begins with `#!`.
+pub(crate) fn is_marked(text: &[u8]) -> bool
+    ensures { result ≡ is_marked text.now }
+{
+    text.starts_with(b"#!")
 }

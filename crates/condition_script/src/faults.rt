@@ -29,6 +29,9 @@ pub enum Wrong {
     /// Conditions are about accepted steps, and no accepted step is refused.
     #[error("no accepted step is refused")]
     Refused,
+    /// A `#!` behind other words of its line.
+    #[error("a condition stands alone on its line")]
+    NotAlone,
     /// Memory was refused.
     #[error("no memory")]
     NoMemory,

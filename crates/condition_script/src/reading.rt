@@ -1,16 +1,15 @@
 //! The conditions of a script's text, read from its comments.
-ghost use Rattle.std.specs.Prelude.{◌≡◌, ◌≢◌, ◌⊎◌, IfErr, IfOk, List, MatchOption, MatchResult, map};
-ghost use Rattle.line_words.specs.Values.{words_in};
+ghost use Rattle.std.specs.Prelude.{◌≡◌, ◌≢◌, ◌↔◌, ◌⊎◌, ℕ, IfErr, IfOk, List, MatchOption, MatchResult, false, map, true};
 ghost use Rattle.condition_script.specs.FirstFault.{IsFaultColumn, IsFaulty, IsUnreadable};
-ghost use Rattle.condition_script.specs.Grammar.{IsAsking, IsSilent, ReadsConditions, ConditionValue, condition_value};
+ghost use Rattle.condition_script.specs.Grammar.{BeginsAsking, IsAsking, IsShebang, IsSilent, ReadsConditions, ConditionValue, asked_words, condition_value, from_comment, is_marked};
 ghost use Rattle.condition_script.specs.Inside.Reading.{IsLineRead, IsPut, texts};
 
 use crate::asking::asked_rule;
 use crate::beginnings::longest_beginning;
-use crate::columns::{behind_blanks, column_behind};
+use crate::columns::{behind_blanks, column_behind, from_comment, is_marked};
 use crate::faults::{Fault, Unread, Wrong};
 use crate::rules::Rule;
-use crate::words::{Word, words};
+use crate::words::{Word, asked_words};
 use line_words::next_line;
 use std::alloc::Global;
 
@@ -25,7 +24,8 @@ pub struct Condition {
     pub rule: Rule,
 }
 
-/// The conditions of a script's text: its lines that begin with `#!`, blanks aside. `#!/` on the first line is none.
+/// The conditions of a script's text: its lines that begin with `#!`, blanks aside. `#!/` on the first line is none. A `#!` behind other
+/// words is a fault.
 ///
 /// # Errors
 ///
@@ -77,7 +77,7 @@ fn condition_of(alloc: Global, line: u64, text: &[u8]) -> Result<Option<Conditio
     let Some(rest) = asked(line, text) else {
         return Ok(None);
     };
-    let words = words(alloc, &[], rest)?;
+    let words = asked_words(alloc, rest)?;
     condition_in(alloc, line, text, rest, &words)
 }
 
@@ -90,7 +90,7 @@ fn condition_in(
     words: &[Word<'_>],
 ) -> Result<Option<Condition>, Unread>
     requires asking { IsAsking line text.now rest.now }
-    requires words { texts words.now ≡ words_in rest.now }
+    requires words { texts words.now ≡ asked_words rest.now }
     ensures { IsLineRead line text.now result }
 {
     match asked_rule(alloc, words) {
@@ -105,13 +105,13 @@ fn condition_in(
 
 /// What is wrong with a line's words, and from which column on.
 fn unread(alloc: Global, text: &[u8], rest: &[u8], words: &[Word<'_>], wrong: Wrong) -> Unread
-    requires { texts words.now ≡ words_in rest.now }
-    ensures { (result.wrong ≡ Wrong.NoMemory) ⊎ ((result.wrong ≡ wrong) × IsFaultColumn text.now rest.now result.column) }
+    requires { texts words.now ≡ asked_words rest.now }
+    ensures { (result.wrong ≡ Wrong.NoMemory) ⊎ ((wrong ≡ Wrong.NoMemory → result.wrong ≡ Wrong.NoMemory) × IsFaultColumn text.now rest.now result.column) }
 {
     match longest_beginning(alloc, words) {
         Ok(many) => Unread {
             column: column_behind(text, rest, many),
-            wrong,
+            wrong: wrong_at(words, many, wrong),
         },
         Err(lacking) => Unread {
             column: 0,
@@ -120,14 +120,67 @@ fn unread(alloc: Global, text: &[u8], rest: &[u8], words: &[Word<'_>], wrong: Wr
     }
 }
 
-/// The text behind `#!`, if a line begins with it, blanks aside.
+/// What is wrong with a line's words from this one on: of a `#!` that it stands there.
+fn wrong_at(words: &[Word<'_>], many: usize, wrong: Wrong) -> Wrong
+    ensures { wrong ≡ Wrong.NoMemory → result ≡ Wrong.NoMemory }
+{
+    match (wrong, words.get(many)) {
+        (Wrong::NoMemory, _) => Wrong::NoMemory,
+        (_, Some(word)) if word.text == b"#!".as_slice() => Wrong::NotAlone,
+        _ => wrong,
+    }
+}
+
+/// The text behind a line's `#!`, or from it on if it stands behind other words.
 fn asked(line: u64, text: &[u8]) -> Option<&[u8]>
     ensures { MatchOption result (IsSilent line text.now) (λ rest. IsAsking line text.now rest.now) }
 {
-    if line == 1 && text.starts_with(b"#!/") {
-        return None;
+    match asked_in(text) {
+        Some(rest) => unless_shebang(line, text, rest),
+        None => None,
     }
-    behind_blanks(text).strip_prefix(b"#!")
+}
+
+/// What is asked behind a `#!`, unless it names the program that runs the script.
+fn unless_shebang<'a>(line: u64, text: &[u8], rest: &'a [u8]) -> Option<&'a [u8]>
+    requires { BeginsAsking text.now rest.now }
+    ensures { MatchOption result (IsShebang line text.now) (λ found. IsAsking line text.now found.now) }
+{
+    if is_shebang(line, text) {
+        None
+    } else {
+        Some(rest)
+    }
+}
+
+/// Whether this line names the program that runs the script.
+fn is_shebang(line: u64, text: &[u8]) -> bool
+    ensures { (result ≡ true) ↔ IsShebang line text.now }
+{
+    line == 1 && text.starts_with(b"#!/")
+}
+
+/// The same, of any line.
+fn asked_in(text: &[u8]) -> Option<&[u8]>
+    ensures { MatchOption result ((rest : List ℕ) → BeginsAsking text.now rest → ⊥) (λ rest. BeginsAsking text.now rest.now) }
+{
+    match behind_blanks(text).strip_prefix(b"#!") {
+        Some(rest) => Some(rest),
+        None => late_mark(text),
+    }
+}
+
+/// A line's comment, if it begins with `#!`.
+fn late_mark(text: &[u8]) -> Option<&[u8]>
+    ensures { MatchOption result (is_marked (from_comment text.now) ≡ false)
+        (λ rest. (is_marked (from_comment text.now) ≡ true) × (rest.now ≡ from_comment text.now)) }
+{
+    let comment = from_comment(text);
+    if is_marked(comment) {
+        Some(comment)
+    } else {
+        None
+    }
 }
 
 /// What can't be read in a line.

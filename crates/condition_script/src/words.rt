@@ -1,9 +1,10 @@
 //! The words of a condition.
 ghost use Rattle.std.specs.Prelude.{◌≡◌, ◌+◌, ◌<◌, ◌++◌, IfOk, MatchOption, drop, false, length, take, true};
 ghost use Rattle.line_words.specs.Values.{words_in};
-ghost use Rattle.condition_script.specs.Grammar.{behind, comma_apart, has_mark, up_to, with_commas};
+ghost use Rattle.condition_script.specs.Grammar.{asked_words, behind, comma_apart, has_mark, up_to, with_commas};
 ghost use Rattle.condition_script.specs.Inside.Reading.{texts};
 
+use crate::columns::{from_comment, is_marked};
 use line_words::next_word;
 use std::alloc::{AllocError, Global};
 
@@ -27,6 +28,17 @@ pub(crate) fn words<'a>(
     while let Some((word, after)) = next_word(rest) {
         found.push(Word { text: word })?;
         rest = after;
+    }
+    Ok(found)
+}
+
+/// The words behind a line's `#!`, with a second `#!`.
+pub(crate) fn asked_words<'a>(alloc: Global, rest: &'a [u8]) -> Result<Vec<Word<'a>>, AllocError>
+    ensures { IfOk result (λ found. texts found.items ≡ asked_words rest.now) }
+{
+    let mut found = words(alloc, &[], rest)?;
+    if is_marked(from_comment(rest)) {
+        found.push(Word { text: b"#!" })?;
     }
     Ok(found)
 }

@@ -1,5 +1,8 @@
 -- Words of patterns that no step of a board can have in their places (profile).
-use Rattle.std.specs.Prelude.{◌≡◌, ℕ, ◌^◌, ◌<◌, ◌≤◌, ◌⊎◌, Bool, true, false, List, slice_get, Option, Some}
+use Rattle.std.specs.Prelude.{◌≡◌, ◌≢◌, ℕ, ◌≤◌, ◌⊎◌, ◌==◌, ◌||◌, Bool, true, false, List, slice_get, Option, Some}
+use Rattle.sv39.specs.Causes.{access_fault, cause_number, misaligned, page_fault}
+use Rattle.sv39.specs.declared.cause.Kind.{Kind}
+use Rattle.sv39.specs.declared.cause.Kind.TheVariants as kinds
 use Rattle.script_lines.specs.declared.op_name.OpName.{OpName}
 use Rattle.script_lines.specs.declared.op_name.OpName.TheVariants.{Ecall, Load, Store, Fetch, Satp, Sie, Sstatus, Sip, Clearssip, Sfence, Fencei, Wfi, Poll, Serve, Advance, Tick}
 use Rattle.script_lines.specs.declared.said_name.SaidName.{SaidName}
@@ -7,8 +10,8 @@ use Rattle.script_lines.specs.declared.said_name.SaidName.TheVariants as saids
 use Rattle.condition_script.specs.declared.items.Item.{Item}
 use Rattle.condition_script.specs.declared.items.Item.TheVariants.{Word, Number, Below, Absent}
 use Rattle.conditions.specs.declared.misfits.Misfit.{Misfit}
-use Rattle.conditions.specs.declared.misfits.Misfit.TheVariants.{NoHart, Unheld, NoReply}
-use Rattle.condition_script.specs.declared.names.Name.TheVariants.{Op, Said}
+use Rattle.conditions.specs.declared.misfits.Misfit.TheVariants.{NoHart, OtherActor, Unheld, NoReply, NoAnswer}
+use Rattle.condition_script.specs.declared.names.Name.TheVariants.{Clock, Op, Said}
 use Rattle.condition_script.specs.declared.patterns.Pattern.{Pattern}
 use Rattle.condition_script.specs.declared.rules.Rule.{Rule}
 use Rattle.condition_script.specs.declared.rules.Rule.TheVariants.{Never, NeverAfter, OfSome, Each, End, Before, CanEnd}
@@ -25,12 +28,32 @@ OpCanHave op Absent = op ≡ Sfence
 OpCanHave op (Below n) = ⊥
 OpCanHave op (Word name) = ⊥
 
--- What a reply can have in a place behind its name, from 1. The error of `ret` is a signed number of 64 bits, its value an unsigned
--- one; a state of a hart is at most 6 (SBI 9); the cause of a fault is at most 15 (Privileged 4.1.8).
+-- Whether an actor can do an operation: the clock ticks, and a hart does all others.
+abbrev pub CanDo : Item → OpName → Type 0
+CanDo (Word Clock) op = op ≡ Tick
+CanDo (Word name) op = ⊥
+CanDo (Number hart) op = op ≢ Tick
+CanDo (Below n) op = ⊥
+CanDo Absent op = ⊥
+
+-- Whether a number is the cause of a fault of such an access: its address is misaligned, or outside of the RAM, or the page tables don't
+-- allow it (Privileged 4.1.8).
+abbrev pub is_cause_of : Kind → ℕ → Bool
+is_cause_of kind n = (n == cause_number (misaligned kind) || n == cause_number (access_fault kind)) || n == cause_number (page_fault kind)
+
+-- Whether it is the cause of a fault of some access.
+abbrev pub is_cause : ℕ → Bool
+is_cause n = (is_cause_of kinds.Fetch n || is_cause_of kinds.Load n) || is_cause_of kinds.Store n
+
+-- Whether a hart can be brought to a state of this number, without an entry or a return: STOPPED, SUSPENDED or RESUME_PENDING (SBI 9).
+abbrev pub is_moved_to : ℕ → Bool
+is_moved_to n = (n == 1 || n == 4) || n == 6
+
+-- What a reply can have in a place behind its name, from 1. The error of `ret` is 0 or one of -1 to -8 (SBI 3).
 abbrev pub ReplyCanHave : SaidName → ℕ → Item → Type 0
 ReplyCanHave said place (Number n) =
-    (said ≡ saids.Ret → place ≡ 1 → n < 2 ^ 63) × (said ≡ saids.Moved → n ≤ 6) × (said ≡ saids.Fault → n ≤ 15)
-ReplyCanHave said place (Below n) = (said ≡ saids.Ret) × (place ≡ 1)
+    (said ≡ saids.Ret → place ≡ 1 → n ≡ 0) × (said ≡ saids.Moved → is_moved_to n ≡ true) × (said ≡ saids.Fault → is_cause n ≡ true)
+ReplyCanHave said place (Below n) = (said ≡ saids.Ret) × (place ≡ 1) × (n ≤ 8)
 ReplyCanHave said place Absent = ⊥
 ReplyCanHave said place (Word name) = ⊥
 
@@ -63,6 +86,42 @@ is_reply_to Advance saids.Ret = true
 is_reply_to Tick saids.Done = true
 is_reply_to op said = false
 
+-- Whether a number is the cause of a fault of this access.
+abbrev pub IsCauseBy : OpName → ℕ → Type 0
+IsCauseBy op n =
+    (op ≡ Load → is_cause_of kinds.Load n ≡ true) × (op ≡ Store → is_cause_of kinds.Store n ≡ true)
+    × (op ≡ Fetch → is_cause_of kinds.Fetch n ≡ true)
+
+-- Whether `sip` can read a number: SSIP is bit 1, STIP bit 5 (Privileged 4.1.3).
+abbrev pub is_pending : ℕ → Bool
+is_pending n = (n == 0 || n == 2) || (n == 32 || n == 34)
+
+-- What an operation can have behind the name of its reply: its access's causes; what `sip` can read; and 0, where a fence call or a suspend
+-- ends (SBI 8, 9). Only a call returns errors.
+abbrev pub CanAnswer : OpName → SaidName → Item → Type 0
+CanAnswer op said (Number n) =
+    (said ≡ saids.Fault → IsCauseBy op n) × (said ≡ saids.Value → op ≡ Sip → is_pending n ≡ true) × (said ≡ saids.Ret → op ≢ Ecall → n ≡ 0)
+CanAnswer op said (Below n) = op ≡ Ecall
+CanAnswer op said Absent = ⊥
+CanAnswer op said (Word name) = ⊥
+
+-- The actor of a pattern is the clock.
+abbrev pub IsClocks : Pattern → Type 0
+IsClocks p = IsWordAt p.step.items 0 (Word Clock)
+
+-- The operation that a pattern means: of the clock a tick, otherwise the one that it names.
+abbrev pub MeansOp : Pattern → OpName → Type 0
+MeansOp p op = (IsClocks p × (op ≡ Tick)) ⊎ ((IsClocks p → ⊥) × IsWordAt p.step.items 1 (Word (Op op)))
+
+-- The actor of a pattern can't do its operation.
+pub record IsDoerMisfit (p : Pattern) (misfit : Misfit) : Type 0 where
+  pub actor : Item
+  pub stands : IsWordAt p.step.items 0 actor
+  pub op : OpName
+  pub named : IsWordAt p.step.items 1 (Word (Op op))
+  pub unable : ¬ CanDo actor op
+  pub told : misfit ≡ OtherActor op
+
 -- Behind its name the operation of a pattern has a word that it can't have.
 pub record IsOpMisfit (p : Pattern) (misfit : Misfit) : Type 0 where
   pub op : OpName
@@ -77,11 +136,16 @@ pub record IsOpMisfit (p : Pattern) (misfit : Misfit) : Type 0 where
 -- The operation of a pattern can't have its reply.
 pub record IsAnswerMisfit (p : Pattern) (misfit : Misfit) : Type 0 where
   pub op : OpName
-  pub named : IsWordAt p.step.items 1 (Word (Op op))
+  pub meant : MeansOp p op
   pub said : SaidName
   pub replied : IsWordAt p.reply.items 0 (Word (Said said))
   pub unheld : is_reply_to op said ≡ false
   pub told : misfit ≡ NoReply op said
+
+-- The operation of a pattern can't have this word in its reply.
+abbrev pub IsWrongAnswer : Pattern → SaidName → Item → Misfit → Type 0
+IsWrongAnswer p said item misfit =
+    (op : OpName) × MeansOp p op × (¬ CanAnswer op said item) × (misfit ≡ NoAnswer op said item)
 
 module _ (harts : ℕ) where
   -- The word is a hart that a board with so many harts doesn't have.
@@ -89,9 +153,13 @@ module _ (harts : ℕ) where
   IsBeyond item misfit = (hart : ℕ) × (item ≡ Number hart) × (harts ≤ hart) × (misfit ≡ NoHart hart)
 
   -- In this place of a reply the word is such a hart, as the third word of `entry` names one; or the reply can't have it there.
-  abbrev pub IsWrongInReply : SaidName → ℕ → Item → Misfit → Type 0
-  IsWrongInReply said place item misfit = ((said ≡ saids.Entry) × (place ≡ 2) × IsBeyond item misfit)
+  abbrev pub IsWrongWord : SaidName → ℕ → Item → Misfit → Type 0
+  IsWrongWord said place item misfit = ((said ≡ saids.Entry) × (place ≡ 2) × IsBeyond item misfit)
       ⊎ (¬ ReplyCanHave said place item × (misfit ≡ Unheld (Said said) item))
+
+  -- The same, or the pattern's operation can't have the word in this reply.
+  abbrev pub IsWrongInReply : Pattern → SaidName → ℕ → Item → Misfit → Type 0
+  IsWrongInReply p said place item misfit = IsWrongWord said place item misfit ⊎ IsWrongAnswer p said item misfit
 
   -- The actor of a pattern is such a hart.
   pub record IsActorMisfit (p : Pattern) (misfit : Misfit) : Type 0 where
@@ -107,14 +175,16 @@ module _ (harts : ℕ) where
     pub item : Item
     pub behind : 1 ≤ place
     pub stands : IsWordAt p.reply.items place item
-    pub wrong : IsWrongInReply said place item misfit
+    pub wrong : IsWrongInReply p said place item misfit
 
-  -- The pattern has a word that no step of a board with so many harts can have in its place, or a reply that its operation can't have.
+  -- The pattern has a word that no step of a board with so many harts can have in its place, an operation that its actor can't do, or a
+  -- reply that its operation can't have.
   abbrev pub IsMisfitOf : Pattern → Misfit → Type 0
-  IsMisfitOf p misfit = (IsActorMisfit p misfit ⊎ IsOpMisfit p misfit) ⊎ (IsAnswerMisfit p misfit ⊎ IsReplyMisfit p misfit)
+  IsMisfitOf p misfit =
+      (IsActorMisfit p misfit ⊎ (IsDoerMisfit p misfit ⊎ IsOpMisfit p misfit)) ⊎ (IsAnswerMisfit p misfit ⊎ IsReplyMisfit p misfit)
 
--- One of a condition's patterns has such a word: the board has no such hart, the operation or the reply can't have the word in its
--- place, or the operation can't have the reply.
+-- One of a condition's patterns has such a word: the board has no such hart, the actor can't do the operation, the operation or the
+-- reply can't have the word in its place, or the operation can't have the reply, or the word in it.
 abbrev pub IsMisfit : ℕ → Rule → Misfit → Type 0
 IsMisfit harts (Never p) misfit = IsMisfitOf harts p misfit
 IsMisfit harts (NeverAfter p q) misfit = IsMisfitOf harts p misfit ⊎ IsMisfitOf harts q misfit

@@ -6,26 +6,29 @@ ghost use Rattle.script_lines.specs.declared.op_name.OpName.{OpName as OpValue};
 ghost use Rattle.script_lines.specs.declared.said_name.SaidName.{SaidName as SaidValue};
 ghost use Rattle.conditions.specs.declared.misfits.Misfit.{Misfit as MisfitValue};
 ghost use Rattle.condition_script.specs.declared.names.Name.TheVariants as names;
-ghost use Rattle.conditions.specs.Misfits.{IsActorMisfit, IsAnswerMisfit, IsMisfit, IsMisfitOf, IsOpMisfit, IsReplyMisfit, IsWrongInReply, OpCanHave, ReplyCanHave, IsWordAt, is_reply_to};
-ghost use Rattle.conditions.specs.Inside.Held.{HasHeldAt, HasRightAt, no_reply};
+ghost use Rattle.conditions.specs.Misfits.{CanAnswer, CanDo, IsCauseBy, IsActorMisfit, IsAnswerMisfit, IsClocks, IsDoerMisfit, IsMisfit, IsMisfitOf, IsOpMisfit, IsReplyMisfit, IsWordAt, IsWrongAnswer, IsWrongInReply, IsWrongWord, MeansOp, OpCanHave, ReplyCanHave, is_cause, is_cause_of, is_moved_to, is_pending, is_reply_to};
+ghost use Rattle.conditions.specs.Inside.Held.{HasAnswer, HasHeldAt, HasNoAnswer, HasRightAt, IsDoneBy, meant, no_reply};
 
 use condition_script::{Item, Name, Pattern, Rule};
 use script_lines::{OpName, SaidName};
+use sv39::Kind;
 
-/// The most that the number of a hart's state, or of a fault's cause, can be.
-const LAST_STATE: u64 = 6;
-
-const LAST_CAUSE: u64 = 15;
+/// The most by which an error is below 0 (SBI 3).
+const LAST_ERROR: u64 = 8;
 
 /// A word of a pattern that no step of a board can have in its place.
 #[derive(Clone, Copy, Debug, PartialEq, Eq)]
 pub enum Misfit {
     /// The board has no such hart.
     NoHart(u64),
+    /// The actor can't do this operation: the clock ticks, and a hart does all others.
+    OtherActor(OpName),
     /// This operation or reply can't have this value in this place.
     Unheld(Name, Item),
     /// This operation can't have this reply.
     NoReply(OpName, SaidName),
+    /// This operation can't have this value in this reply.
+    NoAnswer(OpName, SaidName, Item),
 }
 
 /// The first word of a condition's patterns that no step of a board with this many harts can have in its place.
@@ -78,7 +81,7 @@ fn in_answer(p: &Pattern, harts: u64) -> Option<Misfit>
 fn in_kind(p: &Pattern) -> Option<Misfit>
     ensures { MatchOption result ((any : MisfitValue) → ¬ IsAnswerMisfit p.now any) (IsAnswerMisfit p.now) }
 {
-    no_reply(op_of(p), said_of(p))
+    no_reply(op_meant(p), said_of(p))
 }
 
 /// A reply that an operation can't have, where a pattern has both.
@@ -95,6 +98,27 @@ fn no_reply(op: Option<OpName>, said: Option<SaidName>) -> Option<Misfit>
         }
         _ => None,
     }
+}
+
+/// The operation that a pattern means: of the clock a tick, otherwise the one that it names.
+fn op_meant(p: &Pattern) -> Option<OpName>
+    ensures { (op : OpValue) → (result ≡ Some op) ↔ MeansOp p.now op }
+{
+    meant(is_clocks(p), op_of(p))
+}
+
+/// What a pattern means, by whether its actor is the clock, and by the operation that it names.
+fn meant(is_clocks: bool, named: Option<OpName>) -> Option<OpName>
+    ensures { result ≡ meant is_clocks named }
+{
+    if is_clocks { Some(OpName::Tick) } else { named }
+}
+
+/// Whether the actor of a pattern is the clock.
+fn is_clocks(p: &Pattern) -> bool
+    ensures { (result ≡ true) ↔ IsClocks p.now }
+{
+    p.step.get(0) == Some(&Some(Item::Word(Name::Clock)))
 }
 
 /// The operation of a pattern, unless it is `_` or missing.
@@ -136,12 +160,67 @@ fn is_reply_to(op: OpName, said: SaidName) -> bool
 
 /// The first such word of a pattern's actor and operation.
 fn in_step(p: &Pattern, harts: u64) -> Option<Misfit>
-    ensures { MatchOption result ((any : MisfitValue) → ¬ (IsActorMisfit harts p.now any ⊎ IsOpMisfit p.now any))
-        (λ misfit. IsActorMisfit harts p.now misfit ⊎ IsOpMisfit p.now misfit) }
+    ensures { MatchOption result ((any : MisfitValue) → ¬ (IsActorMisfit harts p.now any ⊎ (IsDoerMisfit p.now any ⊎ IsOpMisfit p.now any)))
+        (λ misfit. IsActorMisfit harts p.now misfit ⊎ (IsDoerMisfit p.now misfit ⊎ IsOpMisfit p.now misfit)) }
 {
     match in_actor(p, harts) {
         Some(misfit) => Some(misfit),
+        None => in_operation(p),
+    }
+}
+
+/// The pattern's operation, if its actor can't do it; or the first such word behind it.
+fn in_operation(p: &Pattern) -> Option<Misfit>
+    ensures { MatchOption result ((any : MisfitValue) → ¬ (IsDoerMisfit p.now any ⊎ IsOpMisfit p.now any))
+        (λ misfit. IsDoerMisfit p.now misfit ⊎ IsOpMisfit p.now misfit) }
+{
+    match in_doer(p) {
+        Some(misfit) => Some(misfit),
         None => in_op(p),
+    }
+}
+
+/// The pattern's operation, if its actor can't do it.
+fn in_doer(p: &Pattern) -> Option<Misfit>
+    ensures { MatchOption result ((any : MisfitValue) → ¬ IsDoerMisfit p.now any) (IsDoerMisfit p.now) }
+{
+    match actor_of(p) {
+        Some(actor) => undone_by(p, actor),
+        None => None,
+    }
+}
+
+/// The actor of a pattern, unless it is `_`.
+fn actor_of(p: &Pattern) -> Option<Item>
+    ensures { (item : Value) → (result ≡ Some item) ↔ IsWordAt p.now.step.items 0 item }
+{
+    match p.step.get(0) {
+        Some(Some(item)) => Some(*item),
+        _ => None,
+    }
+}
+
+/// The pattern's operation, if this actor of it can't do it.
+fn undone_by(p: &Pattern, actor: Item) -> Option<Misfit>
+    requires { IsWordAt p.now.step.items 0 actor }
+    ensures { MatchOption result (IsDoneBy p.now actor) (IsDoerMisfit p.now) }
+{
+    match p.step.get(1) {
+        Some(Some(Item::Word(Name::Op(op)))) if !can_do(actor, *op) => Some(Misfit::OtherActor(
+            *op,
+        )),
+        _ => None,
+    }
+}
+
+/// Whether an actor can do an operation.
+fn can_do(actor: Item, op: OpName) -> bool
+    ensures { (result ≡ true) ↔ CanDo actor op }
+{
+    match actor {
+        Item::Word(Name::Clock) => op == OpName::Tick,
+        Item::Number(_) => op != OpName::Tick,
+        Item::Word(Name::Op(_) | Name::Said(_)) | Item::Below(_) | Item::Absent => false,
     }
 }
 
@@ -220,7 +299,7 @@ fn reply_misfit_at(p: &Pattern, said: SaidName, harts: u64, place: usize) -> Opt
     ensures { MatchOption result (HasRightAt harts p.now said place) (IsReplyMisfit harts p.now) }
 {
     match reply_word(p, place) {
-        Some(item) => wrong_in_reply(harts, said, place, item),
+        Some(item) => wrong_in_reply(p, harts, said, place, item),
         None => None,
     }
 }
@@ -235,10 +314,27 @@ fn reply_word(p: &Pattern, place: usize) -> Option<Item>
     }
 }
 
+/// Why a word can't stand in this place behind the name of a pattern's reply.
+fn wrong_in_reply(
+    p: &Pattern,
+    harts: u64,
+    said: SaidName,
+    place: usize,
+    item: Item,
+) -> Option<Misfit>
+    ensures { MatchOption result ((any : MisfitValue) → ¬ IsWrongInReply harts p.now said place item any)
+        (IsWrongInReply harts p.now said place item) }
+{
+    match wrong_word(harts, said, place, item) {
+        Some(misfit) => Some(misfit),
+        None => wrong_answer(p, said, item),
+    }
+}
+
 /// Why a word can't stand in this place behind a reply's name.
-fn wrong_in_reply(harts: u64, said: SaidName, place: usize, item: Item) -> Option<Misfit>
-    ensures { MatchOption result ((any : MisfitValue) → ¬ IsWrongInReply harts said place item any)
-        (IsWrongInReply harts said place item) }
+fn wrong_word(harts: u64, said: SaidName, place: usize, item: Item) -> Option<Misfit>
+    ensures { MatchOption result ((any : MisfitValue) → ¬ IsWrongWord harts said place item any)
+        (IsWrongWord harts said place item) }
 {
     if said == SaidName::Entry
         && place == 2
@@ -251,6 +347,81 @@ fn wrong_in_reply(harts: u64, said: SaidName, place: usize, item: Item) -> Optio
         return Some(Misfit::Unheld(Name::Said(said), item));
     }
     None
+}
+
+/// The word, if the operation of a pattern can't have it in this reply.
+fn wrong_answer(p: &Pattern, said: SaidName, item: Item) -> Option<Misfit>
+    ensures { MatchOption result ((any : MisfitValue) → ¬ IsWrongAnswer p.now said item any) (IsWrongAnswer p.now said item) }
+{
+    no_answer(op_meant(p), said, item)
+}
+
+/// A word of a reply that an operation can't have, if there is one.
+fn no_answer(op: Option<OpName>, said: SaidName, item: Item) -> Option<Misfit>
+    ensures { MatchOption result (HasAnswer op said item) (HasNoAnswer op said item) }
+{
+    match op {
+        Some(op) if !can_answer(op, said, item) => Some(Misfit::NoAnswer(op, said, item)),
+        _ => None,
+    }
+}
+
+/// Whether an operation can have this word behind the name of its reply.
+fn can_answer(op: OpName, said: SaidName, item: Item) -> bool
+    ensures { (result ≡ true) ↔ CanAnswer op said item }
+{
+    match item {
+        Item::Number(n) => match said {
+            SaidName::Fault => is_cause_by(op, n),
+            SaidName::Value => op != OpName::Sip || is_pending(n),
+            SaidName::Ret => op == OpName::Ecall || n == 0,
+            _ => true,
+        },
+        Item::Below(_) => op == OpName::Ecall,
+        Item::Absent | Item::Word(_) => false,
+    }
+}
+
+/// Whether a number is the cause of a fault of this access.
+fn is_cause_by(op: OpName, n: u64) -> bool
+    ensures { (result ≡ true) ↔ IsCauseBy op n }
+{
+    match op {
+        OpName::Load => is_cause_of(Kind::Load, n),
+        OpName::Store => is_cause_of(Kind::Store, n),
+        OpName::Fetch => is_cause_of(Kind::Fetch, n),
+        _ => true,
+    }
+}
+
+/// Whether `sip` can read a number.
+fn is_pending(n: u64) -> bool
+    ensures { result ≡ is_pending n }
+{
+    (n == 0 || n == 2) || (n == 32 || n == 34)
+}
+
+/// Whether a number is the cause of a fault of some access.
+fn is_cause(n: u64) -> bool
+    ensures { result ≡ is_cause n }
+{
+    is_cause_of(Kind::Fetch, n) || is_cause_of(Kind::Load, n) || is_cause_of(Kind::Store, n)
+}
+
+/// Whether it is the cause of a fault of such an access.
+fn is_cause_of(kind: Kind, n: u64) -> bool
+    ensures { result ≡ is_cause_of kind n }
+{
+    n == kind.misaligned().number()
+        || n == kind.access_fault().number()
+        || n == kind.page_fault().number()
+}
+
+/// Whether a hart can be brought to a state of this number, without an entry or a return.
+fn is_moved_to(n: u64) -> bool
+    ensures { result ≡ is_moved_to n }
+{
+    n == 1 || n == 4 || n == 6
 }
 
 /// Whether an operation can have this word.
@@ -270,12 +441,12 @@ fn reply_can_have(said: SaidName, place: usize, item: Item) -> bool
 {
     match item {
         Item::Number(n) => match said {
-            SaidName::Ret => place != 1 || i64::try_from(n).is_ok(),
-            SaidName::Moved => n <= LAST_STATE,
-            SaidName::Fault => n <= LAST_CAUSE,
+            SaidName::Ret => place != 1 || n == 0,
+            SaidName::Moved => is_moved_to(n),
+            SaidName::Fault => is_cause(n),
             _ => true,
         },
-        Item::Below(_) => said == SaidName::Ret && place == 1,
+        Item::Below(n) => said == SaidName::Ret && place == 1 && n <= LAST_ERROR,
         Item::Absent | Item::Word(_) => false,
     }
 }

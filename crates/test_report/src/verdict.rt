@@ -200,17 +200,37 @@ fn write_misfit<W: fmt::Write>(f: &mut fmt::Formatter<W>, misfit: Misfit) -> fmt
                 Name::Said(said) => said.word(),
             };
             write!(f, ": no {} has ", str::from_utf8(word).unwrap_or(""))?;
-            match item {
-                Item::Number(n) => write!(f, "{n}"),
-                Item::Below(n) => write!(f, "-{n}"),
-                Item::Absent => write!(f, "-"),
-                Item::Word(_) => Ok(()),
-            }
+            write_item(f, item)
+        }
+        Misfit::OtherActor(op) => {
+            let whose = if op.word() == b"tick".as_slice() {
+                "a hart"
+            } else {
+                "the clock"
+            };
+            let op = str::from_utf8(op.word()).unwrap_or("");
+            write!(f, ": no {op} is {whose}'s")
         }
         Misfit::NoReply(op, said) => {
             let op = str::from_utf8(op.word()).unwrap_or("");
             let said = str::from_utf8(said.word()).unwrap_or("");
             write!(f, ": no {op} has the reply {said}")
         }
+        Misfit::NoAnswer(op, said, item) => {
+            let op = str::from_utf8(op.word()).unwrap_or("");
+            let said = str::from_utf8(said.word()).unwrap_or("");
+            write!(f, ": no {op}'s {said} has ")?;
+            write_item(f, item)
+        }
+    }
+}
+
+/// A number or a dash of a condition.
+fn write_item<W: fmt::Write>(f: &mut fmt::Formatter<W>, item: Item) -> fmt::Result {
+    match item {
+        Item::Number(n) => write!(f, "{n}"),
+        Item::Below(n) => write!(f, "-{n}"),
+        Item::Absent => write!(f, "-"),
+        Item::Word(_) => Ok(()),
     }
 }
