@@ -52,8 +52,6 @@ pub enum Note {
     NeverMet(u64),
     /// The access of a line was stale.
     Stale(u64, Stale),
-    /// Behind other words of a line `#!` is a comment.
-    NoCondition(u64),
     /// The step of a schedule's line was refused, by this number.
     Refused(u64, u64),
     /// No order entered the block of a line, at this address.
@@ -91,10 +89,6 @@ impl fmt::Display for Note {
             Note::Stale(line, Stale::Word) => {
                 write!(f, "line {line}: stale: memory has another word")
             }
-            Note::NoCondition(line) => write!(
-                f,
-                "line {line}: behind other words '#!' begins a comment, and no condition"
-            ),
             Note::Refused(line, refusal) => write!(f, "line {line}: refused {refusal}"),
             Note::NotEntered(line, addr) => {
                 write!(f, "line {line}: no order entered the block at {addr:#x}")

@@ -20,7 +20,7 @@ use std::rt::{Clock, Files};
 use std::sync::Wait;
 use std::thread::Threads;
 use test_report::{FileReport, Mode, Point, Verdict, named};
-use test_terms::{Options, Stop, Trial, comments, unasked};
+use test_terms::{Options, Stop, Trial, unasked};
 use tried_orders::{test_orders, test_runs};
 
 /// Tests a file. A file that can't be read, or has a fault, is a failing point.
@@ -70,7 +70,6 @@ fn test_text<'a, R: AllocGlobal + Clock + Eprint + Files + Sync + Threads + Wait
         script: &loaded.script,
     };
     let mut found = test_script(&trial)?;
-    found.note_all(comments(alloc, &trial.case)?)?;
     put_unasked(&trial, &mut found)?;
     Ok(found)
 }

@@ -13,7 +13,7 @@ mod trial;
 pub use files::is_one_of;
 pub use kept::keep;
 pub use limit::Limit;
-pub use odd::{comments, oddities, unasked};
+pub use odd::{oddities, unasked};
 pub use options::{Options, Orders, Screen};
 pub use stop::Stop;
 pub use trial::Trial;

@@ -84,17 +84,6 @@ impl Reading<'_> {
     }
 }
 
-/// The lines that have `#!` behind other words, where it is a comment.
-pub fn comments(alloc: Global, case: &Case<'_>) -> Result<Vec<Note>, AllocError> {
-    let mut found = Vec::new(alloc);
-    for (i, text) in case.text.split(|b| *b == b'\n').enumerate() {
-        if next_word(text).is_some() && comment_of(text).starts_with(b"#!") {
-            found.push(Note::NoCondition(i as u64 + 1))?;
-        }
-    }
-    Ok(found)
-}
-
 /// What a line has from its comment's sign on.
 fn comment_of(line: &[u8]) -> &[u8] {
     for (i, byte) in line.iter().enumerate() {

@@ -1,4 +1,4 @@
-use Rattle.std.proofs.Common.{◌≡◌, ◌++◌, Bool, List, inl, sym, ap, subst, ◌∙◌}
+use Rattle.std.proofs.Common.{◌≡◌, Bool, List, inl, sym, subst}
 use Rattle.conditions.specs.Condition.{Condition}
 use Rattle.test_report.specs.declared.verdict.Verdict.{Verdict}
 use Rattle.test_report.specs.Statuses.{verdicts}
@@ -12,7 +12,7 @@ returns g c =
     let options = c.args.options.now in
     let odd = c.in_ok-put_unasked.ensures.odd in
     let judged : List Verdict = verdicts c.in_ok-found.found in
-    let cut : c.put_unasked.new.found.is_cut ≡ c.in_ok-found.found.is_cut = c.put_unasked.ensures.cut ∙ c.note_all.ensures.cut in
+    let cut : c.put_unasked.new.found.is_cut ≡ c.in_ok-found.found.is_cut = c.put_unasked.ensures.cut in
     inl (record {
       script = loaded.script;
       conditions = loaded.conditions.items;
@@ -20,7 +20,7 @@ returns g c =
       have = c.in-Ok.ensures.conditions;
       judged = judged;
       odd = odd.0;
-      parts = odd.1 ∙ ap (λ (before : List Verdict). before ++ odd.0) c.note_all.ensures.same;
+      parts = odd.1;
       is = subst (λ (is_cut : Bool). IsFoundOf options loaded.script loaded.conditions.items options.mode is_cut judged) (sym cut)
           (subst (λ (conditions : List Condition). IsFoundOf options loaded.script conditions options.mode c.in_ok-found.found.is_cut judged)
           c.deref.ensures.value c.in_ok-found.ensures);
