@@ -42,7 +42,7 @@ returns-in-Unreached g c p seconds told seen =
     let n = c.args.search.now.scope.now.widest in
     let most = c.args.told.now.most in
     let asked : Option Condition = slice_get c.args.search.now.trial.now.case.conditions.now c.args.place in
-    c.of_need.ensures p seconds (λ no. absurd (cc))
+    c.of_need.ensures p seconds (λ no. absurd (cc)) (λ no. absurd (cc))
     (λ no. unmet-unreached n p seconds most (rule_of asked) (subst (λ (answer : Answer). IsAnswerOf n p seconds most (rule_of asked) answer) c.in-Unreached.is told.answer)) seen
 
 pub returns-in-Holds : goal.returns-in-Holds
@@ -51,4 +51,5 @@ returns-in-Holds g c p seconds told seen =
     let most = c.args.told.now.most in
     let asked : Option Condition = slice_get c.args.search.now.trial.now.case.conditions.now c.args.place in
     c.of_holding.ensures p seconds
-    (met-holds n p seconds most (rule_of asked) (subst (λ (answer : Answer). IsAnswerOf n p seconds most (rule_of asked) answer) c.in-Holds.is told.answer)) told.endless seen
+    (met-holds n p seconds most (rule_of asked) (subst (λ (answer : Answer). IsAnswerOf n p seconds most (rule_of asked) answer) c.in-Holds.is told.answer)) told.endless
+    (λ of. told.ends of c.in-Holds.is) seen

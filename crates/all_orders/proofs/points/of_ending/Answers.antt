@@ -1,11 +1,17 @@
-use Rattle.std.proofs.Common.{sym, subst, inl}
+use Rattle.std.proofs.Common.{sym, subst, inl, inr}
 use Rattle.std.specs.Prelude.{Option, slice_get}
 use Rattle.conditions.specs.Condition.{Condition}
 use Rattle.model_check.specs.declared.answers.Answer.{Answer}
 use Rattle.test_report.specs.declared.verdict.Verdict.{Verdict}
 use Rattle.all_orders.specs.Inside.Told.{IsEndless}
 use Rattle.all_orders.specs.Verdicts.{IsFound}
+use Rattle.all_orders.proofs.Verdicts.{some-end}
 use Rattle.all_orders.proofs.points.of_ending.Goals as goal
+
+pub returns-in-Stopped : goal.returns-in-Stopped
+returns-in-Stopped g c p seconds met endless seen =
+    let n = c.args.search.now.scope.now.widest in
+    (subst (λ (answer : Answer). IsEndless n p seconds c.args.most answer) c.in-Stopped.is endless).1.3
 
 pub returns-in-TooMany : goal.returns-in-TooMany
 returns-in-TooMany g c p seconds met endless seen =
@@ -14,5 +20,13 @@ returns-in-TooMany g c p seconds met endless seen =
     let is = subst (λ (answer : Answer). IsEndless n p seconds c.args.most answer) c.in-TooMany.is endless in
     subst (λ (verdict : Verdict). IsFound n p seconds asked verdict) (sym c.too_many.ensures) (is.0, inl is.1)
 
-pub returns-in_default : goal.returns-in_default
-returns-in_default g c p seconds met endless seen = c.of_need.ensures p seconds (λ yes. met) (λ no. absurd (cc)) seen
+pub returns-in-Holds : goal.returns-in-Holds
+returns-in-Holds g c p seconds met endless seen =
+    let n = c.args.search.now.scope.now.widest in
+    c.without_end.ensures p seconds met
+    (subst (λ (answer : Answer). IsEndless n p seconds c.args.most answer) c.in-Holds.is endless).1 seen
+
+pub returns-in-Fails : goal.returns-in-Fails
+returns-in-Fails g c p seconds met endless seen =
+    let n = c.args.search.now.scope.now.widest in
+    c.of_need.ensures p seconds (λ yes. met) (λ yes. inr (λ of. some-end n p seconds c.args.most c.args.endless.now endless c.in-Fails.is)) (λ no. absurd (cc)) seen
