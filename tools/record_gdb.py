@@ -12,7 +12,7 @@ sys.path.insert(0, os.path.dirname(os.path.realpath(os.environ["RECORD_SCRIPT"])
 
 from record_tables import Tables  # noqa: E402
 
-SRST, HSM, SUSP = 0x53525354, 0x48534D, 0x53555350
+SRST, HSM, SUSP, RFENCE = 0x53525354, 0x48534D, 0x53555350, 0x52464E43
 FROM_S_MODE = 9
 ENTRY = int(os.environ["RECORD_ENTRY"])
 HARTS = int(os.environ["RECORD_HARTS"])
@@ -80,6 +80,8 @@ class Recorder:
         notes = [f"time={time_now():#x}", f"sie={register('sie'):#x}", f"sip={register('sip'):#x}", f"sstatus={register('sstatus') >> 1 & 1}"]
         if self.tables and words[0] == "call":
             notes += [f"pc={register('mepc'):#x}", f"ra={register('ra'):#x}"]
+            callers = self.tables.callers(register("satp"), register("s0"), register("sp")) if register("a7") == RFENCE else []
+            notes += [f"ra{place}={address:#x}" for place, address in enumerate(callers, 2)]
         self.put(hart, *words, *notes)
 
     def stopped(self):
