@@ -11,8 +11,9 @@ from board_model import HSM, IPI, RFENCE, SRST, TIME
 from records import read as read_record
 
 from . import test_recorder
-from .fixtures import RECORDS, ROOT, Test, checked, must, read, read_bytes, write
-from .test_to_trace import TO_TRACE, tool
+from .fixtures import RECORDS, ROOT, Test, must, must_be, ran, read, read_bytes, script, write
+from .replays import printed
+from .test_to_trace import TO_TRACE, must_be_checked, tool
 
 LINUX = os.path.join(ROOT, "examples/linux")
 BUILD = os.path.join(LINUX, "build")
@@ -32,7 +33,10 @@ def is_of_linux(room, path):
     must(f"the record ends {record.end}, and lacks {set(CALLED) - calls}", record.end == "off" and not set(CALLED) - calls)
     report, _ = tool([TO_TRACE, "--report", path])
     trace, _ = tool([TO_TRACE, "--ignore", "impl", path])
-    checked(room, trace, 0, b"agrees %d\n" % trace.count(b" -> "), b"")
+    must_be_checked(room, trace)
+    # (behind the first line that differs the program is asked by its replies)
+    schedule = script(room, re.sub(rb" -> [^#\n]*", b"", trace))
+    must_be(ran(["replay", schedule]), 0, "".join(line + "\n" for line in printed(trace.decode())).encode(), b"")
     return report, trace
 
 
