@@ -157,8 +157,8 @@ BROKEN = [
 
 # What the page's tables have of the kernel, the survey and U-Boot.
 COUNTED = [
-    ("calls", "107 344 44 1156"), ("entries", "7 10 2 68"), ("agree", "113 277 18 1156"), ("break the standard", "0 2 0 0"), ("are unexplained", "0 0 0 0"),
-    ("are followed by no entry", "0 3 0 0"), ("are left open by the standard", "1 55 8 68"), ("are a restriction of this board", "0 8 20 0"),
+    ("calls", "107 344 44 1191"), ("entries", "7 10 2 57"), ("agree", "113 277 18 1191"), ("break the standard", "0 2 0 0"), ("are unexplained", "0 0 0 0"),
+    ("are followed by no entry", "0 3 0 0"), ("are left open by the standard", "1 55 8 56"), ("are a restriction of this board", "0 8 20 1"),
     ("can't be judged", "0 4 0 0"), ("are not compared", "0 5 0 0"),
 ]  # fmt: skip
 

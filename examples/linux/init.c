@@ -57,49 +57,53 @@ static void nap(long milliseconds)
 // ---- what the harts do together
 
 // Hart 0 asks by `asked`, a number that grows, and the harts answer in `done`. They call `code`, where there is some, or read `page`.
-static volatile long asked, done[HARTS], wanted, is_over, is_calm, wrong;
-static volatile long *volatile page;
-static long (*volatile code)(void);
+// This is in memory that no fork copies, so that also a hart that the kernel forgets sees it.
+struct all {
+    volatile long asked, done[HARTS], wanted, is_over, is_calm, wrong;
+    volatile long *volatile page;
+    long (*volatile code)(void);
+};
+static struct all *all;
 static char stacks[HARTS][2 * PAGE] __attribute__((aligned(16)));
 
 static void rest(void)
 {
-    if (is_calm)
+    if (all->is_calm)
         nap(20);
 }
 
 static void look(long hart)
 {
-    long found = code ? code() : page[0];
-    if (found != wanted) {
-        wrong++;
+    long found = all->code ? all->code() : all->page[0];
+    if (found != all->wanted) {
+        all->wrong++;
         say_number("init: hart ", hart, " has an old ");
-        say(code ? "instruction\n" : "page\n");
+        say(all->code ? "instruction\n" : "page\n");
     }
 }
 
 static void thread(long hart)
 {
     pin(hart);
-    while (!is_over) {
-        if (done[hart] != asked) {
+    while (!all->is_over) {
+        if (all->done[hart] != all->asked) {
             look(hart);
-            done[hart] = asked;
+            all->done[hart] = all->asked;
         }
         rest();
     }
-    done[hart] = -1;
+    all->done[hart] = -1;
 }
 
 // All harts look, and find this number.
 static void ask(long number)
 {
-    wanted = number;
+    all->wanted = number;
     __sync_synchronize();
-    asked++;
+    all->asked++;
     look(0);
     for (int hart = 1; hart < HARTS; hart++)
-        while (done[hart] != asked)
+        while (all->done[hart] != all->asked)
             rest();
 }
 
@@ -109,13 +113,19 @@ static long *map(long address, long size, long rights)
     return (long *)call(MMAP, address, size, rights, private_anonymous | (address ? fixed : 0), -1);
 }
 
+static struct all *map_shared(void)
+{
+    const long shared_anonymous = 0x21, read_write = 3;
+    return (struct all *)call(MMAP, 0, sizeof(struct all), read_write, shared_anonymous, -1);
+}
+
 enum { R = 1, RW = 3, RWX = 7 };
 
 // A page that is mapped, protected, unmapped, and mapped anew elsewhere in memory, while all harts use it.
 static void remap(long number)
 {
     long *at = map(0, PAGE, RW), *spare;
-    page = at;
+    all->page = at;
     at[0] = number;
     ask(number);
     call(MPROTECT, (long)at, PAGE, R, 0, 0);
@@ -138,10 +148,10 @@ static void run_code(void)
         at[0] = 0x00000513 | number << 20; // li a0, number
         at[1] = 0x00008067;                // ret
         call(FLUSH_ICACHE, (long)at, (long)at + PAGE, 0, 0, 0);
-        code = (long (*)(void))at;
+        all->code = (long (*)(void))at;
         ask(number);
     }
-    code = 0;
+    all->code = 0;
     call(MUNMAP, (long)at, PAGE, 0, 0, 0);
 }
 
@@ -167,7 +177,7 @@ static void put(const char *path, const char *text)
     const long write_only = 1, here = -100;
     long file = call(OPENAT, here, (long)path, write_only, 0, 0);
     if (file < 0 || call(WRITE, file, (long)text, 1, 0, 0) < 0)
-        say("init: can't write "), say(path), say("\n"), wrong++;
+        say("init: can't write "), say(path), say("\n"), all->wrong++;
     call(CLOSE, file, 0, 0, 0, 0);
 }
 
@@ -177,7 +187,7 @@ static void show(const char *path)
     char text[32] = {0};
     long file = call(OPENAT, here, (long)path, 0, 0, 0);
     if (file < 0 || call(READ, file, (long)text, sizeof text - 1, 0, 0) <= 0)
-        say("init: can't read "), wrong++;
+        say("init: can't read "), all->wrong++;
     say(path), say(": "), say(text);
     call(CLOSE, file, 0, 0, 0, 0);
 }
@@ -187,23 +197,25 @@ void begin(void)
     const long of_one_process = 0x100 | 0x200 | 0x400 | 0x800 | 0x10000 | 0x40000;
     call(MOUNT, (long)"none", (long)"/sys", (long)"sysfs", 0, 0);
     say("init: begins\n");
+    all = map_shared();
+    all->asked = 0; // (the page is there before a thread looks at it)
     pin(0);
     for (long hart = 1; hart < HARTS; hart++)
         spawn(of_one_process, stacks[hart] + sizeof stacks[hart], thread, hart);
     remap(10);
     run_code();
     fork_once();
-    is_calm = 1;
+    all->is_calm = 1;
     remap(20);
-    is_over = 1;
+    all->is_over = 1;
     for (int hart = 1; hart < HARTS; hart++)
-        while (done[hart] >= 0)
+        while (all->done[hart] >= 0)
             rest();
     put("/sys/devices/system/cpu/cpu3/online", "0");
     put("/sys/devices/system/cpu/cpu3/online", "1");
     nap(200);
     show("/sys/devices/system/cpu/cpu1/cpuidle/state1/usage");
     show("/sys/devices/system/cpu/cpu1/cpuidle/state2/usage");
-    say_number("init: ends, wrong: ", wrong, "\n");
+    say_number("init: ends, wrong: ", all->wrong, "\n");
     call(REBOOT, 0xfee1dead, 672274793, 0x4321fedc, 0, 0);
 }
