@@ -199,6 +199,8 @@ def main():
         gdb.execute(line, to_string=True)
     gdb.execute(f"target remote {os.environ['RECORD_GATE']}", to_string=True)
     gdb.execute("maintenance packet Qqemu.PhyMemMode:1", to_string=True)
+    # (one step masks interrupts, but lets time go on: else QEMU's clock may stand still for ever)
+    gdb.execute("maintenance packet Qqemu.sstep=0x3", to_string=True)
     with open(os.environ["RECORD_LINES"], "w", encoding="ascii") as sink:
         recorder = Recorder(sink)
         recorder.stop_at(ENTRY)
