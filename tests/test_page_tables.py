@@ -6,7 +6,7 @@ import subprocess
 
 from board_model import RAM, Board, Fault, allows
 from elf import Names
-from page_tables import found_in, instruction_of, mappings, size_of
+from page_tables import found_in, instruction_of, mappings, size_of, translated
 from records import read as read_record
 from stale import LEFT_OUT, MAPPED_ANEW, Stale
 
@@ -136,12 +136,17 @@ class PageTables(Test):
             any_ = random.Random(seed)
             mode = 8 + seed % 2
             board, value = some_tables(any_, mode)
-            maps = mappings(value, lambda at: [board.ram.get(at + 8 * it, 0) for it in range(512)] if board.in_ram(at) else None)
+            table_at = lambda at: [board.ram.get(at + 8 * it, 0) for it in range(512)] if board.in_ram(at) else None
+            maps = mappings(value, table_at)
             for va, level in any_.sample(sorted(maps), min(40, len(maps))):
-                is_read_alike(board, value, va + any_.randrange(size_of(level)) & -8, maps)
+                there = va + any_.randrange(size_of(level)) & -8
+                is_read_alike(board, value, there, maps)
+                must(f"{there:#x} is at {translated(value, there, table_at)}, not as {maps[va, level]}", translated(value, there, table_at) == maps[va, level].pa + there - va)
                 found[mode, level] = found.get((mode, level), 0) + 1
             for _ in range(40):
                 va = any_.randrange(1 << 38 if mode == 8 else 1 << 47) & -8
+                is_mapped = any(begin <= va < begin + size_of(level) for begin, level in maps)
+                must(f"{va:#x} is mapped: {is_mapped}", is_mapped == (translated(value, va, table_at) is not None))
                 found["none"] = found.get("none", 0) + (not is_read_alike(board, value, va, maps))
         must(f"too little was tried: {found}", len(found) >= 5 and min(found.values()) >= 5)
 

@@ -299,6 +299,23 @@ class Recorders(Test):
             must(f"{what}: status {found.returncode}, lines {plain}, not {[*begun, *wanted]}; it said {found.stderr.decode()}", plain == [*begun, *wanted, "m end off"] and not found.returncode)
         must(f"{lines}", "pc=0x1104" in lines[5])
 
+    def test_recorder__callers(self):
+        """Of a remote fence the return addresses are told, by frame pointers: behind a leaf, or a function that keeps one of its own. A frame
+        that isn't on the stack, or not above the one before, ends them; other calls have none."""
+        image, at, frames = b"\x13\x00\x00\x00", 0x80400000, {"0x804000f8": 0x80400140, "0x80400138": 0x80202000, "0x80400130": 0x80400180, "0x80400178": 0x80203000}
+        for what, fence, more, ram, wanted in (
+            ("a leaf", FENCE, {"s0": at + 0x100}, frames, ["ra2=0x80202000", "ra3=0x80203000"]),
+            ("a function that keeps its own", FENCE, {"s0": at + 0x140}, frames, ["ra2=0x80202000", "ra3=0x80203000"]),
+            ("a frame that is far", FENCE, {"s0": at + 0x100}, {**frames, "0x80400130": 0x80500180}, ["ra2=0x80202000"]),
+            ("a frame below", FENCE, {"s0": at + 0x100}, {**frames, "0x80400130": at + 0x100}, ["ra2=0x80202000"]),
+            ("no frame", FENCE, {"s0": 0x80210000}, frames, []),
+            ("another call", (TIME, 0, 5), {"s0": at + 0x100}, frames, []),
+        ):  # fmt: skip
+            stops = [enters(0), {**calls(0, *fence, sp=at), "ra": 0x80201100, "ram": ram, **more}, is_back(0, sp=at), OFF]
+            _, lines = recorded(self.room, Play("", stops, [], harts=1, words=("--tables",)), image)
+            found = [word for word in lines[1].split() if word.startswith("ra")]
+            must(f"{what}: {lines[1]}", found == ["ra=0x80201100", *wanted])
+
     def test_recorder__a_machine_that_begins_late(self):
         """The limit of time begins once the machine runs, however long QEMU and gdb took until then."""
         play = Play("", [enters(0), calls(0, TIME, 0, 5), is_back(0), OFF], [BOOT, call(0, TIME, 0, 5), "0 ret 0 0x0", "m end off"], words=("--seconds", "1"))

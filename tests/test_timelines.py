@@ -55,7 +55,12 @@ def picture(room):
     """The picture of the README is the one that the tool makes, and a long file has none."""
     made, _ = tool([TIMELINE, "--svg", os.path.join(EXAMPLES, "forgotten-hart.sched")])
     must("docs/forgotten-hart.svg isn't what tools/timeline --svg examples/forgotten-hart.sched prints", made == open(PICTURE, "rb").read())
-    tool([TIMELINE, "--svg", record("kernel")], 1)
+    part, _ = tool([TIMELINE, "--svg", "--steps", "4-9", os.path.join(EXAMPLES, "forgotten-hart.sched")])
+    must("a picture of six steps has other ones", part.count(b'text-anchor="middle"') == 6 and b'viewBox="0 0 458 192"' in part)
+    for words, said in ((["--svg"], b"are too many for a picture"), (["--svg", "--steps", "0-99999"], b"it has the steps 0-"), (["--svg", "--steps", "9-8"], b"it has the steps 0-")):
+        must(f"{words}: another fault is told", said in tool([TIMELINE, *words, record("kernel")], 1)[1])
+    tool([TIMELINE, "--svg", "--steps", "8", record("kernel")], 2)
+    tool([TIMELINE, "--steps", "1-8", record("kernel")], 2)
     _, told = tool([TIMELINE, script(room, b"board 1 1 1 0 0x80000000 0\n0 advance\nhello\n")], 1)
     must(f"it said {shown(told)}", b"line 3: 'hello' is no line of a record, a trace or a schedule" in told)
 

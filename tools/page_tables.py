@@ -79,6 +79,18 @@ def reached(satps, table_at):
     return found
 
 
+def translated(satp, va, table_at):
+    """The physical address of a virtual one, whatever the rights; None where nothing is mapped."""
+    levels, address = levels_of(satp), root_of(satp)
+    for level in reversed(range(levels)):
+        entries = table_at(address)
+        pte = entries[va // size_of(level) % ENTRIES] if entries else 0
+        if not is_pointer(pte):
+            return address_of(pte) + va % size_of(level) if pte & V and is_leaf(pte, level) else None
+        address = address_of(pte)
+    return None if levels else va
+
+
 class Mapping:
     """What a leaf maps; its entry has G also where one above it has."""
 

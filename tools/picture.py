@@ -20,6 +20,18 @@ def short(actor, op, answer):
     return {"advance": "", "store": f"store {op[2]:#x}" if name == "store" and op[2] < 1 << 16 else "store"}.get(name, name)
 
 
+class Part:
+    """Of a course the steps from `first` to `last`, as the picture draws them."""
+
+    def __init__(self, course, first, last):
+        self.harts = course.harts
+        place = lambda at: min(max(at, first), last + 1) - first
+        self.segments = [[(place(a), place(b), shade) for a, b, shade in lane if place(a) < place(b)] for lane in course.segments]
+        self.arrows = [(a - first, h, b - first, t, kind) for a, h, b, t, kind in course.arrows if first <= a and b <= last]
+        self.resets, self.stale = ([at - first for at in places if first <= at <= last] for places in (course.resets, course.stale))
+        self.answers, self.actors = course.answers[first : last + 1], course.actors[first : last + 1]
+
+
 def legend(course, at):
     """What the colours mean that the picture has, from this place on."""
     out = []

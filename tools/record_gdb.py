@@ -12,7 +12,7 @@ sys.path.insert(0, os.path.dirname(os.path.realpath(os.environ["RECORD_SCRIPT"])
 
 from record_tables import Tables  # noqa: E402
 
-SRST, HSM, SUSP = 0x53525354, 0x48534D, 0x53555350
+SRST, HSM, SUSP, RFENCE = 0x53525354, 0x48534D, 0x53555350, 0x52464E43
 FROM_S_MODE = 9
 ENTRY = int(os.environ["RECORD_ENTRY"])
 HARTS = int(os.environ["RECORD_HARTS"])
@@ -80,6 +80,8 @@ class Recorder:
         notes = [f"time={time_now():#x}", f"sie={register('sie'):#x}", f"sip={register('sip'):#x}", f"sstatus={register('sstatus') >> 1 & 1}"]
         if self.tables and words[0] == "call":
             notes += [f"pc={register('mepc'):#x}", f"ra={register('ra'):#x}"]
+            callers = self.tables.callers(register("satp"), register("s0"), register("sp")) if register("a7") == RFENCE else []
+            notes += [f"ra{place}={address:#x}" for place, address in enumerate(callers, 2)]
         self.put(hart, *words, *notes)
 
     def stopped(self):
@@ -197,6 +199,8 @@ def main():
         gdb.execute(line, to_string=True)
     gdb.execute(f"target remote {os.environ['RECORD_GATE']}", to_string=True)
     gdb.execute("maintenance packet Qqemu.PhyMemMode:1", to_string=True)
+    # (one step masks interrupts, but lets time go on: else QEMU's clock may stand still for ever)
+    gdb.execute("maintenance packet Qqemu.sstep=0x3", to_string=True)
     with open(os.environ["RECORD_LINES"], "w", encoding="ascii") as sink:
         recorder = Recorder(sink)
         recorder.stop_at(ENTRY)

@@ -4,10 +4,12 @@ import struct
 from bisect import bisect_left
 
 from elf import Elf
-from page_tables import BY_HARDWARE, ENTRIES, PAGE, V, X, address_of, asid_of, found_in, is_leaf, levels_of, mappings, reached, root_of, size_of
+from page_tables import BY_HARDWARE, ENTRIES, PAGE, V, X, address_of, asid_of, found_in, is_leaf, levels_of, mappings, reached, root_of, size_of, translated
 
 # How much of the firmware's memory is looked through for its own fences.
 FIRMWARE, FIRMWARE_SIZE = 0x80000000, 0x60000
+# How much of a stack is looked through for callers, and how many are told.
+STACK, CALLERS = 1 << 14, 7
 
 
 class Tables:
@@ -88,3 +90,24 @@ class Tables:
         if name == "sfence" and va is None:
             # (of tables that it has left it holds nothing more)
             self.used[hart] = {it for it in self.used[hart] if it == self.satp[hart] or asid is not None and asid & 0xFFFF != asid_of(it)}
+
+    def callers(self, satp, frame, stack):
+        """The return addresses behind that of the register ra, by the frame pointer s0, where the image keeps one."""
+        found, end = [], stack + STACK
+        while stack < frame <= end and frame % 16 == 0 and len(found) < CALLERS:
+            before, back = (self.word_at(satp, frame - down) for down in (16, 8))
+            if back is None:
+                break
+            # (the function of the ECALL keeps no return address where it calls nothing)
+            if not found and frame < back <= end:
+                before = back
+            else:
+                found.append(back)
+            stack, frame = frame, before
+        return found
+
+    def word_at(self, satp, va):
+        """What the supervisor has at an address, by the tables that were read at this stop."""
+        address = translated(satp, va, lambda at: self.known.get(at))
+        page = None if address is None else self.read(address & -PAGE, PAGE)
+        return None if page is None else int.from_bytes(page[address % PAGE : address % PAGE + 8], "little")

@@ -1,7 +1,9 @@
 """Reads records of calls and entries, as docs/RECORDS.md describes them, and says where one is broken."""
 from board_model import ALL, HSM, IPI, RFENCE, SRST
 
-NOTES = ("time", "sie", "sip", "sstatus", "pc", "ra", "firmware")
+# Return addresses of callers, from the innermost one.
+CALLERS = ("ra", *(f"ra{place}" for place in range(2, 9)))
+NOTES = ("time", "sie", "sip", "sstatus", "pc", *CALLERS, "firmware")
 COUNTS = {"call": 8, "ret": 2, "entry": 3, "satp": 1, "sfence": 2, "fencei": 0, "sinval": 2, "winval": 0, "invalir": 0}
 # Lines of page tables, which a trace has nothing of.
 OF_TABLES = ("satp", "sfence", "fencei", "sinval", "winval", "invalir", "store")

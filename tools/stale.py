@@ -3,7 +3,7 @@ that was removed before a fence, and pages that are remapped meanwhile. It rests
 which a hart may hold whatever the tables gave it since its last fence; not on the proof."""
 from board_model import ALL, RFENCE, is_full
 from page_tables import asid_of, levels_of, mappings, takes_away
-from records import UNSEEN, is_reset
+from records import CALLERS, UNSEEN, is_reset
 
 PAGE = 4096
 
@@ -187,12 +187,16 @@ class Stale:
         return any(it.kind == LEFT_OUT and it.hart == hart and it.change is change for it in self.findings)
 
     def of_fence(self, call, line, is_named):
-        at = [call.notes[note] for note in ("pc", "ra") if note in call.notes]
-        by = "".join(f" {word} {self.names(address) or hex(address)}" for word, address in zip(("in", "from"), at))
+        by = f" in {self.name(call.notes['pc'])}" if "pc" in call.notes else ""
+        callers = [self.name(call.notes[note]) for note in CALLERS if note in call.notes]
+        by += f" from {', '.join(callers)}" if callers else ""
         mask, base, start, size = call.numbers[2:6]
         asked = ", which names it" if is_named else ""
         whole = "everything" if is_full(start, size) else f"{start:#x} and {size:#x} bytes"
         return f"after line {line.number} has returned: the fence of line {call.number}{by}, of {whole}, of the harts {mask:#x} from {base & ALL:#x}{asked}"
+
+    def name(self, address):
+        return self.names(address) or hex(address)
 
     def named(self, mask, base):
         place_of = self.record.place_of
