@@ -7,7 +7,7 @@ import shutil
 import subprocess
 from unittest import SkipTest
 
-from board_model import HSM, IPI, RFENCE, SRST, TIME
+from board_model import HSM, IPI, RFENCE, TIME
 from records import read as read_record
 
 from . import test_recorder
@@ -19,7 +19,7 @@ LINUX = os.path.join(ROOT, "examples/linux")
 BUILD = os.path.join(LINUX, "build")
 NON_RETENTIVE = 1 << 31
 # What the kernel must have called: of the suspends both types.
-CALLED = [(TIME, 0), (IPI, 0), (RFENCE, 0), (RFENCE, 2), (HSM, 0), (HSM, 1), (HSM, 2), (HSM, 3, 0), (HSM, 3, NON_RETENTIVE), (SRST, 0)]
+CALLED = [(TIME, 0), (IPI, 0), (RFENCE, 0), (RFENCE, 2), (HSM, 0), (HSM, 1), (HSM, 2), (HSM, 3, 0), (HSM, 3, NON_RETENTIVE)]
 
 
 def unpacked(room, name):
