@@ -54,6 +54,7 @@ class Linux(Test):
         """With one line of the kernel's TLB code changed the report names the hart that may hold what was unmapped, and the functions."""
         path, names = unpacked(self.room, "linux-forgets.record"), os.path.join(RECORDS, "linux-forgets.nm")
         report = tool([TO_TRACE, "--report", "--symbols", names, path], 6)[0].decode()
+        must("the record isn't whole", read_record(read_bytes(path)).end == "off")
         must(f"the report is {report}", report == read(os.path.join(RECORDS, "linux-forgets.report")))
         told = [line for line in report.splitlines() if line.startswith("  left out of a fence: ")]
         must(f"{told}", told and all(" hart 3 may hold " in line and "__sbi_tlb_flush_range" in line for line in told))
