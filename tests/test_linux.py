@@ -7,8 +7,9 @@ import shutil
 import subprocess
 from unittest import SkipTest
 
-from board_model import HSM, IPI, RFENCE, TIME
+from records import is_suspend
 from records import read as read_record
+from standard import FUNCTIONS
 
 from . import test_recorder
 from .fixtures import RECORDS, ROOT, Test, must, must_be, ran, read, read_bytes, script, write
@@ -17,9 +18,8 @@ from .test_to_trace import TO_TRACE, must_be_checked, tool
 
 LINUX = os.path.join(ROOT, "examples/linux")
 BUILD = os.path.join(LINUX, "build")
-NON_RETENTIVE = 1 << 31
-# What the kernel must have called: of the suspends both types.
-CALLED = [(TIME, 0), (IPI, 0), (RFENCE, 0), (RFENCE, 2), (HSM, 0), (HSM, 1), (HSM, 2), (HSM, 3, 0), (HSM, 3, NON_RETENTIVE)]
+# The sections of the calls that the kernel must have made, and the types of its suspends.
+CALLED, SUSPENDS = {"6.1", "7.1", "8.1", "8.3", "9.1", "9.2", "9.3", "9.4", "10.1"}, {0, 1 << 31}
 
 
 def unpacked(room, name):
@@ -29,8 +29,9 @@ def unpacked(room, name):
 def is_of_linux(room, path):
     """The record is whole, has a call of each kind, and nothing of its report is the firmware's fault."""
     record = read_record(read_bytes(path))
-    calls = {line.numbers[: len(it)] for line in record.lines if line.kind == "call" for it in CALLED}
-    must(f"the record ends {record.end}, and lacks {set(CALLED) - calls}", record.end == "off" and not set(CALLED) - calls)
+    calls = [line.numbers for line in record.lines if line.kind == "call"]
+    lacks = CALLED - {FUNCTIONS[it[:2]].section for it in calls}
+    must(f"the record ends {record.end}, and lacks calls of the sections {lacks}, or suspends", record.end == "off" and not lacks and {it[2] for it in calls if is_suspend(it)} == SUSPENDS)
     report, _ = tool([TO_TRACE, "--report", path])
     trace, _ = tool([TO_TRACE, "--ignore", "impl", path])
     must_be_checked(room, trace)
@@ -54,6 +55,7 @@ class Linux(Test):
         """With one line of the kernel's TLB code changed the report names the hart that may hold what was unmapped, and the functions."""
         path, names = unpacked(self.room, "linux-forgets.record"), os.path.join(RECORDS, "linux-forgets.nm")
         report = tool([TO_TRACE, "--report", "--symbols", names, path], 6)[0].decode()
+        must("the record isn't whole", read_record(read_bytes(path)).end == "off")
         must(f"the report is {report}", report == read(os.path.join(RECORDS, "linux-forgets.report")))
         told = [line for line in report.splitlines() if line.startswith("  left out of a fence: ")]
         must(f"{told}", told and all(" hart 3 may hold " in line and "__sbi_tlb_flush_range" in line for line in told))
