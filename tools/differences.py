@@ -217,7 +217,14 @@ class Differences:
         """A hart that sleeps here has the state of one that goes on: there something woke it that doesn't wake it here."""
         if call.op[1:3] != (HSM, 2) or call.op[3] >= self.record.harts or shown not in (("ret", 0, STARTED), ("ret", 0, RESUME_PENDING)):
             return None
+        if self.is_being_fenced(state, call.op[3]):
+            state.fenced |= {call.op[3]}
         return self.of_wake(state, call.op[3], self.next_line(call.op[3], call.place))
+
+    def is_being_fenced(self, state, hart):
+        """Whether another hart's remote fence that names the hart has begun: there it may have reached it."""
+        fences = [call for other, call in state.calls.items() if call is not None and other != hart and call.op[1] == RFENCE]
+        return any(hart in self.named(self.lines[it.place].numbers[2:4]) for it in fences)
 
     def of_failing(self, state, call, shown):
         """A hart that is STARTED here is in a suspend there, which fails later: its state, and what a start of it answers."""

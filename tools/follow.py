@@ -528,9 +528,11 @@ class Follower(Differences):
         return state
 
     def forced_entry(self, state, line):
-        hart, it = line.hart, state.board.harts[line.hart]
+        hart, call = line.hart, state.calls.get(line.hart)
+        if call is not None and call.answer is None:
+            self.effect(state, hart)
         self.catch_up(state, hart)
-        if it.state == SUSPEND_PENDING:
+        if state.board.harts[hart].state == SUSPEND_PENDING:
             self.advance(state, hart)
         said = self.entry_of(line)
         state.is_fresh = False
@@ -567,8 +569,8 @@ class Follower(Differences):
             call = state.calls.get(other)
             if call is not None and other != hart and call.answer is None and self.shown(call.place) in (WAITING, ("ret", 0, 0)):
                 self.effect(state, other)
-            elif call is not None and other != hart and call.op[1] == RFENCE and hart in self.named(self.lines[call.place].numbers[2:4]):
-                state.fenced |= {hart}
+        if self.is_being_fenced(state, hart):
+            state.fenced |= {hart}
 
     def forced_wake(self, state, line):
         hart, said = line.hart, self.returned_as(line) or ("ret", 0, 0)
