@@ -10,7 +10,7 @@ ghost use Rattle.board_core.specs.History.{Event};
 ghost use Rattle.board_core.specs.Interrupts.{deadline, ssip, stip, time, wake};
 ghost use Rattle.board_core.specs.Memory.{caches_of, memory, satp};
 ghost use Rattle.board_core.specs.Need.{need, total_need};
-ghost use Rattle.board_core.specs.Refusals.{is_full};
+ghost use Rattle.board_core.specs.Refusals.{first_that_holds, is_full, refusals_in, situation};
 ghost use Rattle.board_core.specs.Resets.{is_off, last_reset};
 ghost use Rattle.board_core.specs.Serves.{CanEnd, GoesOn, HaveServed, IsLeft};
 ghost use Rattle.board_core.specs.Starts.{kept, StartsAreEntered};
@@ -66,14 +66,35 @@ impl<'a> View<'a> {
         if self.is_off() {
             return Some(Refusal::Off);
         }
-        let is_full = self.events.len() as u64 == self.config.limit;
         match (actor, op) {
-            (Actor::Hart(h), _) if h < self.config.harts => self.machine.refusal(h, op, is_full),
-            (Actor::Clock, Op::Tick(_)) if is_full => Some(Refusal::HistoryFull),
+            (Actor::Hart(h), _) if h < self.config.harts => self.hart_refusal(h, op),
+            (Actor::Clock, Op::Tick(_)) if self.is_full() => Some(Refusal::HistoryFull),
             (Actor::Clock, Op::Tick(n)) if n < u64::MAX - self.time() => None,
             (Actor::Clock, Op::Tick(_)) => Some(Refusal::TimeFull),
             _ => Some(Refusal::WrongPhase),
         }
+    }
+
+    /// The refusal of an operation of hart `h`, while the power is on.
+    #[inline(always)]
+    fn hart_refusal(&self, h: u64, op: Op) -> Option<Refusal>
+        requires { h < self.now.opening.config.harts }
+        ensures { result ≡ first_that_holds (refusals_in (situation self.now.opening self.now.past h) op
+            (is_full self.now.opening self.now.past)) }
+    {
+        match self.machine.refusal(h, op, false) {
+            Some(refusal) => Some(refusal),
+            None if self.is_full() => Some(Refusal::HistoryFull),
+            None => None,
+        }
+    }
+
+    /// Whether the history has as many events as its limit.
+    #[inline(always)]
+    fn is_full(&self) -> bool
+        ensures { result ≡ is_full self.now.opening self.now.past }
+    {
+        self.events.len() as u64 == self.config.limit
     }
 
     /// The state of hart `h` (SBI 9).
