@@ -478,8 +478,11 @@ fn plain_said(bytes: &[u8]) -> Option<(Said, &[u8])>
     ensures said { IfSome result (λ found. BeginsSaid bytes.now found.0 found.1.now) }
     ensures shorter { IfSome result (λ found. length found.1.now ≤ length bytes.now) }
 {
-    match after_said(words::RET, bytes) {
-        Some([b' ', rest @ ..]) => plain_ret(rest),
+    match bytes {
+        [_, b'r', b'e', b't', ..] => match after_said(words::RET, bytes)? {
+            [b' ', rest @ ..] => plain_ret(rest),
+            _ => None,
+        },
         _ => plain_named_said(bytes),
     }
 }
