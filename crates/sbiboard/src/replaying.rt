@@ -13,7 +13,7 @@ use crate::fitting::{answer_fits, op_fits};
 use crate::outcome::Outcome;
 use crate::running::{Job, cut, run};
 use board_core::{Actor, Board, Config, Op, Refusal, Reply};
-use guest_script::{Doing, KeptLine, Lines};
+use guest_script::{KeptLine, Lines};
 use monitor::{Failed, Page, Sink, print, print_head};
 use std::alloc::Global;
 
@@ -142,9 +142,9 @@ fn print_done<W: Sink>(
         (W.written writer.old) (W.written writer.new) (W.failures writer.old) (W.failures writer.new))
         (λ _. W.failures writer.old < W.failures writer.new) }
 {
-    match line.doing() {
-        Doing::Step { actor, op } => print_made(actor, op, board, page, writer),
-        Doing::Cut => print_cut(alloc, board, page, writer),
+    match line.step() {
+        Some(step) => print_made(step.actor(), step.op(), board, page, writer),
+        None => print_cut(alloc, board, page, writer),
     }
 }
 
@@ -166,7 +166,7 @@ fn print_made<W: Sink>(
     let answer = board.step(actor, op);
     op_fits(op);
     answer_fits(answer);
-    page.print_step(actor, op, answer, writer)?;
+    page.print_step(actor, &op, answer, writer)?;
     Ok(Replayed::ToTheEnd {
         met_full: is_history_full(&answer),
     })

@@ -13,7 +13,7 @@ use crate::device::{ReadFault, Source, read_script};
 use crate::outcome::Outcome;
 use crate::replaying::replay_lines;
 use board_core::{Board, BuildFault, Config, Refusal, Reply};
-use guest_script::{Body, Doing, FaultKind, KeptLine, Lines, Script, ScriptFault};
+use guest_script::{Body, FaultKind, KeptLine, Lines, Script, ScriptFault};
 use monitor::Sink;
 use std::alloc::{AllocError, Global};
 
@@ -139,9 +139,9 @@ pub fn answer_to(
     ensures cut { OnErr result (line.now.doing ≡ Cut) }
     ensures unchanged { OnErr result (board.new ≡ board.old) }
 {
-    match line.doing() {
-        Doing::Step { actor, op } => Ok(board.step(actor, op)),
-        Doing::Cut => cut(alloc, board),
+    match line.step() {
+        Some(step) => Ok(board.step(step.actor(), step.op())),
+        None => cut(alloc, board),
     }
 }
 

@@ -1,11 +1,14 @@
 //! A line in its packed form.
-ghost use Rattle.std.specs.Prelude.{◌≡◌, length};
+ghost use Rattle.std.specs.Prelude.{◌≡◌, length, MatchOption};
+ghost use Rattle.script_lines.specs.declared.script.Doing.TheVariants.{Cut, Step};
 ghost use Rattle.script_lines.specs.declared.script.Line.{Line};
 ghost use Rattle.script_lines.specs.KeptLines.{line_of, number_count};
 
-use crate::line_shape::LineShape;
+use crate::line_shape::{ActorShape, DoingShape, LineShape};
+use crate::op_shape::OpShape;
 use crate::said::Said;
 use crate::script::{Doing, Line};
+use board_terms::{Actor, Op};
 use std::marker::Model;
 
 /// A line of a schedule or a trace, in its packed form. Each method unpacks one part.
@@ -40,6 +43,22 @@ impl<'a> KeptLine<'a> {
         self.kept.doing.doing(&self.numbers[..end])
     }
 
+    /// The line's step, still packed. None: the line is a cut.
+    #[inline(always)]
+    pub fn step(&self) -> Option<KeptStep<'_>>
+        ensures { MatchOption result (self.now.doing ≡ Cut) (λ step. self.now.doing ≡ Step step.0 step.1) }
+    {
+        let end = self.kept.op_count as usize;
+        match self.kept.doing {
+            DoingShape::Step { actor, op } => Some(KeptStep {
+                actor,
+                op,
+                numbers: &self.numbers[..end],
+            }),
+            DoingShape::Cut => None,
+        }
+    }
+
     /// The reply or refusal, if the line is a trace's.
     pub fn said(&self) -> Option<Said>
         ensures { result ≡ self.now.said }
@@ -57,5 +76,41 @@ impl<'a> KeptLine<'a> {
             doing: self.doing(),
             said: self.said(),
         }
+    }
+}
+
+/// A step in its packed form. Each method unpacks one part, so the operation is made where it is needed, and not copied.
+#[derive(Drop)]
+pub struct KeptStep<'a> {
+    actor: ActorShape,
+    op: OpShape,
+    numbers: &'a [u64],
+}
+
+impl<'a> Model for KeptStep<'a> {
+    ghost use Rattle.board_terms.specs.declared.op.Actor.{Actor};
+    ghost use Rattle.board_terms.specs.declared.op.Op.{Op};
+    ghost use Rattle.script_lines.specs.Packing.{actor_made, op_made};
+
+    ghost Value = { Actor × Op };
+
+    ghost view = { λ s. (actor_made s.actor, op_made s.op s.numbers.now) };
+}
+
+impl<'a> KeptStep<'a> {
+    /// The actor.
+    #[inline(always)]
+    pub fn actor(&self) -> Actor
+        ensures { result ≡ self.now.0 }
+    {
+        self.actor.actor()
+    }
+
+    /// The operation.
+    #[inline(always)]
+    pub fn op(&self) -> Op
+        ensures { result ≡ self.now.1 }
+    {
+        self.op.op(self.numbers)
     }
 }

@@ -15,7 +15,7 @@ mod said_shape;
 mod script;
 pub mod words;
 
-pub use kept_line::KeptLine;
+pub use kept_line::{KeptLine, KeptStep};
 pub use laws::{words_name_ops, words_name_saids};
 pub use lines::{LineFault, Lines, LinesIter, MOST_LINES};
 pub use op_name::OpName;
