@@ -143,7 +143,7 @@ fn print_done<W: Sink>(
         (λ _. W.failures writer.old < W.failures writer.new) }
 {
     match line.step() {
-        Some(step) => print_made(step.actor(), step.op(), board, page, writer),
+        Some(step) => print_made(step.actor(), &step.op(), board, page, writer),
         None => print_cut(alloc, board, page, writer),
     }
 }
@@ -152,23 +152,23 @@ fn print_done<W: Sink>(
 #[inline(always)]
 fn print_made<W: Sink>(
     actor: Actor,
-    op: Op,
+    op: &Op,
     board: &mut Board,
     page: &mut Page,
     writer: &mut W,
 ) -> Result<Replayed, Failed>
     requires { W.failures writer.old < 2 ^ 63 }
     ensures done { MatchResult result
-        (λ found. IsDoneOrLeft board.old board.new (Step actor op) found page.old page.new
+        (λ found. IsDoneOrLeft board.old board.new (Step actor op.now) found page.old page.new
         (W.written writer.old) (W.written writer.new) (W.failures writer.old) (W.failures writer.new))
         (λ _. W.failures writer.old < W.failures writer.new) }
 {
-    let answer = board.step(actor, op);
-    op_fits(op);
+    let answer = board.step(actor, *op);
+    op_fits(*op);
     answer_fits(answer);
-    page.print_step(actor, &op, answer, writer)?;
+    page.print_step(actor, op, answer, writer)?;
     Ok(Replayed::ToTheEnd {
-        met_full: is_history_full(&answer),
+        met_full: is_history_full(answer),
     })
 }
 
@@ -194,13 +194,13 @@ fn print_cut<W: Sink>(
     answer_fits(answer);
     page.print_cut(answer, writer)?;
     Ok(Replayed::ToTheEnd {
-        met_full: is_history_full(&answer),
+        met_full: is_history_full(answer),
     })
 }
 
 /// Whether an answer is that the history is full.
-fn is_history_full(answer: &Result<Reply, Refusal>) -> bool
-    ensures { result ≡ is_history_full answer.now }
+fn is_history_full(answer: Result<Reply, Refusal>) -> bool
+    ensures { result ≡ is_history_full answer }
 {
     match answer {
         Err(Refusal::HistoryFull) => true,
