@@ -9,8 +9,8 @@ ghost use Rattle.sbiboard.specs.PrintedScripts.{FitsAnswer, FitsOp};
 use board_core::{Op, Refusal, Reply};
 
 /// A law: a script can have the numbers of any operation.
-pub fn op_fits(op: Op)
-    ensures { FitsOp op }
+pub fn op_fits(op: &Op)
+    ensures { FitsOp op.now }
 {
     match op {
         Op::Ecall(regs) => regs_fit(regs.eid, regs.fid, regs.a),

@@ -164,7 +164,7 @@ fn print_made<W: Sink>(
         (λ _. W.failures writer.old < W.failures writer.new) }
 {
     let answer = board.step(actor, *op);
-    op_fits(*op);
+    op_fits(op);
     answer_fits(answer);
     page.print_step(actor, op, answer, writer)?;
     Ok(Replayed::ToTheEnd {

@@ -204,7 +204,7 @@ fn print_events<W: Sink>(events: &[Event], writer: &mut W) -> Result<(), Failed>
         let actor = event.actor();
         let op = event.op();
         let answer = Ok(event.reply());
-        op_fits(op);
+        op_fits(&op);
         answer_fits(answer);
         page.print_step(actor, &op, answer, writer)?;
     }
