@@ -6,11 +6,18 @@ use crate::seen::Why;
 use board_lock::{NotAll, Record, Room, Seat, SharedBoard};
 use std::alloc::AllocError;
 
+/// Closes the board with these seats.
+fn close<K: Room>(open: NotAll<K>) -> Result<Record<K>, NotAll<K>>
+    requires { K.all ≡ K.parts }
+{
+    open.board.close(open.seats)
+}
+
 /// A close that lacks a seat: board and seats are back.
 fn refused<K: Room>(open: NotAll<K>) -> Result<NotAll<K>, Why>
     requires { K.all ≡ K.parts }
 {
-    match open.board.close(open.seats) {
+    match close(open) {
         Ok(_) => Err(Why::Accepted),
         Err(not_all) => Ok(not_all),
     }
@@ -61,7 +68,7 @@ pub fn closed<K: Room>(
         seats,
     };
     let (open, back) = refusals(open, &mut missing)?;
-    match open.board.close(open.seats) {
+    match close(open) {
         Ok(record) => Ok((record, back)),
         Err(_) => Err(Why::Seats),
     }

@@ -22,7 +22,7 @@ mod working;
 use crate::closing::closed;
 use crate::parting::{Parts, go_on};
 use crate::seen::{Noted, Seen, Why};
-use crate::working::{Work, ipi};
+use crate::working::{RepeatedCall, Work, ipi, ipis};
 use board_core::{Config, Op, USUAL_ASID_LEN, USUAL_WIDTH};
 use board_lock::{NewRoom, Receipt, Room, Seat, SharedBoard};
 use std::marker::Brand;
@@ -87,10 +87,14 @@ fn asked(words: &[String]) -> Option<Row> {
         _ => return None,
     };
     Some(Row::Repeat {
-        harts: harts.parse().ok()?,
-        calls: calls.parse().ok()?,
+        harts: number(harts)?,
+        calls: number(calls)?,
         op,
     })
+}
+
+fn number(word: &str) -> Option<u64> {
+    word.parse().ok()
 }
 
 /// The parts that the words ask for.
@@ -102,9 +106,9 @@ fn parts_asked(words: &[String]) -> Option<Parts> {
         return None;
     }
     Some(Parts {
-        parts: parts.parse().ok()?,
-        harts: harts.parse().ok()?,
-        calls: calls.parse().ok()?,
+        parts: number(parts)?,
+        harts: number(harts)?,
+        calls: number(calls)?,
     })
 }
 
@@ -207,11 +211,11 @@ fn work<K: Room + Send + Sync, R: AllocGlobal + Clock + Threads + Wait + Sync>(
             Ok(Noted::Split)
         }
         Row::SeatsMissing => Ok(Noted::Closes),
-        Row::IpiStorm => many::storm(rt, shared, seats, receipts, Work::SendIpis),
+        Row::IpiStorm => many::storm(rt, shared, seats, receipts, Work::Keep(ipis())),
         Row::AllFence => many::storm(rt, shared, seats, receipts, Work::Fence),
         Row::EndOfRests => resting::rests(rt, shared, seats, receipts),
         Row::Repeat { harts, calls, op } => {
-            let todo = Work::Repeat { harts, calls, op };
+            let todo = Work::Repeat(RepeatedCall { harts, calls, op });
             many::timed(rt, shared, seats, receipts, todo)
         }
     }

@@ -1,7 +1,7 @@
 //! Every hart and the clock on a thread of its own.
 
 use crate::seen::{Noted, Why};
-use crate::working::{Work, Worked, call, do_work};
+use crate::working::{Work, Worked, call, do_work, made};
 use board_core::{Actor, Op, Refusal};
 use board_lock::{Receipt, Room, Seat, SharedBoard};
 use std::alloc::AllocError;
@@ -19,35 +19,14 @@ fn start<K: Room, R: Wait>(
     let Some((boot, others)) = seats.split_first_mut() else {
         return Ok(());
     };
-    shared.call(rt, boot, Op::Advance)?;
-    start_others(rt, shared, boot, others)
-}
-
-/// Starts the harts from 1 on. The last seat is the clock's.
-fn start_others<K: Room, R: Wait>(
-    rt: &R,
-    shared: &SharedBoard<K>,
-    boot: &mut Seat<K>,
-    seats: &mut [Seat<K>],
-) -> Result<(), Refusal> {
-    for seat in seats {
+    made(rt, shared, boot, Op::Advance)?;
+    for seat in others {
         if let Actor::Hart(hart) = seat.actor() {
-            start_hart(rt, shared, boot, seat, hart)?;
+            let start = call(0x48534D, 0, [hart, 0x8000_0000, 0, 0, 0, 0]);
+            made(rt, shared, boot, start)?;
+            made(rt, shared, seat, Op::Advance)?;
         }
     }
-    Ok(())
-}
-
-/// Starts a hart, and enters it by its seat.
-fn start_hart<K: Room, R: Wait>(
-    rt: &R,
-    shared: &SharedBoard<K>,
-    boot: &mut Seat<K>,
-    seat: &mut Seat<K>,
-    hart: u64,
-) -> Result<(), Refusal> {
-    shared.call(rt, boot, call(0x48534D, 0, [hart, 0x8000_0000, 0, 0, 0, 0]))?;
-    shared.call(rt, seat, Op::Advance)?;
     Ok(())
 }
 

@@ -4,12 +4,11 @@ ghost use Rattle.std.specs.Prelude.{◌≡◌, [], IfOk};
 
 use crate::closing::closed;
 use crate::many::{at_once, storm};
-use crate::record::tells;
+use crate::record::{look_past, split, tells};
 use crate::seen::{Seen, Why};
-use crate::working::Work;
-use board_core::{Board, Config};
-use board_lock::{NewRoom, Past, Receipt, Record, Room, Seat, SharedBoard};
-use std::alloc::Global;
+use crate::working::{RepeatedCall, Work};
+use board_core::{Board, Config, Op};
+use board_lock::{NewRoom, Past, Receipt, Room, Seat, SharedBoard};
 use std::marker::Brand;
 use std::sync::Wait;
 use std::thread::Threads;
@@ -88,7 +87,8 @@ fn part<K: Room + Send + Sync, R: AllocGlobal + Threads + Wait + Sync>(
     let mut receipts = Vec::new(rt.alloc());
     work(rt, &shared, &mut seats, &mut receipts, is_new, todo)?;
     let (record, _) = closed(shared, seats, 0)?;
-    split(rt.alloc(), record, &receipts)
+    let (past, board) = split(rt.alloc(), record)?;
+    looked(&past, board, &receipts)
 }
 
 /// All harts work, which on a new board are started first.
@@ -100,29 +100,16 @@ fn work<K: Room + Send + Sync, R: AllocGlobal + Threads + Wait + Sync>(
     is_new: bool,
     todo: Parts,
 ) -> Result<(), Why> {
-    let work = Work::Read {
+    let work = Work::Keep(RepeatedCall {
         harts: todo.harts,
         calls: todo.calls,
-    };
+        op: Op::ReadSip,
+    });
     if !is_new {
         return at_once(rt, shared, seats, receipts, work);
     }
     storm(rt, shared, seats, receipts, work)?;
     Ok(())
-}
-
-/// Splits the record of a part: the board after it, and how many receipts were looked up.
-fn split<K: Room>(
-    alloc: Global,
-    record: Record<K>,
-    receipts: &[Receipt<K>],
-) -> Result<(Board, usize), Why>
-    ensures { IfOk result (λ r. r.0.past ≡ []) }
-{
-    match record.split(alloc) {
-        Ok((past, board)) => looked(&past, board, receipts),
-        Err((_, fault)) => Err(Why::Board(fault)),
-    }
 }
 
 /// The board after a part whose receipts are looked up.
@@ -140,7 +127,7 @@ fn looked<K: Room>(
 /// Looks each receipt up in its part: how many there were.
 fn looks<K: Room>(past: &Past<K>, receipts: &[Receipt<K>]) -> Result<usize, Why> {
     for receipt in receipts {
-        let event = past.look(receipt);
+        let event = look_past(past, receipt);
         let index = receipt.place().saturating_sub(past.opening().places());
         if !tells(receipt, event) || past.events().get(index as usize) != Some(event) {
             return Err(Why::Receipt);

@@ -1,8 +1,10 @@
 //! What a record must say, whatever the schedule was.
 
+ghost use Rattle.std.specs.Prelude.{◌≡◌, [], IfOk};
+
 use crate::seen::Why;
 use board_core::{Actor, Board, BuildFault, Config, Event};
-use board_lock::{Receipt, Record, Room};
+use board_lock::{Past, Receipt, Record, Room};
 use std::alloc::{AllocError, Global};
 
 /// How many of the events are the actor's.
@@ -31,6 +33,26 @@ fn ordinals(alloc: Global, events: &[Event]) -> Result<Vec<u64>, AllocError> {
     Ok(ordinals)
 }
 
+/// The past that a record leaves, and its board.
+pub fn split<K: Room>(alloc: Global, record: Record<K>) -> Result<(Past<K>, Board), Why>
+    ensures { IfOk result (λ r. r.1.past ≡ []) }
+{
+    match record.split(alloc) {
+        Ok(parts) => Ok(parts),
+        Err((_, fault)) => Err(Why::Board(fault)),
+    }
+}
+
+/// The event of a receipt.
+pub fn look<'a, K: Room>(record: &'a Record<K>, receipt: &Receipt<K>) -> &'a Event {
+    record.look(receipt)
+}
+
+/// The event of a receipt, after the split.
+pub fn look_past<'a, K: Room>(past: &'a Past<K>, receipt: &Receipt<K>) -> &'a Event {
+    past.look(receipt)
+}
+
 /// Whether an event is what the receipt says.
 pub fn tells<K: Room>(receipt: &Receipt<K>, event: &Event) -> bool {
     event.actor() == receipt.actor()
@@ -40,7 +62,7 @@ pub fn tells<K: Room>(receipt: &Receipt<K>, event: &Event) -> bool {
 
 /// Whether the receipt's event is what it says, and stands where it says.
 fn stands<K: Room>(record: &Record<K>, ordinals: &[u64], receipt: &Receipt<K>) -> bool {
-    let event = record.look(receipt);
+    let event = look(record, receipt);
     let place = receipt.place() as usize;
     tells(receipt, event)
         && record.events().get(place) == Some(event)

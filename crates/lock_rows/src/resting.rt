@@ -2,7 +2,7 @@
 
 use crate::many::at_once;
 use crate::seen::{Noted, Why};
-use crate::working::Work;
+use crate::working::{Work, rested};
 use board_lock::{Receipt, Rest, Room, Seat, SharedBoard};
 use std::sync::Wait;
 use std::thread::Threads;
@@ -15,7 +15,7 @@ fn rest<K: Room, R: Wait>(
     seen: u64,
 ) -> Result<Rest, Why> {
     match seats.last_mut() {
-        Some(clock) => Ok(shared.rest(rt, clock, seen)),
+        Some(clock) => Ok(rested(rt, shared, clock, seen)),
         None => Err(Why::Seats),
     }
 }

@@ -3,7 +3,9 @@
 ghost use Rattle.std.specs.Prelude.{◌≡◌, []};
 
 use crate::closing::closed;
+use crate::record::{look, look_past, split};
 use crate::seen::{Found, Left, Seen, Told, Why};
+use crate::working::called;
 use board_core::{Board, Op};
 use board_lock::{NewRoom, Past, Receipt, Record, Room, Seat, SharedBoard};
 use std::marker::Brand;
@@ -15,10 +17,8 @@ pub fn seen<K: Room, R: AllocGlobal + Wait>(
     record: Record<K>,
     receipts: &[Receipt<K>],
 ) -> Result<Seen, Why> {
-    match record.split(rt.alloc()) {
-        Ok((past, board)) => of_parts(rt, &past, board, receipts),
-        Err((_, fault)) => Err(Why::Board(fault)),
-    }
+    let (past, board) = split(rt.alloc(), record)?;
+    of_parts(rt, &past, board, receipts)
 }
 
 /// The same of the two parts of a record.
@@ -41,7 +41,7 @@ fn found<K: Room>(past: &Past<K>, receipts: &[Receipt<K>]) -> Result<Found, Why>
     let Some(receipt) = receipts.last() else {
         return Err(Why::Receipt);
     };
-    Ok(Found::of(past.events(), past.look(receipt)))
+    Ok(Found::of(past.events(), look_past(past, receipt)))
 }
 
 /// Puts the board behind a lock again, in a room of its own: how many seats it has there, and the answer to a call by the
@@ -88,7 +88,7 @@ fn looked_up<K: Room>(
     receipt: &Receipt<K>,
     many: usize,
 ) -> Result<(usize, Told), Why> {
-    if record.look(receipt).reply() == receipt.reply() {
+    if look(record, receipt).reply() == receipt.reply() {
         Ok((many, Told::of(receipt)))
     } else {
         Err(Why::Receipt)
@@ -101,7 +101,7 @@ fn call_first<K: Room, R: Wait>(
     seats: &mut [Seat<K>],
 ) -> Result<Receipt<K>, Why> {
     match seats.first_mut() {
-        Some(hart) => Ok(shared.call(rt, hart, Op::ReadSip)?),
+        Some(hart) => Ok(called(rt, shared, hart, Op::ReadSip)?),
         None => Err(Why::Seats),
     }
 }
