@@ -3,6 +3,7 @@
 ghost use Rattle.std.specs.Prelude.{◌≤◌, length, take};
 ghost use Rattle.guest_script.specs.Pieces.{AreWhole};
 
+use crate::failures::judged;
 use anyhow::{Result, ensure};
 use guest_script::{Reader, parse};
 use sbiboard::{Device, Outcome};
@@ -100,11 +101,7 @@ fn ended_in_two(alloc: Global, bytes: &[u8], is_replay: bool) -> Result<Outcome>
 fn ended(alloc: Global, front: &[u8], rest: &[u8], is_replay: bool) -> (Outcome, Vec<u8>) {
     let mut reader = Device::new(front.chain(rest));
     let mut writer = Device::new(Vec::new(alloc));
-    let outcome = if is_replay {
-        sbiboard::replay(alloc, &mut reader, &mut writer)
-    } else {
-        sbiboard::check(alloc, &mut reader, &mut writer)
-    };
+    let outcome = judged(alloc, is_replay, &mut reader, &mut writer);
     (outcome, writer.into_inner())
 }
 

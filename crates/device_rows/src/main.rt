@@ -7,7 +7,7 @@ mod devices;
 mod failing;
 mod failures;
 
-use crate::failures::LibraryTask;
+use crate::failures::{LibraryTask, Side, check_calls};
 use anyhow::Result;
 use std::sync::Wait;
 use std::thread::Threads;
@@ -28,8 +28,8 @@ fn show_failures<R: AllocGlobal + Print + Threads + Wait + Sync>(
     task: LibraryTask,
     name: &str,
 ) -> Result<()> {
-    let reads = failures::check_reads(rt, task)?;
-    let writes = failures::check_writes(rt, task)?;
+    let reads = check_calls(rt, task, Side::Reads)?;
+    let writes = check_calls(rt, task, Side::Writes)?;
     println!(rt; "{name}: {reads} reads, {writes} writes")?;
     Ok(())
 }
