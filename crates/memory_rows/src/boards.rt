@@ -1,9 +1,11 @@
 //! Boards that are made, and whose histories are cut.
 
-use crate::scripts::SCHEDULE;
+ghost use Rattle.std.specs.Prelude.{◌≡◌, [], OnOk};
+
+use crate::scripts::{SCHEDULE, script};
 use crate::telling::{begin, is_made, show};
 use board_core::{Board, BuildFault, Config, Totals, USUAL_ASID_LEN, USUAL_WIDTH};
-use guest_script::{Body, Doing, Lines, parse};
+use guest_script::{Body, Doing, Lines};
 use std::alloc::Global;
 
 /// A board of three harts and two pages.
@@ -29,14 +31,18 @@ pub fn make<R: AllocGlobal + Print>(rt: &R) {
 }
 
 fn made(alloc: Global) -> Result<Totals, BuildFault> {
-    let board = Board::new(alloc, &CONFIG)?;
+    let board = new_board(alloc, &CONFIG)?;
     Ok(board.totals())
+}
+
+fn new_board(alloc: Global, config: &Config) -> Result<Board, BuildFault> {
+    Board::new(alloc, config)
 }
 
 /// A board after the steps of the schedule.
 pub fn busy(alloc: Global) -> Option<Board> {
-    let script = parse(alloc, SCHEDULE).ok()?;
-    let board = Board::new(alloc, &script.config).ok()?;
+    let script = script(alloc, SCHEDULE).ok()?;
+    let board = new_board(alloc, &script.config).ok()?;
     match &script.body {
         Body::Schedule(lines) => Some(after(board, lines)),
         _ => None,
@@ -73,7 +79,9 @@ fn cut_off<R: AllocGlobal + Print>(rt: &R, call: &str, board: &mut Board) {
 }
 
 /// Cuts a history: how many events it had, and how many came before it.
-fn segment(alloc: Global, board: &mut Board) -> Result<(usize, u64), BuildFault> {
+pub fn segment(alloc: Global, board: &mut Board) -> Result<(usize, u64), BuildFault>
+    ensures { OnOk result (board.new.past ≡ []) }
+{
     let segment = board.cut(alloc)?;
     Ok((segment.events.len(), segment.opening.places()))
 }

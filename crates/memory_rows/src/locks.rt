@@ -1,11 +1,12 @@
 //! Boards that come behind a lock, and records that are split.
-ghost use Rattle.std.specs.Prelude.{◌≡◌, [], IfSome};
+ghost use Rattle.std.specs.Prelude.{◌≡◌, [], IfErr, IfSome};
 ghost use Rattle.board_core.specs.Opening.{opening_at};
 
-use crate::boards::{CONFIG, busy};
+use crate::boards::{CONFIG, busy, segment};
 use crate::telling::{begin, is_made, show, tell};
 use board_core::{Board, BuildFault, Op};
 use board_lock::{NewRoom, Past, Receipt, Record, Room, Seat, SharedBoard};
+use std::alloc::Global;
 use std::marker::Brand;
 use std::sync::Wait;
 
@@ -24,13 +25,24 @@ pub fn open<R: AllocGlobal + Print + Wait>(rt: &R) {
     }
 }
 
+/// A new board behind a lock, and its seats.
+fn opened<K: Room>(
+    alloc: Global,
+    room: NewRoom,
+) -> Result<(SharedBoard<K>, Vec<Seat<K>>), BuildFault>
+    requires room { (K.opening ≡ opening_at room.config) × (room.log ≡ K.log) }
+    requires ledger { (room.ledger ≡ K.name) × (room.parts ≡ K.parts) × (K.all ≡ K.parts) }
+{
+    SharedBoard::<K>::open(alloc, room)
+}
+
 /// Opens a board in this room, and returns whether there was memory. Then its record is split.
 fn is_open<K: Room, R: AllocGlobal + Print + Wait>(rt: &R, room: NewRoom) -> bool
     requires room { (K.opening ≡ opening_at room.config) × (room.log ≡ K.log) }
     requires ledger { (room.ledger ≡ K.name) × (room.parts ≡ K.parts) × (K.all ≡ K.parts) }
 {
     begin(rt, OPEN);
-    match SharedBoard::<K>::open(rt.alloc(), room) {
+    match opened::<K>(rt.alloc(), room) {
         Ok((shared, seats)) => {
             tell_seats(rt, OPEN, &seats);
             split(rt, shared, seats);
@@ -58,9 +70,15 @@ fn split<K: Room, R: AllocGlobal + Print + Wait>(
 {
     let mut seats = seats;
     let receipt = called(rt, &shared, &mut seats);
-    if let (Ok(record), Some(receipt)) = (shared.close(seats), receipt) {
+    if let (Some(record), Some(receipt)) = (closed(shared, seats), receipt) {
         split_twice(rt, record, &receipt);
     }
+}
+
+fn closed<K: Room>(shared: SharedBoard<K>, seats: Vec<Seat<K>>) -> Option<Record<K>>
+    requires { K.all ≡ K.parts }
+{
+    shared.close(seats).ok()
 }
 
 fn called<K: Room, R: Wait>(
@@ -78,6 +96,14 @@ fn split_twice<K: Room, R: AllocGlobal + Print>(rt: &R, record: Record<K>, recei
     }
 }
 
+/// What a record leaves: its past, and its board.
+fn parted<K: Room>(
+    alloc: Global,
+    record: Record<K>,
+) -> Result<(Past<K>, Board), (Record<K>, BuildFault)> {
+    record.split(alloc)
+}
+
 /// Splits a record: the record, where memory was refused.
 fn not_split<K: Room, R: AllocGlobal + Print>(
     rt: &R,
@@ -87,7 +113,7 @@ fn not_split<K: Room, R: AllocGlobal + Print>(
     show(rt, SPLIT, record.board());
     tell(rt, SPLIT, &record.look(receipt).reply());
     begin(rt, SPLIT);
-    match record.split(rt.alloc()) {
+    match parted(rt.alloc(), record) {
         Ok((past, board)) => {
             tell_parts(rt, &past, &board);
             None
@@ -107,7 +133,7 @@ fn tell_parts<K: Room, R: Print>(rt: &R, past: &Past<K>, board: &Board) {
 /// Puts a board whose history was cut behind a lock, and again if an allocation failed.
 pub fn adopt<R: AllocGlobal + Print>(rt: &R) {
     if let Some(mut board) = busy(rt.alloc()) {
-        if board.cut(rt.alloc()).is_ok() {
+        if segment(rt.alloc(), &mut board).is_ok() {
             adopt_twice(rt, board);
         }
     }
@@ -130,6 +156,19 @@ fn not_adopted<R: AllocGlobal + Print>(rt: &R, board: Board) -> Option<Board>
     not_adopted_in::<Brand, R>(rt, NewRoom::new(board.config()), board)
 }
 
+fn adopted<K: Room>(
+    alloc: Global,
+    room: NewRoom,
+    board: Board,
+) -> Result<(SharedBoard<K>, Vec<Seat<K>>), (Board, BuildFault)>
+    requires board { (board.opening ≡ K.opening) × (board.past ≡ []) }
+    requires room { (room.config ≡ K.opening.config) × (room.log ≡ K.log) }
+    requires ledger { (room.ledger ≡ K.name) × (room.parts ≡ K.parts) × (K.all ≡ K.parts) }
+    ensures { IfErr result (λ e. e.0.past ≡ []) }
+{
+    SharedBoard::<K>::adopt(alloc, room, board)
+}
+
 /// The same in this room.
 fn not_adopted_in<K: Room, R: AllocGlobal + Print>(
     rt: &R,
@@ -142,7 +181,7 @@ fn not_adopted_in<K: Room, R: AllocGlobal + Print>(
     ensures { IfSome result (λ b. b.past ≡ []) }
 {
     begin(rt, ADOPT);
-    match SharedBoard::<K>::adopt(rt.alloc(), room, board) {
+    match adopted::<K>(rt.alloc(), room, board) {
         Ok((_, seats)) => {
             tell_seats(rt, ADOPT, &seats);
             None

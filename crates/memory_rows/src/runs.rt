@@ -1,15 +1,15 @@
 //! A program that runs on threads.
 
-use crate::scripts::PROGRAM;
+use crate::scripts::{PROGRAM, script};
 use crate::telling::{begin, is_made};
-use guest_script::{Body, Script, parse};
+use guest_script::{Body, Script};
 use hart_threads::{End, Open, RunFault, run};
 use std::sync::Wait;
 use std::thread::Threads;
 
 /// Runs the program, and again if memory or a thread was refused.
 pub fn run_program<R: AllocGlobal + Print + Threads + Wait + Sync>(rt: &R) {
-    if let Ok(script) = parse(rt.alloc(), PROGRAM) {
+    if let Ok(script) = script(rt.alloc(), PROGRAM) {
         run_twice(rt, &script);
     }
 }

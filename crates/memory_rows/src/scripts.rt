@@ -1,7 +1,7 @@
 //! Scripts, and the call that reads them.
 
 use crate::telling::{begin, is_made};
-use guest_script::{Body, ScriptFault, parse};
+use guest_script::{Body, Script, ScriptFault, parse};
 use std::alloc::Global;
 
 /// A program of three harts and the clock.
@@ -49,6 +49,11 @@ const FAULTY: &[u8] = b"board 1 1 10 0 0x80000000 0x0
 0 fly
 ";
 
+/// The script that the bytes have.
+pub fn script(alloc: Global, bytes: &[u8]) -> Result<Script, ScriptFault> {
+    parse(alloc, bytes)
+}
+
 /// Reads a script of each kind, and one that is none.
 pub fn read_all<R: AllocGlobal + Print>(rt: &R) {
     read(rt, "parse of a program", PROGRAM);
@@ -74,7 +79,7 @@ fn is_refused(answer: &Result<usize, (ScriptFault, u64)>) -> bool {
 
 /// Reads a script: how many lines it has, or blocks and ticks; or its fault and that one's number.
 fn size(alloc: Global, bytes: &[u8]) -> Result<usize, (ScriptFault, u64)> {
-    match parse(alloc, bytes) {
+    match script(alloc, bytes) {
         Ok(script) => Ok(size_of(&script.body)),
         Err(fault) => Err((fault, fault.number())),
     }
