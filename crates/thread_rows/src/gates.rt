@@ -53,6 +53,11 @@ impl Asked {
         self.many.fetch_add(1, Ordering::SeqCst);
     }
 
+    /// How many questions there were.
+    fn questions(&self) -> usize {
+        self.many.load(Ordering::SeqCst)
+    }
+
     /// Waits until the ordinal was asked, checking this often.
     fn is_reached(&self, ordinal: usize) -> bool {
         for _ in 0..LOOKS {
@@ -93,12 +98,7 @@ impl<'a> Holding<'a> {
     /// How many questions each actor asked.
     pub fn questions(&self) -> [usize; 4] {
         let [a, b, c, d] = &self.asked;
-        [
-            a.many.load(Ordering::SeqCst),
-            b.many.load(Ordering::SeqCst),
-            c.many.load(Ordering::SeqCst),
-            d.many.load(Ordering::SeqCst),
-        ]
+        [a.questions(), b.questions(), c.questions(), d.questions()]
     }
 
     /// Whether each actor asked for its ordinals in order.

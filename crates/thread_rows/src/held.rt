@@ -19,30 +19,59 @@ fn hold(turn: Turn, after: Turn) -> Hold {
     Hold { turn, after }
 }
 
-/// The gate closes for the second operation of the only hart.
-pub fn gate_limit<R: AllocGlobal + Print + Threads + Wait + Sync>(rt: &R) -> io::Result<()> {
-    let gate = Holding::new(&[], Some(turn(0, 1)));
-    show(rt, "gate-limit", scripts::SHUTDOWN, &gate)
+/// A script under a gate with these holds, which is closed for one turn.
+fn show_under<R: AllocGlobal + Print + Threads + Wait + Sync>(
+    rt: &R,
+    name: &str,
+    script: &[u8],
+    holds: &[Hold],
+    closed: Option<Turn>,
+) -> io::Result<()> {
+    show(rt, name, script, &Holding::new(holds, closed))
 }
 
-/// Each of two harts comes to its fence call before either makes it: no thread waits for another, and no lock is held.
-pub fn two_fences_cross<R: AllocGlobal + Print + Threads + Wait + Sync>(rt: &R) -> io::Result<()> {
+/// The same, and what the gate was asked.
+fn show_asked<R: AllocGlobal + Print + Threads + Wait + Sync>(
+    rt: &R,
+    name: &str,
+    script: &[u8],
+    holds: &[Hold],
+    closed: Option<Turn>,
+) -> io::Result<()> {
+    let gate = Holding::new(holds, closed);
+    show(rt, name, script, &gate)?;
+    println!(rt; "{:?}", Questions::of(&gate))
+}
+
+/// Shows the rows that a gate holds up.
+pub fn show_held<R: AllocGlobal + Print + Threads + Wait + Sync>(rt: &R) -> io::Result<()> {
+    // the gate closes for the second operation of the only hart
+    let closed = Some(turn(0, 1));
+    show_under(rt, "gate-limit", scripts::SHUTDOWN, &[], closed)?;
+    // each of two harts comes to its fence call before either makes it: no thread waits for another, and no lock is held
     let holds = [hold(turn(0, 2), turn(1, 1)), hold(turn(1, 1), turn(0, 2))];
-    show(
-        rt,
-        "two_fences_cross",
-        scripts::CROSSING,
-        &Holding::new(&holds, None),
-    )
+    show_under(rt, "two_fences_cross", scripts::CROSSING, &holds, None)?;
+    held_until_recorded(rt)?;
+    // each actor asks for its operations in order, once for each
+    show_asked(rt, "asked_in_order", scripts::THREE, &[], None)?;
+    // hart 1 is let go on with an operation, and the board is rebooted before it: the operation is refused, and what comes
+    // next asks with the same ordinal; the gate closes for the second reboot
+    let holds = [hold(turn(0, 2), turn(1, 1)), hold(turn(1, 1), turn(0, 3))];
+    let closed = Some(turn(0, 5));
+    show_asked(rt, "refused_asks_again", scripts::REBOOTING, &holds, closed)?;
+    // the gate closes for a tick of the clock, whose number comes after the harts': it does no further one
+    let closed = Some(turn(1, 1));
+    show_under(rt, "clocks_gate", scripts::TICKING, &[], closed)?;
+    // a closed gate comes before the power, and before a full history: the clock's gate closes for its first tick
+    let closed = Some(turn(1, 0));
+    show_under(rt, "closed_gate_and_off", scripts::LEAVING, &[], closed)?;
+    show_under(rt, "closed_gate_and_full", scripts::CROWDED, &[], closed)
 }
 
 /// The fourth operation of hart 0 comes after two of hart 1 are recorded.
-pub fn held_until_recorded<R: AllocGlobal + Print + Threads + Wait + Sync>(
-    rt: &R,
-) -> io::Result<()> {
+fn held_until_recorded<R: AllocGlobal + Print + Threads + Wait + Sync>(rt: &R) -> io::Result<()> {
     let holds = [hold(turn(0, 3), turn(1, 2))];
-    let gate = Holding::new(&holds, None);
-    show(rt, "held_until_recorded", scripts::READING, &gate)?;
+    show_under(rt, "held_until_recorded", scripts::READING, &holds, None)?;
     match ran(rt, scripts::READING, &Holding::new(&holds, None)) {
         Ok(run) => {
             let after = is_after(run.board.history(), turn(0, 3), turn(1, 1));
@@ -52,30 +81,6 @@ pub fn held_until_recorded<R: AllocGlobal + Print + Threads + Wait + Sync>(
     }
 }
 
-/// Each actor asks for its operations in order, once for each.
-pub fn asked_in_order<R: AllocGlobal + Print + Threads + Wait + Sync>(rt: &R) -> io::Result<()> {
-    let gate = Holding::new(&[], None);
-    show(rt, "asked_in_order", scripts::THREE, &gate)?;
-    println!(rt; "{:?}", Questions::of(&gate))
-}
-
-/// Hart 1 is let go on with an operation, and the board is rebooted before it: the operation is refused, and what comes next
-/// asks with the same ordinal. The gate closes for the second reboot.
-pub fn refused_asks_again<R: AllocGlobal + Print + Threads + Wait + Sync>(
-    rt: &R,
-) -> io::Result<()> {
-    let holds = [hold(turn(0, 2), turn(1, 1)), hold(turn(1, 1), turn(0, 3))];
-    let gate = Holding::new(&holds, Some(turn(0, 5)));
-    show(rt, "refused_asks_again", scripts::REBOOTING, &gate)?;
-    println!(rt; "{:?}", Questions::of(&gate))
-}
-
-/// The gate closes for a tick of the clock, whose number comes after the harts': it does no further one.
-pub fn clocks_gate<R: AllocGlobal + Print + Threads + Wait + Sync>(rt: &R) -> io::Result<()> {
-    let gate = Holding::new(&[], Some(turn(1, 1)));
-    show(rt, "clocks_gate", scripts::TICKING, &gate)
-}
-
 /// Hart 0 does its first `sip` after harts 1 and 2 have set their deadlines, and the clock ticks first after hundreds of those.
 pub fn clock_after_rests() -> [Hold; 3] {
     [
@@ -83,14 +88,4 @@ pub fn clock_after_rests() -> [Hold; 3] {
         hold(turn(0, 4), turn(2, 2)),
         hold(turn(3, 0), turn(0, 1000)),
     ]
-}
-
-/// A closed gate comes before the power, and before a full history: the clock's gate closes for its first tick.
-pub fn closed_gate_comes_first<R: AllocGlobal + Print + Threads + Wait + Sync>(
-    rt: &R,
-) -> io::Result<()> {
-    let gate = Holding::new(&[], Some(turn(1, 0)));
-    show(rt, "closed_gate_and_off", scripts::LEAVING, &gate)?;
-    let gate = Holding::new(&[], Some(turn(1, 0)));
-    show(rt, "closed_gate_and_full", scripts::CROWDED, &gate)
 }

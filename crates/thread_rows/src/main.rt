@@ -20,33 +20,35 @@ use std::thread::Threads;
 fn main(rt: HostRuntime) -> io::Result<()> {
     ends(&rt)?;
     faults(&rt)?;
-    held::gate_limit(&rt)?;
-    held::two_fences_cross(&rt)?;
-    held::held_until_recorded(&rt)?;
-    held::asked_in_order(&rt)?;
-    held::refused_asks_again(&rt)?;
-    held::clocks_gate(&rt)?;
-    held::closed_gate_comes_first(&rt)?;
+    held::show_held(&rt)?;
     many_ticks(&rt)
 }
 
-/// A run with each end but the gate's.
+/// Runs with each end but the gate's.
+const ENDS: [(&str, &[u8]); 15] = [
+    ("empty", scripts::EMPTY),
+    ("off", scripts::SHUTDOWN),
+    ("history-full", scripts::LONG),
+    ("stuck", scripts::SLEEPING),
+    ("quiet", scripts::STOPPING),
+    ("no-harts", scripts::NO_HARTS),
+    ("off-and-stuck", scripts::UNFINISHED),
+    ("off-at-the-limit", scripts::LAST),
+    ("quiet-at-the-limit", scripts::EXACT),
+    ("stuck-at-the-limit", scripts::ASLEEP),
+    ("run-ends, quiet", scripts::ONE_ORDER),
+    ("run-ends, stuck", scripts::NEVER_WOKEN),
+    ("run-history-full", scripts::ENTERING),
+    ("run-off", scripts::SHUTDOWN),
+    ("run-clock", scripts::ONE_TICK),
+];
+
+/// Runs under the gate that is always open.
 fn ends<R: AllocGlobal + Print + Threads + Wait + Sync>(rt: &R) -> io::Result<()> {
-    show(rt, "empty", scripts::EMPTY, &Open)?;
-    show(rt, "off", scripts::SHUTDOWN, &Open)?;
-    show(rt, "history-full", scripts::LONG, &Open)?;
-    show(rt, "stuck", scripts::SLEEPING, &Open)?;
-    show(rt, "quiet", scripts::STOPPING, &Open)?;
-    show(rt, "no-harts", scripts::NO_HARTS, &Open)?;
-    show(rt, "off-and-stuck", scripts::UNFINISHED, &Open)?;
-    show(rt, "off-at-the-limit", scripts::LAST, &Open)?;
-    show(rt, "quiet-at-the-limit", scripts::EXACT, &Open)?;
-    show(rt, "stuck-at-the-limit", scripts::ASLEEP, &Open)?;
-    show(rt, "run-ends, quiet", scripts::ONE_ORDER, &Open)?;
-    show(rt, "run-ends, stuck", scripts::NEVER_WOKEN, &Open)?;
-    show(rt, "run-history-full", scripts::ENTERING, &Open)?;
-    show(rt, "run-off", scripts::SHUTDOWN, &Open)?;
-    show(rt, "run-clock", scripts::ONE_TICK, &Open)
+    for (name, script) in ENDS {
+        show(rt, name, script, &Open)?;
+    }
+    Ok(())
 }
 
 /// A clock does all of three thousand ticks, or as many as there is room for beside a hart that is through.
