@@ -166,7 +166,10 @@ fn adopted<K: Room>(
     requires ledger { (room.ledger ≡ K.name) × (room.parts ≡ K.parts) × (K.all ≡ K.parts) }
     ensures { IfErr result (λ e. e.0.past ≡ []) }
 {
-    SharedBoard::<K>::adopt(alloc, room, board)
+    match SharedBoard::<K>::adopt(alloc, room, board) {
+        Ok(adopted) => Ok(adopted),
+        Err((board, fault)) => Err((board, fault)),
+    }
 }
 
 /// The same in this room.

@@ -83,7 +83,8 @@ fn put_line<W: Sink>(
     requires { W.failures out.old < 2 ^ 63 }
     ensures { OnOk result (W.failures out.new ≡ W.failures out.old) }
 {
-    print_line(doing, answer, out)
+    print_line(doing, answer, out)?;
+    Ok(())
 }
 
 /// Prints lines with the largest numbers, and a cut's.
