@@ -5,7 +5,7 @@ ghost use Rattle.std.specs.Prelude.{◌≡◌, []};
 use crate::closing::closed;
 use crate::record::{look, look_past, split};
 use crate::seen::{Found, Left, Seen, Told, Why};
-use crate::working::called;
+use crate::working;
 use board_core::{Board, Op};
 use board_lock::{NewRoom, Past, Receipt, Record, Room, Seat, SharedBoard};
 use std::marker::Brand;
@@ -101,7 +101,7 @@ fn call_first<K: Room, R: Wait>(
     seats: &mut [Seat<K>],
 ) -> Result<Receipt<K>, Why> {
     match seats.first_mut() {
-        Some(hart) => Ok(called(rt, shared, hart, Op::ReadSip)?),
+        Some(hart) => Ok(working::called(rt, shared, hart, Op::ReadSip)?),
         None => Err(Why::Seats),
     }
 }
