@@ -44,12 +44,12 @@ column_behind line rest many = length line - length (from_next_word (behind_word
 
 -- ---- lines
 
--- Line n can be read: it begins otherwise, or has a condition.
+-- Line n can be read: it asks nothing, or has a condition.
 abbrev pub IsReadable : (n : ℕ) → List ℕ → Type 0
 IsReadable n text = IsSilent n text ⊎ ((c : ConditionValue) × HasCondition n text c)
 
--- From this column on a line can't be read: there the first word stands with which no condition goes on. Where only words are missing,
--- it is behind the last one.
+-- The column from which on a line can't be read: that of the first word with which no condition goes on. If only words
+-- are missing, it is the column behind the last word.
 pub record IsFaultColumn (line rest : List ℕ) (column : ℕ) : Type 0 where
   pub many : ℕ
   pub is_longest : IsLongestBeginning (words_in rest) many

@@ -257,7 +257,7 @@ pub record IsAsking (n : ℕ) (text rest : List ℕ) : Type 0 where
   pub begins : behind_blanks text ≡ codes "#!" ++ rest
   pub no_shebang : IsShebang n text → ⊥
 
--- Line n has no condition.
+-- Line n asks nothing: it doesn't begin with `#!`, or names the program that runs the script.
 abbrev pub IsSilent : (n : ℕ) → List ℕ → Type 0
 IsSilent n text = (rest : List ℕ) → IsAsking n text rest → ⊥
 

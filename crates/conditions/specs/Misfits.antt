@@ -17,8 +17,8 @@ use Rattle.condition_script.specs.declared.rules.Rule.TheVariants.{Never, NeverA
 abbrev pub IsWordAt : List (Option Item) → ℕ → Item → Type 0
 IsWordAt words place item = slice_get words place ≡ Some (Some item)
 
--- What an operation can have behind its name: a number, where `sstatus` writes one bit; a dash, where `sfence` names no address or
--- no ASID (Privileged 4.2.1).
+-- What an operation can have behind its name: a number, which for `sstatus` is at most 1; or, for `sfence`, a dash,
+-- which names no address or no ASID (Privileged 4.2.1).
 abbrev pub OpCanHave : OpName → Item → Type 0
 OpCanHave op (Number n) = op ≡ Sstatus → n ≤ 1
 OpCanHave op Absent = op ≡ Sfence
@@ -34,9 +34,9 @@ ReplyCanHave said place (Below n) = (said ≡ saids.Ret) × (place ≡ 1)
 ReplyCanHave said place Absent = ⊥
 ReplyCanHave said place (Word name) = ⊥
 
--- Whether a reply is one that an accepted operation can have. A call returns, waits or doesn't return (SBI 3); an access has its word
--- or a fault (Privileged 4.1.8); a fence call ends with a return; a hart that is brought further enters, has moved, or returns from
--- its suspend (SBI 9); what else has no value is done.
+-- Whether an accepted operation can have this reply. A call returns, waits or doesn't return (SBI 3). A load and a
+-- fetch have a value or a fault, and a store is done or has a fault (Privileged 4.1.8). A poll returns, and a serve is
+-- served. An advance enters, moves, or returns from a suspend (SBI 9). A read of sip has a value. All else is done.
 abbrev pub is_reply_to : OpName → SaidName → Bool
 is_reply_to Ecall saids.Ret = true
 is_reply_to Ecall saids.Waiting = true
@@ -109,7 +109,8 @@ module _ (harts : ℕ) where
     pub stands : IsWordAt p.reply.items place item
     pub wrong : IsWrongInReply said place item misfit
 
-  -- The pattern has a word that no step of a board with so many harts can have in its place, or a reply that its operation can't have.
+  -- The pattern has a word that these rules exclude from its place on a board with so many harts, or a reply that its
+  -- operation can't have.
   abbrev pub IsMisfitOf : Pattern → Misfit → Type 0
   IsMisfitOf p misfit = (IsActorMisfit p misfit ⊎ IsOpMisfit p misfit) ⊎ (IsAnswerMisfit p misfit ⊎ IsReplyMisfit p misfit)
 

@@ -73,8 +73,8 @@ abbrev pub IsVacuous : Rule → List (List Event) → Type 0
 IsVacuous rule records =
     (NeedsFirst rule × NoneOf (MeetsFirst rule) records) ⊎ (NeedsSecond rule × NoneOf (MeetsSecond rule) records)
 
--- The condition says nothing of a record, whatever its steps answered: the record meets it, or, for `some`, doesn't meet it.
--- (`end` needs no step, and is never vacuous.)
+-- The condition says nothing of a record, whatever its steps answered: the record meets it, or, for `some`, doesn't
+-- meet it. (`end` and `can end` need no step, and are never vacuous.)
 abbrev pub SaysNothing : Rule → List Event → Option Ending → Type 0
 SaysNothing (Never p) events end = Holds (Never p) events end
 SaysNothing (NeverAfter p q) events end = Holds (NeverAfter p q) events end

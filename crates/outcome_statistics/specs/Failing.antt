@@ -16,9 +16,9 @@ abbrev pub IsLast : List Event → Option ℕ → Type 0
 IsLast events None = length events ≡ 0
 IsLast events (Some k) = suc k ≡ length events
 
--- The step that is told of a record that fails a condition. For `never` and `each` it is the step at which the record fails the
--- condition, and none if the record meets it. For `before` it is the first step that the second pattern matches, which comes too
--- early; for `end` the last step. No step of a record fails `some` or `can end`.
+-- The step that a report names for a record that fails a condition. For `never` and `each` it is the step at which the
+-- record fails the condition, and none if the record meets it. For `before` it is the first step that the second
+-- pattern matches, which comes too early; for `end` the last step. No step of a record fails `some` or `can end`.
 abbrev pub IsFailingStep : Rule → List Event → Option ℕ → Type 0
 IsFailingStep (Never p) events found = MatchOption found (Holds (Never p) events None) (FailsAt (Never p) events)
 IsFailingStep (NeverAfter p q) events found =

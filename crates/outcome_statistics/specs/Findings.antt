@@ -28,7 +28,7 @@ pub record AreEnded (tried : List Tried) (ends : Ends) : Type 0 where
   pub quiet : HaveEnded endings.Quiet tried ends.quiet
   pub stuck : HaveEnded endings.Stuck tried ends.stuck
 
--- How many ended in one of these ways (counted up to 2^64-1).
+-- n of these records have an end (counted up to 2^64-1).
 abbrev pub HaveSomeEnd : List Tried → ℕ → Type 0
 HaveSomeEnd tried n = IsCounted (λ x. x.end ≢ None) (λ x. x.end ≡ None) tried n
 

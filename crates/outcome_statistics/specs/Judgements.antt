@@ -10,7 +10,7 @@ use Rattle.outcome_statistics.specs.declared.judgement.Judgement.{Judgement}
 use Rattle.outcome_statistics.specs.declared.judgement.Judgement.TheVariants as says
 use Rattle.outcome_statistics.specs.Records.{AllMeet, EachIs, IsSo, Tried}
 
--- what is asked: by a condition, or without one that no order ends stuck
+-- the rule of a condition, if there is one
 abbrev pub asked_rule : Option Condition → Option Rule
 asked_rule asked = option_map (λ condition. condition.rule) asked
 
@@ -19,7 +19,7 @@ abbrev pub AreMet : Option Condition → List Tried → Type 0
 AreMet None tried = EachIs (IsSo None) tried
 AreMet (Some condition) tried = AllMeet condition.rule tried
 
--- The limit cut off each of the orders that ended so.
+-- No order ended with the power off, quiet or stuck: the limit cut off each that ended.
 pub record NoneEnded (ends : Ends) : Type 0 where
   pub off : ends.off ≡ 0
   pub quiet : ends.quiet ≡ 0
@@ -39,7 +39,8 @@ IsMaybe None = ⊥
 IsMaybe (Some condition) = condition.is_maybe ≡ true
 
 module _ (asked : Option Condition) (tried : List Tried) (met : NeedsMet) (ends : Ends) where
-  -- What is said of what is asked is so, by which of the steps that it needs were met, and by how the orders ended.
+  -- The judgement is right, by which needed steps were met and how the orders ended. It is about a condition or,
+  -- without one, about whether some order ended stuck.
   abbrev pub IsJudged : Judgement → Type 0
   IsJudged says.NotTried = tried ≡ []
   IsJudged says.Fails = ¬ AreMet asked tried

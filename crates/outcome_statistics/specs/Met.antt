@@ -7,7 +7,7 @@ use Rattle.conditions.specs.declared.vacuity.NeedsMet.{NeedsMet}
 use Rattle.conditions.specs.Vacuity.{HasFitting, MeetsFirst, MeetsSecond}
 use Rattle.outcome_statistics.specs.Records.{SomeIs, Tried}
 
--- The step that a condition's first pattern needs was met exactly if some of these records has it, and so was the one of its second.
+-- `met` says of each of a condition's two patterns whether some of these records has the step that it needs.
 pub record AreNeedsMet (rule : Rule) (tried : List Tried) (met : NeedsMet) : Type 0 where
   pub first : (met.first ≡ true) ↔ SomeIs (λ x. MeetsFirst rule x.events) tried
   pub second : (met.second ≡ true) ↔ SomeIs (λ x. MeetsSecond rule x.events) tried

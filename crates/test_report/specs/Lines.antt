@@ -5,7 +5,7 @@ use Rattle.test_report.specs.declared.point.Point.{Point}
 use Rattle.test_report.specs.declared.verdict.Verdict.TheVariants.{Holds}
 use Rattle.test_report.specs.declared.report.FileReport.{FileReport}
 
--- The first line: which version of the protocol the lines are of.
+-- The first line: the version of the protocol.
 abbrev pub version_line : (version : ℕ) → List ℕ
 version_line version = (codes "TAP version " ++ decimal version) ++ 10 ∷ []
 

@@ -20,7 +20,7 @@ IsFailing (NotJudged why) = ⊥
 abbrev pub HasFailing : List Point → Type 0
 HasFailing points = (k : ℕ) × (point : Point) × (slice_get points k ≡ Some point) × IsFailing point.verdict
 
--- A point of some file does.
+-- Some file has a point that fails: its verdict is Fails, Vacuous, NoEnd or Misfit.
 abbrev pub SomeFails : List FileReport → Type 0
 SomeFails files = (k : ℕ) × (file : FileReport) × (slice_get files k ≡ Some file) × HasFailing file.points.items
 
@@ -29,11 +29,11 @@ pub record EachPointHolds (points : List Point) : Type 0 where
   pub some : points ≢ []
   pub each : (k : ℕ) (point : Point) → slice_get points k ≡ Some point → point.verdict ≡ Holds
 
--- Each file has points, of which each holds.
+-- Each file has points, and each of them holds.
 abbrev pub EachHolds : List FileReport → Type 0
 EachHolds files = (k : ℕ) (file : FileReport) → slice_get files k ≡ Some file → EachPointHolds file.points.items
 
--- What was found of each point of a file, in order.
+-- The verdicts on a file's points, in order.
 abbrev pub verdicts : FileReport → List Verdict
 verdicts file = map (λ point. point.verdict) file.points.items
 
@@ -41,6 +41,6 @@ verdicts file = map (λ point. point.verdict) file.points.items
 abbrev pub SomeIsCut : List FileReport → Type 0
 SomeIsCut files = (k : ℕ) × (file : FileReport) × (slice_get files k ≡ Some file) × (file.is_cut ≡ true)
 
--- All orders were seen, where that was asked for. Where orders are tried, there are as many as there was time for.
+-- If all orders were asked for (`explore`), no file was cut short.
 abbrev pub IsWhole : Report → Type 0
 IsWhole report = (report.mode ≡ Test) ⊎ ¬ SomeIsCut report.files.items

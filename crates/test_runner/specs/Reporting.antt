@@ -48,7 +48,9 @@ pub record AreReportsOf (bytes_of : List ℕ → Option (List ℕ)) (options : O
   pub each : (k : ℕ) (name : List ℕ) (file : FileReport) → slice_get names k ≡ Some name → slice_get files k ≡ Some file
       → IsReportOf (bytes_of name) options file
 
--- Files of these names were tested: there is a report about each; the status says exactly whether all points hold, or some fails; and where points are asked for, exactly the report's text was written.
+-- Files of these names were tested, and there is a report about each. The status is AllHold exactly if each file has
+-- points, all of them hold, and nothing that was asked for was cut short; it is SomeFail exactly if some point fails.
+-- If points are asked for, exactly the report's text was written.
 pub record IsReported (bytes_of : List ℕ → Option (List ℕ)) (options : Options) (names : List (List ℕ)) (status : Status)
     (before after : Option (List ℕ)) : Type 0 where
   pub report : Report
