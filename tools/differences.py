@@ -93,7 +93,7 @@ class Differences:
         line = self.lines[call.place]
         verdict = certain(state.board, call.op, line.numbers, answer, shown, self.version, line.numbers[0] in self.offered)
         if verdict is None and not self.origin(state, line, answer):
-            verdict = self.of_woken(state, call, shown) or self.of_failing(state, call, shown) or by_this_state(state.board, call.op, answer, shown)
+            verdict = self.of_woken(state, call, shown) or self.of_entered(state, call, shown) or self.of_failing(state, call, shown) or by_this_state(state.board, call.op, answer, shown)
         self.found(state, line, self.name(line), answer, self.said(call.place), verdict, self.touched(hart, call.op))
         if call.op[1:3] == (IPI, 0):
             state.missed |= {h: line.number for h in self.named(line.numbers[2:4])}
@@ -225,6 +225,14 @@ class Differences:
         """Whether another hart's remote fence that names the hart has begun: there it may have reached it."""
         fences = [call for other, call in state.calls.items() if call is not None and other != hart and call.op[1] == RFENCE]
         return any(hart in self.named(self.lines[it.place].numbers[2:4]) for it in fences)
+
+    def of_entered(self, state, call, shown):
+        """A hart that is STARTED here was entered while another one's start of it was under way: before, it was in another state."""
+        hart = call.op[3]
+        if call.op[1:3] != (HSM, 0) or shown[:2] != ("ret", INVALID_PARAM) or hart >= self.record.harts or state.board.harts[hart].state != STARTED:
+            return None
+        span = range(call.place, self.lines[call.place].reply)
+        return verdict_of("already available") if any(place in span and self.lines[place].kind == "entry" for place in self.places[hart]) else None
 
     def of_failing(self, state, call, shown):
         """A hart that is STARTED here is in a suspend there, which fails later: its state, and what a start of it answers."""
