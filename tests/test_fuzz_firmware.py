@@ -1,4 +1,5 @@
 """tools/fuzz-firmware: stored records of its payload, each wrong answer that would have to be seen, its words, and a run under QEMU."""
+import gzip
 import os
 import re
 import shutil
@@ -165,6 +166,14 @@ class FuzzFirmware(Test):
         for wrong in (["--seeds", "5-4"], ["--seeds", "1", "--harts", "9"], ["--seeds", "1", "--operations", "0"]):
             found = subprocess.run([TOOL, *wrong], stdin=subprocess.DEVNULL, capture_output=True, text=True, timeout=60)
             must(f"{wrong}: {found}", found.returncode == 1 and found.stderr.startswith("fuzz-firmware: "))
+
+    def test_fuzz__open_calls_explain(self):
+        """A hart that a fence under way woke, a suspend seen only at its hart's entry, and a start of a hart that enters meanwhile: nothing is unexplained."""
+        for name in ("fuzz-woken", "fuzz-suspended", "fuzz-entering"):
+            with gzip.open(os.path.join(RECORDS, f"{name}.record.gz")) as file:
+                path = write(os.path.join(self.room, name), file.read())
+            found = subprocess.run([os.path.join(ROOT, "tools/to-trace"), "--report", path], stdin=subprocess.DEVNULL, capture_output=True, timeout=100)
+            must(f"{name}: {shown(found.stdout)}", found.returncode == 5 and b"\nbreaks the standard: 1\n" in found.stdout and b"\nunexplained: 0\n" in found.stdout)
 
     def test_fuzz__a_silent_run(self):
         """Of a run that prints no record it is told how it ended, and what the console had last."""
