@@ -222,8 +222,9 @@ class Differences:
         return self.of_wake(state, call.op[3], self.next_line(call.op[3], call.place))
 
     def is_being_fenced(self, state, hart):
-        """Whether another hart's remote fence that names the hart has begun: there it may have reached it."""
+        """Whether another hart's remote fence that names the hart has begun, and is never refused: there it may have reached it."""
         fences = [call for other, call in state.calls.items() if call is not None and other != hart and call.op[1] == RFENCE]
+        fences = [it for it in fences if self.shown(it.place) in (None, WAITING, ("ret", 0, 0))]
         return any(hart in self.named(self.lines[it.place].numbers[2:4]) for it in fences)
 
     def of_entered(self, state, call, shown):
